@@ -1,0 +1,12 @@
+-- A token of the code, as a token of the definitions.
+use Rattle.std.specs.Prelude.{string_bytes}
+use Rattle.isle_base.specs.declared.lexer.Token.{Token}
+use Rattle.isle_base.specs.declared.lexer.Token.TheVariants.{LParen, RParen, Symbol, Int, At}
+use Rattle.isle_base.specs.Token.{Tok, lparen, rparen, symbol, integer, at_sign}
+
+abbrev pub token_of : Token → Tok
+token_of LParen = lparen
+token_of RParen = rparen
+token_of (Symbol text) = symbol (string_bytes text)
+token_of (Int value) = integer value
+token_of At = at_sign

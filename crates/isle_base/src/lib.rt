@@ -1,0 +1,5 @@
+//! The base of the ISLE syntax layer: source positions, tokens, the lexer and errors.
+#![tactic(auto)]
+
+pub mod error;
+pub mod lexer;
