@@ -1,2 +1,4 @@
+pub mod Place
+pub mod Steps
 pub mod Token
 pub mod TokenView

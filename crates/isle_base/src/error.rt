@@ -4,6 +4,18 @@ ghost use Rattle.std.specs.Prelude.{◌≡◌, ◌+◌, ◌^◌, ◌<◌};
 
 use crate::lexer::Pos;
 
+/// An error of the ISLE compiler, with the places in the source that it speaks of.
+#[derive(Debug, Drop)]
+pub enum Error {
+    /// The input is not a text of ISLE.
+    ParseError {
+        /// What is wrong.
+        msg: String,
+        /// Where it is wrong.
+        span: Span,
+    },
+}
+
 /// A stretch of source, from one position up to another.
 #[derive(Clone, Debug, Drop)]
 pub struct Span {

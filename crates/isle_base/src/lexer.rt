@@ -3,6 +3,37 @@
 ghost use Rattle.std.specs.Prelude.{◌≡◌, ◌↔◌, IsTrue};
 ghost use Rattle.isle_base.specs.Token.{is_int, is_symbol};
 ghost use Rattle.isle_base.specs.TokenView.{token_of};
+ghost use Rattle.isle_base.specs.declared.lexer.Fault.TheVariants.{Memory};
+
+use crate::error::Error;
+use std::alloc::{AllocError, AllocFailed};
+
+/// Why a lexer, a parser or the formatter gives no answer.
+#[derive(Debug, Drop)]
+pub enum Fault {
+    /// The text is refused, for this reason.
+    Error(Error),
+    /// The lexer had refused its text before this call.
+    Failed,
+    /// A growth of memory was refused.
+    Memory,
+}
+
+impl From<AllocError> for Fault {
+    ghost from_gives = { λ _ e. e ≡ Memory };
+
+    fn from(_error: AllocError) -> Fault {
+        Fault::Memory
+    }
+}
+
+impl<T: Drop> From<AllocFailed<T>> for Fault {
+    ghost from_gives = { λ _ e. e ≡ Memory };
+
+    fn from(_error: AllocFailed<T>) -> Fault {
+        Fault::Memory
+    }
+}
 
 /// A source position.
 ///

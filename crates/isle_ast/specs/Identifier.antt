@@ -1,0 +1,40 @@
+-- Which texts are identifiers: the first character is a letter, `_` or `$`, each other one a letter,
+-- a digit, `_`, `.` or `$`. Among the ASCII characters the letters are `A` to `Z` and `a` to `z` and
+-- the digits `0` to `9`; past ASCII a letter is an alphabetic character, and a digit one of the
+-- categories decimal number, letter number and other number.
+use Rattle.std.specs.Prelude.{ℕ, List, [], ◌∷◌, Bool, true, false, ◌&&◌, ◌||◌, ◌==◌, nat_lt, if◌then◌else◌}
+use Rattle.std.specs.Char.{is_ascii_alphabetic, is_ascii_digit}
+use Rattle.std.specs.List.{list_all}
+use Rattle.std.specs.Str.{chars}
+use Rattle.unicode.specs.Binary.{is_alphabetic}
+use Rattle.unicode.specs.GeneralCategory.{general_category}
+use Rattle.unicode.specs.declared.properties.GeneralCategory.{GeneralCategory}
+use Rattle.unicode.specs.declared.properties.GeneralCategory.TheVariants.{DecimalNumber, LetterNumber, OtherNumber}
+
+abbrev pub is_number : GeneralCategory → Bool
+is_number DecimalNumber = true
+is_number LetterNumber = true
+is_number OtherNumber = true
+is_number _ = false
+
+abbrev pub is_letter : ℕ → Bool
+is_letter c = if nat_lt c 128 then is_ascii_alphabetic c else is_alphabetic c
+
+abbrev pub is_digit : ℕ → Bool
+is_digit c = if nat_lt c 128 then is_ascii_digit c else is_number (general_category c)
+
+-- a letter, `_` or `$`
+abbrev pub begins_identifier : ℕ → Bool
+begins_identifier c = is_letter c || c == 95 || c == 36
+
+-- a letter, a digit, `_`, `.` or `$`
+abbrev pub continues_identifier : ℕ → Bool
+continues_identifier c = is_letter c || is_digit c || c == 95 || c == 46 || c == 36
+
+abbrev pub are_identifier : List ℕ → Bool
+are_identifier [] = false
+are_identifier (c ∷ cs) = begins_identifier c && list_all continues_identifier cs
+
+-- a text, as its bytes
+unfoldable pub is_identifier : List ℕ → Bool
+is_identifier text = are_identifier (chars text)

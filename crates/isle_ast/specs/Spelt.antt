@@ -1,0 +1,12 @@
+-- Which definitions a text spells.
+use Rattle.std.specs.Prelude.{◌≡◌, ℕ, List}
+use Rattle.isle_base.specs.declared.lexer.Pos.{Pos}
+use Rattle.isle_base.specs.Token.{Feed, end}
+use Rattle.isle_ast.specs.Grammar.{SpellsDefinitions}
+use Rattle.isle_base.specs.Place.{placed}
+use Rattle.isle_ast.specs.Tree.{Definition}
+
+-- What a lexer has still to give ends with the text, and its tokens spell these definitions, where
+-- a token stands at the position that `place` gives to its offset.
+abbrev pub Spells : (ℕ → Pos) → Feed → List Definition → Type 0
+Spells place feed ds = (feed.ending ≡ end) × SpellsDefinitions ds (placed place feed.coming)

@@ -1,0 +1,4 @@
+//! The syntax tree of ISLE.
+#![tactic(auto)]
+
+pub mod ast;

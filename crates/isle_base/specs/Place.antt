@@ -1,0 +1,29 @@
+-- A token with the position of its first byte, which is what a parser sees and the grammar speaks of.
+use Rattle.std.specs.Prelude.{ℕ, List, [], ◌∷◌}
+use Rattle.isle_base.specs.declared.lexer.Pos.{Pos}
+use Rattle.isle_base.specs.Token.{Tok, Lexeme}
+
+pub record Placed : Type 0 where
+  pub pos : Pos
+  pub token : Tok
+
+-- the default position, which stands for an unknown place
+abbrev pub unknown : Pos
+unknown = record { file = 0; offset = 0 }
+
+-- the position of an offset in a file
+abbrev pub in_file : ℕ → ℕ → Pos
+in_file file offset = record { file = file; offset = offset }
+
+-- every offset at the default position
+abbrev pub nowhere : ℕ → Pos
+nowhere _ = unknown
+
+-- a token of a text, at the position that its offset has
+abbrev pub placed_at : (ℕ → Pos) → Lexeme → Placed
+placed_at place x = record { pos = place x.offset; token = x.token }
+
+-- the tokens of a text, each at the position that its offset has
+abbrev pub placed : (ℕ → Pos) → List Lexeme → List Placed
+placed place [] = []
+placed place (x ∷ xs) = placed_at place x ∷ placed place xs

@@ -1,0 +1,81 @@
+-- What the calls of a lexer answer, by what it has still to give. A lexer is failed where no token is
+-- to come and a fault is: its text was refused by an earlier call.
+use Rattle.std.specs.Prelude.{◌≡◌, ℕ, ◌+◌, Bool, true, false, List, [], ◌∷◌, Option, Some, None, Result, Ok, Err}
+use Rattle.isle_base.specs.declared.error.Error.{Error}
+use Rattle.isle_base.specs.declared.error.Error.TheVariants.{ParseError}
+use Rattle.isle_base.specs.declared.error.Span.{Span}
+use Rattle.isle_base.specs.declared.lexer.Fault.{Fault}
+use Rattle.isle_base.specs.declared.lexer.Fault.TheVariants as faults
+use Rattle.isle_base.specs.declared.lexer.Pos.{Pos}
+use Rattle.isle_base.specs.declared.lexer.Token.{Token}
+use Rattle.isle_base.specs.Place.{Placed, in_file, placed_at}
+use Rattle.isle_base.specs.Token.{Tok, Lexeme, Ending, end, fault, Feed}
+use Rattle.isle_base.specs.TokenView.{token_of}
+
+abbrev pub failed_by : List Lexeme → Ending → Bool
+failed_by [] (fault _) = true
+failed_by [] end = false
+failed_by (_ ∷ _) _ = false
+
+abbrev pub is_failed : Feed → Bool
+is_failed feed = failed_by feed.coming feed.ending
+
+-- no token is to come, and no fault
+abbrev pub ended_by : List Lexeme → Ending → Bool
+ended_by [] end = true
+ended_by [] (fault _) = false
+ended_by (_ ∷ _) _ = false
+
+abbrev pub is_at_end : Feed → Bool
+is_at_end feed = ended_by feed.coming feed.ending
+
+abbrev pub first_placed : ℕ → List Lexeme → Option Placed
+first_placed file [] = None
+first_placed file (x ∷ _) = Some (placed_at (in_file file) x)
+
+-- the token that the lexer shows ahead, with its position
+abbrev pub lookahead : Feed → Option Placed
+lookahead feed = first_placed feed.file feed.coming
+
+abbrev pub offset_by : List Lexeme → Ending → ℕ → ℕ
+offset_by (x ∷ _) _ _ = x.after
+offset_by [] end size = size
+offset_by [] (fault offset) _ = offset
+
+-- the end of the token ahead; where there is none, the end of the text, or the fault's first byte
+abbrev pub current_pos : Feed → Pos
+current_pos feed = in_file feed.file (offset_by feed.coming feed.ending feed.size)
+
+-- a token with its position, as the code hands it out
+abbrev pub placed_of : Pos × Token → Placed
+placed_of x = record { pos = x.0; token = token_of x.1 }
+
+-- a parse error whose span is the one byte at this position
+abbrev pub RefusesAt : Pos → Error → Type 0
+RefusesAt pos (ParseError msg span) =
+    span ≡ record { from = pos; to = record { file = pos.file; offset = pos.offset + 1 } }
+
+-- The first token is taken off, and the others are still to come. It isn't the last one before a fault.
+pub record Takes (old : Feed) (x : Placed) (new : Feed) : Type 0 where
+  pub first : Lexeme
+  pub shown : x ≡ placed_at (in_file old.file) first
+  pub coming : old.coming ≡ first ∷ new.coming
+  pub goes_on : is_failed new ≡ false
+  pub same : new ≡ record old { coming = new.coming }
+
+-- One token stands before a fault: the token is lost, and the lexer is failed.
+pub record Refuses (old : Feed) (e : Error) (new : Feed) : Type 0 where
+  pub last : Lexeme
+  pub coming : old.coming ≡ last ∷ []
+  pub offset : ℕ
+  pub ending : old.ending ≡ fault offset
+  pub error : RefusesAt (in_file old.file offset) e
+  pub failed : new ≡ record old { coming = [] }
+
+-- a call of `next`: what the lexer had to give, the answer, and what it has to give afterwards
+abbrev pub Gives : Feed → Result (Option (Pos × Token)) Fault → Feed → Type 0
+Gives old (Ok None) new = (is_at_end old ≡ true) × (new ≡ old)
+Gives old (Ok (Some x)) new = Takes old (placed_of x) new
+Gives old (Err (faults.Error e)) new = Refuses old e new
+Gives old (Err faults.Failed) new = (is_failed old ≡ true) × (new ≡ old)
+Gives old (Err faults.Memory) new = new ≡ old
