@@ -1,0 +1,13 @@
+//! Worked rows that cross the crates of the syntax layer: tests alone.
+#![tactic(auto)]
+
+#[cfg(test)]
+mod diagnostics;
+#[cfg(test)]
+mod formatting;
+#[cfg(test)]
+mod lexing;
+#[cfg(test)]
+mod listing;
+#[cfg(test)]
+mod parsing;
