@@ -1,4 +1,16 @@
+pub mod Computed
+pub mod Diagnostic
+pub mod Labels
+pub mod LexerView
+pub mod Lexing
+pub mod Lines
+pub mod Literals
+pub mod Pieces
 pub mod Place
+pub mod PrettyLine
+pub mod Reads
+pub mod Skips
+pub mod Source
 pub mod Steps
 pub mod Token
 pub mod TokenView

@@ -1,15 +1,15 @@
 -- What the calls of a lexer answer, by what it has still to give. A lexer is failed where no token is
 -- to come and a fault is: its text was refused by an earlier call.
-use Rattle.std.specs.Prelude.{◌≡◌, ℕ, ◌+◌, Bool, true, false, List, [], ◌∷◌, Option, Some, None, Result, Ok, Err}
+use Rattle.std.specs.Prelude.{◌≡◌, ◌≤◌, ◌<◌, ◌^◌, ℕ, ◌+◌, length, Bool, true, false, List, [], ◌∷◌, Option, Some, None, Result, Ok, Err}
 use Rattle.isle_base.specs.declared.error.Error.{Error}
 use Rattle.isle_base.specs.declared.error.Error.TheVariants.{ParseError}
-use Rattle.isle_base.specs.declared.error.Span.{Span}
 use Rattle.isle_base.specs.declared.lexer.Fault.{Fault}
 use Rattle.isle_base.specs.declared.lexer.Fault.TheVariants as faults
 use Rattle.isle_base.specs.declared.lexer.Pos.{Pos}
 use Rattle.isle_base.specs.declared.lexer.Token.{Token}
+use Rattle.isle_base.specs.Lexing.{lexes}
 use Rattle.isle_base.specs.Place.{Placed, in_file, placed_at}
-use Rattle.isle_base.specs.Token.{Tok, Lexeme, Ending, end, fault, Feed}
+use Rattle.isle_base.specs.Token.{Lexeme, Ending, end, fault, Feed}
 use Rattle.isle_base.specs.TokenView.{token_of}
 
 abbrev pub failed_by : List Lexeme → Ending → Bool
@@ -54,6 +54,7 @@ placed_of x = record { pos = x.0; token = token_of x.1 }
 abbrev pub RefusesAt : Pos → Error → Type 0
 RefusesAt pos (ParseError msg span) =
     span ≡ record { from = pos; to = record { file = pos.file; offset = pos.offset + 1 } }
+RefusesAt pos _ = ⊥
 
 -- The first token is taken off, and the others are still to come. It isn't the last one before a fault.
 pub record Takes (old : Feed) (x : Placed) (new : Feed) : Type 0 where
@@ -78,4 +79,31 @@ Gives old (Ok None) new = (is_at_end old ≡ true) × (new ≡ old)
 Gives old (Ok (Some x)) new = Takes old (placed_of x) new
 Gives old (Err (faults.Error e)) new = Refuses old e new
 Gives old (Err faults.Failed) new = (is_failed old ≡ true) × (new ≡ old)
-Gives old (Err faults.Memory) new = new ≡ old
+Gives old (Err faults.Memory) new = (is_failed old ≡ false) × (is_at_end old ≡ false) × (new ≡ old)
+
+-- a new lexer, of this file, for this text
+abbrev pub Starts : ℕ → List ℕ → Result Feed Fault → Type 0
+Starts file text (Ok feed) = (feed.file ≡ file) × (feed.size ≡ length text) × (is_failed feed ≡ false) × lexes text feed.coming feed.ending
+Starts file text (Err (faults.Error e)) = (offset : ℕ) × lexes text [] (fault offset) × RefusesAt (in_file file offset) e
+Starts file text (Err faults.Failed) = ⊥
+Starts file text (Err faults.Memory) = Unit {0}
+
+-- every offset of a token is one of the text's, its end included
+abbrev pub AreWithin : ℕ → List Lexeme → Type 0
+AreWithin size [] = Unit {0}
+AreWithin size (x ∷ xs) = (x.offset ≤ size) × (x.after ≤ size) × AreWithin size xs
+
+abbrev pub EndsWithin : ℕ → Ending → Type 0
+EndsWithin size end = Unit {0}
+EndsWithin size (fault offset) = offset ≤ size
+
+-- No offset is past the end of the text, and a number is left past that.
+pub record IsWithin (feed : Feed) : Type 0 where
+  pub tokens : AreWithin feed.size feed.coming
+  pub ending : EndsWithin feed.size feed.ending
+  pub short : feed.size + 1 < 2 ^ 64
+
+-- each token begins at or behind the end of the one before it, and ends behind its beginning
+abbrev pub Rises : ℕ → List Lexeme → Type 0
+Rises from [] = Unit {0}
+Rises from (x ∷ xs) = (from ≤ x.offset) × (x.offset < x.after) × Rises x.after xs

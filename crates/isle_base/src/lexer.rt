@@ -1,12 +1,23 @@
 //! Lexer for the ISLE language.
 
-ghost use Rattle.std.specs.Prelude.{◌≡◌, ◌↔◌, IsTrue};
+ghost use Rattle.std.specs.Prelude.{◌≡◌, ◌↔◌, ℕ, List, IsTrue, option_map};
+ghost use Rattle.isle_base.specs.Lexing.{HasOneLexing};
+ghost use Rattle.isle_base.specs.Steps.{Gives, IsWithin, Rises, Starts, current_pos, is_at_end, lookahead, placed_of};
 ghost use Rattle.isle_base.specs.Token.{is_int, is_symbol};
 ghost use Rattle.isle_base.specs.TokenView.{token_of};
 ghost use Rattle.isle_base.specs.declared.lexer.Fault.TheVariants.{Memory};
 
+mod literal;
+mod read;
+mod scan;
+#[cfg(test)]
+mod tests;
+
 use crate::error::Error;
-use std::alloc::{AllocError, AllocFailed};
+use crate::files::Files;
+use read::{Found, error, read};
+use std::alloc::{AllocError, AllocFailed, Global};
+use std::marker::Model;
 
 /// Why a lexer, a parser or the formatter gives no answer.
 #[derive(Debug, Drop)]
@@ -47,6 +58,10 @@ pub struct Pos {
 }
 
 impl Pos {
+    ghost use Rattle.std.specs.Prelude.{◌<◌, IfOk, length, string_bytes};
+    ghost use Rattle.isle_base.specs.PrettyLine.{pretty_line};
+    ghost use Rattle.isle_base.specs.Source.{source_at};
+
     /// Makes the position of a byte offset in a file.
     pub fn new(file: usize, offset: usize) -> Self
         ensures file { result.file ≡ file }
@@ -61,10 +76,25 @@ impl Pos {
     {
         *self == Self::default()
     }
+
+    /// Gives the position as text: the file's name, the word `line` and the line, which is
+    /// counted from 0 here.
+    ///
+    /// It asks that the file is known; `Files::file_name` is the test. It refuses only where
+    /// memory runs out.
+    pub fn pretty_print_line(&self, alloc: Global, files: &Files) -> Result<String, AllocError>
+        requires { self.now.file < length files.now }
+        ensures { IfOk result (λ text. string_bytes text
+            ≡ pretty_line (source_at files.now self.now.file) self.now.offset) }
+    {
+        let name = files.file_name(self.file).unwrap();
+        let line = files.file_line_map(self.file).unwrap().line(self.offset);
+        format!(in alloc; "{name} line {line}")
+    }
 }
 
 /// A token of ISLE source.
-#[derive(Clone, Debug, PartialEq, Eq, Drop)]
+#[derive(Debug, PartialEq, Eq, Drop)]
 pub enum Token {
     /// Left parenthesis.
     LParen,
@@ -91,5 +121,161 @@ impl Token {
         ensures { result ≡ is_symbol (token_of self.now) }
     {
         matches!(self, Token::Symbol(_))
+    }
+}
+
+impl Clone for Token {
+    ghost is_clone = { λ a b. token_of b ≡ token_of a };
+
+    fn clone(&self) -> Result<Token, AllocError> {
+        Ok(match self {
+            Token::LParen => Token::LParen,
+            Token::RParen => Token::RParen,
+            Token::Symbol(name) => Token::Symbol(name.clone()?),
+            Token::Int(value) => Token::Int(*value),
+            Token::At => Token::At,
+        })
+    }
+}
+
+/// States that each text has tokens and an ending, and just one of each. It does nothing.
+pub fn one_lexing()
+    ensures { (text : List ℕ) → HasOneLexing text }
+{}
+
+/// The lexer.
+///
+/// Breaks source text up into a sequence of tokens with source positions. It reads one token ahead,
+/// in one pass over the text, of which it holds no copy.
+///
+/// A text is refused at a fault: at a block comment without an end, at a form feed outside of
+/// comments, and at an integer literal that writes no number or one that doesn't fit. A lexer whose
+/// text was refused by `next` is failed, and stays so. In a contract a lexer is what it has still to
+/// give: the number of its file, the tokens to come, how they end, and the length of its text.
+#[derive(Debug, Drop)]
+pub struct Lexer<'src> {
+    src: &'src str,
+    // Behind the token ahead; without one, the end of the text, or the fault's first byte.
+    pos: Pos,
+    lookahead: Option<(Pos, Token)>,
+    failed: bool,
+}
+
+impl<'src> Model for Lexer<'src> {
+    ghost use Rattle.isle_base.specs.Token.{Feed};
+
+    ghost Value = { Feed };
+
+    ghost use Rattle.isle_base.specs.LexerView.{feed_of, IsLexer};
+
+    ghost view = { feed_of };
+
+    ghost invariant = { IsLexer };
+}
+
+impl<'src> Clone for Lexer<'src> {
+    ghost is_clone = { λ a b. b ≡ a };
+
+    fn clone(&self) -> Result<Lexer<'src>, AllocError> {
+        Ok(Lexer {
+            src: self.src,
+            pos: self.pos,
+            lookahead: self.lookahead.clone()?,
+            failed: self.failed,
+        })
+    }
+}
+
+impl<'src> Lexer<'src> {
+    /// Makes the lexer of a text, which is the file of this number, and reads the first token ahead.
+    ///
+    /// It answers `Error` exactly where the text begins, after blanks and comments, with a fault: the
+    /// error's span is the one byte at which the fault begins. It never answers `Failed`.
+    pub fn new(alloc: Global, file: usize, src: &'src str) -> Result<Lexer<'src>, Fault>
+        ensures { Starts file src.now result }
+    {
+        match read(alloc, src, 0)? {
+            Found::Token(start, token, end) => Ok(Lexer {
+                src,
+                pos: Pos::new(file, end),
+                lookahead: Some((Pos::new(file, start), token)),
+                failed: false,
+            }),
+            Found::End => Ok(Lexer {
+                src,
+                pos: Pos::new(file, src.len()),
+                lookahead: None,
+                failed: false,
+            }),
+            Found::Fault(at, reason) => {
+                let refusal = error(alloc, Pos::new(file, at), reason)?;
+                Err(Fault::Error(refusal))
+            }
+        }
+    }
+
+    /// Gets the lexer's current source position: the byte offset behind the token ahead.
+    ///
+    /// Where there is no token ahead, it is the end of the text, or the first byte of the fault if
+    /// the lexer is failed.
+    pub fn pos(&self) -> Pos
+        ensures value { result ≡ current_pos self.now }
+        ensures within { IsWithin self.now }
+    {
+        self.pos
+    }
+
+    /// Hands out the token ahead with the position of its first byte, and reads one token further.
+    ///
+    /// At the end of the text it answers `None`. It answers `Error` where a fault follows the token
+    /// ahead, after blanks and comments: the error's span is the one byte at which the fault begins,
+    /// the token ahead is lost, and the lexer is failed from then on. It answers `Failed` exactly of
+    /// a failed lexer. After `Memory` the lexer is as it was.
+    pub fn next(&mut self, alloc: Global) -> Result<Option<(Pos, Token)>, Fault>
+        ensures { Gives self.old result self.new }
+    {
+        if self.failed {
+            return Err(Fault::Failed);
+        }
+        if self.lookahead.is_none() {
+            return Ok(None);
+        }
+        let file = self.pos.file;
+        match read(alloc, self.src, self.pos.offset)? {
+            Found::Token(start, token, end) => {
+                self.pos = Pos::new(file, end);
+                Ok(self.lookahead.replace((Pos::new(file, start), token)))
+            }
+            Found::End => {
+                self.pos = Pos::new(file, self.src.len());
+                Ok(self.lookahead.take())
+            }
+            Found::Fault(at, reason) => {
+                let pos = Pos::new(file, at);
+                let error = error(alloc, pos, reason)?;
+                self.pos = pos;
+                self.lookahead = None;
+                self.failed = true;
+                Err(Fault::Error(error))
+            }
+        }
+    }
+
+    /// Peeks ahead at the next token, with the position of its first byte.
+    ///
+    /// There is none at the end of the text, and none of a failed lexer.
+    pub fn peek(&self) -> Option<&(Pos, Token)>
+        ensures value { option_map (λ x. placed_of x.now) result ≡ lookahead self.now }
+        ensures within { IsWithin self.now }
+        ensures rising { Rises 0 self.now.coming }
+    {
+        self.lookahead.as_ref()
+    }
+
+    /// Tells whether the text has no more tokens. It is false of a failed lexer.
+    pub fn eof(&self) -> bool
+        ensures { result ≡ is_at_end self.now }
+    {
+        self.lookahead.is_none() && !self.failed
     }
 }

@@ -1,0 +1,73 @@
+-- How the view of a lexer computes the tokens of a text. It is only that: what the tokens of a text
+-- are is said by `lexes`, and no contract of a call names anything of this file.
+use Rattle.std.specs.Prelude.{ℕ, zero, suc, ◌-◌, List, [], ◌∷◌, Bool, ◌&&◌, ◌==◌, if◌then◌else◌, Option, Some, None, length, drop, ℤ}
+use Rattle.std.specs.List.{prefix_len, take_while}
+use Rattle.isle_base.specs.Literals.{begins_literal, in_literal, has_minus, behind_minus, radix_at, behind_prefix, digits_of, value_of}
+use Rattle.isle_base.specs.Pieces.{in_symbol}
+use Rattle.isle_base.specs.Skips.{opens, is_blank, in_line}
+use Rattle.isle_base.specs.Token.{Tok, lparen, rparen, symbol, integer, at_sign, Lexeme, Ending, end, fault}
+
+-- what follows the longest run of a kind
+abbrev pub behind : (ℕ → Bool) → List ℕ → List ℕ
+behind kind text = drop (prefix_len kind text) text
+
+-- what follows the end of the outermost of so many block comments, if they end
+unfoldable pub close : ℕ → List ℕ → Option (List ℕ)
+close zero text = Some text
+close (suc n) [] = None
+close (suc n) (a ∷ []) = None
+close (suc n) (a ∷ b ∷ rest) =
+    if a == 40 && b == 59 then close (suc (suc n)) rest
+    else (if a == 59 && b == 41 then close n rest
+    else close (suc n) (b ∷ rest))
+
+-- what a text begins with, behind a skip: nothing, a fault, or a token
+pub data First : Type 0 where
+  ended : First
+  refused : List ℕ → First
+  found : List ℕ → Tok → List ℕ → First
+
+unfoldable pub literal_first : List ℕ → List ℕ → Option ℤ → First
+literal_first text after None = refused text
+literal_first text after (Some value) = found text (integer value) after
+
+unfoldable pub piece_first : List ℕ → First
+piece_first [] = ended
+piece_first (b ∷ rest) =
+    if b == 40 then found (b ∷ rest) lparen rest
+    else (if b == 41 then found (b ∷ rest) rparen rest
+    else (if b == 64 then found (b ∷ rest) at_sign rest
+    else (if b == 12 then refused (b ∷ rest)
+    else (if begins_literal b then literal_first (b ∷ rest) (behind in_literal (behind_prefix (behind_minus (b ∷ rest)))) (value_of (has_minus (b ∷ rest)) (radix_at (behind_minus (b ∷ rest))) (digits_of (take_while in_literal (behind_prefix (behind_minus (b ∷ rest))))))
+    else found (b ∷ rest) (symbol (take_while in_symbol (b ∷ rest))) (behind in_symbol (b ∷ rest))))))
+
+unfoldable pub comment_first : (List ℕ → First) → List ℕ → Option (List ℕ) → First
+comment_first more text None = refused text
+comment_first more text (Some after) = more after
+
+unfoldable pub first : ℕ → List ℕ → First
+first zero text = ended
+first (suc n) [] = ended
+first (suc n) (b ∷ rest) =
+    if is_blank b then first n rest
+    else (if b == 59 then first n (behind in_line rest)
+    else (if opens (b ∷ rest) then comment_first (first n) (b ∷ rest) (close 1 (drop 1 rest))
+    else piece_first (b ∷ rest)))
+
+-- the tokens and the ending of a text
+pub record Computed : Type 0 where
+  pub tokens : List Lexeme
+  pub ending : Ending
+
+unfoldable pub computed_by : (List ℕ → Computed) → ℕ → First → Computed
+computed_by more size ended = record { tokens = []; ending = end }
+computed_by more size (refused from) = record { tokens = []; ending = fault (size - length from) }
+computed_by more size (found from token after) = record {
+  tokens = record { offset = size - length from; token = token; after = size - length after } ∷ (more after).tokens;
+  ending = (more after).ending;
+}
+
+-- those of the last bytes of a text of this size, in at most so many steps
+unfoldable pub computed : ℕ → ℕ → List ℕ → Computed
+computed zero size text = record { tokens = []; ending = end }
+computed (suc n) size text = computed_by (computed n size) size (first (length text) text)

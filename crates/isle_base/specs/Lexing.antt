@@ -1,0 +1,33 @@
+-- The tokens of a text, and how they end.
+use Rattle.std.specs.Prelude.{◌≡◌, ℕ, ◌-◌, List, [], ◌∷◌, length, None}
+use Rattle.isle_base.specs.Literals.{Literal}
+use Rattle.isle_base.specs.Pieces.{Piece}
+use Rattle.isle_base.specs.Skips.{Skip, Inside}
+use Rattle.isle_base.specs.Token.{Lexeme, Ending, end, fault}
+
+-- Here the text is refused: at a `(;` that begins no whole block comment, at a form feed, or at a
+-- literal without a value.
+pub data Faulty : List ℕ → Type 0 where
+  unclosed : {text inner : List ℕ} → text ≡ 40 ∷ 59 ∷ inner → ((rest : List ℕ) → Inside inner rest → ⊥) → Faulty text
+  form_feed : {text after : List ℕ} → text ≡ 12 ∷ after → Faulty text
+  literal : {text rest : List ℕ} → Literal text None rest → Faulty text
+
+-- The last bytes of a text of this size are a skip, a piece, a skip, a piece and so on. They end
+-- with a skip, or with a fault behind one, where lexing stops. The offset of a place is what is
+-- left of the size without the bytes from there on.
+abbrev pub Lexes : ℕ → List ℕ → List Lexeme → Ending → Type 0
+Lexes size text [] end = Skip text []
+Lexes size text [] (fault offset) = (from : List ℕ) × Skip text from × Faulty from × (offset ≡ size - length from)
+Lexes size text (x ∷ xs) ending =
+    (from : List ℕ) × (after : List ℕ) × Skip text from × Piece from x.token after
+    × (x.offset ≡ size - length from) × (x.after ≡ size - length after) × Lexes size after xs ending
+
+-- these are the tokens of the text, and so they end
+abbrev pub lexes : List ℕ → List Lexeme → Ending → Type 0
+lexes text tokens ending = Lexes (length text) text tokens ending
+
+-- a text has tokens and an ending, and just one of each
+abbrev pub HasOneLexing : List ℕ → Type 0
+HasOneLexing text =
+    ((tokens : List Lexeme) × (ending : Ending) × lexes text tokens ending)
+    × ((tokens others : List Lexeme) (ending other : Ending) → lexes text tokens ending → lexes text others other → (tokens ≡ others) × (ending ≡ other))

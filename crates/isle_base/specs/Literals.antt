@@ -1,0 +1,76 @@
+-- Integer literals: an optional `-`, an optional prefix, and the longest run of hexadecimal digits
+-- and `_`. Underscores don't count. A literal that writes no number, or one that doesn't fit, has
+-- no value: the text is refused there.
+use Rattle.std.specs.Prelude.{◌≡◌, ℕ, ℤ, pos, neg_ℤ, ◌-ℤ◌, ◌+◌, ◌*◌, ◌^◌, List, [], ◌∷◌, drop, length, map, filter, Bool, true, false, ◌||◌, not, ◌==◌, nat_lt, if◌then◌else◌, Option, Some, None, unwrap_or, is_some}
+use Rattle.std.specs.Char.{digit_value, is_ascii_digit, is_ascii_hexdigit}
+use Rattle.std.specs.List.{list_all}
+use Rattle.isle_base.specs.Skips.{begins_with, Longest}
+
+-- `-` or a decimal digit
+unfoldable pub begins_literal : ℕ → Bool
+begins_literal b = b == 45 || is_ascii_digit b
+
+-- a hexadecimal digit or `_`
+unfoldable pub in_literal : ℕ → Bool
+in_literal b = is_ascii_hexdigit b || b == 95
+
+-- `-` stands here
+abbrev pub has_minus : List ℕ → Bool
+has_minus text = begins_with (λ b. b == 45) text
+
+abbrev pub behind_minus : List ℕ → List ℕ
+behind_minus text = if has_minus text then drop 1 text else text
+
+-- the radix that a letter behind `0` stands for: `x` or `X` for 16, `o` or `O` for 8, `b` or `B` for 2
+unfoldable pub radix_of : ℕ → Option ℕ
+radix_of b =
+    if b == 120 || b == 88 then Some 16
+    else (if b == 111 || b == 79 then Some 8
+    else (if b == 98 || b == 66 then Some 2
+    else None))
+
+-- the radix of the prefix that stands here: `0` and a letter
+abbrev pub prefix_radix : List ℕ → Option ℕ
+prefix_radix [] = None
+prefix_radix (a ∷ []) = None
+prefix_radix (a ∷ b ∷ _) = if a == 48 then radix_of b else None
+
+-- A prefix is read wherever one stands; without one the radix is ten.
+abbrev pub radix_at : List ℕ → ℕ
+radix_at text = unwrap_or (prefix_radix text) 10
+
+abbrev pub behind_prefix : List ℕ → List ℕ
+behind_prefix text = if is_some (prefix_radix text) then drop 2 text else text
+
+-- the values of the digits of a run, without its underscores
+abbrev pub digits_of : List ℕ → List ℕ
+digits_of run = map digit_value (filter (λ b. not (b == 95)) run)
+
+-- the sum of digit times power of the radix
+abbrev pub number_of : ℕ → List ℕ → ℕ
+number_of radix [] = 0
+number_of radix (d ∷ ds) = d * radix ^ length ds + number_of radix ds
+
+-- there is a digit, and each is one of the radix
+abbrev pub are_digits : ℕ → List ℕ → Bool
+are_digits radix [] = false
+are_digits radix (d ∷ ds) = list_all (λ e. nat_lt e radix) (d ∷ ds)
+
+-- With `-` the number is below 2^127; without, a number from 2^127 on and below 2^128 stands for the
+-- negative number of the same 128 bits.
+abbrev pub signed : Bool → ℕ → Option ℤ
+signed true n = if nat_lt n (2 ^ 127) then Some (neg_ℤ (pos n)) else None
+signed false n =
+    if nat_lt n (2 ^ 127) then Some (pos n)
+    else (if nat_lt n (2 ^ 128) then Some (pos n -ℤ pos (2 ^ 128)) else None)
+
+-- what these digits behind this sign mean
+abbrev pub value_of : Bool → ℕ → List ℕ → Option ℤ
+value_of minus radix ds = if are_digits radix ds then signed minus (number_of radix ds) else None
+
+-- `text` begins with an integer literal of this value, or of none, and `rest` follows it
+pub record Literal (text : List ℕ) (value : Option ℤ) (rest : List ℕ) : Type 0 where
+  pub begins : begins_with begins_literal text ≡ true
+  pub run : List ℕ
+  pub longest : Longest in_literal (behind_prefix (behind_minus text)) run rest
+  pub meaning : value ≡ value_of (has_minus text) (radix_at (behind_minus text)) (digits_of run)

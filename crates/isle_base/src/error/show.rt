@@ -1,0 +1,149 @@
+//! What `Display` writes of an error.
+ghost use Rattle.std.specs.Prelude.{◌≡◌, ◌+◌, ◌^◌, ◌<◌, ◌≤◌, ◌-◌, ◌==◌, if◌then◌else◌, true, ◌++◌, codes, length, slice_index};
+ghost use Rattle.std.specs.Fmt.{WritesOnOk, decimal};
+ghost use Rattle.std.specs.List.{flat_map, list_all};
+ghost use Rattle.isle_base.specs.Diagnostic.{error_text, label_text, message};
+ghost use Rattle.isle_base.specs.Labels.{error_fits, labels, span_fits};
+ghost use Rattle.isle_base.specs.Lines.{line, line_ends, line_text, column};
+
+use crate::error::{Error, Span};
+use crate::files::{Files, LineMap};
+use std::fmt;
+
+/// Writes one error.
+pub fn write_error<W: fmt::Write>(
+    f: &mut fmt::Formatter<W>,
+    files: &Files,
+    error: &Error,
+) -> fmt::Result
+    requires { error_fits files.now error.now ≡ true }
+    ensures { WritesOnOk W.write_str_gives f.old result (error_text files.now error.now) f.new }
+{
+    write_message(f, error)?;
+    f.write_str("\n")?;
+    write_error_labels(f, files, error)?;
+    f.write_str("\n")
+}
+
+/// Writes what is wrong.
+fn write_message<W: fmt::Write>(f: &mut fmt::Formatter<W>, error: &Error) -> fmt::Result
+    ensures { WritesOnOk W.write_str_gives f.old result (message error.now) f.new }
+{
+    match error {
+        Error::ParseError { msg, .. } => write!(f, "parse error: {msg}"),
+        Error::TypeError { msg, .. } => write!(f, "type error: {msg}"),
+        Error::UnreachableError { msg, .. } => write!(f, "unreachable rule: {msg}"),
+        Error::OverlapError { msg, .. } => write!(f, "overlap error: {msg}"),
+        Error::RecursionError { msg, .. } => write!(f, "recursion error: {msg}"),
+        Error::ShadowedError { .. } => {
+            f.write_str("more general higher-priority rule shadows other rules")
+        }
+    }
+}
+
+/// Writes the places that an error speaks of.
+fn write_error_labels<W: fmt::Write>(
+    f: &mut fmt::Formatter<W>,
+    files: &Files,
+    error: &Error,
+) -> fmt::Result
+    requires { error_fits files.now error.now ≡ true }
+    ensures { WritesOnOk W.write_str_gives f.old result
+        (flat_map (label_text files.now) (labels error.now)) f.new }
+{
+    match error {
+        Error::ParseError { span, .. }
+        | Error::TypeError { span, .. }
+        | Error::UnreachableError { span, .. }
+        | Error::RecursionError { span, .. } => write_label(f, files, span),
+        Error::OverlapError { rules, .. } => write_labels(f, files, rules),
+        Error::ShadowedError { shadowed, mask } => {
+            write_label(f, files, mask)?;
+            write_labels(f, files, shadowed)
+        }
+    }
+}
+
+/// Writes some places.
+fn write_labels<W: fmt::Write>(
+    f: &mut fmt::Formatter<W>,
+    files: &Files,
+    spans: &[Span],
+) -> fmt::Result
+    requires { list_all (span_fits files.now) spans.now ≡ true }
+    ensures { WritesOnOk W.write_str_gives f.old result
+        (flat_map (label_text files.now) spans.now) f.new }
+{
+    for span in spans {
+        write_label(f, files, span)?;
+    }
+    Ok(())
+}
+
+/// Writes one place: its file, line and column, and the line itself.
+fn write_label<W: fmt::Write>(f: &mut fmt::Formatter<W>, files: &Files, span: &Span) -> fmt::Result
+    requires { span_fits files.now span.now ≡ true }
+    ensures { WritesOnOk W.write_str_gives f.old result (label_text files.now span.now) f.new }
+{
+    let pos = span.from;
+    let name = files.file_name(pos.file).unwrap();
+    let text = files.file_text(pos.file).unwrap();
+    let line_map = files.file_line_map(pos.file).unwrap();
+    let line = source_line(text, line_map, pos.offset);
+    write_place(f, name, line.number + 1, line.column + 1, line.text)
+}
+
+/// Writes a file's name, a line and a column, and the line itself.
+fn write_place<W: fmt::Write>(
+    f: &mut fmt::Formatter<W>,
+    name: &str,
+    number: usize,
+    column: usize,
+    line: &str,
+) -> fmt::Result
+    ensures { WritesOnOk W.write_str_gives f.old result
+        (name.now ++ codes ":" ++ decimal number ++ codes ":" ++ decimal column ++ codes ": " ++ line.now)
+        f.new }
+{
+    write!(f, "{name}:{number}:{column}: {line}")
+}
+
+/// The line of a text on which an offset lies.
+#[derive(Drop)]
+struct SourceLine<'a> {
+    /// Its number, from 0.
+    number: usize,
+    /// How many of its bytes stand before the offset.
+    column: usize,
+    /// The line, with its line feed if it has one.
+    text: &'a str,
+}
+
+/// Finds the line of a text on which an offset lies.
+fn source_line<'a>(text: &'a str, line_map: &LineMap, offset: usize) -> SourceLine<'a>
+    requires { line_map.now ≡ line_ends text.now }
+    ensures number { result.number ≡ line text.now offset }
+    ensures small { result.number < 2 ^ 63 }
+    ensures column { result.column ≡ column text.now offset }
+    ensures text { result.text.now ≡ line_text text.now (line text.now offset) }
+{
+    let number = line_map.line(offset);
+    let begin = line_begin(line_map, number);
+    let end = line_map.get(number).copied().unwrap_or(text.len());
+    SourceLine {
+        number,
+        column: offset - begin,
+        text: &text[begin..end],
+    }
+}
+
+/// Gives the byte offset at which a line begins.
+fn line_begin(line_map: &LineMap, number: usize) -> usize
+    requires { number ≤ length line_map.now }
+    ensures { result ≡ (if number == 0 then 0 else slice_index line_map.now (number - 1)) }
+{
+    match number.checked_sub(1) {
+        None => 0,
+        Some(previous) => line_map[previous],
+    }
+}

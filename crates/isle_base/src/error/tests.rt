@@ -1,0 +1,104 @@
+//! Tests of what is written, and of the calls that take memory.
+use super::*;
+use std::fmt::Write;
+use std::test::Fail;
+
+const SHOWN: &str = "more general higher-priority rule shadows other rules
+a.isle:1:1: (A)
+a.isle:2:1: (B)
+
+parse error: m
+b.isle:1:6: (rule
+found 2 errors
+";
+
+fn two_errors(alloc: Global) -> Result<ErrorsBuilder, AllocError> {
+    let first = String::from_str(alloc, "a.isle")?;
+    let first_text = String::from_str(alloc, "(A)\n(B)\n")?;
+    let second = String::from_str(alloc, "b.isle")?;
+    let second_text = String::from_str(alloc, "(rule")?;
+    let pairs = vec![in alloc; (first, first_text), (second, second_text)]?;
+    let files = Rc::new(alloc, Files::from_names_and_contents(alloc, pairs)?)?;
+    let shadowed = Error::ShadowedError {
+        shadowed: vec![in alloc; Span::new_single(Pos::new(0, 4))]?,
+        mask: Span::new_single(Pos::new(0, 0)),
+    };
+    let parse = Error::ParseError {
+        msg: String::from_str(alloc, "m")?,
+        span: Span::new_single(Pos::new(1, 5)),
+    };
+    Ok(
+        ErrorsBuilder::new(alloc)?
+            .files(files)
+            .errors(vec![in alloc; shadowed, parse]?),
+    )
+}
+
+#[test]
+fn one_error_takes_the_place_of_others(rt: HostRuntime) -> Result<(), Fail> {
+    let alloc = rt.alloc();
+    let span = Span::new_single(Pos::new(1, 100));
+    let error = Error::TypeError {
+        msg: String::from_str(alloc, "m")?,
+        span: span.clone()?,
+    };
+    let builder = two_errors(alloc)?.error(alloc, error)?;
+    assert!(rt; builder.is_buildable());
+    assert_eq!(rt; builder.build().errors().len(), 1);
+    Ok(())
+}
+
+/// A writer that takes a number of pieces and refuses any other.
+#[derive(Drop)]
+struct Refusing {
+    text: String,
+    /// The length of the text after each piece.
+    ends: Vec<usize>,
+    room: usize,
+    refused: usize,
+}
+
+impl Refusing {
+    fn new(alloc: Global, room: usize) -> Self {
+        Refusing {
+            text: String::new(alloc),
+            ends: Vec::new(alloc),
+            room,
+            refused: 0,
+        }
+    }
+}
+
+impl Write for Refusing {
+    fn write_str(&mut self, piece: &str) -> fmt::Result {
+        if self.ends.len() >= self.room {
+            self.refused = self.refused.saturating_add(1);
+            return Err(fmt::Error);
+        }
+        self.text.push_str(piece)?;
+        let end = self.text.len();
+        self.ends.push(end).map_err(|_| fmt::Error)
+    }
+}
+
+#[test]
+fn shows_errors_up_to_a_refused_write(rt: HostRuntime) -> Result<(), Fail> {
+    let alloc = rt.alloc();
+    let builder = two_errors(alloc)?;
+    assert!(rt; builder.is_buildable());
+    let errors = builder.build();
+    let mut whole = Refusing::new(alloc, usize::MAX);
+    write!(whole, "{errors}")?;
+    assert_eq!(rt; whole.text.as_str(), SHOWN);
+
+    let mut before = 0;
+    for (room, end) in whole.ends.iter().enumerate() {
+        let mut writer = Refusing::new(alloc, room);
+        assert!(rt; write!(writer, "{errors}").is_err());
+        assert_eq!(rt; writer.refused, 1);
+        assert_eq!(rt; writer.text.len(), before);
+        assert!(rt; SHOWN.starts_with(writer.text.as_str()));
+        before = *end;
+    }
+    Ok(())
+}
