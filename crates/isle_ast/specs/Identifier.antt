@@ -5,7 +5,7 @@
 use Rattle.std.specs.Prelude.{ℕ, List, [], ◌∷◌, Bool, true, false, ◌&&◌, ◌||◌, ◌==◌, nat_lt, if◌then◌else◌}
 use Rattle.std.specs.Char.{is_ascii_alphabetic, is_ascii_digit}
 use Rattle.std.specs.List.{list_all}
-use Rattle.std.specs.Str.{chars}
+use Rattle.std.specs.Str.{chars, is_utf8}
 use Rattle.unicode.specs.Binary.{is_alphabetic}
 use Rattle.unicode.specs.GeneralCategory.{general_category}
 use Rattle.unicode.specs.declared.properties.GeneralCategory.{GeneralCategory}
@@ -35,6 +35,6 @@ abbrev pub are_identifier : List ℕ → Bool
 are_identifier [] = false
 are_identifier (c ∷ cs) = begins_identifier c && list_all continues_identifier cs
 
--- a text, as its bytes
+-- these bytes are a text, and its characters make an identifier
 unfoldable pub is_identifier : List ℕ → Bool
-is_identifier text = are_identifier (chars text)
+is_identifier text = is_utf8 text && are_identifier (chars text)

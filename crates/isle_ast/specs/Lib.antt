@@ -1,6 +1,8 @@
 pub mod Erased
 pub mod Grammar
 pub mod Identifier
+pub mod NameOrder
+pub mod Parts
 pub mod Spelt
 pub mod Tree
 pub mod TreeView

@@ -1,7 +1,8 @@
 -- Which definitions a text spells.
 use Rattle.std.specs.Prelude.{◌≡◌, ℕ, List}
 use Rattle.isle_base.specs.declared.lexer.Pos.{Pos}
-use Rattle.isle_base.specs.Token.{Feed, end}
+use Rattle.isle_base.specs.Lexing.{lexes}
+use Rattle.isle_base.specs.Token.{Feed, Lexeme, end}
 use Rattle.isle_ast.specs.Grammar.{SpellsDefinitions}
 use Rattle.isle_base.specs.Place.{placed}
 use Rattle.isle_ast.specs.Tree.{Definition}
@@ -10,3 +11,8 @@ use Rattle.isle_ast.specs.Tree.{Definition}
 -- a token stands at the position that `place` gives to its offset.
 abbrev pub Spells : (ℕ → Pos) → Feed → List Definition → Type 0
 Spells place feed ds = (feed.ending ≡ end) × SpellsDefinitions ds (placed place feed.coming)
+
+-- The same of a whole text: it lexes to tokens, up to its end, that spell these definitions.
+abbrev pub IsSpelt : (ℕ → Pos) → List ℕ → List Definition → Type 0
+IsSpelt place text ds =
+    (tokens : List Lexeme) × lexes text tokens end × SpellsDefinitions ds (placed place tokens)

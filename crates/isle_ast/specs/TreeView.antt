@@ -23,7 +23,7 @@ declaration_of d =
       multi = d.multi;
       partial = d.partial;
       rec = d.rec;
-      pos = d.pos
+      pos = d.pos;
     }
 
 abbrev pub conversion_of : Converter → Conversion
@@ -32,7 +32,7 @@ conversion_of c =
       term = name_of c.term;
       inner_ty = name_of c.inner_ty;
       outer_ty = name_of c.outer_ty;
-      pos = c.pos
+      pos = c.pos;
     }
 
 abbrev pub definition_of : Def → Definition

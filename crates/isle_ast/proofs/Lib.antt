@@ -1,0 +1,9 @@
+pub mod Identifiers
+pub mod IdentifierBytes
+pub mod Copies
+pub mod NameOrders
+pub mod Equalities
+pub mod Parts
+pub mod Erasing
+pub mod Placing
+pub mod OnePlacing

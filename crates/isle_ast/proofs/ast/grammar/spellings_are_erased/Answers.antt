@@ -1,0 +1,7 @@
+use Rattle.isle_ast.proofs.Erasing.{text_erased}
+use Rattle.isle_ast.proofs.OnePlacing.{text_once}
+use Rattle.isle_ast.proofs.Placing.{text_placed}
+use Rattle.isle_ast.proofs.ast.grammar.spellings_are_erased.Goals as goal
+
+pub returns : goal.returns
+returns c = record { erased = text_erased; placed = text_placed; once = text_once }

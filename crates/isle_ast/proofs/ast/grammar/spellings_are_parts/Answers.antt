@@ -1,0 +1,12 @@
+use Rattle.isle_ast.proofs.Parts.{names_by_parts, rows_by_parts, declarations_by_parts, conversions_by_parts, definition_by_parts, definitions_by_parts}
+use Rattle.isle_ast.proofs.ast.grammar.spellings_are_parts.Goals as goal
+
+pub returns : goal.returns
+returns c = record {
+  names = names_by_parts;
+  rows_of_names = rows_by_parts;
+  declarations = declarations_by_parts;
+  conversions = conversions_by_parts;
+  definitions = definition_by_parts;
+  whole_texts = definitions_by_parts;
+}
