@@ -1,0 +1,9 @@
+pub mod Ahead
+pub mod Readers
+pub mod Loops
+pub mod Names
+pub mod Keywords
+pub mod Flags
+pub mod Definitions
+pub mod Whole
+pub mod Positions

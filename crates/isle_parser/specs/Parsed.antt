@@ -1,0 +1,40 @@
+-- What the parsers answer, by what a lexer has still to give.
+use Rattle.std.specs.Prelude.{◌≡◌, ℕ, ◌≤◌, List, Result, Ok, Err, true, false}
+use Rattle.std.specs.Global.{Vec}
+use Rattle.isle_base.specs.declared.error.Error.{Error}
+use Rattle.isle_base.specs.declared.lexer.Fault.{Fault}
+use Rattle.isle_base.specs.declared.lexer.Fault.TheVariants as faults
+use Rattle.isle_base.specs.declared.lexer.Pos.{Pos}
+use Rattle.isle_base.specs.Place.{in_file}
+use Rattle.isle_base.specs.Steps.{RefusesAt, is_failed}
+use Rattle.isle_base.specs.Token.{Feed}
+use Rattle.isle_ast.specs.declared.ast.Def.{Def}
+use Rattle.isle_ast.specs.Spelt.{Spells}
+use Rattle.isle_ast.specs.Tree.{Definition}
+use Rattle.isle_ast.specs.TreeView.{definitions_of}
+
+-- a parse error whose span is one byte of the file, or the one behind the text's end
+abbrev pub RefusesIn : ℕ → ℕ → Error → Type 0
+RefusesIn file size e = (offset : ℕ) × (offset ≤ size) × RefusesAt (in_file file offset) e
+
+-- this list of definitions is spelt, and no other is
+pub record SpellsOnly (place : ℕ → Pos) (feed : Feed) (ds : List Definition) : Type 0 where
+  pub spelt : Spells place feed ds
+  pub only : (es : List Definition) → Spells place feed es → es ≡ ds
+
+-- An error means that no list of definitions is spelt. Want of memory says nothing.
+abbrev pub RefusesText : (ℕ → Pos) → Feed → Fault → Type 0
+RefusesText place feed (faults.Error e) = ((ds : List Definition) → Spells place feed ds → ⊥) × RefusesIn feed.file feed.size e
+RefusesText place feed faults.Failed = Unit {0}
+RefusesText place feed faults.Memory = Unit {0}
+
+-- whether a parser answers that its lexer was failed
+abbrev pub FailsAs : Feed → Fault → Type 0
+FailsAs feed (faults.Error e) = is_failed feed ≡ false
+FailsAs feed faults.Failed = is_failed feed ≡ true
+FailsAs feed faults.Memory = is_failed feed ≡ false
+
+-- what a parser answers, where positions are given by `place`
+abbrev pub Parses : (ℕ → Pos) → Feed → Result (Vec Def) Fault → Type 0
+Parses place feed (Ok defs) = SpellsOnly place feed (definitions_of defs.items)
+Parses place feed (Err e) = RefusesText place feed e × FailsAs feed e

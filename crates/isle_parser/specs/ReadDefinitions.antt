@@ -1,0 +1,56 @@
+-- Reading of definitions.
+use Rattle.std.specs.Prelude.{ℕ, List, Some, None, if◌then◌else◌, codes}
+use Rattle.std.specs.Str.{bytes_eq}
+use Rattle.isle_ast.specs.Tree.{Declaration, Conversion, Definition, decl, converter}
+use Rattle.isle_parser.specs.Reading.{Reader, ◌>>=◌, text, flag, pos_ahead, ends, in_parentheses, many}
+use Rattle.isle_parser.specs.ReadNames.{name, names}
+
+unfoldable pub declaration : Reader Declaration
+declaration all = do
+  pure ← flag (codes "pure") all
+  multi ← flag (codes "multi") pure.1
+  partial ← flag (codes "partial") multi.1
+  rec ← flag (codes "rec") partial.1
+  term ← name rec.1
+  arg_tys ← names term.1
+  ret_ty ← name arg_tys.1
+  Some (
+    record {
+      term = term.0;
+      arg_tys = arg_tys.0;
+      ret_ty = ret_ty.0;
+      pure = pure.0;
+      multi = multi.0;
+      partial = partial.0;
+      rec = rec.0;
+      pos = pos_ahead all;
+    },
+    ret_ty.1,
+  )
+
+unfoldable pub conversion : Reader Conversion
+conversion all = do
+  inner_ty ← name all
+  outer_ty ← name inner_ty.1
+  term ← name outer_ty.1
+  Some (record { term = term.0; inner_ty = inner_ty.0; outer_ty = outer_ty.0; pos = pos_ahead all }, term.1)
+
+-- what stands behind this keyword
+unfoldable pub behind : List ℕ → Reader Definition
+behind word all =
+    if bytes_eq word (codes "decl")
+    then (declaration all >>= λ d. Some (decl d.0, d.1))
+    else
+    (if bytes_eq word (codes "convert") then (conversion all >>= λ c. Some (converter c.0, c.1)) else None)
+
+-- a keyword, and what stands behind it
+unfoldable pub form : Reader Definition
+form all = do
+  word ← text all
+  behind word.0 word.1
+
+unfoldable pub definition : Reader Definition
+definition = in_parentheses form
+
+unfoldable pub definitions : Reader (List Definition)
+definitions = many ends definition

@@ -1,0 +1,6 @@
+//! The parser of the ISLE language.
+#![tactic(auto)]
+
+pub mod parser;
+#[cfg(test)]
+mod tests;

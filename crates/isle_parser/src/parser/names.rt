@@ -1,0 +1,78 @@
+//! Identifiers.
+
+ghost use Rattle.std.specs.Prelude.{◌≡◌};
+ghost use Rattle.isle_ast.specs.Identifier.{is_identifier};
+ghost use Rattle.isle_ast.specs.TreeView.{name_of, names_of};
+ghost use Rattle.isle_parser.specs.Answers.{Gives, IsPlace, Judges, source, tokens};
+ghost use Rattle.isle_parser.specs.ReadNames.{name, names};
+ghost use Rattle.isle_parser.specs.Reading.{closes, many};
+
+use crate::parser::{Parser, Stop, refuse};
+use isle_ast::ast::Ident;
+use isle_ast::ast::identifier::{begins_identifier, is_identifier};
+use isle_base::lexer::Pos;
+use std::alloc::{AllocError, Global};
+
+impl<'src> Parser<'src> {
+    // Refuses the text of the symbol at this place where it isn't an identifier.
+    fn check_identifier(&self, alloc: Global, place: Pos, text: &str) -> Result<(), Stop>
+        requires { IsPlace (source self.now) place }
+        ensures { Judges (is_identifier text.now) (source self.now) result }
+    {
+        if is_identifier(text) {
+            return Ok(());
+        }
+        Err(refuse(place, identifier_message(alloc, text)))
+    }
+
+    #[tactic(auto, unfolding(crate::specs::ReadNames::name))]
+    pub(super) fn parse_ident(&mut self, alloc: Global) -> Result<Ident, Stop>
+        ensures same { source self.new ≡ source self.old }
+        ensures gives { Gives name_of (name (tokens self.old)) result self.new }
+    {
+        let place = self.place();
+        let pos = self.pos();
+        let text = self.expect_symbol(alloc)?;
+        self.check_identifier(alloc, place, &text)?;
+        Ok(Ident(text, pos))
+    }
+
+    // Identifiers, up to the closing parenthesis.
+    fn parse_ident_list(&mut self, alloc: Global) -> Result<Vec<Ident>, Stop>
+        ensures same { source self.new ≡ source self.old }
+        ensures gives { Gives (λ is. names_of is.items) (many closes name (tokens self.old)) result self.new }
+    {
+        let mut idents = Vec::new(alloc);
+        while !self.is_rparen() {
+            idents.push(self.parse_ident(alloc)?)?;
+        }
+        Ok(idents)
+    }
+
+    // Identifiers in parentheses.
+    #[tactic(auto, unfolding(crate::specs::ReadNames::names, crate::specs::Reading::in_parentheses))]
+    pub(super) fn parse_idents(&mut self, alloc: Global) -> Result<Vec<Ident>, Stop>
+        ensures same { source self.new ≡ source self.old }
+        ensures gives { Gives (λ is. names_of is.items) (names (tokens self.old)) result self.new }
+    {
+        self.expect_lparen(alloc)?;
+        let idents = self.parse_ident_list(alloc)?;
+        self.expect_rparen(alloc)?;
+        Ok(idents)
+    }
+}
+
+// The message about a text that isn't an identifier.
+fn identifier_message(alloc: Global, text: &str) -> Result<String, AllocError> {
+    match text.chars().next() {
+        None => String::from_str(alloc, "empty symbol"),
+        Some(first) if !begins_identifier(first) => {
+            format!(in alloc; "Identifier '{text}' does not start with letter or _ or $")
+        }
+        Some(_) => {
+            format!(in alloc;
+                "Identifier '{text}' contains invalid character (not a-z, A-Z, 0-9, _, ., $)"
+            )
+        }
+    }
+}
