@@ -1,0 +1,78 @@
+-- The printed text: the relation and the function are one, and a greater width has no more lines.
+use Rattle.std.proofs.Common.{◌≡◌, ℕ, ◌+◌, ◌≤◌, List, [], ◌∷◌, ◌++◌, refl, sym, ap, ◌∙◌, subst, arith}
+use Rattle.isle_ast.specs.Tree.{Definition}
+use Rattle.isle_printer.specs.Choices.{IsLayout}
+use Rattle.isle_printer.specs.Layout.{layout}
+use Rattle.isle_printer.specs.Lines.{line_ends, HasFewestLines, WiderHasNoMoreLines}
+use Rattle.isle_printer.specs.Printed.{ArePrintedLines, IsPrintedBehind, IsPrinted, definition_text, behind_text, printed_text}
+use Rattle.isle_printer.specs.Sexp.{Sexp}
+use Rattle.isle_printer.specs.Shapes.{definition_shape}
+use Rattle.isle_printer.proofs.Greedy.{layout-IsLayout, greedy, greedy-IsLeast, layout_is_render}
+use Rattle.isle_printer.proofs.Least.{IsLayout-layout, IsLeast-line_ends, layout-line_ends}
+use Rattle.isle_printer.proofs.LineEnds.{line_ends-append}
+
+definition_text-ArePrintedLines : (width : ℕ) (d : Definition) → ArePrintedLines width d (definition_text width d)
+definition_text-ArePrintedLines width d = (layout width (definition_shape d), layout-IsLayout width (definition_shape d), refl)
+
+behind_text-IsPrintedBehind : (width : ℕ) (ds : List Definition) → IsPrintedBehind width ds (behind_text width ds)
+behind_text-IsPrintedBehind width [] = refl
+behind_text-IsPrintedBehind width (d ∷ ds) =
+    (definition_text width d, behind_text width ds, definition_text-ArePrintedLines width d, behind_text-IsPrintedBehind width ds, refl)
+
+printed_text-IsPrinted : (width : ℕ) (ds : List Definition) → IsPrinted width ds (printed_text width ds)
+printed_text-IsPrinted width [] = refl
+printed_text-IsPrinted width (d ∷ ds) =
+    (definition_text width d, behind_text width ds, definition_text-ArePrintedLines width d, behind_text-IsPrintedBehind width ds, refl)
+
+-- a text that is the function's is printed
+pub IsPrinted-from_text : (width : ℕ) (ds : List Definition) (text : List ℕ) → text ≡ printed_text width ds → IsPrinted width ds text
+IsPrinted-from_text width ds text e = subst (λ t. IsPrinted width ds t) (sym e) (printed_text-IsPrinted width ds)
+
+ArePrintedLines-text : (width : ℕ) (d : Definition) (text : List ℕ) → ArePrintedLines width d text → text ≡ definition_text width d
+ArePrintedLines-text width d text (lines, is, e) = e ∙ ap (λ l. l ++ 10 ∷ []) (IsLayout-layout width (definition_shape d) lines is)
+
+IsPrintedBehind-text : (width : ℕ) (ds : List Definition) (text : List ℕ) → IsPrintedBehind width ds text → text ≡ behind_text width ds
+IsPrintedBehind-text width [] text is = is
+IsPrintedBehind-text width (d ∷ ds) text (lines, behind, first, rest, e) =
+    e
+    ∙ ap (λ l. 10 ∷ l ++ behind) (ArePrintedLines-text width d lines first)
+    ∙ ap (λ l. 10 ∷ definition_text width d ++ l) (IsPrintedBehind-text width ds behind rest)
+
+-- a printed text is the function's
+pub IsPrinted-text : (width : ℕ) (ds : List Definition) (text : List ℕ) → IsPrinted width ds text → text ≡ printed_text width ds
+IsPrinted-text width [] text is = is
+IsPrinted-text width (d ∷ ds) text (lines, behind, first, rest, e) =
+    e
+    ∙ ap (λ l. l ++ behind) (ArePrintedLines-text width d lines first)
+    ∙ ap (λ l. definition_text width d ++ l) (IsPrintedBehind-text width ds behind rest)
+
+definition_text-line_ends : (narrow wide : ℕ) (d : Definition) → narrow ≤ wide → line_ends (definition_text wide d) ≤ line_ends (definition_text narrow d)
+definition_text-line_ends narrow wide d le =
+    let s = definition_shape d in
+    omega (arith, layout-line_ends narrow wide s le, line_ends-append (layout wide s) (10 ∷ []), line_ends-append (layout narrow s) (10 ∷ []))
+
+line_ends-more : (text : List ℕ) → line_ends (10 ∷ text) ≡ 1 + line_ends text
+line_ends-more text = line_ends-append (10 ∷ []) text
+
+behind_text-line_ends : (narrow wide : ℕ) (ds : List Definition) → narrow ≤ wide → line_ends (behind_text wide ds) ≤ line_ends (behind_text narrow ds)
+behind_text-line_ends narrow wide [] le = omega arith
+behind_text-line_ends narrow wide (d ∷ ds) le =
+    omega (arith, definition_text-line_ends narrow wide d le, behind_text-line_ends narrow wide ds le, line_ends-append (10 ∷ definition_text wide d) (behind_text wide ds), line_ends-append (10 ∷ definition_text narrow d) (behind_text narrow ds), line_ends-more (definition_text wide d), line_ends-more (definition_text narrow d))
+
+printed_text-line_ends : (narrow wide : ℕ) (ds : List Definition) → narrow ≤ wide → line_ends (printed_text wide ds) ≤ line_ends (printed_text narrow ds)
+printed_text-line_ends narrow wide [] le = omega arith
+printed_text-line_ends narrow wide (d ∷ ds) le =
+    omega (arith, definition_text-line_ends narrow wide d le, behind_text-line_ends narrow wide ds le, line_ends-append (definition_text wide d) (behind_text wide ds), line_ends-append (definition_text narrow d) (behind_text narrow ds))
+
+pub WiderHasNoMoreLines-from_text : (width : ℕ) (ds : List Definition) (text : List ℕ) → text ≡ printed_text width ds → WiderHasNoMoreLines width ds text
+WiderHasNoMoreLines-from_text width ds text e wide other le printed =
+    omega (arith, printed_text-line_ends width wide ds le, ap line_ends e, ap line_ends (IsPrinted-text wide ds other printed))
+
+-- the layout of an S-expression, from the recursion
+
+pub IsLayout-from_layout : (width : ℕ) (s : Sexp) (text : List ℕ) → text ≡ layout width s → IsLayout width s text
+IsLayout-from_layout width s text e = subst (λ t. IsLayout width s t) (sym e) (layout-IsLayout width s)
+
+pub HasFewestLines-from_layout : (width : ℕ) (s : Sexp) (text : List ℕ) → text ≡ layout width s → HasFewestLines width s text
+HasFewestLines-from_layout width s text e c fits =
+    omega (arith, IsLeast-line_ends width s (greedy width s 0) c (greedy-IsLeast width s) fits, ap line_ends (e ∙ layout_is_render width s))

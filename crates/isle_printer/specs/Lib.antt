@@ -1,0 +1,9 @@
+pub mod Choices
+pub mod Flat
+pub mod Layout
+pub mod Lines
+pub mod Printed
+pub mod ReadBack
+pub mod Sexp
+pub mod SexpView
+pub mod Shapes

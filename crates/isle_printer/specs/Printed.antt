@@ -1,0 +1,36 @@
+-- The printed text of definitions at a width: the layout of each one and a LF, with one more LF
+-- between two. As a relation, and as a function.
+use Rattle.std.specs.Prelude.{◌≡◌, ℕ, List, [], ◌∷◌, ◌++◌}
+use Rattle.isle_ast.specs.Tree.{Definition}
+use Rattle.isle_printer.specs.Choices.{IsLayout}
+use Rattle.isle_printer.specs.Layout.{layout}
+use Rattle.isle_printer.specs.Shapes.{definition_shape}
+
+-- a definition's lines
+abbrev pub ArePrintedLines : ℕ → Definition → List ℕ → Type 0
+ArePrintedLines width d text =
+    (lines : List ℕ) × IsLayout width (definition_shape d) lines × (text ≡ lines ++ 10 ∷ [])
+
+-- the text of the definitions behind the first one
+abbrev pub IsPrintedBehind : ℕ → List Definition → List ℕ → Type 0
+IsPrintedBehind width [] text = text ≡ []
+IsPrintedBehind width (d ∷ ds) text =
+    (lines behind : List ℕ) × ArePrintedLines width d lines × IsPrintedBehind width ds behind × (text ≡ 10 ∷ lines ++ behind)
+
+abbrev pub IsPrinted : ℕ → List Definition → List ℕ → Type 0
+IsPrinted width [] text = text ≡ []
+IsPrinted width (d ∷ ds) text =
+    (lines behind : List ℕ) × ArePrintedLines width d lines × IsPrintedBehind width ds behind × (text ≡ lines ++ behind)
+
+-- the same as a function, over the layout by rules
+
+abbrev pub definition_text : ℕ → Definition → List ℕ
+definition_text width d = layout width (definition_shape d) ++ 10 ∷ []
+
+abbrev pub behind_text : ℕ → List Definition → List ℕ
+behind_text width [] = []
+behind_text width (d ∷ ds) = 10 ∷ definition_text width d ++ behind_text width ds
+
+abbrev pub printed_text : ℕ → List Definition → List ℕ
+printed_text width [] = []
+printed_text width (d ∷ ds) = definition_text width d ++ behind_text width ds

@@ -1,0 +1,4 @@
+//! The printer of ISLE.
+#![tactic(auto)]
+
+pub mod printer;

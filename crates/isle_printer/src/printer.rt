@@ -1,0 +1,138 @@
+//! Printer for the ISLE language.
+//!
+//! A node of the tree becomes an S-expression, and the S-expression is laid out at a width. Widths and
+//! columns count bytes, and the indentation of a line does not count. The layout is that of the printer of
+//! `cranelift-isle`, save that an empty list is `()` also where it does not fit, and that a `String` is
+//! answered in place of writing to a writer.
+
+mod layout;
+mod sexpr;
+mod shapes;
+#[cfg(test)]
+mod tests;
+
+ghost use Rattle.std.specs.Prelude.{◌≡◌, ◌≤◌, ◌↔◌, ◌++◌, ℕ, List, [], IfOk, OnOk, IfSome, IsSome, string_bytes};
+ghost use Rattle.isle_ast.specs.TreeView.{definition_of, definitions_of};
+ghost use Rattle.isle_printer.specs.Choices.{Choice, IsWithin, IsLeast, IsLayout, render};
+ghost use Rattle.isle_printer.specs.Layout.{layout};
+ghost use Rattle.isle_printer.specs.Lines.{HasFewestLines, WiderHasNoMoreLines};
+ghost use Rattle.isle_printer.specs.Printed.{IsPrinted, definition_text, printed_text};
+ghost use Rattle.isle_printer.specs.ReadBack.{ReadsBack, TokensOf, unplaced};
+ghost use Rattle.isle_printer.specs.Sexp.{Sexp};
+ghost use Rattle.isle_ast.specs.Erased.{erase};
+ghost use Rattle.isle_ast.specs.Tree.{Definition};
+ghost use Rattle.isle_base.specs.Lexing.{lexes};
+ghost use Rattle.isle_base.specs.Place.{nowhere, placed};
+ghost use Rattle.isle_base.specs.Token.{Tok, Lexeme, end};
+
+use isle_ast::ast::Def;
+pub use sexpr::{PrintFault, SExpr, ToSExpr};
+use std::alloc::Global;
+
+/// Prints definitions: each one's layout at the width and a line end, with one empty line between two.
+///
+/// No definitions print as the empty text. The width counts bytes, and may be any number from 0.
+/// A list is broken exactly if it does not end within the width and the lists around it are broken, so
+/// that no layout within the width has fewer lines.
+///
+/// The fault is `Memory`, where a growth was refused; the text begun is dropped then.
+pub fn print(alloc: Global, defs: &[Def], width: usize) -> Result<String, PrintFault>
+    ensures printed { IfOk result
+        (λ text. IsPrinted width (definitions_of defs.now) (string_bytes text)) }
+    ensures lines { IfOk result
+        (λ text. WiderHasNoMoreLines width (definitions_of defs.now) (string_bytes text)) }
+    ensures reads_back { IfOk result
+        (λ text. ReadsBack (definitions_of defs.now) (string_bytes text)) }
+{
+    let mut out = String::new(alloc);
+    put_definitions(alloc, defs, width, &mut out)?;
+    Ok(out)
+}
+
+/// Prints a single node: its layout at the width, with no line end behind it.
+///
+/// The width counts bytes, and may be any number from 0. A line may be longer where it holds a long
+/// name or an empty list.
+///
+/// The fault is that of the node's own `to_sexpr`, or `Memory`, where a growth was refused; the text begun
+/// is dropped then.
+pub fn print_node<N: ToSExpr>(alloc: Global, node: &N, width: usize) -> Result<String, PrintFault>
+    ensures meant { IfOk result (λ text. IsSome (N.meaning node.now)) }
+    ensures layout { IfOk result
+        (λ text. IfSome (N.meaning node.now) (λ s. IsLayout width s (string_bytes text))) }
+    ensures lines { IfOk result
+        (λ text. IfSome (N.meaning node.now) (λ s. HasFewestLines width s (string_bytes text))) }
+{
+    let sexpr = node.to_sexpr(alloc)?;
+    let mut out = String::new(alloc);
+    layout::put(&sexpr, width, width, 0, &mut out)?;
+    Ok(out)
+}
+
+/// A list that is broken at one width is broken at every smaller one.
+pub fn narrower_breaks_more()
+    ensures { (s : Sexp) (narrow wide : ℕ) (c d : Choice s) → narrow ≤ wide
+        → IsLeast wide s c → IsLeast narrow s d → IsWithin s c d }
+{}
+
+/// The layout by rules, list by list, is the text of the least choice of broken lists that fits, and
+/// each S-expression has one layout at a width.
+pub fn rules_give_least_choice()
+    ensures { (width : ℕ) (s : Sexp) (text : List ℕ)
+        → IsLayout width s text ↔ (text ≡ layout width s) }
+{}
+
+/// A law, which runs no code: the text of an S-expression whose atoms are the texts of tokens lexes to
+/// just these tokens, for every choice of broken lists, and so at every width.
+pub fn rendered_text_lexes()
+    ensures { (s : Sexp) (c : Choice s) (level : ℕ) (tokens : List Tok) → TokensOf s tokens []
+        → (l : List Lexeme) × lexes (render s c level) l end × (placed nowhere l ≡ unplaced tokens) }
+{}
+
+/// A law, which runs no code: the print of spelt definitions, at any width, is spelt by them, erased,
+/// and it is the print of the erased definitions too.
+pub fn prints_read_back()
+    ensures reads_back { (width : ℕ) (ds : List Definition) (text : List ℕ)
+        → IsPrinted width ds text → ReadsBack ds text }
+    ensures erased { (width : ℕ) (ds : List Definition) (text : List ℕ)
+        → IsPrinted width ds text ↔ IsPrinted width (erase ds) text }
+{}
+
+/// Appends the printed text of definitions.
+fn put_definitions(
+    alloc: Global,
+    defs: &[Def],
+    width: usize,
+    out: &mut String,
+) -> Result<(), PrintFault>
+    ensures { OnOk result (string_bytes out.new
+        ≡ string_bytes out.old ++ printed_text width (definitions_of defs.now)) }
+{
+    match defs {
+        [] => Ok(()),
+        [first, rest @ ..] => {
+            put_definition(alloc, first, width, out)?;
+            for def in rest {
+                out.push('\n')?;
+                put_definition(alloc, def, width, out)?;
+            }
+            Ok(())
+        }
+    }
+}
+
+/// Appends a definition's lines.
+fn put_definition(
+    alloc: Global,
+    def: &Def,
+    width: usize,
+    out: &mut String,
+) -> Result<(), PrintFault>
+    ensures { OnOk result (string_bytes out.new
+        ≡ string_bytes out.old ++ definition_text width (definition_of def.now)) }
+{
+    let sexpr = def.to_sexpr(alloc)?;
+    layout::put(&sexpr, width, width, 0, out)?;
+    out.push('\n')?;
+    Ok(())
+}

@@ -1,0 +1,140 @@
+//! Worked examples of printed text, on trees built by hand.
+
+use super::{PrintFault, SExpr, ToSExpr, print, print_node};
+use isle_ast::ast::{Converter, Decl, Def, Ident};
+use isle_base::lexer::Pos;
+use std::alloc::{AllocError, Global};
+use std::test::Fail;
+
+/// A node of a caller's own, which has the S-expression that it holds.
+#[derive(Drop)]
+struct Fixed(SExpr);
+
+impl ToSExpr for Fixed {
+    ghost use Rattle.std.specs.Prelude.{Some};
+    ghost use Rattle.isle_printer.specs.SexpView.{sexp_of};
+
+    ghost meaning = { λ node. Some (sexp_of node.0) };
+
+    fn to_sexpr(&self, alloc: Global) -> Result<SExpr, PrintFault> {
+        Ok(self.0.clone()?)
+    }
+}
+
+fn ident(alloc: Global, text: &str) -> Result<Ident, AllocError> {
+    Ok(Ident(String::from_str(alloc, text)?, Pos::default()))
+}
+
+fn decl(alloc: Global, term: &str, arg_tys: &[&str], ret_ty: &str) -> Result<Decl, AllocError> {
+    let mut tys = Vec::new(alloc);
+    for ty in arg_tys {
+        tys.push(ident(alloc, ty)?)?;
+    }
+    Ok(Decl {
+        term: ident(alloc, term)?,
+        arg_tys: tys,
+        ret_ty: ident(alloc, ret_ty)?,
+        pure: false,
+        multi: false,
+        partial: false,
+        rec: false,
+        pos: Pos::default(),
+    })
+}
+
+fn convert(alloc: Global, inner: &str, outer: &str, term: &str) -> Result<Def, AllocError> {
+    Ok(Def::Converter(Converter {
+        term: ident(alloc, term)?,
+        inner_ty: ident(alloc, inner)?,
+        outer_ty: ident(alloc, outer)?,
+        pos: Pos::default(),
+    }))
+}
+
+fn atom(alloc: Global, text: &str) -> Result<SExpr, AllocError> {
+    Ok(SExpr::Atom(String::from_str(alloc, text)?))
+}
+
+/// A list of atoms.
+fn atoms(alloc: Global, texts: &[&str]) -> Result<SExpr, AllocError> {
+    let mut items = Vec::new(alloc);
+    for text in texts {
+        items.push(atom(alloc, text)?)?;
+    }
+    Ok(SExpr::List(items))
+}
+
+#[test]
+fn prints_definitions(rt: HostRuntime) -> Result<(), Fail> {
+    let alloc = rt.alloc();
+    let mut defs = Vec::new(alloc);
+    assert_eq!(rt; print(alloc, &defs, 78)?.as_str(), "");
+    defs.push(convert(alloc, "A", "B", "c")?)?;
+    defs.push(convert(alloc, "D", "E", "f")?)?;
+    assert_eq!(rt;
+        print(alloc, &defs, 78)?.as_str(),
+        "(convert A B c)\n\n(convert D E f)\n"
+    );
+    Ok(())
+}
+
+#[test]
+fn breaks_where_a_line_is_too_long(rt: HostRuntime) -> Result<(), Fail> {
+    let alloc = rt.alloc();
+    let foo = decl(alloc, "foo", &["A"], "B")?;
+    let broken = "(decl\n    foo\n    (A)\n    B\n)";
+    assert_eq!(rt; print_node(alloc, &foo, 5)?.as_str(), broken);
+    let f = decl(alloc, "f", &[], "T")?;
+    let broken = "(decl\n    f\n    ()\n    T\n)";
+    assert_eq!(rt; print_node(alloc, &f, 12)?.as_str(), "(decl f () T)");
+    assert_eq!(rt; print_node(alloc, &f, 11)?.as_str(), broken);
+    assert_eq!(rt; print_node(alloc, &f, 0)?.as_str(), broken);
+    Ok(())
+}
+
+#[test]
+fn counts_bytes(rt: HostRuntime) -> Result<(), Fail> {
+    let alloc = rt.alloc();
+    let def = convert(alloc, "é", "B", "c")?;
+    let broken = "(convert\n    é\n    B\n    c\n)";
+    assert_eq!(rt; print_node(alloc, &def, 16)?.as_str(), "(convert é B c)");
+    assert_eq!(rt; print_node(alloc, &def, 15)?.as_str(), broken);
+    Ok(())
+}
+
+#[test]
+fn prints_set_flags(rt: HostRuntime) -> Result<(), Fail> {
+    let alloc = rt.alloc();
+    let mut f = decl(alloc, "f", &["A", "B"], "T")?;
+    f.pure = true;
+    f.multi = true;
+    f.partial = true;
+    f.rec = true;
+    let text = print_node(alloc, &f, 78)?;
+    assert_eq!(rt; text.as_str(), "(decl pure multi partial rec f (A B) T)");
+    assert_eq!(rt; print_node(alloc, &f.ret_ty, 0)?.as_str(), "T");
+    Ok(())
+}
+
+#[test]
+fn lays_out_bindings_and_empty_lists(rt: HostRuntime) -> Result<(), Fail> {
+    let alloc = rt.alloc();
+    let bound = Box::new(alloc, atoms(alloc, &["B", "c"])?)?;
+    let binding = Fixed(SExpr::Binding(String::from_str(alloc, "x")?, bound));
+    assert_eq!(rt; print_node(alloc, &binding, 9)?.as_str(), "x @ (B c)");
+    assert_eq!(rt;
+        print_node(alloc, &binding, 7)?.as_str(),
+        "x @ (B\n    c\n)"
+    );
+    let empty = atoms(alloc, &[])?;
+    assert_eq!(rt;
+        print_node(alloc, &Fixed(empty.clone()?), 0)?.as_str(),
+        "()"
+    );
+    let mut items = Vec::new(alloc);
+    items.push(empty)?;
+    let nested = Fixed(SExpr::List(items));
+    assert_eq!(rt; print_node(alloc, &nested, 3)?.as_str(), "(())");
+    assert_eq!(rt; print_node(alloc, &nested, 2)?.as_str(), "(()\n)");
+    Ok(())
+}
