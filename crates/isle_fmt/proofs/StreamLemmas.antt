@@ -1,0 +1,71 @@
+-- Several reads and several writes, taken together.
+use Rattle.std.proofs.Common.{◌≡◌, ℕ, ◌+◌, ◌-◌, List, length, take, drop, Option, string_bytes, Err, refl, subst, sym, ◌∙◌, arith, length-drop}
+use Rattle.std.proofs.KnownBytes.{Appends-trans, Consumes-trans, starts_with_rest}
+use Rattle.std.proofs.Math.Seq.{take-add}
+use Rattle.std.proofs.lemmas.List.{take_all}
+use Rattle.std.specs.Io.{StartsWith, appended_bytes}
+use Rattle.std.specs.Io.KnownBytes.{Appends, Consumes}
+use Rattle.isle_base.specs.declared.error.Error.{Error}
+use Rattle.isle_base.specs.declared.lexer.Fault.{Fault}
+use Rattle.isle_base.specs.declared.lexer.Fault.TheVariants as faults
+use Rattle.isle_parser.specs.Parsed.{RefusesIn}
+use Rattle.isle_syntax.specs.Format.{IsRefused, Formats}
+use Rattle.isle_fmt.specs.declared.program.Failure.{Failure}
+use Rattle.isle_fmt.specs.declared.program.Failure.TheVariants as failures
+use Rattle.isle_fmt.specs.Failure.{status_of, text_of, IsDiagnostic, IsRefusal, Explains}
+use Rattle.isle_fmt.specs.Streams.{ReadsText, AppendsBeginning, WritesBeginning}
+
+-- the bytes so far were consumed, and then those by which they grew
+pub Consumes-grown : (a b c : Option (List ℕ)) (old new : List ℕ) → StartsWith new old
+    → Consumes a b old → Consumes b c (appended_bytes old new) → Consumes a c new
+Consumes-grown a b c old new grows first second =
+    subst (Consumes a c) (sym (starts_with_rest new old grows)) (Consumes-trans a b c _ _ first second)
+
+-- the first n bytes were written, and then m of the rest
+pub Appends-more : (a b c : Option (List ℕ)) (n m : ℕ) (bytes : List ℕ) → Appends a b (take n bytes)
+    → Appends b c (take m (take (length bytes - n) (drop n bytes))) → Appends a c (take (n + m) bytes)
+Appends-more a b c n m bytes first second =
+    let rest : take (length bytes - n) (drop n bytes) ≡ drop n bytes = take_all _ _ (omega (arith, length-drop n bytes)) in
+    let moved = rw rest at second in
+    subst (Appends a c) (sym (take-add n m bytes)) (Appends-trans a b c _ _ first moved)
+
+-- What is said of a failure, and the text that goes with its status.
+module _ (words : List (List ℕ)) (input input' output output' faults faults' : Option (List ℕ)) where
+  refused_text : (failure : Failure) → Explains failure words input input' output output' → AppendsBeginning faults faults' (text_of failure) → status_of failure ≡ 1 → ReadsText input input' (λ text. IsRefused text × WritesBeginning faults faults' (IsRefusal text))
+  refused_text (failures.Refused diagnostic) why told one =
+      let read = why.1 in
+      record {
+        text = read.text;
+        consumed = read.consumed;
+        ended = read.ended;
+        utf8 = read.utf8;
+        holds = (read.holds.0, (string_bytes diagnostic, read.holds.1, told));
+      }
+  refused_text failures.Usage why told one = absurd (cc)
+  refused_text failures.Input why told one = absurd (cc)
+  refused_text failures.Memory why told one = absurd (cc)
+  refused_text failures.Output why told one = absurd (cc)
+
+  diagnostic_of : (failure : Failure) → Explains failure words input input' output output' → IsDiagnostic (status_of failure) (text_of failure)
+  diagnostic_of (failures.Refused diagnostic) why =
+      let read = why.1 in
+      record { refused = λ e. (read.text, read.holds.1); usage = λ e. absurd (cc); input = λ e. absurd (cc); memory = λ e. absurd (cc); output = λ e. absurd (cc) }
+  diagnostic_of failures.Usage why =
+      record { refused = λ e. absurd (cc); usage = λ e. refl; input = λ e. absurd (cc); memory = λ e. absurd (cc); output = λ e. absurd (cc) }
+  diagnostic_of failures.Input why =
+      record { refused = λ e. absurd (cc); usage = λ e. absurd (cc); input = λ e. refl; memory = λ e. absurd (cc); output = λ e. absurd (cc) }
+  diagnostic_of failures.Memory why =
+      record { refused = λ e. absurd (cc); usage = λ e. absurd (cc); input = λ e. absurd (cc); memory = λ e. refl; output = λ e. absurd (cc) }
+  diagnostic_of failures.Output why =
+      record { refused = λ e. absurd (cc); usage = λ e. absurd (cc); input = λ e. absurd (cc); memory = λ e. absurd (cc); output = λ e. refl }
+
+  pub refused-told : (status : ℕ) (failure : Failure) → Explains failure words input input' output output' → AppendsBeginning faults faults' (text_of failure) → status ≡ status_of failure → status ≡ 1 → ReadsText input input' (λ text. IsRefused text × WritesBeginning faults faults' (IsRefusal text))
+  refused-told status failure why told is one = refused_text failure why told (sym is ∙ one)
+
+  pub told-text : (status : ℕ) (failure : Failure) → Explains failure words input input' output output' → AppendsBeginning faults faults' (text_of failure) → status ≡ status_of failure → WritesBeginning faults faults' (IsDiagnostic status)
+  told-text status failure why told is =
+      (text_of failure, subst (λ s. IsDiagnostic s (text_of failure)) (sym is) (diagnostic_of failure why), told)
+
+-- what `format` says of the error that it answers
+pub Formats-error : (width : ℕ) (text : List ℕ) (f : Fault) (e : Error) → Formats width text (Err f) → f ≡ faults.Error e → IsRefused text × RefusesIn 0 (length text) e
+Formats-error width text f e said is = subst (λ g. Formats width text (Err g)) is said

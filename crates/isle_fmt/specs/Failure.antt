@@ -1,0 +1,80 @@
+-- Why the program writes no formatted text: what each reason says, its status, and what standard
+-- error gets.
+use Rattle.std.specs.Prelude.{◌≡◌, ℕ, List, [], ◌∷◌, length, Option, codes, string_bytes}
+use Rattle.std.specs.Io.KnownBytes.{Keeps}
+use Rattle.isle_base.specs.declared.error.Error.{Error}
+use Rattle.isle_base.specs.Diagnostic.{report_text}
+use Rattle.isle_parser.specs.Parsed.{RefusesIn}
+use Rattle.isle_syntax.specs.Format.{IsFormatted, IsRefused}
+use Rattle.isle_fmt.specs.declared.program.Failure.{Failure}
+use Rattle.isle_fmt.specs.declared.program.Failure.TheVariants as failures
+use Rattle.isle_fmt.specs.Streams.{ReadsText, WritesBeginning}
+use Rattle.isle_fmt.specs.Words.{GiveWidth, given_width}
+
+abbrev pub status_of : Failure → ℕ
+status_of (failures.Refused _) = 1
+status_of failures.Usage = 2
+status_of failures.Input = 3
+status_of failures.Memory = 4
+status_of failures.Output = 5
+
+-- what an error of a text shows, under the name `<stdin>`
+abbrev pub refusal_text : List ℕ → Error → List ℕ
+refusal_text text e = report_text (record { errors = e ∷ []; files = record { name = codes "<stdin>"; text = text } ∷ [] })
+
+-- this shows a refusal of the text, at one of its bytes or at its end
+abbrev pub IsRefusal : List ℕ → List ℕ → Type 0
+IsRefusal text shown = (e : Error) × RefusesIn 0 (length text) e × (shown ≡ refusal_text text e)
+
+-- what standard error gets
+abbrev pub text_of : Failure → List ℕ
+text_of (failures.Refused text) = string_bytes text
+text_of failures.Usage = codes "usage: isle-fmt [WIDTH]\n"
+text_of failures.Input = codes "isle-fmt: input is unreadable or not UTF-8\n"
+text_of failures.Memory = codes "isle-fmt: out of memory\n"
+text_of failures.Output = codes "isle-fmt: output failed\n"
+
+-- the text that goes with a status; that of status 1 shows a refusal of some text
+pub record IsDiagnostic (status : ℕ) (text : List ℕ) : Type 0 where
+  pub refused : status ≡ 1 → (source : List ℕ) × IsRefusal source text
+  pub usage : status ≡ 2 → text ≡ codes "usage: isle-fmt [WIDTH]\n"
+  pub input : status ≡ 3 → text ≡ codes "isle-fmt: input is unreadable or not UTF-8\n"
+  pub memory : status ≡ 4 → text ≡ codes "isle-fmt: out of memory\n"
+  pub output : status ≡ 5 → text ≡ codes "isle-fmt: output failed\n"
+
+-- a word of the command line isn't UTF-8, or memory was refused
+abbrev pub IsWordsFailure : Failure → Type 0
+IsWordsFailure (failures.Refused _) = ⊥
+IsWordsFailure failures.Usage = Unit {0}
+IsWordsFailure failures.Input = ⊥
+IsWordsFailure failures.Memory = Unit {0}
+IsWordsFailure failures.Output = ⊥
+
+-- the input could not be read, or memory was refused
+abbrev pub IsReadFailure : Failure → Type 0
+IsReadFailure (failures.Refused _) = ⊥
+IsReadFailure failures.Usage = ⊥
+IsReadFailure failures.Input = Unit {0}
+IsReadFailure failures.Memory = Unit {0}
+IsReadFailure failures.Output = ⊥
+
+-- the text is refused, with its diagnostic, or memory was refused
+abbrev pub IsFormatFailure : Failure → List ℕ → Type 0
+IsFormatFailure (failures.Refused diagnostic) text =
+    IsRefused text × IsRefusal text (string_bytes diagnostic)
+IsFormatFailure failures.Usage text = ⊥
+IsFormatFailure failures.Input text = ⊥
+IsFormatFailure failures.Memory text = Unit {0}
+IsFormatFailure failures.Output text = ⊥
+
+-- what a failure says of the words, and of the input and the output before and after
+abbrev pub Explains : Failure → List (List ℕ) → Option (List ℕ) → Option (List ℕ) → Option (List ℕ) → Option (List ℕ) → Type 0
+Explains (failures.Refused diagnostic) words input input' output output' =
+    GiveWidth words × ReadsText input input' (λ text. IsRefused text × IsRefusal text (string_bytes diagnostic))
+    × Keeps output output'
+Explains failures.Usage words input input' output output' =
+    (¬ (GiveWidth words)) × Keeps input input' × Keeps output output'
+Explains failures.Input words input input' output output' = GiveWidth words × Keeps output output'
+Explains failures.Memory words input input' output output' = GiveWidth words × Keeps output output'
+Explains failures.Output words input input' output output' =
+    GiveWidth words × ReadsText input input' (λ text. WritesBeginning output output' (IsFormatted (given_width words) text))

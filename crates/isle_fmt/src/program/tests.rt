@@ -1,0 +1,341 @@
+use super::*;
+use std::env::FillError;
+use std::process::Abort;
+use std::test::Fail;
+
+/// The text of the stored run, and its answer at width 5.
+const DECL: &str = "(decl foo (A) B)\n";
+
+const BROKEN: &str = "(decl\n    foo\n    (A)\n    B\n)\n";
+
+const REFUSED: &str = "(decl pure () T)\n";
+
+/// Gives the bytes that are left, a step at a time, after some interrupted reads. At their end it
+/// fails, or says that they ended.
+#[derive(Drop)]
+struct Reader<'a> {
+    left: &'a [u8],
+    step: usize,
+    interruptions: usize,
+    fails: bool,
+}
+
+impl<'a> Reader<'a> {
+    fn of(text: &'a str) -> Reader<'a> {
+        Reader {
+            left: text.as_bytes(),
+            step: usize::MAX,
+            interruptions: 0,
+            fails: false,
+        }
+    }
+}
+
+impl Read for Reader<'_> {
+    fn read(&mut self, buf: &mut [u8]) -> io::Result<usize> {
+        if self.interruptions > 0 {
+            self.interruptions -= 1;
+            return Err(io::Error::from(ErrorKind::Interrupted));
+        }
+        if self.left.is_empty() && self.fails {
+            return Err(io::Error::from(ErrorKind::Other));
+        }
+        let n = self.left.len().min(self.step).min(buf.len());
+        let (given, left) = self.left.split_at(n);
+        buf[..n].copy_from_slice(given);
+        self.left = left;
+        Ok(n)
+    }
+}
+
+/// Holds what it took, at most a step at a time, after some interrupted writes. It fails where it
+/// has no room.
+#[derive(Drop)]
+struct Writer {
+    held: Vec<u8>,
+    step: usize,
+    interruptions: usize,
+    room: usize,
+}
+
+impl Writer {
+    fn with_room(alloc: Global, room: usize) -> Writer {
+        Writer {
+            held: Vec::new(alloc),
+            step: usize::MAX,
+            interruptions: 0,
+            room,
+        }
+    }
+}
+
+impl Write for Writer {
+    fn write(&mut self, buf: &[u8]) -> io::Result<usize> {
+        if self.interruptions > 0 {
+            self.interruptions -= 1;
+            return Err(io::Error::from(ErrorKind::Interrupted));
+        }
+        if self.room == 0 {
+            return Err(io::Error::from(ErrorKind::Other));
+        }
+        let n = buf.len().min(self.step).min(self.room);
+        self.held.extend_from_slice(&buf[..n])?;
+        self.room -= n;
+        Ok(n)
+    }
+
+    fn flush(&mut self) -> io::Result<()> {
+        Ok(())
+    }
+}
+
+/// A system whose command line has these words, the program's name first.
+#[derive(Clone, Copy)]
+struct CommandLine<'a> {
+    alloc: Global,
+    words: &'a [&'a [u8]],
+}
+
+impl Alloc for CommandLine<'_> {
+    type A = Global;
+
+    fn alloc(&self) -> Global {
+        self.alloc
+    }
+}
+
+impl Env for CommandLine<'_> {
+    fn arg(&self, i: usize, buf: &mut [u8]) -> Result<usize, FillError> {
+        let word = self.words.get(i).ok_or(FillError::NotPresent)?;
+        let room = buf.get_mut(..word.len()).ok_or(FillError::TooLong)?;
+        room.copy_from_slice(word);
+        Ok(word.len())
+    }
+
+    fn var(&self, _name: &str, _buf: &mut [u8]) -> Result<usize, FillError> {
+        Err(FillError::NotPresent)
+    }
+
+    fn var_at(&self, _i: usize, _buf: &mut [u8]) -> Result<usize, FillError> {
+        Err(FillError::NotPresent)
+    }
+}
+
+fn strings(alloc: Global, words: &[&str]) -> Result<Vec<String>, AllocError> {
+    words
+        .iter()
+        .map(|word| String::from_str(alloc, word))
+        .try_collect(alloc)
+}
+
+/// Sees that a run with these words formats a text, and tells nothing.
+fn assert_formats(
+    rt: &impl Abort,
+    alloc: Global,
+    words: &[&str],
+    text: &str,
+    laid_out: &str,
+) -> Result<(), AllocError> {
+    let words = strings(alloc, words)?;
+    let mut output = Writer::with_room(alloc, 1000);
+    let mut faults = Writer::with_room(alloc, 1000);
+    let status = run(
+        alloc,
+        &words,
+        &mut Reader::of(text),
+        &mut output,
+        &mut faults,
+    );
+    assert_eq!(rt; status, 0, "{text}");
+    assert_eq!(rt; output.held.as_slice(), laid_out.as_bytes(), "{text}");
+    assert!(rt; faults.held.is_empty());
+    Ok(())
+}
+
+#[test]
+fn formats_at_the_width(rt: HostRuntime) -> Result<(), Fail> {
+    let alloc = rt.alloc();
+    assert_formats(&rt, alloc, &["5"], DECL, BROKEN)?;
+    assert_formats(&rt, alloc, &["0005"], DECL, BROKEN)?;
+    assert_formats(&rt, alloc, &["18446744073709551615"], DECL, DECL)?;
+    assert_formats(&rt, alloc, &[], "", "")?;
+
+    // Without a word, 78 columns fit and 79 don't.
+    let name = "a".repeat(alloc, 64)?;
+    let line = format!(in alloc; "(convert {name} B c)\n")?;
+    assert_formats(&rt, alloc, &[], &line, &line)?;
+    let longer = format!(in alloc; "(convert {name}a B c)\n")?;
+    let lines = format!(in alloc; "(convert\n    {name}a\n    B\n    c\n)\n")?;
+    assert_formats(&rt, alloc, &[], &longer, &lines)?;
+    Ok(())
+}
+
+#[test]
+fn refuses_syntax(rt: HostRuntime) -> Result<(), Fail> {
+    let alloc = rt.alloc();
+    let mut output = Writer::with_room(alloc, 1000);
+    let mut faults = Writer::with_room(alloc, 1000);
+    let status = run(
+        alloc,
+        &[],
+        &mut Reader::of(REFUSED),
+        &mut output,
+        &mut faults,
+    );
+    assert_eq!(rt; status, 1);
+    let told = "parse error: Unexpected token LParen\n<stdin>:1:12: (decl pure () T)\n\n";
+    assert_eq!(rt; faults.held.as_slice(), told.as_bytes());
+    assert!(rt; output.held.is_empty());
+    Ok(())
+}
+
+#[test]
+fn refuses_words_unread(rt: HostRuntime) -> Result<(), Fail> {
+    let alloc = rt.alloc();
+    let cases: [&[&str]; 8] = [
+        &["x"],
+        &["5", "5"],
+        &[""],
+        &["+5"],
+        &["-5"],
+        &["5 "],
+        &["٥"],
+        &["18446744073709551616"],
+    ];
+    for words in cases {
+        let words = strings(alloc, words)?;
+        let mut input = Reader::of(DECL);
+        let mut output = Writer::with_room(alloc, 1000);
+        let mut faults = Writer::with_room(alloc, 1000);
+        let status = run(alloc, &words, &mut input, &mut output, &mut faults);
+        assert_eq!(rt; status, 2);
+        assert_eq!(rt;
+            faults.held.as_slice(),
+            b"usage: isle-fmt [WIDTH]\n".as_slice()
+        );
+        assert_eq!(rt; input.left.len(), DECL.len());
+        assert!(rt; output.held.is_empty());
+    }
+    Ok(())
+}
+
+#[test]
+fn tells_of_bad_input(rt: HostRuntime) -> Result<(), Fail> {
+    let alloc = rt.alloc();
+    let cases: [(&[u8], bool); 4] = [
+        (&[255], false),
+        (&[], true),
+        (b"(decl foo", true),
+        (DECL.as_bytes(), true),
+    ];
+    for (left, fails) in cases {
+        let mut input = Reader {
+            left,
+            step: 2,
+            interruptions: 0,
+            fails,
+        };
+        let mut output = Writer::with_room(alloc, 1000);
+        let mut faults = Writer::with_room(alloc, 1000);
+        let status = run(alloc, &[], &mut input, &mut output, &mut faults);
+        assert_eq!(rt; status, 3);
+        let told = "isle-fmt: input is unreadable or not UTF-8\n";
+        assert_eq!(rt; faults.held.as_slice(), told.as_bytes());
+        assert!(rt; output.held.is_empty());
+    }
+    Ok(())
+}
+
+#[test]
+fn tells_of_bad_output(rt: HostRuntime) -> Result<(), Fail> {
+    let alloc = rt.alloc();
+    for room in [0, 7] {
+        let mut output = Writer::with_room(alloc, room);
+        let mut faults = Writer::with_room(alloc, 1000);
+        let mut input = Reader::of("(convert A B c)");
+        let status = run(alloc, &[], &mut input, &mut output, &mut faults);
+        assert_eq!(rt; status, 5);
+        assert_eq!(rt;
+            faults.held.as_slice(),
+            b"isle-fmt: output failed\n".as_slice()
+        );
+        assert_eq!(rt; output.held.len(), room);
+    }
+    Ok(())
+}
+
+#[test]
+fn goes_on_after_short_and_interrupted_calls(rt: HostRuntime) -> Result<(), Fail> {
+    let alloc = rt.alloc();
+    let words = strings(alloc, &["5"])?;
+    let mut input = Reader {
+        left: DECL.as_bytes(),
+        step: 1,
+        interruptions: 3,
+        fails: false,
+    };
+    let mut output = Writer {
+        held: Vec::new(alloc),
+        step: 3,
+        interruptions: 3,
+        room: 1000,
+    };
+    let status = run(
+        alloc,
+        &words,
+        &mut input,
+        &mut output,
+        &mut Writer::with_room(alloc, 0),
+    );
+    assert_eq!(rt; status, 0);
+    assert_eq!(rt; output.held.as_slice(), BROKEN.as_bytes());
+    Ok(())
+}
+
+#[test]
+fn keeps_the_status_where_faults_are_refused(rt: HostRuntime) -> Result<(), Fail> {
+    let alloc = rt.alloc();
+    let words = strings(alloc, &["x"])?;
+    let mut output = Writer::with_room(alloc, 1000);
+    let mut faults = Writer::with_room(alloc, 7);
+    let status = run(
+        alloc,
+        &words,
+        &mut Reader::of(DECL),
+        &mut output,
+        &mut faults,
+    );
+    assert_eq!(rt; status, 2);
+    assert_eq!(rt; faults.held.as_slice(), b"usage: ".as_slice());
+    Ok(())
+}
+
+/// Sees that a command line has these words after the program's name.
+fn assert_takes(
+    rt: &impl Abort,
+    alloc: Global,
+    words: &[&[u8]],
+    taken: &[&str],
+) -> Result<(), Failure> {
+    let found = taken_words(&CommandLine { alloc, words })?;
+    assert_eq!(rt; found, strings(alloc, taken)?);
+    Ok(())
+}
+
+#[test]
+fn takes_the_words(rt: HostRuntime) -> Result<(), Fail> {
+    let alloc = rt.alloc();
+    assert_takes(&rt, alloc, &[b"isle-fmt", b"5"], &["5"])?;
+    assert_takes(&rt, alloc, &[b"isle-fmt", b"", "é".as_bytes()], &["", "é"])?;
+    assert_takes(&rt, alloc, &[b"isle-fmt"], &[])?;
+    assert_takes(&rt, alloc, &[], &[])?;
+
+    let words: &[&[u8]] = &[b"isle-fmt", b"5", &[255]];
+    assert!(rt;
+        matches!(
+            taken_words(&CommandLine { alloc, words }),
+            Err(Failure::Usage)
+        )
+    );
+    Ok(())
+}

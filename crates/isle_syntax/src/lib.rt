@@ -1,0 +1,35 @@
+//! The syntax layer of ISLE, the rewriting language of Cranelift's instruction selection.
+//!
+//! `format` is the whole way from text to text. The modules have the names that they have in
+//! `cranelift-isle`, whose behaviour they follow.
+#![tactic(auto)]
+
+ghost use Rattle.isle_syntax.specs.Format.{Formats};
+
+pub use isle_ast::ast;
+use isle_base::lexer::{Fault, Lexer};
+pub use isle_base::{error, files, lexer};
+pub use isle_parser::parser;
+use isle_parser::parser::parse_without_pos;
+pub use isle_printer::printer;
+use isle_printer::printer::{PrintFault, print};
+use std::alloc::Global;
+
+/// Formats a text of ISLE: the print, at this width in bytes, of the one tree that the text spells.
+///
+/// Comments and blank lines are no part of the tree, so they go. The answer is accepted and formats to
+/// itself at this width; another text has the same answer exactly if it spells the same tree,
+/// positions aside.
+///
+/// `Error` comes where no tree is spelt by the text: it is a parse error whose span begins in file 0, at
+/// a byte of the text or at its end. `Memory` comes where a growth was refused. `Failed` never comes.
+pub fn format(alloc: Global, text: &str, width: usize) -> Result<String, Fault>
+    ensures { Formats width text.now result }
+{
+    let lexer = Lexer::new(alloc, 0, text)?;
+    let defs = parse_without_pos(alloc, lexer)?;
+    match print(alloc, &defs, width) {
+        Ok(answer) => Ok(answer),
+        Err(PrintFault::Memory) => Err(Fault::Memory),
+    }
+}
