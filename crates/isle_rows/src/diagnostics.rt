@@ -49,10 +49,20 @@ fn shown(alloc: Global, errors: Vec<Error>, files: Rc<Files>) -> Result<String, 
 fn parse_errors(rt: HostRuntime) -> Result<(), Fail> {
     let alloc = rt.alloc();
     for (name, text, offset, want) in [
-        ("a.isle", "(rule\n", 0, "parse error: m\na.isle:1:1: (rule\n\n"),
+        (
+            "a.isle",
+            "(rule\n",
+            0,
+            "parse error: m\na.isle:1:1: (rule\n\n",
+        ),
         ("a.isle", "(rule", 5, "parse error: m\na.isle:1:6: (rule\n"),
         ("c.isle", "(A)\n(B)\n", 8, "parse error: m\nc.isle:3:1: \n"),
-        ("c.isle", "(A)\n(B)\n", 100, "parse error: m\nc.isle:3:93: \n"),
+        (
+            "c.isle",
+            "(A)\n(B)\n",
+            100,
+            "parse error: m\nc.isle:3:93: \n",
+        ),
     ] {
         let errors = vec![in alloc; parse_error(alloc, offset)?]?;
         let got = shown(alloc, errors, one_file(alloc, name, text)?)?;
@@ -66,8 +76,8 @@ fn two_errors(rt: HostRuntime) -> Result<(), Fail> {
     let alloc = rt.alloc();
     let errors = vec![in alloc; parse_error(alloc, 5)?, parse_error(alloc, 5)?]?;
     let got = shown(alloc, errors, one_file(alloc, "a.isle", "(rule")?)?;
-    assert_eq!(
-        rt; got.as_str(),
+    assert_eq!(rt;
+        got.as_str(),
         "parse error: m\na.isle:1:6: (rule\nparse error: m\na.isle:1:6: (rule\nfound 2 errors\n"
     );
     let none = shown(alloc, Vec::new(alloc), one_file(alloc, "a.isle", "(rule")?)?;
@@ -80,19 +90,29 @@ fn labels_in_order(rt: HostRuntime) -> Result<(), Fail> {
     let alloc = rt.alloc();
     let errors = vec![in alloc; overlap_error(alloc, 0, 4)?]?;
     let got = shown(alloc, errors, one_file(alloc, "b.isle", "(A)\n(B)\n")?)?;
-    assert_eq!(rt; got.as_str(), "overlap error: m\nb.isle:1:1: (A)\nb.isle:2:1: (B)\n\n");
+    assert_eq!(rt;
+        got.as_str(),
+        "overlap error: m\nb.isle:1:1: (A)\nb.isle:2:1: (B)\n\n"
+    );
 
     let errors = vec![in alloc; overlap_error(alloc, 0, 0)?]?;
     let got = shown(alloc, errors, one_file(alloc, "b.isle", "(A)")?)?;
-    assert_eq!(rt; got.as_str(), "overlap error: m\nb.isle:1:1: (A)b.isle:1:1: (A)\n");
+    assert_eq!(rt;
+        got.as_str(),
+        "overlap error: m\nb.isle:1:1: (A)b.isle:1:1: (A)\n"
+    );
 
     let shadowed = Error::ShadowedError {
         shadowed: vec![in alloc; place(4)]?,
         mask: place(0),
     };
-    let got = shown(alloc, vec![in alloc; shadowed]?, one_file(alloc, "c.isle", "(A)\n(B)\n")?)?;
-    assert_eq!(
-        rt; got.as_str(),
+    let got = shown(
+        alloc,
+        vec![in alloc; shadowed]?,
+        one_file(alloc, "c.isle", "(A)\n(B)\n")?,
+    )?;
+    assert_eq!(rt;
+        got.as_str(),
         "more general higher-priority rule shadows other rules\nc.isle:1:1: (A)\nc.isle:2:1: (B)\n\n"
     );
     Ok(())
@@ -148,8 +168,8 @@ fn builders_hold_what_was_last_given(rt: HostRuntime) -> Result<(), Fail> {
         .files(one_file(alloc, "c.isle", "(A)\n(B)\n")?);
     assert!(rt; builder.is_buildable());
     let got = builder.build().to_string(alloc)?;
-    assert_eq!(
-        rt; got.as_str(),
+    assert_eq!(rt;
+        got.as_str(),
         "parse error: m\nc.isle:1:2: (A)\n\nparse error: m\nc.isle:1:3: (A)\n\nfound 2 errors\n"
     );
     Ok(())
@@ -195,7 +215,11 @@ fn refusal(alloc: Global, text: &str) -> Result<String, AllocError> {
         Err(fault) => fault,
     };
     match fault {
-        Fault::Error(error) => shown(alloc, vec![in alloc; error]?, one_file(alloc, "<stdin>", text)?),
+        Fault::Error(error) => shown(
+            alloc,
+            vec![in alloc; error]?,
+            one_file(alloc, "<stdin>", text)?,
+        ),
         Fault::Failed => "failed".to_string(alloc),
         Fault::Memory => "memory".to_string(alloc),
     }
@@ -209,7 +233,10 @@ fn refusals_with_their_places(rt: HostRuntime) -> Result<(), Fail> {
             "(decl pure () T)\n",
             "parse error: Unexpected token LParen\n<stdin>:1:12: (decl pure () T)\n\n",
         ),
-        ("(convert A B c\n", "parse error: Unexpected EOF\n<stdin>:2:1: \n"),
+        (
+            "(convert A B c\n",
+            "parse error: Unexpected EOF\n<stdin>:2:1: \n",
+        ),
         (
             "(decl f () T)\n(convert a+ B c)\n",
             "parse error: Identifier 'a+' contains invalid character (not a-z, A-Z, 0-9, _, ., $)\n<stdin>:2:10: (convert a+ B c)\n\n",

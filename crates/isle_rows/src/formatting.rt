@@ -32,7 +32,11 @@ fn texts_and_widths(rt: HostRuntime) -> Result<(), Fail> {
         ("", 78, ""),
         ("", 0, ""),
         ("; only a comment\n", 78, ""),
-        ("(convert A B c)(convert D E f)", 78, "(convert A B c)\n\n(convert D E f)\n"),
+        (
+            "(convert A B c)(convert D E f)",
+            78,
+            "(convert A B c)\n\n(convert D E f)\n",
+        ),
         ("(convert é B c)", 16, "(convert é B c)\n"),
         ("(convert é B c)", 15, "(convert\n    é\n    B\n    c\n)\n"),
         ("(convert a¹ B c)", 78, "(convert a¹ B c)\n"),

@@ -43,12 +43,18 @@ fn tokens_of_texts(rt: HostRuntime) -> Result<(), Fail> {
 fn integers_at_their_bounds(rt: HostRuntime) -> Result<(), Fail> {
     let alloc = rt.alloc();
     for (text, want) in [
-        ("340_282_366_920_938_463_463_374_607_431_768_211_455", "0:Int(-1) end"),
+        (
+            "340_282_366_920_938_463_463_374_607_431_768_211_455",
+            "0:Int(-1) end",
+        ),
         (
             "170_141_183_460_469_231_731_687_303_715_884_105_727",
             "0:Int(170141183460469231731687303715884105727) end",
         ),
-        ("-170_141_183_460_469_231_731_687_303_715_884_105_728", "fault at 0"),
+        (
+            "-170_141_183_460_469_231_731_687_303_715_884_105_728",
+            "fault at 0",
+        ),
         ("-170141183460469231731687303715884105728", "fault at 0"),
         ("-170141183460469231731687303715884105729", "fault at 0"),
         (
@@ -61,8 +67,14 @@ fn integers_at_their_bounds(rt: HostRuntime) -> Result<(), Fail> {
         ),
         ("0xffffffffffffffffffffffffffffffff", "0:Int(-1) end"),
         ("0xfffffffffffffffffffffffffffffffff", "fault at 0"),
-        ("0o3777777777777777777777777777777777777777777", "0:Int(-1) end"),
-        ("0o4000000000000000000000000000000000000000000", "fault at 0"),
+        (
+            "0o3777777777777777777777777777777777777777777",
+            "0:Int(-1) end",
+        ),
+        (
+            "0o4000000000000000000000000000000000000000000",
+            "fault at 0",
+        ),
         (
             "0b11111111111111111111111111111111111111111111111111111111111111111111111111111111111111111111111111111111111111111111111111111111",
             "0:Int(-1) end",
@@ -72,7 +84,10 @@ fn integers_at_their_bounds(rt: HostRuntime) -> Result<(), Fail> {
             "fault at 0",
         ),
         ("-0x80000000000000000000000000000000", "fault at 0"),
-        ("-0x7fffffffffffffffffffffffffffffff", "0:Int(-170141183460469231731687303715884105727) end"),
+        (
+            "-0x7fffffffffffffffffffffffffffffff",
+            "0:Int(-170141183460469231731687303715884105727) end",
+        ),
     ] {
         let got = lexed(alloc, text)?;
         assert_eq!(rt; got.as_str(), want, "the text {text}");
@@ -129,10 +144,22 @@ fn messages_of_the_lexer(rt: HostRuntime) -> Result<(), Fail> {
         ("0x_", "0: cannot parse integer from empty string"),
         ("0b102", "0: invalid digit found in string"),
         ("12ab", "0: invalid digit found in string"),
-        ("0xfffffffffffffffffffffffffffffffff", "0: number too large to fit in target type"),
-        ("999999999999999999999999999999999999999f", "0: number too large to fit in target type"),
-        ("-170141183460469231731687303715884105728", "0: integer literal cannot fit in i128"),
-        ("-170141183460469231731687303715884105729", "0: integer literal cannot fit in i128"),
+        (
+            "0xfffffffffffffffffffffffffffffffff",
+            "0: number too large to fit in target type",
+        ),
+        (
+            "999999999999999999999999999999999999999f",
+            "0: number too large to fit in target type",
+        ),
+        (
+            "-170141183460469231731687303715884105728",
+            "0: integer literal cannot fit in i128",
+        ),
+        (
+            "-170141183460469231731687303715884105729",
+            "0: integer literal cannot fit in i128",
+        ),
     ] {
         match Lexer::new(alloc, 0, text) {
             Ok(_) => assert!(rt; false, "{text} is accepted"),

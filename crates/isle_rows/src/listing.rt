@@ -24,6 +24,7 @@ pub fn fault_words(alloc: Global, fault: &Fault) -> Result<String, AllocError> {
             let offset = span.from.offset;
             format!(in alloc; "fault at {offset}")
         }
+        Fault::Error(_) => "another error".to_string(alloc),
         Fault::Failed => "failed".to_string(alloc),
         Fault::Memory => "memory".to_string(alloc),
     }
@@ -141,7 +142,11 @@ fn push_decl(alloc: Global, out: &mut String, decl: &Decl) -> Result<(), AllocEr
     push_name(alloc, out, &decl.ret_ty)
 }
 
-fn push_converter(alloc: Global, out: &mut String, converter: &Converter) -> Result<(), AllocError> {
+fn push_converter(
+    alloc: Global,
+    out: &mut String,
+    converter: &Converter,
+) -> Result<(), AllocError> {
     out.push_str("Converter ")?;
     let place = pos_word(alloc, converter.pos)?;
     out.push_str(&place)?;

@@ -17,7 +17,10 @@ fn trees_of_texts(rt: HostRuntime) -> Result<(), Fail> {
             "Decl 0:6 pure multi partial rec f@0:29 ( A@0:32 B@0:34 ) T@0:37;",
         ),
         ("(decl rec rec () T)", "Decl 0:6 rec rec@0:10 ( ) T@0:17;"),
-        ("(decl multi pure () T)", "Decl 0:6 multi pure@0:12 ( ) T@0:20;"),
+        (
+            "(decl multi pure () T)",
+            "Decl 0:6 multi pure@0:12 ( ) T@0:20;",
+        ),
         ("(convert A B c)", "Converter 0:9 A@0:9 B@0:11 c@0:13;"),
         (
             "(convert A B c)(convert D E f)",
@@ -36,10 +39,16 @@ fn trees_of_texts(rt: HostRuntime) -> Result<(), Fail> {
 fn refused_texts(rt: HostRuntime) -> Result<(), Fail> {
     let alloc = rt.alloc();
     for (text, want) in [
-        ("(decl multi pure f () T)", "17: Unexpected token Symbol(\"f\")"),
+        (
+            "(decl multi pure f () T)",
+            "17: Unexpected token Symbol(\"f\")",
+        ),
         ("(convert A B c", "14: Unexpected EOF"),
         ("(decl pure () T)", "11: Unexpected token LParen"),
-        ("(convert ¹a B c)", "9: Identifier '¹a' does not start with letter or _ or $"),
+        (
+            "(convert ¹a B c)",
+            "9: Identifier '¹a' does not start with letter or _ or $",
+        ),
         (
             "(convert a+ B c)",
             "9: Identifier 'a+' contains invalid character (not a-z, A-Z, 0-9, _, ., $)",
