@@ -2,13 +2,8 @@ pub mod Identifiers
 pub mod IdentifierBytes
 pub mod Copies
 pub mod NameOrders
-pub mod Lawful
-pub mod LawfulTerms
-pub mod LawfulTypes
-pub mod LawfulModels
-pub mod LawfulDefinitions
+pub mod Equalities
 pub mod Parts
 pub mod Erasing
-pub mod SameModels
-pub mod Equalities
-pub mod SpeltWritable
+pub mod Placing
+pub mod OnePlacing
