@@ -1,9 +1,9 @@
 -- The print of the one tree that a text spells, from what lexer, parser and printer promise.
-use Rattle.std.proofs.Common.{◌≡◌, ◌↔◌, ℕ, ◌+◌, ◌≤◌, ◌-◌, length, List, [], ◌∷◌, Ok, Err, true, refl, sym, ap, ◌∙◌, subst, arith}
+use Rattle.std.proofs.Common.{◌≡◌, ℕ, ◌≤◌, length, List, [], Ok, Err, true, refl, sym, ◌∙◌, subst, arith}
 use Rattle.isle_base.specs.declared.lexer.Pos.{Pos}
 use Rattle.isle_base.specs.Lexing.{lexes}
-use Rattle.isle_base.specs.Place.{Placed, nowhere, placed}
-use Rattle.isle_base.specs.Token.{Lexeme, Ending, end, fault, Feed}
+use Rattle.isle_base.specs.Place.{nowhere, placed}
+use Rattle.isle_base.specs.Token.{end, fault, Feed}
 use Rattle.isle_base.proofs.Complete.{Lexes-unique}
 use Rattle.isle_parser.proofs.Definitions.{one_list}
 use Rattle.isle_ast.specs.Erased.{erase}

@@ -1,4 +1,4 @@
-use Rattle.std.proofs.Common.{◌≡◌, string_bytes, subst, ap, Err}
+use Rattle.std.proofs.Common.{string_bytes, subst, ap, Err}
 use Rattle.std.proofs.lemmas.Result.{err_from_is_err_and}
 use Rattle.isle_ast.specs.TreeView.{definitions_of}
 use Rattle.isle_printer.specs.Printed.{IsPrinted}
