@@ -2,8 +2,13 @@ pub mod Identifiers
 pub mod IdentifierBytes
 pub mod Copies
 pub mod NameOrders
-pub mod Equalities
+pub mod Lawful
+pub mod LawfulTerms
+pub mod LawfulTypes
+pub mod LawfulModels
+pub mod LawfulDefinitions
 pub mod Parts
 pub mod Erasing
-pub mod Placing
-pub mod OnePlacing
+pub mod SameModels
+pub mod Equalities
+pub mod SpeltWritable

@@ -1,9 +1,16 @@
 pub mod Erased
 pub mod Grammar
 pub mod Identifier
+pub mod ModelGrammar
 pub mod NameOrder
+pub mod Numbers
 pub mod Parts
+pub mod SameModel
 pub mod Spelt
+pub mod TermGrammar
 pub mod Tree
 pub mod TreeView
+pub mod TypeGrammar
+pub mod Words
+pub mod Writable
 pub use Rattle.isle_base.specs.Token

@@ -1,11 +1,38 @@
 -- The tree of the code, as pure values.
-use Rattle.std.specs.Prelude.{List, map, string_bytes}
+use Rattle.std.specs.Prelude.{List, [], ◌∷◌, map, Option, None, Some, string_bytes}
 use Rattle.isle_ast.specs.declared.ast.Ident.{Ident}
+use Rattle.isle_ast.specs.declared.ast.TypeDef.{TypeDef}
+use Rattle.isle_ast.specs.declared.ast.TypeValue.{TypeValue}
+use Rattle.isle_ast.specs.declared.ast.TypeValue.TheVariants as type_values
+use Rattle.isle_ast.specs.declared.ast.Variant.{Variant}
+use Rattle.isle_ast.specs.declared.ast.Fields.{Fields}
+use Rattle.isle_ast.specs.declared.ast.Fields.TheVariants as fields
+use Rattle.isle_ast.specs.declared.ast.StructFields.{StructFields}
+use Rattle.isle_ast.specs.declared.ast.StructField.{StructField}
+use Rattle.isle_ast.specs.declared.ast.TupleFields.{TupleFields}
+use Rattle.isle_ast.specs.declared.ast.TupleField.{TupleField}
 use Rattle.isle_ast.specs.declared.ast.Decl.{Decl}
+use Rattle.isle_ast.specs.declared.ast.Instantiation.{Instantiation}
+use Rattle.isle_ast.specs.declared.ast.Attr.{Attr}
+use Rattle.isle_ast.specs.declared.ast.AttrTarget.{AttrTarget}
+use Rattle.isle_ast.specs.declared.ast.AttrTarget.TheVariants as targets
+use Rattle.isle_ast.specs.declared.ast.AttrKind.{AttrKind}
+use Rattle.isle_ast.specs.declared.ast.AttrKind.TheVariants as kinds
+use Rattle.isle_ast.specs.declared.ast.ModelType.{ModelType}
+use Rattle.isle_ast.specs.declared.ast.ModelType.TheOpen.{ModelType-F, ModelField-F}
+use Rattle.isle_ast.specs.declared.ast.ModelType.TheFolds.{fold-ModelType, fold-ModelField}
+use Rattle.isle_ast.specs.declared.ast.ModelField.{ModelField}
+use Rattle.isle_ast.specs.declared.ast.ModelValue.{ModelValue}
+use Rattle.isle_ast.specs.declared.ast.ModelValue.TheVariants as model_values
+use Rattle.isle_ast.specs.declared.ast.Model.{Model}
+use Rattle.isle_ast.specs.declared.ast.Signature.{Signature}
+use Rattle.isle_ast.specs.declared.ast.Form.{Form}
+use Rattle.isle_ast.specs.declared.ast.Extern.{Extern}
+use Rattle.isle_ast.specs.declared.ast.Extern.TheVariants as externs
 use Rattle.isle_ast.specs.declared.ast.Converter.{Converter}
 use Rattle.isle_ast.specs.declared.ast.Def.{Def}
 use Rattle.isle_ast.specs.declared.ast.Def.TheVariants as variants
-use Rattle.isle_ast.specs.Tree.{Name, Declaration, Conversion, Definition, decl, converter}
+use Rattle.isle_ast.specs.Tree.{Name, Declaration, Conversion, TypeModel, unspecified_model, auto_model, int_model, bool_model, unit_model, bit_vector_model, struct_model, named_model, ModelFieldRow, no_model_field, model_field, NamedField, IndexedField, FieldList, unit_fields, struct_fields, tuple_fields, EnumVariant, TypeContent, primitive_type, enum_type, struct_type, TypeDefinition, AttributeTarget, term_target, rule_target, AttributeKind, chain_kind, priority_kind, tag_kind, Attribute, TermSignature, FormDefinition, TermInstantiation, ModelContent, type_model, ModelDefinition, ExternDefinition, extern_extractor, extern_constructor, extern_const, Definition, type_def, decl, attr, model, form, instantiation, external, converter}
 
 abbrev pub name_of : Ident → Name
 name_of i = record { text = string_bytes i.0; pos = i.1 }
@@ -35,8 +62,130 @@ conversion_of c =
       pos = c.pos;
     }
 
+abbrev pub named_field_of : StructField → NamedField
+named_field_of f = record { name = name_of f.name; ty = name_of f.ty; pos = f.pos }
+
+abbrev pub indexed_field_of : TupleField → IndexedField
+indexed_field_of f = record { index = f.index; ty = name_of f.ty; pos = f.pos }
+
+abbrev pub struct_fields_of : StructFields → FieldList
+struct_fields_of fs = struct_fields (map named_field_of fs.fields.items) fs.pos
+
+abbrev pub tuple_fields_of : TupleFields → FieldList
+tuple_fields_of fs = tuple_fields (map indexed_field_of fs.fields.items) fs.pos
+
+abbrev pub fields_of : Fields → FieldList
+fields_of fields.Unit = unit_fields
+fields_of (fields.Struct fs) = struct_fields_of fs
+fields_of (fields.Tuple fs) = tuple_fields_of fs
+
+abbrev pub variant_of : Variant → EnumVariant
+variant_of v = record { name = name_of v.name; fields = fields_of v.fields; pos = v.pos }
+
+abbrev pub type_content_of : TypeValue → TypeContent
+type_content_of (type_values.Primitive name place) = primitive_type (name_of name) place
+type_content_of (type_values.Enum variants place) = enum_type (map variant_of variants.items) place
+type_content_of (type_values.Struct fs place) = struct_type (fields_of fs) place
+
+abbrev pub type_definition_of : TypeDef → TypeDefinition
+type_definition_of t =
+    record {
+      name = name_of t.name;
+      is_extern = t.is_extern;
+      is_nodebug = t.is_nodebug;
+      ty = type_content_of t.ty;
+      pos = t.pos;
+    }
+
+abbrev pub target_of : AttrTarget → AttributeTarget
+target_of (targets.Term name) = term_target (name_of name)
+target_of (targets.Rule name) = rule_target (name_of name)
+
+abbrev pub kind_of : AttrKind → AttributeKind
+kind_of kinds.Chain = chain_kind
+kind_of kinds.Priority = priority_kind
+kind_of (kinds.Tag name) = tag_kind (name_of name)
+
+abbrev pub attribute_of : Attr → Attribute
+attribute_of a = record { target = target_of a.target; kinds = map kind_of a.kinds.items; pos = a.pos }
+
+-- a field of a struct model, by itself
+pub record SingleModelField : Type 0 where
+  pub name : Name
+  pub ty : TypeModel
+
+abbrev pub model_row_of : List SingleModelField → ModelFieldRow
+model_row_of [] = no_model_field
+model_row_of (f ∷ fs) = model_field f.name f.ty (model_row_of fs)
+
+-- one node, with the pure value of each part in its place
+abbrev pub model_type_step : ModelType-F TypeModel SingleModelField → TypeModel
+model_type_step ModelType-F.Unspecified = unspecified_model
+model_type_step ModelType-F.Auto = auto_model
+model_type_step ModelType-F.Int = int_model
+model_type_step ModelType-F.Bool = bool_model
+model_type_step ModelType-F.Unit = unit_model
+model_type_step (ModelType-F.BitVec width) = bit_vector_model width
+model_type_step (ModelType-F.Struct fs) = struct_model (model_row_of fs.items)
+model_type_step (ModelType-F.Named name) = named_model (name_of name)
+
+abbrev pub model_field_step : ModelField-F TypeModel SingleModelField → SingleModelField
+model_field_step f = record { name = name_of f.name; ty = f.ty }
+
+abbrev pub type_model_of : ModelType → TypeModel
+type_model_of = fold-ModelType TypeModel SingleModelField model_type_step model_field_step
+
+abbrev pub single_model_field_of : ModelField → SingleModelField
+single_model_field_of = fold-ModelField TypeModel SingleModelField model_type_step model_field_step
+
+abbrev pub single_model_fields_of : List ModelField → List SingleModelField
+single_model_fields_of fs = map single_model_field_of fs
+
+abbrev pub model_content_of : ModelValue → ModelContent
+model_content_of (model_values.TypeValue ty) = type_model (type_model_of ty)
+
+abbrev pub model_definition_of : Model → ModelDefinition
+model_definition_of m = record { name = name_of m.name; val = model_content_of m.val }
+
+abbrev pub signature_of : Signature → TermSignature
+signature_of s = record { args = map type_model_of s.args.items; ret = type_model_of s.ret; pos = s.pos }
+
+abbrev pub signatures_of : List Signature → List TermSignature
+signatures_of ss = map signature_of ss
+
+abbrev pub form_of : Form → FormDefinition
+form_of f = record { name = name_of f.name; signatures = signatures_of f.signatures.items; pos = f.pos }
+
+abbrev pub optional_name_of : Option Ident → Option Name
+optional_name_of None = None
+optional_name_of (Some i) = Some (name_of i)
+
+abbrev pub instantiation_of : Instantiation → TermInstantiation
+instantiation_of i =
+    record {
+      term = name_of i.term;
+      form = optional_name_of i.form;
+      signatures = signatures_of i.signatures.items;
+      tags = names_of i.tags.items;
+      pos = i.pos;
+    }
+
+abbrev pub extern_of : Extern → ExternDefinition
+extern_of (externs.Extractor term func place infallible) =
+    extern_extractor (name_of term) (name_of func) place infallible
+extern_of (externs.Constructor term func place) = extern_constructor (name_of term) (name_of func) place
+extern_of (externs.Const name ty place) = extern_const (name_of name) (name_of ty) place
+
+-- there is no pragma
 abbrev pub definition_of : Def → Definition
+definition_of (variants.Pragma p) = elim p [ ]
+definition_of (variants.TypeDef t) = type_def (type_definition_of t)
 definition_of (variants.Decl d) = decl (declaration_of d)
+definition_of (variants.Attr a) = attr (attribute_of a)
+definition_of (variants.Model m) = model (model_definition_of m)
+definition_of (variants.Form f) = form (form_of f)
+definition_of (variants.Instantiation i) = instantiation (instantiation_of i)
+definition_of (variants.Extern e) = external (extern_of e)
 definition_of (variants.Converter c) = converter (conversion_of c)
 
 abbrev pub definitions_of : List Def → List Definition

@@ -3,9 +3,10 @@
 ghost use Rattle.std.specs.Prelude.{◌≡◌, ◌↔◌, IsTrue, Some};
 ghost use Rattle.std.specs.declared.cmp.Ordering.TheVariants.{Equal};
 ghost use Rattle.isle_ast.specs.NameOrder.{name_cmp};
-ghost use Rattle.isle_ast.specs.TreeView.{conversion_of, declaration_of, definition_of, name_of};
+ghost use Rattle.isle_ast.specs.TreeView.{attribute_of, conversion_of, declaration_of, definition_of, extern_of, fields_of, form_of, indexed_field_of, instantiation_of, kind_of, model_content_of, model_definition_of, name_of, named_field_of, signature_of, single_model_field_of, struct_fields_of, target_of, tuple_fields_of, type_content_of, type_definition_of, type_model_of, variant_of};
 
 mod clone;
+mod compare;
 pub mod grammar;
 pub mod identifier;
 #[cfg(test)]
@@ -17,8 +18,22 @@ use std::hash::Hash;
 /// A definition, the toplevel form of an ISLE source.
 #[derive(Debug, PartialEq, Eq, Drop)]
 pub enum Def {
+    /// A pragma. There are none yet, so a value can't be had.
+    Pragma(Pragma),
+    /// A type definition, `(type ..)`.
+    TypeDef(TypeDef),
     /// A term declaration, `(decl ..)`.
     Decl(Decl),
+    /// Attributes of a term or a rule, `(attr ..)`.
+    Attr(Attr),
+    /// A model of a type, `(model ..)`.
+    Model(Model),
+    /// A form: signatures under a name, `(form ..)`.
+    Form(Form),
+    /// The signatures of a term, `(instantiate ..)`.
+    Instantiation(Instantiation),
+    /// A term or a constant that is defined outside, `(extern ..)`.
+    Extern(Extern),
     /// An automatic conversion between types, `(convert ..)`.
     Converter(Converter),
 }
@@ -38,6 +53,98 @@ pub fn identifiers_are_ordered()
     ensures equal_in_order { (a b : Ident) → (name_cmp (name_of a) (name_of b) ≡ Equal) ↔ (name_of a ≡ name_of b) }
     ensures hash { (a b : Ident) → name_of a ≡ name_of b → ⟦<Ident as Hash>⟧.hash_input a ≡ ⟦<Ident as Hash>⟧.hash_input b }
 {}
+
+/// A pragma. None is defined.
+#[derive(Clone, Debug, PartialEq, Eq, Drop)]
+pub enum Pragma {}
+
+/// A type definition. Upstream calls it `Type`, a word that contracts reserve.
+#[derive(Debug, PartialEq, Eq, Drop)]
+pub struct TypeDef {
+    /// The name of the type.
+    pub name: Ident,
+    /// Whether the type is defined outside.
+    pub is_extern: bool,
+    /// Whether the type has no debug text.
+    pub is_nodebug: bool,
+    /// What the type consists of.
+    pub ty: TypeValue,
+    /// The position of the token after the keyword.
+    pub pos: Pos,
+}
+
+/// What a type consists of. The position is that of its first token.
+#[derive(Debug, PartialEq, Eq, Drop)]
+pub enum TypeValue {
+    /// A primitive type, known by its name.
+    Primitive(Ident, Pos),
+    /// An enum type: a list of variants.
+    Enum(Vec<Variant>, Pos),
+    /// A struct type: fields.
+    Struct(Fields, Pos),
+}
+
+/// A variant of an enum type.
+#[derive(Debug, PartialEq, Eq, Drop)]
+pub struct Variant {
+    /// The name of the variant.
+    pub name: Ident,
+    /// Its fields.
+    pub fields: Fields,
+    /// The position of its first token.
+    pub pos: Pos,
+}
+
+/// The fields of a variant or of a struct type.
+#[derive(Debug, PartialEq, Eq, Drop)]
+pub enum Fields {
+    /// No fields.
+    Unit,
+    /// Fields that have names.
+    Struct(StructFields),
+    /// Fields that are known by their places.
+    Tuple(TupleFields),
+}
+
+/// Fields that have names.
+#[derive(Debug, PartialEq, Eq, Drop)]
+pub struct StructFields {
+    /// The fields, in order.
+    pub fields: Vec<StructField>,
+    /// The position of the first token of the first field.
+    pub pos: Pos,
+}
+
+/// A field that has a name.
+#[derive(Debug, PartialEq, Eq, Drop)]
+pub struct StructField {
+    /// The name of the field.
+    pub name: Ident,
+    /// Its type.
+    pub ty: Ident,
+    /// The position of its first token.
+    pub pos: Pos,
+}
+
+/// Fields that are known by their places.
+#[derive(Debug, PartialEq, Eq, Drop)]
+pub struct TupleFields {
+    /// The fields, in order.
+    pub fields: Vec<TupleField>,
+    /// The position of the first token of the first field.
+    pub pos: Pos,
+}
+
+/// A field that is known by its place.
+#[derive(Debug, PartialEq, Eq, Drop)]
+pub struct TupleField {
+    /// The place, counted from 0.
+    pub index: usize,
+    /// Its type.
+    pub ty: Ident,
+    /// The position of its first token.
+    pub pos: Pos,
+}
 
 /// A declaration of a term, with its argument types and its return type.
 #[derive(Debug, PartialEq, Eq, Drop)]
@@ -60,6 +167,156 @@ pub struct Decl {
     pub pos: Pos,
 }
 
+/// The signatures of a term: its own, or those of a form.
+#[derive(Debug, PartialEq, Eq, Drop)]
+pub struct Instantiation {
+    /// The term.
+    pub term: Ident,
+    /// The form whose signatures the term has, if it has no signatures of its own.
+    pub form: Option<Ident>,
+    /// The term's own signatures.
+    pub signatures: Vec<Signature>,
+    /// The tags under which the form's signatures hold.
+    pub tags: Vec<Ident>,
+    /// The position of the token after the keyword.
+    pub pos: Pos,
+}
+
+/// What is said of a term or a rule.
+#[derive(Debug, PartialEq, Eq, Drop)]
+pub struct Attr {
+    /// The term or the rule.
+    pub target: AttrTarget,
+    /// What is said of it.
+    pub kinds: Vec<AttrKind>,
+    /// The position of the token after the keyword.
+    pub pos: Pos,
+}
+
+/// What an attribute speaks of.
+#[derive(Debug, PartialEq, Eq, Drop)]
+pub enum AttrTarget {
+    /// A term.
+    Term(Ident),
+    /// A rule.
+    Rule(Ident),
+}
+
+/// What an attribute says.
+#[derive(Debug, PartialEq, Eq, Drop)]
+pub enum AttrKind {
+    /// Verification chains the term, `(veri chain)`.
+    Chain,
+    /// Verification keeps to the rule's priority, `(veri priority)`.
+    Priority,
+    /// A tag, `(tag ..)`.
+    Tag(Ident),
+}
+
+/// A model of a type, which verification speaks of.
+#[cycle(model)]
+#[derive(Debug, Drop)]
+pub enum ModelType {
+    /// Not specified, `!`.
+    Unspecified,
+    /// Inferred, `_`.
+    Auto,
+    /// Mathematical integers.
+    Int,
+    /// Booleans.
+    Bool,
+    /// The one value.
+    Unit,
+    /// Bit vectors, of a number of bits if it is known.
+    BitVec(Option<usize>),
+    /// Structs of these fields.
+    Struct(Vec<ModelField>),
+    /// A model under a name.
+    Named(Ident),
+}
+
+/// A field of a struct model.
+#[cycle(model)]
+#[derive(Debug, Drop)]
+pub struct ModelField {
+    /// The name of the field.
+    pub name: Ident,
+    /// The model of its type.
+    pub ty: ModelType,
+}
+
+/// What a model is given by.
+#[derive(Debug, PartialEq, Eq, Drop)]
+pub enum ModelValue {
+    /// A model of the type, `(type ..)`.
+    TypeValue(ModelType),
+}
+
+/// The model of a type.
+#[derive(Debug, PartialEq, Eq, Drop)]
+pub struct Model {
+    /// The name of the type.
+    pub name: Ident,
+    /// What its model is.
+    pub val: ModelValue,
+}
+
+/// The models of a term's arguments and of its value.
+#[derive(Debug, PartialEq, Eq, Drop)]
+pub struct Signature {
+    /// The models of the arguments.
+    pub args: Vec<ModelType>,
+    /// The model of the value.
+    pub ret: ModelType,
+    /// The position of the token after its `(`.
+    pub pos: Pos,
+}
+
+/// A form: signatures under a name.
+#[derive(Debug, PartialEq, Eq, Drop)]
+pub struct Form {
+    /// The name of the form.
+    pub name: Ident,
+    /// Its signatures.
+    pub signatures: Vec<Signature>,
+    /// The position of the token after the keyword.
+    pub pos: Pos,
+}
+
+/// A term or a constant that is defined outside.
+#[derive(Debug, PartialEq, Eq, Drop)]
+pub enum Extern {
+    /// An outside extractor: `(extern extractor Term func)`.
+    Extractor {
+        /// The term that it extracts.
+        term: Ident,
+        /// The outside function.
+        func: Ident,
+        /// The position of the token after the keyword.
+        pos: Pos,
+        /// Whether it always gives values, `infallible`.
+        infallible: bool,
+    },
+    /// An outside constructor: `(extern constructor Term func)`.
+    Constructor {
+        /// The term that it constructs.
+        term: Ident,
+        /// The outside function.
+        func: Ident,
+        /// The position of the token after the keyword.
+        pos: Pos,
+    },
+    /// An outside constant: `(extern const $NAME type)`.
+    Const {
+        /// The name, without its `$`.
+        name: Ident,
+        /// The type.
+        ty: Ident,
+        /// The position of the constant.
+        pos: Pos,
+    },
+}
+
 /// An automatic conversion: a term that turns values of one type into values of another.
 #[derive(Debug, PartialEq, Eq, Drop)]
 pub struct Converter {
@@ -73,10 +330,29 @@ pub struct Converter {
     pub pos: Pos,
 }
 
-/// A law, which runs no code: definitions are equal exactly where they are the same tree, with the same
-/// positions.
+/// A law, which runs no code: definitions and their parts are equal exactly where they are the same
+/// tree, with the same positions.
 pub fn definitions_are_compared()
+    ensures type_defs { (a b : TypeDef) → IsTrue (⟦<TypeDef as PartialEq>⟧.eq a b) ↔ (type_definition_of a ≡ type_definition_of b) }
+    ensures type_values { (a b : TypeValue) → IsTrue (⟦<TypeValue as PartialEq>⟧.eq a b) ↔ (type_content_of a ≡ type_content_of b) }
+    ensures variants { (a b : Variant) → IsTrue (⟦<Variant as PartialEq>⟧.eq a b) ↔ (variant_of a ≡ variant_of b) }
+    ensures fields { (a b : Fields) → IsTrue (⟦<Fields as PartialEq>⟧.eq a b) ↔ (fields_of a ≡ fields_of b) }
+    ensures struct_fields { (a b : StructFields) → IsTrue (⟦<StructFields as PartialEq>⟧.eq a b) ↔ (struct_fields_of a ≡ struct_fields_of b) }
+    ensures struct_field { (a b : StructField) → IsTrue (⟦<StructField as PartialEq>⟧.eq a b) ↔ (named_field_of a ≡ named_field_of b) }
+    ensures tuple_fields { (a b : TupleFields) → IsTrue (⟦<TupleFields as PartialEq>⟧.eq a b) ↔ (tuple_fields_of a ≡ tuple_fields_of b) }
+    ensures tuple_field { (a b : TupleField) → IsTrue (⟦<TupleField as PartialEq>⟧.eq a b) ↔ (indexed_field_of a ≡ indexed_field_of b) }
     ensures decls { (a b : Decl) → IsTrue (⟦<Decl as PartialEq>⟧.eq a b) ↔ (declaration_of a ≡ declaration_of b) }
+    ensures instantiations { (a b : Instantiation) → IsTrue (⟦<Instantiation as PartialEq>⟧.eq a b) ↔ (instantiation_of a ≡ instantiation_of b) }
+    ensures attrs { (a b : Attr) → IsTrue (⟦<Attr as PartialEq>⟧.eq a b) ↔ (attribute_of a ≡ attribute_of b) }
+    ensures attr_targets { (a b : AttrTarget) → IsTrue (⟦<AttrTarget as PartialEq>⟧.eq a b) ↔ (target_of a ≡ target_of b) }
+    ensures attr_kinds { (a b : AttrKind) → IsTrue (⟦<AttrKind as PartialEq>⟧.eq a b) ↔ (kind_of a ≡ kind_of b) }
+    ensures model_types { (a b : ModelType) → IsTrue (⟦<ModelType as PartialEq>⟧.eq a b) ↔ (type_model_of a ≡ type_model_of b) }
+    ensures model_fields { (a b : ModelField) → IsTrue (⟦<ModelField as PartialEq>⟧.eq a b) ↔ (single_model_field_of a ≡ single_model_field_of b) }
+    ensures model_values { (a b : ModelValue) → IsTrue (⟦<ModelValue as PartialEq>⟧.eq a b) ↔ (model_content_of a ≡ model_content_of b) }
+    ensures models { (a b : Model) → IsTrue (⟦<Model as PartialEq>⟧.eq a b) ↔ (model_definition_of a ≡ model_definition_of b) }
+    ensures signatures { (a b : Signature) → IsTrue (⟦<Signature as PartialEq>⟧.eq a b) ↔ (signature_of a ≡ signature_of b) }
+    ensures forms { (a b : Form) → IsTrue (⟦<Form as PartialEq>⟧.eq a b) ↔ (form_of a ≡ form_of b) }
+    ensures externs { (a b : Extern) → IsTrue (⟦<Extern as PartialEq>⟧.eq a b) ↔ (extern_of a ≡ extern_of b) }
     ensures converters { (a b : Converter) → IsTrue (⟦<Converter as PartialEq>⟧.eq a b) ↔ (conversion_of a ≡ conversion_of b) }
     ensures defs { (a b : Def) → IsTrue (⟦<Def as PartialEq>⟧.eq a b) ↔ (definition_of a ≡ definition_of b) }
 {}

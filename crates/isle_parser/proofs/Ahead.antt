@@ -1,5 +1,5 @@
 -- What lies ahead of the parser, by what its lexer has still to give.
-use Rattle.std.proofs.Common.{◌≡◌, ℕ, ◌≤◌, Bool, true, false, List, [], ◌∷◌, Some, Err, refl, sym, ap, subst, ◌∙◌, arith}
+use Rattle.std.proofs.Common.{◌≡◌, ℕ, ◌≤◌, Bool, true, false, List, [], ◌∷◌, Option, None, Some, Err, refl, sym, ap, subst, ◌∙◌, arith}
 use Rattle.isle_base.specs.declared.error.Error.{Error}
 use Rattle.isle_base.specs.declared.lexer.Pos.{Pos}
 use Rattle.isle_base.specs.Place.{Placed, in_file, unknown, nowhere, placed}
@@ -81,3 +81,9 @@ end_taken place feed s pos e ended = nothing_taken place feed.coming s pos e (en
 -- behind a fault there is nothing to take
 pub fault_taken : (place : ℕ → Pos) (feed : Feed) (s : Source) (pos : Pos) (e : Stop) → is_failed feed ≡ true → IsPlace s pos → IsRefusalAt pos e → Stops (take (placed place feed.coming)) s e
 fault_taken place feed s pos e failed = nothing_taken place feed.coming s pos e (failed_nothing feed.coming feed.ending failed)
+
+-- where reading gives nothing, the parser's refusal stops it
+pub stopped : {Y : Type 0} (read : Option (Y × List Placed)) (s : Source) (e : Stop) → read ≡ None → IsRefusal s e → Stops read s e
+stopped read s (stops.Parser e) none h = (none, h)
+stopped read s (stops.Lexer e) none h = absurd h
+stopped read s stops.Memory none h = tt

@@ -5,14 +5,25 @@ use Rattle.std.specs.Str.{bytes_eq}
 use Rattle.std.proofs.lemmas.Slice.Eq.{bytes_eq-Decides}
 use Rattle.isle_base.specs.Place.{Placed}
 use Rattle.isle_base.specs.Token.{symbol}
-use Rattle.isle_ast.specs.Grammar.{BeginsAt, SpellsName, SpellsAll, InParentheses, BehindWord, SpellsDeclaration, SpellsConversion, SpellsDefinition, SpellsDefinitions}
-use Rattle.isle_ast.specs.Tree.{Name, Declaration, Conversion, Definition, decl, converter}
-use Rattle.isle_parser.specs.Reading.{◌>>=◌, is_ahead, ends, pos_ahead, text, flag}
+use Rattle.isle_ast.specs.Grammar.{SpellsDefinition, SpellsDefinitions}
+use Rattle.isle_ast.specs.ModelGrammar.{SpellsForm, SpellsInstantiation, SpellsModel}
+use Rattle.isle_ast.specs.TermGrammar.{SpellsDeclaration, SpellsAttribute, SpellsExtern, SpellsConversion}
+use Rattle.isle_ast.specs.TypeGrammar.{SpellsTypeDefinition}
+use Rattle.isle_ast.specs.Words.{BeginsAt, SpellsName, SpellsAll, InParentheses, BehindWord}
+use Rattle.isle_ast.specs.Tree.{Name, Declaration, Conversion, Definition, type_def, decl, attr, model, form, instantiation, external, converter}
+use Rattle.isle_parser.specs.Reading.{Reader, ◌>>=◌, is_ahead, ends, pos_ahead, text, flag}
 use Rattle.isle_parser.specs.ReadNames.{name, names}
-use Rattle.isle_parser.specs.ReadDefinitions.{declaration, conversion, behind, form, definition, definitions}
+use Rattle.isle_parser.specs.ReadDefinitions.{declaration, conversion, behind, keyword_form, definition, definitions}
+use Rattle.isle_parser.specs.ReadModels.{form_definition, instantiation_of_term, model_definition}
+use Rattle.isle_parser.specs.ReadTerms.{attribute, extern_definition}
+use Rattle.isle_parser.specs.ReadTypes.{type_definition}
+use Rattle.isle_parser.proofs.Choices.{nothing, made_of, word_is, word_read, word_shorter, CompleteClosed, enclosed_complete}
 use Rattle.isle_parser.proofs.Flags.{Front, flag_sound, flag_complete, flag_shorter, front_sound, front_unset}
 use Rattle.isle_parser.proofs.Names.{SpellsNames, text_sound, text_complete, name_sound, name_complete, name_begins, names_sound, names_complete}
-use Rattle.isle_parser.proofs.Readers.{Sound, Complete, Begins, Shrinks, Goes, begins_node, bind_some, chosen, done, done_is, shrinks, many_sound, many_complete, stopping_closes, stopping_ends, row_shorter, moved, parentheses_sound, parentheses_complete, parentheses_begin}
+use Rattle.isle_parser.proofs.ReadsForms.{form_definition_sound, form_definition_complete, form_definition_shorter, instantiation_sound, instantiation_complete, instantiation_shorter, model_definition_sound, model_definition_complete, model_definition_shorter}
+use Rattle.isle_parser.proofs.ReadsTerms.{attribute_sound, attribute_complete, attribute_shorter, extern_sound, extern_complete, extern_shorter}
+use Rattle.isle_parser.proofs.ReadsTypes.{type_definition_sound, type_definition_complete, type_definition_shorter}
+use Rattle.isle_parser.proofs.Readers.{Spelling, Sound, Complete, Begins, Shrinks, Goes, begins_node, bind_some, chosen, done, done_is, shrinks, many_sound, many_complete, stopping_closes, stopping_ends, row_shorter, moved, parentheses_sound, parentheses_complete, parentheses_begin}
 
 -- ---- what does not go on
 
@@ -29,9 +40,6 @@ begins_at n all rest h = (symbol n.text, rest, rw h.1 refl)
 
 names_begin : (ns : List Name) (all rest : List Placed) → SpellsNames ns all rest → (is_ahead begins_node all ≡ true) × (length rest < length all)
 names_begin ns = parentheses_begin (SpellsAll SpellsName ns) (row_shorter SpellsName name_begins ns)
-
-none_some : {A : Type 0} (x : A) → None ≡ Some x → ⊥
-none_some x e = cc
 
 -- ---- convert
 
@@ -178,80 +186,91 @@ declaration_shorter d all rest h =
 -- ---- a definition
 
 -- a keyword and what stands behind it, as a definition spells them
-abbrev SpellsForm : Definition → List Placed → List Placed → Type 0
-SpellsForm (decl d) = BehindWord (codes "decl") (SpellsDeclaration d)
-SpellsForm (converter c) = BehindWord (codes "convert") (SpellsConversion c)
+abbrev pub SpellsKeyword : Definition → List Placed → List Placed → Type 0
+SpellsKeyword (type_def x) = BehindWord (codes "type") (SpellsTypeDefinition x)
+SpellsKeyword (decl x) = BehindWord (codes "decl") (SpellsDeclaration x)
+SpellsKeyword (attr x) = BehindWord (codes "attr") (SpellsAttribute x)
+SpellsKeyword (model x) = BehindWord (codes "model") (SpellsModel x)
+SpellsKeyword (form x) = BehindWord (codes "form") (SpellsForm x)
+SpellsKeyword (instantiation x) = BehindWord (codes "instantiate") (SpellsInstantiation x)
+SpellsKeyword (external x) = BehindWord (codes "extern") (SpellsExtern x)
+SpellsKeyword (converter x) = BehindWord (codes "convert") (SpellsConversion x)
 
-abbrev as_decl : Declaration × List Placed → Option (Definition × List Placed)
-as_decl d = Some (decl d.0, d.1)
-
-abbrev as_converter : Conversion × List Placed → Option (Definition × List Placed)
-as_converter c = Some (converter c.0, c.1)
-
--- the symbol of a keyword
-behind_word : (word w : List ℕ) (R : List Placed → List Placed → Type 0) (all inner rest : List Placed) → text all ≡ Some (w, inner) → bytes_eq w word ≡ true → R inner rest → BehindWord word R all rest
-behind_word word w R all inner rest e is h =
-    let same : w ≡ word = (bytes_eq-Decides w word).0 is in
-    (inner, (pos_ahead all, text_sound all inner w e ∙ ap (λ (t : List ℕ). record { pos = pos_ahead all; token = symbol t } ∷ inner) same), h)
-
-form_sound : Sound SpellsForm form
-unfolding form behind
-form_sound all rest x e =
-    let w = bind_some (text all) (λ word. behind word.0 word.1) (x, rest) e in
-    elim (chosen (bytes_eq w.0.0 (codes "decl")) (declaration w.0.1 >>= as_decl) (cond (bytes_eq w.0.0 (codes "convert")) (conversion w.0.1 >>= as_converter) None) (Some (x, rest)) w.2) [
+-- one of the keywords
+keyword_chosen : {A : Type 0} {all inner rest : List Placed} {w : List ℕ} {x : Definition} (word : List ℕ) (R : Spelling A) (read : Reader A) (make : A → Definition) (other : Option (Definition × List Placed)) → Sound R read → text all ≡ Some (w, inner) → ((y : A) → BehindWord word (R y) all rest → SpellsKeyword (make y) all rest) → (other ≡ Some (x, rest) → SpellsKeyword x all rest) → cond (bytes_eq w word) (◌>>=◌ {B = Definition × List Placed} (read inner) (λ y. Some (make y.0, y.1))) other ≡ Some (x, rest) → SpellsKeyword x all rest
+keyword_chosen {A = A} {all = all} {inner = inner} {rest = rest} {w = w} {x = x} word R read make other sound e spelt otherwise is =
+    elim (chosen (bytes_eq w word) (◌>>=◌ {B = Definition × List Placed} (read inner) (λ y. Some (make y.0, y.1))) other (Some (x, rest)) is) [
       | inl h ↦
-          let d = bind_some (declaration w.0.1) as_decl (x, rest) h.1 in
-          let is = done_is (decl d.0.0) x d.0.1 rest d.2 in
-          let spelt : SpellsForm (decl d.0.0) all d.0.1 = behind_word (codes "decl") w.0.0 (SpellsDeclaration d.0.0) all w.0.1 d.0.1 w.1 h.0 (declaration_sound w.0.1 d.0.1 d.0.0 d.1) in
-          moved SpellsForm (decl d.0.0) x all d.0.1 rest is spelt
-      | inr h ↦
-          elim (chosen (bytes_eq w.0.0 (codes "convert")) (conversion w.0.1 >>= as_converter) None (Some (x, rest)) h.1) [
-            | inl g ↦
-                let c = bind_some (conversion w.0.1) as_converter (x, rest) g.1 in
-                let is = done_is (converter c.0.0) x c.0.1 rest c.2 in
-                let spelt : SpellsForm (converter c.0.0) all c.0.1 = behind_word (codes "convert") w.0.0 (SpellsConversion c.0.0) all w.0.1 c.0.1 w.1 g.0 (conversion_sound w.0.1 c.0.1 c.0.0 c.1) in
-                moved SpellsForm (converter c.0.0) x all c.0.1 rest is spelt
-            | inr g ↦ absurd (none_some (x, rest) g.1)
-          ]
+          let y = made_of make h.1 in
+          subst (λ (x : Definition). SpellsKeyword x all rest) y.2 (spelt y.0 (inner, word_is e h.0, sound inner rest y.0 y.1))
+      | inr h ↦ otherwise h.1
     ]
 
-form_complete : Complete SpellsForm form
-unfolding form behind
-form_complete (decl d) all rest goes h =
-    let body = declaration_complete d h.0 rest goes h.2 in
-    rw (h.1.1, text_complete h.1.0 (codes "decl") h.0, body) refl
-form_complete (converter c) all rest goes h =
-    let body = conversion_complete c h.0 rest goes h.2 in
-    rw (h.1.1, text_complete h.1.0 (codes "convert") h.0, body) refl
+keyword_form_sound : Sound SpellsKeyword keyword_form
+unfolding keyword_form behind
+keyword_form_sound all rest x e =
+    let w = bind_some (text all) (λ word. behind word.0 word.1) (x, rest) e in
+    keyword_chosen (codes "type") SpellsTypeDefinition type_definition type_def _ type_definition_sound w.1 (λ y h. h)
+    (keyword_chosen (codes "decl") SpellsDeclaration declaration decl _ declaration_sound w.1 (λ y h. h)
+    (keyword_chosen (codes "attr") SpellsAttribute attribute attr _ attribute_sound w.1 (λ y h. h)
+    (keyword_chosen (codes "model") SpellsModel model_definition model _ model_definition_sound w.1 (λ y h. h)
+    (keyword_chosen (codes "form") SpellsForm form_definition form _ form_definition_sound w.1 (λ y h. h)
+    (keyword_chosen (codes "instantiate") SpellsInstantiation instantiation_of_term instantiation _ instantiation_sound w.1 (λ y h. h)
+    (keyword_chosen (codes "extern") SpellsExtern extern_definition external _ extern_sound w.1 (λ y h. h)
+    (keyword_chosen (codes "convert") SpellsConversion conversion converter _ conversion_sound w.1 (λ y h. h)
+    (λ h. absurd (nothing h))))))))) w.2
 
-form_shorter : (x : Definition) (all rest : List Placed) → SpellsForm x all rest → length rest ≤ length all
-form_shorter (decl d) all rest h =
-    let body : length rest ≤ length h.0 = declaration_shorter d h.0 rest h.2 in
-    let word : length all ≡ suc (length h.0) = rw h.1.1 refl in
-    omega arith
-form_shorter (converter c) all rest h =
-    let body : length rest ≤ length h.0 = conversion_shorter c h.0 rest h.2 in
-    let word : length all ≡ suc (length h.0) = rw h.1.1 refl in
-    omega arith
+keyword_form_complete : CompleteClosed SpellsKeyword keyword_form
+unfolding keyword_form behind
+keyword_form_complete (type_def x) all rest closed h = rw (word_read h.1, type_definition_complete x h.0 rest h.2) refl
+keyword_form_complete (decl x) all rest closed h = rw (word_read h.1, declaration_complete x h.0 rest (stopping_closes.goes rest closed) h.2) refl
+keyword_form_complete (attr x) all rest closed h = rw (word_read h.1, attribute_complete x h.0 rest closed h.2) refl
+keyword_form_complete (model x) all rest closed h = rw (word_read h.1, model_definition_complete x h.0 rest closed h.2) refl
+keyword_form_complete (form x) all rest closed h = rw (word_read h.1, form_definition_complete x h.0 rest closed h.2) refl
+keyword_form_complete (instantiation x) all rest closed h = rw (word_read h.1, instantiation_complete x h.0 rest closed h.2) refl
+keyword_form_complete (external x) all rest closed h = rw (word_read h.1, extern_complete x h.0 rest h.2) refl
+keyword_form_complete (converter x) all rest closed h = rw (word_read h.1, conversion_complete x h.0 rest (stopping_closes.goes rest closed) h.2) refl
 
-to_form : (x : Definition) (all rest : List Placed) → SpellsDefinition x all rest → InParentheses (SpellsForm x) all rest
-to_form (decl d) all rest h = h
-to_form (converter c) all rest h = h
+keyword_form_shorter : (x : Definition) (all rest : List Placed) → SpellsKeyword x all rest → length rest ≤ length all
+keyword_form_shorter (type_def x) all rest h = omega (arith, word_shorter (codes "type") all h.0 h.1, type_definition_shorter x h.0 rest h.2)
+keyword_form_shorter (decl x) all rest h = omega (arith, word_shorter (codes "decl") all h.0 h.1, declaration_shorter x h.0 rest h.2)
+keyword_form_shorter (attr x) all rest h = omega (arith, word_shorter (codes "attr") all h.0 h.1, attribute_shorter x h.0 rest h.2)
+keyword_form_shorter (model x) all rest h = omega (arith, word_shorter (codes "model") all h.0 h.1, model_definition_shorter x h.0 rest h.2)
+keyword_form_shorter (form x) all rest h = omega (arith, word_shorter (codes "form") all h.0 h.1, form_definition_shorter x h.0 rest h.2)
+keyword_form_shorter (instantiation x) all rest h = omega (arith, word_shorter (codes "instantiate") all h.0 h.1, instantiation_shorter x h.0 rest h.2)
+keyword_form_shorter (external x) all rest h = omega (arith, word_shorter (codes "extern") all h.0 h.1, extern_shorter x h.0 rest h.2)
+keyword_form_shorter (converter x) all rest h = omega (arith, word_shorter (codes "convert") all h.0 h.1, conversion_shorter x h.0 rest h.2)
 
-from_form : (x : Definition) (all rest : List Placed) → InParentheses (SpellsForm x) all rest → SpellsDefinition x all rest
-from_form (decl d) all rest h = h
-from_form (converter c) all rest h = h
+pub to_keyword : (x : Definition) (all rest : List Placed) → SpellsDefinition x all rest → InParentheses (SpellsKeyword x) all rest
+to_keyword (type_def x) all rest h = h
+to_keyword (decl x) all rest h = h
+to_keyword (attr x) all rest h = h
+to_keyword (model x) all rest h = h
+to_keyword (form x) all rest h = h
+to_keyword (instantiation x) all rest h = h
+to_keyword (external x) all rest h = h
+to_keyword (converter x) all rest h = h
+
+from_keyword : (x : Definition) (all rest : List Placed) → InParentheses (SpellsKeyword x) all rest → SpellsDefinition x all rest
+from_keyword (type_def x) all rest h = h
+from_keyword (decl x) all rest h = h
+from_keyword (attr x) all rest h = h
+from_keyword (model x) all rest h = h
+from_keyword (form x) all rest h = h
+from_keyword (instantiation x) all rest h = h
+from_keyword (external x) all rest h = h
+from_keyword (converter x) all rest h = h
 
 pub definition_sound : Sound SpellsDefinition definition
 unfolding definition
-definition_sound all rest x e = from_form x all rest (parentheses_sound SpellsForm form form_sound all rest x e)
+definition_sound all rest x e = from_keyword x all rest (parentheses_sound SpellsKeyword keyword_form keyword_form_sound all rest x e)
 
 pub definition_complete : Complete SpellsDefinition definition
 unfolding definition
-definition_complete x all rest goes h = parentheses_complete SpellsForm form x all rest (λ inner close lt closed body. form_complete x inner close (stopping_closes.goes close closed) body) (to_form x all rest h)
+definition_complete x all rest goes h = enclosed_complete SpellsKeyword keyword_form keyword_form_complete x all rest (to_keyword x all rest h)
 
 pub definition_begins : Begins SpellsDefinition
-definition_begins x all rest h = parentheses_begin (SpellsForm x) (form_shorter x) all rest (to_form x all rest h)
+definition_begins x all rest h = parentheses_begin (SpellsKeyword x) (keyword_form_shorter x) all rest (to_keyword x all rest h)
 
 pub definition_shrinks : Shrinks definition
 definition_shrinks = shrinks SpellsDefinition definition definition_sound definition_begins

@@ -3,15 +3,13 @@ use Rattle.std.proofs.Common.{◌≡◌, ℕ, Bool, true, false, List, None, ref
 use Rattle.std.specs.Prelude.{codes}
 use Rattle.std.specs.Str.{bytes_eq}
 use Rattle.std.proofs.lemmas.Slice.Eq.{bytes_eq-Decides}
-use Rattle.isle_base.specs.declared.lexer.Pos.{Pos}
 use Rattle.isle_base.specs.Place.{Placed}
 use Rattle.isle_parser.specs.declared.parser.Stop.{Stop}
-use Rattle.isle_parser.specs.declared.parser.Stop.TheVariants as stops
-use Rattle.isle_parser.specs.Answers.{IsPlace, IsRefusalAt, Source, Stops}
+use Rattle.isle_parser.specs.Answers.{IsRefusal, Source, Stops}
 use Rattle.isle_parser.specs.ReadDefinitions.{behind}
-use Rattle.isle_parser.proofs.Ahead.{refusal_at}
+use Rattle.isle_parser.proofs.Ahead.{stopped}
 
-is_false : (b : Bool) → (b ≡ true → ⊥) → b ≡ false
+pub is_false : (b : Bool) → (b ≡ true → ⊥) → b ≡ false
 is_false true h = absurd (h refl)
 is_false false h = refl
 
@@ -21,11 +19,10 @@ other_bytes xs ys h = is_false (bytes_eq xs ys) (λ e. h ((bytes_eq-Decides xs y
 pub same_bytes : (xs : List ℕ) → bytes_eq xs xs ≡ true
 same_bytes xs = (bytes_eq-Decides xs xs).1 refl
 
-no_keyword : (word : List ℕ) (all : List Placed) → bytes_eq word (codes "decl") ≡ false → bytes_eq word (codes "convert") ≡ false → behind word all ≡ None
+no_keyword : (word : List ℕ) (all : List Placed) → bytes_eq word (codes "type") ≡ false → bytes_eq word (codes "decl") ≡ false → bytes_eq word (codes "attr") ≡ false → bytes_eq word (codes "model") ≡ false → bytes_eq word (codes "form") ≡ false → bytes_eq word (codes "instantiate") ≡ false → bytes_eq word (codes "extern") ≡ false → bytes_eq word (codes "convert") ≡ false → behind word all ≡ None
 unfolding behind
-no_keyword word all d c = rw (d, c) refl
+no_keyword word all a b c d f g h i = rw (a, b, c, d, f, g, h, i) refl
 
-pub keyword_refused : (word : List ℕ) (all : List Placed) (s : Source) (pos : Pos) (e : Stop) → (word ≡ codes "decl" → ⊥) → (word ≡ codes "convert" → ⊥) → IsPlace s pos → IsRefusalAt pos e → Stops (behind word all) s e
-keyword_refused word all s pos (stops.Parser e) d c p h = (no_keyword word all (other_bytes word (codes "decl") d) (other_bytes word (codes "convert") c), refusal_at s pos (stops.Parser e) p h)
-keyword_refused word all s pos (stops.Lexer e) d c p h = absurd h
-keyword_refused word all s pos stops.Memory d c p h = tt
+pub keyword_refused : (word : List ℕ) (all : List Placed) (s : Source) (e : Stop) → (word ≡ codes "type" → ⊥) → (word ≡ codes "decl" → ⊥) → (word ≡ codes "attr" → ⊥) → (word ≡ codes "model" → ⊥) → (word ≡ codes "form" → ⊥) → (word ≡ codes "instantiate" → ⊥) → (word ≡ codes "extern" → ⊥) → (word ≡ codes "convert" → ⊥) → IsRefusal s e → Stops (behind word all) s e
+keyword_refused word all s e a b c d f g h i refused =
+    stopped (behind word all) s e (no_keyword word all (other_bytes word (codes "type") a) (other_bytes word (codes "decl") b) (other_bytes word (codes "attr") c) (other_bytes word (codes "model") d) (other_bytes word (codes "form") f) (other_bytes word (codes "instantiate") g) (other_bytes word (codes "extern") h) (other_bytes word (codes "convert") i)) refused

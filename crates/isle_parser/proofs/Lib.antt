@@ -4,6 +4,15 @@ pub mod Loops
 pub mod Names
 pub mod Keywords
 pub mod Flags
+pub mod Choices
+pub mod ReadsModels
+pub mod ReadsForms
+pub mod ReadsTerms
+pub mod Rows
+pub mod Constants
+pub mod Lengths
+pub mod ModelWords
+pub mod ReadsTypes
 pub mod Definitions
 pub mod Whole
 pub mod Positions

@@ -42,3 +42,17 @@ loop_end {A} read stop shrinks front all total here so_far =
 pub loop_begin : {A : Type 0} (read : Option (List A × List Placed)) → behind_front [] read ≡ read
 loop_begin None = refl
 loop_begin (Some x) = refl
+
+-- a node made of a row
+abbrev pub made : {A B : Type 0} → (List A → B) → Option (List A × List Placed) → Option (B × List Placed)
+made make read = read >>= λ xs. Some (make xs.0, xs.1)
+
+-- a node made of a row that isn't read isn't read
+pub made_stops : {A B : Type 0} (make : List A → B) (read : Option (List A × List Placed)) (s : Source) (e : Stop) → Stops read s e → Stops (made make read) s e
+made_stops make read s (stops.Parser e) h = (rw h.0 refl, h.1)
+made_stops make read s (stops.Lexer e) h = h
+made_stops make read s stops.Memory h = tt
+
+-- a node made of a row that is read
+pub made_end : {A B : Type 0} (make : List A → B) (read : Option (List A × List Placed)) (xs : List A) (rest : List Placed) → read ≡ Some (xs, rest) → made make read ≡ Some (make xs, rest)
+made_end make read xs rest e = rw e refl

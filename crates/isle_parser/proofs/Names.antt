@@ -3,7 +3,7 @@ use Rattle.std.proofs.Common.{◌≡◌, ℕ, cond, List, [], ◌∷◌, length,
 use Rattle.isle_base.specs.declared.lexer.Pos.{Pos}
 use Rattle.isle_base.specs.Place.{Placed}
 use Rattle.isle_base.specs.Token.{Tok, lparen, rparen, symbol, integer, at_sign, is_symbol}
-use Rattle.isle_ast.specs.Grammar.{SpellsName, SpellsAll, InParentheses}
+use Rattle.isle_ast.specs.Words.{SpellsName, SpellsAll, InParentheses}
 use Rattle.isle_ast.specs.Identifier.{is_identifier}
 use Rattle.isle_ast.specs.Tree.{Name}
 use Rattle.isle_parser.specs.Reading.{◌>>=◌, closes, pos_ahead, expect, text, text_of, many}
@@ -48,11 +48,15 @@ name_sound all rest n e =
     let spelt : SpellsName made all a.0.1 = (c.0, text_sound all a.0.1 a.0.0 a.1) in
     moved SpellsName made n all a.0.1 rest is spelt
 
-pub name_complete : Complete SpellsName name
+-- whatever follows
+pub name_read : (n : Name) (all rest : List Placed) → SpellsName n all rest → name all ≡ Some (n, rest)
 unfolding name
-name_complete n all rest goes h =
+name_read n all rest h =
     let here : name (record { pos = n.pos; token = symbol n.text } ∷ rest) ≡ Some (n, rest) = rw (text_complete n.pos n.text rest, h.0) refl in
     rw h.1 here
+
+pub name_complete : Complete SpellsName name
+name_complete n all rest goes h = name_read n all rest h
 
 pub name_begins : Begins SpellsName
 name_begins n all rest h = (rw h.1 refl, rw h.1 (omega arith))

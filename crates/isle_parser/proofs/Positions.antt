@@ -1,5 +1,5 @@
 -- Each position in a tree that is spelt is that of a token behind the first.
-use Rattle.std.proofs.Common.{◌≡◌, ◌⊎◌, inl, inr, ℕ, List, [], ◌∷◌, Result, Ok, Err, refl, Bool, true, false, ap, arith, ◌≤◌}
+use Rattle.std.proofs.Common.{◌≡◌, ◌⊎◌, inl, inr, ℕ, List, [], ◌∷◌, Result, Ok, Err, refl, Bool, true, false, Option, None, Some, ap, arith, ◌+◌, ◌≤◌, ◌<◌}
 use Rattle.std.specs.Global.{Vec}
 use Rattle.std.specs.Prelude.{codes, IfOk}
 use Rattle.std.specs.List.{AllByRecursion}
@@ -9,102 +9,275 @@ use Rattle.isle_base.specs.Place.{Placed, in_file, placed, unknown}
 use Rattle.isle_base.specs.Steps.{Rises}
 use Rattle.isle_base.specs.Token.{Tok, Lexeme, Feed}
 use Rattle.isle_ast.specs.declared.ast.Def.{Def}
-use Rattle.isle_ast.specs.Grammar.{BeginsAt, InParentheses, SpellsAll, SpellsConversion, SpellsDeclaration, SpellsDefinition, SpellsFlag, SpellsName, SpellsToken}
+use Rattle.isle_ast.specs.Grammar.{SpellsDefinition}
+use Rattle.isle_ast.specs.ModelGrammar.{SpellsTypeModel, SpellsModelFields, SpellsSignature, SpellsForm, SpellsTag, SpellsInstances, SpellsInstantiation, SpellsModelContent, SpellsModel}
+use Rattle.isle_ast.specs.Numbers.{SpellsNumber}
 use Rattle.isle_ast.specs.Spelt.{Spells}
-use Rattle.isle_ast.specs.Tree.{Name, Declaration, Definition, decl, converter}
+use Rattle.isle_ast.specs.Tree.{Name, TypeModel, unspecified_model, auto_model, int_model, bool_model, unit_model, bit_vector_model, struct_model, named_model, ModelFieldRow, no_model_field, model_field, unit_fields, struct_fields, tuple_fields, EnumVariant, primitive_type, enum_type, struct_type, term_target, rule_target, chain_kind, priority_kind, tag_kind, TermSignature, type_model, extern_extractor, extern_constructor, extern_const, Definition, type_def, decl, attr, model, form, instantiation, external, converter}
+use Rattle.isle_ast.specs.TermGrammar.{SpellsDeclaration, SpellsConversion, SpellsAttributeKind, SpellsAttributeTarget, SpellsAttribute, SpellsConstant, SpellsExtern}
 use Rattle.isle_ast.specs.TreeView.{definitions_of}
+use Rattle.isle_ast.specs.TypeGrammar.{SpellsNamedField, SpellsIndexedFields, SpellsFields, SpellsVariant, SpellsTypeContent, SpellsTypeDefinition}
+use Rattle.isle_ast.specs.Words.{SpellsToken, SpellsWord, SpellsFlag, BeginsAt, SpellsAll, InParentheses, BehindWord, SpellsName, SpellsOptional}
 use Rattle.isle_parser.specs.Parsed.{Parses}
-use Rattle.isle_parser.specs.Positions.{BeginsToken, EachPosition, HasKnownPositions, HasPositions, behind_first}
+use Rattle.isle_parser.specs.Positions.{OfName, OfNames, OfModel, OfModelFields, OfNamedField, OfIndexedField, OfFields, OfVariant, OfTypeContent, OfTarget, OfKind, OfSignature, OfForm, OfModelContent, OfExtern, BeginsToken, EachPosition, HasKnownPositions, HasPositions, behind_first}
+use Rattle.isle_parser.proofs.Definitions.{SpellsKeyword, to_keyword}
 use Rattle.isle_parser.proofs.Readers.{Spelling}
 
 abbrev pub Among : List Placed → Pos → Type 0
 Among [] pos = ⊥
 Among (x ∷ xs) pos = (pos ≡ x.pos) ⊎ Among xs pos
 
--- what stands behind a spelling stands in the whole
-abbrev Keeps : {A : Type 0} → Spelling A → Type 0
-Keeps {A} R = (x : A) (all rest : List Placed) → R x all rest → (pos : Pos) → Among rest pos → Among all pos
+-- all of the positions of these tokens are such
+abbrev pub Into : List Placed → (Pos → Type 0) → Type 0
+Into all P = (pos : Pos) → Among all pos → P pos
 
--- each position of a node is that of a token of its spelling
-abbrev Stands : {A : Type 0} → Spelling A → ((Pos → Type 0) → A → Type 0) → Type 1
-Stands {A} R Each = (x : A) (all rest : List Placed) → R x all rest → (P : Pos → Type 0) → ((pos : Pos) → Among all pos → P pos) → Each P x
+-- Where the positions of all tokens are such, those of a node are, and so are those of the tokens behind it.
+abbrev pub Stands : {A : Type 0} → Spelling A → ((Pos → Type 0) → A → Type 0) → Type 1
+Stands {A} R Each = (x : A) (all rest : List Placed) → R x all rest → (P : Pos → Type 0) → Into all P → Each P x × Into rest P
 
-token_keeps : (token : Tok) (all rest : List Placed) → SpellsToken token all rest → (pos : Pos) → Among rest pos → Among all pos
-token_keeps token all rest h pos a = rw h.1 (inr a)
+token_stands : {token : Tok} {all rest : List Placed} → SpellsToken token all rest → (P : Pos → Type 0) → Into all P → Into rest P
+token_stands h P into pos a = into pos (rw h.1 (inr a))
 
-begins_among : (pos : Pos) (all : List Placed) → BeginsAt pos all → Among all pos
-begins_among pos all h = rw h.2 (inl refl)
+begins_stands : {pos : Pos} {all : List Placed} → BeginsAt pos all → (P : Pos → Type 0) → Into all P → P pos
+begins_stands {pos = pos} h P into = into pos (rw h.2 (inl refl))
 
--- ---- names
+same_stands : {all rest : List Placed} → all ≡ rest → (P : Pos → Type 0) → Into all P → Into rest P
+same_stands h P into pos a = into pos (rw h a)
 
-name_keeps : Keeps SpellsName
-name_keeps n all rest h pos a = rw h.1 (inr a)
-
-abbrev OfName : (Pos → Type 0) → Name → Type 0
-OfName P n = P n.pos
+flag_stands : (word : List ℕ) (b : Bool) (all rest : List Placed) → SpellsFlag word b all rest → (P : Pos → Type 0) → Into all P → Into rest P
+flag_stands word true all rest h P into = token_stands h P into
+flag_stands word false all rest h P into = same_stands h P into
 
 name_stands : Stands SpellsName OfName
-name_stands n all rest h P into = into n.pos (rw h.1 (inl refl))
+name_stands n all rest h P into = (into n.pos (rw h.1 (inl refl)), λ pos a. into pos (rw h.1 (inr a)))
 
--- ---- rows and parentheses
+row_stands : {A : Type 0} (R : Spelling A) (Each : (Pos → Type 0) → A → Type 0) → Stands R Each → Stands (SpellsAll R) (λ P xs. AllByRecursion (Each P) xs)
+row_stands R Each stands [] all rest h P into = (tt, same_stands h P into)
+row_stands R Each stands (x ∷ xs) all rest h P into =
+    let one = stands x all h.0 h.1 P into in
+    let others = row_stands R Each stands xs h.0 rest h.2 P one.1 in
+    ((one.0, others.0), others.1)
 
-row_keeps : {A : Type 0} (R : Spelling A) → Keeps R → Keeps (SpellsAll R)
-row_keeps R keeps [] all rest h pos a = rw h a
-row_keeps R keeps (x ∷ xs) all rest h pos a = keeps x all h.0 h.1 pos (row_keeps R keeps xs h.0 rest h.2 pos a)
+enclosed_stands : {A : Type 0} (R : Spelling A) (Each : (Pos → Type 0) → A → Type 0) → Stands R Each → Stands (λ x. InParentheses (R x)) Each
+enclosed_stands R Each stands x all rest h P into =
+    let inner = stands x h.0 h.1 h.3 P (token_stands h.2 P into) in
+    (inner.0, token_stands h.4 P inner.1)
 
-row_stands : {A : Type 0} (R : Spelling A) (Each : (Pos → Type 0) → A → Type 0) → Keeps R → Stands R Each → Stands (SpellsAll R) (λ P xs. AllByRecursion (Each P) xs)
-row_stands R Each keeps stands [] all rest h P into = tt
-row_stands R Each keeps stands (x ∷ xs) all rest h P into = (stands x all h.0 h.1 P into, row_stands R Each keeps stands xs h.0 rest h.2 P (λ pos a. into pos (keeps x all h.0 h.1 pos a)))
+behind_stands : {A : Type 0} (word : List ℕ) (R : Spelling A) (Each : (Pos → Type 0) → A → Type 0) → Stands R Each → Stands (λ x. BehindWord word (R x)) Each
+behind_stands word R Each stands x all rest h P into = stands x h.0 rest h.2 P (token_stands h.1 P into)
 
-parentheses_keep : (R : List Placed → List Placed → Type 0) → ((all rest : List Placed) → R all rest → (pos : Pos) → Among rest pos → Among all pos) → (all rest : List Placed) → InParentheses R all rest → (pos : Pos) → Among rest pos → Among all pos
-parentheses_keep R keeps all rest h pos a = token_keeps _ all h.0 h.2 pos (keeps h.0 h.1 h.3 pos (token_keeps _ h.1 rest h.4 pos a))
+tagged_stands : {A : Type 0} (word : List ℕ) (R : Spelling A) (Each : (Pos → Type 0) → A → Type 0) → Stands R Each → Stands (λ x. InParentheses (BehindWord word (R x))) Each
+tagged_stands word R Each stands = enclosed_stands (λ x. BehindWord word (R x)) Each (behind_stands word R Each stands)
 
-names_keep : (ns : List Name) (all rest : List Placed) → InParentheses (SpellsAll SpellsName ns) all rest → (pos : Pos) → Among rest pos → Among all pos
-names_keep ns = parentheses_keep (SpellsAll SpellsName ns) (row_keeps SpellsName name_keeps ns)
+-- two names
+abbrev Pair : (first second : Name) → List Placed → List Placed → Type 0
+Pair first second all rest = (mid : List Placed) × SpellsName first all mid × SpellsName second mid rest
 
--- ---- definitions
+pair_stands : (first second : Name) (all rest : List Placed) → Pair first second all rest → (P : Pos → Type 0) → Into all P → P first.pos × P second.pos × Into rest P
+pair_stands first second all rest h P into =
+    let a = name_stands first all h.0 h.1 P into in
+    let b = name_stands second h.0 rest h.2 P a.1 in
+    (a.0, b.0, b.1)
 
-flag_keeps : (word : List ℕ) (b : Bool) (all rest : List Placed) → SpellsFlag word b all rest → (pos : Pos) → Among rest pos → Among all pos
-flag_keeps word true all rest h pos a = token_keeps _ all rest h pos a
-flag_keeps word false all rest h pos a = rw h a
+-- ---- types
 
--- the flags stand before the term
-front_keeps : (d : Declaration) (all rest : List Placed) (h : SpellsDeclaration d all rest) (pos : Pos) → Among h.behind_rec pos → Among all pos
-front_keeps d all rest h pos a =
-    flag_keeps (codes "pure") d.pure all h.behind_pure h.pure pos
-    (flag_keeps (codes "multi") d.multi h.behind_pure h.behind_multi h.multi pos
-    (flag_keeps (codes "partial") d.partial h.behind_multi h.behind_partial h.partial pos
-    (flag_keeps (codes "rec") d.rec h.behind_partial h.behind_rec h.rec pos a)))
+named_field_stands : Stands SpellsNamedField OfNamedField
+named_field_stands f all rest h P into =
+    let inner = pair_stands f.name f.ty h.1.0 h.1.1 h.1.3 P (token_stands h.1.2 P into) in
+    ((begins_stands h.0 P into, inner.0, inner.1), token_stands h.1.4 P inner.2)
 
-declaration_keeps : Keeps SpellsDeclaration
-declaration_keeps d all rest h pos a =
-    let args = name_keeps d.ret_ty h.behind_arg_tys rest h.ret_ty pos a in
-    let term = names_keep d.arg_tys h.behind_term h.behind_arg_tys h.arg_tys pos args in
-    front_keeps d all rest h pos (name_keeps d.term h.behind_rec h.behind_term h.term pos term)
+indexed_stands : (index : ℕ) → Stands (SpellsIndexedFields index) (λ P fs. AllByRecursion (OfIndexedField P) fs)
+indexed_stands index [] all rest h P into = (tt, same_stands h P into)
+indexed_stands index (f ∷ fs) all rest h P into =
+    let one = name_stands f.ty all h.2 h.3 P into in
+    let others = indexed_stands (index + 1) fs h.2 rest h.4 P one.1 in
+    (((begins_stands h.1 P into, one.0), others.0), others.1)
+
+fields_stand : Stands SpellsFields OfFields
+fields_stand unit_fields all rest h P into = (tt, same_stands h P into)
+fields_stand (struct_fields fs pos) all rest h P into =
+    let row = row_stands SpellsNamedField OfNamedField named_field_stands fs all rest h.2 P into in
+    ((begins_stands h.1 P into, row.0), row.1)
+fields_stand (tuple_fields fs pos) all rest h P into =
+    let row = indexed_stands 0 fs all rest h.2 P into in
+    ((begins_stands h.1 P into, row.0), row.1)
+
+bare_stands : (v : EnumVariant) (all rest : List Placed) → BeginsAt v.pos all → SpellsName v.name all rest → v.fields ≡ unit_fields → (P : Pos → Type 0) → Into all P → OfVariant P v × Into rest P
+bare_stands v all rest p h e P into =
+    let n = name_stands v.name all rest h P into in
+    let none : OfFields P v.fields = rw e tt in
+    ((begins_stands p P into, n.0, none), n.1)
+
+full_stands : (v : EnumVariant) (all rest : List Placed) → BeginsAt v.pos all → InParentheses (λ inner close. (mid : List Placed) × SpellsName v.name inner mid × SpellsFields v.fields mid close) all rest → (P : Pos → Type 0) → Into all P → OfVariant P v × Into rest P
+full_stands v all rest p h P into =
+    let n = name_stands v.name h.0 h.3.0 h.3.1 P (token_stands h.2 P into) in
+    let fs = fields_stand v.fields h.3.0 h.1 h.3.2 P n.1 in
+    ((begins_stands p P into, n.0, fs.0), token_stands h.4 P fs.1)
+
+variant_stands : Stands SpellsVariant OfVariant
+variant_stands v all rest h P into =
+    elim h.1 [
+      | inl g ↦ bare_stands v all rest h.0 g.0 g.1 P into
+      | inr g ↦ full_stands v all rest h.0 g P into
+    ]
+
+type_content_stands : Stands SpellsTypeContent OfTypeContent
+type_content_stands (primitive_type n pos) all rest h P into =
+    let inner = tagged_stands (codes "primitive") SpellsName OfName name_stands n all rest h.1 P into in
+    ((begins_stands h.0 P into, inner.0), inner.1)
+type_content_stands (enum_type vs pos) all rest h P into =
+    let inner = tagged_stands (codes "enum") (SpellsAll SpellsVariant) (λ P vs. AllByRecursion (OfVariant P) vs) (row_stands SpellsVariant OfVariant variant_stands) vs all rest h.1 P into in
+    ((begins_stands h.0 P into, inner.0), inner.1)
+type_content_stands (struct_type fs pos) all rest h P into =
+    let inner = tagged_stands (codes "struct") SpellsFields OfFields fields_stand fs all rest h.1 P into in
+    ((begins_stands h.0 P into, inner.0), inner.1)
+
+words_stand : (words : List (List ℕ)) (all rest : List Placed) → SpellsAll SpellsWord words all rest → (P : Pos → Type 0) → Into all P → Into rest P
+words_stand [] all rest h P into = same_stands h P into
+words_stand (w ∷ ws) all rest h P into = words_stand ws h.0 rest h.2 P (token_stands h.1 P into)
+
+type_stands : Stands SpellsTypeDefinition (λ P t. EachPosition P (type_def t))
+type_stands t all rest h P into =
+    let n = name_stands t.name all h.behind_name h.name P into in
+    let words = words_stand h.modifiers.words h.behind_name h.behind_modifiers h.modifiers.spelt P n.1 in
+    let c = type_content_stands t.ty h.behind_modifiers rest h.ty P words in
+    ((begins_stands h.position P into, n.0, c.0), c.1)
+
+-- ---- terms
 
 declaration_stands : Stands SpellsDeclaration (λ P d. EachPosition P (decl d))
 declaration_stands d all rest h P into =
-    let from_term : (pos : Pos) → Among h.behind_rec pos → P pos = λ pos a. into pos (front_keeps d all rest h pos a) in
-    let from_args : (pos : Pos) → Among h.behind_term pos → P pos = λ pos a. from_term pos (name_keeps d.term h.behind_rec h.behind_term h.term pos a) in
-    let from_ret : (pos : Pos) → Among h.behind_arg_tys pos → P pos = λ pos a. from_args pos (names_keep d.arg_tys h.behind_term h.behind_arg_tys h.arg_tys pos a) in (
-      into d.pos (begins_among d.pos all h.position),
-      name_stands d.term h.behind_rec h.behind_term h.term P from_term,
-      row_stands SpellsName OfName name_keeps name_stands d.arg_tys h.arg_tys.0 h.arg_tys.1 h.arg_tys.3 P (λ pos a. from_args pos (token_keeps _ h.behind_term h.arg_tys.0 h.arg_tys.2 pos a)),
-      name_stands d.ret_ty h.behind_arg_tys rest h.ret_ty P from_ret,
-    )
-
-conversion_keeps : Keeps SpellsConversion
-conversion_keeps c all rest h pos a = name_keeps c.inner_ty all h.behind_inner h.inner_ty pos (name_keeps c.outer_ty h.behind_inner h.behind_outer h.outer_ty pos (name_keeps c.term h.behind_outer rest h.term pos a))
+    let u = flag_stands (codes "pure") d.pure all h.behind_pure h.pure P into in
+    let m = flag_stands (codes "multi") d.multi h.behind_pure h.behind_multi h.multi P u in
+    let p = flag_stands (codes "partial") d.partial h.behind_multi h.behind_partial h.partial P m in
+    let r = flag_stands (codes "rec") d.rec h.behind_partial h.behind_rec h.rec P p in
+    let t = name_stands d.term h.behind_rec h.behind_term h.term P r in
+    let a = enclosed_stands (SpellsAll SpellsName) OfNames (row_stands SpellsName OfName name_stands) d.arg_tys h.behind_term h.behind_arg_tys h.arg_tys P t.1 in
+    let v = name_stands d.ret_ty h.behind_arg_tys rest h.ret_ty P a.1 in
+    ((begins_stands h.position P into, t.0, a.0, v.0), v.1)
 
 conversion_stands : Stands SpellsConversion (λ P c. EachPosition P (converter c))
 conversion_stands c all rest h P into =
-    let from_outer : (pos : Pos) → Among h.behind_inner pos → P pos = λ pos a. into pos (name_keeps c.inner_ty all h.behind_inner h.inner_ty pos a) in
-    let from_term : (pos : Pos) → Among h.behind_outer pos → P pos = λ pos a. from_outer pos (name_keeps c.outer_ty h.behind_inner h.behind_outer h.outer_ty pos a) in (
-      into c.pos (begins_among c.pos all h.position),
-      name_stands c.inner_ty all h.behind_inner h.inner_ty P into,
-      name_stands c.outer_ty h.behind_inner h.behind_outer h.outer_ty P from_outer,
-      name_stands c.term h.behind_outer rest h.term P from_term,
-    )
+    let a = name_stands c.inner_ty all h.behind_inner h.inner_ty P into in
+    let b = name_stands c.outer_ty h.behind_inner h.behind_outer h.outer_ty P a.1 in
+    let t = name_stands c.term h.behind_outer rest h.term P b.1 in
+    ((begins_stands h.position P into, a.0, b.0, t.0), t.1)
+
+kind_stands : Stands SpellsAttributeKind OfKind
+kind_stands chain_kind all rest h P into = (tt, token_stands h.4 P (token_stands h.3.2 P (token_stands h.3.1 P (token_stands h.2 P into))))
+kind_stands priority_kind all rest h P into = (tt, token_stands h.4 P (token_stands h.3.2 P (token_stands h.3.1 P (token_stands h.2 P into))))
+kind_stands (tag_kind n) all rest h P into = tagged_stands (codes "tag") SpellsName OfName name_stands n all rest h P into
+
+target_stands : Stands SpellsAttributeTarget OfTarget
+target_stands (term_target n) all rest h P into = name_stands n all rest h.1 P into
+target_stands (rule_target n) all rest h P into = behind_stands (codes "rule") SpellsName OfName name_stands n all rest h P into
+
+attribute_stands : Stands SpellsAttribute (λ P a. EachPosition P (attr a))
+attribute_stands a all rest h P into =
+    let t = target_stands a.target all h.behind_target h.target P into in
+    let ks = row_stands SpellsAttributeKind OfKind kind_stands a.kinds h.behind_target rest h.kinds P t.1 in
+    ((begins_stands h.position P into, t.0, ks.0), ks.1)
+
+constant_stands : Stands SpellsConstant OfName
+constant_stands n all rest h P into = (into n.pos (rw h.1 (inl refl)), λ pos a. into pos (rw h.1 (inr a)))
+
+extern_stands : Stands SpellsExtern OfExtern
+extern_stands (extern_extractor term func pos b) all rest h P into =
+    let w = h.2 in
+    let body = w.2 in
+    let i = flag_stands (codes "infallible") b w.0 body.0 body.1 P (token_stands w.1 P into) in
+    let pair = pair_stands term func body.0 rest body.2 P i in
+    ((begins_stands h.1 P into, pair.0, pair.1), pair.2)
+extern_stands (extern_constructor term func pos) all rest h P into =
+    let w = h.1 in
+    let pair = pair_stands term func w.0 rest w.2 P (token_stands w.1 P into) in
+    ((begins_stands h.0 P into, pair.0, pair.1), pair.2)
+extern_stands (extern_const n ty pos) all rest h P into =
+    let w = h.1 in
+    let body = w.2 in
+    let c = constant_stands n w.0 body.0 body.1 P (token_stands w.1 P into) in
+    let t = name_stands ty body.0 rest body.2 P c.1 in
+    let place : P pos = rw h.0 c.0 in
+    ((place, c.0, t.0), t.1)
+
+-- ---- models
+
+width_stands : (w : Option ℕ) (all rest : List Placed) → SpellsOptional SpellsNumber w all rest → (P : Pos → Type 0) → Into all P → Into rest P
+width_stands None all rest h P into = same_stands h P into
+width_stands (Some n) all rest h P into = token_stands h.1 P into
+
+mutual
+  type_model_stands : (m : TypeModel) (all rest : List Placed) → SpellsTypeModel m all rest → (P : Pos → Type 0) → Into all P → OfModel P m × Into rest P
+  type_model_stands unspecified_model all rest h P into = (tt, token_stands h P into)
+  type_model_stands auto_model all rest h P into = (tt, token_stands h P into)
+  type_model_stands int_model all rest h P into = (tt, token_stands h P into)
+  type_model_stands bool_model all rest h P into = (tt, token_stands h P into)
+  type_model_stands unit_model all rest h P into = (tt, token_stands h P into)
+  type_model_stands (bit_vector_model w) all rest h P into =
+      (tt, token_stands h.4 P (width_stands w h.3.0 h.1 h.3.2 P (token_stands h.3.1 P (token_stands h.2 P into))))
+  type_model_stands (struct_model fs) all rest h P into =
+      let inner = model_fields_stand fs h.3.0 h.1 h.3.2 P (token_stands h.3.1 P (token_stands h.2 P into)) in
+      (inner.0, token_stands h.4 P inner.1)
+  type_model_stands (named_model n) all rest h P into = tagged_stands (codes "named") SpellsName OfName name_stands n all rest h P into
+
+  model_fields_stand : (fs : ModelFieldRow) (all rest : List Placed) → SpellsModelFields fs all rest → (P : Pos → Type 0) → Into all P → OfModelFields P fs × Into rest P
+  model_fields_stand no_model_field all rest h P into = (tt, same_stands h P into)
+  model_fields_stand (model_field n ty fs) all rest h P into =
+      let one = h.1 in
+      let name = name_stands n one.0 one.3.0 one.3.1 P (token_stands one.2 P into) in
+      let model = type_model_stands ty one.3.0 one.1 one.3.2 P name.1 in
+      let others = model_fields_stand fs h.0 rest h.2 P (token_stands one.4 P model.1) in
+      ((name.0, model.0, others.0), others.1)
+
+models_stand : Stands (SpellsAll SpellsTypeModel) (λ P ms. AllByRecursion (OfModel P) ms)
+models_stand = row_stands SpellsTypeModel OfModel type_model_stands
+
+signature_stands : Stands SpellsSignature OfSignature
+signature_stands s all rest h P into =
+    let opened = token_stands h.2 P into in
+    let args = tagged_stands (codes "args") (SpellsAll SpellsTypeModel) (λ P ms. AllByRecursion (OfModel P) ms) models_stand s.args h.0 h.3.1 h.3.2 P opened in
+    let ret = tagged_stands (codes "ret") SpellsTypeModel OfModel type_model_stands s.ret h.3.1 h.1 h.3.3 P args.1 in
+    ((begins_stands h.3.0 P opened, args.0, ret.0), token_stands h.4 P ret.1)
+
+signatures_stand : Stands (SpellsAll SpellsSignature) (λ P gs. AllByRecursion (OfSignature P) gs)
+signatures_stand = row_stands SpellsSignature OfSignature signature_stands
+
+form_stands : Stands SpellsForm (λ P f. EachPosition P (form f))
+form_stands f all rest h P into =
+    let n = name_stands f.name all h.behind_name h.name P into in
+    let gs = signatures_stand f.signatures h.behind_name rest h.signatures P n.1 in
+    ((begins_stands h.position P into, n.0, gs.0), gs.1)
+
+tag_stands : Stands SpellsTag OfName
+tag_stands n all rest h P into = tagged_stands (codes "tag") SpellsName OfName name_stands n all rest h P into
+
+instances_stand : (f : Option Name) (gs : List TermSignature) (ts : List Name) (all rest : List Placed) → SpellsInstances f gs ts all rest → (P : Pos → Type 0) → Into all P → OfForm P f × AllByRecursion (OfSignature P) gs × OfNames P ts × Into rest P
+instances_stand None gs ts all rest h P into =
+    let row = signatures_stand gs all rest h.2 P into in
+    let none : OfNames P ts = rw h.1 tt in
+    (tt, row.0, none, row.1)
+instances_stand (Some f) gs ts all rest h P into =
+    let n = name_stands f all h.1 h.2 P into in
+    let row = row_stands SpellsTag OfName tag_stands ts h.1 rest h.3 P n.1 in
+    let none : AllByRecursion (OfSignature P) gs = rw h.0 tt in
+    (n.0, none, row.0, row.1)
+
+instantiation_stands : Stands SpellsInstantiation (λ P i. EachPosition P (instantiation i))
+instantiation_stands i all rest h P into =
+    let t = name_stands i.term all h.behind_term h.term P into in
+    let x = instances_stand i.form i.signatures i.tags h.behind_term rest h.instances P t.1 in
+    ((begins_stands h.position P into, t.0, x.0, x.1, x.2), x.3)
+
+model_content_stands : Stands SpellsModelContent OfModelContent
+model_content_stands (type_model ty) all rest h P into = tagged_stands (codes "type") SpellsTypeModel OfModel type_model_stands ty all rest h P into
+
+model_stands : Stands SpellsModel (λ P m. EachPosition P (model m))
+model_stands m all rest h P into =
+    let n = name_stands m.name all h.behind_name h.name P into in
+    let c = model_content_stands m.val h.behind_name rest h.val P n.1 in
+    ((n.0, c.0), c.1)
+
+-- ---- definitions
 
 -- those behind the first
 abbrev behind : List Placed → List Placed
@@ -118,20 +291,28 @@ behind_among (x ∷ xs) pos a = inr a
 opened_behind : (token : Tok) (all inner : List Placed) → SpellsToken token all inner → (pos : Pos) → Among inner pos → Among (behind all) pos
 opened_behind token all inner h pos a = rw h.1 a
 
--- what stands behind a definition stands behind its first token
-definition_behind : (x : Definition) (all rest : List Placed) → SpellsDefinition x all rest → (pos : Pos) → Among rest pos → Among (behind all) pos
-definition_behind (decl d) all rest h pos a =
-    opened_behind _ all h.0 h.2 pos (token_keeps _ h.0 h.3.0 h.3.1 pos (declaration_keeps d h.3.0 h.1 h.3.2 pos (token_keeps _ h.1 rest h.4 pos a)))
-definition_behind (converter c) all rest h pos a = opened_behind _ all h.0 h.2 pos (token_keeps _ h.0 h.3.0 h.3.1 pos (conversion_keeps c h.3.0 h.1 h.3.2 pos (token_keeps _ h.1 rest h.4 pos a)))
+keyword_stands : Stands SpellsKeyword EachPosition
+keyword_stands (type_def x) = behind_stands (codes "type") SpellsTypeDefinition (λ P x. EachPosition P (type_def x)) type_stands x
+keyword_stands (decl x) = behind_stands (codes "decl") SpellsDeclaration (λ P x. EachPosition P (decl x)) declaration_stands x
+keyword_stands (attr x) = behind_stands (codes "attr") SpellsAttribute (λ P x. EachPosition P (attr x)) attribute_stands x
+keyword_stands (model x) = behind_stands (codes "model") SpellsModel (λ P x. EachPosition P (model x)) model_stands x
+keyword_stands (form x) = behind_stands (codes "form") SpellsForm (λ P x. EachPosition P (form x)) form_stands x
+keyword_stands (instantiation x) = behind_stands (codes "instantiate") SpellsInstantiation (λ P x. EachPosition P (instantiation x)) instantiation_stands x
+keyword_stands (external x) = behind_stands (codes "extern") SpellsExtern OfExtern extern_stands x
+keyword_stands (converter x) = behind_stands (codes "convert") SpellsConversion (λ P x. EachPosition P (converter x)) conversion_stands x
 
-definition_stands : (x : Definition) (all rest : List Placed) → SpellsDefinition x all rest → (P : Pos → Type 0) → ((pos : Pos) → Among (behind all) pos → P pos) → EachPosition P x
-definition_stands (decl d) all rest h P into = declaration_stands d h.3.0 h.1 h.3.2 P (λ pos a. into pos (opened_behind _ all h.0 h.2 pos (token_keeps _ h.0 h.3.0 h.3.1 pos a)))
-definition_stands (converter c) all rest h P into = conversion_stands c h.3.0 h.1 h.3.2 P (λ pos a. into pos (opened_behind _ all h.0 h.2 pos (token_keeps _ h.0 h.3.0 h.3.1 pos a)))
+-- the positions of a definition are those of the tokens behind its first one
+definition_stands : (x : Definition) (all rest : List Placed) → SpellsDefinition x all rest → (P : Pos → Type 0) → Into (behind all) P → EachPosition P x × Into rest P
+definition_stands x all rest h P into =
+    let whole = to_keyword x all rest h in
+    let inner = keyword_stands x whole.0 whole.1 whole.3 P (λ pos a. into pos (opened_behind _ all whole.0 whole.2 pos a)) in
+    (inner.0, token_stands whole.4 P inner.1)
 
-definitions_stand : (ds : List Definition) (all rest : List Placed) → SpellsAll SpellsDefinition ds all rest → (P : Pos → Type 0) → ((pos : Pos) → Among (behind all) pos → P pos) → AllByRecursion (EachPosition P) ds
+definitions_stand : (ds : List Definition) (all rest : List Placed) → SpellsAll SpellsDefinition ds all rest → (P : Pos → Type 0) → Into (behind all) P → AllByRecursion (EachPosition P) ds
 definitions_stand [] all rest h P into = tt
 definitions_stand (x ∷ xs) all rest h P into =
-    (definition_stands x all h.0 h.1 P into, definitions_stand xs h.0 rest h.2 P (λ pos a. into pos (definition_behind x all h.0 h.1 pos (behind_among h.0 pos a))))
+    let one = definition_stands x all h.0 h.1 P into in
+    (one.0, definitions_stand xs h.0 rest h.2 P (λ pos a. one.1 pos (behind_among h.0 pos a)))
 
 -- ---- of a text
 

@@ -3,7 +3,7 @@
 use Rattle.std.proofs.Common.{◌≡◌, ℕ, zero, suc, ◌≤◌, ◌<◌, Bool, true, false, cond, List, [], ◌∷◌, length, Option, Some, None, refl, sym, ap, subst, ◌∙◌, arith, ◌⊎◌, inl, inr}
 use Rattle.isle_base.specs.Place.{Placed}
 use Rattle.isle_base.specs.Token.{Tok, lparen, rparen, symbol, integer, at_sign}
-use Rattle.isle_ast.specs.Grammar.{SpellsToken, SpellsAll, InParentheses}
+use Rattle.isle_ast.specs.Words.{SpellsToken, SpellsAll, InParentheses}
 use Rattle.isle_parser.specs.Reading.{Reader, ◌>>=◌, is_lparen, is_rparen, is_ahead, closes, ends, expect, in_parentheses, many, many_within}
 
 -- ---- steps
@@ -100,7 +100,7 @@ begins_not_at (symbol t) e = refl
 begins_not_at (integer n) e = refl
 begins_not_at at_sign e = absurd cc
 
-begins_goes : (all : List Placed) → is_ahead begins_node all ≡ true → Goes all
+pub begins_goes : (all : List Placed) → is_ahead begins_node all ≡ true → Goes all
 begins_goes [] e = absurd cc
 begins_goes (x ∷ xs) e = begins_not_at x.token e
 

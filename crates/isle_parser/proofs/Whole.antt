@@ -18,7 +18,7 @@ use Rattle.isle_parser.specs.Answers.{Source, is_fault}
 use Rattle.isle_parser.specs.Parsed.{Parses, RefusesText, RefusesIn, SpellsOnly}
 use Rattle.isle_parser.specs.ReadDefinitions.{definitions}
 use Rattle.isle_ast.proofs.Erasing.{text_erased}
-use Rattle.isle_ast.proofs.Placing.{text_placed}
+use Rattle.isle_ast.proofs.Erasing.{text_placed}
 use Rattle.isle_parser.proofs.Definitions.{definitions_sound, definitions_complete, one_list}
 
 ended : (xs : List Lexeme) (ending : Ending) → ended_by xs ending ≡ true → ending ≡ end

@@ -4,3 +4,6 @@ pub mod Positions
 pub mod Reading
 pub mod ReadNames
 pub mod ReadDefinitions
+pub mod ReadTypes
+pub mod ReadModels
+pub mod ReadTerms

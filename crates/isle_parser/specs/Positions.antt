@@ -1,15 +1,87 @@
 -- The positions in a tree.
-use Rattle.std.specs.Prelude.{◌≡◌, ◌⊎◌, ℕ, List, [], ◌∷◌}
+use Rattle.std.specs.Prelude.{◌≡◌, ◌⊎◌, ℕ, List, [], ◌∷◌, Option, None, Some}
 use Rattle.std.specs.List.{AllByRecursion}
 use Rattle.isle_base.specs.declared.lexer.Pos.{Pos}
 use Rattle.isle_base.specs.Place.{in_file, unknown}
 use Rattle.isle_base.specs.Token.{Lexeme}
-use Rattle.isle_ast.specs.Tree.{Name, Definition, decl, converter}
+use Rattle.isle_ast.specs.Tree.{Name, TypeModel, unspecified_model, auto_model, int_model, bool_model, unit_model, bit_vector_model, struct_model, named_model, ModelFieldRow, no_model_field, model_field, NamedField, IndexedField, FieldList, unit_fields, struct_fields, tuple_fields, EnumVariant, TypeContent, primitive_type, enum_type, struct_type, AttributeTarget, term_target, rule_target, AttributeKind, chain_kind, priority_kind, tag_kind, TermSignature, ModelContent, type_model, ExternDefinition, extern_extractor, extern_constructor, extern_const, Definition, type_def, decl, attr, model, form, instantiation, external, converter}
+
+abbrev pub OfName : (Pos → Type 0) → Name → Type 0
+OfName P n = P n.pos
+
+abbrev pub OfNames : (Pos → Type 0) → List Name → Type 0
+OfNames P ns = AllByRecursion (OfName P) ns
+
+-- a model of a type has the positions of its names alone
+abbrev mutual
+  pub OfModel : (Pos → Type 0) → TypeModel → Type 0
+  OfModel P unspecified_model = Unit {0}
+  OfModel P auto_model = Unit {0}
+  OfModel P int_model = Unit {0}
+  OfModel P bool_model = Unit {0}
+  OfModel P unit_model = Unit {0}
+  OfModel P (bit_vector_model width) = Unit {0}
+  OfModel P (struct_model fields) = OfModelFields P fields
+  OfModel P (named_model name) = OfName P name
+
+  pub OfModelFields : (Pos → Type 0) → ModelFieldRow → Type 0
+  OfModelFields P no_model_field = Unit {0}
+  OfModelFields P (model_field name ty fields) = OfName P name × OfModel P ty × OfModelFields P fields
+
+abbrev pub OfNamedField : (Pos → Type 0) → NamedField → Type 0
+OfNamedField P f = P f.pos × OfName P f.name × OfName P f.ty
+
+abbrev pub OfIndexedField : (Pos → Type 0) → IndexedField → Type 0
+OfIndexedField P f = P f.pos × OfName P f.ty
+
+abbrev pub OfFields : (Pos → Type 0) → FieldList → Type 0
+OfFields P unit_fields = Unit {0}
+OfFields P (struct_fields fields pos) = P pos × AllByRecursion (OfNamedField P) fields
+OfFields P (tuple_fields fields pos) = P pos × AllByRecursion (OfIndexedField P) fields
+
+abbrev pub OfVariant : (Pos → Type 0) → EnumVariant → Type 0
+OfVariant P v = P v.pos × OfName P v.name × OfFields P v.fields
+
+abbrev pub OfTypeContent : (Pos → Type 0) → TypeContent → Type 0
+OfTypeContent P (primitive_type name pos) = P pos × OfName P name
+OfTypeContent P (enum_type variants pos) = P pos × AllByRecursion (OfVariant P) variants
+OfTypeContent P (struct_type fields pos) = P pos × OfFields P fields
+
+abbrev pub OfTarget : (Pos → Type 0) → AttributeTarget → Type 0
+OfTarget P (term_target name) = OfName P name
+OfTarget P (rule_target name) = OfName P name
+
+abbrev pub OfKind : (Pos → Type 0) → AttributeKind → Type 0
+OfKind P chain_kind = Unit {0}
+OfKind P priority_kind = Unit {0}
+OfKind P (tag_kind name) = OfName P name
+
+abbrev pub OfSignature : (Pos → Type 0) → TermSignature → Type 0
+OfSignature P s = P s.pos × AllByRecursion (OfModel P) s.args × OfModel P s.ret
+
+abbrev pub OfForm : (Pos → Type 0) → Option Name → Type 0
+OfForm P None = Unit {0}
+OfForm P (Some name) = OfName P name
+
+abbrev pub OfModelContent : (Pos → Type 0) → ModelContent → Type 0
+OfModelContent P (type_model ty) = OfModel P ty
+
+abbrev pub OfExtern : (Pos → Type 0) → ExternDefinition → Type 0
+OfExtern P (extern_extractor term func pos infallible) = P pos × OfName P term × OfName P func
+OfExtern P (extern_constructor term func pos) = P pos × OfName P term × OfName P func
+OfExtern P (extern_const name ty pos) = P pos × OfName P name × OfName P ty
 
 -- each position in a definition, that of the definition first
 abbrev pub EachPosition : (Pos → Type 0) → Definition → Type 0
-EachPosition P (decl d) = P d.pos × P d.term.pos × AllByRecursion (λ (n : Name). P n.pos) d.arg_tys × P d.ret_ty.pos
-EachPosition P (converter c) = P c.pos × P c.inner_ty.pos × P c.outer_ty.pos × P c.term.pos
+EachPosition P (type_def t) = P t.pos × OfName P t.name × OfTypeContent P t.ty
+EachPosition P (decl d) = P d.pos × OfName P d.term × OfNames P d.arg_tys × OfName P d.ret_ty
+EachPosition P (attr a) = P a.pos × OfTarget P a.target × AllByRecursion (OfKind P) a.kinds
+EachPosition P (model m) = OfName P m.name × OfModelContent P m.val
+EachPosition P (form f) = P f.pos × OfName P f.name × AllByRecursion (OfSignature P) f.signatures
+EachPosition P (instantiation i) =
+    P i.pos × OfName P i.term × OfForm P i.form × AllByRecursion (OfSignature P) i.signatures × OfNames P i.tags
+EachPosition P (external e) = OfExtern P e
+EachPosition P (converter c) = P c.pos × OfName P c.inner_ty × OfName P c.outer_ty × OfName P c.term
 
 -- the first byte of one of these tokens
 abbrev pub BeginsToken : ℕ → List Lexeme → Pos → Type 0

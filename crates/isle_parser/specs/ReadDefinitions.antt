@@ -1,9 +1,12 @@
 -- Reading of definitions.
 use Rattle.std.specs.Prelude.{ℕ, List, Some, None, if◌then◌else◌, codes}
 use Rattle.std.specs.Str.{bytes_eq}
-use Rattle.isle_ast.specs.Tree.{Declaration, Conversion, Definition, decl, converter}
+use Rattle.isle_ast.specs.Tree.{Declaration, Conversion, Definition, type_def, decl, attr, model, form, instantiation, external, converter}
 use Rattle.isle_parser.specs.Reading.{Reader, ◌>>=◌, text, flag, pos_ahead, ends, in_parentheses, many}
 use Rattle.isle_parser.specs.ReadNames.{name, names}
+use Rattle.isle_parser.specs.ReadModels.{form_definition, instantiation_of_term, model_definition}
+use Rattle.isle_parser.specs.ReadTerms.{attribute, extern_definition}
+use Rattle.isle_parser.specs.ReadTypes.{type_definition}
 
 unfoldable pub declaration : Reader Declaration
 declaration all = do
@@ -35,22 +38,31 @@ conversion all = do
   term ← name outer_ty.1
   Some (record { term = term.0; inner_ty = inner_ty.0; outer_ty = outer_ty.0; pos = pos_ahead all }, term.1)
 
+-- no pragma is defined: each is refused
+abbrev pub pragma : Reader Definition
+pragma all = None
+
 -- what stands behind this keyword
 unfoldable pub behind : List ℕ → Reader Definition
 behind word all =
-    if bytes_eq word (codes "decl")
-    then (declaration all >>= λ d. Some (decl d.0, d.1))
-    else
-    (if bytes_eq word (codes "convert") then (conversion all >>= λ c. Some (converter c.0, c.1)) else None)
+    if bytes_eq word (codes "type") then (type_definition all >>= λ t. Some (type_def t.0, t.1))
+    else (if bytes_eq word (codes "decl") then (declaration all >>= λ d. Some (decl d.0, d.1))
+    else (if bytes_eq word (codes "attr") then (attribute all >>= λ a. Some (attr a.0, a.1))
+    else (if bytes_eq word (codes "model") then (model_definition all >>= λ m. Some (model m.0, m.1))
+    else (if bytes_eq word (codes "form") then (form_definition all >>= λ f. Some (form f.0, f.1))
+    else (if bytes_eq word (codes "instantiate") then (instantiation_of_term all >>= λ i. Some (instantiation i.0, i.1))
+    else (if bytes_eq word (codes "extern") then (extern_definition all >>= λ e. Some (external e.0, e.1))
+    else (if bytes_eq word (codes "convert") then (conversion all >>= λ c. Some (converter c.0, c.1))
+    else None)))))))
 
 -- a keyword, and what stands behind it
-unfoldable pub form : Reader Definition
-form all = do
+unfoldable pub keyword_form : Reader Definition
+keyword_form all = do
   word ← text all
   behind word.0 word.1
 
 unfoldable pub definition : Reader Definition
-definition = in_parentheses form
+definition = in_parentheses keyword_form
 
 unfoldable pub definitions : Reader (List Definition)
 definitions = many ends definition

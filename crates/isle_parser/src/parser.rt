@@ -4,7 +4,7 @@ ghost use Rattle.std.specs.Prelude.{◌≡◌, ◌+◌, ◌<◌, ◌^◌, ◌↔
 ghost use Rattle.isle_ast.specs.Erased.{erase};
 ghost use Rattle.isle_base.specs.Place.{in_file, nowhere};
 ghost use Rattle.isle_base.specs.Steps.{IsWithin, Rises, is_at_end, is_failed};
-ghost use Rattle.isle_base.specs.Token.{is_symbol};
+ghost use Rattle.isle_base.specs.Token.{integer, is_int, is_symbol};
 ghost use Rattle.isle_base.specs.TokenView.{token_of};
 ghost use Rattle.isle_parser.specs.Answers.{Gives, IsPlace, IsRefusal, IsRefusalAt, place, source, tokens};
 ghost use Rattle.isle_parser.specs.Parsed.{Parses, RefusesText};
@@ -17,7 +17,10 @@ ghost use Rattle.isle_base.specs.declared.lexer.Fault.TheVariants.{Failed};
 ghost use Rattle.isle_parser.specs.declared.parser.Stop.TheVariants.{Memory};
 
 mod defs;
+mod models;
 mod names;
+mod terms;
+mod types;
 
 use isle_ast::ast::Def;
 use isle_base::error::{Error, Span};
@@ -201,6 +204,12 @@ impl<'src> Parser<'src> {
         matches!(self.ahead(), Some(Token::Symbol(_)))
     }
 
+    fn is_int(&self) -> bool
+        ensures { result ≡ is_ahead is_int (tokens self.now) }
+    {
+        matches!(self.ahead(), Some(Token::Int(_)))
+    }
+
     // The position of the token ahead, as the tree has it.
     fn pos(&self) -> Pos
         ensures { result ≡ pos_ahead (tokens self.now) }
@@ -220,6 +229,14 @@ impl<'src> Parser<'src> {
             Some((pos, _)) => *pos,
             None => self.lexer.pos(),
         }
+    }
+
+    // Refuses the byte at this place, where there was memory for the message.
+    fn refuse_at(&self, place: Pos, message: Result<String, AllocError>) -> Stop
+        requires { IsPlace (source self.now) place }
+        ensures { IsRefusal (source self.now) result }
+    {
+        refuse(place, message)
     }
 
     // Refuses the token ahead, or the end.
@@ -282,6 +299,17 @@ impl<'src> Parser<'src> {
         let is_wanted = self.is_sym();
         match self.take_if(alloc, is_wanted)? {
             Token::Symbol(text) => Ok(text),
+            _ => unreachable!(),
+        }
+    }
+
+    fn expect_int(&mut self, alloc: Global) -> Result<i128, Stop>
+        ensures same { source self.new ≡ source self.old }
+        ensures gives { Gives (λ value. integer value) (expect is_int (tokens self.old)) result self.new }
+    {
+        let is_wanted = self.is_int();
+        match self.take_if(alloc, is_wanted)? {
+            Token::Int(value) => Ok(value),
             _ => unreachable!(),
         }
     }

@@ -33,7 +33,7 @@ fn a_declaration(rt: HostRuntime) -> Result<(), Fail> {
                 assert_eq!(rt; decl.arg_tys.len(), 2);
                 assert_eq!(rt; decl.ret_ty.0.as_str(), "T");
             }
-            Def::Converter(_) => return Err("it is a declaration".into()),
+            _ => return Err("it is a declaration".into()),
         }
     }
     Ok(())
@@ -53,7 +53,7 @@ fn two_conversions_without_positions(rt: HostRuntime) -> Result<(), Fail> {
             Def::Converter(converter) => {
                 assert!(rt; converter.pos.is_unknown() && converter.term.1.is_unknown());
             }
-            Def::Decl(_) => return Err("it is a conversion".into()),
+            _ => return Err("it is a conversion".into()),
         }
     }
     Ok(())
@@ -65,8 +65,8 @@ fn refusals(rt: HostRuntime) -> Result<(), Fail> {
     assert_eq!(rt; msg.as_str(), "Unexpected token LParen");
     assert_eq!(rt; offset, 11);
     let (msg, offset) = refusal(rt, "(pragma x)")?;
-    assert_eq!(rt; msg.as_str(), "Unexpected identifier: pragma");
-    assert_eq!(rt; offset, 1);
+    assert_eq!(rt; msg.as_str(), "Unknown pragma 'x'");
+    assert_eq!(rt; offset, 8);
     let (msg, offset) = refusal(rt, "(convert A B c")?;
     assert_eq!(rt; msg.as_str(), "Unexpected EOF");
     assert_eq!(rt; offset, 14);
@@ -107,5 +107,110 @@ fn a_copy_of_a_parser(rt: HostRuntime) -> Result<(), Fail> {
             .ok_or("a token")?,
     );
     assert!(rt; parser.clone().is_ok());
+    Ok(())
+}
+
+// Whether a text is accepted.
+fn is_accepted(rt: HostRuntime, text: &str) -> bool {
+    match Lexer::new(rt.alloc(), 3, text) {
+        Ok(lexer) => parse(rt.alloc(), lexer).is_ok(),
+        Err(_) => false,
+    }
+}
+
+#[test]
+fn kinds_are_accepted(rt: HostRuntime) -> Result<(), Fail> {
+    assert!(rt;
+        is_accepted(
+            rt,
+            "(type A extern nodebug extern (primitive A)) (type B (enum X (Y) (Z A B) (W (a A) (b B)))) (type C (struct A B)) (type D (struct)) (type E (enum))"
+        )
+    );
+    assert!(rt;
+        is_accepted(
+            rt,
+            "(attr rule r (veri chain) (veri priority)) (attr t (tag a)) (attr t)"
+        )
+    );
+    assert!(rt;
+        is_accepted(
+            rt,
+            "(model A (type !)) (model A (type (struct (a (bv 8)) (b (bv)) (c (named N)) (d (struct)))))(model A (type _))"
+        )
+    );
+    assert!(rt;
+        is_accepted(
+            rt,
+            "(form f ((args Int (bv 8)) (ret Unit)) ((args) (ret Bool))) (instantiate t f (tag a) (tag b)) (instantiate t ((args) (ret Int))) (instantiate t f)"
+        )
+    );
+    assert!(rt;
+        is_accepted(
+            rt,
+            "(extern constructor t f) (extern extractor t f) (extern extractor infallible t f) (extern const $A T) (extern const $ T)"
+        )
+    );
+    Ok(())
+}
+
+#[test]
+fn kinds_are_refused(rt: HostRuntime) -> Result<(), Fail> {
+    let (msg, offset) = refusal(rt, "(type A fast (primitive A))")?;
+    assert_eq!(rt; msg.as_str(), "unknown type declaration modifier: fast");
+    assert_eq!(rt; offset, 13);
+    let (msg, offset) = refusal(rt, "(type A (union A))")?;
+    assert_eq!(rt; msg.as_str(), "Unknown type definition");
+    assert_eq!(rt; offset, 8);
+    let (msg, offset) = refusal(rt, "(attr t (slow x))")?;
+    assert_eq!(rt; msg.as_str(), "Not a valid attribute: slow");
+    assert_eq!(rt; offset, 9);
+    let (msg, offset) = refusal(rt, "(attr t (veri x))")?;
+    assert_eq!(rt; msg.as_str(), "Not a valid verification attribute: x");
+    assert_eq!(rt; offset, 14);
+    let (msg, offset) = refusal(rt, "(model A (union A))")?;
+    assert_eq!(rt; msg.as_str(), "Model must be a type or const");
+    assert_eq!(rt; offset, 7);
+    let (msg, offset) = refusal(rt, "(model A (type (bv 18446744073709551616)))")?;
+    assert_eq!(rt;
+        msg.as_str(),
+        "Invalid BitVector width: out of range integral type conversion attempted"
+    );
+    assert_eq!(rt; offset, 15);
+    let (msg, offset) = refusal(rt, "(model A (type (bv x)))")?;
+    assert_eq!(rt; msg.as_str(), "Badly formed BitVector (bv ...)");
+    assert_eq!(rt; offset, 15);
+    let (msg, offset) = refusal(rt, "(model A (type (x)))")?;
+    assert_eq!(rt;
+        msg.as_str(),
+        "Badly formed model: should be BitVector (bv ...) or Struct (struct ...)"
+    );
+    assert_eq!(rt; offset, 15);
+    let (msg, offset) = refusal(rt, "(model A (type A))")?;
+    assert_eq!(rt;
+        msg.as_str(),
+        "Model type be a Bool, Int, BitVector (bv ...) or Struct (struct ...)"
+    );
+    assert_eq!(rt; offset, 15);
+    let (msg, offset) = refusal(rt, "(form f ((arg) (ret Int)))")?;
+    assert_eq!(rt; msg.as_str(), "Invalid args: expected (args <arg> ...)");
+    assert_eq!(rt; offset, 10);
+    let (msg, offset) = refusal(rt, "(form f ((args) (rets Int)))")?;
+    assert_eq!(rt; msg.as_str(), "Invalid ret: expected (ret <arg>)");
+    assert_eq!(rt; offset, 17);
+    let (msg, offset) = refusal(rt, "(instantiate t f (tags a))")?;
+    assert_eq!(rt; msg.as_str(), "Not a valid instantiate attribute: tags");
+    assert_eq!(rt; offset, 18);
+    let (msg, offset) = refusal(rt, "(extern x a b)")?;
+    assert_eq!(rt;
+        msg.as_str(),
+        "Invalid extern: must be (extern constructor ...), (extern extractor ...) or (extern const ...)"
+    );
+    assert_eq!(rt; offset, 8);
+    let (msg, offset) = refusal(rt, "(extern const A T)")?;
+    assert_eq!(rt;
+        msg.as_str(),
+        "Not a constant identifier; must start with a '$'"
+    );
+    assert_eq!(rt; offset, 14);
     Ok(())
 }

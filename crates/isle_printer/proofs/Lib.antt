@@ -4,4 +4,8 @@ pub mod Least
 pub mod LineEnds
 pub mod Printing
 pub mod ReadBackLaw
+pub mod WordSymbols
+pub mod Spellings
 pub mod ShapeLaw
+pub mod PrintLaw
+pub mod NumberAtoms

@@ -3,6 +3,7 @@
 use Rattle.std.proofs.Common.{◌≡◌, ◌==◌, ℕ, zero, suc, ◌+◌, ◌*◌, List, [], ◌∷◌, ◌++◌, replicate, codes, Bool, true, false, Some, None, refl, sym, ap, ◌∙◌, subst, ne_eqb}
 use Rattle.std.proofs.lemmas.List.{append_assoc}
 use Rattle.std.proofs.lemmas.Bool.{false≢true}
+use Rattle.std.specs.List.{list_all}
 use Rattle.isle_base.specs.Literals.{begins_literal}
 use Rattle.isle_base.specs.Pieces.{Piece, in_symbol, begins_symbol}
 use Rattle.isle_base.specs.Skips.{nothing, blank, begins_with, is_blank, opens}
@@ -199,3 +200,8 @@ mutual
       Reads-line (level + 1) (render s c.0 (level + 1)) (render_behind ss c.1 level) text all
       (render-reads s c.0 (level + 1) all t.0 t.1 (render_behind ss c.1 level ++ text) (render_behind-separated ss c.1 level text)
       (render_behind-reads ss c.1 level t.0 rest t.2 text r))
+
+-- a text of symbol bytes, the first of which begins one, reads as that symbol
+pub ReadsAs-symbol : (text : List ℕ) → begins_with begins_symbol text ≡ true → list_all in_symbol text ≡ true → ReadsAs text (symbol text)
+ReadsAs-symbol [] begins each rest apart = absurd (false≢true begins)
+ReadsAs-symbol (b ∷ bs) begins each rest apart = (begins, record { split = refl; each = each; stops = apart })

@@ -1,381 +1,494 @@
--- The tokens of the shape of a spelt definition spell it: so its print is spelt by it.
-use Rattle.std.proofs.Common.{◌≡◌, ℕ, ◌-◌, length, List, [], ◌∷◌, ◌++◌, codes, Bool, true, false, refl, sym, ap, ◌∙◌, subst, ◌↔◌}
-use Rattle.std.proofs.lemmas.List.{append_assoc, append-nil}
-use Rattle.std.proofs.lemmas.Bool.{false≢true}
-use Rattle.std.specs.List.{list_all}
-use Rattle.isle_base.specs.Lexing.{Lexes, lexes}
-use Rattle.isle_base.specs.Literals.{begins_literal}
-use Rattle.isle_base.specs.Pieces.{in_symbol, begins_symbol}
-use Rattle.isle_base.specs.Place.{Placed, unknown, nowhere, placed}
-use Rattle.isle_base.specs.Skips.{begins_with, is_blank, nothing}
-use Rattle.isle_base.specs.Token.{Tok, lparen, rparen, symbol, Lexeme, end}
-use Rattle.isle_ast.specs.Erased.{erase_name, erase_names, erase_definition, erase}
-use Rattle.isle_ast.specs.Grammar.{SpellsWord, BeginsAt, SpellsAll, InParentheses, SpellsName, SpellsFlag, SpellsDeclaration, SpellsDefinition, SpellsDefinitions, term_is_no_flag}
-use Rattle.isle_ast.specs.Identifier.{is_identifier}
+-- The tokens of the shape of a writable definition spell it, erased.
+use Rattle.std.proofs.Common.{◌≡◌, ◌≢◌, ℕ, ◌+◌, ◌^◌, ◌<◌, List, [], ◌∷◌, ◌++◌, map, codes, Bool, true, false, ◌&&◌, ◌||◌, not, Option, None, Some, IfSome, pos, inr, refl, sym, ap, ◌∙◌, subst, arith}
+use Rattle.std.proofs.lemmas.List.{append_assoc}
+use Rattle.std.proofs.lemmas.Slice.Eq.{bytes_eq-Decides}
+use Rattle.std.specs.Str.{bytes_eq}
+use Rattle.isle_base.specs.Place.{Placed, unknown}
+use Rattle.isle_base.specs.Token.{Tok, rparen, symbol, integer}
 use Rattle.isle_ast.proofs.IdentifierBytes.{identifier_is_symbol}
-use Rattle.isle_ast.specs.Spelt.{IsSpelt}
-use Rattle.isle_ast.specs.Tree.{Name, Declaration, Conversion, Definition, decl, converter}
-use Rattle.isle_printer.specs.Sexp.{Sexp, atom, sexps, row_of}
-use Rattle.isle_printer.specs.Shapes.{name_shape, name_shapes, flag_shape, declaration_shape, conversion_shape, definition_shape}
-use Rattle.isle_printer.specs.Layout.{layout}
-use Rattle.isle_printer.specs.Choices.{Choice, render}
-use Rattle.isle_printer.specs.Printed.{definition_text, behind_text, printed_text, IsPrinted}
-use Rattle.isle_printer.proofs.Printing.{IsPrinted-from_text, IsPrinted-text}
-use Rattle.isle_printer.proofs.Greedy.{greedy, layout_is_render}
-use Rattle.isle_printer.proofs.ReadBackLaw.{render-reads, Reads-blank, is_blank-10, in_symbol-10}
-use Rattle.isle_printer.specs.ReadBack.{ReadsAs, TokensOf, TokensOfItems, Reads, ReadsBack, unplaced}
+use Rattle.isle_ast.specs.Erased.{erase_name, erase_names, erase_declaration, erase_conversion, erase_type, erase_attribute, erase_form, erase_instantiation, erase_model_definition, erase_optional, erase_model, erase_model_fields, erase_named_field, erase_indexed_field, erase_fields, erase_variant, erase_type_content, erase_target, erase_kind, erase_signature, erase_model_content, erase_extern, erase_definition}
+use Rattle.isle_ast.specs.Grammar.{SpellsDefinition}
+use Rattle.isle_ast.specs.Identifier.{is_identifier}
+use Rattle.isle_ast.specs.ModelGrammar.{SpellsTypeModel, SpellsModelFields, SpellsSignature, SpellsTag, SpellsInstances, SpellsModelContent, SpellsModel, SpellsForm, SpellsInstantiation}
+use Rattle.isle_ast.specs.Numbers.{SpellsNumber}
+use Rattle.isle_ast.specs.TermGrammar.{demands, SpellsDeclaration, SpellsConversion, SpellsAttributeKind, SpellsAttributeTarget, SpellsConstant, SpellsPair, SpellsExtern, SpellsAttribute}
+use Rattle.isle_ast.specs.Tree.{Name, Declaration, Conversion, TypeModel, unspecified_model, auto_model, int_model, bool_model, unit_model, bit_vector_model, struct_model, named_model, ModelFieldRow, no_model_field, model_field, NamedField, IndexedField, FieldList, unit_fields, struct_fields, tuple_fields, EnumVariant, TypeContent, primitive_type, enum_type, struct_type, AttributeTarget, term_target, rule_target, AttributeKind, chain_kind, priority_kind, tag_kind, TermSignature, ModelContent, type_model, ExternDefinition, extern_extractor, extern_constructor, extern_const, Definition, type_def, decl, attr, model, form, instantiation, external, converter}
+use Rattle.isle_ast.specs.TypeGrammar.{SpellsNamedField, SpellsIndexedFields, SpellsFields, SpellsVariant, SpellsTypeContent, SpellsModifiers, SpellsTypeDefinition}
+use Rattle.isle_ast.specs.Words.{SpellsWord, BeginsAt, SpellsAll, InParentheses, BehindWord, SpellsName, SpellsOptional}
+use Rattle.isle_ast.specs.Writable.{IsName, Each, Wants, IsWritableDeclaration, IsWritableConversion, IsWritableModel, AreWritableModelFields, IsWritableNamedField, AreWritableIndexedFields, AreWritableFields, IsWritableVariant, IsWritableTypeContent, IsWritableTarget, IsWritableKind, IsWritableSignature, AreWritableInstances, IsWritableModelContent, IsWritableExtern, IsWritable}
+use Rattle.isle_printer.specs.Sexp.{Sexp, atom}
+use Rattle.isle_printer.specs.Shapes.{name_shape, name_shapes, flag_shape, form_shape, number_shape, width_shape, model_shape, model_field_shapes, named_field_shape, indexed_field_shape, field_shapes, variant_shape, type_content_shape, target_shape, tag_shape, kind_shape, signature_shape, instance_shapes, model_content_shape, constant_shape, extern_shape, definition_shape}
+use Rattle.isle_printer.specs.ReadBack.{unplaced}
+use Rattle.isle_printer.proofs.NumberAtoms.{decimal-ReadsAs}
+use Rattle.isle_printer.proofs.Spellings.{ItemTokens, ◌then◌, IsAhead, item-ahead, items-ahead, Spelling, spell-nothing, spell-word, spell-flag, spell-name, spell-all, spell-names, spell-row, spell-behind, spell-form, InTurn, spell-turn}
+use Rattle.isle_printer.proofs.WordSymbols.{word-decl, word-convert, word-pure, word-multi, word-partial, word-rec, word-type, word-extern, word-nodebug, word-primitive, word-enum, word-struct, word-attr, word-rule, word-veri, word-chain, word-priority, word-tag, word-model, word-form, word-instantiate, word-args, word-ret, word-bv, word-named, word-extractor, word-infallible, word-constructor, word-const, word-Int, word-Bool, word-Unit, word-bang, word-underscore}
 
--- a text of symbol bytes, the first of which begins one, reads as that symbol
-pub ReadsAs-symbol : (text : List ℕ) → begins_with begins_symbol text ≡ true → list_all in_symbol text ≡ true → ReadsAs text (symbol text)
-ReadsAs-symbol [] begins each rest apart = absurd (false≢true begins)
-ReadsAs-symbol (b ∷ bs) begins each rest apart = (begins, record { split = refl; each = each; stops = apart })
+-- what a wish says of a text, as a test
+wanted : (text word : List ℕ) (set b : Bool) → bytes_eq text word ≡ b → (text ≡ word → set ≡ true) → (not b || set) ≡ true
+wanted text word set true e want = want ((bytes_eq-Decides text word).0 e)
+wanted text word set false e want = refl
 
--- The offsets of the pieces make lexemes of them.
-pub Lexes-from_reads : (size : ℕ) (text : List ℕ) (tokens : List Tok) → Reads text tokens → (l : List Lexeme) × Lexes size text l end × (placed nowhere l ≡ unplaced tokens)
-Lexes-from_reads size text [] r = ([], r, refl)
-Lexes-from_reads size text (token ∷ tokens) r =
-    let behind = Lexes-from_reads size r.1 tokens r.4 in (
-      record { offset = size - length r.0; token = token; after = size - length r.1 } ∷ behind.0,
-      (r.0, r.1, r.2, r.3, refl, refl, behind.1),
-      ap (λ b. record { pos = unknown; token = token } ∷ b) behind.2,
-    )
+Wants-demands : (n : Name) (word : List ℕ) (set : Bool) → Wants n word set → demands n.text word set ≡ true
+Wants-demands n word set want = wanted n.text word set (bytes_eq n.text word) refl want
 
--- items one after another
-TokensOfItems-append : (xs ys : List Sexp) (all mid rest : List Tok) → TokensOfItems (sexps xs) all mid → TokensOfItems (sexps ys) mid rest → TokensOfItems (sexps (xs ++ ys)) all rest
-TokensOfItems-append [] ys all mid rest t u = subst (λ a. TokensOfItems (sexps ys) a rest) (sym t) u
-TokensOfItems-append (x ∷ xs) ys all mid rest t u = (t.0, t.1, TokensOfItems-append xs ys t.0 mid rest t.2 u)
+all_true : (a b : Bool) → a ≡ true → b ≡ true → (a && b) ≡ true
+all_true a b p q = ap (λ x. x && b) p ∙ q
 
--- the tokens of items, as a fact that names the items
-record ItemTokens (items : List Sexp) (all rest : List Tok) : Type 0 where
-  are : TokensOfItems (sexps items) all rest
+differs-test : (text word : List ℕ) (b : Bool) → bytes_eq text word ≡ b → text ≢ word → b ≡ false
+differs-test text word true e other = absurd (other ((bytes_eq-Decides text word).0 e))
+differs-test text word false e other = refl
 
-infixl 6 ◌then◌
-◌then◌ : {xs ys : List Sexp} {all mid rest : List Tok} → ItemTokens xs all mid → ItemTokens ys mid rest → ItemTokens (xs ++ ys) all rest
-◌then◌ {xs} {ys} {all} {mid} {rest} t u = record { are = TokensOfItems-append xs ys all mid rest t.are u.are }
+-- two groups of items are grouped to the left
+regrouped : (ys zs : List Sexp) {xs : List Sexp} {all mid rest : List Tok} → ItemTokens xs all mid → ItemTokens (ys ++ zs) mid rest → ItemTokens (xs ++ ys ++ zs) all rest
+regrouped ys zs {xs} {all} {mid} {rest} t u = subst (λ items. ItemTokens items all rest) (sym (append_assoc xs ys zs)) (t then u)
 
--- A part of a shape, and what it spells: before any tokens there are some of which the items are the
--- text, and which spell the part.
-record Spelling (items : List Sexp) (Spells : List Placed → List Placed → Type 0) (rest : List Tok) : Type 0 where
-  all : List Tok
-  tokens : ItemTokens items all rest
-  spells : Spells (unplaced all) (unplaced rest)
+spell-number : (n : ℕ) → n < 2 ^ 64 → (rest : List Tok) → Spelling (number_shape n ∷ []) (SpellsNumber n) rest
+spell-number n fits rest = record {
+  all = integer (pos n) ∷ rest;
+  tokens = record { are = (rest, (integer (pos n), λ rest apart. decimal-ReadsAs n (omega arith) rest apart, refl), refl) };
+  spells = (fits, (unknown, refl));
+}
 
--- every name of this text is an identifier and so a symbol
-abbrev Symbols : Type 0
-Symbols = (text : List ℕ) → is_identifier text ≡ true → ReadsAs text (symbol text)
+spell-width : (width : Option ℕ) → IfSome width (λ n. n < 2 ^ 64) → (rest : List Tok) → Spelling (width_shape width) (SpellsOptional SpellsNumber width) rest
+spell-width None fits rest = spell-nothing rest
+spell-width (Some n) fits rest = spell-number n fits rest
 
-IsWord : List ℕ → Type 0
-IsWord word = ReadsAs word (symbol word)
+mutual
+  spell-model : (m : TypeModel) → IsWritableModel m → (rest : List Tok) → Spelling (model_shape m ∷ []) (SpellsTypeModel (erase_model m)) rest
+  spell-model unspecified_model is rest = spell-word (codes "!") word-bang rest
+  spell-model auto_model is rest = spell-word (codes "_") word-underscore rest
+  spell-model int_model is rest = spell-word (codes "Int") word-Int rest
+  spell-model bool_model is rest = spell-word (codes "Bool") word-Bool rest
+  spell-model unit_model is rest = spell-word (codes "Unit") word-Unit rest
+  spell-model (bit_vector_model width) is rest =
+      spell-form (codes "bv") word-bv (width_shape width) (SpellsOptional SpellsNumber width) rest (spell-width width is (rparen ∷ rest))
+  spell-model (struct_model fields) is rest =
+      spell-form (codes "struct") word-struct (model_field_shapes fields) (SpellsModelFields (erase_model_fields fields)) rest
+      (spell-model_fields fields is (rparen ∷ rest))
+  spell-model (named_model name) is rest =
+      spell-form (codes "named") word-named (name_shape name ∷ []) (SpellsName (erase_name name)) rest (spell-name name is (rparen ∷ rest))
 
--- the words of the grammar are symbols
-word-decl : ReadsAs (codes "decl") (symbol (codes "decl"))
-unfolding in_symbol begins_symbol is_blank begins_literal
-word-decl = ReadsAs-symbol (codes "decl") refl refl
+  spell-model_fields : (fields : ModelFieldRow) → AreWritableModelFields fields → (rest : List Tok) → Spelling (model_field_shapes fields) (SpellsModelFields (erase_model_fields fields)) rest
+  spell-model_fields no_model_field is rest = spell-nothing rest
+  spell-model_fields (model_field name ty fields) is rest =
+      let behind = spell-model_fields fields is.2 rest in
+      let second = spell-model ty is.1 (rparen ∷ behind.all) in
+      let first = spell-name name is.0 second.all in
+      let field = spell-row (name_shape name ∷ model_shape ty ∷ []) (InTurn (SpellsName (erase_name name)) (SpellsTypeModel (erase_model ty))) behind.all (spell-turn second first) in
+      record {
+        all = field.all;
+        tokens = field.tokens then behind.tokens;
+        spells = (unplaced behind.all, field.spells, behind.spells);
+      }
 
-word-convert : ReadsAs (codes "convert") (symbol (codes "convert"))
-unfolding in_symbol begins_symbol is_blank begins_literal
-word-convert = ReadsAs-symbol (codes "convert") refl refl
+spell-named_field : (f : NamedField) → IsWritableNamedField f → (rest : List Tok) → Spelling (named_field_shape f ∷ []) (SpellsNamedField (erase_named_field f)) rest
+spell-named_field f is rest =
+    let second = spell-name f.ty is.1 (rparen ∷ rest) in
+    let first = spell-name f.name is.0 second.all in
+    let field = spell-row (name_shape f.name ∷ name_shape f.ty ∷ []) (InTurn (SpellsName (erase_name f.name)) (SpellsName (erase_name f.ty))) rest (spell-turn second first) in
+    record { all = field.all; tokens = field.tokens; spells = (item-ahead field.tokens, field.spells) }
 
-word-pure : ReadsAs (codes "pure") (symbol (codes "pure"))
-unfolding in_symbol begins_symbol is_blank begins_literal
-word-pure = ReadsAs-symbol (codes "pure") refl refl
+spell-indexed_fields : (place : ℕ) (fs : List IndexedField) → AreWritableIndexedFields place fs → (rest : List Tok) → Spelling (map indexed_field_shape fs) (SpellsIndexedFields place (map erase_indexed_field fs)) rest
+spell-indexed_fields place [] is rest = spell-nothing rest
+spell-indexed_fields place (f ∷ fs) is rest =
+    let behind = spell-indexed_fields (place + 1) fs is.2 rest in
+    let first = spell-name f.ty is.1 behind.all in
+    record {
+      all = first.all;
+      tokens = first.tokens then behind.tokens;
+      spells = (is.0, item-ahead first.tokens, unplaced behind.all, first.spells, behind.spells);
+    }
 
-word-multi : ReadsAs (codes "multi") (symbol (codes "multi"))
-unfolding in_symbol begins_symbol is_blank begins_literal
-word-multi = ReadsAs-symbol (codes "multi") refl refl
+spell-fields : (fields : FieldList) → AreWritableFields fields → (rest : List Tok) → Spelling (field_shapes fields) (SpellsFields (erase_fields fields)) rest
+spell-fields unit_fields is rest = spell-nothing rest
+spell-fields (struct_fields [] _) is rest = absurd is.0
+spell-fields (struct_fields (f ∷ fs) _) is rest =
+    let s = spell-all named_field_shape erase_named_field SpellsNamedField IsWritableNamedField spell-named_field (f ∷ fs) is.1 rest in
+    record { all = s.all; tokens = s.tokens; spells = (tt, item-ahead s.tokens, s.spells) }
+spell-fields (tuple_fields [] _) is rest = absurd is.0
+spell-fields (tuple_fields (f ∷ fs) _) is rest =
+    let s = spell-indexed_fields 0 (f ∷ fs) is.1 rest in
+    record { all = s.all; tokens = s.tokens; spells = (tt, item-ahead s.tokens, s.spells) }
 
-word-partial : ReadsAs (codes "partial") (symbol (codes "partial"))
-unfolding in_symbol begins_symbol is_blank begins_literal
-word-partial = ReadsAs-symbol (codes "partial") refl refl
+spell-variant : (v : EnumVariant) → IsWritableVariant v → (rest : List Tok) → Spelling (variant_shape v ∷ []) (SpellsVariant (erase_variant v)) rest
+spell-variant v is rest =
+    let fields = spell-fields v.fields is.1 (rparen ∷ rest) in
+    let name = spell-name v.name is.0 fields.all in
+    let s = spell-row (name_shape v.name ∷ field_shapes v.fields) (InTurn (SpellsName (erase_name v.name)) (SpellsFields (erase_fields v.fields))) rest (spell-turn fields name) in
+    record { all = s.all; tokens = s.tokens; spells = (item-ahead s.tokens, inr s.spells) }
 
-word-rec : ReadsAs (codes "rec") (symbol (codes "rec"))
-unfolding in_symbol begins_symbol is_blank begins_literal
-word-rec = ReadsAs-symbol (codes "rec") refl refl
+spell-type_content : (t : TypeContent) → IsWritableTypeContent t → (rest : List Tok) → Spelling (type_content_shape t ∷ []) (SpellsTypeContent (erase_type_content t)) rest
+spell-type_content (primitive_type name _) is rest =
+    let s = spell-form (codes "primitive") word-primitive (name_shape name ∷ []) (SpellsName (erase_name name)) rest (spell-name name is (rparen ∷ rest)) in
+    record { all = s.all; tokens = s.tokens; spells = (item-ahead s.tokens, s.spells) }
+spell-type_content (enum_type variants _) is rest =
+    let inner = spell-all variant_shape erase_variant SpellsVariant IsWritableVariant spell-variant variants is (rparen ∷ rest) in
+    let s = spell-form (codes "enum") word-enum (map variant_shape variants) (SpellsAll SpellsVariant (map erase_variant variants)) rest inner in
+    record { all = s.all; tokens = s.tokens; spells = (item-ahead s.tokens, s.spells) }
+spell-type_content (struct_type fields _) is rest =
+    let s = spell-form (codes "struct") word-struct (field_shapes fields) (SpellsFields (erase_fields fields)) rest (spell-fields fields is (rparen ∷ rest)) in
+    record { all = s.all; tokens = s.tokens; spells = (item-ahead s.tokens, s.spells) }
 
--- a name before the tokens
-Spelling-name : Symbols → (n : Name) → is_identifier n.text ≡ true → (rest : List Tok) → Spelling (name_shape n ∷ []) (SpellsName (erase_name n)) rest
-Spelling-name symbols n is rest = record {
-  all = symbol n.text ∷ rest;
-  tokens = record { are = (rest, (symbol n.text, symbols n.text is, refl), refl) };
+-- the modifiers as they are printed: each flag that is set, once
+spell-modifiers : (is_extern is_nodebug : Bool) (rest : List Tok) → Spelling (flag_shape (codes "extern") is_extern ++ flag_shape (codes "nodebug") is_nodebug) (SpellsModifiers is_extern is_nodebug) rest
+spell-modifiers true true rest =
+    let second = spell-word (codes "nodebug") word-nodebug rest in
+    let first = spell-word (codes "extern") word-extern second.all in
+    record {
+      all = first.all;
+      tokens = first.tokens then second.tokens;
+      spells = record {
+        words = codes "extern" ∷ codes "nodebug" ∷ [];
+        each = refl;
+        extern_set = refl;
+        nodebug_set = refl;
+        spelt = (unplaced second.all, first.spells, (unplaced rest, second.spells, refl));
+      };
+    }
+spell-modifiers true false rest =
+    let first = spell-word (codes "extern") word-extern rest in
+    record {
+      all = first.all;
+      tokens = first.tokens;
+      spells = record {
+        words = codes "extern" ∷ [];
+        each = refl;
+        extern_set = refl;
+        nodebug_set = refl;
+        spelt = (unplaced rest, first.spells, refl);
+      };
+    }
+spell-modifiers false true rest =
+    let first = spell-word (codes "nodebug") word-nodebug rest in
+    record {
+      all = first.all;
+      tokens = first.tokens;
+      spells = record {
+        words = codes "nodebug" ∷ [];
+        each = refl;
+        extern_set = refl;
+        nodebug_set = refl;
+        spelt = (unplaced rest, first.spells, refl);
+      };
+    }
+spell-modifiers false false rest = record {
+  all = rest;
+  tokens = record { are = refl };
+  spells = record { words = []; each = refl; extern_set = refl; nodebug_set = refl; spelt = refl };
+}
+
+spell-target : (t : AttributeTarget) → IsWritableTarget t → (rest : List Tok) → Spelling (target_shape t) (SpellsAttributeTarget (erase_target t)) rest
+spell-target (term_target name) is rest =
+    let s = spell-name name is.1 rest in
+    record { all = s.all; tokens = s.tokens; spells = (differs-test name.text (codes "rule") _ refl is.0, s.spells) }
+spell-target (rule_target name) is rest =
+    spell-behind (codes "rule") word-rule (name_shape name ∷ []) (SpellsName (erase_name name)) rest (spell-name name is rest)
+
+target-ahead : (t : AttributeTarget) {all rest : List Tok} → ItemTokens (target_shape t) all rest → IsAhead all
+target-ahead (term_target name) t = item-ahead t
+target-ahead (rule_target name) t = item-ahead t
+
+spell-tag : (name : Name) → IsName name → (rest : List Tok) → Spelling (tag_shape name ∷ []) (SpellsTag (erase_name name)) rest
+spell-tag name is rest =
+    spell-form (codes "tag") word-tag (name_shape name ∷ []) (SpellsName (erase_name name)) rest (spell-name name is (rparen ∷ rest))
+
+spell-kind : (k : AttributeKind) → IsWritableKind k → (rest : List Tok) → Spelling (kind_shape k ∷ []) (SpellsAttributeKind (erase_kind k)) rest
+spell-kind chain_kind is rest =
+    spell-form (codes "veri") word-veri (atom (codes "chain") ∷ []) (SpellsWord (codes "chain")) rest (spell-word (codes "chain") word-chain (rparen ∷ rest))
+spell-kind priority_kind is rest =
+    spell-form (codes "veri") word-veri (atom (codes "priority") ∷ []) (SpellsWord (codes "priority")) rest (spell-word (codes "priority") word-priority (rparen ∷ rest))
+spell-kind (tag_kind name) is rest = spell-tag name is rest
+
+spell-signature : (g : TermSignature) → IsWritableSignature g → (rest : List Tok) → Spelling (signature_shape g ∷ []) (SpellsSignature (erase_signature g)) rest
+spell-signature g is rest =
+    let ret = spell-form (codes "ret") word-ret (model_shape g.ret ∷ []) (SpellsTypeModel (erase_model g.ret)) (rparen ∷ rest) (spell-model g.ret is.1 (rparen ∷ rparen ∷ rest)) in
+    let models = spell-all model_shape erase_model SpellsTypeModel IsWritableModel spell-model g.args is.0 (rparen ∷ ret.all) in
+    let args = spell-form (codes "args") word-args (map model_shape g.args) (SpellsAll SpellsTypeModel (map erase_model g.args)) ret.all models in
+    spell-row
+    (form_shape (codes "args") (map model_shape g.args) ∷ form_shape (codes "ret") (model_shape g.ret ∷ []) ∷ [])
+    (λ inner close. BeginsAt unknown inner × (mid : List Placed)
+    × InParentheses (BehindWord (codes "args") (SpellsAll SpellsTypeModel (map erase_model g.args))) inner mid
+    × InParentheses (BehindWord (codes "ret") (SpellsTypeModel (erase_model g.ret))) mid close)
+    rest
+    (record {
+      all = args.all;
+      tokens = args.tokens then ret.tokens;
+      spells = (item-ahead args.tokens, unplaced ret.all, args.spells, ret.spells);
+    })
+
+spell-signatures : (gs : List TermSignature) → Each IsWritableSignature gs → (rest : List Tok) → Spelling (map signature_shape gs) (SpellsAll SpellsSignature (map erase_signature gs)) rest
+spell-signatures = spell-all signature_shape erase_signature SpellsSignature IsWritableSignature spell-signature
+
+-- the form or the signatures, and then the tags
+spell-instances : (o : Option Name) (gs : List TermSignature) (tags : List Name) → AreWritableInstances o gs tags → (rest : List Tok) → Spelling (instance_shapes o gs ++ map tag_shape tags) (SpellsInstances (erase_optional o) (map erase_signature gs) (erase_names tags)) rest
+spell-instances None [] tags is rest = absurd is.0
+spell-instances None (g ∷ gs) [] is rest =
+    let s = spell-signatures (g ∷ gs) is.1 rest in
+    let nothing_more : ItemTokens [] rest rest = record { are = refl } in
+    record {
+      all = s.all;
+      tokens = s.tokens then nothing_more;
+      spells = (tt, refl, s.spells);
+    }
+spell-instances None (g ∷ gs) (t ∷ ts) is rest = absurd (cc (is.2))
+spell-instances (Some name) (g ∷ gs) tags is rest = absurd (cc (is.1))
+spell-instances (Some name) [] tags is rest =
+    let behind = spell-all tag_shape erase_name SpellsTag IsName spell-tag tags is.2 rest in
+    let first = spell-name name is.0 behind.all in
+    record {
+      all = first.all;
+      tokens = first.tokens then behind.tokens;
+      spells = (refl, unplaced behind.all, first.spells, behind.spells);
+    }
+
+spell-model_content : (m : ModelContent) → IsWritableModelContent m → (rest : List Tok) → Spelling (model_content_shape m ∷ []) (SpellsModelContent (erase_model_content m)) rest
+spell-model_content (type_model ty) is rest =
+    spell-form (codes "type") word-type (model_shape ty ∷ []) (SpellsTypeModel (erase_model ty)) rest (spell-model ty is (rparen ∷ rest))
+
+spell-constant : (name : Name) → is_identifier (36 ∷ name.text) ≡ true → (rest : List Tok) → Spelling (constant_shape name ∷ []) (SpellsConstant (erase_name name)) rest
+spell-constant name is rest = record {
+  all = symbol (36 ∷ name.text) ∷ rest;
+  tokens = record { are = (rest, (symbol (36 ∷ name.text), λ text apart. identifier_is_symbol (36 ∷ name.text) text is apart, refl), refl) };
   spells = (is, refl);
 }
 
-Spelling-word : (word : List ℕ) → ReadsAs word (symbol word) → (rest : List Tok) → Spelling (atom word ∷ []) (SpellsWord word) rest
-Spelling-word word is rest = record {
-  all = symbol word ∷ rest;
-  tokens = record { are = (rest, (symbol word, is, refl), refl) };
-  spells = (unknown, refl);
-}
+spell-pair : (first second : Name) → IsName first → IsName second → (rest : List Tok) → Spelling (name_shape first ∷ name_shape second ∷ []) (SpellsPair (erase_name first) (erase_name second)) rest
+spell-pair first second is so rest =
+    let b = spell-name second so rest in
+    let a = spell-name first is b.all in
+    spell-turn b a
 
-Spelling-flag : (word : List ℕ) → ReadsAs word (symbol word) → (flag : Bool) (rest : List Tok) → Spelling (flag_shape word flag) (SpellsFlag word flag) rest
-Spelling-flag word is true rest = record {
-  all = symbol word ∷ rest;
-  tokens = record { are = (rest, (symbol word, is, refl), refl) };
-  spells = (unknown, refl);
-}
-Spelling-flag word is false rest = record { all = rest; tokens = record { are = refl }; spells = refl }
-
--- each name of a list that is spelt
-abbrev AreIdentifiers : List Name → Type 0
-AreIdentifiers [] = Unit {0}
-AreIdentifiers (n ∷ ns) = (is_identifier n.text ≡ true) × AreIdentifiers ns
-
-AreIdentifiers-spelt : (ns : List Name) (all rest : List Placed) → SpellsAll SpellsName ns all rest → AreIdentifiers ns
-AreIdentifiers-spelt [] all rest s = tt
-AreIdentifiers-spelt (n ∷ ns) all rest s = (s.1.0, AreIdentifiers-spelt ns s.0 rest s.2)
-
-Spelling-names : Symbols → (ns : List Name) → AreIdentifiers ns → (rest : List Tok) → Spelling (name_shapes ns) (SpellsAll SpellsName (erase_names ns)) rest
-Spelling-names symbols [] is rest = record { all = rest; tokens = record { are = refl }; spells = refl }
-Spelling-names symbols (n ∷ ns) is rest =
-    let behind = Spelling-names symbols ns is.1 rest in
-    record {
-      all = symbol n.text ∷ behind.all;
-      tokens = record { are = (behind.all, (symbol n.text, symbols n.text is.0, refl), behind.tokens.are) };
-      spells = (unplaced behind.all, (is.0, refl), behind.spells);
-    }
-
--- items in parentheses
-Spelling-row : (items : List Sexp) (Spells : List Placed → List Placed → Type 0) (rest : List Tok) → Spelling items Spells (rparen ∷ rest) → Spelling (row_of items ∷ []) (InParentheses Spells) rest
-Spelling-row items Spells rest s = record {
-  all = lparen ∷ s.all;
-  tokens = record { are = (rest, (s.all, refl, s.tokens.are), refl) };
-  spells = (unplaced s.all, unplaced (rparen ∷ rest), (unknown, refl), s.spells, (unknown, refl));
-}
-
--- a token stands ahead
-abbrev IsAhead : List Tok → Type 0
-IsAhead [] = ⊥
-IsAhead (_ ∷ _) = Unit {0}
-
-BeginsAt-ahead : (all : List Tok) → IsAhead all → BeginsAt unknown (unplaced all)
-BeginsAt-ahead [] h = absurd h
-BeginsAt-ahead (token ∷ tokens) h = (token, unplaced tokens, refl)
-
-name-ahead : (symbols : Symbols) (n : Name) (is : is_identifier n.text ≡ true) (rest : List Tok) → IsAhead (Spelling-name symbols n is rest).all
-unfolding Spelling-name
-name-ahead symbols n is rest = tt
-
-flag-ahead : (word : List ℕ) (is : ReadsAs word (symbol word)) (flag : Bool) (rest : List Tok) → IsAhead rest → IsAhead (Spelling-flag word is flag rest).all
-unfolding Spelling-flag
-flag-ahead word is true rest h = tt
-flag-ahead word is false rest h = h
-
--- what a declaration's print needs of it
-record IsSound (d : Declaration) : Type 0 where
-  term_is_no_flag : term_is_no_flag d ≡ true
-  term : is_identifier d.term.text ≡ true
-  arg_tys : AreIdentifiers d.arg_tys
-  ret_ty : is_identifier d.ret_ty.text ≡ true
-
-IsSound-spelt : (d : Declaration) (all rest : List Placed) → SpellsDeclaration d all rest → IsSound d
-IsSound-spelt d all rest s = record {
-  term_is_no_flag = s.term_is_no_flag;
-  term = s.term.0;
-  arg_tys = AreIdentifiers-spelt d.arg_tys s.arg_tys.0 s.arg_tys.1 s.arg_tys.3;
-  ret_ty = s.ret_ty.0;
-}
-
--- a whole definition before the tokens
-record SpellsShape (s : Sexp) (Spells : List Placed → List Placed → Type 0) (rest : List Tok) : Type 0 where
-  all : List Tok
-  tokens : TokensOf s all rest
-  spells : Spells (unplaced all) (unplaced rest)
-
-Shape-declaration : Symbols → (d : Declaration) → IsSound d → (rest : List Tok) → SpellsShape (declaration_shape d) (SpellsDefinition (erase_definition (decl d))) rest
-Shape-declaration symbols d is rest =
-    let ret = Spelling-name symbols d.ret_ty is.ret_ty (rparen ∷ rest) in
-    let names = Spelling-names symbols d.arg_tys is.arg_tys (rparen ∷ ret.all) in
-    let args = Spelling-row (name_shapes d.arg_tys) (SpellsAll SpellsName (erase_names d.arg_tys)) ret.all names in
-    let term = Spelling-name symbols d.term is.term args.all in
-    let rec = Spelling-flag (codes "rec") word-rec d.rec term.all in
-    let partial = Spelling-flag (codes "partial") word-partial d.partial rec.all in
-    let multi = Spelling-flag (codes "multi") word-multi d.multi partial.all in
-    let pure = Spelling-flag (codes "pure") word-pure d.pure multi.all in
-    let word = Spelling-word (codes "decl") word-decl pure.all in
-    let ahead : BeginsAt unknown (unplaced pure.all) =
-    BeginsAt-ahead pure.all
-    (flag-ahead _ word-pure d.pure multi.all
-    (flag-ahead _ word-multi d.multi partial.all
-    (flag-ahead _ word-partial d.partial rec.all
-    (flag-ahead _ word-rec d.rec term.all (name-ahead symbols d.term is.term args.all))))) in
-    record {
-      all = lparen ∷ word.all;
-      tokens = (
-        word.all,
-        refl,
-        (word.tokens then pure.tokens then multi.tokens then partial.tokens then rec.tokens
-            then term.tokens then args.tokens then ret.tokens).are,
-      );
+-- `extern`, a word, and what stands behind it
+spell-extern : (e : ExternDefinition) → IsWritableExtern e → (rest : List Tok) → Spelling (extern_shape e ∷ []) (SpellsDefinition (external (erase_extern e))) rest
+spell-extern (extern_extractor term func _ infallible) is rest =
+    let pair = spell-pair term func is.0 is.1 (rparen ∷ rest) in
+    let flag = spell-flag (codes "infallible") word-infallible infallible pair.all in
+    let kind = spell-word (codes "extractor") word-extractor flag.all in
+    let word = spell-word (codes "extern") word-extern kind.all in
+    spell-row
+    (atom (codes "extern") ∷ [] ++ atom (codes "extractor") ∷ [] ++ flag_shape (codes "infallible") infallible ++ name_shape term ∷ [] ++ name_shape func ∷ [])
+    (BehindWord (codes "extern") (SpellsExtern (erase_extern (extern_extractor term func unknown infallible))))
+    rest
+    (record {
+      all = word.all;
+      tokens = regrouped (name_shape term ∷ []) (name_shape func ∷ []) (word.tokens then kind.tokens then flag.tokens) pair.tokens;
       spells = (
-        unplaced word.all,
-        unplaced (rparen ∷ rest),
-        (unknown, refl),
+        unplaced kind.all,
+        word.spells,
         (
-          unplaced pure.all,
-          word.spells,
-          record {
-            term_is_no_flag = is.term_is_no_flag;
-            position = ahead;
-            behind_pure = unplaced multi.all;
-            pure = pure.spells;
-            behind_multi = unplaced partial.all;
-            multi = multi.spells;
-            behind_partial = unplaced rec.all;
-            partial = partial.spells;
-            behind_rec = unplaced term.all;
-            rec = rec.spells;
-            behind_term = unplaced args.all;
-            term = term.spells;
-            behind_arg_tys = unplaced ret.all;
-            arg_tys = args.spells;
-            ret_ty = ret.spells;
-          },
+          Wants-demands term (codes "infallible") infallible is.2,
+          item-ahead kind.tokens,
+          (unplaced flag.all, kind.spells, (unplaced pair.all, flag.spells, pair.spells)),
         ),
-        (unknown, refl),
       );
-    }
-
--- what a conversion's print needs of it
-record IsSoundConversion (c : Conversion) : Type 0 where
-  term : is_identifier c.term.text ≡ true
-  inner_ty : is_identifier c.inner_ty.text ≡ true
-  outer_ty : is_identifier c.outer_ty.text ≡ true
-
-Shape-conversion : Symbols → (c : Conversion) → IsSoundConversion c → (rest : List Tok) → SpellsShape (conversion_shape c) (SpellsDefinition (erase_definition (converter c))) rest
-Shape-conversion symbols c is rest =
-    let term = Spelling-name symbols c.term is.term (rparen ∷ rest) in
-    let outer = Spelling-name symbols c.outer_ty is.outer_ty term.all in
-    let inner = Spelling-name symbols c.inner_ty is.inner_ty outer.all in
-    let word = Spelling-word (codes "convert") word-convert inner.all in
-    record {
-      all = lparen ∷ word.all;
-      tokens = (word.all, refl, (word.tokens then inner.tokens then outer.tokens then term.tokens).are);
+    })
+spell-extern (extern_constructor term func _) is rest =
+    let pair = spell-pair term func is.0 is.1 (rparen ∷ rest) in
+    let kind = spell-word (codes "constructor") word-constructor pair.all in
+    let word = spell-word (codes "extern") word-extern kind.all in
+    spell-row
+    (atom (codes "extern") ∷ [] ++ atom (codes "constructor") ∷ [] ++ name_shape term ∷ [] ++ name_shape func ∷ [])
+    (BehindWord (codes "extern") (SpellsExtern (erase_extern (extern_constructor term func unknown))))
+    rest
+    (record {
+      all = word.all;
+      tokens = regrouped (name_shape term ∷ []) (name_shape func ∷ []) (word.tokens then kind.tokens) pair.tokens;
+      spells = (unplaced kind.all, word.spells, (item-ahead kind.tokens, (unplaced pair.all, kind.spells, pair.spells)));
+    })
+spell-extern (extern_const name ty _) is rest =
+    let second = spell-name ty is.1 (rparen ∷ rest) in
+    let first = spell-constant name is.0 second.all in
+    let kind = spell-word (codes "const") word-const first.all in
+    let word = spell-word (codes "extern") word-extern kind.all in
+    spell-row
+    (atom (codes "extern") ∷ [] ++ atom (codes "const") ∷ [] ++ constant_shape name ∷ [] ++ name_shape ty ∷ [])
+    (BehindWord (codes "extern") (SpellsExtern (erase_extern (extern_const name ty unknown))))
+    rest
+    (record {
+      all = word.all;
+      tokens = word.tokens then kind.tokens then first.tokens then second.tokens;
       spells = (
-        unplaced word.all,
-        unplaced (rparen ∷ rest),
-        (unknown, refl),
-        (
-          unplaced inner.all,
-          word.spells,
-          record {
-            position = BeginsAt-ahead inner.all (name-ahead symbols c.inner_ty is.inner_ty outer.all);
-            behind_inner = unplaced outer.all;
-            inner_ty = inner.spells;
-            behind_outer = unplaced term.all;
-            outer_ty = outer.spells;
-            term = term.spells;
-          },
-        ),
-        (unknown, refl),
+        unplaced kind.all,
+        word.spells,
+        (refl, (unplaced first.all, kind.spells, (unplaced second.all, first.spells, second.spells))),
       );
-    }
+    })
 
--- a spelt definition's shape spells it erased
-Shape-definition : Symbols → (d : Definition) (all behind : List Placed) → SpellsDefinition d all behind → (rest : List Tok) → SpellsShape (definition_shape d) (SpellsDefinition (erase_definition d)) rest
-Shape-definition symbols (decl d) all behind s rest = Shape-declaration symbols d (IsSound-spelt d _ _ s.3.2) rest
-Shape-definition symbols (converter c) all behind s rest =
-    Shape-conversion symbols c
-    (record { term = s.3.2.term.0; inner_ty = s.3.2.inner_ty.0; outer_ty = s.3.2.outer_ty.0 }) rest
+spell-declaration : (d : Declaration) → IsWritableDeclaration d → (rest : List Tok) → Spelling (definition_shape (decl d) ∷ []) (SpellsDefinition (erase_definition (decl d))) rest
+spell-declaration d is rest =
+    let ret = spell-name d.ret_ty is.ret_ty (rparen ∷ rest) in
+    let args = spell-row (name_shapes d.arg_tys) (SpellsAll SpellsName (erase_names d.arg_tys)) ret.all (spell-names d.arg_tys is.arg_tys (rparen ∷ ret.all)) in
+    let term = spell-name d.term is.term args.all in
+    let rec = spell-flag (codes "rec") word-rec d.rec term.all in
+    let partial = spell-flag (codes "partial") word-partial d.partial rec.all in
+    let multi = spell-flag (codes "multi") word-multi d.multi partial.all in
+    let pure = spell-flag (codes "pure") word-pure d.pure multi.all in
+    let word = spell-word (codes "decl") word-decl pure.all in
+    spell-row _
+    (BehindWord (codes "decl") (SpellsDeclaration (erase_declaration d)))
+    rest
+    (record {
+      all = word.all;
+      tokens = word.tokens then pure.tokens then multi.tokens then partial.tokens then rec.tokens
+          then term.tokens then args.tokens then ret.tokens;
+      spells = (
+        unplaced pure.all,
+        word.spells,
+        record {
+          term_is_no_flag =
+              all_true _ _
+              (all_true _ _ (all_true _ _ (Wants-demands d.term _ _ is.not_pure) (Wants-demands d.term _ _ is.not_multi)) (Wants-demands d.term _ _ is.not_partial))
+              (Wants-demands d.term _ _ is.not_rec);
+          position = items-ahead pure.tokens (items-ahead multi.tokens (items-ahead partial.tokens (items-ahead rec.tokens (item-ahead term.tokens))));
+          behind_pure = unplaced multi.all;
+          pure = pure.spells;
+          behind_multi = unplaced partial.all;
+          multi = multi.spells;
+          behind_partial = unplaced rec.all;
+          partial = partial.spells;
+          behind_rec = unplaced term.all;
+          rec = rec.spells;
+          behind_term = unplaced args.all;
+          term = term.spells;
+          behind_arg_tys = unplaced ret.all;
+          arg_tys = args.spells;
+          ret_ty = ret.spells;
+        },
+      );
+    })
 
--- no definition, or a text that begins with a LF: it ends what stands before it
-record ReadsDefinitions (text : List ℕ) (ds : List Definition) : Type 0 where
-  all : List Tok
-  reads : Reads text all
-  spells : SpellsDefinitions (erase ds) (unplaced all)
+spell-conversion : (c : Conversion) → IsWritableConversion c → (rest : List Tok) → Spelling (definition_shape (converter c) ∷ []) (SpellsDefinition (erase_definition (converter c))) rest
+spell-conversion c is rest =
+    let term = spell-name c.term is.0 (rparen ∷ rest) in
+    let outer = spell-name c.outer_ty is.2 term.all in
+    let inner = spell-name c.inner_ty is.1 outer.all in
+    let word = spell-word (codes "convert") word-convert inner.all in
+    spell-row _
+    (BehindWord (codes "convert") (SpellsConversion (erase_conversion c)))
+    rest
+    (record {
+      all = word.all;
+      tokens = word.tokens then inner.tokens then outer.tokens then term.tokens;
+      spells = (
+        unplaced inner.all,
+        word.spells,
+        record {
+          position = item-ahead inner.tokens;
+          behind_inner = unplaced outer.all;
+          inner_ty = inner.spells;
+          behind_outer = unplaced term.all;
+          outer_ty = outer.spells;
+          term = term.spells;
+        },
+      );
+    })
 
--- a definition's lines read as its tokens, and what follows as what follows
-definition_text-reads : (width : ℕ) (d : Definition) (text : List ℕ) (all rest : List Tok) → TokensOf (definition_shape d) all rest → Reads text rest → Reads (definition_text width d ++ text) all
-definition_text-reads width d text all rest t r =
-    subst (λ b. Reads b all)
-    (ap (λ b. b ++ (10 ∷ text)) (sym (layout_is_render width (definition_shape d)))
-    ∙ sym (append_assoc (layout width (definition_shape d)) (10 ∷ []) text))
-    (render-reads (definition_shape d) (greedy width (definition_shape d) 0) 0 all rest t (10 ∷ text) in_symbol-10
-    (Reads-blank 10 text rest is_blank-10 r))
-
-behind_text-reads : Symbols → (width : ℕ) (ds : List Definition) (all : List Placed) → SpellsDefinitions ds all → ReadsDefinitions (behind_text width ds) ds
-behind_text-reads symbols width [] all s = record { all = []; reads = nothing refl; spells = refl }
-behind_text-reads symbols width (d ∷ ds) all s =
-    let behind = behind_text-reads symbols width ds s.0 s.2 in
-    let shape = Shape-definition symbols d all s.0 s.1 behind.all in
-    record {
-      all = shape.all;
-      reads = Reads-blank 10 (definition_text width d ++ behind_text width ds) shape.all is_blank-10
-          (definition_text-reads width d (behind_text width ds) shape.all behind.all shape.tokens behind.reads);
-      spells = (unplaced behind.all, shape.spells, behind.spells);
-    }
-
-printed_text-reads : Symbols → (width : ℕ) (ds : List Definition) (all : List Placed) → SpellsDefinitions ds all → ReadsDefinitions (printed_text width ds) ds
-printed_text-reads symbols width [] all s = record { all = []; reads = nothing refl; spells = refl }
-printed_text-reads symbols width (d ∷ ds) all s =
-    let behind = behind_text-reads symbols width ds s.0 s.2 in
-    let shape = Shape-definition symbols d all s.0 s.1 behind.all in
-    record {
-      all = shape.all;
-      reads = definition_text-reads width d (behind_text width ds) shape.all behind.all shape.tokens behind.reads;
-      spells = (unplaced behind.all, shape.spells, behind.spells);
-    }
-
--- an identifier reads as its symbol
-Symbols-identifiers : Symbols
-Symbols-identifiers text is rest apart = identifier_is_symbol text rest is apart
-
--- The print of spelt definitions, at any width, is spelt by them, erased.
-pub printed_text-spelt : (width : ℕ) (ds : List Definition) (all : List Placed) → SpellsDefinitions ds all → IsSpelt nowhere (printed_text width ds) (erase ds)
-printed_text-spelt width ds all s =
-    let r = printed_text-reads Symbols-identifiers width ds all s in
-    let l = Lexes-from_reads (length (printed_text width ds)) (printed_text width ds) r.all r.reads in
-    (l.0, l.1, subst (λ p. SpellsDefinitions (erase ds) p) (sym l.2) r.spells)
-
--- so is every text that is their print
-pub IsPrinted-ReadsBack : (width : ℕ) (ds : List Definition) (text : List ℕ) → IsPrinted width ds text → ReadsBack ds text
-IsPrinted-ReadsBack width ds text is all s =
-    subst (λ t. IsSpelt nowhere t (erase ds)) (sym (IsPrinted-text width ds text is)) (printed_text-spelt width ds all s)
-
--- Every choice of broken lists lexes to the tokens of the S-expression.
-pub render-lexes : (s : Sexp) (c : Choice s) (level : ℕ) (tokens : List Tok) → TokensOf s tokens []
-    → (l : List Lexeme) × lexes (render s c level) l end × (placed nowhere l ≡ unplaced tokens)
-render-lexes s c level tokens t =
-    Lexes-from_reads (length (render s c level)) (render s c level) tokens
-    (subst (λ b. Reads b tokens) (append-nil (render s c level)) (render-reads s c level tokens [] t [] refl (nothing refl)))
-
--- positions play no part in a shape
-
-name_shapes-erased : (ns : List Name) → name_shapes (erase_names ns) ≡ name_shapes ns
-name_shapes-erased [] = refl
-name_shapes-erased (n ∷ ns) = ap (λ ss. name_shape n ∷ ss) (name_shapes-erased ns)
-
-definition_shape-erased : (d : Definition) → definition_shape (erase_definition d) ≡ definition_shape d
-definition_shape-erased (decl d) =
-    ap
-    (λ args. row_of (atom (codes "decl") ∷ []
-    ++ flag_shape (codes "pure") d.pure
-    ++ flag_shape (codes "multi") d.multi
-    ++ flag_shape (codes "partial") d.partial
-    ++ flag_shape (codes "rec") d.rec
-    ++ name_shape d.term ∷ []
-    ++ row_of args ∷ []
-    ++ name_shape d.ret_ty ∷ []))
-    (name_shapes-erased d.arg_tys)
-definition_shape-erased (converter c) = refl
-
-definition_text-erased : (width : ℕ) (d : Definition) → definition_text width (erase_definition d) ≡ definition_text width d
-definition_text-erased width d = ap (λ s. layout width s ++ 10 ∷ []) (definition_shape-erased d)
-
-behind_text-erased : (width : ℕ) (ds : List Definition) → behind_text width (erase ds) ≡ behind_text width ds
-behind_text-erased width [] = refl
-behind_text-erased width (d ∷ ds) =
-    ap (λ t. 10 ∷ t ++ behind_text width (erase ds)) (definition_text-erased width d)
-    ∙ ap (λ t. 10 ∷ definition_text width d ++ t) (behind_text-erased width ds)
-
--- The print of definitions is that of the erased ones.
-pub printed_text-erased : (width : ℕ) (ds : List Definition) → printed_text width (erase ds) ≡ printed_text width ds
-printed_text-erased width [] = refl
-printed_text-erased width (d ∷ ds) =
-    ap (λ t. t ++ behind_text width (erase ds)) (definition_text-erased width d)
-    ∙ ap (λ t. definition_text width d ++ t) (behind_text-erased width ds)
-
-pub IsPrinted-erased : (width : ℕ) (ds : List Definition) (text : List ℕ) → IsPrinted width ds text ↔ IsPrinted width (erase ds) text
-IsPrinted-erased width ds text = (
-  λ is. IsPrinted-from_text width (erase ds) text (IsPrinted-text width ds text is ∙ sym (printed_text-erased width ds)),
-  λ is. IsPrinted-from_text width ds text (IsPrinted-text width (erase ds) text is ∙ printed_text-erased width ds),
-)
+-- The tokens of the shape of a writable definition spell it, erased.
+pub spell-definition : (d : Definition) → IsWritable d → (rest : List Tok) → Spelling (definition_shape d ∷ []) (SpellsDefinition (erase_definition d)) rest
+spell-definition (type_def t) is rest =
+    let content = spell-type_content t.ty is.1 (rparen ∷ rest) in
+    let modifiers = spell-modifiers t.is_extern t.is_nodebug content.all in
+    let name = spell-name t.name is.0 modifiers.all in
+    let word = spell-word (codes "type") word-type name.all in
+    spell-row
+    (atom (codes "type") ∷ [] ++ name_shape t.name ∷ [] ++ flag_shape (codes "extern") t.is_extern ++ flag_shape (codes "nodebug") t.is_nodebug ++ type_content_shape t.ty ∷ [])
+    (BehindWord (codes "type") (SpellsTypeDefinition (erase_type t)))
+    rest
+    (record {
+      all = word.all;
+      tokens = regrouped (flag_shape (codes "extern") t.is_extern) (flag_shape (codes "nodebug") t.is_nodebug) (word.tokens then name.tokens) modifiers.tokens then content.tokens;
+      spells = (
+        unplaced name.all,
+        word.spells,
+        record {
+          position = item-ahead name.tokens;
+          behind_name = unplaced modifiers.all;
+          name = name.spells;
+          behind_modifiers = unplaced content.all;
+          modifiers = modifiers.spells;
+          ty = content.spells;
+        },
+      );
+    })
+spell-definition (decl d) is rest = spell-declaration d is rest
+spell-definition (attr a) is rest =
+    let kinds = spell-all kind_shape erase_kind SpellsAttributeKind IsWritableKind spell-kind a.kinds is.1 (rparen ∷ rest) in
+    let target = spell-target a.target is.0 kinds.all in
+    let word = spell-word (codes "attr") word-attr target.all in
+    spell-row
+    (atom (codes "attr") ∷ [] ++ target_shape a.target ++ map kind_shape a.kinds)
+    (BehindWord (codes "attr") (SpellsAttribute (erase_attribute a)))
+    rest
+    (record {
+      all = word.all;
+      tokens = word.tokens then target.tokens then kinds.tokens;
+      spells = (
+        unplaced target.all,
+        word.spells,
+        record {
+          position = target-ahead a.target target.tokens;
+          behind_target = unplaced kinds.all;
+          target = target.spells;
+          kinds = kinds.spells;
+        },
+      );
+    })
+spell-definition (model m) is rest =
+    let val = spell-model_content m.val is.1 (rparen ∷ rest) in
+    let name = spell-name m.name is.0 val.all in
+    let word = spell-word (codes "model") word-model name.all in
+    spell-row
+    (atom (codes "model") ∷ [] ++ name_shape m.name ∷ [] ++ model_content_shape m.val ∷ [])
+    (BehindWord (codes "model") (SpellsModel (erase_model_definition m)))
+    rest
+    (record {
+      all = word.all;
+      tokens = word.tokens then name.tokens then val.tokens;
+      spells = (unplaced name.all, word.spells, record { behind_name = unplaced val.all; name = name.spells; val = val.spells });
+    })
+spell-definition (form f) is rest =
+    let signatures = spell-signatures f.signatures is.1 (rparen ∷ rest) in
+    let name = spell-name f.name is.0 signatures.all in
+    let word = spell-word (codes "form") word-form name.all in
+    spell-row
+    (atom (codes "form") ∷ [] ++ name_shape f.name ∷ [] ++ map signature_shape f.signatures)
+    (BehindWord (codes "form") (SpellsForm (erase_form f)))
+    rest
+    (record {
+      all = word.all;
+      tokens = word.tokens then name.tokens then signatures.tokens;
+      spells = (
+        unplaced name.all,
+        word.spells,
+        record {
+          position = item-ahead name.tokens;
+          behind_name = unplaced signatures.all;
+          name = name.spells;
+          signatures = signatures.spells;
+        },
+      );
+    })
+spell-definition (instantiation i) is rest =
+    let instances = spell-instances i.form i.signatures i.tags is.1 (rparen ∷ rest) in
+    let term = spell-name i.term is.0 instances.all in
+    let word = spell-word (codes "instantiate") word-instantiate term.all in
+    spell-row
+    (atom (codes "instantiate") ∷ [] ++ name_shape i.term ∷ [] ++ instance_shapes i.form i.signatures ++ map tag_shape i.tags)
+    (BehindWord (codes "instantiate") (SpellsInstantiation (erase_instantiation i)))
+    rest
+    (record {
+      all = word.all;
+      tokens = regrouped (instance_shapes i.form i.signatures) (map tag_shape i.tags) (word.tokens then term.tokens) instances.tokens;
+      spells = (
+        unplaced term.all,
+        word.spells,
+        record {
+          position = item-ahead term.tokens;
+          behind_term = unplaced instances.all;
+          term = term.spells;
+          instances = instances.spells;
+        },
+      );
+    })
+spell-definition (external e) is rest = spell-extern e is rest
+spell-definition (converter c) is rest = spell-conversion c is rest

@@ -1,17 +1,7 @@
 //! Rows from bytes to bytes. The expected values are those of upstream's printer.
 
-use crate::listing::fault_words;
-use isle_syntax::format;
-use std::alloc::{AllocError, Global};
+use crate::listing::formatted;
 use std::test::Fail;
-
-/// What `format` answers: the text, or the fault.
-fn formatted(alloc: Global, text: &str, width: usize) -> Result<String, AllocError> {
-    match format(alloc, text, width) {
-        Ok(answer) => Ok(answer),
-        Err(fault) => fault_words(alloc, &fault),
-    }
-}
 
 #[test]
 fn texts_and_widths(rt: HostRuntime) -> Result<(), Fail> {

@@ -6,6 +6,8 @@ mod diagnostics;
 #[cfg(test)]
 mod formatting;
 #[cfg(test)]
+mod kinds;
+#[cfg(test)]
 mod lexing;
 #[cfg(test)]
 mod listing;

@@ -1,9 +1,10 @@
 //! Tokens, trees and faults in short texts, which the rows compare.
 
-use isle_ast::ast::{Converter, Decl, Def, Ident};
+use isle_ast::ast::{Converter, Decl, Def, Fields, Ident, TypeDef, TypeValue, Variant};
 use isle_base::error::Error;
 use isle_base::lexer::{Fault, Lexer, Pos, Token};
 use isle_parser::parser::{parse, parse_without_pos};
+use isle_syntax::format;
 use std::alloc::{AllocError, Global};
 
 /// One word for a token.
@@ -158,6 +159,49 @@ fn push_converter(
     push_name(alloc, out, &converter.term)
 }
 
+/// The position of fields, where there are any.
+fn push_fields(alloc: Global, out: &mut String, fields: &Fields) -> Result<(), AllocError> {
+    let pos = match fields {
+        Fields::Unit => return Ok(()),
+        Fields::Struct(fields) => fields.pos,
+        Fields::Tuple(fields) => fields.pos,
+    };
+    out.push_str(" fields ")?;
+    let place = pos_word(alloc, pos)?;
+    out.push_str(&place)
+}
+
+fn push_variants(alloc: Global, out: &mut String, variants: &[Variant]) -> Result<(), AllocError> {
+    for variant in variants {
+        out.push(' ')?;
+        out.push_str(&variant.name.0)?;
+        out.push(' ')?;
+        let place = pos_word(alloc, variant.pos)?;
+        out.push_str(&place)?;
+        push_fields(alloc, out, &variant.fields)?;
+    }
+    Ok(())
+}
+
+fn push_type(alloc: Global, out: &mut String, def: &TypeDef) -> Result<(), AllocError> {
+    out.push_str("TypeDef ")?;
+    let place = pos_word(alloc, def.pos)?;
+    out.push_str(&place)?;
+    push_flag(out, def.is_extern, "extern")?;
+    push_flag(out, def.is_nodebug, "nodebug")?;
+    match &def.ty {
+        TypeValue::Primitive(_, _) => out.push_str(" primitive"),
+        TypeValue::Enum(variants, _) => {
+            out.push_str(" enum")?;
+            push_variants(alloc, out, variants)
+        }
+        TypeValue::Struct(fields, _) => {
+            out.push_str(" struct")?;
+            push_fields(alloc, out, fields)
+        }
+    }
+}
+
 /// The fields of each definition, with their positions, a `;` behind each.
 pub fn tree_words(alloc: Global, defs: &[Def]) -> Result<String, AllocError> {
     let mut out = String::new(alloc);
@@ -165,6 +209,8 @@ pub fn tree_words(alloc: Global, defs: &[Def]) -> Result<String, AllocError> {
         match def {
             Def::Decl(decl) => push_decl(alloc, &mut out, decl)?,
             Def::Converter(converter) => push_converter(alloc, &mut out, converter)?,
+            Def::TypeDef(def) => push_type(alloc, &mut out, def)?,
+            _ => out.push_str("other")?,
         }
         out.push(';')?;
     }
@@ -183,6 +229,14 @@ pub fn parsed(alloc: Global, lexer: Lexer) -> Result<String, AllocError> {
 pub fn parsed_without_pos(alloc: Global, lexer: Lexer) -> Result<String, AllocError> {
     match parse_without_pos(alloc, lexer) {
         Ok(defs) => tree_words(alloc, &defs),
+        Err(fault) => fault_words(alloc, &fault),
+    }
+}
+
+/// What `format` answers: the text, or the fault.
+pub fn formatted(alloc: Global, text: &str, width: usize) -> Result<String, AllocError> {
+    match format(alloc, text, width) {
+        Ok(answer) => Ok(answer),
         Err(fault) => fault_words(alloc, &fault),
     }
 }

@@ -12,7 +12,7 @@ use Rattle.isle_ast.specs.Spelt.{Spells, IsSpelt}
 use Rattle.isle_ast.specs.Tree.{Definition}
 use Rattle.isle_ast.proofs.Erasing.{text_erased}
 use Rattle.isle_printer.specs.Printed.{IsPrinted}
-use Rattle.isle_printer.proofs.ShapeLaw.{IsPrinted-ReadsBack, IsPrinted-erased}
+use Rattle.isle_printer.proofs.PrintLaw.{IsPrinted-ReadsBack, IsPrinted-erased}
 use Rattle.isle_parser.specs.Parsed.{RefusesText, RefusesIn}
 use Rattle.isle_base.specs.declared.lexer.Fault.{Fault}
 use Rattle.isle_base.specs.declared.lexer.Fault.TheVariants as faults

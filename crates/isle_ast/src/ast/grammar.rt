@@ -1,19 +1,33 @@
 //! Laws of the grammar, which run no code.
 //!
-//! The grammar says which tokens spell which definition: `(decl ..)` with its flags in the order
-//! `pure`, `multi`, `partial`, `rec`, and `(convert ..)`, as the ISLE reference describes them. A term
-//! that is itself the word of a flag wants that flag, or a later one, to be set, since it would be read
-//! as the flag otherwise.
+//! The grammar says which tokens spell which definition, as the ISLE reference describes them:
+//!
+//! - `(type I MOD.. VALUE)`, the modifiers `extern` and `nodebug` in any order and repeated;
+//! - `(decl I (I..) I)` with the flags `pure`, `multi`, `partial` and `rec` in this order behind `decl`;
+//! - `(attr I KIND..)` of a term, `(attr rule I KIND..)` of a rule;
+//! - `(model I (type MODEL))`, `(form I SIGNATURE..)`;
+//! - `(instantiate I SIGNATURE ..)` and `(instantiate I I (tag I)..)`;
+//! - `(extern constructor I I)`, `(extern extractor I I)` with or without `infallible`, and
+//!   `(extern const $I I)`, where the name behind the `$` may be empty;
+//! - `(convert I I I)`: the inner type, the outer type, the term.
+//!
+//! A name that would be read as a word of its definition wants what is read: a term of a declaration
+//! that is the word of a flag wants that flag, or a later one, to be set; a term of an attribute isn't
+//! named `rule`; an extracted term named `infallible` wants that flag.
 
 ghost use Rattle.std.specs.Prelude.{◌≡◌, ◌↔◌, ℕ, List};
 ghost use Rattle.isle_base.specs.declared.lexer.Pos.{Pos};
 ghost use Rattle.isle_base.specs.Place.{Placed, nowhere};
 ghost use Rattle.isle_base.specs.Token.{Feed};
 ghost use Rattle.isle_ast.specs.Erased.{erase};
-ghost use Rattle.isle_ast.specs.Grammar.{SpellsAll, SpellsConversion, SpellsDeclaration, SpellsDefinition, SpellsDefinitions, SpellsName};
+ghost use Rattle.isle_ast.specs.Grammar.{SpellsDefinition, SpellsDefinitions};
+ghost use Rattle.isle_ast.specs.ModelGrammar.{SpellsForm, SpellsInstantiation, SpellsModel, SpellsTypeModel};
 ghost use Rattle.isle_ast.specs.Parts.{AreParts, IsByParts};
 ghost use Rattle.isle_ast.specs.Spelt.{Spells};
-ghost use Rattle.isle_ast.specs.Tree.{Conversion, Declaration, Definition, Name};
+ghost use Rattle.isle_ast.specs.TermGrammar.{SpellsAttribute, SpellsConversion, SpellsDeclaration, SpellsExtern};
+ghost use Rattle.isle_ast.specs.Tree.{Attribute, Conversion, Declaration, Definition, ExternDefinition, FormDefinition, ModelDefinition, Name, TermInstantiation, TypeDefinition, TypeModel};
+ghost use Rattle.isle_ast.specs.TypeGrammar.{SpellsTypeDefinition};
+ghost use Rattle.isle_ast.specs.Words.{SpellsAll, SpellsName};
 
 /// A law: what spells a node in front of some tokens is a part of the list, and it spells the node in
 /// front of any others too. So the tokens that spell a list of definitions are cut into as many parts
@@ -21,7 +35,14 @@ ghost use Rattle.isle_ast.specs.Tree.{Conversion, Declaration, Definition, Name}
 pub fn spellings_are_parts()
     ensures names { (name : Name) → IsByParts (SpellsName name) }
     ensures rows_of_names { (names : List Name) → IsByParts (SpellsAll SpellsName names) }
+    ensures types { (t : TypeDefinition) → IsByParts (SpellsTypeDefinition t) }
     ensures declarations { (d : Declaration) → IsByParts (SpellsDeclaration d) }
+    ensures attributes { (a : Attribute) → IsByParts (SpellsAttribute a) }
+    ensures type_models { (t : TypeModel) → IsByParts (SpellsTypeModel t) }
+    ensures models { (m : ModelDefinition) → IsByParts (SpellsModel m) }
+    ensures forms { (f : FormDefinition) → IsByParts (SpellsForm f) }
+    ensures instantiations { (i : TermInstantiation) → IsByParts (SpellsInstantiation i) }
+    ensures externs { (e : ExternDefinition) → IsByParts (SpellsExtern e) }
     ensures conversions { (c : Conversion) → IsByParts (SpellsConversion c) }
     ensures definitions { (d : Definition) → IsByParts (SpellsDefinition d) }
     ensures whole_texts { (ds : List Definition) (all : List Placed) → SpellsDefinitions ds all ↔ AreParts SpellsDefinition ds all }

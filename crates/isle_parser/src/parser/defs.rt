@@ -4,9 +4,9 @@ ghost use Rattle.std.specs.Prelude.{◌≡◌, OnOk, true, false};
 ghost use Rattle.isle_base.specs.Steps.{is_at_end, is_failed};
 ghost use Rattle.isle_ast.specs.TreeView.{conversion_of, declaration_of, definition_of, definitions_of};
 ghost use Rattle.isle_parser.specs.Answers.{Gives, IsPlace, source, tokens};
-ghost use Rattle.isle_parser.specs.ReadDefinitions.{behind, conversion, declaration, definition, definitions, form};
+ghost use Rattle.isle_parser.specs.ReadDefinitions.{behind, conversion, declaration, definition, definitions, keyword_form};
 
-use crate::parser::{Parser, Stop, refuse};
+use crate::parser::{Parser, Stop};
 use isle_ast::ast::{Converter, Decl, Def};
 use isle_base::lexer::Pos;
 use std::alloc::Global;
@@ -33,16 +33,16 @@ impl<'src> Parser<'src> {
         ensures goes_on { OnOk result (is_failed self.new.lexer ≡ false) }
     {
         self.expect_lparen(alloc)?;
-        let def = self.parse_form(alloc)?;
+        let def = self.parse_keyword_form(alloc)?;
         self.expect_rparen(alloc)?;
         Ok(def)
     }
 
     // A keyword, and what stands behind it.
-    #[tactic(auto, unfolding(crate::specs::ReadDefinitions::form))]
-    fn parse_form(&mut self, alloc: Global) -> Result<Def, Stop>
+    #[tactic(auto, unfolding(crate::specs::ReadDefinitions::keyword_form))]
+    fn parse_keyword_form(&mut self, alloc: Global) -> Result<Def, Stop>
         ensures same { source self.new ≡ source self.old }
-        ensures gives { Gives definition_of (form (tokens self.old)) result self.new }
+        ensures gives { Gives definition_of (keyword_form (tokens self.old)) result self.new }
     {
         let place = self.place();
         let word = self.expect_symbol(alloc)?;
@@ -57,9 +57,16 @@ impl<'src> Parser<'src> {
         ensures gives { Gives definition_of (behind word.now (tokens self.old)) result self.new }
     {
         match word {
+            "pragma" => Ok(Def::Pragma(self.parse_pragma(alloc)?)),
+            "type" => Ok(Def::TypeDef(self.parse_type(alloc)?)),
             "decl" => Ok(Def::Decl(self.parse_decl(alloc)?)),
+            "attr" => Ok(Def::Attr(self.parse_attr(alloc)?)),
+            "model" => Ok(Def::Model(self.parse_model(alloc)?)),
+            "form" => Ok(Def::Form(self.parse_form(alloc)?)),
+            "instantiate" => Ok(Def::Instantiation(self.parse_instantiation(alloc)?)),
+            "extern" => Ok(Def::Extern(self.parse_extern(alloc)?)),
             "convert" => Ok(Def::Converter(self.parse_converter(alloc)?)),
-            _ => Err(refuse(place, format!(in alloc; "Unexpected identifier: {word}"))),
+            _ => Err(self.refuse_at(place, format!(in alloc; "Unexpected identifier: {word}"))),
         }
     }
 

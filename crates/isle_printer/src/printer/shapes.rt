@@ -1,13 +1,17 @@
 //! The S-expressions of the nodes of the tree.
 
-ghost use Rattle.std.specs.Prelude.{◌≡◌, ◌++◌, [], ◌∷◌, IfOk, OnOk, string_bytes};
-ghost use Rattle.isle_ast.specs.TreeView.{name_of, names_of, declaration_of, conversion_of, definition_of};
+ghost use Rattle.std.specs.Prelude.{◌≡◌, ◌++◌, [], ◌∷◌, IfOk, OnOk};
+ghost use Rattle.isle_ast.specs.TreeView.{name_of, names_of, definition_of};
 ghost use Rattle.isle_printer.specs.Sexp.{atom, row_of};
 ghost use Rattle.isle_printer.specs.SexpView.{sexp_of, sexps_of};
-ghost use Rattle.isle_printer.specs.Shapes.{name_shape, name_shapes, flag_shape, declaration_shape, conversion_shape, definition_shape};
+ghost use Rattle.isle_printer.specs.Shapes.{constant_shape, definition_shape, flag_shape, form_shape, name_shape, name_shapes, number_shape};
+
+mod models;
+mod terms;
+mod types;
 
 use super::sexpr::{PrintFault, SExpr, ToSExpr};
-use isle_ast::ast::{Converter, Decl, Def, Ident};
+use isle_ast::ast::{Def, Ident};
 use std::alloc::{AllocError, Global};
 
 impl ToSExpr for Def {
@@ -18,34 +22,7 @@ impl ToSExpr for Def {
     ghost meaning = { λ d. Some (definition_shape (definition_of d)) };
 
     fn to_sexpr(&self, alloc: Global) -> Result<SExpr, PrintFault> {
-        match self {
-            Def::Decl(decl) => Ok(declaration(alloc, decl)?),
-            Def::Converter(converter) => Ok(conversion(alloc, converter)?),
-        }
-    }
-}
-
-impl ToSExpr for Decl {
-    ghost use Rattle.std.specs.Prelude.{Some};
-    ghost use Rattle.isle_ast.specs.TreeView.{declaration_of};
-    ghost use Rattle.isle_printer.specs.Shapes.{declaration_shape};
-
-    ghost meaning = { λ d. Some (declaration_shape (declaration_of d)) };
-
-    fn to_sexpr(&self, alloc: Global) -> Result<SExpr, PrintFault> {
-        Ok(declaration(alloc, self)?)
-    }
-}
-
-impl ToSExpr for Converter {
-    ghost use Rattle.std.specs.Prelude.{Some};
-    ghost use Rattle.isle_ast.specs.TreeView.{conversion_of};
-    ghost use Rattle.isle_printer.specs.Shapes.{conversion_shape};
-
-    ghost meaning = { λ c. Some (conversion_shape (conversion_of c)) };
-
-    fn to_sexpr(&self, alloc: Global) -> Result<SExpr, PrintFault> {
-        Ok(conversion(alloc, self)?)
+        Ok(definition(alloc, self)?)
     }
 }
 
@@ -61,30 +38,21 @@ impl ToSExpr for Ident {
     }
 }
 
-/// The S-expression of a declaration.
-fn declaration(alloc: Global, decl: &Decl) -> Result<SExpr, AllocError>
-    ensures { IfOk result (λ s. sexp_of s ≡ declaration_shape (declaration_of decl.now)) }
+/// The S-expression of a definition.
+fn definition(alloc: Global, def: &Def) -> Result<SExpr, AllocError>
+    ensures { IfOk result (λ s. sexp_of s ≡ definition_shape (definition_of def.now)) }
 {
-    let mut items = begun(alloc, "decl")?;
-    push_flag(&mut items, alloc, "pure", decl.pure)?;
-    push_flag(&mut items, alloc, "multi", decl.multi)?;
-    push_flag(&mut items, alloc, "partial", decl.partial)?;
-    push_flag(&mut items, alloc, "rec", decl.rec)?;
-    push_name(&mut items, alloc, &decl.term)?;
-    items.push(names(alloc, &decl.arg_tys)?)?;
-    push_name(&mut items, alloc, &decl.ret_ty)?;
-    Ok(list(items))
-}
-
-/// The S-expression of a conversion.
-fn conversion(alloc: Global, converter: &Converter) -> Result<SExpr, AllocError>
-    ensures { IfOk result (λ s. sexp_of s ≡ conversion_shape (conversion_of converter.now)) }
-{
-    let mut items = begun(alloc, "convert")?;
-    push_name(&mut items, alloc, &converter.inner_ty)?;
-    push_name(&mut items, alloc, &converter.outer_ty)?;
-    push_name(&mut items, alloc, &converter.term)?;
-    Ok(list(items))
+    match def {
+        Def::Pragma(pragma) => match *pragma {},
+        Def::TypeDef(ty) => types::type_definition(alloc, ty),
+        Def::Decl(decl) => terms::declaration(alloc, decl),
+        Def::Attr(attr) => terms::attribute(alloc, attr),
+        Def::Model(model) => models::model(alloc, model),
+        Def::Form(form) => terms::form(alloc, form),
+        Def::Instantiation(instantiation) => terms::instantiation(alloc, instantiation),
+        Def::Extern(external) => terms::external(alloc, external),
+        Def::Converter(converter) => terms::conversion(alloc, converter),
+    }
 }
 
 /// The list of several names.
@@ -105,12 +73,31 @@ fn list(items: Vec<SExpr>) -> SExpr
     SExpr::List(items)
 }
 
+/// The list of two items.
+fn pair(alloc: Global, first: SExpr, second: SExpr) -> Result<SExpr, AllocError>
+    ensures { IfOk result (λ s. sexp_of s ≡ row_of (sexp_of first ∷ sexp_of second ∷ [])) }
+{
+    let mut items = Vec::new(alloc);
+    items.push(first)?;
+    items.push(second)?;
+    Ok(list(items))
+}
+
+/// The list of a word and one item.
+fn headed(alloc: Global, word: &str, item: SExpr) -> Result<SExpr, AllocError>
+    ensures { IfOk result (λ s. sexp_of s ≡ form_shape word.now (sexp_of item ∷ [])) }
+{
+    let mut items = begun(alloc, word)?;
+    items.push(item)?;
+    Ok(list(items))
+}
+
 /// The items of a list that begins with a word.
 fn begun(alloc: Global, word: &str) -> Result<Vec<SExpr>, AllocError>
     ensures { IfOk result (λ items. sexps_of items.items ≡ atom word.now ∷ []) }
 {
     let mut items = Vec::new(alloc);
-    items.push(atom(alloc, word)?)?;
+    push_atom(&mut items, alloc, word)?;
     Ok(items)
 }
 
@@ -125,8 +112,17 @@ fn push_flag(
         ≡ sexps_of items.old.items ++ flag_shape word.now is_set) }
 {
     if is_set {
-        items.push(atom(alloc, word)?)?;
+        push_atom(items, alloc, word)?;
     }
+    Ok(())
+}
+
+/// Appends the atom of a text.
+fn push_atom(items: &mut Vec<SExpr>, alloc: Global, text: &str) -> Result<(), AllocError>
+    ensures { OnOk result (sexps_of items.new.items
+        ≡ sexps_of items.old.items ++ atom text.now ∷ []) }
+{
+    items.push(atom(alloc, text)?)?;
     Ok(())
 }
 
@@ -144,6 +140,22 @@ fn name(alloc: Global, ident: &Ident) -> Result<SExpr, AllocError>
     ensures { IfOk result (λ s. sexp_of s ≡ name_shape (name_of ident.now)) }
 {
     atom(alloc, &ident.0)
+}
+
+/// The atom of the name of a constant, with its `$`.
+fn constant(alloc: Global, ident: &Ident) -> Result<SExpr, AllocError>
+    ensures { IfOk result (λ s. sexp_of s ≡ constant_shape (name_of ident.now)) }
+{
+    let mut text = String::from_str(alloc, "$")?;
+    text.push_str(&ident.0)?;
+    Ok(SExpr::Atom(text))
+}
+
+/// The atom of a number in decimal.
+fn number(alloc: Global, value: usize) -> Result<SExpr, AllocError>
+    ensures { IfOk result (λ s. sexp_of s ≡ number_shape value) }
+{
+    Ok(SExpr::Atom(value.to_string(alloc)?))
 }
 
 /// The atom of a text.

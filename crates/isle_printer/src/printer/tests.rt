@@ -1,7 +1,11 @@
 //! Worked examples of printed text, on trees built by hand.
 
 use super::{PrintFault, SExpr, ToSExpr, print, print_node};
-use isle_ast::ast::{Converter, Decl, Def, Ident};
+use isle_ast::ast::{
+    Attr, AttrKind, AttrTarget, Converter, Decl, Def, Extern, Fields, Form, Ident, Instantiation,
+    Model, ModelField, ModelType, ModelValue, Signature, StructField, StructFields, TupleField,
+    TupleFields, TypeDef, TypeValue, Variant,
+};
 use isle_base::lexer::Pos;
 use std::alloc::{AllocError, Global};
 use std::test::Fail;
@@ -136,5 +140,173 @@ fn lays_out_bindings_and_empty_lists(rt: HostRuntime) -> Result<(), Fail> {
     let nested = Fixed(SExpr::List(items));
     assert_eq!(rt; print_node(alloc, &nested, 3)?.as_str(), "(())");
     assert_eq!(rt; print_node(alloc, &nested, 2)?.as_str(), "(()\n)");
+    Ok(())
+}
+
+/// A variant without fields, one with a field that has a name, and one with a field that has none.
+fn variants(alloc: Global) -> Result<Vec<Variant>, AllocError> {
+    let pos = Pos::default();
+    let mut named = StructFields {
+        fields: Vec::new(alloc),
+        pos,
+    };
+    named.fields.push(struct_field(alloc)?)?;
+    let mut placed = TupleFields {
+        fields: Vec::new(alloc),
+        pos,
+    };
+    placed.fields.push(tuple_field(alloc)?)?;
+    let mut variants = Vec::new(alloc);
+    variants.push(variant(alloc, "A", Fields::Unit)?)?;
+    variants.push(variant(alloc, "B", Fields::Struct(named))?)?;
+    variants.push(variant(alloc, "C", Fields::Tuple(placed))?)?;
+    Ok(variants)
+}
+
+fn variant(alloc: Global, name: &str, fields: Fields) -> Result<Variant, AllocError> {
+    Ok(Variant {
+        name: ident(alloc, name)?,
+        fields,
+        pos: Pos::default(),
+    })
+}
+
+fn struct_field(alloc: Global) -> Result<StructField, AllocError> {
+    Ok(StructField {
+        name: ident(alloc, "x")?,
+        ty: ident(alloc, "X")?,
+        pos: Pos::default(),
+    })
+}
+
+fn tuple_field(alloc: Global) -> Result<TupleField, AllocError> {
+    Ok(TupleField {
+        index: 0,
+        ty: ident(alloc, "Y")?,
+        pos: Pos::default(),
+    })
+}
+
+#[test]
+fn prints_types(rt: HostRuntime) -> Result<(), Fail> {
+    let alloc = rt.alloc();
+    let primitive = TypeValue::Primitive(ident(alloc, "u")?, Pos::default());
+    assert_eq!(rt;
+        print_node(alloc, &primitive, 78)?.as_str(),
+        "(primitive u)"
+    );
+    assert_eq!(rt;
+        print_node(alloc, &struct_field(alloc)?, 78)?.as_str(),
+        "(x X)"
+    );
+    assert_eq!(rt; print_node(alloc, &tuple_field(alloc)?, 78)?.as_str(), "Y");
+    let variants = variants(alloc)?;
+    for (variant, text) in variants.iter().zip(["(A)", "(B (x X))", "(C Y)"]) {
+        assert_eq!(rt; print_node(alloc, variant, 78)?.as_str(), text);
+    }
+    let ty = TypeDef {
+        name: ident(alloc, "T")?,
+        is_extern: true,
+        is_nodebug: true,
+        ty: TypeValue::Enum(variants, Pos::default()),
+        pos: Pos::default(),
+    };
+    let text = "(type T extern nodebug (enum (A) (B (x X)) (C Y)))";
+    assert_eq!(rt; print_node(alloc, &ty, 78)?.as_str(), text);
+    Ok(())
+}
+
+/// A signature without arguments.
+fn signature(alloc: Global, ret: ModelType) -> Signature {
+    Signature {
+        args: Vec::new(alloc),
+        ret,
+        pos: Pos::default(),
+    }
+}
+
+#[test]
+fn prints_models(rt: HostRuntime) -> Result<(), Fail> {
+    let alloc = rt.alloc();
+    let field = ModelField {
+        name: ident(alloc, "x")?,
+        ty: ModelType::BitVec(Some(32)),
+    };
+    assert_eq!(rt; print_node(alloc, &field, 78)?.as_str(), "(x (bv 32))");
+    assert_eq!(rt;
+        print_node(alloc, &ModelType::BitVec(None), 78)?.as_str(),
+        "(bv)"
+    );
+    let mut fields = Vec::new(alloc);
+    fields.push(field)?;
+    fields.push(ModelField {
+        name: ident(alloc, "y")?,
+        ty: ModelType::Named(ident(alloc, "N")?),
+    })?;
+    let model = Model {
+        name: ident(alloc, "M")?,
+        val: ModelValue::TypeValue(ModelType::Struct(fields)),
+    };
+    let value = "(type (struct (x (bv 32)) (y (named N))))";
+    assert_eq!(rt; print_node(alloc, &model.val, 78)?.as_str(), value);
+    let text = "(model M (type (struct (x (bv 32)) (y (named N)))))";
+    assert_eq!(rt; print_node(alloc, &model, 78)?.as_str(), text);
+    let mut signature = signature(alloc, ModelType::Unit);
+    signature.args.push(ModelType::Unspecified)?;
+    signature.args.push(ModelType::Auto)?;
+    let text = "((args ! _) (ret Unit))";
+    assert_eq!(rt; print_node(alloc, &signature, 78)?.as_str(), text);
+    Ok(())
+}
+
+#[test]
+fn prints_forms(rt: HostRuntime) -> Result<(), Fail> {
+    let alloc = rt.alloc();
+    let mut form = Form {
+        name: ident(alloc, "f")?,
+        signatures: Vec::new(alloc),
+        pos: Pos::default(),
+    };
+    form.signatures.push(signature(alloc, ModelType::Bool))?;
+    let text = "(form f ((args) (ret Bool)))";
+    assert_eq!(rt; print_node(alloc, &form, 78)?.as_str(), text);
+    let mut instantiation = Instantiation {
+        term: ident(alloc, "t")?,
+        form: Some(ident(alloc, "f")?),
+        signatures: Vec::new(alloc),
+        tags: Vec::new(alloc),
+        pos: Pos::default(),
+    };
+    instantiation.tags.push(ident(alloc, "g")?)?;
+    let text = "(instantiate t f (tag g))";
+    assert_eq!(rt; print_node(alloc, &instantiation, 78)?.as_str(), text);
+    Ok(())
+}
+
+#[test]
+fn prints_externs_and_attributes(rt: HostRuntime) -> Result<(), Fail> {
+    let alloc = rt.alloc();
+    let constant = Extern::Const {
+        name: ident(alloc, "c")?,
+        ty: ident(alloc, "T")?,
+        pos: Pos::default(),
+    };
+    assert_eq!(rt;
+        print_node(alloc, &constant, 78)?.as_str(),
+        "(extern const $c T)"
+    );
+    assert_eq!(rt;
+        print_node(alloc, &AttrKind::Chain, 78)?.as_str(),
+        "(veri chain)"
+    );
+    let mut attr = Attr {
+        target: AttrTarget::Rule(ident(alloc, "r")?),
+        kinds: Vec::new(alloc),
+        pos: Pos::default(),
+    };
+    attr.kinds.push(AttrKind::Priority)?;
+    attr.kinds.push(AttrKind::Tag(ident(alloc, "g")?))?;
+    let text = "(attr rule r (veri priority) (tag g))";
+    assert_eq!(rt; print_node(alloc, &attr, 78)?.as_str(), text);
     Ok(())
 }

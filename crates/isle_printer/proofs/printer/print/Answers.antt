@@ -2,7 +2,7 @@ use Rattle.std.proofs.Common.{◌≡◌, string_bytes, rules}
 use Rattle.isle_ast.specs.TreeView.{definitions_of}
 use Rattle.isle_printer.specs.Printed.{printed_text}
 use Rattle.isle_printer.proofs.Printing.{IsPrinted-from_text, WiderHasNoMoreLines-from_text}
-use Rattle.isle_printer.proofs.ShapeLaw.{IsPrinted-ReadsBack}
+use Rattle.isle_printer.proofs.PrintLaw.{IsPrinted-ReadsBack}
 use Rattle.isle_printer.proofs.printer.print.Goals as goal
 
 pub returns-clause-printed : goal.returns-clause-printed

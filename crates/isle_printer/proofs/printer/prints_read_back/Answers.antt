@@ -1,4 +1,4 @@
-use Rattle.isle_printer.proofs.ShapeLaw.{IsPrinted-ReadsBack, IsPrinted-erased}
+use Rattle.isle_printer.proofs.PrintLaw.{IsPrinted-ReadsBack, IsPrinted-erased}
 use Rattle.isle_printer.proofs.printer.prints_read_back.Goals as goal
 
 pub returns-clause-reads_back : goal.returns-clause-reads_back

@@ -1,4 +1,4 @@
-use Rattle.isle_printer.proofs.ShapeLaw.{render-lexes}
+use Rattle.isle_printer.proofs.PrintLaw.{render-lexes}
 use Rattle.isle_printer.proofs.printer.rendered_text_lexes.Goals as goal
 
 pub returns : goal.returns

@@ -1,6 +1,4 @@
-use Rattle.isle_ast.proofs.Erasing.{text_erased}
-use Rattle.isle_ast.proofs.OnePlacing.{text_once}
-use Rattle.isle_ast.proofs.Placing.{text_placed}
+use Rattle.isle_ast.proofs.Erasing.{text_erased, text_placed, text_once}
 use Rattle.isle_ast.proofs.ast.grammar.spellings_are_erased.Goals as goal
 
 pub returns : goal.returns

@@ -4,4 +4,5 @@ use Rattle.isle_parser.proofs.parser.Parser.parse_behind.Goals as goal
 
 pub returns-in_default-clause-gives : goal.returns-in_default-clause-gives
 returns-in_default-clause-gives c =
-    keyword_refused c.args.word.now (tokens c.args.self.now) (source c.args.self.now) c.args.place c.refuse.result c.in_default.not-decl c.in_default.not-convert c.requires c.refuse.ensures
+    let d = c.in_default in
+    keyword_refused c.args.word.now (tokens c.args.self.now) (source c.args.self.now) c.refuse_at.result d.not-type d.not-decl d.not-attr d.not-model d.not-form d.not-instantiate d.not-extern d.not-convert c.refuse_at.ensures

@@ -1,0 +1,77 @@
+-- The relation of definitions keeps the laws.
+use Rattle.std.proofs.Common.{◌≡◌, ℕ, List, codes, refl}
+use Rattle.isle_base.specs.Place.{Placed}
+use Rattle.isle_ast.specs.Erased.{erase, erase_type, erase_declaration, erase_attribute, erase_model_definition, erase_form, erase_instantiation, erase_extern, erase_conversion, erase_definition}
+use Rattle.isle_ast.specs.Grammar.{InForm, SpellsDefinition}
+use Rattle.isle_ast.specs.ModelGrammar.{SpellsForm, SpellsInstantiation, SpellsModel}
+use Rattle.isle_ast.specs.TermGrammar.{SpellsDeclaration, SpellsAttribute, SpellsExtern, SpellsConversion}
+use Rattle.isle_ast.specs.Tree.{Declaration, Conversion, TypeDefinition, Attribute, FormDefinition, TermInstantiation, ModelDefinition, ExternDefinition, Definition, type_def, decl, attr, model, form, instantiation, external, converter}
+use Rattle.isle_ast.specs.TypeGrammar.{SpellsTypeDefinition}
+use Rattle.isle_ast.specs.Words.{SpellsAll, BehindWord}
+use Rattle.isle_ast.proofs.Lawful.{Lawful, all_lawful, made_lawful, parentheses_lawful, word_lawful}
+use Rattle.isle_ast.proofs.LawfulModels.{form_lawful, instantiation_lawful, model_definition_lawful}
+use Rattle.isle_ast.proofs.LawfulTerms.{declaration_lawful, attribute_lawful, extern_lawful, conversion_lawful}
+use Rattle.isle_ast.proofs.LawfulTypes.{type_lawful}
+
+in_form : {A : Type 0} (word : List ℕ) (Spells : A → List Placed → List Placed → Type 0) (erase : A → A) (con : A → Definition) →
+    ((y : A) (all rest : List Placed) → InForm word (Spells y) all rest → SpellsDefinition (con y) all rest) →
+    ((y : A) (all rest : List Placed) → SpellsDefinition (con y) all rest → InForm word (Spells y) all rest) →
+    ((y : A) → erase_definition (con y) ≡ con (erase y)) →
+    (x : A) → ((y : Definition) → erase_definition (con x) ≡ erase_definition y → (z : A) × (y ≡ con z) × (erase x ≡ erase z)) →
+    Lawful Spells erase x → Lawful SpellsDefinition erase_definition (con x)
+in_form word Spells erase con to from erases x only lawful =
+    made_lawful SpellsDefinition erase_definition (λ y. InForm word (Spells y)) erase con to from erases x only
+    (parentheses_lawful (λ y. BehindWord word (Spells y)) erase x (word_lawful word Spells erase x lawful))
+
+is_type_def : (x : TypeDefinition) (y : Definition) → type_def (erase_type x) ≡ erase_definition y → (z : TypeDefinition) × (y ≡ type_def z) × (erase_type x ≡ erase_type z)
+is_type_def x (type_def z) same = (z, refl, cc)
+is_type_def x _ same = cc
+
+is_decl : (x : Declaration) (y : Definition) → decl (erase_declaration x) ≡ erase_definition y → (z : Declaration) × (y ≡ decl z) × (erase_declaration x ≡ erase_declaration z)
+is_decl x (decl z) same = (z, refl, cc)
+is_decl x _ same = cc
+
+is_attr : (x : Attribute) (y : Definition) → attr (erase_attribute x) ≡ erase_definition y → (z : Attribute) × (y ≡ attr z) × (erase_attribute x ≡ erase_attribute z)
+is_attr x (attr z) same = (z, refl, cc)
+is_attr x _ same = cc
+
+is_model : (x : ModelDefinition) (y : Definition) → model (erase_model_definition x) ≡ erase_definition y → (z : ModelDefinition) × (y ≡ model z) × (erase_model_definition x ≡ erase_model_definition z)
+is_model x (model z) same = (z, refl, cc)
+is_model x _ same = cc
+
+is_form : (x : FormDefinition) (y : Definition) → form (erase_form x) ≡ erase_definition y → (z : FormDefinition) × (y ≡ form z) × (erase_form x ≡ erase_form z)
+is_form x (form z) same = (z, refl, cc)
+is_form x _ same = cc
+
+is_instantiation : (x : TermInstantiation) (y : Definition) → instantiation (erase_instantiation x) ≡ erase_definition y → (z : TermInstantiation) × (y ≡ instantiation z) × (erase_instantiation x ≡ erase_instantiation z)
+is_instantiation x (instantiation z) same = (z, refl, cc)
+is_instantiation x _ same = cc
+
+is_external : (x : ExternDefinition) (y : Definition) → external (erase_extern x) ≡ erase_definition y → (z : ExternDefinition) × (y ≡ external z) × (erase_extern x ≡ erase_extern z)
+is_external x (external z) same = (z, refl, cc)
+is_external x _ same = cc
+
+is_converter : (x : Conversion) (y : Definition) → converter (erase_conversion x) ≡ erase_definition y → (z : Conversion) × (y ≡ converter z) × (erase_conversion x ≡ erase_conversion z)
+is_converter x (converter z) same = (z, refl, cc)
+is_converter x _ same = cc
+
+pub definition_lawful : (d : Definition) → Lawful SpellsDefinition erase_definition d
+definition_lawful (type_def x) =
+    in_form (codes "type") SpellsTypeDefinition erase_type type_def (λ y all rest h. h) (λ y all rest h. h) (λ y. refl) x (is_type_def x) (type_lawful x)
+definition_lawful (decl x) =
+    in_form (codes "decl") SpellsDeclaration erase_declaration decl (λ y all rest h. h) (λ y all rest h. h) (λ y. refl) x (is_decl x) (declaration_lawful x)
+definition_lawful (attr x) =
+    in_form (codes "attr") SpellsAttribute erase_attribute attr (λ y all rest h. h) (λ y all rest h. h) (λ y. refl) x (is_attr x) (attribute_lawful x)
+definition_lawful (model x) =
+    in_form (codes "model") SpellsModel erase_model_definition model (λ y all rest h. h) (λ y all rest h. h) (λ y. refl) x (is_model x) (model_definition_lawful x)
+definition_lawful (form x) =
+    in_form (codes "form") SpellsForm erase_form form (λ y all rest h. h) (λ y all rest h. h) (λ y. refl) x (is_form x) (form_lawful x)
+definition_lawful (instantiation x) =
+    in_form (codes "instantiate") SpellsInstantiation erase_instantiation instantiation (λ y all rest h. h) (λ y all rest h. h) (λ y. refl) x (is_instantiation x) (instantiation_lawful x)
+definition_lawful (external x) =
+    in_form (codes "extern") SpellsExtern erase_extern external (λ y all rest h. h) (λ y all rest h. h) (λ y. refl) x (is_external x) (extern_lawful x)
+definition_lawful (converter x) =
+    in_form (codes "convert") SpellsConversion erase_conversion converter (λ y all rest h. h) (λ y all rest h. h) (λ y. refl) x (is_converter x) (conversion_lawful x)
+
+pub definitions_lawful : (ds : List Definition) → Lawful (SpellsAll SpellsDefinition) erase ds
+definitions_lawful ds = all_lawful SpellsDefinition erase_definition definition_lawful ds

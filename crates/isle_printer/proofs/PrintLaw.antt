@@ -1,0 +1,213 @@
+-- The print of writable definitions is spelt by them, erased; and every choice of broken lists lexes to
+-- the tokens of the S-expression.
+use Rattle.std.proofs.Common.{◌≡◌, ℕ, ◌-◌, length, List, [], ◌∷◌, ◌++◌, map, codes, Option, None, Some, refl, sym, ap, ◌∙◌, subst, ◌↔◌}
+use Rattle.std.proofs.lemmas.List.{append_assoc, append-nil}
+use Rattle.isle_base.specs.Lexing.{Lexes, lexes}
+use Rattle.isle_base.specs.Place.{unknown, nowhere, placed}
+use Rattle.isle_base.specs.Skips.{nothing}
+use Rattle.isle_base.specs.Token.{Tok, Lexeme, end}
+use Rattle.isle_ast.proofs.SpeltWritable.{spelt_is_writable}
+use Rattle.isle_ast.specs.Erased.{erase_name, erase_names, erase_model, erase_model_fields, erase_named_field, erase_indexed_field, erase_fields, erase_variant, erase_type_content, erase_target, erase_kind, erase_signature, erase_optional, erase_model_content, erase_definition, erase}
+use Rattle.isle_ast.specs.Grammar.{SpellsDefinitions}
+use Rattle.isle_ast.specs.Spelt.{IsSpelt}
+use Rattle.isle_ast.specs.Tree.{Name, TypeModel, unspecified_model, auto_model, int_model, bool_model, unit_model, bit_vector_model, struct_model, named_model, ModelFieldRow, no_model_field, model_field, FieldList, unit_fields, struct_fields, tuple_fields, EnumVariant, TypeContent, primitive_type, enum_type, struct_type, AttributeTarget, term_target, rule_target, AttributeKind, chain_kind, priority_kind, tag_kind, TermSignature, ModelContent, type_model, extern_extractor, extern_constructor, extern_const, Definition, type_def, decl, attr, model, form, instantiation, external, converter}
+use Rattle.isle_ast.specs.Writable.{AreWritable}
+use Rattle.isle_printer.specs.Choices.{Choice, render}
+use Rattle.isle_printer.specs.Layout.{layout}
+use Rattle.isle_printer.specs.Printed.{definition_text, behind_text, printed_text, IsPrinted}
+use Rattle.isle_printer.specs.ReadBack.{TokensOf, Reads, ReadsBack, unplaced}
+use Rattle.isle_printer.specs.Sexp.{Sexp, atom, row_of}
+use Rattle.isle_printer.specs.Shapes.{name_shape, name_shapes, flag_shape, form_shape, model_shape, model_field_shapes, named_field_shape, indexed_field_shape, field_shapes, variant_shape, type_content_shape, target_shape, tag_shape, kind_shape, signature_shape, instance_shapes, model_content_shape, definition_shape}
+use Rattle.isle_printer.proofs.Greedy.{greedy, layout_is_render}
+use Rattle.isle_printer.proofs.Printing.{IsPrinted-from_text, IsPrinted-text}
+use Rattle.isle_printer.proofs.ReadBackLaw.{render-reads, Reads-blank, is_blank-10, in_symbol-10}
+use Rattle.isle_printer.proofs.ShapeLaw.{spell-definition}
+
+-- The offsets of the pieces make lexemes of them.
+pub Lexes-from_reads : (size : ℕ) (text : List ℕ) (tokens : List Tok) → Reads text tokens → (l : List Lexeme) × Lexes size text l end × (placed nowhere l ≡ unplaced tokens)
+Lexes-from_reads size text [] r = ([], r, refl)
+Lexes-from_reads size text (token ∷ tokens) r =
+    let behind = Lexes-from_reads size r.1 tokens r.4 in (
+      record { offset = size - length r.0; token = token; after = size - length r.1 } ∷ behind.0,
+      (r.0, r.1, r.2, r.3, refl, refl, behind.1),
+      ap (λ b. record { pos = unknown; token = token } ∷ b) behind.2,
+    )
+
+-- Every choice of broken lists lexes to the tokens of the S-expression.
+pub render-lexes : (s : Sexp) (c : Choice s) (level : ℕ) (tokens : List Tok) → TokensOf s tokens []
+    → (l : List Lexeme) × lexes (render s c level) l end × (placed nowhere l ≡ unplaced tokens)
+render-lexes s c level tokens t =
+    Lexes-from_reads (length (render s c level)) (render s c level) tokens
+    (subst (λ b. Reads b tokens) (append-nil (render s c level)) (render-reads s c level tokens [] t [] refl (nothing refl)))
+
+-- a text that reads as tokens which spell the definitions, erased
+record ReadsDefinitions (text : List ℕ) (ds : List Definition) : Type 0 where
+  all : List Tok
+  reads : Reads text all
+  spells : SpellsDefinitions (erase ds) (unplaced all)
+
+-- a definition's lines read as its tokens, and what follows as what follows
+definition_text-reads : (width : ℕ) (d : Definition) (text : List ℕ) (all rest : List Tok) → TokensOf (definition_shape d) all rest → Reads text rest → Reads (definition_text width d ++ text) all
+definition_text-reads width d text all rest t r =
+    subst (λ b. Reads b all)
+    (ap (λ b. b ++ (10 ∷ text)) (sym (layout_is_render width (definition_shape d)))
+    ∙ sym (append_assoc (layout width (definition_shape d)) (10 ∷ []) text))
+    (render-reads (definition_shape d) (greedy width (definition_shape d) 0) 0 all rest t (10 ∷ text) in_symbol-10
+    (Reads-blank 10 text rest is_blank-10 r))
+
+-- a definition's lines before a text of definitions
+definition-reads : (width : ℕ) (d : Definition) (ds : List Definition) (text : List ℕ) → AreWritable (d ∷ ds) → ReadsDefinitions text ds → ReadsDefinitions (definition_text width d ++ text) (d ∷ ds)
+definition-reads width d ds text is behind =
+    let shape = spell-definition d is.0 behind.all in
+    record {
+      all = shape.all;
+      reads = definition_text-reads width d text shape.all behind.all (first_tokens shape.all behind.all shape.tokens.are) behind.reads;
+      spells = (unplaced behind.all, shape.spells, behind.spells);
+    }
+  where
+    first_tokens : (all rest : List Tok) → (mid : List Tok) × TokensOf (definition_shape d) all mid × (mid ≡ rest) → TokensOf (definition_shape d) all rest
+    first_tokens all rest t = subst (λ r. TokensOf (definition_shape d) all r) t.2 t.1
+
+behind_text-reads : (width : ℕ) (ds : List Definition) → AreWritable ds → ReadsDefinitions (behind_text width ds) ds
+behind_text-reads width [] is = record { all = []; reads = nothing refl; spells = refl }
+behind_text-reads width (d ∷ ds) is =
+    let s = definition-reads width d ds (behind_text width ds) is (behind_text-reads width ds is.1) in
+    record {
+      all = s.all;
+      reads = Reads-blank 10 (definition_text width d ++ behind_text width ds) s.all is_blank-10 s.reads;
+      spells = s.spells;
+    }
+
+printed_text-reads : (width : ℕ) (ds : List Definition) → AreWritable ds → ReadsDefinitions (printed_text width ds) ds
+printed_text-reads width [] is = record { all = []; reads = nothing refl; spells = refl }
+printed_text-reads width (d ∷ ds) is =
+    definition-reads width d ds (behind_text width ds) is (behind_text-reads width ds is.1)
+
+-- The print of writable definitions, at any width, is spelt by them, erased.
+pub printed_text-spelt : (width : ℕ) (ds : List Definition) → AreWritable ds → IsSpelt nowhere (printed_text width ds) (erase ds)
+printed_text-spelt width ds is =
+    let r = printed_text-reads width ds is in
+    let l = Lexes-from_reads (length (printed_text width ds)) (printed_text width ds) r.all r.reads in
+    (l.0, l.1, subst (λ p. SpellsDefinitions (erase ds) p) (sym l.2) r.spells)
+
+-- so is every text that is the print of spelt definitions
+pub IsPrinted-ReadsBack : (width : ℕ) (ds : List Definition) (text : List ℕ) → IsPrinted width ds text → ReadsBack ds text
+IsPrinted-ReadsBack width ds text is all s =
+    subst (λ t. IsSpelt nowhere t (erase ds)) (sym (IsPrinted-text width ds text is)) (printed_text-spelt width ds (spelt_is_writable ds all s))
+
+-- positions play no part in a shape
+
+-- the shapes of a row, where they are those of the erased elements
+shapes-erased : {A : Type 0} → (shape : A → Sexp) (erased : A → A) → ((x : A) → shape (erased x) ≡ shape x) → (xs : List A) → map shape (map erased xs) ≡ map shape xs
+shapes-erased shape erased same [] = refl
+shapes-erased shape erased same (x ∷ xs) =
+    ap (λ s. s ∷ map shape (map erased xs)) (same x) ∙ ap (λ ss. shape x ∷ ss) (shapes-erased shape erased same xs)
+
+names-erased : (ns : List Name) → name_shapes (erase_names ns) ≡ name_shapes ns
+names-erased = shapes-erased name_shape erase_name (λ n. refl)
+
+mutual
+  model-erased : (m : TypeModel) → model_shape (erase_model m) ≡ model_shape m
+  model-erased unspecified_model = refl
+  model-erased auto_model = refl
+  model-erased int_model = refl
+  model-erased bool_model = refl
+  model-erased unit_model = refl
+  model-erased (bit_vector_model width) = refl
+  model-erased (struct_model fields) = ap (λ ss. form_shape (codes "struct") ss) (model_fields-erased fields)
+  model-erased (named_model name) = refl
+
+  model_fields-erased : (fields : ModelFieldRow) → model_field_shapes (erase_model_fields fields) ≡ model_field_shapes fields
+  model_fields-erased no_model_field = refl
+  model_fields-erased (model_field name ty fields) =
+      ap (λ s. row_of (name_shape name ∷ s ∷ []) ∷ model_field_shapes (erase_model_fields fields)) (model-erased ty)
+      ∙ ap (λ ss. row_of (name_shape name ∷ model_shape ty ∷ []) ∷ ss) (model_fields-erased fields)
+
+fields-erased : (fields : FieldList) → field_shapes (erase_fields fields) ≡ field_shapes fields
+fields-erased unit_fields = refl
+fields-erased (struct_fields fields _) = shapes-erased named_field_shape erase_named_field (λ f. refl) fields
+fields-erased (tuple_fields fields _) = shapes-erased indexed_field_shape erase_indexed_field (λ f. refl) fields
+
+variant-erased : (v : EnumVariant) → variant_shape (erase_variant v) ≡ variant_shape v
+variant-erased v = ap (λ ss. row_of (name_shape v.name ∷ ss)) (fields-erased v.fields)
+
+type_content-erased : (t : TypeContent) → type_content_shape (erase_type_content t) ≡ type_content_shape t
+type_content-erased (primitive_type name _) = refl
+type_content-erased (enum_type variants _) =
+    ap (λ ss. form_shape (codes "enum") ss) (shapes-erased variant_shape erase_variant variant-erased variants)
+type_content-erased (struct_type fields _) = ap (λ ss. form_shape (codes "struct") ss) (fields-erased fields)
+
+target-erased : (t : AttributeTarget) → target_shape (erase_target t) ≡ target_shape t
+target-erased (term_target name) = refl
+target-erased (rule_target name) = refl
+
+kind-erased : (k : AttributeKind) → kind_shape (erase_kind k) ≡ kind_shape k
+kind-erased chain_kind = refl
+kind-erased priority_kind = refl
+kind-erased (tag_kind name) = refl
+
+signature-erased : (g : TermSignature) → signature_shape (erase_signature g) ≡ signature_shape g
+signature-erased g =
+    ap (λ ss. row_of (form_shape (codes "args") ss ∷ form_shape (codes "ret") (model_shape (erase_model g.ret) ∷ []) ∷ []))
+    (shapes-erased model_shape erase_model model-erased g.args)
+    ∙ ap (λ s. row_of (form_shape (codes "args") (map model_shape g.args) ∷ form_shape (codes "ret") (s ∷ []) ∷ [])) (model-erased g.ret)
+
+instances-erased : (o : Option Name) (gs : List TermSignature) → instance_shapes (erase_optional o) (map erase_signature gs) ≡ instance_shapes o gs
+instances-erased None gs = shapes-erased signature_shape erase_signature signature-erased gs
+instances-erased (Some name) gs = refl
+
+model_content-erased : (m : ModelContent) → model_content_shape (erase_model_content m) ≡ model_content_shape m
+model_content-erased (type_model ty) = ap (λ s. form_shape (codes "type") (s ∷ [])) (model-erased ty)
+
+definition_shape-erased : (d : Definition) → definition_shape (erase_definition d) ≡ definition_shape d
+definition_shape-erased (type_def t) =
+    ap
+    (λ s. row_of (atom (codes "type") ∷ [] ++ name_shape t.name ∷ [] ++ flag_shape (codes "extern") t.is_extern ++ flag_shape (codes "nodebug") t.is_nodebug ++ s ∷ []))
+    (type_content-erased t.ty)
+definition_shape-erased (decl d) =
+    ap
+    (λ args. row_of (atom (codes "decl") ∷ []
+    ++ flag_shape (codes "pure") d.pure
+    ++ flag_shape (codes "multi") d.multi
+    ++ flag_shape (codes "partial") d.partial
+    ++ flag_shape (codes "rec") d.rec
+    ++ name_shape d.term ∷ []
+    ++ row_of args ∷ []
+    ++ name_shape d.ret_ty ∷ []))
+    (names-erased d.arg_tys)
+definition_shape-erased (attr a) =
+    ap (λ t. row_of (atom (codes "attr") ∷ [] ++ t ++ map kind_shape (map erase_kind a.kinds))) (target-erased a.target)
+    ∙ ap (λ ks. row_of (atom (codes "attr") ∷ [] ++ target_shape a.target ++ ks)) (shapes-erased kind_shape erase_kind kind-erased a.kinds)
+definition_shape-erased (model m) =
+    ap (λ s. row_of (atom (codes "model") ∷ [] ++ name_shape m.name ∷ [] ++ s ∷ [])) (model_content-erased m.val)
+definition_shape-erased (form f) =
+    ap (λ ss. row_of (atom (codes "form") ∷ [] ++ name_shape f.name ∷ [] ++ ss)) (shapes-erased signature_shape erase_signature signature-erased f.signatures)
+definition_shape-erased (instantiation i) =
+    ap (λ ss. row_of (atom (codes "instantiate") ∷ [] ++ name_shape i.term ∷ [] ++ ss ++ map tag_shape (erase_names i.tags))) (instances-erased i.form i.signatures)
+    ∙ ap (λ ts. row_of (atom (codes "instantiate") ∷ [] ++ name_shape i.term ∷ [] ++ instance_shapes i.form i.signatures ++ ts)) (shapes-erased tag_shape erase_name (λ n. refl) i.tags)
+definition_shape-erased (external (extern_extractor term func _ infallible)) = refl
+definition_shape-erased (external (extern_constructor term func _)) = refl
+definition_shape-erased (external (extern_const name ty _)) = refl
+definition_shape-erased (converter c) = refl
+
+definition_text-erased : (width : ℕ) (d : Definition) → definition_text width (erase_definition d) ≡ definition_text width d
+definition_text-erased width d = ap (λ s. layout width s ++ 10 ∷ []) (definition_shape-erased d)
+
+behind_text-erased : (width : ℕ) (ds : List Definition) → behind_text width (erase ds) ≡ behind_text width ds
+behind_text-erased width [] = refl
+behind_text-erased width (d ∷ ds) =
+    ap (λ t. 10 ∷ t ++ behind_text width (erase ds)) (definition_text-erased width d)
+    ∙ ap (λ t. 10 ∷ definition_text width d ++ t) (behind_text-erased width ds)
+
+-- The print of definitions is that of the erased ones.
+pub printed_text-erased : (width : ℕ) (ds : List Definition) → printed_text width (erase ds) ≡ printed_text width ds
+printed_text-erased width [] = refl
+printed_text-erased width (d ∷ ds) =
+    ap (λ t. t ++ behind_text width (erase ds)) (definition_text-erased width d)
+    ∙ ap (λ t. definition_text width d ++ t) (behind_text-erased width ds)
+
+pub IsPrinted-erased : (width : ℕ) (ds : List Definition) (text : List ℕ) → IsPrinted width ds text ↔ IsPrinted width (erase ds) text
+IsPrinted-erased width ds text = (
+  λ is. IsPrinted-from_text width (erase ds) text (IsPrinted-text width ds text is ∙ sym (printed_text-erased width ds)),
+  λ is. IsPrinted-from_text width ds text (IsPrinted-text width (erase ds) text is ∙ printed_text-erased width ds),
+)
