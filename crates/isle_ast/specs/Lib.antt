@@ -1,10 +1,14 @@
 pub mod Erased
+pub mod ExpressionGrammar
 pub mod Grammar
 pub mod Identifier
+pub mod MacroArgs
 pub mod ModelGrammar
 pub mod NameOrder
 pub mod Numbers
 pub mod Parts
+pub mod PatternGrammar
+pub mod RuleGrammar
 pub mod SameModel
 pub mod Spelt
 pub mod TermGrammar
