@@ -6,6 +6,9 @@ pub mod Lawful
 pub mod LawfulTerms
 pub mod LawfulTypes
 pub mod LawfulModels
+pub mod LawfulPatterns
+pub mod LawfulExpressions
+pub mod LawfulRules
 pub mod LawfulDefinitions
 pub mod Parts
 pub mod Erasing
