@@ -22,6 +22,10 @@ pub enum Def {
     Pragma(Pragma),
     /// A type definition, `(type ..)`.
     TypeDef(TypeDef),
+    /// A rewriting rule, `(rule ..)`.
+    Rule(Rule),
+    /// A pattern under a name, `(extractor ..)`.
+    Extractor(Extractor),
     /// A term declaration, `(decl ..)`.
     Decl(Decl),
     /// Attributes of a term or a rule, `(attr ..)`.
@@ -284,7 +288,7 @@ pub struct Form {
 }
 
 /// A rule: what the pattern matches is rewritten to the expression, where the conditions hold.
-#[derive(Debug, Drop)]
+#[derive(Clone, Debug, PartialEq, Eq, Drop)]
 pub struct Rule {
     /// The left side.
     pub pattern: Pattern,
@@ -301,7 +305,7 @@ pub struct Rule {
 }
 
 /// A condition of a rule, `(if-let ..)`. `(if ..)` is one whose pattern is a wildcard.
-#[derive(Debug, Drop)]
+#[derive(Clone, Debug, PartialEq, Eq, Drop)]
 pub struct IfLet {
     /// What the value of the expression has to match.
     pub pattern: Pattern,
@@ -312,7 +316,7 @@ pub struct IfLet {
 }
 
 /// An extractor that stands for a pattern: `(extractor (A x y) (B x _ y))`.
-#[derive(Debug, Drop)]
+#[derive(Clone, Debug, PartialEq, Eq, Drop)]
 pub struct Extractor {
     /// The term.
     pub term: Ident,
@@ -326,7 +330,7 @@ pub struct Extractor {
 
 /// A pattern: the left side of a rule. Each position is that of the pattern's first token.
 #[cycle(pattern)]
-#[derive(Debug, Drop)]
+#[derive(Clone, Debug, PartialEq, Eq, Drop)]
 pub enum Pattern {
     /// A variable: the first one of its name is bound, a later one has to have the same value.
     Var {
@@ -397,7 +401,7 @@ pub enum Pattern {
 
 /// An expression: the right side of a rule. Each position is that of the expression's first token.
 #[cycle(expression)]
-#[derive(Debug, Drop)]
+#[derive(Clone, Debug, PartialEq, Eq, Drop)]
 pub enum Expr {
     /// A term and its arguments.
     Term {
@@ -449,7 +453,7 @@ pub enum Expr {
 
 /// A variable of a `let`, with its type and its value.
 #[cycle(expression)]
-#[derive(Debug, Drop)]
+#[derive(Clone, Debug, PartialEq, Eq, Drop)]
 pub struct LetDef {
     /// The name of the variable.
     pub var: Ident,

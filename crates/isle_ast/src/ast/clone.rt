@@ -18,6 +18,8 @@ impl Clone for Def {
         match self {
             Def::Pragma(pragma) => match *pragma {},
             Def::TypeDef(ty) => Ok(Def::TypeDef(ty.clone()?)),
+            Def::Rule(rule) => Ok(Def::Rule(rule.clone()?)),
+            Def::Extractor(extractor) => Ok(Def::Extractor(extractor.clone()?)),
             Def::Decl(decl) => Ok(Def::Decl(decl.clone()?)),
             Def::Attr(attr) => Ok(Def::Attr(attr.clone()?)),
             Def::Model(model) => Ok(Def::Model(model.clone()?)),
