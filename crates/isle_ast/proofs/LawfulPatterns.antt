@@ -1,5 +1,5 @@
 -- The relations of patterns keep the laws.
-use Rattle.std.proofs.Common.{◌≡◌, ℕ, ℤ, List, Bool, false, codes, refl}
+use Rattle.std.proofs.Common.{◌≡◌, ℤ, List, Bool, false, codes, refl}
 use Rattle.std.specs.Str.{bytes_eq}
 use Rattle.isle_base.specs.declared.lexer.Pos.{Pos}
 use Rattle.isle_base.specs.Place.{Placed, unknown}
