@@ -14,4 +14,7 @@ pub mod Parts
 pub mod Erasing
 pub mod SameModels
 pub mod Equalities
+pub mod SpeltWords
+pub mod SpeltWritableRules
 pub mod SpeltWritable
+pub mod NoMacroArgs
