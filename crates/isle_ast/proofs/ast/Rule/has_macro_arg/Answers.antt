@@ -3,7 +3,7 @@ use Rattle.std.specs.List.{list_any}
 use Rattle.std.proofs.lemmas.Iterator.{YieldsList-from_slice}
 use Rattle.std.proofs.lemmas.Iterator.Search.{any_from_yields_List}
 use Rattle.isle_ast.specs.MacroArgs.{condition_has_macro_arg}
-use Rattle.isle_ast.specs.TreeView.{rule_of, condition_of, conditions_of}
+use Rattle.isle_ast.specs.TreeView.{condition_of, conditions_of}
 use Rattle.isle_ast.proofs.ast.Rule.has_macro_arg.Goals as goal
 
 -- a test of what the elements mean
