@@ -3,7 +3,7 @@
 ghost use Rattle.std.specs.Prelude.{◌≡◌, ◌↔◌, IsTrue, Some};
 ghost use Rattle.std.specs.declared.cmp.Ordering.TheVariants.{Equal};
 ghost use Rattle.isle_ast.specs.NameOrder.{name_cmp};
-ghost use Rattle.isle_ast.specs.TreeView.{attribute_of, conversion_of, declaration_of, definition_of, extern_of, fields_of, form_of, indexed_field_of, instantiation_of, kind_of, model_content_of, model_definition_of, name_of, named_field_of, signature_of, single_model_field_of, struct_fields_of, target_of, tuple_fields_of, type_content_of, type_definition_of, type_model_of, variant_of};
+ghost use Rattle.isle_ast.specs.TreeView.{attribute_of, condition_of, conversion_of, declaration_of, definition_of, expression_of, extern_of, extractor_of, fields_of, form_of, indexed_field_of, instantiation_of, kind_of, model_content_of, model_definition_of, name_of, named_field_of, pattern_of, rule_of, signature_of, single_let_of, single_model_field_of, struct_fields_of, target_of, tuple_fields_of, type_content_of, type_definition_of, type_model_of, variant_of};
 
 mod clone;
 mod compare;
@@ -11,6 +11,7 @@ pub mod grammar;
 pub mod identifier;
 #[cfg(test)]
 mod tests;
+mod walks;
 
 use isle_base::lexer::Pos;
 use std::hash::Hash;
@@ -22,6 +23,10 @@ pub enum Def {
     Pragma(Pragma),
     /// A type definition, `(type ..)`.
     TypeDef(TypeDef),
+    /// A rewriting rule, `(rule ..)`.
+    Rule(Rule),
+    /// A pattern under a name, `(extractor ..)`.
+    Extractor(Extractor),
     /// A term declaration, `(decl ..)`.
     Decl(Decl),
     /// Attributes of a term or a rule, `(attr ..)`.
@@ -283,6 +288,184 @@ pub struct Form {
     pub pos: Pos,
 }
 
+/// A rule: what the pattern matches is rewritten to the expression, where the conditions hold.
+#[derive(Debug, PartialEq, Eq, Drop)]
+pub struct Rule {
+    /// The left side.
+    pub pattern: Pattern,
+    /// The conditions, in order.
+    pub iflets: Vec<IfLet>,
+    /// The right side.
+    pub expr: Expr,
+    /// The position of the token after the keyword.
+    pub pos: Pos,
+    /// The priority, if the rule gives one.
+    pub prio: Option<i64>,
+    /// The name, if the rule gives one.
+    pub name: Option<Ident>,
+}
+
+/// A condition of a rule, `(if-let ..)`. `(if ..)` is one whose pattern is a wildcard.
+#[derive(Debug, PartialEq, Eq, Drop)]
+pub struct IfLet {
+    /// What the value of the expression has to match.
+    pub pattern: Pattern,
+    /// The expression.
+    pub expr: Expr,
+    /// The position of the token after the keyword.
+    pub pos: Pos,
+}
+
+/// An extractor that stands for a pattern: `(extractor (A x y) (B x _ y))`.
+#[derive(Debug, PartialEq, Eq, Drop)]
+pub struct Extractor {
+    /// The term.
+    pub term: Ident,
+    /// Its parameters.
+    pub args: Vec<Ident>,
+    /// The pattern that it stands for.
+    pub template: Pattern,
+    /// The position of the token after the keyword.
+    pub pos: Pos,
+}
+
+/// A pattern: the left side of a rule. Each position is that of the pattern's first token.
+#[cycle(pattern)]
+#[derive(Debug, Drop)]
+pub enum Pattern {
+    /// A variable: the first one of its name is bound, a later one has to have the same value.
+    Var {
+        /// The name.
+        var: Ident,
+        /// The position.
+        pos: Pos,
+    },
+    /// A variable that is bound to what a pattern matches, `x @ ..`.
+    BindPattern {
+        /// The name.
+        var: Ident,
+        /// The pattern.
+        subpat: Box<Pattern>,
+        /// The position.
+        pos: Pos,
+    },
+    /// `true` or `false`.
+    ConstBool {
+        /// The value.
+        val: bool,
+        /// The position.
+        pos: Pos,
+    },
+    /// An integer.
+    ConstInt {
+        /// The value.
+        val: i128,
+        /// The position.
+        pos: Pos,
+    },
+    /// A constant that is defined outside, `$NAME`.
+    ConstPrim {
+        /// The name, without its `$`.
+        val: Ident,
+        /// The position.
+        pos: Pos,
+    },
+    /// A term or a variant of a type, and patterns for its arguments.
+    Term {
+        /// The term.
+        sym: Ident,
+        /// The patterns.
+        args: Vec<Pattern>,
+        /// The position.
+        pos: Pos,
+    },
+    /// Anything, `_`.
+    Wildcard {
+        /// The position.
+        pos: Pos,
+    },
+    /// Patterns that all have to match, `(and ..)`.
+    And {
+        /// The patterns.
+        subpats: Vec<Pattern>,
+        /// The position.
+        pos: Pos,
+    },
+    /// An argument of a macro, in a template. No text spells it.
+    MacroArg {
+        /// The place of the argument, counted from 0.
+        index: usize,
+        /// The position of what it stands for.
+        pos: Pos,
+    },
+}
+
+/// An expression: the right side of a rule. Each position is that of the expression's first token.
+#[cycle(expression)]
+#[derive(Debug, Drop)]
+pub enum Expr {
+    /// A term and its arguments.
+    Term {
+        /// The term.
+        sym: Ident,
+        /// The arguments.
+        args: Vec<Expr>,
+        /// The position.
+        pos: Pos,
+    },
+    /// A variable.
+    Var {
+        /// The name.
+        name: Ident,
+        /// The position.
+        pos: Pos,
+    },
+    /// `true` or `false`.
+    ConstBool {
+        /// The value.
+        val: bool,
+        /// The position.
+        pos: Pos,
+    },
+    /// An integer.
+    ConstInt {
+        /// The value.
+        val: i128,
+        /// The position.
+        pos: Pos,
+    },
+    /// A constant that is defined outside, `$NAME`.
+    ConstPrim {
+        /// The name, without its `$`.
+        val: Ident,
+        /// The position.
+        pos: Pos,
+    },
+    /// An expression in which variables are defined, `(let ((x T ..) ..) ..)`.
+    Let {
+        /// The definitions, in order.
+        defs: Vec<LetDef>,
+        /// The expression.
+        body: Box<Expr>,
+        /// The position.
+        pos: Pos,
+    },
+}
+
+/// A variable of a `let`, with its type and its value.
+#[cycle(expression)]
+#[derive(Debug, Drop)]
+pub struct LetDef {
+    /// The name of the variable.
+    pub var: Ident,
+    /// Its type.
+    pub ty: Ident,
+    /// Its value.
+    pub val: Box<Expr>,
+    /// The position of the definition's first token.
+    pub pos: Pos,
+}
+
 /// A term or a constant that is defined outside.
 #[derive(Debug, PartialEq, Eq, Drop)]
 pub enum Extern {
@@ -341,6 +524,12 @@ pub fn definitions_are_compared()
     ensures struct_field { (a b : StructField) → IsTrue (⟦<StructField as PartialEq>⟧.eq a b) ↔ (named_field_of a ≡ named_field_of b) }
     ensures tuple_fields { (a b : TupleFields) → IsTrue (⟦<TupleFields as PartialEq>⟧.eq a b) ↔ (tuple_fields_of a ≡ tuple_fields_of b) }
     ensures tuple_field { (a b : TupleField) → IsTrue (⟦<TupleField as PartialEq>⟧.eq a b) ↔ (indexed_field_of a ≡ indexed_field_of b) }
+    ensures rules { (a b : Rule) → IsTrue (⟦<Rule as PartialEq>⟧.eq a b) ↔ (rule_of a ≡ rule_of b) }
+    ensures if_lets { (a b : IfLet) → IsTrue (⟦<IfLet as PartialEq>⟧.eq a b) ↔ (condition_of a ≡ condition_of b) }
+    ensures extractors { (a b : Extractor) → IsTrue (⟦<Extractor as PartialEq>⟧.eq a b) ↔ (extractor_of a ≡ extractor_of b) }
+    ensures patterns { (a b : Pattern) → IsTrue (⟦<Pattern as PartialEq>⟧.eq a b) ↔ (pattern_of a ≡ pattern_of b) }
+    ensures exprs { (a b : Expr) → IsTrue (⟦<Expr as PartialEq>⟧.eq a b) ↔ (expression_of a ≡ expression_of b) }
+    ensures let_defs { (a b : LetDef) → IsTrue (⟦<LetDef as PartialEq>⟧.eq a b) ↔ (single_let_of a ≡ single_let_of b) }
     ensures decls { (a b : Decl) → IsTrue (⟦<Decl as PartialEq>⟧.eq a b) ↔ (declaration_of a ≡ declaration_of b) }
     ensures instantiations { (a b : Instantiation) → IsTrue (⟦<Instantiation as PartialEq>⟧.eq a b) ↔ (instantiation_of a ≡ instantiation_of b) }
     ensures attrs { (a b : Attr) → IsTrue (⟦<Attr as PartialEq>⟧.eq a b) ↔ (attribute_of a ≡ attribute_of b) }
