@@ -13,3 +13,5 @@ mod lexing;
 mod listing;
 #[cfg(test)]
 mod parsing;
+#[cfg(test)]
+mod rules;

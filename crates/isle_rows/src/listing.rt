@@ -1,5 +1,7 @@
 //! Tokens, trees and faults in short texts, which the rows compare.
 
+mod rules;
+
 use isle_ast::ast::{Converter, Decl, Def, Fields, Ident, TypeDef, TypeValue, Variant};
 use isle_base::error::Error;
 use isle_base::lexer::{Fault, Lexer, Pos, Token};
@@ -210,6 +212,8 @@ pub fn tree_words(alloc: Global, defs: &[Def]) -> Result<String, AllocError> {
             Def::Decl(decl) => push_decl(alloc, &mut out, decl)?,
             Def::Converter(converter) => push_converter(alloc, &mut out, converter)?,
             Def::TypeDef(def) => push_type(alloc, &mut out, def)?,
+            Def::Rule(rule) => rules::push_rule(alloc, &mut out, rule)?,
+            Def::Extractor(extractor) => rules::push_extractor(alloc, &mut out, extractor)?,
             _ => out.push_str("other")?,
         }
         out.push(';')?;
