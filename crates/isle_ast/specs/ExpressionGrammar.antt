@@ -1,4 +1,4 @@
--- Expressions: the right sides of rules. An expression stands at its first token.
+-- Expressions: what a rule or a condition computes. An expression stands at its first token.
 use Rattle.std.specs.Prelude.{◌≡◌, ℕ, List, ◌∷◌, Bool, true, false, ◌&&◌, not, codes}
 use Rattle.std.specs.Str.{bytes_eq}
 use Rattle.isle_base.specs.Place.{Placed}
@@ -43,7 +43,7 @@ abbrev mutual
   SpellsExpressions (more_expression x xs) all rest =
       (mid : List Placed) × SpellsExpression x all mid × SpellsExpressions xs mid rest
 
-  -- `(I I X)` for each: the variable, its type, its value
+  -- `(I I X)` for each, at its `(`: the variable, its type, its value
   pub SpellsLets : LetRow → List Placed → List Placed → Type 0
   SpellsLets no_let all rest = all ≡ rest
   SpellsLets (more_let var ty val pos lets) all rest =

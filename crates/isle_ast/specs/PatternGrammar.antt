@@ -1,4 +1,4 @@
--- Patterns: the left sides of rules. A pattern stands at its first token.
+-- Patterns: what a rule, a condition or an extractor matches. A pattern stands at its first token.
 use Rattle.std.specs.Prelude.{◌≡◌, ℕ, nat_eq, List, ◌∷◌, Bool, true, false, ◌&&◌, ◌||◌, not, codes}
 use Rattle.std.specs.Str.{bytes_eq}
 use Rattle.isle_base.specs.Place.{Placed}
@@ -35,7 +35,8 @@ SpellsVariable name all rest =
     (is_variable name.text ≡ true) × (all ≡ record { pos = name.pos; token = symbol name.text } ∷ rest)
 
 -- `V`, `V @ P`, `true` or `false`, an integer, a constant, `(I P..)` with an I that isn't `and`, `_`,
--- `(and P..)`. Nothing spells the argument of a macro.
+-- `(and P..)`. Nothing spells the argument of a macro. A V alone is spelt in front of `@` too; nothing that
+-- follows a pattern begins with `@`, so there it is settled which of the two is meant.
 abbrev mutual
   pub SpellsPattern : PatternNode → List Placed → List Placed → Type 0
   SpellsPattern (var_pattern var pos) all rest = BeginsAt pos all × SpellsVariable var all rest

@@ -1,4 +1,4 @@
--- The definitions that rewrite: `rule` and `extractor`.
+-- Rules, with their conditions, and the extractors that stand for patterns: `rule` and `extractor`.
 use Rattle.std.specs.Prelude.{◌≡◌, ℤ, List, Bool, true, false, not, ◌⊎◌, Option, None, Some, codes}
 use Rattle.std.specs.Str.{bytes_eq}
 use Rattle.isle_base.specs.Place.{Placed}
@@ -62,7 +62,7 @@ pattern_is_no_head (Some _) None p = not (is_int_pattern p)
 pattern_is_no_head _ (Some _) p = true
 
 -- The name and the priority, if there are any, the pattern, the conditions, the expression. A term headed
--- `if` is read as a condition, so the expression is none.
+-- `if` is read as a condition, so the expression isn't one. (`if-let` is no identifier, so it heads no term.)
 pub record SpellsRule (r : RuleDefinition) (all rest : List Placed) : Type 0 where
   pub pattern_is_no_head : pattern_is_no_head r.name r.prio r.pattern ≡ true
   pub expr_is_no_condition : is_if_expression r.expr ≡ false

@@ -120,7 +120,7 @@ pub record ModelDefinition : Type 0 where
   pub name : Name
   pub val : ModelContent
 
--- the left side of a rule, and what it is made of
+-- what a rule, a condition or an extractor matches
 mutual
   pub data PatternNode : Type 0 where
     var_pattern : (var : Name) → Pos → PatternNode
@@ -138,7 +138,7 @@ mutual
     no_pattern : PatternRow
     more_pattern : PatternNode → PatternRow → PatternRow
 
--- the right side of a rule, and what it is made of
+-- what a rule or a condition computes
 mutual
   pub data Expression : Type 0 where
     term_expression : (sym : Name) → (args : ExpressionRow) → Pos → Expression

@@ -56,7 +56,7 @@ abbrev pub AreWritableIndexedFields : ℕ → List IndexedField → Type 0
 AreWritableIndexedFields place [] = Unit {0}
 AreWritableIndexedFields place (f ∷ fs) = (f.index ≡ place) × IsName f.ty × AreWritableIndexedFields (place + 1) fs
 
--- fields with names, and fields without, are some
+-- fields with names are at least one, and so are fields without
 abbrev pub AreWritableFields : FieldList → Type 0
 AreWritableFields unit_fields = Unit {0}
 AreWritableFields (struct_fields fields _) = IsNonEmpty fields × Each IsWritableNamedField fields

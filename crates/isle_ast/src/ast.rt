@@ -329,7 +329,7 @@ pub struct Extractor {
     pub pos: Pos,
 }
 
-/// A pattern: the left side of a rule. Each position is that of the pattern's first token.
+/// A pattern: what a rule, a condition or an extractor matches. Each position is that of the pattern's first token.
 #[cycle(pattern)]
 #[derive(Debug, Drop)]
 pub enum Pattern {
@@ -400,7 +400,7 @@ pub enum Pattern {
     },
 }
 
-/// An expression: the right side of a rule. Each position is that of the expression's first token.
+/// An expression: what a rule or a condition computes. Each position is that of the expression's first token.
 #[cycle(expression)]
 #[derive(Debug, Drop)]
 pub enum Expr {

@@ -28,13 +28,14 @@
 //! pattern, a rule without a priority has no integer for it, and the expression of a rule is no term named
 //! `if`.
 
-ghost use Rattle.std.specs.Prelude.{◌≡◌, ◌↔◌, ℕ, List};
+ghost use Rattle.std.specs.Prelude.{◌≡◌, ◌↔◌, ℕ, List, false};
 ghost use Rattle.isle_base.specs.declared.lexer.Pos.{Pos};
 ghost use Rattle.isle_base.specs.Place.{Placed, nowhere};
 ghost use Rattle.isle_base.specs.Token.{Feed};
 ghost use Rattle.isle_ast.specs.Erased.{erase};
 ghost use Rattle.isle_ast.specs.ExpressionGrammar.{SpellsExpression};
 ghost use Rattle.isle_ast.specs.Grammar.{SpellsDefinition, SpellsDefinitions};
+ghost use Rattle.isle_ast.specs.MacroArgs.{definitions_have_macro_arg};
 ghost use Rattle.isle_ast.specs.ModelGrammar.{SpellsForm, SpellsInstantiation, SpellsModel, SpellsTypeModel};
 ghost use Rattle.isle_ast.specs.Parts.{AreParts, IsByParts};
 ghost use Rattle.isle_ast.specs.PatternGrammar.{SpellsPattern};
@@ -44,6 +45,7 @@ ghost use Rattle.isle_ast.specs.TermGrammar.{SpellsAttribute, SpellsConversion, 
 ghost use Rattle.isle_ast.specs.Tree.{Attribute, Condition, Conversion, Declaration, Definition, Expression, ExternDefinition, ExtractorDefinition, FormDefinition, ModelDefinition, Name, PatternNode, RuleDefinition, TermInstantiation, TypeDefinition, TypeModel};
 ghost use Rattle.isle_ast.specs.TypeGrammar.{SpellsTypeDefinition};
 ghost use Rattle.isle_ast.specs.Words.{SpellsAll, SpellsName};
+ghost use Rattle.isle_ast.specs.Writable.{AreWritable};
 
 /// A law: what spells a node in front of some tokens is a part of the list, and it spells the node in
 /// front of any others too. So the tokens that spell a list of definitions are cut into as many parts
@@ -76,4 +78,11 @@ pub fn spellings_are_erased()
     ensures erased { (place : ℕ → Pos) (text : Feed) (ds : List Definition) → Spells place text ds → Spells nowhere text (erase ds) }
     ensures placed { (place : ℕ → Pos) (text : Feed) (es : List Definition) → Spells nowhere text es → (ds : List Definition) × (erase ds ≡ es) × Spells place text ds }
     ensures once { (place : ℕ → Pos) (text : Feed) (ds es : List Definition) → Spells place text ds → Spells place text es → erase ds ≡ erase es → ds ≡ es }
+{}
+
+/// A law: a tree that some tokens spell is writable, that is, it meets the conditions on each node under
+/// which a tree is written so that it reads back; and it holds no argument of a macro.
+pub fn spelt_trees_are_writable()
+    ensures writable { (ds : List Definition) (all : List Placed) → SpellsDefinitions ds all → AreWritable ds }
+    ensures no_macro_args { (ds : List Definition) (all : List Placed) → SpellsDefinitions ds all → definitions_have_macro_arg ds ≡ false }
 {}
