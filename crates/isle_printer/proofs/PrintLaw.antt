@@ -17,9 +17,10 @@ use Rattle.isle_printer.specs.Layout.{layout}
 use Rattle.isle_printer.specs.Printed.{definition_text, behind_text, printed_text, IsPrinted}
 use Rattle.isle_printer.specs.ReadBack.{TokensOf, Reads, ReadsBack, unplaced}
 use Rattle.isle_printer.specs.Sexp.{Sexp, atom, row_of}
-use Rattle.isle_printer.specs.Shapes.{name_shape, name_shapes, flag_shape, form_shape, model_shape, model_field_shapes, named_field_shape, indexed_field_shape, field_shapes, variant_shape, type_content_shape, target_shape, tag_shape, kind_shape, signature_shape, instance_shapes, model_content_shape, definition_shape}
+use Rattle.isle_printer.specs.Shapes.{name_shape, flag_shape, form_shape, model_shape, model_field_shapes, named_field_shape, indexed_field_shape, field_shapes, variant_shape, type_content_shape, target_shape, tag_shape, kind_shape, signature_shape, instance_shapes, model_content_shape, definition_shape}
 use Rattle.isle_printer.proofs.Greedy.{greedy, layout_is_render}
 use Rattle.isle_printer.proofs.Printing.{IsPrinted-from_text, IsPrinted-text}
+use Rattle.isle_printer.proofs.RuleErased.{shapes-erased, names-erased}
 use Rattle.isle_printer.proofs.ReadBackLaw.{render-reads, Reads-blank, is_blank-10, in_symbol-10}
 use Rattle.isle_printer.proofs.ShapeLaw.{spell-definition}
 
@@ -96,15 +97,6 @@ IsPrinted-ReadsBack width ds text is all s =
     subst (λ t. IsSpelt nowhere t (erase ds)) (sym (IsPrinted-text width ds text is)) (printed_text-spelt width ds (spelt_is_writable ds all s))
 
 -- positions play no part in a shape
-
--- the shapes of a row, where they are those of the erased elements
-shapes-erased : {A : Type 0} → (shape : A → Sexp) (erased : A → A) → ((x : A) → shape (erased x) ≡ shape x) → (xs : List A) → map shape (map erased xs) ≡ map shape xs
-shapes-erased shape erased same [] = refl
-shapes-erased shape erased same (x ∷ xs) =
-    ap (λ s. s ∷ map shape (map erased xs)) (same x) ∙ ap (λ ss. shape x ∷ ss) (shapes-erased shape erased same xs)
-
-names-erased : (ns : List Name) → name_shapes (erase_names ns) ≡ name_shapes ns
-names-erased = shapes-erased name_shape erase_name (λ n. refl)
 
 mutual
   model-erased : (m : TypeModel) → model_shape (erase_model m) ≡ model_shape m

@@ -4,6 +4,7 @@ pub mod Layout
 pub mod Lines
 pub mod Printed
 pub mod ReadBack
+pub mod RuleShapes
 pub mod Sexp
 pub mod SexpView
 pub mod Shapes

@@ -11,7 +11,7 @@ mod shapes;
 #[cfg(test)]
 mod tests;
 
-ghost use Rattle.std.specs.Prelude.{◌≡◌, ◌≤◌, ◌↔◌, ◌++◌, ℕ, List, [], IfOk, OnOk, IfSome, IsSome, string_bytes};
+ghost use Rattle.std.specs.Prelude.{◌≡◌, ◌≤◌, ◌↔◌, ◌++◌, ℕ, List, [], IfOk, OnOk, IfSome, IsSome, IsErrOf, None, string_bytes};
 ghost use Rattle.isle_ast.specs.TreeView.{definition_of, definitions_of};
 ghost use Rattle.isle_printer.specs.Choices.{Choice, IsWithin, IsLeast, IsLayout, render};
 ghost use Rattle.isle_printer.specs.Layout.{layout};
@@ -19,6 +19,7 @@ ghost use Rattle.isle_printer.specs.Lines.{HasFewestLines, WiderHasNoMoreLines};
 ghost use Rattle.isle_printer.specs.Printed.{IsPrinted, definition_text, printed_text};
 ghost use Rattle.isle_printer.specs.ReadBack.{ReadsBack, TokensOf, unplaced};
 ghost use Rattle.isle_printer.specs.Sexp.{Sexp};
+ghost use Rattle.isle_printer.specs.declared.printer.sexpr.PrintFault.TheVariants.{MacroArg};
 ghost use Rattle.isle_ast.specs.Erased.{erase};
 ghost use Rattle.isle_ast.specs.Tree.{Definition};
 ghost use Rattle.isle_base.specs.Lexing.{lexes};
@@ -62,6 +63,7 @@ pub fn print_node<N: ToSExpr>(alloc: Global, node: &N, width: usize) -> Result<S
         (λ text. IfSome (N.meaning node.now) (λ s. IsLayout width s (string_bytes text))) }
     ensures lines { IfOk result
         (λ text. IfSome (N.meaning node.now) (λ s. HasFewestLines width s (string_bytes text))) }
+    ensures refused { IsErrOf result MacroArg ↔ (N.meaning node.now ≡ None) }
 {
     let sexpr = node.to_sexpr(alloc)?;
     let mut out = String::new(alloc);
