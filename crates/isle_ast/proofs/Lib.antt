@@ -9,6 +9,7 @@ pub mod LawfulModels
 pub mod LawfulDefinitions
 pub mod Parts
 pub mod Erasing
-pub mod SameModels
+pub mod SameRows
+pub mod SameLists
 pub mod Equalities
 pub mod SpeltWritable
