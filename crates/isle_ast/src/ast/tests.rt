@@ -172,12 +172,21 @@ fn rule(alloc: Global) -> Result<Rule, AllocError> {
         bound,
         Pattern::ConstBool { val: true, pos },
         Pattern::ConstInt { val: -2, pos },
-        Pattern::ConstPrim { val: ident(alloc, "c", 28)?, pos },
-        Pattern::And { subpats: Vec::new(alloc), pos },
+        Pattern::ConstPrim {
+            val: ident(alloc, "c", 28)?,
+            pos
+        },
+        Pattern::And {
+            subpats: Vec::new(alloc),
+            pos
+        },
         Pattern::MacroArg { index: 1, pos },
     ]?;
     let iflet = IfLet {
-        pattern: Pattern::Var { var: ident(alloc, "x", 47)?, pos },
+        pattern: Pattern::Var {
+            var: ident(alloc, "x", 47)?,
+            pos,
+        },
         expr: Expr::ConstBool { val: false, pos },
         pos,
     };
@@ -188,12 +197,26 @@ fn rule(alloc: Global) -> Result<Rule, AllocError> {
         pos,
     };
     let given = vec![in alloc;
-        Expr::Var { name: ident(alloc, "x", 75)?, pos },
-        Expr::ConstPrim { val: ident(alloc, "c", 78)?, pos },
+        Expr::Var {
+            name: ident(alloc, "x", 75)?,
+            pos
+        },
+        Expr::ConstPrim {
+            val: ident(alloc, "c", 78)?,
+            pos
+        },
     ]?;
-    let body = Expr::Term { sym: ident(alloc, "f", 73)?, args: given, pos };
+    let body = Expr::Term {
+        sym: ident(alloc, "f", 73)?,
+        args: given,
+        pos,
+    };
     Ok(Rule {
-        pattern: Pattern::Term { sym: ident(alloc, "T", 12)?, args, pos },
+        pattern: Pattern::Term {
+            sym: ident(alloc, "T", 12)?,
+            args,
+            pos,
+        },
         iflets: vec![in alloc; iflet]?,
         expr: Expr::Let {
             defs: vec![in alloc; defined]?,
@@ -209,7 +232,10 @@ fn rule(alloc: Global) -> Result<Rule, AllocError> {
 /// `(extractor (A x) (B x))`
 fn extractor(alloc: Global) -> Result<Extractor, AllocError> {
     let pos = Pos::new(0, 11);
-    let x = Pattern::Var { var: ident(alloc, "x", 20)?, pos };
+    let x = Pattern::Var {
+        var: ident(alloc, "x", 20)?,
+        pos,
+    };
     Ok(Extractor {
         term: ident(alloc, "A", 12)?,
         args: vec![in alloc; ident(alloc, "x", 14)?]?,
@@ -257,7 +283,10 @@ fn finds_macro_arguments(rt: HostRuntime) -> Result<(), AllocError> {
     };
     assert!(rt; template.has_macro_arg());
     let iflet = IfLet {
-        pattern: Pattern::And { subpats: vec![in alloc; template]?, pos },
+        pattern: Pattern::And {
+            subpats: vec![in alloc; template]?,
+            pos,
+        },
         expr: Expr::ConstBool { val: true, pos },
         pos,
     };

@@ -42,24 +42,50 @@ fn same_expr(a: &Expr, b: &Expr) -> bool
     ensures { result ≡ same_expression (expression_of a.now) (expression_of b.now) }
 {
     match (a, b) {
-        (Expr::Term { sym, args, pos }, Expr::Term { sym: other, args: others, pos: place }) => {
-            sym == other && same_exprs(args, others) && pos == place
-        }
-        (Expr::Var { name, pos }, Expr::Var { name: other, pos: place }) => {
-            name == other && pos == place
-        }
-        (Expr::ConstBool { val, pos }, Expr::ConstBool { val: other, pos: place }) => {
-            val == other && pos == place
-        }
-        (Expr::ConstInt { val, pos }, Expr::ConstInt { val: other, pos: place }) => {
-            val == other && pos == place
-        }
-        (Expr::ConstPrim { val, pos }, Expr::ConstPrim { val: other, pos: place }) => {
-            val == other && pos == place
-        }
-        (Expr::Let { defs, body, pos }, Expr::Let { defs: others, body: inner, pos: place }) => {
-            same_let_defs(defs, others) && same_expr(body, inner) && pos == place
-        }
+        (
+            Expr::Term { sym, args, pos },
+            Expr::Term {
+                sym: other,
+                args: others,
+                pos: place,
+            },
+        ) => sym == other && same_exprs(args, others) && pos == place,
+        (
+            Expr::Var { name, pos },
+            Expr::Var {
+                name: other,
+                pos: place,
+            },
+        ) => name == other && pos == place,
+        (
+            Expr::ConstBool { val, pos },
+            Expr::ConstBool {
+                val: other,
+                pos: place,
+            },
+        ) => val == other && pos == place,
+        (
+            Expr::ConstInt { val, pos },
+            Expr::ConstInt {
+                val: other,
+                pos: place,
+            },
+        ) => val == other && pos == place,
+        (
+            Expr::ConstPrim { val, pos },
+            Expr::ConstPrim {
+                val: other,
+                pos: place,
+            },
+        ) => val == other && pos == place,
+        (
+            Expr::Let { defs, body, pos },
+            Expr::Let {
+                defs: others,
+                body: inner,
+                pos: place,
+            },
+        ) => same_let_defs(defs, others) && same_expr(body, inner) && pos == place,
         _ => false,
     }
 }

@@ -28,33 +28,65 @@ fn same_pattern(a: &Pattern, b: &Pattern) -> bool
     ensures { result ≡ same_pattern (pattern_of a.now) (pattern_of b.now) }
 {
     match (a, b) {
-        (Pattern::Var { var, pos }, Pattern::Var { var: other, pos: place }) => {
-            var == other && pos == place
-        }
+        (
+            Pattern::Var { var, pos },
+            Pattern::Var {
+                var: other,
+                pos: place,
+            },
+        ) => var == other && pos == place,
         (
             Pattern::BindPattern { var, subpat, pos },
-            Pattern::BindPattern { var: other, subpat: inner, pos: place },
+            Pattern::BindPattern {
+                var: other,
+                subpat: inner,
+                pos: place,
+            },
         ) => var == other && same_pattern(subpat, inner) && pos == place,
-        (Pattern::ConstBool { val, pos }, Pattern::ConstBool { val: other, pos: place }) => {
-            val == other && pos == place
-        }
-        (Pattern::ConstInt { val, pos }, Pattern::ConstInt { val: other, pos: place }) => {
-            val == other && pos == place
-        }
-        (Pattern::ConstPrim { val, pos }, Pattern::ConstPrim { val: other, pos: place }) => {
-            val == other && pos == place
-        }
+        (
+            Pattern::ConstBool { val, pos },
+            Pattern::ConstBool {
+                val: other,
+                pos: place,
+            },
+        ) => val == other && pos == place,
+        (
+            Pattern::ConstInt { val, pos },
+            Pattern::ConstInt {
+                val: other,
+                pos: place,
+            },
+        ) => val == other && pos == place,
+        (
+            Pattern::ConstPrim { val, pos },
+            Pattern::ConstPrim {
+                val: other,
+                pos: place,
+            },
+        ) => val == other && pos == place,
         (
             Pattern::Term { sym, args, pos },
-            Pattern::Term { sym: other, args: others, pos: place },
+            Pattern::Term {
+                sym: other,
+                args: others,
+                pos: place,
+            },
         ) => sym == other && same_patterns(args, others) && pos == place,
         (Pattern::Wildcard { pos }, Pattern::Wildcard { pos: place }) => pos == place,
-        (Pattern::And { subpats, pos }, Pattern::And { subpats: others, pos: place }) => {
-            same_patterns(subpats, others) && pos == place
-        }
-        (Pattern::MacroArg { index, pos }, Pattern::MacroArg { index: other, pos: place }) => {
-            index == other && pos == place
-        }
+        (
+            Pattern::And { subpats, pos },
+            Pattern::And {
+                subpats: others,
+                pos: place,
+            },
+        ) => same_patterns(subpats, others) && pos == place,
+        (
+            Pattern::MacroArg { index, pos },
+            Pattern::MacroArg {
+                index: other,
+                pos: place,
+            },
+        ) => index == other && pos == place,
         _ => false,
     }
 }
