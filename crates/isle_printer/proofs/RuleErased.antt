@@ -1,7 +1,10 @@
--- Positions play no part in the shapes of patterns, expressions, rules and extractors.
-use Rattle.std.proofs.Common.{◌≡◌, List, [], ◌∷◌, ◌++◌, map, codes, Option, None, Some, refl, ap, ◌∙◌}
-use Rattle.isle_ast.specs.Erased.{erase_name, erase_names, erase_optional, erase_pattern, erase_patterns, erase_expression, erase_expressions, erase_lets, erase_condition, erase_rule, erase_extractor}
-use Rattle.isle_ast.specs.Tree.{Name, PatternNode, var_pattern, bind_pattern, bool_pattern, int_pattern, constant_pattern, term_pattern, wildcard_pattern, and_pattern, macro_arg_pattern, PatternRow, no_pattern, more_pattern, Expression, term_expression, var_expression, bool_expression, int_expression, constant_expression, let_expression, ExpressionRow, no_expression, more_expression, LetRow, no_let, more_let, Condition, RuleDefinition, ExtractorDefinition}
+-- Positions play no part in the shapes of patterns, expressions, rules and extractors, nor in whether
+-- one holds the argument of a macro.
+use Rattle.std.proofs.Common.{◌≡◌, List, [], ◌∷◌, ◌++◌, map, codes, Bool, ◌||◌, Option, None, Some, refl, ap, ◌∙◌}
+use Rattle.std.specs.List.{list_any}
+use Rattle.isle_ast.specs.Erased.{erase_name, erase_names, erase_optional, erase_pattern, erase_patterns, erase_expression, erase_expressions, erase_lets, erase_condition, erase_rule, erase_extractor, erase_definition, erase}
+use Rattle.isle_ast.specs.MacroArgs.{has_macro_arg, have_macro_arg, condition_has_macro_arg, definition_has_macro_arg, definitions_have_macro_arg}
+use Rattle.isle_ast.specs.Tree.{Name, PatternNode, var_pattern, bind_pattern, bool_pattern, int_pattern, constant_pattern, term_pattern, wildcard_pattern, and_pattern, macro_arg_pattern, PatternRow, no_pattern, more_pattern, Expression, term_expression, var_expression, bool_expression, int_expression, constant_expression, let_expression, ExpressionRow, no_expression, more_expression, LetRow, no_let, more_let, Condition, RuleDefinition, ExtractorDefinition, Definition, type_def, rule, extractor, decl, attr, model, form, instantiation, external, converter}
 use Rattle.isle_printer.specs.RuleShapes.{pattern_shape, pattern_shapes, expression_shape, expression_shapes, let_shapes, condition_shape, rule_name_shape, priority_shape, rule_shape, extractor_shape}
 use Rattle.isle_printer.specs.Sexp.{Sexp, atom, binding, row_of}
 use Rattle.isle_printer.specs.Shapes.{name_shape, name_shapes, form_shape}
@@ -84,3 +87,45 @@ pub extractor-erased : (e : ExtractorDefinition) → extractor_shape (erase_extr
 extractor-erased e =
     ap (λ ss. row_of (atom (codes "extractor") ∷ [] ++ row_of (name_shape e.term ∷ ss) ∷ [] ++ pattern_shape (erase_pattern e.template) ∷ [])) (names-erased e.args)
     ∙ ap (λ s. row_of (atom (codes "extractor") ∷ [] ++ row_of (name_shape e.term ∷ name_shapes e.args) ∷ [] ++ s ∷ [])) (pattern-erased e.template)
+
+-- the argument of a macro
+
+mutual
+  macro_arg-erased : (p : PatternNode) → has_macro_arg (erase_pattern p) ≡ has_macro_arg p
+  macro_arg-erased (var_pattern var _) = refl
+  macro_arg-erased (bind_pattern var subpat _) = macro_arg-erased subpat
+  macro_arg-erased (bool_pattern val _) = refl
+  macro_arg-erased (int_pattern val _) = refl
+  macro_arg-erased (constant_pattern val _) = refl
+  macro_arg-erased (term_pattern sym args _) = macro_arg_row-erased args
+  macro_arg-erased (wildcard_pattern _) = refl
+  macro_arg-erased (and_pattern subpats _) = macro_arg_row-erased subpats
+  macro_arg-erased (macro_arg_pattern _ _) = refl
+
+  macro_arg_row-erased : (ps : PatternRow) → have_macro_arg (erase_patterns ps) ≡ have_macro_arg ps
+  macro_arg_row-erased no_pattern = refl
+  macro_arg_row-erased (more_pattern p ps) =
+      ap (λ t. t || have_macro_arg (erase_patterns ps)) (macro_arg-erased p) ∙ ap (λ t. has_macro_arg p || t) (macro_arg_row-erased ps)
+
+-- a test of a row, where it is that of the erased elements
+any-erased : {A : Type 0} → (test : A → Bool) (erased : A → A) → ((x : A) → test (erased x) ≡ test x) → (xs : List A) → list_any test (map erased xs) ≡ list_any test xs
+any-erased test erased same [] = refl
+any-erased test erased same (x ∷ xs) =
+    ap (λ t. t || list_any test (map erased xs)) (same x) ∙ ap (λ t. test x || t) (any-erased test erased same xs)
+
+definition_macro_arg-erased : (d : Definition) → definition_has_macro_arg (erase_definition d) ≡ definition_has_macro_arg d
+definition_macro_arg-erased (type_def _) = refl
+definition_macro_arg-erased (rule r) =
+    ap (λ t. t || list_any condition_has_macro_arg (map erase_condition r.iflets)) (macro_arg-erased r.pattern)
+    ∙ ap (λ t. has_macro_arg r.pattern || t) (any-erased condition_has_macro_arg erase_condition (λ c. macro_arg-erased c.pattern) r.iflets)
+definition_macro_arg-erased (extractor e) = macro_arg-erased e.template
+definition_macro_arg-erased (decl _) = refl
+definition_macro_arg-erased (attr _) = refl
+definition_macro_arg-erased (model _) = refl
+definition_macro_arg-erased (form _) = refl
+definition_macro_arg-erased (instantiation _) = refl
+definition_macro_arg-erased (external _) = refl
+definition_macro_arg-erased (converter _) = refl
+
+pub macro_args-erased : (ds : List Definition) → definitions_have_macro_arg (erase ds) ≡ definitions_have_macro_arg ds
+macro_args-erased = any-erased definition_has_macro_arg erase_definition definition_macro_arg-erased

@@ -9,14 +9,16 @@ use Rattle.isle_ast.specs.Grammar.{SpellsDefinition}
 use Rattle.isle_ast.specs.ModelGrammar.{SpellsTypeModel, SpellsModelFields, SpellsSignature, SpellsTag, SpellsInstances, SpellsModelContent, SpellsModel, SpellsForm, SpellsInstantiation}
 use Rattle.isle_ast.specs.Numbers.{SpellsNumber}
 use Rattle.isle_ast.specs.TermGrammar.{demands, SpellsDeclaration, SpellsConversion, SpellsAttributeKind, SpellsAttributeTarget, SpellsPair, SpellsExtern, SpellsAttribute}
-use Rattle.isle_ast.specs.Tree.{Name, Declaration, Conversion, TypeModel, unspecified_model, auto_model, int_model, bool_model, unit_model, bit_vector_model, struct_model, named_model, ModelFieldRow, no_model_field, model_field, NamedField, IndexedField, FieldList, unit_fields, struct_fields, tuple_fields, EnumVariant, TypeContent, primitive_type, enum_type, struct_type, AttributeTarget, term_target, rule_target, AttributeKind, chain_kind, priority_kind, tag_kind, TermSignature, ModelContent, type_model, ExternDefinition, extern_extractor, extern_constructor, extern_const, Definition, type_def, decl, attr, model, form, instantiation, external, converter}
+use Rattle.isle_ast.specs.Tree.{Name, Declaration, Conversion, TypeModel, unspecified_model, auto_model, int_model, bool_model, unit_model, bit_vector_model, struct_model, named_model, ModelFieldRow, no_model_field, model_field, NamedField, IndexedField, FieldList, unit_fields, struct_fields, tuple_fields, EnumVariant, TypeContent, primitive_type, enum_type, struct_type, AttributeTarget, term_target, rule_target, AttributeKind, chain_kind, priority_kind, tag_kind, TermSignature, ModelContent, type_model, ExternDefinition, extern_extractor, extern_constructor, extern_const, Definition, type_def, rule, extractor, decl, attr, model, form, instantiation, external, converter}
 use Rattle.isle_ast.specs.TypeGrammar.{SpellsNamedField, SpellsIndexedFields, SpellsFields, SpellsVariant, SpellsTypeContent, SpellsModifiers, SpellsTypeDefinition}
 use Rattle.isle_ast.specs.Words.{SpellsWord, BeginsAt, SpellsAll, InParentheses, BehindWord, SpellsName, SpellsOptional}
 use Rattle.isle_ast.specs.Writable.{IsName, Each, Wants, IsWritableDeclaration, IsWritableConversion, IsWritableModel, AreWritableModelFields, IsWritableNamedField, AreWritableIndexedFields, AreWritableFields, IsWritableVariant, IsWritableTypeContent, IsWritableTarget, IsWritableKind, IsWritableSignature, AreWritableInstances, IsWritableModelContent, IsWritableExtern, IsWritable}
+use Rattle.isle_printer.specs.DefinitionShapes.{definition_shape}
 use Rattle.isle_printer.specs.Sexp.{atom}
-use Rattle.isle_printer.specs.Shapes.{name_shape, name_shapes, flag_shape, form_shape, number_shape, width_shape, model_shape, model_field_shapes, named_field_shape, indexed_field_shape, field_shapes, variant_shape, type_content_shape, target_shape, tag_shape, kind_shape, signature_shape, instance_shapes, model_content_shape, constant_shape, extern_shape, definition_shape}
+use Rattle.isle_printer.specs.Shapes.{name_shape, name_shapes, flag_shape, form_shape, number_shape, width_shape, model_shape, model_field_shapes, named_field_shape, indexed_field_shape, field_shapes, variant_shape, type_content_shape, target_shape, tag_shape, kind_shape, signature_shape, instance_shapes, model_content_shape, constant_shape, extern_shape}
 use Rattle.isle_printer.specs.ReadBack.{unplaced}
 use Rattle.isle_printer.proofs.NumberAtoms.{decimal-ReadsAs}
+use Rattle.isle_printer.proofs.RuleShapeLaw.{spell-rule, spell-extractor_definition}
 use Rattle.isle_printer.proofs.Spellings.{ItemTokens, ◌then◌, IsAhead, item-ahead, items-ahead, Spelling, spell-nothing, spell-word, spell-flag, spell-name, spell-all, spell-names, spell-row, spell-behind, spell-form, InTurn, spell-turn, all_true, differs-test, regrouped, spell-constant}
 use Rattle.isle_printer.proofs.WordSymbols.{word-decl, word-convert, word-pure, word-multi, word-partial, word-rec, word-type, word-extern, word-nodebug, word-primitive, word-enum, word-struct, word-attr, word-rule, word-veri, word-chain, word-priority, word-tag, word-model, word-form, word-instantiate, word-args, word-ret, word-bv, word-named, word-extractor, word-infallible, word-constructor, word-const, word-Int, word-Bool, word-Unit, word-bang, word-underscore}
 
@@ -389,6 +391,8 @@ spell-definition (type_def t) is rest =
         },
       );
     })
+spell-definition (rule r) is rest = spell-rule r is rest
+spell-definition (extractor e) is rest = spell-extractor_definition e is rest
 spell-definition (decl d) is rest = spell-declaration d is rest
 spell-definition (attr a) is rest =
     let kinds = spell-all kind_shape erase_kind SpellsAttributeKind IsWritableKind spell-kind a.kinds is.1 (rparen ∷ rest) in

@@ -1,4 +1,5 @@
 pub mod Choices
+pub mod DefinitionShapes
 pub mod Flat
 pub mod Layout
 pub mod Lines

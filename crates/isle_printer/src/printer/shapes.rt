@@ -3,13 +3,13 @@
 ghost use Rattle.std.specs.Prelude.{◌≡◌, ◌++◌, [], ◌∷◌, IfOk, OnOk};
 ghost use Rattle.isle_ast.specs.PatternGrammar.{bool_word};
 ghost use Rattle.isle_ast.specs.TreeView.{name_of, names_of, definition_of};
+ghost use Rattle.isle_printer.specs.DefinitionShapes.{definition_shape};
 ghost use Rattle.isle_printer.specs.RuleShapes.{integer_shape};
 ghost use Rattle.isle_printer.specs.Sexp.{atom, row_of};
 ghost use Rattle.isle_printer.specs.SexpView.{sexp_of, sexps_of};
-ghost use Rattle.isle_printer.specs.Shapes.{constant_shape, definition_shape, flag_shape, form_shape, name_shape, name_shapes, number_shape};
+ghost use Rattle.isle_printer.specs.Shapes.{constant_shape, flag_shape, form_shape, name_shape, name_shapes, number_shape};
 
 mod expressions;
-mod macro_args;
 mod models;
 mod patterns;
 mod rules;
@@ -21,13 +21,17 @@ use isle_ast::ast::{Def, Ident};
 use std::alloc::{AllocError, Global};
 
 impl ToSExpr for Def {
-    ghost use Rattle.std.specs.Prelude.{Some};
+    ghost use Rattle.isle_ast.specs.MacroArgs.{definition_has_macro_arg};
     ghost use Rattle.isle_ast.specs.TreeView.{definition_of};
-    ghost use Rattle.isle_printer.specs.Shapes.{definition_shape};
+    ghost use Rattle.isle_printer.specs.DefinitionShapes.{definition_shape};
+    ghost use Rattle.isle_printer.specs.Sexp.{unless};
 
-    ghost meaning = { λ d. Some (definition_shape (definition_of d)) };
+    ghost meaning = { λ d. unless (definition_has_macro_arg (definition_of d)) (definition_shape (definition_of d)) };
 
     fn to_sexpr(&self, alloc: Global) -> Result<SExpr, PrintFault> {
+        if self.has_macro_arg() {
+            return Err(PrintFault::MacroArg);
+        }
         Ok(definition(alloc, self)?)
     }
 }
@@ -51,6 +55,8 @@ fn definition(alloc: Global, def: &Def) -> Result<SExpr, AllocError>
     match def {
         Def::Pragma(pragma) => match *pragma {},
         Def::TypeDef(ty) => types::type_definition(alloc, ty),
+        Def::Rule(rule) => rules::rule(alloc, rule),
+        Def::Extractor(extractor) => rules::extractor(alloc, extractor),
         Def::Decl(decl) => terms::declaration(alloc, decl),
         Def::Attr(attr) => terms::attribute(alloc, attr),
         Def::Model(model) => models::model(alloc, model),

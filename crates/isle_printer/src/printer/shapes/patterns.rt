@@ -5,7 +5,6 @@ ghost use Rattle.isle_ast.specs.TreeView.{pattern_of, pattern_row_of, patterns_o
 ghost use Rattle.isle_printer.specs.RuleShapes.{pattern_shape, pattern_shapes};
 ghost use Rattle.isle_printer.specs.SexpView.{sexp_of, sexps_of};
 
-use super::macro_args::has_macro_arg;
 use super::{atom, begun, boolean, constant, integer, list, name, push_name};
 use crate::printer::sexpr::{PrintFault, SExpr, ToSExpr};
 use isle_ast::ast::Pattern;
@@ -20,7 +19,7 @@ impl ToSExpr for Pattern {
     ghost meaning = { λ p. unless (has_macro_arg (pattern_of p)) (pattern_shape (pattern_of p)) };
 
     fn to_sexpr(&self, alloc: Global) -> Result<SExpr, PrintFault> {
-        if has_macro_arg(self) {
+        if self.has_macro_arg() {
             return Err(PrintFault::MacroArg);
         }
         Ok(pattern(self, alloc)?)

@@ -6,7 +6,6 @@ ghost use Rattle.isle_printer.specs.RuleShapes.{condition_shape, extractor_shape
 ghost use Rattle.isle_printer.specs.SexpView.{sexp_of, sexps_of};
 
 use super::expressions::expression;
-use super::macro_args::{condition_has_macro_arg, extractor_has_macro_arg, rule_has_macro_arg};
 use super::patterns::pattern;
 use super::{begun, list, push_name, push_names};
 use crate::printer::sexpr::{PrintFault, SExpr, ToSExpr};
@@ -22,7 +21,7 @@ impl ToSExpr for IfLet {
     ghost meaning = { λ c. unless (condition_has_macro_arg (condition_of c)) (condition_shape (condition_of c)) };
 
     fn to_sexpr(&self, alloc: Global) -> Result<SExpr, PrintFault> {
-        if condition_has_macro_arg(self) {
+        if self.has_macro_arg() {
             return Err(PrintFault::MacroArg);
         }
         Ok(condition(alloc, self)?)
@@ -38,7 +37,7 @@ impl ToSExpr for Rule {
     ghost meaning = { λ r. unless (rule_has_macro_arg (rule_of r)) (rule_shape (rule_of r)) };
 
     fn to_sexpr(&self, alloc: Global) -> Result<SExpr, PrintFault> {
-        if rule_has_macro_arg(self) {
+        if self.has_macro_arg() {
             return Err(PrintFault::MacroArg);
         }
         Ok(rule(alloc, self)?)
@@ -54,7 +53,7 @@ impl ToSExpr for Extractor {
     ghost meaning = { λ e. unless (extractor_has_macro_arg (extractor_of e)) (extractor_shape (extractor_of e)) };
 
     fn to_sexpr(&self, alloc: Global) -> Result<SExpr, PrintFault> {
-        if extractor_has_macro_arg(self) {
+        if self.has_macro_arg() {
             return Err(PrintFault::MacroArg);
         }
         Ok(extractor(alloc, self)?)
@@ -100,11 +99,7 @@ fn push_rule_name(
 }
 
 /// Appends a priority, if there is one.
-fn push_priority(
-    items: &mut Vec<SExpr>,
-    alloc: Global,
-    prio: Option<i64>,
-) -> Result<(), AllocError>
+fn push_priority(items: &mut Vec<SExpr>, alloc: Global, prio: Option<i64>) -> Result<(), AllocError>
     ensures { OnOk result (sexps_of items.new.items ≡ sexps_of items.old.items ++ priority_shape prio) }
 {
     if let Some(prio) = prio {
