@@ -9,3 +9,5 @@ pub mod Spellings
 pub mod ShapeLaw
 pub mod PrintLaw
 pub mod NumberAtoms
+pub mod RuleShapeLaw
+pub mod RuleErased

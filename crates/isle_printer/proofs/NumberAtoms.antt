@@ -1,19 +1,22 @@
--- A number in decimal reads back as that integer.
-use Rattle.std.proofs.Common.{◌≡◌, ◌==◌, ℕ, ℤ, pos, suc, ◌+◌, ◌*◌, ◌/◌, ◌%◌, ◌^◌, ◌<◌, ◌≤◌, List, [], ◌∷◌, ◌++◌, length, map, drop, Bool, true, false, ◌&&◌, not, cond, ltb, Option, Some, None, is_some, unwrap_or, refl, sym, ap, ◌∙◌, subst, arith}
+-- An integer in decimal reads back as that integer.
+use Rattle.std.proofs.Common.{◌≡◌, ◌==◌, ℕ, ℤ, pos, negsuc, ◌-ℤ◌, codes, suc, ◌+◌, ◌*◌, ◌/◌, ◌%◌, ◌^◌, ◌<◌, ◌≤◌, List, [], ◌∷◌, ◌++◌, length, map, drop, Bool, true, false, ◌&&◌, not, cond, ltb, Option, Some, None, is_some, unwrap_or, refl, sym, ap, ◌∙◌, subst, arith}
 use Rattle.std.proofs.Math.Nat.{pow-suc, pow-zero}
 use Rattle.std.proofs.lemmas.Bool.{false≢true}
 use Rattle.std.proofs.lemmas.Bool.Decides.{nat_tests}
 use Rattle.std.proofs.lemmas.Fmt.{decimal_by_steps_wide}
+use Rattle.std.proofs.lemmas.Int.{ints}
 use Rattle.std.proofs.lemmas.List.{map-append, length-append}
 use Rattle.std.proofs.lemmas.List.Folds.{list_all-append}
 use Rattle.std.specs.Char.{digit_value, is_ascii_digit}
-use Rattle.std.specs.Fmt.{decimal}
+use Rattle.std.specs.Fmt.{decimal, signed_decimal}
 use Rattle.std.specs.List.{list_all, filter}
 use Rattle.isle_base.specs.Literals.{begins_literal, in_literal, has_minus, behind_minus, radix_of, prefix_radix, radix_at, behind_prefix, digits_of, number_of, are_digits, signed, value_of, Literal}
 use Rattle.isle_base.specs.Pieces.{in_symbol}
 use Rattle.isle_base.specs.Skips.{begins_with, is_blank, Longest}
 use Rattle.isle_base.specs.Token.{integer}
+use Rattle.isle_ast.specs.Numbers.{IsSigned}
 use Rattle.isle_printer.specs.ReadBack.{ReadsAs, Separated}
+use Rattle.isle_printer.specs.RuleShapes.{integer_text}
 
 -- one more digit behind a number
 weighed : (x p r v d : ℕ) → x * (p * r) + (v * r + d) ≡ (x * p + v) * r + d
@@ -180,26 +183,85 @@ plain_literal all run rest value begins sign prefix longest meaning =
       meaning = meaning ∙ ap (λ m. value_of m 10 (digits_of run)) (sym sign) ∙ ap (λ r. value_of (has_minus all) r (digits_of run)) (sym radix);
     }
 
-digits-Literal : (n : ℕ) (text rest : List ℕ) → n < 2 ^ 127 → IsDigits n text → Separated rest → Literal (text ++ rest) (Some (pos n)) rest
-digits-Literal n text rest fits is apart =
-    plain_literal (text ++ rest) text rest (Some (pos n))
+-- what the digits of a number mean behind a sign, or behind none
+meaning-digits : (minus : Bool) (n : ℕ) (text : List ℕ) → IsDigits n text → value_of minus 10 (digits_of text) ≡ signed minus n
+meaning-digits minus n text is =
+    let digits : digits_of text ≡ map digit_value text = ap (map digit_value) (all_count text is.each) in
+    ap (value_of minus 10) digits
+    ∙ ap (λ t. cond t (signed minus (number_of 10 (map digit_value text))) None) (are_digits-text text is.begins is.each)
+    ∙ ap (signed minus) is.value
+
+digits-Literal : (n : ℕ) (value : Option ℤ) (text rest : List ℕ) → signed false n ≡ value → IsDigits n text → Separated rest → Literal (text ++ rest) value rest
+digits-Literal n value text rest signed_value is apart =
+    plain_literal (text ++ rest) text rest value
     (begins_number text rest is.begins)
     (no_sign text rest is.begins)
     (no_prefix text rest is.begins is.each apart)
     (record { split = refl; each = each_in_literal text is.each; stops = stops_literal rest apart })
-    (sym (meaning n text fits is))
-  where
-    small : (n : ℕ) → n < 2 ^ 127 → signed false n ≡ Some (pos n)
-    small n fits = grind (arith, nat_tests)
+    (sym (meaning-digits false n text is ∙ signed_value))
 
-    meaning : (n : ℕ) (text : List ℕ) → n < 2 ^ 127 → IsDigits n text → value_of false 10 (digits_of text) ≡ Some (pos n)
-    meaning n text fits is =
-        let digits : digits_of text ≡ map digit_value text = ap (map digit_value) (all_count text is.each) in
-        ap (value_of false 10) digits
-        ∙ ap (λ t. cond t (signed false (number_of 10 (map digit_value text))) None) (are_digits-text text is.begins is.each)
-        ∙ ap (signed false) is.value
-        ∙ small n fits
+small_value : (n : ℕ) → n < 2 ^ 127 → signed false n ≡ Some (pos n)
+small_value n fits = grind (arith, nat_tests)
 
 -- A number below 2^127 in decimal reads back as that integer.
 pub decimal-ReadsAs : (n : ℕ) → n < 2 ^ 127 → ReadsAs (decimal n) (integer (pos n))
-decimal-ReadsAs n fits rest apart = digits-Literal n (decimal n) rest fits (decimal-IsDigits n (omega arith)) apart
+decimal-ReadsAs n fits rest apart =
+    digits-Literal n (Some (pos n)) (decimal n) rest (small_value n fits) (decimal-IsDigits n (omega arith)) apart
+
+-- behind a sign
+
+begins-minus : begins_literal 45 ≡ true
+unfolding begins_literal
+begins-minus = refl
+
+negative_value : (n : ℕ) → suc n < 2 ^ 127 → signed true (suc n) ≡ Some (negsuc n)
+negative_value n fits = grind (arith, nat_tests)
+
+-- digits behind `-` are a literal of the negative number
+minus-Literal : (n : ℕ) (text rest : List ℕ) → suc n < 2 ^ 127 → IsDigits (suc n) text → Separated rest → Literal (45 ∷ text ++ rest) (Some (negsuc n)) rest
+minus-Literal n text rest fits is apart =
+    let prefix : prefix_radix (text ++ rest) ≡ None = no_prefix text rest is.begins is.each apart in
+    let plain : behind_prefix (text ++ rest) ≡ text ++ rest = ap (λ r. cond (is_some r) (drop 2 (text ++ rest)) (text ++ rest)) prefix in
+    let radix : radix_at (text ++ rest) ≡ 10 = ap (λ r. unwrap_or r 10) prefix in
+    record {
+      begins = begins-minus;
+      run = text;
+      longest = subst (λ t. Longest in_literal t text rest) (sym plain) (record { split = refl; each = each_in_literal text is.each; stops = stops_literal rest apart });
+      meaning = sym (ap (λ r. value_of true r (digits_of text)) radix ∙ meaning-digits true (suc n) text is ∙ negative_value n fits);
+    }
+
+negative-ReadsAs : (n : ℕ) → suc n < 2 ^ 127 → ReadsAs (signed_decimal (negsuc n)) (integer (negsuc n))
+negative-ReadsAs n fits rest apart =
+    minus-Literal n (decimal (suc n)) rest fits (decimal-IsDigits (suc n) (omega arith)) apart
+
+-- A priority in decimal reads back as that integer.
+pub signed_decimal-ReadsAs : (z : ℤ) → IsSigned 63 z → ReadsAs (signed_decimal z) (integer z)
+signed_decimal-ReadsAs (pos n) fits = decimal-ReadsAs n (omega arith)
+signed_decimal-ReadsAs (negsuc n) fits = negative-ReadsAs n (omega arith)
+
+-- the least integer, by the number of the same bits
+
+abbrev least_text : List ℕ
+least_text = codes "170141183460469231731687303715884105728"
+
+least-IsDigits : IsDigits (2 ^ 127) least_text
+least-IsDigits = record { begins = refl; each = refl; value = refl }
+
+least_value : (n : ℕ) → suc n ≡ 2 ^ 127 → signed false (2 ^ 127) ≡ Some (negsuc n)
+least_value n e = ap Some (wrapped n e)
+  where
+    wrapped : (n : ℕ) → suc n ≡ 2 ^ 127 → pos (2 ^ 127) -ℤ pos (2 ^ 128) ≡ negsuc n
+    wrapped n e = omega (arith, ints)
+
+below-ReadsAs : (n : ℕ) (least : Bool) → n < 2 ^ 127 → (suc n == 2 ^ 127) ≡ least → ReadsAs (cond least least_text (signed_decimal (negsuc n))) (integer (negsuc n))
+below-ReadsAs n true fits e rest apart =
+    let is_least : suc n ≡ 2 ^ 127 = grind (arith, nat_tests) in
+    digits-Literal (2 ^ 127) (Some (negsuc n)) least_text rest (least_value n is_least) least-IsDigits apart
+below-ReadsAs n false fits e rest apart =
+    let above : suc n < 2 ^ 127 = grind (arith, nat_tests) in
+    negative-ReadsAs n above rest apart
+
+-- An integer of 128 bits reads back as itself.
+pub integer_text-ReadsAs : (z : ℤ) → IsSigned 127 z → ReadsAs (integer_text z) (integer z)
+integer_text-ReadsAs (pos n) fits = decimal-ReadsAs n fits
+integer_text-ReadsAs (negsuc n) fits = below-ReadsAs n (suc n == 2 ^ 127) fits refl

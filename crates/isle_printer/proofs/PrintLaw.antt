@@ -10,16 +10,18 @@ use Rattle.isle_ast.proofs.SpeltWritable.{spelt_is_writable}
 use Rattle.isle_ast.specs.Erased.{erase_name, erase_names, erase_model, erase_model_fields, erase_named_field, erase_indexed_field, erase_fields, erase_variant, erase_type_content, erase_target, erase_kind, erase_signature, erase_optional, erase_model_content, erase_definition, erase}
 use Rattle.isle_ast.specs.Grammar.{SpellsDefinitions}
 use Rattle.isle_ast.specs.Spelt.{IsSpelt}
-use Rattle.isle_ast.specs.Tree.{Name, TypeModel, unspecified_model, auto_model, int_model, bool_model, unit_model, bit_vector_model, struct_model, named_model, ModelFieldRow, no_model_field, model_field, FieldList, unit_fields, struct_fields, tuple_fields, EnumVariant, TypeContent, primitive_type, enum_type, struct_type, AttributeTarget, term_target, rule_target, AttributeKind, chain_kind, priority_kind, tag_kind, TermSignature, ModelContent, type_model, extern_extractor, extern_constructor, extern_const, Definition, type_def, decl, attr, model, form, instantiation, external, converter}
+use Rattle.isle_ast.specs.Tree.{Name, TypeModel, unspecified_model, auto_model, int_model, bool_model, unit_model, bit_vector_model, struct_model, named_model, ModelFieldRow, no_model_field, model_field, FieldList, unit_fields, struct_fields, tuple_fields, EnumVariant, TypeContent, primitive_type, enum_type, struct_type, AttributeTarget, term_target, rule_target, AttributeKind, chain_kind, priority_kind, tag_kind, TermSignature, ModelContent, type_model, extern_extractor, extern_constructor, extern_const, Definition, type_def, rule, extractor, decl, attr, model, form, instantiation, external, converter}
 use Rattle.isle_ast.specs.Writable.{AreWritable}
 use Rattle.isle_printer.specs.Choices.{Choice, render}
+use Rattle.isle_printer.specs.DefinitionShapes.{definition_shape}
 use Rattle.isle_printer.specs.Layout.{layout}
 use Rattle.isle_printer.specs.Printed.{definition_text, behind_text, printed_text, IsPrinted}
 use Rattle.isle_printer.specs.ReadBack.{TokensOf, Reads, ReadsBack, unplaced}
 use Rattle.isle_printer.specs.Sexp.{Sexp, atom, row_of}
-use Rattle.isle_printer.specs.Shapes.{name_shape, name_shapes, flag_shape, form_shape, model_shape, model_field_shapes, named_field_shape, indexed_field_shape, field_shapes, variant_shape, type_content_shape, target_shape, tag_shape, kind_shape, signature_shape, instance_shapes, model_content_shape, definition_shape}
+use Rattle.isle_printer.specs.Shapes.{name_shape, flag_shape, form_shape, model_shape, model_field_shapes, named_field_shape, indexed_field_shape, field_shapes, variant_shape, type_content_shape, target_shape, tag_shape, kind_shape, signature_shape, instance_shapes, model_content_shape}
 use Rattle.isle_printer.proofs.Greedy.{greedy, layout_is_render}
-use Rattle.isle_printer.proofs.Printing.{IsPrinted-from_text, IsPrinted-text}
+use Rattle.isle_printer.proofs.Printing.{IsPrinted-from_text, IsPrinted-text, IsPrinted-plain}
+use Rattle.isle_printer.proofs.RuleErased.{shapes-erased, names-erased, rule-erased, extractor-erased, macro_args-erased}
 use Rattle.isle_printer.proofs.ReadBackLaw.{render-reads, Reads-blank, is_blank-10, in_symbol-10}
 use Rattle.isle_printer.proofs.ShapeLaw.{spell-definition}
 
@@ -97,15 +99,6 @@ IsPrinted-ReadsBack width ds text is all s =
 
 -- positions play no part in a shape
 
--- the shapes of a row, where they are those of the erased elements
-shapes-erased : {A : Type 0} → (shape : A → Sexp) (erased : A → A) → ((x : A) → shape (erased x) ≡ shape x) → (xs : List A) → map shape (map erased xs) ≡ map shape xs
-shapes-erased shape erased same [] = refl
-shapes-erased shape erased same (x ∷ xs) =
-    ap (λ s. s ∷ map shape (map erased xs)) (same x) ∙ ap (λ ss. shape x ∷ ss) (shapes-erased shape erased same xs)
-
-names-erased : (ns : List Name) → name_shapes (erase_names ns) ≡ name_shapes ns
-names-erased = shapes-erased name_shape erase_name (λ n. refl)
-
 mutual
   model-erased : (m : TypeModel) → model_shape (erase_model m) ≡ model_shape m
   model-erased unspecified_model = refl
@@ -164,6 +157,8 @@ definition_shape-erased (type_def t) =
     ap
     (λ s. row_of (atom (codes "type") ∷ [] ++ name_shape t.name ∷ [] ++ flag_shape (codes "extern") t.is_extern ++ flag_shape (codes "nodebug") t.is_nodebug ++ s ∷ []))
     (type_content-erased t.ty)
+definition_shape-erased (rule r) = rule-erased r
+definition_shape-erased (extractor e) = extractor-erased e
 definition_shape-erased (decl d) =
     ap
     (λ args. row_of (atom (codes "decl") ∷ []
@@ -208,6 +203,10 @@ printed_text-erased width (d ∷ ds) =
 
 pub IsPrinted-erased : (width : ℕ) (ds : List Definition) (text : List ℕ) → IsPrinted width ds text ↔ IsPrinted width (erase ds) text
 IsPrinted-erased width ds text = (
-  λ is. IsPrinted-from_text width (erase ds) text (IsPrinted-text width ds text is ∙ sym (printed_text-erased width ds)),
-  λ is. IsPrinted-from_text width ds text (IsPrinted-text width (erase ds) text is ∙ printed_text-erased width ds),
+  λ is. IsPrinted-from_text width (erase ds) text
+      (macro_args-erased ds ∙ IsPrinted-plain width ds text is)
+      (IsPrinted-text width ds text is ∙ sym (printed_text-erased width ds)),
+  λ is. IsPrinted-from_text width ds text
+      (sym (macro_args-erased ds) ∙ IsPrinted-plain width (erase ds) text is)
+      (IsPrinted-text width (erase ds) text is ∙ printed_text-erased width ds),
 )

@@ -1,35 +1,57 @@
 -- The printed text: the relation and the function are one, and a greater width has no more lines.
-use Rattle.std.proofs.Common.{◌≡◌, ℕ, ◌+◌, ◌≤◌, List, [], ◌∷◌, ◌++◌, refl, sym, ap, ◌∙◌, subst, arith}
+use Rattle.std.proofs.Common.{◌≡◌, ℕ, ◌+◌, ◌≤◌, List, [], ◌∷◌, ◌++◌, Bool, true, false, ◌||◌, refl, sym, ap, ◌∙◌, subst, arith}
+use Rattle.std.proofs.lemmas.Bool.{false≢true}
+use Rattle.isle_ast.specs.MacroArgs.{definition_has_macro_arg, definitions_have_macro_arg}
 use Rattle.isle_ast.specs.Tree.{Definition}
 use Rattle.isle_printer.specs.Choices.{IsLayout}
 use Rattle.isle_printer.specs.Layout.{layout}
 use Rattle.isle_printer.specs.Lines.{line_ends, HasFewestLines, WiderHasNoMoreLines}
 use Rattle.isle_printer.specs.Printed.{ArePrintedLines, IsPrintedBehind, IsPrinted, definition_text, behind_text, printed_text}
 use Rattle.isle_printer.specs.Sexp.{Sexp}
-use Rattle.isle_printer.specs.Shapes.{definition_shape}
+use Rattle.isle_printer.specs.DefinitionShapes.{definition_shape}
 use Rattle.isle_printer.proofs.Greedy.{layout-IsLayout, greedy, greedy-IsLeast, layout_is_render}
 use Rattle.isle_printer.proofs.Least.{IsLayout-layout, IsLeast-line_ends, layout-line_ends}
 use Rattle.isle_printer.proofs.LineEnds.{line_ends-append}
 
-definition_text-ArePrintedLines : (width : ℕ) (d : Definition) → ArePrintedLines width d (definition_text width d)
-definition_text-ArePrintedLines width d = (layout width (definition_shape d), layout-IsLayout width (definition_shape d), refl)
+-- where neither holds, both fail
+neither : (a b : Bool) → (a || b) ≡ false → (a ≡ false) × (b ≡ false)
+neither true b e = absurd (false≢true (sym e))
+neither false b e = (refl, e)
 
-behind_text-IsPrintedBehind : (width : ℕ) (ds : List Definition) → IsPrintedBehind width ds (behind_text width ds)
-behind_text-IsPrintedBehind width [] = refl
-behind_text-IsPrintedBehind width (d ∷ ds) =
-    (definition_text width d, behind_text width ds, definition_text-ArePrintedLines width d, behind_text-IsPrintedBehind width ds, refl)
+definition_text-ArePrintedLines : (width : ℕ) (d : Definition) → definition_has_macro_arg d ≡ false → ArePrintedLines width d (definition_text width d)
+definition_text-ArePrintedLines width d plain =
+    (plain, layout width (definition_shape d), layout-IsLayout width (definition_shape d), refl)
 
-printed_text-IsPrinted : (width : ℕ) (ds : List Definition) → IsPrinted width ds (printed_text width ds)
-printed_text-IsPrinted width [] = refl
-printed_text-IsPrinted width (d ∷ ds) =
-    (definition_text width d, behind_text width ds, definition_text-ArePrintedLines width d, behind_text-IsPrintedBehind width ds, refl)
+behind_text-IsPrintedBehind : (width : ℕ) (ds : List Definition) → definitions_have_macro_arg ds ≡ false → IsPrintedBehind width ds (behind_text width ds)
+behind_text-IsPrintedBehind width [] plain = refl
+behind_text-IsPrintedBehind width (d ∷ ds) plain =
+    let p = neither _ _ plain in
+    (definition_text width d, behind_text width ds, definition_text-ArePrintedLines width d p.0, behind_text-IsPrintedBehind width ds p.1, refl)
 
--- a text that is the function's is printed
-pub IsPrinted-from_text : (width : ℕ) (ds : List Definition) (text : List ℕ) → text ≡ printed_text width ds → IsPrinted width ds text
-IsPrinted-from_text width ds text e = subst (λ t. IsPrinted width ds t) (sym e) (printed_text-IsPrinted width ds)
+printed_text-IsPrinted : (width : ℕ) (ds : List Definition) → definitions_have_macro_arg ds ≡ false → IsPrinted width ds (printed_text width ds)
+printed_text-IsPrinted width [] plain = refl
+printed_text-IsPrinted width (d ∷ ds) plain =
+    let p = neither _ _ plain in
+    (definition_text width d, behind_text width ds, definition_text-ArePrintedLines width d p.0, behind_text-IsPrintedBehind width ds p.1, refl)
+
+-- a text that is the function's is printed, where there is a print
+pub IsPrinted-from_text : (width : ℕ) (ds : List Definition) (text : List ℕ) → definitions_have_macro_arg ds ≡ false → text ≡ printed_text width ds → IsPrinted width ds text
+IsPrinted-from_text width ds text plain e = subst (λ t. IsPrinted width ds t) (sym e) (printed_text-IsPrinted width ds plain)
+
+-- what has a print holds no argument of a macro
+
+IsPrintedBehind-plain : (width : ℕ) (ds : List Definition) (text : List ℕ) → IsPrintedBehind width ds text → definitions_have_macro_arg ds ≡ false
+IsPrintedBehind-plain width [] text is = refl
+IsPrintedBehind-plain width (d ∷ ds) text (lines, behind, first, rest, e) =
+    ap (λ t. t || definitions_have_macro_arg ds) first.0 ∙ IsPrintedBehind-plain width ds behind rest
+
+pub IsPrinted-plain : (width : ℕ) (ds : List Definition) (text : List ℕ) → IsPrinted width ds text → definitions_have_macro_arg ds ≡ false
+IsPrinted-plain width [] text is = refl
+IsPrinted-plain width (d ∷ ds) text (lines, behind, first, rest, e) =
+    ap (λ t. t || definitions_have_macro_arg ds) first.0 ∙ IsPrintedBehind-plain width ds behind rest
 
 ArePrintedLines-text : (width : ℕ) (d : Definition) (text : List ℕ) → ArePrintedLines width d text → text ≡ definition_text width d
-ArePrintedLines-text width d text (lines, is, e) = e ∙ ap (λ l. l ++ 10 ∷ []) (IsLayout-layout width (definition_shape d) lines is)
+ArePrintedLines-text width d text (plain, lines, is, e) = e ∙ ap (λ l. l ++ 10 ∷ []) (IsLayout-layout width (definition_shape d) lines is)
 
 IsPrintedBehind-text : (width : ℕ) (ds : List Definition) (text : List ℕ) → IsPrintedBehind width ds text → text ≡ behind_text width ds
 IsPrintedBehind-text width [] text is = is

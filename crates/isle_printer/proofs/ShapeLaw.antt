@@ -1,26 +1,25 @@
 -- The tokens of the shape of a writable definition spell it, erased.
-use Rattle.std.proofs.Common.{◌≡◌, ◌≢◌, ℕ, ◌+◌, ◌^◌, ◌<◌, List, [], ◌∷◌, ◌++◌, map, codes, Bool, true, false, ◌&&◌, ◌||◌, not, Option, None, Some, IfSome, pos, inr, refl, sym, ap, ◌∙◌, subst, arith}
-use Rattle.std.proofs.lemmas.List.{append_assoc}
+use Rattle.std.proofs.Common.{◌≡◌, ℕ, ◌+◌, ◌^◌, ◌<◌, List, [], ◌∷◌, ◌++◌, map, codes, Bool, true, false, ◌||◌, not, Option, None, Some, IfSome, pos, inr, refl, arith}
 use Rattle.std.proofs.lemmas.Slice.Eq.{bytes_eq-Decides}
 use Rattle.std.specs.Str.{bytes_eq}
 use Rattle.isle_base.specs.Place.{Placed, unknown}
-use Rattle.isle_base.specs.Token.{Tok, rparen, symbol, integer}
-use Rattle.isle_ast.proofs.IdentifierBytes.{identifier_is_symbol}
+use Rattle.isle_base.specs.Token.{Tok, rparen, integer}
 use Rattle.isle_ast.specs.Erased.{erase_name, erase_names, erase_declaration, erase_conversion, erase_type, erase_attribute, erase_form, erase_instantiation, erase_model_definition, erase_optional, erase_model, erase_model_fields, erase_named_field, erase_indexed_field, erase_fields, erase_variant, erase_type_content, erase_target, erase_kind, erase_signature, erase_model_content, erase_extern, erase_definition}
 use Rattle.isle_ast.specs.Grammar.{SpellsDefinition}
-use Rattle.isle_ast.specs.Identifier.{is_identifier}
 use Rattle.isle_ast.specs.ModelGrammar.{SpellsTypeModel, SpellsModelFields, SpellsSignature, SpellsTag, SpellsInstances, SpellsModelContent, SpellsModel, SpellsForm, SpellsInstantiation}
 use Rattle.isle_ast.specs.Numbers.{SpellsNumber}
-use Rattle.isle_ast.specs.TermGrammar.{demands, SpellsDeclaration, SpellsConversion, SpellsAttributeKind, SpellsAttributeTarget, SpellsConstant, SpellsPair, SpellsExtern, SpellsAttribute}
-use Rattle.isle_ast.specs.Tree.{Name, Declaration, Conversion, TypeModel, unspecified_model, auto_model, int_model, bool_model, unit_model, bit_vector_model, struct_model, named_model, ModelFieldRow, no_model_field, model_field, NamedField, IndexedField, FieldList, unit_fields, struct_fields, tuple_fields, EnumVariant, TypeContent, primitive_type, enum_type, struct_type, AttributeTarget, term_target, rule_target, AttributeKind, chain_kind, priority_kind, tag_kind, TermSignature, ModelContent, type_model, ExternDefinition, extern_extractor, extern_constructor, extern_const, Definition, type_def, decl, attr, model, form, instantiation, external, converter}
+use Rattle.isle_ast.specs.TermGrammar.{demands, SpellsDeclaration, SpellsConversion, SpellsAttributeKind, SpellsAttributeTarget, SpellsPair, SpellsExtern, SpellsAttribute}
+use Rattle.isle_ast.specs.Tree.{Name, Declaration, Conversion, TypeModel, unspecified_model, auto_model, int_model, bool_model, unit_model, bit_vector_model, struct_model, named_model, ModelFieldRow, no_model_field, model_field, NamedField, IndexedField, FieldList, unit_fields, struct_fields, tuple_fields, EnumVariant, TypeContent, primitive_type, enum_type, struct_type, AttributeTarget, term_target, rule_target, AttributeKind, chain_kind, priority_kind, tag_kind, TermSignature, ModelContent, type_model, ExternDefinition, extern_extractor, extern_constructor, extern_const, Definition, type_def, rule, extractor, decl, attr, model, form, instantiation, external, converter}
 use Rattle.isle_ast.specs.TypeGrammar.{SpellsNamedField, SpellsIndexedFields, SpellsFields, SpellsVariant, SpellsTypeContent, SpellsModifiers, SpellsTypeDefinition}
 use Rattle.isle_ast.specs.Words.{SpellsWord, BeginsAt, SpellsAll, InParentheses, BehindWord, SpellsName, SpellsOptional}
 use Rattle.isle_ast.specs.Writable.{IsName, Each, Wants, IsWritableDeclaration, IsWritableConversion, IsWritableModel, AreWritableModelFields, IsWritableNamedField, AreWritableIndexedFields, AreWritableFields, IsWritableVariant, IsWritableTypeContent, IsWritableTarget, IsWritableKind, IsWritableSignature, AreWritableInstances, IsWritableModelContent, IsWritableExtern, IsWritable}
-use Rattle.isle_printer.specs.Sexp.{Sexp, atom}
-use Rattle.isle_printer.specs.Shapes.{name_shape, name_shapes, flag_shape, form_shape, number_shape, width_shape, model_shape, model_field_shapes, named_field_shape, indexed_field_shape, field_shapes, variant_shape, type_content_shape, target_shape, tag_shape, kind_shape, signature_shape, instance_shapes, model_content_shape, constant_shape, extern_shape, definition_shape}
+use Rattle.isle_printer.specs.DefinitionShapes.{definition_shape}
+use Rattle.isle_printer.specs.Sexp.{atom}
+use Rattle.isle_printer.specs.Shapes.{name_shape, name_shapes, flag_shape, form_shape, number_shape, width_shape, model_shape, model_field_shapes, named_field_shape, indexed_field_shape, field_shapes, variant_shape, type_content_shape, target_shape, tag_shape, kind_shape, signature_shape, instance_shapes, model_content_shape, constant_shape, extern_shape}
 use Rattle.isle_printer.specs.ReadBack.{unplaced}
 use Rattle.isle_printer.proofs.NumberAtoms.{decimal-ReadsAs}
-use Rattle.isle_printer.proofs.Spellings.{ItemTokens, ◌then◌, IsAhead, item-ahead, items-ahead, Spelling, spell-nothing, spell-word, spell-flag, spell-name, spell-all, spell-names, spell-row, spell-behind, spell-form, InTurn, spell-turn}
+use Rattle.isle_printer.proofs.RuleShapeLaw.{spell-rule, spell-extractor_definition}
+use Rattle.isle_printer.proofs.Spellings.{ItemTokens, ◌then◌, IsAhead, item-ahead, items-ahead, Spelling, spell-nothing, spell-word, spell-flag, spell-name, spell-all, spell-names, spell-row, spell-behind, spell-form, InTurn, spell-turn, all_true, differs-test, regrouped, spell-constant}
 use Rattle.isle_printer.proofs.WordSymbols.{word-decl, word-convert, word-pure, word-multi, word-partial, word-rec, word-type, word-extern, word-nodebug, word-primitive, word-enum, word-struct, word-attr, word-rule, word-veri, word-chain, word-priority, word-tag, word-model, word-form, word-instantiate, word-args, word-ret, word-bv, word-named, word-extractor, word-infallible, word-constructor, word-const, word-Int, word-Bool, word-Unit, word-bang, word-underscore}
 
 -- what a wish says of a text, as a test
@@ -30,17 +29,6 @@ wanted text word set false e want = refl
 
 Wants-demands : (n : Name) (word : List ℕ) (set : Bool) → Wants n word set → demands n.text word set ≡ true
 Wants-demands n word set want = wanted n.text word set (bytes_eq n.text word) refl want
-
-all_true : (a b : Bool) → a ≡ true → b ≡ true → (a && b) ≡ true
-all_true a b p q = ap (λ x. x && b) p ∙ q
-
-differs-test : (text word : List ℕ) (b : Bool) → bytes_eq text word ≡ b → text ≢ word → b ≡ false
-differs-test text word true e other = absurd (other ((bytes_eq-Decides text word).0 e))
-differs-test text word false e other = refl
-
--- two groups of items are grouped to the left
-regrouped : (ys zs : List Sexp) {xs : List Sexp} {all mid rest : List Tok} → ItemTokens xs all mid → ItemTokens (ys ++ zs) mid rest → ItemTokens (xs ++ ys ++ zs) all rest
-regrouped ys zs {xs} {all} {mid} {rest} t u = subst (λ items. ItemTokens items all rest) (sym (append_assoc xs ys zs)) (t then u)
 
 spell-number : (n : ℕ) → n < 2 ^ 64 → (rest : List Tok) → Spelling (number_shape n ∷ []) (SpellsNumber n) rest
 spell-number n fits rest = record {
@@ -245,13 +233,6 @@ spell-model_content : (m : ModelContent) → IsWritableModelContent m → (rest 
 spell-model_content (type_model ty) is rest =
     spell-form (codes "type") word-type (model_shape ty ∷ []) (SpellsTypeModel (erase_model ty)) rest (spell-model ty is (rparen ∷ rest))
 
-spell-constant : (name : Name) → is_identifier (36 ∷ name.text) ≡ true → (rest : List Tok) → Spelling (constant_shape name ∷ []) (SpellsConstant (erase_name name)) rest
-spell-constant name is rest = record {
-  all = symbol (36 ∷ name.text) ∷ rest;
-  tokens = record { are = (rest, (symbol (36 ∷ name.text), λ text apart. identifier_is_symbol (36 ∷ name.text) text is apart, refl), refl) };
-  spells = (is, refl);
-}
-
 spell-pair : (first second : Name) → IsName first → IsName second → (rest : List Tok) → Spelling (name_shape first ∷ name_shape second ∷ []) (SpellsPair (erase_name first) (erase_name second)) rest
 spell-pair first second is so rest =
     let b = spell-name second so rest in
@@ -410,6 +391,8 @@ spell-definition (type_def t) is rest =
         },
       );
     })
+spell-definition (rule r) is rest = spell-rule r is rest
+spell-definition (extractor e) is rest = spell-extractor_definition e is rest
 spell-definition (decl d) is rest = spell-declaration d is rest
 spell-definition (attr a) is rest =
     let kinds = spell-all kind_shape erase_kind SpellsAttributeKind IsWritableKind spell-kind a.kinds is.1 (rparen ∷ rest) in

@@ -1,15 +1,20 @@
 -- Parts of a shape, and what they spell: before any tokens there are some of which the items are the
 -- text, and which spell the part.
-use Rattle.std.proofs.Common.{◌≡◌, ℕ, List, [], ◌∷◌, ◌++◌, map, Bool, true, false, refl, sym, ap, subst}
+use Rattle.std.proofs.Common.{◌≡◌, ◌≢◌, ℕ, List, [], ◌∷◌, ◌++◌, map, Bool, true, false, ◌&&◌, refl, sym, ap, ◌∙◌, subst}
+use Rattle.std.proofs.lemmas.List.{append_assoc}
+use Rattle.std.proofs.lemmas.Slice.Eq.{bytes_eq-Decides}
+use Rattle.std.specs.Str.{bytes_eq}
 use Rattle.isle_base.specs.Place.{Placed, unknown}
 use Rattle.isle_base.specs.Token.{Tok, lparen, rparen, symbol}
 use Rattle.isle_ast.proofs.IdentifierBytes.{identifier_is_symbol}
 use Rattle.isle_ast.specs.Erased.{erase_name, erase_names}
+use Rattle.isle_ast.specs.Identifier.{is_identifier}
+use Rattle.isle_ast.specs.TermGrammar.{SpellsConstant}
 use Rattle.isle_ast.specs.Tree.{Name}
 use Rattle.isle_ast.specs.Words.{SpellsWord, BeginsAt, SpellsAll, InParentheses, BehindWord, SpellsName, SpellsFlag}
 use Rattle.isle_ast.specs.Writable.{IsName, Each}
 use Rattle.isle_printer.specs.Sexp.{Sexp, atom, binding, row, sexps, row_of}
-use Rattle.isle_printer.specs.Shapes.{name_shape, name_shapes, flag_shape, form_shape}
+use Rattle.isle_printer.specs.Shapes.{name_shape, name_shapes, flag_shape, form_shape, constant_shape}
 use Rattle.isle_printer.specs.ReadBack.{ReadsAs, TokensOf, TokensOfItems, unplaced}
 
 -- items one after another
@@ -121,4 +126,24 @@ spell-turn second first = record {
   all = first.all;
   tokens = first.tokens then second.tokens;
   spells = (unplaced second.all, first.spells, second.spells);
+}
+
+-- both tests hold
+pub all_true : (a b : Bool) → a ≡ true → b ≡ true → (a && b) ≡ true
+all_true a b p q = ap (λ x. x && b) p ∙ q
+
+-- a text that isn't this word, as a test
+pub differs-test : (text word : List ℕ) (b : Bool) → bytes_eq text word ≡ b → text ≢ word → b ≡ false
+differs-test text word true e other = absurd (other ((bytes_eq-Decides text word).0 e))
+differs-test text word false e other = refl
+
+-- two groups of items are grouped to the left
+pub regrouped : (ys zs : List Sexp) {xs : List Sexp} {all mid rest : List Tok} → ItemTokens xs all mid → ItemTokens (ys ++ zs) mid rest → ItemTokens (xs ++ ys ++ zs) all rest
+regrouped ys zs {xs} {all} {mid} {rest} t u = subst (λ items. ItemTokens items all rest) (sym (append_assoc xs ys zs)) (t then u)
+
+pub spell-constant : (name : Name) → is_identifier (36 ∷ name.text) ≡ true → (rest : List Tok) → Spelling (constant_shape name ∷ []) (SpellsConstant (erase_name name)) rest
+spell-constant name is rest = record {
+  all = symbol (36 ∷ name.text) ∷ rest;
+  tokens = record { are = (rest, (symbol (36 ∷ name.text), λ text apart. identifier_is_symbol (36 ∷ name.text) text is apart, refl), refl) };
+  spells = (is, refl);
 }

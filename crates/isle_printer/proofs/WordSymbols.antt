@@ -142,3 +142,23 @@ word-bang = ReadsAs-symbol (codes "!") refl refl
 pub word-underscore : ReadsAs (codes "_") (symbol (codes "_"))
 unfolding in_symbol begins_symbol is_blank begins_literal
 word-underscore = ReadsAs-symbol (codes "_") refl refl
+
+pub word-and : ReadsAs (codes "and") (symbol (codes "and"))
+unfolding in_symbol begins_symbol is_blank begins_literal
+word-and = ReadsAs-symbol (codes "and") refl refl
+
+pub word-let : ReadsAs (codes "let") (symbol (codes "let"))
+unfolding in_symbol begins_symbol is_blank begins_literal
+word-let = ReadsAs-symbol (codes "let") refl refl
+
+pub word-if_let : ReadsAs (codes "if-let") (symbol (codes "if-let"))
+unfolding in_symbol begins_symbol is_blank begins_literal
+word-if_let = ReadsAs-symbol (codes "if-let") refl refl
+
+pub word-true : ReadsAs (codes "true") (symbol (codes "true"))
+unfolding in_symbol begins_symbol is_blank begins_literal
+word-true = ReadsAs-symbol (codes "true") refl refl
+
+pub word-false : ReadsAs (codes "false") (symbol (codes "false"))
+unfolding in_symbol begins_symbol is_blank begins_literal
+word-false = ReadsAs-symbol (codes "false") refl refl

@@ -1,9 +1,11 @@
 pub mod Choices
+pub mod DefinitionShapes
 pub mod Flat
 pub mod Layout
 pub mod Lines
 pub mod Printed
 pub mod ReadBack
+pub mod RuleShapes
 pub mod Sexp
 pub mod SexpView
 pub mod Shapes

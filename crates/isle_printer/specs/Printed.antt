@@ -1,15 +1,17 @@
 -- The printed text of definitions at a width: the layout of each one and a LF, with one more LF
--- between two. As a relation, and as a function.
-use Rattle.std.specs.Prelude.{◌≡◌, ℕ, List, [], ◌∷◌, ◌++◌}
+-- between two. What holds the argument of a macro has no print. As a relation, and as a function.
+use Rattle.std.specs.Prelude.{◌≡◌, ℕ, List, [], ◌∷◌, ◌++◌, false}
+use Rattle.isle_ast.specs.MacroArgs.{definition_has_macro_arg}
 use Rattle.isle_ast.specs.Tree.{Definition}
 use Rattle.isle_printer.specs.Choices.{IsLayout}
 use Rattle.isle_printer.specs.Layout.{layout}
-use Rattle.isle_printer.specs.Shapes.{definition_shape}
+use Rattle.isle_printer.specs.DefinitionShapes.{definition_shape}
 
 -- a definition's lines
 abbrev pub ArePrintedLines : ℕ → Definition → List ℕ → Type 0
 ArePrintedLines width d text =
-    (lines : List ℕ) × IsLayout width (definition_shape d) lines × (text ≡ lines ++ 10 ∷ [])
+    (definition_has_macro_arg d ≡ false)
+    × (lines : List ℕ) × IsLayout width (definition_shape d) lines × (text ≡ lines ++ 10 ∷ [])
 
 -- the text of the definitions behind the first one
 abbrev pub IsPrintedBehind : ℕ → List Definition → List ℕ → Type 0

@@ -1,7 +1,8 @@
--- The S-expression of each node of the tree. A name is an atom as it stands, whatever bytes it holds.
+-- The S-expressions of names, numbers and definitions without patterns. A name is an atom as it stands,
+-- whatever bytes it holds.
 use Rattle.std.specs.Prelude.{ℕ, List, [], ◌∷◌, ◌++◌, Bool, true, false, Option, None, Some, map, codes}
 use Rattle.std.specs.Fmt.{decimal}
-use Rattle.isle_ast.specs.Tree.{Name, Declaration, Conversion, TypeModel, unspecified_model, auto_model, int_model, bool_model, unit_model, bit_vector_model, struct_model, named_model, ModelFieldRow, no_model_field, model_field, NamedField, IndexedField, FieldList, unit_fields, struct_fields, tuple_fields, EnumVariant, TypeContent, primitive_type, enum_type, struct_type, TypeDefinition, AttributeTarget, term_target, rule_target, AttributeKind, chain_kind, priority_kind, tag_kind, Attribute, TermSignature, FormDefinition, TermInstantiation, ModelContent, type_model, ModelDefinition, ExternDefinition, extern_extractor, extern_constructor, extern_const, Definition, type_def, decl, attr, model, form, instantiation, external, converter}
+use Rattle.isle_ast.specs.Tree.{Name, Declaration, Conversion, TypeModel, unspecified_model, auto_model, int_model, bool_model, unit_model, bit_vector_model, struct_model, named_model, ModelFieldRow, no_model_field, model_field, NamedField, IndexedField, FieldList, unit_fields, struct_fields, tuple_fields, EnumVariant, TypeContent, primitive_type, enum_type, struct_type, TypeDefinition, AttributeTarget, term_target, rule_target, AttributeKind, chain_kind, priority_kind, tag_kind, Attribute, TermSignature, FormDefinition, TermInstantiation, ModelContent, type_model, ModelDefinition, ExternDefinition, extern_extractor, extern_constructor, extern_const}
 use Rattle.isle_ast.specs.TreeView.{SingleModelField}
 use Rattle.isle_printer.specs.Sexp.{Sexp, atom, row_of}
 
@@ -186,13 +187,3 @@ extern_shape (extern_const name ty _) =
     ++ atom (codes "const") ∷ []
     ++ constant_shape name ∷ []
     ++ name_shape ty ∷ [])
-
-abbrev pub definition_shape : Definition → Sexp
-definition_shape (type_def t) = type_shape t
-definition_shape (decl d) = declaration_shape d
-definition_shape (attr a) = attribute_shape a
-definition_shape (model m) = model_definition_shape m
-definition_shape (form f) = form_definition_shape f
-definition_shape (instantiation i) = instantiation_shape i
-definition_shape (external e) = extern_shape e
-definition_shape (converter c) = conversion_shape c

@@ -11,7 +11,8 @@ mod shapes;
 #[cfg(test)]
 mod tests;
 
-ghost use Rattle.std.specs.Prelude.{◌≡◌, ◌≤◌, ◌↔◌, ◌++◌, ℕ, List, [], IfOk, OnOk, IfSome, IsSome, string_bytes};
+ghost use Rattle.std.specs.Prelude.{◌≡◌, ◌≤◌, ◌↔◌, ◌++◌, ℕ, List, [], IfOk, OnOk, IfSome, IsSome, IsErrOf, None, true, false, string_bytes};
+ghost use Rattle.isle_ast.specs.MacroArgs.{definition_has_macro_arg, definitions_have_macro_arg};
 ghost use Rattle.isle_ast.specs.TreeView.{definition_of, definitions_of};
 ghost use Rattle.isle_printer.specs.Choices.{Choice, IsWithin, IsLeast, IsLayout, render};
 ghost use Rattle.isle_printer.specs.Layout.{layout};
@@ -19,6 +20,7 @@ ghost use Rattle.isle_printer.specs.Lines.{HasFewestLines, WiderHasNoMoreLines};
 ghost use Rattle.isle_printer.specs.Printed.{IsPrinted, definition_text, printed_text};
 ghost use Rattle.isle_printer.specs.ReadBack.{ReadsBack, TokensOf, unplaced};
 ghost use Rattle.isle_printer.specs.Sexp.{Sexp};
+ghost use Rattle.isle_printer.specs.declared.printer.sexpr.PrintFault.TheVariants.{MacroArg};
 ghost use Rattle.isle_ast.specs.Erased.{erase};
 ghost use Rattle.isle_ast.specs.Tree.{Definition};
 ghost use Rattle.isle_base.specs.Lexing.{lexes};
@@ -35,7 +37,8 @@ use std::alloc::Global;
 /// A list is broken exactly if it does not end within the width and the lists around it are broken, so
 /// that no layout within the width has fewer lines.
 ///
-/// The fault is `Memory`, where a growth was refused; the text begun is dropped then.
+/// The fault is `MacroArg`, where a definition holds the argument of a macro, or `Memory`, where a growth
+/// was refused. The text begun is dropped then, and nothing is left of it.
 pub fn print(alloc: Global, defs: &[Def], width: usize) -> Result<String, PrintFault>
     ensures printed { IfOk result
         (λ text. IsPrinted width (definitions_of defs.now) (string_bytes text)) }
@@ -43,6 +46,7 @@ pub fn print(alloc: Global, defs: &[Def], width: usize) -> Result<String, PrintF
         (λ text. WiderHasNoMoreLines width (definitions_of defs.now) (string_bytes text)) }
     ensures reads_back { IfOk result
         (λ text. ReadsBack (definitions_of defs.now) (string_bytes text)) }
+    ensures refused { IsErrOf result MacroArg → definitions_have_macro_arg (definitions_of defs.now) ≡ true }
 {
     let mut out = String::new(alloc);
     put_definitions(alloc, defs, width, &mut out)?;
@@ -54,14 +58,16 @@ pub fn print(alloc: Global, defs: &[Def], width: usize) -> Result<String, PrintF
 /// The width counts bytes, and may be any number from 0. A line may be longer where it holds a long
 /// name or an empty list.
 ///
-/// The fault is that of the node's own `to_sexpr`, or `Memory`, where a growth was refused; the text begun
-/// is dropped then.
+/// The fault is `MacroArg` exactly where the node has no S-expression: a node of the tree has none where it
+/// is, or holds, the argument of a macro. It is `Memory` where a growth was refused. The text begun is
+/// dropped then, and nothing is left of it.
 pub fn print_node<N: ToSExpr>(alloc: Global, node: &N, width: usize) -> Result<String, PrintFault>
     ensures meant { IfOk result (λ text. IsSome (N.meaning node.now)) }
     ensures layout { IfOk result
         (λ text. IfSome (N.meaning node.now) (λ s. IsLayout width s (string_bytes text))) }
     ensures lines { IfOk result
         (λ text. IfSome (N.meaning node.now) (λ s. HasFewestLines width s (string_bytes text))) }
+    ensures refused { IsErrOf result MacroArg ↔ (N.meaning node.now ≡ None) }
 {
     let sexpr = node.to_sexpr(alloc)?;
     let mut out = String::new(alloc);
@@ -105,8 +111,10 @@ fn put_definitions(
     width: usize,
     out: &mut String,
 ) -> Result<(), PrintFault>
-    ensures { OnOk result (string_bytes out.new
+    ensures plain { OnOk result (definitions_have_macro_arg (definitions_of defs.now) ≡ false) }
+    ensures printed { OnOk result (string_bytes out.new
         ≡ string_bytes out.old ++ printed_text width (definitions_of defs.now)) }
+    ensures refused { IsErrOf result MacroArg → definitions_have_macro_arg (definitions_of defs.now) ≡ true }
 {
     match defs {
         [] => Ok(()),
@@ -128,8 +136,10 @@ fn put_definition(
     width: usize,
     out: &mut String,
 ) -> Result<(), PrintFault>
-    ensures { OnOk result (string_bytes out.new
+    ensures plain { OnOk result (definition_has_macro_arg (definition_of def.now) ≡ false) }
+    ensures printed { OnOk result (string_bytes out.new
         ≡ string_bytes out.old ++ definition_text width (definition_of def.now)) }
+    ensures refused { IsErrOf result MacroArg → definition_has_macro_arg (definition_of def.now) ≡ true }
 {
     let sexpr = def.to_sexpr(alloc)?;
     layout::put(&sexpr, width, width, 0, out)?;

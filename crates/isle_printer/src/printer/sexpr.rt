@@ -55,6 +55,8 @@ fn copy_items(items: &Vec<SExpr>) -> Result<Vec<SExpr>, AllocError>
 /// Why a node was not printed.
 #[derive(Debug, Drop)]
 pub enum PrintFault {
+    /// The node is, or holds, the argument of a macro, which nothing prints.
+    MacroArg,
     /// A growth of memory was refused.
     Memory,
 }
@@ -79,16 +81,18 @@ impl<T: Drop> From<AllocFailed<T>> for PrintFault {
 ///
 /// Types of a caller's own may have it too: `meaning` says which S-expression a value has, or none.
 pub trait ToSExpr {
-    ghost use Rattle.std.specs.Prelude.{◌≡◌, Option, Some, IfOk};
+    ghost use Rattle.std.specs.Prelude.{◌≡◌, ◌↔◌, Option, Some, None, IfOk, IsErrOf};
     ghost use Rattle.isle_printer.specs.Sexp.{Sexp};
     ghost use Rattle.isle_printer.specs.SexpView.{sexp_of};
+    ghost use Rattle.isle_printer.specs.declared.printer.sexpr.PrintFault.TheVariants.{MacroArg};
 
     ghost meaning: { Self → Option Sexp };
 
     /// Converts the value to an S-expression.
     ///
-    /// An answer is the value's meaning, so a value that has none is refused.
-    /// The fault `Memory` comes where a growth was refused.
+    /// An answer is the value's meaning. A value that has none is refused, and the fault `MacroArg` comes
+    /// there and nowhere else. The fault `Memory` comes where a growth was refused.
     fn to_sexpr(&self, alloc: Global) -> Result<SExpr, PrintFault>
-        ensures { IfOk result (λ s. meaning self.now ≡ Some (sexp_of s)) };
+        ensures meant { IfOk result (λ s. meaning self.now ≡ Some (sexp_of s)) }
+        ensures refused { IsErrOf result MacroArg ↔ (meaning self.now ≡ None) };
 }

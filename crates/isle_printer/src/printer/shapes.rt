@@ -1,12 +1,18 @@
 //! The S-expressions of the nodes of the tree.
 
 ghost use Rattle.std.specs.Prelude.{◌≡◌, ◌++◌, [], ◌∷◌, IfOk, OnOk};
+ghost use Rattle.isle_ast.specs.PatternGrammar.{bool_word};
 ghost use Rattle.isle_ast.specs.TreeView.{name_of, names_of, definition_of};
+ghost use Rattle.isle_printer.specs.DefinitionShapes.{definition_shape};
+ghost use Rattle.isle_printer.specs.RuleShapes.{integer_shape};
 ghost use Rattle.isle_printer.specs.Sexp.{atom, row_of};
 ghost use Rattle.isle_printer.specs.SexpView.{sexp_of, sexps_of};
-ghost use Rattle.isle_printer.specs.Shapes.{constant_shape, definition_shape, flag_shape, form_shape, name_shape, name_shapes, number_shape};
+ghost use Rattle.isle_printer.specs.Shapes.{constant_shape, flag_shape, form_shape, name_shape, name_shapes, number_shape};
 
+mod expressions;
 mod models;
+mod patterns;
+mod rules;
 mod terms;
 mod types;
 
@@ -15,13 +21,17 @@ use isle_ast::ast::{Def, Ident};
 use std::alloc::{AllocError, Global};
 
 impl ToSExpr for Def {
-    ghost use Rattle.std.specs.Prelude.{Some};
+    ghost use Rattle.isle_ast.specs.MacroArgs.{definition_has_macro_arg};
     ghost use Rattle.isle_ast.specs.TreeView.{definition_of};
-    ghost use Rattle.isle_printer.specs.Shapes.{definition_shape};
+    ghost use Rattle.isle_printer.specs.DefinitionShapes.{definition_shape};
+    ghost use Rattle.isle_printer.specs.Sexp.{unless};
 
-    ghost meaning = { λ d. Some (definition_shape (definition_of d)) };
+    ghost meaning = { λ d. unless (definition_has_macro_arg (definition_of d)) (definition_shape (definition_of d)) };
 
     fn to_sexpr(&self, alloc: Global) -> Result<SExpr, PrintFault> {
+        if self.has_macro_arg() {
+            return Err(PrintFault::MacroArg);
+        }
         Ok(definition(alloc, self)?)
     }
 }
@@ -45,6 +55,8 @@ fn definition(alloc: Global, def: &Def) -> Result<SExpr, AllocError>
     match def {
         Def::Pragma(pragma) => match *pragma {},
         Def::TypeDef(ty) => types::type_definition(alloc, ty),
+        Def::Rule(rule) => rules::rule(alloc, rule),
+        Def::Extractor(extractor) => rules::extractor(alloc, extractor),
         Def::Decl(decl) => terms::declaration(alloc, decl),
         Def::Attr(attr) => terms::attribute(alloc, attr),
         Def::Model(model) => models::model(alloc, model),
@@ -60,9 +72,7 @@ fn names(alloc: Global, idents: &[Ident]) -> Result<SExpr, AllocError>
     ensures { IfOk result (λ s. sexp_of s ≡ row_of (name_shapes (names_of idents.now))) }
 {
     let mut items = Vec::new(alloc);
-    for ident in idents {
-        push_name(&mut items, alloc, ident)?;
-    }
+    push_names(&mut items, alloc, idents)?;
     Ok(list(items))
 }
 
@@ -135,6 +145,17 @@ fn push_name(items: &mut Vec<SExpr>, alloc: Global, ident: &Ident) -> Result<(),
     Ok(())
 }
 
+/// Appends names.
+fn push_names(items: &mut Vec<SExpr>, alloc: Global, idents: &[Ident]) -> Result<(), AllocError>
+    ensures { OnOk result (sexps_of items.new.items
+        ≡ sexps_of items.old.items ++ name_shapes (names_of idents.now)) }
+{
+    for ident in idents {
+        push_name(items, alloc, ident)?;
+    }
+    Ok(())
+}
+
 /// The atom of a name.
 fn name(alloc: Global, ident: &Ident) -> Result<SExpr, AllocError>
     ensures { IfOk result (λ s. sexp_of s ≡ name_shape (name_of ident.now)) }
@@ -156,6 +177,28 @@ fn number(alloc: Global, value: usize) -> Result<SExpr, AllocError>
     ensures { IfOk result (λ s. sexp_of s ≡ number_shape value) }
 {
     Ok(SExpr::Atom(value.to_string(alloc)?))
+}
+
+/// The atom of a signed integer in decimal. The least one is written without its sign, which is how
+/// it is read.
+fn integer(alloc: Global, value: i128) -> Result<SExpr, AllocError>
+    ensures { IfOk result (λ s. sexp_of s ≡ integer_shape value) }
+{
+    if value == i128::MIN {
+        return atom(alloc, "170141183460469231731687303715884105728");
+    }
+    Ok(SExpr::Atom(value.to_string(alloc)?))
+}
+
+/// The atom of a boolean.
+fn boolean(alloc: Global, value: bool) -> Result<SExpr, AllocError>
+    ensures { IfOk result (λ s. sexp_of s ≡ atom (bool_word value)) }
+{
+    if value {
+        atom(alloc, "true")
+    } else {
+        atom(alloc, "false")
+    }
 }
 
 /// The atom of a text.

@@ -1,5 +1,7 @@
 //! Worked examples of printed text, on trees built by hand.
 
+mod rules;
+
 use super::{PrintFault, SExpr, ToSExpr, print, print_node};
 use isle_ast::ast::{
     Attr, AttrKind, AttrTarget, Converter, Decl, Def, Extern, Fields, Form, Ident, Instantiation,

@@ -8,7 +8,7 @@ use Rattle.isle_printer.proofs.printer.print.Goals as goal
 pub returns-clause-printed : goal.returns-clause-printed
 returns-clause-printed c =
     let is : string_bytes c.put_definitions.new.out ≡ printed_text c.args.width (definitions_of c.args.defs.now) = search rules in
-    IsPrinted-from_text _ _ _ is
+    IsPrinted-from_text _ _ _ (search rules) is
 
 pub returns-clause-lines : goal.returns-clause-lines
 returns-clause-lines c =
@@ -18,4 +18,4 @@ returns-clause-lines c =
 pub returns-clause-reads_back : goal.returns-clause-reads_back
 returns-clause-reads_back c =
     let is : string_bytes c.put_definitions.new.out ≡ printed_text c.args.width (definitions_of c.args.defs.now) = search rules in
-    IsPrinted-ReadsBack _ _ _ (IsPrinted-from_text _ _ _ is)
+    IsPrinted-ReadsBack _ _ _ (IsPrinted-from_text _ _ _ (search rules) is)
