@@ -58,8 +58,8 @@ pub fn print(alloc: Global, defs: &[Def], width: usize) -> Result<String, PrintF
 /// The width counts bytes, and may be any number from 0. A line may be longer where it holds a long
 /// name or an empty list.
 ///
-/// The fault is `MacroArg` exactly where the node has no S-expression: a node of the tree has none where it
-/// is, or holds, the argument of a macro. It is `Memory` where a growth was refused. The text begun is
+/// The fault is `MacroArg` only where the node has no S-expression: a node of the tree has none where it is,
+/// or holds, the argument of a macro. It is `Memory` where a growth was refused. The text begun is
 /// dropped then, and nothing is left of it.
 pub fn print_node<N: ToSExpr>(alloc: Global, node: &N, width: usize) -> Result<String, PrintFault>
     ensures meant { IfOk result (λ text. IsSome (N.meaning node.now)) }
@@ -67,7 +67,7 @@ pub fn print_node<N: ToSExpr>(alloc: Global, node: &N, width: usize) -> Result<S
         (λ text. IfSome (N.meaning node.now) (λ s. IsLayout width s (string_bytes text))) }
     ensures lines { IfOk result
         (λ text. IfSome (N.meaning node.now) (λ s. HasFewestLines width s (string_bytes text))) }
-    ensures refused { IsErrOf result MacroArg ↔ (N.meaning node.now ≡ None) }
+    ensures refused { IsErrOf result MacroArg → N.meaning node.now ≡ None }
 {
     let sexpr = node.to_sexpr(alloc)?;
     let mut out = String::new(alloc);

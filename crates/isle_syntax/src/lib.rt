@@ -30,6 +30,7 @@ pub fn format(alloc: Global, text: &str, width: usize) -> Result<String, Fault>
     let defs = parse_without_pos(alloc, lexer)?;
     match print(alloc, &defs, width) {
         Ok(answer) => Ok(answer),
+        Err(PrintFault::MacroArg) => unreachable!(),
         Err(PrintFault::Memory) => Err(Fault::Memory),
     }
 }

@@ -81,7 +81,7 @@ impl<T: Drop> From<AllocFailed<T>> for PrintFault {
 ///
 /// Types of a caller's own may have it too: `meaning` says which S-expression a value has, or none.
 pub trait ToSExpr {
-    ghost use Rattle.std.specs.Prelude.{◌≡◌, ◌↔◌, Option, Some, None, IfOk, IsErrOf};
+    ghost use Rattle.std.specs.Prelude.{◌≡◌, Option, Some, None, IfOk, IsErrOf};
     ghost use Rattle.isle_printer.specs.Sexp.{Sexp};
     ghost use Rattle.isle_printer.specs.SexpView.{sexp_of};
     ghost use Rattle.isle_printer.specs.declared.printer.sexpr.PrintFault.TheVariants.{MacroArg};
@@ -90,9 +90,10 @@ pub trait ToSExpr {
 
     /// Converts the value to an S-expression.
     ///
-    /// An answer is the value's meaning. A value that has none is refused, and the fault `MacroArg` comes
-    /// there and nowhere else. The fault `Memory` comes where a growth was refused.
+    /// An answer is the value's meaning, so a value that has none is refused. The fault `MacroArg` comes only
+    /// there: a node of the tree has no meaning where it is, or holds, the argument of a macro, and is
+    /// refused before anything is made. The fault `Memory` comes where a growth was refused.
     fn to_sexpr(&self, alloc: Global) -> Result<SExpr, PrintFault>
         ensures meant { IfOk result (λ s. meaning self.now ≡ Some (sexp_of s)) }
-        ensures refused { IsErrOf result MacroArg ↔ (meaning self.now ≡ None) };
+        ensures refused { IsErrOf result MacroArg → meaning self.now ≡ None };
 }
