@@ -16,3 +16,8 @@ pub mod ReadsTypes
 pub mod Definitions
 pub mod Whole
 pub mod Positions
+pub mod ReadsNumbers
+pub mod ReadsPatterns
+pub mod ReadsExpressions
+pub mod PatternParts
+pub mod ExpressionParts
