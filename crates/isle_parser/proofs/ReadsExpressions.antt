@@ -324,7 +324,7 @@ variable_read place n all rest h =
 placed_there : (make : Pos → Expression) (pos : Pos) (all rest : List Placed) → BeginsAt pos all → ◌≡◌ {A = Option (Expression × List Placed)} (Some (make (pos_ahead all), rest)) (Some (make pos, rest))
 placed_there make pos all rest h = ap (λ (q : Pos). Some (make q, rest)) (position_of h)
 
-int_read : (read : Reader Expression) (all rest : List Placed) (val : ℤ) → is_ahead is_lparen all ≡ false → is_ahead is_symbol all ≡ false → is_ahead is_int all ≡ true → signed 127 all ≡ Some (val, rest) → expression_step read all ≡ Some (int_expression val (pos_ahead all), rest)
+pub int_read : (read : Reader Expression) (all rest : List Placed) (val : ℤ) → is_ahead is_lparen all ≡ false → is_ahead is_symbol all ≡ false → is_ahead is_int all ≡ true → signed 127 all ≡ Some (val, rest) → expression_step read all ≡ Some (int_expression val (pos_ahead all), rest)
 unfolding expression_step
 int_read read all rest val a b c e = rw (a, b, c, e) refl
 

@@ -341,7 +341,7 @@ bound_read place read n p all mid inner rest e at f =
 placed_there : (make : Pos → PatternNode) (pos : Pos) (all rest : List Placed) → BeginsAt pos all → ◌≡◌ {A = Option (PatternNode × List Placed)} (Some (make (pos_ahead all), rest)) (Some (make pos, rest))
 placed_there make pos all rest h = ap (λ (q : Pos). Some (make q, rest)) (position_of h)
 
-int_read : (read : Reader PatternNode) (all rest : List Placed) (val : ℤ) → is_ahead is_int all ≡ true → signed 127 all ≡ Some (val, rest) → pattern_step read all ≡ Some (int_pattern val (pos_ahead all), rest)
+pub int_read : (read : Reader PatternNode) (all rest : List Placed) (val : ℤ) → is_ahead is_int all ≡ true → signed 127 all ≡ Some (val, rest) → pattern_step read all ≡ Some (int_pattern val (pos_ahead all), rest)
 unfolding pattern_step
 int_read read all rest val a e = rw (a, e) refl
 

@@ -1,5 +1,7 @@
-use Rattle.std.proofs.Common.{◌≡◌, [], ◌∷◌, ◌++◌, sym, ◌∙◌, arith}
+use mir.Syntax.{w128}
+use Rattle.std.proofs.Common.{◌≡◌, rules, [], ◌∷◌, ◌++◌, sym, ◌∙◌, arith}
 use Rattle.std.specs.Prelude.{codes}
+use Rattle.std.proofs.lemmas.Int.{to_z-of_z}
 use Rattle.std.proofs.lemmas.Result.{err_from_is_err_and}
 use Rattle.std.proofs.lemmas.List.{map_push}
 use Rattle.isle_ast.specs.TreeView.{name_of, pattern_of, patterns_of}
@@ -10,8 +12,13 @@ use Rattle.isle_parser.specs.Reading.{closes, is_at, many}
 use Rattle.isle_parser.proofs.Lengths.{expect_shorter, flag_shorter}
 use Rattle.isle_parser.proofs.Loops.{loop_push, loop_stops, loop_end}
 use Rattle.isle_parser.proofs.Names.{name_shrinks}
+use Rattle.isle_parser.proofs.PatternParts.{int_taken}
 use Rattle.isle_parser.proofs.ReadsPatterns.{pattern_shrinks}
 use Rattle.isle_parser.proofs.parser.Parser.+pattern.Goals as goal
+
+pub parse_pattern-returns-then-is_int-clause-gives : goal.parse_pattern-returns-then-is_int-clause-gives
+parse_pattern-returns-then-is_int-clause-gives t c =
+    int_taken (tokens c.args.self.now) (tokens c.parse_int.new.self) c.in_ok-val.val _ c.pos-pos.result (to_z-of_z w128 c.in_ok-val.val (search rules)) c.if-is_int.ensures c.pos-pos.ensures c.in_ok-val.ensures.gives
 
 pub parse_pattern_inner_parens-parse_patterns-requires : goal.parse_pattern_inner_parens-parse_patterns-requires
 parse_pattern_inner_parens-parse_patterns-requires t c =
