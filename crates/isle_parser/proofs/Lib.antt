@@ -19,5 +19,9 @@ pub mod Positions
 pub mod ReadsNumbers
 pub mod ReadsPatterns
 pub mod ReadsExpressions
+pub mod ReadsConditions
+pub mod ReadsRules
+pub mod RightSides
+pub mod ReadOnce
 pub mod PatternParts
 pub mod ExpressionParts

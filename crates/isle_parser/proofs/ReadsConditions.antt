@@ -1,7 +1,8 @@
 -- The right side of a rule is read as the grammar spells it: conditions, and the expression behind them.
-use Rattle.std.proofs.Common.{◌≡◌, ◌⊎◌, inl, inr, ℕ, zero, suc, ◌≤◌, ◌<◌, Bool, true, false, cond, List, [], ◌∷◌, length, Option, Some, None, refl, sym, ap, subst, ◌∙◌, arith}
+use Rattle.std.proofs.Common.{◌≡◌, ◌⊎◌, inl, inr, ℕ, zero, suc, ◌≤◌, ◌<◌, Bool, true, false, ◌&&◌, cond, List, [], ◌∷◌, length, Option, Some, None, refl, sym, ap, subst, ◌∙◌, arith, rules}
 use Rattle.std.specs.Prelude.{codes}
-use Rattle.std.specs.Str.{bytes_eq}
+use Rattle.std.specs.Str.{bytes_eq, is_utf8}
+use Rattle.std.proofs.lemmas.Str.{chars-IsAscii}
 use Rattle.std.proofs.lemmas.Slice.Eq.{bytes_eq-Decides}
 use Rattle.isle_base.specs.declared.lexer.Pos.{Pos}
 use Rattle.isle_base.specs.Place.{Placed}
@@ -153,9 +154,13 @@ part_sound all rest p e =
     ]
 
 -- `if-let` is no identifier
+and_false : (b : Bool) → (b && false) ≡ false
+and_false true = refl
+and_false false = refl
+
 if_let_no_name : is_identifier (codes "if-let") ≡ false
 unfolding is_identifier
-if_let_no_name = refl
+if_let_no_name = rw (chars-IsAscii (codes "if-let") (search rules)) (and_false (is_utf8 (codes "if-let")))
 
 no_if_let : (t : List ℕ) → is_identifier t ≡ true → bytes_eq t (codes "if-let") ≡ false
 no_if_let t e =
@@ -276,14 +281,19 @@ within_same m n all lm ln =
     let h = within_sound n all x.1 x.0 e in
     within_complete m x.0.0 x.0.1 all h.0 x.1 lm h.1 h.2 h.3)
 
-part_same : (m n : ℕ) (p : RulePart) (rest : List Placed) → length rest < m → length rest < n → behind_part (right_side_within m) p rest ≡ behind_part (right_side_within n) p rest
-part_same m n (condition_part c) rest lm ln = ap (behind_condition c) (within_same m n rest lm ln)
-part_same m n (expression_part x) rest lm ln = refl
+step_same : (n : ℕ) (p : RulePart) (rest : List Placed) → length rest < n → behind_part (right_side_within n) p rest ≡ behind_part right_side p rest
+unfolding right_side
+step_same n (condition_part c) rest lt = ap (behind_condition c) (within_same n (suc (length rest)) rest lt (omega arith))
+step_same n (expression_part x) rest lt = refl
+
+first_step : (all : List Placed) → right_side all ≡ (condition_or_expression all >>= λ x. behind_part (right_side_within (length all)) x.0 x.1)
+unfolding right_side right_side_within
+first_step all = refl
 
 -- a right side is a part, and what stands behind it
 pub right_side_step : (all : List Placed) → right_side all ≡ (condition_or_expression all >>= λ x. behind_part right_side x.0 x.1)
-unfolding right_side right_side_within
 right_side_step all =
-    bind_same (condition_or_expression all) _ _ (λ x e.
+    first_step all
+    ∙ bind_same (condition_or_expression all) _ _ (λ x e.
     let lt : length x.1 < length all = part_shrinks all x.1 x.0 e in
-    ?)
+    step_same (length all) x.0 x.1 lt)

@@ -169,6 +169,28 @@ from_inside (let_expression ds x pos) all rest h =
     let inside = h.3 in
     (opened_there pos _ all rest inside.0 h, (h.0, h.1, h.2, (inside.1, inside.3, (inside.2, inside.4, inside.5)), h.4))
 
+-- an expression that begins with `(`
+abbrev is_list : Expression → Bool
+is_list (term_expression _ _ _) = true
+is_list (var_expression _ _) = false
+is_list (bool_expression _ _) = false
+is_list (int_expression _ _) = false
+is_list (constant_expression _ _) = false
+is_list (let_expression _ _ _) = true
+
+pub to_inside : (x : Expression) (all rest : List Placed) → is_list x ≡ true → SpellsExpression x all rest → InParentheses (SpellsInside (pos_ahead all) x) all rest
+to_inside (term_expression n xs pos) all rest e h =
+    let inner = h.2 in
+    (inner.0, inner.1, inner.2, (sym (position_of h.1), h.0, inner.3.0, inner.3.1, inner.3.2), inner.4)
+to_inside (var_expression _ _) all rest e h = absurd cc
+to_inside (bool_expression _ _) all rest e h = absurd cc
+to_inside (int_expression _ _) all rest e h = absurd cc
+to_inside (constant_expression _ _) all rest e h = absurd cc
+to_inside (let_expression ds x pos) all rest e h =
+    let inner = h.1 in
+    let body = inner.3.2 in
+    (inner.0, inner.1, inner.2, (sym (position_of h.0), inner.3.0, body.0, inner.3.1, body.1, body.2), inner.4)
+
 inside_sound : (place : Pos) (read : Reader Expression) → Sound SpellsExpression read → Sound (SpellsInside place) (expression_inside place read)
 unfolding expression_inside
 inside_sound place read sound all rest x e =
@@ -330,8 +352,7 @@ int_read read all rest val a b c e = rw (a, b, c, e) refl
 
 step_complete : (n : ℕ) (read : Reader Expression) → Fits n read → Fits (suc n) (expression_step read)
 step_complete n read fits (term_expression v xs pos) all rest below h =
-    let inner = h.2 in
-    enclosed n read fits (term_expression v xs pos) all rest below (inner.0, inner.1, inner.2, (sym (position_of h.1), h.0, inner.3.0, inner.3.1, inner.3.2), inner.4)
+    enclosed n read fits (term_expression v xs pos) all rest below (to_inside (term_expression v xs pos) all rest refl h)
 step_complete n read fits (var_expression v pos) all rest below h =
     at_symbol read v.text v.pos all rest h.1.1
     ∙ variable_read (pos_ahead all) v all rest h.1
@@ -352,9 +373,7 @@ step_complete n read fits (constant_expression val pos) all rest below h =
     ∙ constant_read (pos_ahead all) val all rest (constant_complete val all rest h.1) (const_ahead h.1.1)
     ∙ placed_there (constant_expression val) pos all rest h.0
 step_complete n read fits (let_expression ds x pos) all rest below h =
-    let inner = h.1 in
-    let body = inner.3.2 in
-    enclosed n read fits (let_expression ds x pos) all rest below (inner.0, inner.1, inner.2, (sym (position_of h.0), inner.3.0, body.0, inner.3.1, body.1, body.2), inner.4)
+    enclosed n read fits (let_expression ds x pos) all rest below (to_inside (let_expression ds x pos) all rest refl h)
 
 -- ---- whole expressions
 

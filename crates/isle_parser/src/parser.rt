@@ -21,6 +21,7 @@ ghost use Rattle.isle_parser.specs.declared.parser.Stop.TheVariants.{Memory};
 
 mod defs;
 mod exprs;
+pub mod grammar;
 mod models;
 mod names;
 mod patterns;
