@@ -1,7 +1,9 @@
 -- What the tests of equality are made of: each part says whether two parts of a tree are the same.
-use Rattle.std.proofs.Common.{◌≡◌, ℕ, List, [], ◌∷◌, Bool, true, false, ◌&&◌, nat_eq, map, Option, None, Some, refl, ap, rules}
+use Rattle.std.proofs.Common.{◌≡◌, ℕ, ℤ, List, [], ◌∷◌, Bool, true, false, ◌&&◌, nat_eq, map, Option, None, Some, refl, ap, rules}
 use Rattle.std.specs.Bool.{Decides, beq}
+use Rattle.std.specs.Cmp.{signed_Decides}
 use Rattle.std.specs.Option.{option_eq}
+use Rattle.std.specs.Ordering.{int_eq}
 use Rattle.std.specs.String.{string_eq}
 use lib.Pointwise.{pointwise}
 use Rattle.isle_base.specs.declared.lexer.Pos.{Pos}
@@ -52,3 +54,9 @@ option-Decides None None = (λ e. refl, λ e. refl)
 option-Decides None (Some b) = (λ e. cc, λ e. cc)
 option-Decides (Some a) None = (λ e. cc, λ e. cc)
 option-Decides (Some a) (Some b) = Decides-map (ident_eq a b) (λ e. ap Some e) (λ e. cc) (ident_eq-Decides a b)
+
+pub priority-Decides : (a b : Option ℤ) → Decides (option_eq int_eq a b) (a ≡ b)
+priority-Decides None None = (λ e. refl, λ e. refl)
+priority-Decides None (Some b) = (λ e. cc, λ e. cc)
+priority-Decides (Some a) None = (λ e. cc, λ e. cc)
+priority-Decides (Some a) (Some b) = Decides-map (int_eq a b) (λ e. ap Some e) (λ e. cc) (signed_Decides a b)

@@ -5,6 +5,7 @@ use Rattle.isle_base.specs.declared.lexer.Pos.{Pos}
 use Rattle.isle_base.specs.Place.{Placed, unknown}
 use Rattle.isle_base.specs.Token.{Tok, lparen, rparen, symbol}
 use Rattle.isle_ast.specs.Erased.{erase_name, erase_token, erase_tokens}
+use Rattle.isle_ast.specs.Identifier.{is_identifier}
 use Rattle.isle_ast.specs.Parts.{CutsPart}
 use Rattle.isle_ast.specs.TermGrammar.{SpellsConstant}
 use Rattle.isle_ast.specs.Tree.{Name}
@@ -169,8 +170,12 @@ name_agrees mark m n same all rest after h k =
     let tails : rest ≡ after = cc in
     (λ i. record { text = (same i).text; pos = (heads i).pos }, tails)
 
-pub name_lawful : (n : Name) → Lawful SpellsName erase_name n
-name_lawful n = record {
+-- a name whose text passes this test
+abbrev pub SpellsTested : (List ℕ → Bool) → Name → List Placed → List Placed → Type 0
+SpellsTested test n all rest = (test n.text ≡ true) × (all ≡ record { pos = n.pos; token = symbol n.text } ∷ rest)
+
+pub tested_lawful : (test : List ℕ → Bool) (n : Name) → Lawful (SpellsTested test) erase_name n
+tested_lawful test n = record {
   cuts = λ all rest h. (record { pos = n.pos; token = symbol n.text } ∷ [], h.1, λ after. (h.0, refl));
   erased = λ all rest h. (h.0, ap erase_tokens h.1);
   placed = λ all after h.
@@ -178,6 +183,9 @@ name_lawful n = record {
       (record n { pos = p.0 }, p.1, name_at n p.0 p.2, p.3, (h.0, p.4));
   agree = λ m same all rest after h k. name_agrees (λ text. text) n m same all rest after h.1 k.1;
 }
+
+pub name_lawful : (n : Name) → Lawful SpellsName erase_name n
+name_lawful n = tested_lawful is_identifier n
 
 pub constant_lawful : (n : Name) → Lawful SpellsConstant erase_name n
 constant_lawful n = record {
@@ -437,6 +445,19 @@ made_lawful Outer outer Inner inner con to from erases x only lawful = record {
       let p = lawful.agree one.0 one.2 all rest after (from x all rest h) (from one.0 all after (subst (λ z. Outer z all after) one.1 k)) in
       (ap con p.0 ∙ sym one.1, p.1);
 }
+
+-- The same of a kind that also holds the position of its first token.
+pub made_at_lawful : {A B : Type 0} (Outer : A → List Placed → List Placed → Type 0) (outer : A → A) (Inner : B → List Placed → List Placed → Type 0) (inner : B → B) (con : B → Pos → A) →
+    ((place : Pos) (y : B) (all rest : List Placed) → At place (Inner y) all rest → Outer (con y place) all rest) →
+    ((place : Pos) (y : B) (all rest : List Placed) → Outer (con y place) all rest → At place (Inner y) all rest) →
+    ((place : Pos) (y : B) → outer (con y place) ≡ con (inner y) unknown) →
+    (pos : Pos) (x : B) → ((y : A) → con (inner x) unknown ≡ outer y → (z : Pos × B) × (y ≡ con z.1 z.0) × (inner x ≡ inner z.1)) →
+    Begins (Inner x) → Lawful Inner inner x → Lawful Outer outer (con x pos)
+made_at_lawful Outer outer Inner inner con to from erases pos x only begins lawful =
+    made_lawful Outer outer (λ p. At p.0 (Inner p.1)) (λ p. (unknown, inner p.1)) (λ p. con p.1 p.0)
+    (λ y. to y.0 y.1) (λ y. from y.0 y.1) (λ y. erases y.0 y.1) (pos, x)
+    (λ y same. let one = only y (sym (erases pos x) ∙ same) in (one.0, one.1, λ i. (unknown, one.2 i)))
+    (at_lawful Inner inner pos x begins lawful)
 
 -- what is spelt in parentheses, and behind a word
 

@@ -1,15 +1,17 @@
 -- The relation of definitions keeps the laws.
 use Rattle.std.proofs.Common.{◌≡◌, ℕ, List, codes, refl}
 use Rattle.isle_base.specs.Place.{Placed}
-use Rattle.isle_ast.specs.Erased.{erase, erase_type, erase_declaration, erase_attribute, erase_model_definition, erase_form, erase_instantiation, erase_extern, erase_conversion, erase_definition}
+use Rattle.isle_ast.specs.Erased.{erase, erase_type, erase_declaration, erase_attribute, erase_model_definition, erase_form, erase_instantiation, erase_rule, erase_extractor, erase_extern, erase_conversion, erase_definition}
 use Rattle.isle_ast.specs.Grammar.{InForm, SpellsDefinition}
 use Rattle.isle_ast.specs.ModelGrammar.{SpellsForm, SpellsInstantiation, SpellsModel}
+use Rattle.isle_ast.specs.RuleGrammar.{SpellsRule, SpellsExtractor}
 use Rattle.isle_ast.specs.TermGrammar.{SpellsDeclaration, SpellsAttribute, SpellsExtern, SpellsConversion}
-use Rattle.isle_ast.specs.Tree.{Declaration, Conversion, TypeDefinition, Attribute, FormDefinition, TermInstantiation, ModelDefinition, ExternDefinition, Definition, type_def, decl, attr, model, form, instantiation, external, converter}
+use Rattle.isle_ast.specs.Tree.{Declaration, Conversion, TypeDefinition, Attribute, FormDefinition, TermInstantiation, ModelDefinition, RuleDefinition, ExtractorDefinition, ExternDefinition, Definition, type_def, rule, extractor, decl, attr, model, form, instantiation, external, converter}
 use Rattle.isle_ast.specs.TypeGrammar.{SpellsTypeDefinition}
 use Rattle.isle_ast.specs.Words.{SpellsAll, BehindWord}
 use Rattle.isle_ast.proofs.Lawful.{Lawful, all_lawful, made_lawful, parentheses_lawful, word_lawful}
 use Rattle.isle_ast.proofs.LawfulModels.{form_lawful, instantiation_lawful, model_definition_lawful}
+use Rattle.isle_ast.proofs.LawfulRules.{rule_lawful, extractor_lawful}
 use Rattle.isle_ast.proofs.LawfulTerms.{declaration_lawful, attribute_lawful, extern_lawful, conversion_lawful}
 use Rattle.isle_ast.proofs.LawfulTypes.{type_lawful}
 
@@ -26,6 +28,14 @@ in_form word Spells erase con to from erases x only lawful =
 is_type_def : (x : TypeDefinition) (y : Definition) → type_def (erase_type x) ≡ erase_definition y → (z : TypeDefinition) × (y ≡ type_def z) × (erase_type x ≡ erase_type z)
 is_type_def x (type_def z) same = (z, refl, cc)
 is_type_def x _ same = cc
+
+is_rule : (x : RuleDefinition) (y : Definition) → rule (erase_rule x) ≡ erase_definition y → (z : RuleDefinition) × (y ≡ rule z) × (erase_rule x ≡ erase_rule z)
+is_rule x (rule z) same = (z, refl, cc)
+is_rule x _ same = cc
+
+is_extractor : (x : ExtractorDefinition) (y : Definition) → extractor (erase_extractor x) ≡ erase_definition y → (z : ExtractorDefinition) × (y ≡ extractor z) × (erase_extractor x ≡ erase_extractor z)
+is_extractor x (extractor z) same = (z, refl, cc)
+is_extractor x _ same = cc
 
 is_decl : (x : Declaration) (y : Definition) → decl (erase_declaration x) ≡ erase_definition y → (z : Declaration) × (y ≡ decl z) × (erase_declaration x ≡ erase_declaration z)
 is_decl x (decl z) same = (z, refl, cc)
@@ -58,6 +68,10 @@ is_converter x _ same = cc
 pub definition_lawful : (d : Definition) → Lawful SpellsDefinition erase_definition d
 definition_lawful (type_def x) =
     in_form (codes "type") SpellsTypeDefinition erase_type type_def (λ y all rest h. h) (λ y all rest h. h) (λ y. refl) x (is_type_def x) (type_lawful x)
+definition_lawful (rule x) =
+    in_form (codes "rule") SpellsRule erase_rule rule (λ y all rest h. h) (λ y all rest h. h) (λ y. refl) x (is_rule x) (rule_lawful x)
+definition_lawful (extractor x) =
+    in_form (codes "extractor") SpellsExtractor erase_extractor extractor (λ y all rest h. h) (λ y all rest h. h) (λ y. refl) x (is_extractor x) (extractor_lawful x)
 definition_lawful (decl x) =
     in_form (codes "decl") SpellsDeclaration erase_declaration decl (λ y all rest h. h) (λ y all rest h. h) (λ y. refl) x (is_decl x) (declaration_lawful x)
 definition_lawful (attr x) =

@@ -6,9 +6,16 @@ pub mod Lawful
 pub mod LawfulTerms
 pub mod LawfulTypes
 pub mod LawfulModels
+pub mod LawfulPatterns
+pub mod LawfulExpressions
+pub mod LawfulRules
 pub mod LawfulDefinitions
 pub mod Parts
 pub mod Erasing
-pub mod SameModels
+pub mod SameRows
+pub mod SameLists
 pub mod Equalities
+pub mod SpeltWords
+pub mod SpeltWritableRules
 pub mod SpeltWritable
+pub mod NoMacroArgs

@@ -2,16 +2,22 @@
 use Rattle.std.proofs.Common.{◌↔◌, List, [], ◌∷◌, map, sym, subst}
 use Rattle.isle_base.specs.Place.{Placed}
 use Rattle.isle_ast.specs.Erased.{erase_name}
+use Rattle.isle_ast.specs.ExpressionGrammar.{SpellsExpression}
 use Rattle.isle_ast.specs.Grammar.{SpellsDefinition, SpellsDefinitions}
 use Rattle.isle_ast.specs.ModelGrammar.{SpellsTypeModel, SpellsForm, SpellsInstantiation, SpellsModel}
 use Rattle.isle_ast.specs.Parts.{IsByParts, AreParts}
+use Rattle.isle_ast.specs.PatternGrammar.{SpellsPattern}
+use Rattle.isle_ast.specs.RuleGrammar.{SpellsCondition, SpellsRule, SpellsExtractor}
 use Rattle.isle_ast.specs.TermGrammar.{SpellsDeclaration, SpellsAttribute, SpellsExtern, SpellsConversion}
-use Rattle.isle_ast.specs.Tree.{Name, Declaration, Conversion, TypeModel, TypeDefinition, Attribute, FormDefinition, TermInstantiation, ModelDefinition, ExternDefinition, Definition}
+use Rattle.isle_ast.specs.Tree.{Name, Declaration, Conversion, TypeModel, TypeDefinition, Attribute, FormDefinition, TermInstantiation, ModelDefinition, PatternNode, Expression, Condition, RuleDefinition, ExtractorDefinition, ExternDefinition, Definition}
 use Rattle.isle_ast.specs.TypeGrammar.{SpellsTypeDefinition}
 use Rattle.isle_ast.specs.Words.{SpellsAll, SpellsName}
 use Rattle.isle_ast.proofs.Lawful.{Lawful, name_lawful, all_lawful}
 use Rattle.isle_ast.proofs.LawfulDefinitions.{definition_lawful}
+use Rattle.isle_ast.proofs.LawfulExpressions.{expression_lawful}
 use Rattle.isle_ast.proofs.LawfulModels.{model_lawful, form_lawful, instantiation_lawful, model_definition_lawful}
+use Rattle.isle_ast.proofs.LawfulPatterns.{pattern_lawful}
+use Rattle.isle_ast.proofs.LawfulRules.{condition_lawful, rule_lawful, extractor_lawful}
 use Rattle.isle_ast.proofs.LawfulTerms.{declaration_lawful, attribute_lawful, extern_lawful, conversion_lawful}
 use Rattle.isle_ast.proofs.LawfulTypes.{type_lawful}
 
@@ -44,6 +50,21 @@ forms_by_parts f = by_parts SpellsForm _ f (form_lawful f)
 
 pub instantiations_by_parts : (i : TermInstantiation) → IsByParts (SpellsInstantiation i)
 instantiations_by_parts i = by_parts SpellsInstantiation _ i (instantiation_lawful i)
+
+pub patterns_by_parts : (p : PatternNode) → IsByParts (SpellsPattern p)
+patterns_by_parts p = by_parts SpellsPattern _ p (pattern_lawful p)
+
+pub expressions_by_parts : (x : Expression) → IsByParts (SpellsExpression x)
+expressions_by_parts x = by_parts SpellsExpression _ x (expression_lawful x)
+
+pub conditions_by_parts : (c : Condition) → IsByParts (SpellsCondition c)
+conditions_by_parts c = by_parts SpellsCondition _ c (condition_lawful c)
+
+pub rules_by_parts : (r : RuleDefinition) → IsByParts (SpellsRule r)
+rules_by_parts r = by_parts SpellsRule _ r (rule_lawful r)
+
+pub extractors_by_parts : (e : ExtractorDefinition) → IsByParts (SpellsExtractor e)
+extractors_by_parts e = by_parts SpellsExtractor _ e (extractor_lawful e)
 
 pub externs_by_parts : (e : ExternDefinition) → IsByParts (SpellsExtern e)
 externs_by_parts e = by_parts SpellsExtern _ e (extern_lawful e)

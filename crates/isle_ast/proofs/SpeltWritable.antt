@@ -1,37 +1,14 @@
 -- A spelt tree is writable.
-use Rattle.std.proofs.Common.{◌≡◌, ◌≢◌, ℕ, ◌+◌, List, [], ◌∷◌, Bool, true, false, ◌&&◌, ◌||◌, not, cond, Option, None, Some, codes, inl, inr, refl, sym, ap, ◌∙◌, subst}
-use Rattle.std.proofs.lemmas.Bool.{false≢true}
-use Rattle.std.proofs.lemmas.Slice.Eq.{bytes_eq-Decides}
-use Rattle.std.specs.Str.{bytes_eq}
+use Rattle.std.proofs.Common.{ℕ, ◌+◌, List, [], ◌∷◌, Option, None, Some, codes, inl, inr, sym, subst}
 use Rattle.isle_base.specs.Place.{Placed}
-use Rattle.isle_ast.specs.Identifier.{is_identifier}
 use Rattle.isle_ast.specs.Grammar.{SpellsDefinition, SpellsDefinitions}
 use Rattle.isle_ast.specs.ModelGrammar.{SpellsTypeModel, SpellsModelFields, SpellsSignature, SpellsInstances, SpellsTag, SpellsModelContent}
-use Rattle.isle_ast.specs.TermGrammar.{demands, SpellsDeclaration, SpellsAttributeKind, SpellsAttributeTarget, SpellsExtern}
-use Rattle.isle_ast.specs.Tree.{Name, Declaration, TypeModel, unspecified_model, auto_model, int_model, bool_model, unit_model, bit_vector_model, struct_model, named_model, ModelFieldRow, no_model_field, model_field, NamedField, IndexedField, FieldList, unit_fields, struct_fields, tuple_fields, EnumVariant, TypeContent, primitive_type, enum_type, struct_type, AttributeTarget, term_target, rule_target, AttributeKind, chain_kind, priority_kind, tag_kind, TermSignature, ModelContent, type_model, ExternDefinition, extern_extractor, extern_constructor, extern_const, Definition, type_def, decl, attr, model, form, instantiation, external, converter}
+use Rattle.isle_ast.specs.TermGrammar.{SpellsDeclaration, SpellsAttributeKind, SpellsAttributeTarget, SpellsExtern}
+use Rattle.isle_ast.specs.Tree.{Name, Declaration, TypeModel, unspecified_model, auto_model, int_model, bool_model, unit_model, bit_vector_model, struct_model, named_model, ModelFieldRow, no_model_field, model_field, IndexedField, FieldList, unit_fields, struct_fields, tuple_fields, EnumVariant, TypeContent, primitive_type, enum_type, struct_type, AttributeTarget, term_target, rule_target, AttributeKind, chain_kind, priority_kind, tag_kind, TermSignature, ModelContent, type_model, ExternDefinition, extern_extractor, extern_constructor, extern_const, Definition, type_def, rule, extractor, decl, attr, model, form, instantiation, external, converter}
 use Rattle.isle_ast.specs.TypeGrammar.{SpellsNamedField, SpellsIndexedFields, SpellsFields, SpellsVariant, SpellsTypeContent}
-use Rattle.isle_ast.specs.Words.{SpellsAll, SpellsName}
-use Rattle.isle_ast.specs.Writable.{IsName, Each, Wants, IsWritableDeclaration, IsWritableModel, AreWritableModelFields, IsWritableNamedField, AreWritableIndexedFields, AreWritableFields, IsWritableVariant, IsWritableTypeContent, IsWritableTarget, IsWritableKind, IsWritableSignature, AreWritableInstances, IsWritableModelContent, IsWritableExtern, IsWritable, AreWritable}
-
-both_true : (a b : Bool) → (a && b) ≡ true → (a ≡ true) × (b ≡ true)
-both_true true b e = (refl, e)
-both_true false b e = absurd (false≢true e)
-
-either_set : (a b : Bool) → a ≡ true → (not a || b) ≡ true → b ≡ true
-either_set true b e h = h
-either_set false b e h = absurd (false≢true e)
-
--- what a text demands of a flag, as a fact
-pub demands-Wants : (n : Name) (word : List ℕ) (set : Bool) → demands n.text word set ≡ true → Wants n word set
-demands-Wants n word set h e = either_set (bytes_eq n.text word) set ((bytes_eq-Decides n.text word).1 e) h
-
--- each element of a spelt row
-Each-spelt : {A : Type 0} → (P : A → Type 0) (Spells : A → List Placed → List Placed → Type 0) → ((x : A) (all rest : List Placed) → Spells x all rest → P x) → (xs : List A) (all rest : List Placed) → SpellsAll Spells xs all rest → Each P xs
-Each-spelt P Spells one [] all rest s = tt
-Each-spelt P Spells one (x ∷ xs) all rest s = (one x all s.0 s.1, Each-spelt P Spells one xs s.0 rest s.2)
-
-names-spelt : (ns : List Name) (all rest : List Placed) → SpellsAll SpellsName ns all rest → Each IsName ns
-names-spelt = Each-spelt IsName SpellsName (λ n all rest s. s.0)
+use Rattle.isle_ast.specs.Writable.{IsName, IsWritableDeclaration, IsWritableModel, AreWritableModelFields, IsWritableNamedField, AreWritableIndexedFields, AreWritableFields, IsWritableVariant, IsWritableTypeContent, IsWritableTarget, IsWritableKind, IsWritableSignature, AreWritableInstances, IsWritableModelContent, IsWritableExtern, IsWritable, AreWritable}
+use Rattle.isle_ast.proofs.SpeltWords.{both_true, demands-Wants, Each-spelt, names-spelt, differs}
+use Rattle.isle_ast.proofs.SpeltWritableRules.{rule-spelt, extractor-spelt}
 
 declaration-spelt : (d : Declaration) (all rest : List Placed) → SpellsDeclaration d all rest → IsWritableDeclaration d
 declaration-spelt d all rest s =
@@ -88,10 +65,6 @@ type_content-spelt (enum_type variants _) all rest s =
     Each-spelt IsWritableVariant SpellsVariant variant-spelt variants s.1.3.0 s.1.1 s.1.3.2
 type_content-spelt (struct_type fields _) all rest s = fields-spelt fields s.1.3.0 s.1.1 s.1.3.2
 
--- a text that isn't a word
-differs : (text word : List ℕ) → bytes_eq text word ≡ false → text ≢ word
-differs text word h e = false≢true (sym h ∙ (bytes_eq-Decides text word).1 e)
-
 target-spelt : (t : AttributeTarget) (all rest : List Placed) → SpellsAttributeTarget t all rest → IsWritableTarget t
 target-spelt (term_target name) all rest s = (differs name.text (codes "rule") s.0, s.1.0)
 target-spelt (rule_target name) all rest s = s.2.0
@@ -128,6 +101,8 @@ pub definition-spelt : (d : Definition) (all rest : List Placed) → SpellsDefin
 definition-spelt (type_def t) all rest s =
     let body = s.3.2 in
     (body.name.0, type_content-spelt t.ty body.behind_modifiers s.1 body.ty)
+definition-spelt (rule r) all rest s = rule-spelt r s.3.0 s.1 s.3.2
+definition-spelt (extractor e) all rest s = extractor-spelt e s.3.0 s.1 s.3.2
 definition-spelt (decl d) all rest s = declaration-spelt d s.3.0 s.1 s.3.2
 definition-spelt (attr a) all rest s =
     let body = s.3.2 in (

@@ -4,8 +4,9 @@
 use Rattle.std.specs.Prelude.{ℕ, List, [], codes}
 use Rattle.isle_base.specs.Place.{Placed}
 use Rattle.isle_ast.specs.ModelGrammar.{SpellsForm, SpellsInstantiation, SpellsModel}
+use Rattle.isle_ast.specs.RuleGrammar.{SpellsRule, SpellsExtractor}
 use Rattle.isle_ast.specs.TermGrammar.{SpellsDeclaration, SpellsAttribute, SpellsExtern, SpellsConversion}
-use Rattle.isle_ast.specs.Tree.{Definition, type_def, decl, attr, model, form, instantiation, external, converter}
+use Rattle.isle_ast.specs.Tree.{Definition, type_def, rule, extractor, decl, attr, model, form, instantiation, external, converter}
 use Rattle.isle_ast.specs.TypeGrammar.{SpellsTypeDefinition}
 use Rattle.isle_ast.specs.Words.{SpellsAll, InParentheses, BehindWord}
 
@@ -16,6 +17,8 @@ InForm word Spells = InParentheses (BehindWord word Spells)
 -- Each kind by its keyword. No pragma is spelt.
 abbrev pub SpellsDefinition : Definition → List Placed → List Placed → Type 0
 SpellsDefinition (type_def t) = InForm (codes "type") (SpellsTypeDefinition t)
+SpellsDefinition (rule r) = InForm (codes "rule") (SpellsRule r)
+SpellsDefinition (extractor e) = InForm (codes "extractor") (SpellsExtractor e)
 SpellsDefinition (decl d) = InForm (codes "decl") (SpellsDeclaration d)
 SpellsDefinition (attr a) = InForm (codes "attr") (SpellsAttribute a)
 SpellsDefinition (model m) = InForm (codes "model") (SpellsModel m)

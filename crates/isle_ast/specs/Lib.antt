@@ -9,7 +9,10 @@ pub mod Numbers
 pub mod Parts
 pub mod PatternGrammar
 pub mod RuleGrammar
+pub mod SameExpression
 pub mod SameModel
+pub mod SameParts
+pub mod SamePattern
 pub mod Spelt
 pub mod TermGrammar
 pub mod Tree

@@ -1,7 +1,7 @@
 -- Which nodes are or hold the argument of a macro, which no text spells and nothing prints.
 use Rattle.std.specs.Prelude.{List, Bool, true, false, ◌||◌}
 use Rattle.std.specs.List.{list_any}
-use Rattle.isle_ast.specs.Tree.{PatternNode, var_pattern, bind_pattern, bool_pattern, int_pattern, constant_pattern, term_pattern, wildcard_pattern, and_pattern, macro_arg_pattern, PatternRow, no_pattern, more_pattern, Condition, RuleDefinition, ExtractorDefinition}
+use Rattle.isle_ast.specs.Tree.{PatternNode, var_pattern, bind_pattern, bool_pattern, int_pattern, constant_pattern, term_pattern, wildcard_pattern, and_pattern, macro_arg_pattern, PatternRow, no_pattern, more_pattern, Condition, RuleDefinition, ExtractorDefinition, Definition, type_def, rule, extractor, decl, attr, model, form, instantiation, external, converter}
 
 abbrev mutual
   pub has_macro_arg : PatternNode → Bool
@@ -27,3 +27,18 @@ rule_has_macro_arg r = has_macro_arg r.pattern || list_any condition_has_macro_a
 
 abbrev pub extractor_has_macro_arg : ExtractorDefinition → Bool
 extractor_has_macro_arg e = has_macro_arg e.template
+
+abbrev pub definition_has_macro_arg : Definition → Bool
+definition_has_macro_arg (type_def _) = false
+definition_has_macro_arg (rule r) = rule_has_macro_arg r
+definition_has_macro_arg (extractor e) = extractor_has_macro_arg e
+definition_has_macro_arg (decl _) = false
+definition_has_macro_arg (attr _) = false
+definition_has_macro_arg (model _) = false
+definition_has_macro_arg (form _) = false
+definition_has_macro_arg (instantiation _) = false
+definition_has_macro_arg (external _) = false
+definition_has_macro_arg (converter _) = false
+
+abbrev pub definitions_have_macro_arg : List Definition → Bool
+definitions_have_macro_arg ds = list_any definition_has_macro_arg ds

@@ -5,20 +5,12 @@ use Rattle.std.specs.Bool.{Decides}
 use Rattle.std.specs.Cmp.{IsEquivalence, decided, on_equiv}
 use Rattle.std.specs.Option.{option_eq}
 use Rattle.std.specs.Ordering.{on}
-use Rattle.std.specs.Str.{bytes_eq}
 use Rattle.std.proofs.Common.{refl, sym, ap, subst}
 use Rattle.std.proofs.lemmas.Bool.{true≢false}
 use Rattle.std.proofs.lemmas.Bool.Decides.{Decides-eqb}
-use Rattle.std.proofs.lemmas.Slice.Eq.{bytes_eq-Decides}
-use Rattle.isle_base.specs.declared.lexer.Pos.{Pos}
-use Rattle.isle_ast.specs.Tree.{Name, TypeModel, unspecified_model, auto_model, int_model, bool_model, unit_model, bit_vector_model, struct_model, named_model, ModelFieldRow, no_model_field, model_field}
+use Rattle.isle_ast.specs.SameParts.{same_name, both_true, and_true, name_same, name_self}
+use Rattle.isle_ast.specs.Tree.{TypeModel, unspecified_model, auto_model, int_model, bool_model, unit_model, bit_vector_model, struct_model, named_model, ModelFieldRow, no_model_field, model_field}
 use Rattle.isle_ast.specs.TreeView.{SingleModelField, type_model_of, single_model_field_of}
-
-abbrev pub same_pos : Pos → Pos → Bool
-same_pos p q = nat_eq p.file q.file && nat_eq p.offset q.offset
-
-abbrev pub same_name : Name → Name → Bool
-same_name m n = bytes_eq m.text n.text && same_pos m.pos n.pos
 
 abbrev mutual
   pub same_model : TypeModel → TypeModel → Bool
@@ -42,29 +34,6 @@ abbrev pub same_single : SingleModelField → SingleModelField → Bool
 same_single f g = same_name f.name g.name && same_model f.ty g.ty
 
 -- The test is true of the same models, and of no others.
-
-both_true : (a b : Bool) → (a && b) ≡ true → (a ≡ true) × (b ≡ true)
-both_true true b h = (refl, h)
-both_true false b h = absurd (true≢false (sym h))
-
-and_true : (a b : Bool) → a ≡ true → b ≡ true → (a && b) ≡ true
-and_true true b g h = h
-and_true false b g h = g
-
-pub name_same : (m n : Name) → same_name m n ≡ true → m ≡ n
-name_same m n h =
-    let all = both_true (bytes_eq m.text n.text) (same_pos m.pos n.pos) h in
-    let place = both_true (nat_eq m.pos.file n.pos.file) (nat_eq m.pos.offset n.pos.offset) all.1 in
-    let text = (bytes_eq-Decides m.text n.text).0 all.0 in
-    let file = (Decides-eqb m.pos.file n.pos.file).0 place.0 in
-    let offset = (Decides-eqb m.pos.offset n.pos.offset).0 place.1 in
-    λ i. record { text = text i; pos = record { file = file i; offset = offset i } }
-
-pub name_self : (m : Name) → same_name m m ≡ true
-name_self m =
-    and_true (bytes_eq m.text m.text) (same_pos m.pos m.pos) ((bytes_eq-Decides m.text m.text).1 refl)
-    (and_true (nat_eq m.pos.file m.pos.file) (nat_eq m.pos.offset m.pos.offset) ((Decides-eqb m.pos.file m.pos.file).1 refl)
-    ((Decides-eqb m.pos.offset m.pos.offset).1 refl))
 
 width_same : (w v : Option ℕ) → option_eq nat_eq w v ≡ true → w ≡ v
 width_same None None h = refl

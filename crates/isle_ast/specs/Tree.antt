@@ -188,6 +188,8 @@ pub data ExternDefinition : Type 0 where
 
 pub data Definition : Type 0 where
   type_def : TypeDefinition → Definition
+  rule : RuleDefinition → Definition
+  extractor : ExtractorDefinition → Definition
   decl : Declaration → Definition
   attr : Attribute → Definition
   model : ModelDefinition → Definition

@@ -43,7 +43,7 @@ use Rattle.isle_ast.specs.declared.ast.Extern.TheVariants as externs
 use Rattle.isle_ast.specs.declared.ast.Converter.{Converter}
 use Rattle.isle_ast.specs.declared.ast.Def.{Def}
 use Rattle.isle_ast.specs.declared.ast.Def.TheVariants as variants
-use Rattle.isle_ast.specs.Tree.{Name, Declaration, Conversion, TypeModel, unspecified_model, auto_model, int_model, bool_model, unit_model, bit_vector_model, struct_model, named_model, ModelFieldRow, no_model_field, model_field, NamedField, IndexedField, FieldList, unit_fields, struct_fields, tuple_fields, EnumVariant, TypeContent, primitive_type, enum_type, struct_type, TypeDefinition, AttributeTarget, term_target, rule_target, AttributeKind, chain_kind, priority_kind, tag_kind, Attribute, TermSignature, FormDefinition, TermInstantiation, ModelContent, type_model, ModelDefinition, PatternNode, var_pattern, bind_pattern, bool_pattern, int_pattern, constant_pattern, term_pattern, wildcard_pattern, and_pattern, macro_arg_pattern, PatternRow, no_pattern, more_pattern, Expression, term_expression, var_expression, bool_expression, int_expression, constant_expression, let_expression, ExpressionRow, no_expression, more_expression, LetRow, no_let, more_let, Condition, RuleDefinition, ExtractorDefinition, ExternDefinition, extern_extractor, extern_constructor, extern_const, Definition, type_def, decl, attr, model, form, instantiation, external, converter}
+use Rattle.isle_ast.specs.Tree.{Name, Declaration, Conversion, TypeModel, unspecified_model, auto_model, int_model, bool_model, unit_model, bit_vector_model, struct_model, named_model, ModelFieldRow, no_model_field, model_field, NamedField, IndexedField, FieldList, unit_fields, struct_fields, tuple_fields, EnumVariant, TypeContent, primitive_type, enum_type, struct_type, TypeDefinition, AttributeTarget, term_target, rule_target, AttributeKind, chain_kind, priority_kind, tag_kind, Attribute, TermSignature, FormDefinition, TermInstantiation, ModelContent, type_model, ModelDefinition, PatternNode, var_pattern, bind_pattern, bool_pattern, int_pattern, constant_pattern, term_pattern, wildcard_pattern, and_pattern, macro_arg_pattern, PatternRow, no_pattern, more_pattern, Expression, term_expression, var_expression, bool_expression, int_expression, constant_expression, let_expression, ExpressionRow, no_expression, more_expression, LetRow, no_let, more_let, Condition, RuleDefinition, ExtractorDefinition, ExternDefinition, extern_extractor, extern_constructor, extern_const, Definition, type_def, rule, extractor, decl, attr, model, form, instantiation, external, converter}
 
 abbrev pub name_of : Ident → Name
 name_of i = record { text = string_bytes i.0; pos = i.1 }
@@ -277,6 +277,8 @@ extern_of (externs.Const name ty place) = extern_const (name_of name) (name_of t
 abbrev pub definition_of : Def → Definition
 definition_of (variants.Pragma p) = elim p [ ]
 definition_of (variants.TypeDef t) = type_def (type_definition_of t)
+definition_of (variants.Rule r) = rule (rule_of r)
+definition_of (variants.Extractor e) = extractor (extractor_of e)
 definition_of (variants.Decl d) = decl (declaration_of d)
 definition_of (variants.Attr a) = attr (attribute_of a)
 definition_of (variants.Model m) = model (model_definition_of m)

@@ -3,7 +3,7 @@
 use Rattle.std.specs.Prelude.{◌≡◌, ◌≢◌, ℕ, ◌+◌, ◌^◌, ◌<◌, List, [], ◌∷◌, Bool, true, ◌||◌, Option, None, Some, IfSome, codes}
 use Rattle.isle_ast.specs.Identifier.{is_identifier}
 use Rattle.isle_ast.specs.Numbers.{IsSigned}
-use Rattle.isle_ast.specs.Tree.{Name, Declaration, Conversion, TypeModel, unspecified_model, auto_model, int_model, bool_model, unit_model, bit_vector_model, struct_model, named_model, ModelFieldRow, no_model_field, model_field, NamedField, IndexedField, FieldList, unit_fields, struct_fields, tuple_fields, EnumVariant, TypeContent, primitive_type, enum_type, struct_type, TypeDefinition, AttributeTarget, term_target, rule_target, AttributeKind, chain_kind, priority_kind, tag_kind, Attribute, TermSignature, FormDefinition, TermInstantiation, ModelContent, type_model, ModelDefinition, PatternNode, var_pattern, bind_pattern, bool_pattern, int_pattern, constant_pattern, term_pattern, wildcard_pattern, and_pattern, macro_arg_pattern, PatternRow, no_pattern, more_pattern, Expression, term_expression, var_expression, bool_expression, int_expression, constant_expression, let_expression, ExpressionRow, no_expression, more_expression, LetRow, no_let, more_let, Condition, RuleDefinition, ExtractorDefinition, ExternDefinition, extern_extractor, extern_constructor, extern_const, Definition, type_def, decl, attr, model, form, instantiation, external, converter}
+use Rattle.isle_ast.specs.Tree.{Name, Declaration, Conversion, TypeModel, unspecified_model, auto_model, int_model, bool_model, unit_model, bit_vector_model, struct_model, named_model, ModelFieldRow, no_model_field, model_field, NamedField, IndexedField, FieldList, unit_fields, struct_fields, tuple_fields, EnumVariant, TypeContent, primitive_type, enum_type, struct_type, TypeDefinition, AttributeTarget, term_target, rule_target, AttributeKind, chain_kind, priority_kind, tag_kind, Attribute, TermSignature, FormDefinition, TermInstantiation, ModelContent, type_model, ModelDefinition, PatternNode, var_pattern, bind_pattern, bool_pattern, int_pattern, constant_pattern, term_pattern, wildcard_pattern, and_pattern, macro_arg_pattern, PatternRow, no_pattern, more_pattern, Expression, term_expression, var_expression, bool_expression, int_expression, constant_expression, let_expression, ExpressionRow, no_expression, more_expression, LetRow, no_let, more_let, Condition, RuleDefinition, ExtractorDefinition, ExternDefinition, extern_extractor, extern_constructor, extern_const, Definition, type_def, rule, extractor, decl, attr, model, form, instantiation, external, converter}
 use Rattle.isle_ast.specs.Words.{IsNonEmpty}
 
 -- a name is an identifier
@@ -212,6 +212,8 @@ IsWritableExtern (extern_const name ty _) = IsConstantName name × IsName ty
 
 abbrev pub IsWritable : Definition → Type 0
 IsWritable (type_def t) = IsWritableType t
+IsWritable (rule r) = IsWritableRule r
+IsWritable (extractor e) = IsWritableExtractor e
 IsWritable (decl d) = IsWritableDeclaration d
 IsWritable (attr a) = IsWritableAttribute a
 IsWritable (model m) = IsWritableModelDefinition m

@@ -3,7 +3,7 @@
 ghost use Rattle.std.specs.Prelude.{◌≡◌, ◌↔◌, IsTrue, Some};
 ghost use Rattle.std.specs.declared.cmp.Ordering.TheVariants.{Equal};
 ghost use Rattle.isle_ast.specs.NameOrder.{name_cmp};
-ghost use Rattle.isle_ast.specs.TreeView.{attribute_of, conversion_of, declaration_of, definition_of, extern_of, fields_of, form_of, indexed_field_of, instantiation_of, kind_of, model_content_of, model_definition_of, name_of, named_field_of, signature_of, single_model_field_of, struct_fields_of, target_of, tuple_fields_of, type_content_of, type_definition_of, type_model_of, variant_of};
+ghost use Rattle.isle_ast.specs.TreeView.{attribute_of, condition_of, conversion_of, declaration_of, definition_of, expression_of, extern_of, extractor_of, fields_of, form_of, indexed_field_of, instantiation_of, kind_of, model_content_of, model_definition_of, name_of, named_field_of, pattern_of, rule_of, signature_of, single_let_of, single_model_field_of, struct_fields_of, target_of, tuple_fields_of, type_content_of, type_definition_of, type_model_of, variant_of};
 
 mod clone;
 mod compare;
@@ -11,6 +11,7 @@ pub mod grammar;
 pub mod identifier;
 #[cfg(test)]
 mod tests;
+mod walks;
 
 use isle_base::lexer::Pos;
 use std::hash::Hash;
@@ -22,6 +23,10 @@ pub enum Def {
     Pragma(Pragma),
     /// A type definition, `(type ..)`.
     TypeDef(TypeDef),
+    /// A rewriting rule, `(rule ..)`.
+    Rule(Rule),
+    /// A pattern under a name, `(extractor ..)`.
+    Extractor(Extractor),
     /// A term declaration, `(decl ..)`.
     Decl(Decl),
     /// Attributes of a term or a rule, `(attr ..)`.
@@ -284,7 +289,7 @@ pub struct Form {
 }
 
 /// A rule: what the pattern matches is rewritten to the expression, where the conditions hold.
-#[derive(Debug, Drop)]
+#[derive(Debug, PartialEq, Eq, Drop)]
 pub struct Rule {
     /// The left side.
     pub pattern: Pattern,
@@ -301,7 +306,7 @@ pub struct Rule {
 }
 
 /// A condition of a rule, `(if-let ..)`. `(if ..)` is one whose pattern is a wildcard.
-#[derive(Debug, Drop)]
+#[derive(Debug, PartialEq, Eq, Drop)]
 pub struct IfLet {
     /// What the value of the expression has to match.
     pub pattern: Pattern,
@@ -312,7 +317,7 @@ pub struct IfLet {
 }
 
 /// An extractor that stands for a pattern: `(extractor (A x y) (B x _ y))`.
-#[derive(Debug, Drop)]
+#[derive(Debug, PartialEq, Eq, Drop)]
 pub struct Extractor {
     /// The term.
     pub term: Ident,
@@ -519,6 +524,12 @@ pub fn definitions_are_compared()
     ensures struct_field { (a b : StructField) → IsTrue (⟦<StructField as PartialEq>⟧.eq a b) ↔ (named_field_of a ≡ named_field_of b) }
     ensures tuple_fields { (a b : TupleFields) → IsTrue (⟦<TupleFields as PartialEq>⟧.eq a b) ↔ (tuple_fields_of a ≡ tuple_fields_of b) }
     ensures tuple_field { (a b : TupleField) → IsTrue (⟦<TupleField as PartialEq>⟧.eq a b) ↔ (indexed_field_of a ≡ indexed_field_of b) }
+    ensures rules { (a b : Rule) → IsTrue (⟦<Rule as PartialEq>⟧.eq a b) ↔ (rule_of a ≡ rule_of b) }
+    ensures if_lets { (a b : IfLet) → IsTrue (⟦<IfLet as PartialEq>⟧.eq a b) ↔ (condition_of a ≡ condition_of b) }
+    ensures extractors { (a b : Extractor) → IsTrue (⟦<Extractor as PartialEq>⟧.eq a b) ↔ (extractor_of a ≡ extractor_of b) }
+    ensures patterns { (a b : Pattern) → IsTrue (⟦<Pattern as PartialEq>⟧.eq a b) ↔ (pattern_of a ≡ pattern_of b) }
+    ensures exprs { (a b : Expr) → IsTrue (⟦<Expr as PartialEq>⟧.eq a b) ↔ (expression_of a ≡ expression_of b) }
+    ensures let_defs { (a b : LetDef) → IsTrue (⟦<LetDef as PartialEq>⟧.eq a b) ↔ (single_let_of a ≡ single_let_of b) }
     ensures decls { (a b : Decl) → IsTrue (⟦<Decl as PartialEq>⟧.eq a b) ↔ (declaration_of a ≡ declaration_of b) }
     ensures instantiations { (a b : Instantiation) → IsTrue (⟦<Instantiation as PartialEq>⟧.eq a b) ↔ (instantiation_of a ≡ instantiation_of b) }
     ensures attrs { (a b : Attr) → IsTrue (⟦<Attr as PartialEq>⟧.eq a b) ↔ (attribute_of a ≡ attribute_of b) }

@@ -4,6 +4,8 @@
 ghost use Rattle.std.specs.Prelude.{◌≡◌, IfOk};
 ghost use Rattle.isle_ast.specs.TreeView.{attribute_of, conversion_of, declaration_of, definition_of, extern_of, fields_of, form_of, indexed_field_of, instantiation_of, kind_of, model_content_of, model_definition_of, named_field_of, signature_of, single_model_field_of, single_model_fields_of, struct_fields_of, target_of, tuple_fields_of, type_content_of, type_definition_of, type_model_of, variant_of};
 
+mod rules;
+
 use crate::ast::{
     Attr, AttrKind, AttrTarget, Converter, Decl, Def, Extern, Fields, Form, Instantiation, Model,
     ModelField, ModelType, ModelValue, Signature, StructField, StructFields, TupleField,
@@ -18,6 +20,8 @@ impl Clone for Def {
         match self {
             Def::Pragma(pragma) => match *pragma {},
             Def::TypeDef(ty) => Ok(Def::TypeDef(ty.clone()?)),
+            Def::Rule(rule) => Ok(Def::Rule(rule.clone()?)),
+            Def::Extractor(extractor) => Ok(Def::Extractor(extractor.clone()?)),
             Def::Decl(decl) => Ok(Def::Decl(decl.clone()?)),
             Def::Attr(attr) => Ok(Def::Attr(attr.clone()?)),
             Def::Model(model) => Ok(Def::Model(model.clone()?)),

@@ -1,5 +1,5 @@
-//! The comparison of models of types. Two are equal exactly where they are the same model, their
-//! positions included.
+//! The comparison of models of types, and below it of patterns and of expressions. Two are equal exactly
+//! where they are the same, their positions included.
 //!
 //! The comparisons are written out, since a proof learns nothing of the derived ones where a type
 //! contains itself.
@@ -9,6 +9,9 @@ ghost use Rattle.std.specs.Cmp.{partial_equiv_from_equiv};
 ghost use Rattle.std.specs.Ordering.{on};
 ghost use Rattle.isle_ast.specs.SameModel.{model_fields_equiv, model_types_equiv, same_model, same_model_fields, same_single};
 ghost use Rattle.isle_ast.specs.TreeView.{model_row_of, single_model_field_of, single_model_fields_of, type_model_of};
+
+mod exprs;
+mod patterns;
 
 use crate::ast::{ModelField, ModelType};
 

@@ -3,6 +3,9 @@
 //! The grammar says which tokens spell which definition, as the ISLE reference describes them:
 //!
 //! - `(type I MOD.. VALUE)`, the modifiers `extern` and `nodebug` in any order and repeated;
+//! - `(rule I N P CONDITION.. X)`, where the name I and the priority N may each be absent, and a condition
+//!   is `(if-let P X)` or `(if X)`, which matches a wildcard;
+//! - `(extractor (I I..) P)`: the term with its parameters, and the pattern that it stands for;
 //! - `(decl I (I..) I)` with the flags `pure`, `multi`, `partial` and `rec` in this order behind `decl`;
 //! - `(attr I KIND..)` of a term, `(attr rule I KIND..)` of a rule;
 //! - `(model I (type MODEL))`, `(form I SIGNATURE..)`;
@@ -11,21 +14,34 @@
 //!   `(extern const $I I)`, where the name behind the `$` may be empty;
 //! - `(convert I I I)`: the inner type, the outer type, the term.
 //!
+//! A pattern P is a variable, `I @ P`, `true` or `false`, an integer, a constant, `(I P..)`, `_` or
+//! `(and P..)`. An expression X is `(I X..)`, a variable, `true` or `false`, an integer, a constant or
+//! `(let ((I I X)..) X)`, where each variable has a type and a value. A constant is a `$` and its name,
+//! which may be empty. An integer is one of 128 bits, and a priority one of 64, both with a sign. The
+//! argument of a macro is spelt by nothing.
+//!
 //! A name that would be read as a word of its definition wants what is read: a term of a declaration
 //! that is the word of a flag wants that flag, or a later one, to be set; a term of an attribute isn't
-//! named `rule`; an extracted term named `infallible` wants that flag.
+//! named `rule`; an extracted term named `infallible` wants that flag. A variable isn't `true` or `false` and
+//! doesn't begin with `$`, and in a pattern it isn't `_`; the term of a pattern isn't named `and`, and that
+//! of an expression isn't named `let`. A rule without a name and a priority has a term or an `and` for its
+//! pattern, a rule without a priority has no integer for it, and the expression of a rule is no term named
+//! `if`.
 
 ghost use Rattle.std.specs.Prelude.{◌≡◌, ◌↔◌, ℕ, List};
 ghost use Rattle.isle_base.specs.declared.lexer.Pos.{Pos};
 ghost use Rattle.isle_base.specs.Place.{Placed, nowhere};
 ghost use Rattle.isle_base.specs.Token.{Feed};
 ghost use Rattle.isle_ast.specs.Erased.{erase};
+ghost use Rattle.isle_ast.specs.ExpressionGrammar.{SpellsExpression};
 ghost use Rattle.isle_ast.specs.Grammar.{SpellsDefinition, SpellsDefinitions};
 ghost use Rattle.isle_ast.specs.ModelGrammar.{SpellsForm, SpellsInstantiation, SpellsModel, SpellsTypeModel};
 ghost use Rattle.isle_ast.specs.Parts.{AreParts, IsByParts};
+ghost use Rattle.isle_ast.specs.PatternGrammar.{SpellsPattern};
+ghost use Rattle.isle_ast.specs.RuleGrammar.{SpellsCondition, SpellsExtractor, SpellsRule};
 ghost use Rattle.isle_ast.specs.Spelt.{Spells};
 ghost use Rattle.isle_ast.specs.TermGrammar.{SpellsAttribute, SpellsConversion, SpellsDeclaration, SpellsExtern};
-ghost use Rattle.isle_ast.specs.Tree.{Attribute, Conversion, Declaration, Definition, ExternDefinition, FormDefinition, ModelDefinition, Name, TermInstantiation, TypeDefinition, TypeModel};
+ghost use Rattle.isle_ast.specs.Tree.{Attribute, Condition, Conversion, Declaration, Definition, Expression, ExternDefinition, ExtractorDefinition, FormDefinition, ModelDefinition, Name, PatternNode, RuleDefinition, TermInstantiation, TypeDefinition, TypeModel};
 ghost use Rattle.isle_ast.specs.TypeGrammar.{SpellsTypeDefinition};
 ghost use Rattle.isle_ast.specs.Words.{SpellsAll, SpellsName};
 
@@ -42,6 +58,11 @@ pub fn spellings_are_parts()
     ensures models { (m : ModelDefinition) → IsByParts (SpellsModel m) }
     ensures forms { (f : FormDefinition) → IsByParts (SpellsForm f) }
     ensures instantiations { (i : TermInstantiation) → IsByParts (SpellsInstantiation i) }
+    ensures patterns { (p : PatternNode) → IsByParts (SpellsPattern p) }
+    ensures expressions { (x : Expression) → IsByParts (SpellsExpression x) }
+    ensures conditions { (c : Condition) → IsByParts (SpellsCondition c) }
+    ensures rules { (r : RuleDefinition) → IsByParts (SpellsRule r) }
+    ensures extractors { (e : ExtractorDefinition) → IsByParts (SpellsExtractor e) }
     ensures externs { (e : ExternDefinition) → IsByParts (SpellsExtern e) }
     ensures conversions { (c : Conversion) → IsByParts (SpellsConversion c) }
     ensures definitions { (d : Definition) → IsByParts (SpellsDefinition d) }

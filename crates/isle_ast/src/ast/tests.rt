@@ -1,8 +1,8 @@
 use crate::ast::identifier::{begins_identifier, continues_identifier, is_identifier};
 use crate::ast::{
-    Attr, AttrKind, AttrTarget, Converter, Decl, Def, Extern, Fields, Form, Ident, Instantiation,
-    Model, ModelField, ModelType, ModelValue, Signature, StructField, StructFields, TupleField,
-    TupleFields, TypeDef, TypeValue, Variant,
+    Attr, AttrKind, AttrTarget, Converter, Decl, Def, Expr, Extern, Extractor, Fields, Form, Ident,
+    IfLet, Instantiation, LetDef, Model, ModelField, ModelType, ModelValue, Pattern, Rule,
+    Signature, StructField, StructFields, TupleField, TupleFields, TypeDef, TypeValue, Variant,
 };
 use isle_base::lexer::Pos;
 use std::alloc::{AllocError, Global};
@@ -156,5 +156,147 @@ fn copies_and_compares_each_kind(rt: HostRuntime) -> Result<(), AllocError> {
             assert_eq!(rt; one == other, i == j, "kinds {i} and {j}");
         }
     }
+    Ok(())
+}
+
+/// `(rule r -1 (T x @ _ true -2 $c (and)) (if-let x false) (let ((x T -3)) (f x $c)))`, and the argument
+/// of a macro as the last pattern of the term.
+fn rule(alloc: Global) -> Result<Rule, AllocError> {
+    let pos = Pos::new(0, 6);
+    let bound = Pattern::BindPattern {
+        var: ident(alloc, "x", 14)?,
+        subpat: Box::new(alloc, Pattern::Wildcard { pos })?,
+        pos,
+    };
+    let args = vec![in alloc;
+        bound,
+        Pattern::ConstBool { val: true, pos },
+        Pattern::ConstInt { val: -2, pos },
+        Pattern::ConstPrim {
+            val: ident(alloc, "c", 28)?,
+            pos
+        },
+        Pattern::And {
+            subpats: Vec::new(alloc),
+            pos
+        },
+        Pattern::MacroArg { index: 1, pos },
+    ]?;
+    let iflet = IfLet {
+        pattern: Pattern::Var {
+            var: ident(alloc, "x", 47)?,
+            pos,
+        },
+        expr: Expr::ConstBool { val: false, pos },
+        pos,
+    };
+    let defined = LetDef {
+        var: ident(alloc, "x", 63)?,
+        ty: ident(alloc, "T", 65)?,
+        val: Box::new(alloc, Expr::ConstInt { val: -3, pos })?,
+        pos,
+    };
+    let given = vec![in alloc;
+        Expr::Var {
+            name: ident(alloc, "x", 75)?,
+            pos
+        },
+        Expr::ConstPrim {
+            val: ident(alloc, "c", 78)?,
+            pos
+        },
+    ]?;
+    let body = Expr::Term {
+        sym: ident(alloc, "f", 73)?,
+        args: given,
+        pos,
+    };
+    Ok(Rule {
+        pattern: Pattern::Term {
+            sym: ident(alloc, "T", 12)?,
+            args,
+            pos,
+        },
+        iflets: vec![in alloc; iflet]?,
+        expr: Expr::Let {
+            defs: vec![in alloc; defined]?,
+            body: Box::new(alloc, body)?,
+            pos,
+        },
+        pos,
+        prio: Some(-1),
+        name: Some(ident(alloc, "r", 6)?),
+    })
+}
+
+/// `(extractor (A x) (B x))`
+fn extractor(alloc: Global) -> Result<Extractor, AllocError> {
+    let pos = Pos::new(0, 11);
+    let x = Pattern::Var {
+        var: ident(alloc, "x", 20)?,
+        pos,
+    };
+    Ok(Extractor {
+        term: ident(alloc, "A", 12)?,
+        args: vec![in alloc; ident(alloc, "x", 14)?]?,
+        template: Pattern::Term {
+            sym: ident(alloc, "B", 18)?,
+            args: vec![in alloc; x]?,
+            pos,
+        },
+        pos,
+    })
+}
+
+#[test]
+fn copies_and_compares_rules(rt: HostRuntime) -> Result<(), AllocError> {
+    let alloc = rt.alloc();
+    let full = rule(alloc)?;
+    let mut without = full.clone()?;
+    assert!(rt; without == full);
+    without.prio = None;
+    assert!(rt; without != full);
+    let definitions = vec![in alloc;
+        Def::Rule(full),
+        Def::Rule(without),
+        Def::Extractor(extractor(alloc)?),
+    ]?;
+    for (i, one) in definitions.iter().enumerate() {
+        assert!(rt; one.clone()? == *one, "kind {i}");
+        for (j, other) in definitions.iter().enumerate() {
+            assert_eq!(rt; one == other, i == j, "kinds {i} and {j}");
+        }
+    }
+    Ok(())
+}
+
+#[test]
+fn finds_macro_arguments(rt: HostRuntime) -> Result<(), AllocError> {
+    let alloc = rt.alloc();
+    let pos = Pos::new(0, 11);
+    let plain = extractor(alloc)?;
+    assert!(rt; !plain.has_macro_arg() && !plain.template.has_macro_arg());
+    let template = Pattern::Term {
+        sym: ident(alloc, "B", 18)?,
+        args: vec![in alloc; Pattern::MacroArg { index: 0, pos }]?,
+        pos,
+    };
+    assert!(rt; template.has_macro_arg());
+    let iflet = IfLet {
+        pattern: Pattern::And {
+            subpats: vec![in alloc; template]?,
+            pos,
+        },
+        expr: Expr::ConstBool { val: true, pos },
+        pos,
+    };
+    assert!(rt; iflet.has_macro_arg());
+    let mut full = rule(alloc)?;
+    assert!(rt; full.has_macro_arg());
+    full.pattern = Pattern::Wildcard { pos };
+    assert!(rt; !full.has_macro_arg());
+    full.iflets = vec![in alloc; iflet]?;
+    assert!(rt; full.has_macro_arg());
+    assert!(rt; Def::Rule(full).has_macro_arg() && !Def::Extractor(plain).has_macro_arg());
     Ok(())
 }

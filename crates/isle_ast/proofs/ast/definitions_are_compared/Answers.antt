@@ -1,7 +1,9 @@
 use Rattle.std.proofs.Common.{refl, ap}
 use Rattle.isle_ast.specs.SameModel.{model-Decides, single-Decides}
-use Rattle.isle_ast.specs.Tree.{primitive_type, enum_type, struct_type, struct_fields, tuple_fields, term_target, rule_target, tag_kind, type_model, extern_extractor, extern_constructor, extern_const, type_def, decl, attr, model, form, instantiation, external, converter}
-use Rattle.isle_ast.specs.TreeView.{named_field_of, indexed_field_of, variant_of, kind_of, type_model_of, single_model_field_of, signature_of}
+use Rattle.isle_ast.specs.SameExpression.{expression-Decides, single_let-Decides}
+use Rattle.isle_ast.specs.SamePattern.{pattern-Decides}
+use Rattle.isle_ast.specs.Tree.{primitive_type, enum_type, struct_type, struct_fields, tuple_fields, term_target, rule_target, tag_kind, type_model, extern_extractor, extern_constructor, extern_const, type_def, rule, extractor, decl, attr, model, form, instantiation, external, converter}
+use Rattle.isle_ast.specs.TreeView.{named_field_of, indexed_field_of, variant_of, kind_of, type_model_of, single_model_field_of, signature_of, pattern_of, expression_of, single_let_of, condition_of}
 use Rattle.isle_ast.specs.declared.ast.TypeValue.TheVariants as type_values
 use Rattle.isle_ast.specs.declared.ast.Fields.TheVariants as fields
 use Rattle.isle_ast.specs.declared.ast.AttrTarget.TheVariants as targets
@@ -9,7 +11,7 @@ use Rattle.isle_ast.specs.declared.ast.AttrKind.TheVariants as kinds
 use Rattle.isle_ast.specs.declared.ast.ModelValue.TheVariants as model_values
 use Rattle.isle_ast.specs.declared.ast.Extern.TheVariants as externs
 use Rattle.isle_ast.specs.declared.ast.Def.TheVariants as defs
-use Rattle.isle_ast.proofs.Equalities.{pos_eq-Decides, ident_eq-Decides, nat_eq-Decides, beq-Decides, and-Decides, Decides-map, rows-Decides, names-Decides, option-Decides}
+use Rattle.isle_ast.proofs.Equalities.{pos_eq-Decides, ident_eq-Decides, nat_eq-Decides, beq-Decides, and-Decides, Decides-map, rows-Decides, names-Decides, option-Decides, priority-Decides}
 use Rattle.isle_ast.proofs.ast.definitions_are_compared.Goals as goal
 
 pub returns-clause-struct_field : goal.returns-clause-struct_field
@@ -137,6 +139,40 @@ returns-clause-instantiations c a b =
     (and-Decides _ _ (rows-Decides _ signature_of (returns-clause-signatures c) a.signatures.items b.signatures.items)
     (and-Decides _ _ (names-Decides a.tags.items b.tags.items) (pos_eq-Decides a.pos b.pos)))))
 
+pub returns-clause-patterns : goal.returns-clause-patterns
+returns-clause-patterns c a b = pattern-Decides (pattern_of a) (pattern_of b)
+
+pub returns-clause-exprs : goal.returns-clause-exprs
+returns-clause-exprs c a b = expression-Decides (expression_of a) (expression_of b)
+
+pub returns-clause-let_defs : goal.returns-clause-let_defs
+returns-clause-let_defs c a b = single_let-Decides (single_let_of a) (single_let_of b)
+
+pub returns-clause-if_lets : goal.returns-clause-if_lets
+returns-clause-if_lets c a b =
+    Decides-map _ (λ h. λ i. record { pattern = h.0 i; expr = h.1.0 i; pos = h.1.1 i }) (λ e. ((λ i. (e i).pattern), ((λ i. (e i).expr), (λ i. (e i).pos))))
+    (and-Decides _ _ (returns-clause-patterns c a.pattern b.pattern)
+    (and-Decides _ _ (returns-clause-exprs c a.expr b.expr) (pos_eq-Decides a.pos b.pos)))
+
+pub returns-clause-rules : goal.returns-clause-rules
+returns-clause-rules c a b =
+    Decides-map _
+    (λ h. λ i. record { pattern = h.0 i; iflets = h.1.0 i; expr = h.1.1.0 i; pos = h.1.1.1.0 i; prio = h.1.1.1.1.0 i; name = h.1.1.1.1.1 i })
+    (λ e. ((λ i. (e i).pattern), ((λ i. (e i).iflets), ((λ i. (e i).expr), ((λ i. (e i).pos), ((λ i. (e i).prio), (λ i. (e i).name)))))))
+    (and-Decides _ _ (returns-clause-patterns c a.pattern b.pattern)
+    (and-Decides _ _ (rows-Decides _ condition_of (returns-clause-if_lets c) a.iflets.items b.iflets.items)
+    (and-Decides _ _ (returns-clause-exprs c a.expr b.expr)
+    (and-Decides _ _ (pos_eq-Decides a.pos b.pos)
+    (and-Decides _ _ (priority-Decides a.prio b.prio) (option-Decides a.name b.name))))))
+
+pub returns-clause-extractors : goal.returns-clause-extractors
+returns-clause-extractors c a b =
+    Decides-map _ (λ h. λ i. record { term = h.0 i; args = h.1.0 i; template = h.1.1.0 i; pos = h.1.1.1 i })
+    (λ e. ((λ i. (e i).term), ((λ i. (e i).args), ((λ i. (e i).template), (λ i. (e i).pos)))))
+    (and-Decides _ _ (ident_eq-Decides a.term b.term)
+    (and-Decides _ _ (names-Decides a.args.items b.args.items)
+    (and-Decides _ _ (returns-clause-patterns c a.template b.template) (pos_eq-Decides a.pos b.pos))))
+
 pub returns-clause-externs : goal.returns-clause-externs
 returns-clause-externs c (externs.Extractor a f p s) (externs.Extractor b g q t) =
     Decides-map _ (λ h. λ i. extern_extractor (h.0 i) (h.1.0 i) (h.1.1.0 i) (h.1.1.1 i)) (λ e. (cc, (cc, (cc, cc))))
@@ -161,6 +197,8 @@ pub returns-clause-defs : goal.returns-clause-defs
 returns-clause-defs c (defs.Pragma p) _ = elim p [ ]
 returns-clause-defs c _ (defs.Pragma p) = elim p [ ]
 returns-clause-defs c (defs.TypeDef a) (defs.TypeDef b) = Decides-map _ (λ e. ap type_def e) (λ e. cc) (returns-clause-type_defs c a b)
+returns-clause-defs c (defs.Rule a) (defs.Rule b) = Decides-map _ (λ e. ap rule e) (λ e. cc) (returns-clause-rules c a b)
+returns-clause-defs c (defs.Extractor a) (defs.Extractor b) = Decides-map _ (λ e. ap extractor e) (λ e. cc) (returns-clause-extractors c a b)
 returns-clause-defs c (defs.Decl a) (defs.Decl b) = Decides-map _ (λ e. ap decl e) (λ e. cc) (returns-clause-decls c a b)
 returns-clause-defs c (defs.Attr a) (defs.Attr b) = Decides-map _ (λ e. ap attr e) (λ e. cc) (returns-clause-attrs c a b)
 returns-clause-defs c (defs.Model a) (defs.Model b) = Decides-map _ (λ e. ap model e) (λ e. cc) (returns-clause-models c a b)

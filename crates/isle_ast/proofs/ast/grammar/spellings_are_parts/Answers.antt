@@ -1,4 +1,4 @@
-use Rattle.isle_ast.proofs.Parts.{names_by_parts, rows_by_parts, types_by_parts, declarations_by_parts, attributes_by_parts, type_models_by_parts, models_by_parts, forms_by_parts, instantiations_by_parts, externs_by_parts, conversions_by_parts, definition_by_parts, definitions_by_parts}
+use Rattle.isle_ast.proofs.Parts.{names_by_parts, rows_by_parts, types_by_parts, declarations_by_parts, attributes_by_parts, type_models_by_parts, models_by_parts, forms_by_parts, instantiations_by_parts, patterns_by_parts, expressions_by_parts, conditions_by_parts, rules_by_parts, extractors_by_parts, externs_by_parts, conversions_by_parts, definition_by_parts, definitions_by_parts}
 use Rattle.isle_ast.proofs.ast.grammar.spellings_are_parts.Goals as goal
 
 pub returns : goal.returns
@@ -12,6 +12,11 @@ returns c = record {
   models = models_by_parts;
   forms = forms_by_parts;
   instantiations = instantiations_by_parts;
+  patterns = patterns_by_parts;
+  expressions = expressions_by_parts;
+  conditions = conditions_by_parts;
+  rules = rules_by_parts;
+  extractors = extractors_by_parts;
   externs = externs_by_parts;
   conversions = conversions_by_parts;
   definitions = definition_by_parts;
