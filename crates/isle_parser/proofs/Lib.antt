@@ -15,6 +15,8 @@ pub mod ModelWords
 pub mod ReadsTypes
 pub mod Definitions
 pub mod Whole
+pub mod Stands
+pub mod RulePositions
 pub mod Positions
 pub mod ReadsNumbers
 pub mod ReadsPatterns

@@ -9,10 +9,11 @@ ghost use Rattle.isle_base.specs.TokenView.{token_of};
 ghost use Rattle.isle_parser.specs.Answers.{Gives, IsPlace, IsRefusal, IsRefusalAt, place, source, tokens};
 ghost use Rattle.isle_parser.specs.Parsed.{Parses, RefusesText};
 ghost use Rattle.isle_parser.specs.Positions.{HasKnownPositions, HasPositions};
-ghost use Rattle.isle_ast.specs.PatternGrammar.{is_constant};
 ghost use Rattle.isle_parser.specs.ReadNumbers.{signed};
 ghost use Rattle.isle_parser.specs.ReadPatterns.{is_const};
 ghost use Rattle.isle_parser.specs.Reading.{ends, expect, first, flag, is_ahead, is_at, is_lparen, is_rparen, is_word, pos_ahead, take, take_if, text, token_ahead};
+ghost use Rattle.isle_ast.specs.MacroArgs.{definitions_have_macro_arg};
+ghost use Rattle.isle_ast.specs.PatternGrammar.{is_constant};
 ghost use Rattle.isle_ast.specs.Spelt.{Spells};
 ghost use Rattle.isle_ast.specs.Tree.{Definition};
 ghost use Rattle.isle_ast.specs.TreeView.{definitions_of};
@@ -37,9 +38,11 @@ use std::alloc::{AllocError, AllocFailed, Global};
 /// Parse the top-level ISLE definitions and return their AST.
 ///
 /// It reads what the lexer has still to give, its lookahead first. The grammar is the one of the ISLE
-/// language reference, for the two definitions `decl` and `convert`. The list that it answers is the only
-/// one that the tokens spell. Each position in it is a byte offset in the lexer's text, with the number
-/// of the lexer's file: the first byte of a token, and never of the first one.
+/// language reference, for the definitions `type`, `rule`, `extractor`, `decl`, `attr`, `model`, `form`,
+/// `instantiate`, `extern` and `convert`. A pragma is refused, whatever its name. The list that it answers
+/// is the only one that the tokens spell. No pattern in it is or holds the argument of a macro. Each
+/// position in it is a byte offset in the lexer's text, with the number of the lexer's file: the first
+/// byte of a token, and never of the first one.
 ///
 /// It answers an error exactly where the tokens spell no list of definitions, or where the lexer refuses
 /// its text. The error is a parse error at one byte of the text, or at its end. Of a lexer that had
@@ -49,6 +52,7 @@ pub fn parse(alloc: Global, lexer: Lexer) -> Result<Vec<Def>, Fault>
     ensures only { IfOk result (λ defs. (ds : List Definition) → Spells (in_file lexer.entry.file) lexer.entry ds → ds ≡ definitions_of defs.items) }
     ensures positions { IfOk result (λ defs. HasPositions lexer.entry.file lexer.entry.coming (definitions_of defs.items)) }
     ensures known { IfOk result (λ defs. HasKnownPositions (definitions_of defs.items)) }
+    ensures whole { IfOk result (λ defs. definitions_have_macro_arg (definitions_of defs.items) ≡ false) }
     ensures refused { IfErr result (RefusesText (in_file lexer.entry.file) lexer.entry) }
     ensures failed { IsErrOf result Failed ↔ (is_failed lexer.entry ≡ true) }
 {
@@ -65,6 +69,7 @@ pub fn parse_without_pos(alloc: Global, lexer: Lexer) -> Result<Vec<Def>, Fault>
     ensures spelt { IfOk result (λ defs. Spells nowhere lexer.entry (definitions_of defs.items)) }
     ensures only { IfOk result (λ defs. (ds : List Definition) → Spells nowhere lexer.entry ds → ds ≡ definitions_of defs.items) }
     ensures erased { IfOk result (λ defs. (ds : List Definition) × Spells (in_file lexer.entry.file) lexer.entry ds × (definitions_of defs.items ≡ erase ds)) }
+    ensures whole { IfOk result (λ defs. definitions_have_macro_arg (definitions_of defs.items) ≡ false) }
     ensures refused { IfErr result (RefusesText nowhere lexer.entry) }
     ensures refused_by_parse { IfErr result (RefusesText (in_file lexer.entry.file) lexer.entry) }
     ensures failed { IsErrOf result Failed ↔ (is_failed lexer.entry ≡ true) }
