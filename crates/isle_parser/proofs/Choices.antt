@@ -1,16 +1,16 @@
 -- Steps of a reader, taken apart: a choice by the word ahead, a node made of what was read, parentheses and rows.
-use Rattle.std.proofs.Common.{◌≡◌, ◌⊎◌, inl, inr, ℕ, ◌≤◌, ◌<◌, Bool, true, false, cond, List, [], ◌∷◌, length, suc, Option, Some, None, refl, sym, ap, subst, ◌∙◌, arith}
+use Rattle.std.proofs.Common.{◌≡◌, ◌⊎◌, inl, inr, ℕ, ◌<◌, Bool, true, false, cond, List, [], ◌∷◌, length, suc, Option, Some, None, refl, sym, ap, ◌∙◌, arith}
 use Rattle.std.specs.Str.{bytes_eq}
 use Rattle.std.proofs.lemmas.Slice.Eq.{bytes_eq-Decides}
 use Rattle.isle_base.specs.declared.lexer.Pos.{Pos}
 use Rattle.isle_base.specs.Place.{Placed}
 use Rattle.isle_base.specs.Token.{Tok, lparen, rparen, symbol, integer, at_sign}
-use Rattle.isle_ast.specs.Words.{SpellsWord, SpellsAll, InParentheses, BehindWord, SpellsFlag, SpellsName, BeginsAt, IsNonEmpty}
+use Rattle.isle_ast.specs.Words.{SpellsWord, SpellsAll, InParentheses, SpellsName, BeginsAt, IsNonEmpty}
 use Rattle.isle_ast.specs.Tree.{Name}
 use Rattle.isle_parser.specs.Reading.{Reader, ◌>>=◌, is_ahead, is_word, is_lparen, is_rparen, closes, flag, text, pos_ahead, in_parentheses, many}
 use Rattle.isle_parser.proofs.Flags.{ReadsFlag, flag_sound, flag_complete}
 use Rattle.isle_parser.proofs.Names.{text_sound, text_complete}
-use Rattle.isle_parser.proofs.Readers.{Spelling, Sound, Complete, Begins, Goes, begins_node, bind_some, chosen, done_is, done, moved, many_sound, many_complete, stopping_closes, row_shorter, parentheses_sound, parentheses_complete, parentheses_begin}
+use Rattle.isle_parser.proofs.Readers.{Spelling, Sound, Complete, Begins, begins_node, bind_some, chosen, done_is, done, many_sound, many_complete, stopping_closes, parentheses_complete}
 
 -- the parts of a step that gave something
 pub bound : {A B : Type 0} {r : Option A} {f : A → Option B} {y : B} → (r >>= f) ≡ Some y → (x : A) × (r ≡ Some x) × (f x ≡ Some y)

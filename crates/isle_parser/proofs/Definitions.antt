@@ -1,8 +1,7 @@
 -- Definitions are read as the grammar spells them, and one list of tokens spells one list of them.
-use Rattle.std.proofs.Common.{◌≡◌, ℕ, ◌≤◌, ◌<◌, Bool, true, cond, List, [], ◌∷◌, length, suc, Option, Some, None, refl, sym, ap, subst, ◌∙◌, arith, inl, inr}
+use Rattle.std.proofs.Common.{◌≡◌, ℕ, ◌≤◌, ◌<◌, Bool, true, cond, List, [], ◌∷◌, length, suc, Option, Some, refl, sym, subst, ◌∙◌, arith, inl, inr}
 use Rattle.std.specs.Prelude.{codes}
 use Rattle.std.specs.Str.{bytes_eq}
-use Rattle.std.proofs.lemmas.Slice.Eq.{bytes_eq-Decides}
 use Rattle.isle_base.specs.Place.{Placed}
 use Rattle.isle_base.specs.Token.{symbol}
 use Rattle.isle_ast.specs.Grammar.{SpellsDefinition, SpellsDefinitions}
@@ -21,12 +20,12 @@ use Rattle.isle_parser.specs.ReadTerms.{attribute, extern_definition}
 use Rattle.isle_parser.specs.ReadTypes.{type_definition}
 use Rattle.isle_parser.proofs.Choices.{nothing, made_of, word_is, word_read, word_shorter, CompleteClosed, enclosed_complete}
 use Rattle.isle_parser.proofs.Flags.{Front, flag_sound, flag_complete, flag_shorter, front_sound, front_unset}
-use Rattle.isle_parser.proofs.Names.{SpellsNames, text_sound, text_complete, name_sound, name_complete, name_begins, names_sound, names_complete}
+use Rattle.isle_parser.proofs.Names.{SpellsNames, name_sound, name_complete, name_begins, names_sound, names_complete}
 use Rattle.isle_parser.proofs.ReadsForms.{form_definition_sound, form_definition_complete, form_definition_shorter, instantiation_sound, instantiation_complete, instantiation_shorter, model_definition_sound, model_definition_complete, model_definition_shorter}
 use Rattle.isle_parser.proofs.ReadsRules.{rule_sound, rule_complete, rule_shorter, extractor_sound, extractor_complete, extractor_shorter}
 use Rattle.isle_parser.proofs.ReadsTerms.{attribute_sound, attribute_complete, attribute_shorter, extern_sound, extern_complete, extern_shorter}
 use Rattle.isle_parser.proofs.ReadsTypes.{type_definition_sound, type_definition_complete, type_definition_shorter}
-use Rattle.isle_parser.proofs.Readers.{Spelling, Sound, Complete, Begins, Shrinks, Goes, begins_node, bind_some, chosen, done, done_is, shrinks, many_sound, many_complete, stopping_closes, stopping_ends, row_shorter, moved, parentheses_sound, parentheses_complete, parentheses_begin}
+use Rattle.isle_parser.proofs.Readers.{Spelling, Sound, Complete, Begins, Shrinks, Goes, begins_node, bind_some, chosen, done, done_is, shrinks, many_sound, many_complete, stopping_closes, stopping_ends, row_shorter, moved, parentheses_sound, parentheses_begin}
 
 -- ---- what does not go on
 

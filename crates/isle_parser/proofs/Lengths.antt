@@ -1,9 +1,9 @@
 -- What is read leaves fewer tokens, or no more.
-use Rattle.std.proofs.Common.{◌≡◌, ℕ, ◌≤◌, ◌<◌, ◌⊎◌, inl, inr, Bool, true, false, List, [], ◌∷◌, length, Some, None, refl, sym, arith}
+use Rattle.std.proofs.Common.{◌≡◌, ℕ, ◌≤◌, ◌<◌, inl, inr, Bool, true, false, List, [], ◌∷◌, length, Some, sym, arith}
 use Rattle.isle_base.specs.Place.{Placed}
 use Rattle.isle_base.specs.Token.{Tok}
-use Rattle.isle_parser.specs.Reading.{◌>>=◌, expect, flag, is_ahead, is_word, take}
-use Rattle.isle_parser.proofs.Readers.{bind_some, chosen, chosen_some, done_is}
+use Rattle.isle_parser.specs.Reading.{expect, flag, is_word}
+use Rattle.isle_parser.proofs.Readers.{chosen, chosen_some, done_is}
 
 pub expect_shorter : (passes : Tok → Bool) (all rest : List Placed) (t : Tok) → expect passes all ≡ Some (t, rest) → length rest < length all
 expect_shorter passes [] rest t e = absurd cc

@@ -1,5 +1,5 @@
 -- Models, as the code reads them: a model that is one word, and the fields of a struct.
-use Rattle.std.proofs.Common.{◌≡◌, ℕ, List, [], ◌∷◌, Option, Some, None, refl, sym, ap, rules}
+use Rattle.std.proofs.Common.{◌≡◌, List, [], ◌∷◌, Some, None, refl, sym, ap, rules}
 use Rattle.isle_base.specs.declared.lexer.Pos.{Pos}
 use Rattle.isle_base.specs.Place.{Placed}
 use Rattle.isle_base.specs.Token.{Tok, lparen, rparen, symbol, integer, at_sign}
@@ -13,8 +13,8 @@ use Rattle.isle_ast.specs.TreeView.{model_row_of, name_of, single_model_field_of
 use Rattle.isle_parser.specs.declared.parser.Stop.{Stop}
 use Rattle.isle_parser.specs.declared.parser.Stop.TheVariants as stops
 use Rattle.isle_parser.specs.Answers.{Source, Stops}
-use Rattle.isle_parser.specs.Reading.{◌>>=◌, closes, flag, in_parentheses, many, take, text}
-use Rattle.isle_parser.specs.ReadModels.{model_ahead, model_field_inside, model_fields, model_inside, model_of_word, model_step, model_type, model_word, struct_inside}
+use Rattle.isle_parser.specs.Reading.{closes, flag, in_parentheses, many, take, text}
+use Rattle.isle_parser.specs.ReadModels.{model_ahead, model_field_inside, model_fields, model_inside, model_step, model_type, model_word, struct_inside}
 use Rattle.isle_parser.proofs.Readers.{done_is}
 use Rattle.isle_parser.proofs.ReadsModels.{model_type-unfolds}
 

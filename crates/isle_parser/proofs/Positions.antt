@@ -1,5 +1,5 @@
 -- Each position in a tree that is spelt is that of a token behind the first.
-use Rattle.std.proofs.Common.{◌≡◌, ◌⊎◌, inl, inr, ℕ, List, [], ◌∷◌, Result, Ok, Err, refl, Bool, true, false, Option, None, Some, ap, arith, ◌+◌, ◌≤◌, ◌<◌}
+use Rattle.std.proofs.Common.{◌≡◌, inl, inr, ℕ, List, [], ◌∷◌, Result, Ok, Err, Option, None, Some, ap, arith, ◌+◌, ◌≤◌}
 use Rattle.std.specs.Global.{Vec}
 use Rattle.std.specs.Prelude.{codes, IfOk}
 use Rattle.std.specs.List.{AllByRecursion}
@@ -15,10 +15,10 @@ use Rattle.isle_ast.specs.Numbers.{SpellsNumber}
 use Rattle.isle_ast.specs.RuleGrammar.{SpellsRule, SpellsExtractor}
 use Rattle.isle_ast.specs.Spelt.{Spells}
 use Rattle.isle_ast.specs.Tree.{Name, TypeModel, unspecified_model, auto_model, int_model, bool_model, unit_model, bit_vector_model, struct_model, named_model, ModelFieldRow, no_model_field, model_field, unit_fields, struct_fields, tuple_fields, EnumVariant, primitive_type, enum_type, struct_type, term_target, rule_target, chain_kind, priority_kind, tag_kind, TermSignature, type_model, extern_extractor, extern_constructor, extern_const, Definition, type_def, rule, extractor, decl, attr, model, form, instantiation, external, converter}
-use Rattle.isle_ast.specs.TermGrammar.{SpellsDeclaration, SpellsConversion, SpellsAttributeKind, SpellsAttributeTarget, SpellsAttribute, SpellsConstant, SpellsExtern}
+use Rattle.isle_ast.specs.TermGrammar.{SpellsDeclaration, SpellsConversion, SpellsAttributeKind, SpellsAttributeTarget, SpellsAttribute, SpellsExtern}
 use Rattle.isle_ast.specs.TreeView.{definitions_of}
 use Rattle.isle_ast.specs.TypeGrammar.{SpellsNamedField, SpellsIndexedFields, SpellsFields, SpellsVariant, SpellsTypeContent, SpellsTypeDefinition}
-use Rattle.isle_ast.specs.Words.{SpellsToken, SpellsWord, SpellsFlag, BeginsAt, SpellsAll, InParentheses, BehindWord, SpellsName, SpellsOptional}
+use Rattle.isle_ast.specs.Words.{SpellsToken, SpellsWord, BeginsAt, SpellsAll, InParentheses, SpellsName, SpellsOptional}
 use Rattle.isle_parser.specs.Parsed.{Parses}
 use Rattle.isle_parser.specs.Positions.{OfName, OfNames, OfModel, OfModelFields, OfNamedField, OfIndexedField, OfFields, OfVariant, OfTypeContent, OfTarget, OfKind, OfSignature, OfOptionalName, OfModelContent, OfRule, OfExtractor, OfExtern, BeginsToken, EachPosition, HasKnownPositions, HasPositions, behind_first}
 use Rattle.isle_parser.proofs.Definitions.{SpellsKeyword, to_keyword}

@@ -4,8 +4,6 @@ use Rattle.isle_base.specs.Place.{Placed}
 use Rattle.isle_ast.specs.ExpressionGrammar.{SpellsExpression}
 use Rattle.isle_ast.specs.PatternGrammar.{SpellsPattern}
 use Rattle.isle_ast.specs.Tree.{PatternNode, Expression}
-use Rattle.isle_parser.specs.ReadExpressions.{expression}
-use Rattle.isle_parser.specs.ReadPatterns.{pattern}
 use Rattle.isle_parser.proofs.ReadsExpressions.{expression_complete}
 use Rattle.isle_parser.proofs.ReadsPatterns.{pattern_complete}
 use Rattle.isle_parser.proofs.Readers.{Goes, done_is}

@@ -1,5 +1,5 @@
 -- The right side of a rule is read as the grammar spells it: conditions, and the expression behind them.
-use Rattle.std.proofs.Common.{◌≡◌, ◌⊎◌, inl, inr, ℕ, zero, suc, ◌≤◌, ◌<◌, Bool, true, false, ◌&&◌, cond, List, [], ◌∷◌, length, Option, Some, None, refl, sym, ap, subst, ◌∙◌, arith, rules}
+use Rattle.std.proofs.Common.{◌≡◌, ◌⊎◌, inl, inr, ℕ, zero, suc, ◌≤◌, ◌<◌, Bool, true, false, ◌&&◌, List, [], ◌∷◌, length, Some, refl, sym, ap, subst, ◌∙◌, arith, rules}
 use Rattle.std.specs.Prelude.{codes}
 use Rattle.std.specs.Str.{bytes_eq, is_utf8}
 use Rattle.std.proofs.lemmas.Str.{chars-IsAscii}
@@ -8,7 +8,6 @@ use Rattle.isle_base.specs.declared.lexer.Pos.{Pos}
 use Rattle.isle_base.specs.Place.{Placed}
 use Rattle.isle_ast.specs.ExpressionGrammar.{SpellsExpression}
 use Rattle.isle_ast.specs.Identifier.{is_identifier}
-use Rattle.isle_ast.specs.PatternGrammar.{SpellsPattern}
 use Rattle.isle_ast.specs.RuleGrammar.{SpellsMatch, SpellsTest, SpellsCondition, is_if_expression}
 use Rattle.isle_ast.specs.Tree.{PatternNode, wildcard_pattern, Expression, term_expression, var_expression, bool_expression, int_expression, constant_expression, let_expression, Condition}
 use Rattle.isle_ast.specs.Words.{BeginsAt, SpellsAll, InParentheses, BehindWord}

@@ -1,18 +1,18 @@
 -- Forms, instantiations and models of types are read as the grammar spells them.
-use Rattle.std.proofs.Common.{◌≡◌, ◌⊎◌, inl, inr, ℕ, zero, suc, ◌≤◌, ◌<◌, Bool, true, false, cond, List, [], ◌∷◌, length, Option, Some, None, refl, sym, ap, subst, ◌∙◌, arith}
+use Rattle.std.proofs.Common.{◌≡◌, inl, inr, ℕ, ◌≤◌, ◌<◌, true, false, cond, List, [], ◌∷◌, length, Option, Some, None, refl, sym, subst, arith}
 use Rattle.std.specs.Prelude.{codes}
 use Rattle.std.specs.Str.{bytes_eq}
 use Rattle.isle_base.specs.declared.lexer.Pos.{Pos}
 use Rattle.isle_base.specs.Place.{Placed}
 use Rattle.isle_ast.specs.ModelGrammar.{SpellsTypeModel, SpellsSignature, SpellsForm, SpellsTag, SpellsInstances, SpellsInstantiation, SpellsModelContent, SpellsModel}
 use Rattle.isle_ast.specs.Tree.{Name, TypeModel, TermSignature, FormDefinition, TermInstantiation, ModelContent, type_model, ModelDefinition}
-use Rattle.isle_ast.specs.Words.{SpellsWord, BeginsAt, SpellsAll, InParentheses, BehindWord, SpellsName, IsNonEmpty}
-use Rattle.isle_parser.specs.Reading.{Reader, ◌>>=◌, is_ahead, is_lparen, closes, pos_ahead, text, in_parentheses, many}
+use Rattle.isle_ast.specs.Words.{BeginsAt, SpellsAll, InParentheses, BehindWord, SpellsName, IsNonEmpty}
+use Rattle.isle_parser.specs.Reading.{◌>>=◌, is_ahead, is_lparen, closes, pos_ahead, text, in_parentheses, many}
 use Rattle.isle_parser.specs.ReadNames.{name}
 use Rattle.isle_parser.specs.ReadModels.{model_type, tagged_inside, tagged_types, tagged_one_inside, tagged_type, signature_inside, signature, signatures, form_definition, tag_inside, tag, instantiation_of_term, model_content_inside, model_definition}
-use Rattle.isle_parser.proofs.Choices.{nothing, made_of, word_is, word_read, word_ahead, word_shorter, flag_read, choice, CompleteClosed, row_sound, row_complete, enclosed_complete, position_of, name_at, opened_at, opens, opens_not_closes, row_nonempty}
+use Rattle.isle_parser.proofs.Choices.{nothing, made_of, word_is, word_read, word_shorter, flag_read, choice, CompleteClosed, row_sound, row_complete, enclosed_complete, position_of, name_at, opened_at, opens, opens_not_closes, row_nonempty}
 use Rattle.isle_parser.proofs.Names.{name_sound, name_read, name_begins}
-use Rattle.isle_parser.proofs.Readers.{Spelling, Sound, Complete, Begins, Shrinks, bind_some, chosen, chosen_some, done, done_is, moved, shrinks, many_sound, row_shorter, parentheses_sound, parentheses_begin}
+use Rattle.isle_parser.proofs.Readers.{Sound, Complete, Begins, Shrinks, bind_some, chosen, done_is, moved, shrinks, many_sound, row_shorter, parentheses_sound, parentheses_begin}
 use Rattle.isle_parser.proofs.ReadsModels.{model_type_sound, model_type_complete, model_type_begins}
 
 model_complete : Complete SpellsTypeModel model_type

@@ -1,5 +1,5 @@
 -- Models, forms and instantiations are read as the grammar spells them.
-use Rattle.std.proofs.Common.{◌≡◌, ◌⊎◌, inl, inr, ℕ, zero, suc, ◌≤◌, ◌<◌, Bool, true, false, cond, List, [], ◌∷◌, length, Option, Some, None, refl, sym, ap, subst, ◌∙◌, arith}
+use Rattle.std.proofs.Common.{◌≡◌, inl, inr, ℕ, zero, suc, ◌≤◌, ◌<◌, true, false, cond, List, [], ◌∷◌, length, Option, Some, None, refl, sym, ap, subst, ◌∙◌, arith}
 use Rattle.std.specs.Prelude.{codes, pos, negsuc, ◌^◌, nat_lt}
 use Rattle.std.specs.Str.{bytes_eq}
 use Rattle.std.proofs.lemmas.Bool.{lt-ltb, ltb-true}
@@ -9,13 +9,13 @@ use Rattle.isle_base.specs.Token.{Tok, lparen, rparen, symbol, integer, at_sign}
 use Rattle.isle_ast.specs.ModelGrammar.{SpellsTypeModel, SpellsModelFields}
 use Rattle.isle_ast.specs.Numbers.{SpellsNumber}
 use Rattle.isle_ast.specs.Tree.{Name, TypeModel, unspecified_model, auto_model, int_model, bool_model, unit_model, bit_vector_model, struct_model, named_model, ModelFieldRow, no_model_field, model_field}
-use Rattle.isle_ast.specs.Words.{SpellsToken, SpellsWord, BeginsAt, SpellsAll, InParentheses, BehindWord, SpellsName, SpellsOptional, IsNonEmpty}
-use Rattle.isle_parser.specs.Reading.{Reader, ◌>>=◌, is_ahead, is_lparen, closes, pos_ahead, text, in_parentheses, many}
+use Rattle.isle_ast.specs.Words.{SpellsWord, SpellsAll, InParentheses, BehindWord, SpellsName, SpellsOptional}
+use Rattle.isle_parser.specs.Reading.{Reader, ◌>>=◌, is_ahead, is_lparen, closes, text, in_parentheses, many}
 use Rattle.isle_parser.specs.ReadNames.{name}
 use Rattle.isle_parser.specs.ReadModels.{number, width, model_fields, model_field_inside, named_inside, struct_inside, model_inside, model_of_word, model_word, model_step, model_within, model_type}
-use Rattle.isle_parser.proofs.Choices.{bound, either, nothing, both, made_of, word_is, word_read, word_ahead, flag_read, flag_absent, choice, CompleteClosed, row_sound, row_complete, enclosed_complete, word_shorter}
+use Rattle.isle_parser.proofs.Choices.{nothing, made_of, word_is, word_ahead, flag_read, flag_absent, choice, CompleteClosed, row_sound, word_shorter}
 use Rattle.isle_parser.proofs.Names.{name_sound, name_complete, name_begins}
-use Rattle.isle_parser.proofs.Readers.{Spelling, Sound, Complete, CompleteBelow, Begins, Shrinks, Goes, begins_node, bind_some, chosen, chosen_some, done, done_is, moved, shrinks, many_complete, begins_goes, stopping_closes, row_shorter, parentheses_sound, parentheses_complete, parentheses_begin}
+use Rattle.isle_parser.proofs.Readers.{Sound, Begins, Shrinks, Goes, begins_node, bind_some, chosen, chosen_some, done, done_is, moved, shrinks, many_complete, begins_goes, stopping_closes, parentheses_sound, parentheses_complete, parentheses_begin}
 
 -- ---- numbers
 

@@ -1,13 +1,13 @@
 -- Integers that are within a type are read as the grammar spells them.
-use Rattle.std.proofs.Common.{◌≡◌, ℕ, suc, ◌<◌, Bool, true, false, cond, List, [], ◌∷◌, length, Option, Some, None, refl, sym, ◌∙◌, arith}
-use Rattle.std.specs.Prelude.{ℤ, pos, negsuc, ◌^◌, nat_lt}
+use Rattle.std.proofs.Common.{◌≡◌, ℕ, ◌<◌, true, cond, List, [], ◌∷◌, length, Some, None, refl, sym, ◌∙◌, arith}
+use Rattle.std.specs.Prelude.{ℤ, pos, negsuc, ◌^◌}
 use Rattle.std.proofs.lemmas.Bool.{lt-ltb, ltb-true}
 use Rattle.isle_base.specs.declared.lexer.Pos.{Pos}
 use Rattle.isle_base.specs.Place.{Placed}
 use Rattle.isle_base.specs.Token.{Tok, lparen, rparen, symbol, integer, at_sign}
 use Rattle.isle_ast.specs.Numbers.{IsSigned}
 use Rattle.isle_ast.specs.Words.{SpellsToken}
-use Rattle.isle_parser.specs.Reading.{◌>>=◌, is_ahead}
+use Rattle.isle_parser.specs.Reading.{is_ahead}
 use Rattle.isle_parser.specs.ReadNumbers.{is_signed, signed}
 use Rattle.isle_parser.proofs.Readers.{begins_node, bind_some, chosen_some, done, done_is}
 

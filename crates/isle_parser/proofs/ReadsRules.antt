@@ -1,18 +1,15 @@
 -- Rules and extractors are read as the grammar spells them.
-use Rattle.std.proofs.Common.{◌≡◌, ◌⊎◌, inl, inr, ℕ, zero, suc, ◌≤◌, ◌<◌, Bool, true, false, not, cond, List, [], ◌∷◌, ◌++◌, length, Option, Some, None, refl, sym, ap, subst, ◌∙◌, arith}
-use Rattle.std.specs.Prelude.{ℤ, codes}
-use Rattle.std.specs.Str.{bytes_eq}
+use Rattle.std.proofs.Common.{◌≡◌, inl, inr, ◌≤◌, ◌<◌, true, false, not, List, length, Option, Some, None, refl, sym, ap, subst, ◌∙◌, arith}
+use Rattle.std.specs.Prelude.{ℤ}
 use Rattle.isle_base.specs.declared.lexer.Pos.{Pos}
 use Rattle.isle_base.specs.Place.{Placed}
 use Rattle.isle_base.specs.Token.{is_int, is_symbol}
-use Rattle.isle_ast.specs.ExpressionGrammar.{SpellsExpression}
 use Rattle.isle_ast.specs.Numbers.{SpellsPriority}
 use Rattle.isle_ast.specs.PatternGrammar.{SpellsPattern}
-use Rattle.isle_ast.specs.RuleGrammar.{SpellsMatch, SpellsTest, SpellsCondition, is_list_pattern, is_int_pattern, is_if_expression, pattern_is_no_head, SpellsRule, SpellsExtractor}
-use Rattle.isle_ast.specs.Tree.{Name, PatternNode, var_pattern, bind_pattern, bool_pattern, int_pattern, constant_pattern, term_pattern, wildcard_pattern, and_pattern, macro_arg_pattern, Expression, Condition, RuleDefinition, ExtractorDefinition}
-use Rattle.isle_ast.specs.Words.{BeginsAt, SpellsAll, InParentheses, SpellsName, SpellsOptional}
-use Rattle.isle_parser.specs.Reading.{Reader, ◌>>=◌, is_ahead, closes, pos_ahead, in_parentheses, many}
-use Rattle.isle_parser.specs.ReadExpressions.{expression}
+use Rattle.isle_ast.specs.RuleGrammar.{is_list_pattern, is_int_pattern, pattern_is_no_head, SpellsRule, SpellsExtractor}
+use Rattle.isle_ast.specs.Tree.{Name, PatternNode, var_pattern, bind_pattern, bool_pattern, int_pattern, constant_pattern, term_pattern, wildcard_pattern, and_pattern, macro_arg_pattern, RuleDefinition, ExtractorDefinition}
+use Rattle.isle_ast.specs.Words.{SpellsAll, InParentheses, SpellsName, SpellsOptional}
+use Rattle.isle_parser.specs.Reading.{◌>>=◌, is_ahead, closes, pos_ahead, in_parentheses, many}
 use Rattle.isle_parser.specs.ReadNames.{name}
 use Rattle.isle_parser.specs.ReadNumbers.{signed}
 use Rattle.isle_parser.specs.ReadPatterns.{pattern}

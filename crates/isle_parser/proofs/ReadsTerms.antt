@@ -1,5 +1,5 @@
 -- Attributes of terms and rules, and what is defined outside, are read as the grammar spells them.
-use Rattle.std.proofs.Common.{◌≡◌, ◌⊎◌, inl, inr, ℕ, zero, suc, ◌≤◌, ◌<◌, Bool, true, false, cond, List, [], ◌∷◌, length, Option, Some, None, refl, sym, ap, subst, ◌∙◌, arith}
+use Rattle.std.proofs.Common.{◌≡◌, inl, inr, ℕ, ◌≤◌, ◌<◌, Bool, true, false, cond, List, [], ◌∷◌, length, Option, Some, None, refl, sym, ap, subst, ◌∙◌, arith}
 use Rattle.std.specs.Prelude.{codes, ◌==◌}
 use Rattle.std.specs.Str.{bytes_eq}
 use Rattle.std.proofs.lemmas.Bool.Decides.{Decides-eqb}
@@ -7,14 +7,14 @@ use Rattle.isle_base.specs.declared.lexer.Pos.{Pos}
 use Rattle.isle_base.specs.Place.{Placed}
 use Rattle.isle_ast.specs.TermGrammar.{demands, SpellsAttributeKind, SpellsAttributeTarget, SpellsAttribute, SpellsConstant, SpellsPair, SpellsExtern}
 use Rattle.isle_ast.specs.Tree.{Name, AttributeTarget, term_target, rule_target, AttributeKind, chain_kind, priority_kind, tag_kind, Attribute, ExternDefinition, extern_extractor, extern_constructor, extern_const}
-use Rattle.isle_ast.specs.Words.{SpellsWord, BeginsAt, SpellsAll, InParentheses, BehindWord, SpellsName, SpellsFlag}
-use Rattle.isle_parser.specs.Reading.{Reader, ◌>>=◌, is_ahead, is_word, closes, flag, pos_ahead, text, in_parentheses, many}
+use Rattle.isle_ast.specs.Words.{SpellsWord, BeginsAt, SpellsAll, InParentheses, BehindWord, SpellsName}
+use Rattle.isle_parser.specs.Reading.{◌>>=◌, is_ahead, is_word, closes, flag, pos_ahead, text, many}
 use Rattle.isle_parser.specs.ReadNames.{name}
 use Rattle.isle_parser.specs.ReadTerms.{veri_kind, kind_inside, kind, attribute, behind_dollar, constant, extern_constant, extern_etor, extern_definition}
 use Rattle.isle_parser.proofs.Choices.{nothing, made_of, word_is, word_read, word_ahead, word_at, word_shorter, flag_read, flag_absent, choice, CompleteClosed, row_sound, row_complete, enclosed_complete, position_of, name_at}
 use Rattle.isle_parser.proofs.Flags.{ReadsFlag, flag_sound, flag_complete, flag_shorter, name_ahead, demand_met, demand_unset}
 use Rattle.isle_parser.proofs.Names.{name_sound, name_read, name_begins}
-use Rattle.isle_parser.proofs.Readers.{Spelling, Sound, Complete, Begins, Shrinks, bind_some, chosen, chosen_some, done, done_is, moved, shrinks, row_shorter, parentheses_sound, parentheses_begin}
+use Rattle.isle_parser.proofs.Readers.{Sound, Complete, Begins, Shrinks, bind_some, chosen, chosen_some, done, done_is, moved, shrinks, row_shorter, parentheses_sound, parentheses_begin}
 
 -- ---- kinds of attributes
 

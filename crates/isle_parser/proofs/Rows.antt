@@ -1,5 +1,5 @@
 -- Rows that are read with more than their elements: fields that are counted, and modifiers that set flags.
-use Rattle.std.proofs.Common.{◌≡◌, ℕ, suc, ◌+◌, Bool, true, false, not, ◌||◌, Some, List, [], ◌∷◌, ◌++◌, length, map, refl, sym, ap, ◌∙◌, arith}
+use Rattle.std.proofs.Common.{◌≡◌, ℕ, suc, ◌+◌, Bool, true, false, not, ◌||◌, Some, List, [], ◌∷◌, ◌++◌, length, map, refl, ap, ◌∙◌, arith}
 use Rattle.std.specs.List.{list_any}
 use Rattle.std.proofs.lemmas.List.{map_push}
 use Rattle.isle_ast.specs.declared.ast.TupleField.{TupleField}
@@ -9,7 +9,7 @@ use Rattle.isle_ast.specs.TypeGrammar.{is_extern_word, is_nodebug_word}
 use Rattle.isle_base.specs.Place.{Placed}
 use Rattle.isle_parser.specs.declared.parser.Stop.{Stop}
 use Rattle.isle_parser.specs.Answers.{Source, Stops}
-use Rattle.isle_parser.specs.Reading.{◌>>=◌, many}
+use Rattle.isle_parser.specs.Reading.{many}
 use Rattle.isle_parser.specs.ReadTypes.{indexed, modifier, modifier_flags, modifiers, no_symbol, numbered}
 use Rattle.isle_parser.proofs.Loops.{behind_front, loop_begin, loop_end, loop_push, loop_stops, made_end, made_stops}
 use Rattle.isle_parser.proofs.ReadsTypes.{modifier_shrinks}

@@ -1,5 +1,5 @@
 -- Reading of patterns: the left sides of rules.
-use Rattle.std.specs.Prelude.{ℕ, zero, suc, List, length, Bool, true, false, Some, None, if◌then◌else◌, codes}
+use Rattle.std.specs.Prelude.{ℕ, zero, suc, length, Bool, true, false, Some, None, if◌then◌else◌, codes}
 use Rattle.isle_base.specs.declared.lexer.Pos.{Pos}
 use Rattle.isle_base.specs.Token.{Tok, lparen, rparen, symbol, integer, at_sign, is_int, is_symbol}
 use Rattle.isle_ast.specs.PatternGrammar.{is_constant}

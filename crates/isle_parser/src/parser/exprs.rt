@@ -58,11 +58,7 @@ impl<'src> Parser<'src> {
     // `let` or a term, and what stands behind it. The `(` stood at this position.
     #[cycle(expression)]
     #[tactic(auto, unfolding(crate::specs::ReadExpressions::expression_inside))]
-    pub(super) fn parse_expr_inner_parens(
-        &mut self,
-        alloc: Global,
-        pos: Pos,
-    ) -> Result<Expr, Stop>
+    pub(super) fn parse_expr_inner_parens(&mut self, alloc: Global, pos: Pos) -> Result<Expr, Stop>
         ensures same { source self.new ≡ source self.old }
         ensures gives { Gives expression_of (expression_inside pos expression (tokens self.old)) result self.new }
     {

@@ -1,4 +1,4 @@
-use Rattle.std.proofs.Common.{◌≡◌, ℕ, ◌+◌, ◌*◌, ◌≤◌, length}
+use Rattle.std.proofs.Common.{◌≡◌, ◌+◌, ◌*◌, ◌≤◌, length}
 use Rattle.isle_ast.specs.TreeView.{expressions_of, single_lets_of}
 use Rattle.isle_parser.specs.Answers.{source, tokens}
 use Rattle.isle_parser.specs.ReadExpressions.{expression, let_definition}

@@ -2,7 +2,7 @@ use Rattle.std.proofs.Common.{◌≡◌, [], ◌∷◌, ◌++◌, map, sym, ◌�
 use Rattle.std.specs.Prelude.{codes}
 use Rattle.std.proofs.lemmas.Result.{err_from_is_err_and}
 use Rattle.std.proofs.lemmas.List.{map_push}
-use Rattle.isle_ast.specs.TreeView.{name_of, type_model_of}
+use Rattle.isle_ast.specs.TreeView.{name_of}
 use Rattle.isle_base.specs.TokenView.{token_of}
 use Rattle.isle_parser.specs.Answers.{source, tokens}
 use Rattle.isle_parser.specs.ReadModels.{model_field_inside, model_type}

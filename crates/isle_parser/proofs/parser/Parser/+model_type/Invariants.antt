@@ -1,4 +1,4 @@
-use Rattle.std.proofs.Common.{◌≡◌, ℕ, ◌+◌, ◌*◌, ◌≤◌, length, map}
+use Rattle.std.proofs.Common.{◌≡◌, ◌+◌, ◌*◌, ◌≤◌, length, map}
 use Rattle.isle_ast.specs.TreeView.{name_of, type_model_of}
 use Rattle.isle_parser.specs.Answers.{source, tokens}
 use Rattle.isle_parser.specs.ReadModels.{model_field_inside, model_type}

@@ -1,4 +1,4 @@
-use Rattle.std.proofs.Common.{◌≡◌, sym}
+use Rattle.std.proofs.Common.{sym}
 use Rattle.std.proofs.lemmas.Result.{err_from_is_err_and}
 use Rattle.isle_ast.specs.TreeView.{type_model_of}
 use Rattle.isle_base.specs.TokenView.{token_of}

@@ -2,7 +2,7 @@ use Rattle.std.proofs.Common.{◌≡◌, length, map}
 use Rattle.isle_ast.specs.TreeView.{named_field_of}
 use Rattle.isle_parser.specs.Answers.{source, tokens}
 use Rattle.isle_parser.specs.ReadTypes.{named_field}
-use Rattle.isle_parser.specs.Reading.{closes, many, pos_ahead}
+use Rattle.isle_parser.specs.Reading.{closes, many}
 use Rattle.isle_parser.proofs.Loops.{behind_front}
 use Rattle.isle_parser.proofs.parser.Parser.parse_struct_fields.Given as goal
 
