@@ -6,20 +6,23 @@ use Rattle.isle_base.specs.Place.{Placed}
 use Rattle.isle_base.specs.Token.{symbol}
 use Rattle.isle_ast.specs.Grammar.{SpellsDefinition, SpellsDefinitions}
 use Rattle.isle_ast.specs.ModelGrammar.{SpellsForm, SpellsInstantiation, SpellsModel}
+use Rattle.isle_ast.specs.RuleGrammar.{SpellsRule, SpellsExtractor}
 use Rattle.isle_ast.specs.TermGrammar.{SpellsDeclaration, SpellsAttribute, SpellsExtern, SpellsConversion}
 use Rattle.isle_ast.specs.TypeGrammar.{SpellsTypeDefinition}
 use Rattle.isle_ast.specs.Words.{BeginsAt, SpellsName, SpellsAll, InParentheses, BehindWord}
-use Rattle.isle_ast.specs.Tree.{Name, Declaration, Conversion, Definition, type_def, decl, attr, model, form, instantiation, external, converter}
+use Rattle.isle_ast.specs.Tree.{Name, Declaration, Conversion, Definition, type_def, rule, extractor, decl, attr, model, form, instantiation, external, converter}
 use Rattle.isle_parser.specs.Reading.{Reader, ◌>>=◌, is_ahead, ends, pos_ahead, text, flag}
 use Rattle.isle_parser.specs.ReadNames.{name, names}
 use Rattle.isle_parser.specs.ReadDefinitions.{declaration, conversion, behind, keyword_form, definition, definitions}
 use Rattle.isle_parser.specs.ReadModels.{form_definition, instantiation_of_term, model_definition}
+use Rattle.isle_parser.specs.ReadRules.{rule_definition, extractor_definition}
 use Rattle.isle_parser.specs.ReadTerms.{attribute, extern_definition}
 use Rattle.isle_parser.specs.ReadTypes.{type_definition}
 use Rattle.isle_parser.proofs.Choices.{nothing, made_of, word_is, word_read, word_shorter, CompleteClosed, enclosed_complete}
 use Rattle.isle_parser.proofs.Flags.{Front, flag_sound, flag_complete, flag_shorter, front_sound, front_unset}
 use Rattle.isle_parser.proofs.Names.{SpellsNames, name_sound, name_complete, name_begins, names_sound, names_complete}
 use Rattle.isle_parser.proofs.ReadsForms.{form_definition_sound, form_definition_complete, form_definition_shorter, instantiation_sound, instantiation_complete, instantiation_shorter, model_definition_sound, model_definition_complete, model_definition_shorter}
+use Rattle.isle_parser.proofs.ReadsRules.{rule_sound, rule_complete, rule_shorter, extractor_sound, extractor_complete, extractor_shorter}
 use Rattle.isle_parser.proofs.ReadsTerms.{attribute_sound, attribute_complete, attribute_shorter, extern_sound, extern_complete, extern_shorter}
 use Rattle.isle_parser.proofs.ReadsTypes.{type_definition_sound, type_definition_complete, type_definition_shorter}
 use Rattle.isle_parser.proofs.Readers.{Spelling, Sound, Complete, Begins, Shrinks, Goes, begins_node, bind_some, chosen, done, done_is, shrinks, many_sound, many_complete, stopping_closes, stopping_ends, row_shorter, moved, parentheses_sound, parentheses_begin}
@@ -187,6 +190,8 @@ declaration_shorter d all rest h =
 -- a keyword and what stands behind it, as a definition spells them
 abbrev pub SpellsKeyword : Definition → List Placed → List Placed → Type 0
 SpellsKeyword (type_def x) = BehindWord (codes "type") (SpellsTypeDefinition x)
+SpellsKeyword (rule x) = BehindWord (codes "rule") (SpellsRule x)
+SpellsKeyword (extractor x) = BehindWord (codes "extractor") (SpellsExtractor x)
 SpellsKeyword (decl x) = BehindWord (codes "decl") (SpellsDeclaration x)
 SpellsKeyword (attr x) = BehindWord (codes "attr") (SpellsAttribute x)
 SpellsKeyword (model x) = BehindWord (codes "model") (SpellsModel x)
@@ -215,13 +220,17 @@ keyword_form_sound all rest x e =
     (keyword_chosen (codes "model") SpellsModel model_definition model _ model_definition_sound w.1 (λ y h. h)
     (keyword_chosen (codes "form") SpellsForm form_definition form _ form_definition_sound w.1 (λ y h. h)
     (keyword_chosen (codes "instantiate") SpellsInstantiation instantiation_of_term instantiation _ instantiation_sound w.1 (λ y h. h)
+    (keyword_chosen (codes "rule") SpellsRule rule_definition rule _ rule_sound w.1 (λ y h. h)
+    (keyword_chosen (codes "extractor") SpellsExtractor extractor_definition extractor _ extractor_sound w.1 (λ y h. h)
     (keyword_chosen (codes "extern") SpellsExtern extern_definition external _ extern_sound w.1 (λ y h. h)
     (keyword_chosen (codes "convert") SpellsConversion conversion converter _ conversion_sound w.1 (λ y h. h)
-    (λ h. absurd (nothing h))))))))) w.2
+    (λ h. absurd (nothing h))))))))))) w.2
 
 keyword_form_complete : CompleteClosed SpellsKeyword keyword_form
 unfolding keyword_form behind
 keyword_form_complete (type_def x) all rest closed h = rw (word_read h.1, type_definition_complete x h.0 rest h.2) refl
+keyword_form_complete (rule x) all rest closed h = rw (word_read h.1, rule_complete x h.0 rest h.2) refl
+keyword_form_complete (extractor x) all rest closed h = rw (word_read h.1, extractor_complete x h.0 rest closed h.2) refl
 keyword_form_complete (decl x) all rest closed h = rw (word_read h.1, declaration_complete x h.0 rest (stopping_closes.goes rest closed) h.2) refl
 keyword_form_complete (attr x) all rest closed h = rw (word_read h.1, attribute_complete x h.0 rest closed h.2) refl
 keyword_form_complete (model x) all rest closed h = rw (word_read h.1, model_definition_complete x h.0 rest closed h.2) refl
@@ -232,6 +241,8 @@ keyword_form_complete (converter x) all rest closed h = rw (word_read h.1, conve
 
 keyword_form_shorter : (x : Definition) (all rest : List Placed) → SpellsKeyword x all rest → length rest ≤ length all
 keyword_form_shorter (type_def x) all rest h = omega (arith, word_shorter (codes "type") all h.0 h.1, type_definition_shorter x h.0 rest h.2)
+keyword_form_shorter (rule x) all rest h = omega (arith, word_shorter (codes "rule") all h.0 h.1, rule_shorter x h.0 rest h.2)
+keyword_form_shorter (extractor x) all rest h = omega (arith, word_shorter (codes "extractor") all h.0 h.1, extractor_shorter x h.0 rest h.2)
 keyword_form_shorter (decl x) all rest h = omega (arith, word_shorter (codes "decl") all h.0 h.1, declaration_shorter x h.0 rest h.2)
 keyword_form_shorter (attr x) all rest h = omega (arith, word_shorter (codes "attr") all h.0 h.1, attribute_shorter x h.0 rest h.2)
 keyword_form_shorter (model x) all rest h = omega (arith, word_shorter (codes "model") all h.0 h.1, model_definition_shorter x h.0 rest h.2)
@@ -242,6 +253,8 @@ keyword_form_shorter (converter x) all rest h = omega (arith, word_shorter (code
 
 pub to_keyword : (x : Definition) (all rest : List Placed) → SpellsDefinition x all rest → InParentheses (SpellsKeyword x) all rest
 to_keyword (type_def x) all rest h = h
+to_keyword (rule x) all rest h = h
+to_keyword (extractor x) all rest h = h
 to_keyword (decl x) all rest h = h
 to_keyword (attr x) all rest h = h
 to_keyword (model x) all rest h = h
@@ -252,6 +265,8 @@ to_keyword (converter x) all rest h = h
 
 from_keyword : (x : Definition) (all rest : List Placed) → InParentheses (SpellsKeyword x) all rest → SpellsDefinition x all rest
 from_keyword (type_def x) all rest h = h
+from_keyword (rule x) all rest h = h
+from_keyword (extractor x) all rest h = h
 from_keyword (decl x) all rest h = h
 from_keyword (attr x) all rest h = h
 from_keyword (model x) all rest h = h

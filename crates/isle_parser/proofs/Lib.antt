@@ -15,4 +15,15 @@ pub mod ModelWords
 pub mod ReadsTypes
 pub mod Definitions
 pub mod Whole
+pub mod Stands
+pub mod RulePositions
 pub mod Positions
+pub mod ReadsNumbers
+pub mod ReadsPatterns
+pub mod ReadsExpressions
+pub mod ReadsConditions
+pub mod ReadsRules
+pub mod RightSides
+pub mod ReadOnce
+pub mod PatternParts
+pub mod ExpressionParts

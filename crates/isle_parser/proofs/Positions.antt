@@ -1,5 +1,5 @@
 -- Each position in a tree that is spelt is that of a token behind the first.
-use Rattle.std.proofs.Common.{◌≡◌, ◌⊎◌, inl, inr, ℕ, List, [], ◌∷◌, Result, Ok, Err, refl, Bool, true, false, Option, None, Some, ap, arith, ◌+◌, ◌≤◌}
+use Rattle.std.proofs.Common.{◌≡◌, inl, inr, ℕ, List, [], ◌∷◌, Result, Ok, Err, Option, None, Some, ap, arith, ◌+◌, ◌≤◌}
 use Rattle.std.specs.Global.{Vec}
 use Rattle.std.specs.Prelude.{codes, IfOk}
 use Rattle.std.specs.List.{AllByRecursion}
@@ -12,62 +12,18 @@ use Rattle.isle_ast.specs.declared.ast.Def.{Def}
 use Rattle.isle_ast.specs.Grammar.{SpellsDefinition}
 use Rattle.isle_ast.specs.ModelGrammar.{SpellsTypeModel, SpellsModelFields, SpellsSignature, SpellsForm, SpellsTag, SpellsInstances, SpellsInstantiation, SpellsModelContent, SpellsModel}
 use Rattle.isle_ast.specs.Numbers.{SpellsNumber}
+use Rattle.isle_ast.specs.RuleGrammar.{SpellsRule, SpellsExtractor}
 use Rattle.isle_ast.specs.Spelt.{Spells}
-use Rattle.isle_ast.specs.Tree.{Name, TypeModel, unspecified_model, auto_model, int_model, bool_model, unit_model, bit_vector_model, struct_model, named_model, ModelFieldRow, no_model_field, model_field, unit_fields, struct_fields, tuple_fields, EnumVariant, primitive_type, enum_type, struct_type, term_target, rule_target, chain_kind, priority_kind, tag_kind, TermSignature, type_model, extern_extractor, extern_constructor, extern_const, Definition, type_def, decl, attr, model, form, instantiation, external, converter}
-use Rattle.isle_ast.specs.TermGrammar.{SpellsDeclaration, SpellsConversion, SpellsAttributeKind, SpellsAttributeTarget, SpellsAttribute, SpellsConstant, SpellsExtern}
+use Rattle.isle_ast.specs.Tree.{Name, TypeModel, unspecified_model, auto_model, int_model, bool_model, unit_model, bit_vector_model, struct_model, named_model, ModelFieldRow, no_model_field, model_field, unit_fields, struct_fields, tuple_fields, EnumVariant, primitive_type, enum_type, struct_type, term_target, rule_target, chain_kind, priority_kind, tag_kind, TermSignature, type_model, extern_extractor, extern_constructor, extern_const, Definition, type_def, rule, extractor, decl, attr, model, form, instantiation, external, converter}
+use Rattle.isle_ast.specs.TermGrammar.{SpellsDeclaration, SpellsConversion, SpellsAttributeKind, SpellsAttributeTarget, SpellsAttribute, SpellsExtern}
 use Rattle.isle_ast.specs.TreeView.{definitions_of}
 use Rattle.isle_ast.specs.TypeGrammar.{SpellsNamedField, SpellsIndexedFields, SpellsFields, SpellsVariant, SpellsTypeContent, SpellsTypeDefinition}
-use Rattle.isle_ast.specs.Words.{SpellsToken, SpellsWord, SpellsFlag, BeginsAt, SpellsAll, InParentheses, BehindWord, SpellsName, SpellsOptional}
+use Rattle.isle_ast.specs.Words.{SpellsToken, SpellsWord, BeginsAt, SpellsAll, InParentheses, SpellsName, SpellsOptional}
 use Rattle.isle_parser.specs.Parsed.{Parses}
-use Rattle.isle_parser.specs.Positions.{OfName, OfNames, OfModel, OfModelFields, OfNamedField, OfIndexedField, OfFields, OfVariant, OfTypeContent, OfTarget, OfKind, OfSignature, OfForm, OfModelContent, OfExtern, BeginsToken, EachPosition, HasKnownPositions, HasPositions, behind_first}
+use Rattle.isle_parser.specs.Positions.{OfName, OfNames, OfModel, OfModelFields, OfNamedField, OfIndexedField, OfFields, OfVariant, OfTypeContent, OfTarget, OfKind, OfSignature, OfOptionalName, OfModelContent, OfRule, OfExtractor, OfExtern, BeginsToken, EachPosition, HasKnownPositions, HasPositions, behind_first}
 use Rattle.isle_parser.proofs.Definitions.{SpellsKeyword, to_keyword}
-use Rattle.isle_parser.proofs.Readers.{Spelling}
-
-abbrev pub Among : List Placed → Pos → Type 0
-Among [] pos = ⊥
-Among (x ∷ xs) pos = (pos ≡ x.pos) ⊎ Among xs pos
-
--- all of the positions of these tokens are such
-abbrev pub Into : List Placed → (Pos → Type 0) → Type 0
-Into all P = (pos : Pos) → Among all pos → P pos
-
--- Where the positions of all tokens are such, those of a node are, and so are those of the tokens behind it.
-abbrev pub Stands : {A : Type 0} → Spelling A → ((Pos → Type 0) → A → Type 0) → Type 1
-Stands {A} R Each = (x : A) (all rest : List Placed) → R x all rest → (P : Pos → Type 0) → Into all P → Each P x × Into rest P
-
-token_stands : {token : Tok} {all rest : List Placed} → SpellsToken token all rest → (P : Pos → Type 0) → Into all P → Into rest P
-token_stands h P into pos a = into pos (rw h.1 (inr a))
-
-begins_stands : {pos : Pos} {all : List Placed} → BeginsAt pos all → (P : Pos → Type 0) → Into all P → P pos
-begins_stands {pos = pos} h P into = into pos (rw h.2 (inl refl))
-
-same_stands : {all rest : List Placed} → all ≡ rest → (P : Pos → Type 0) → Into all P → Into rest P
-same_stands h P into pos a = into pos (rw h a)
-
-flag_stands : (word : List ℕ) (b : Bool) (all rest : List Placed) → SpellsFlag word b all rest → (P : Pos → Type 0) → Into all P → Into rest P
-flag_stands word true all rest h P into = token_stands h P into
-flag_stands word false all rest h P into = same_stands h P into
-
-name_stands : Stands SpellsName OfName
-name_stands n all rest h P into = (into n.pos (rw h.1 (inl refl)), λ pos a. into pos (rw h.1 (inr a)))
-
-row_stands : {A : Type 0} (R : Spelling A) (Each : (Pos → Type 0) → A → Type 0) → Stands R Each → Stands (SpellsAll R) (λ P xs. AllByRecursion (Each P) xs)
-row_stands R Each stands [] all rest h P into = (tt, same_stands h P into)
-row_stands R Each stands (x ∷ xs) all rest h P into =
-    let one = stands x all h.0 h.1 P into in
-    let others = row_stands R Each stands xs h.0 rest h.2 P one.1 in
-    ((one.0, others.0), others.1)
-
-enclosed_stands : {A : Type 0} (R : Spelling A) (Each : (Pos → Type 0) → A → Type 0) → Stands R Each → Stands (λ x. InParentheses (R x)) Each
-enclosed_stands R Each stands x all rest h P into =
-    let inner = stands x h.0 h.1 h.3 P (token_stands h.2 P into) in
-    (inner.0, token_stands h.4 P inner.1)
-
-behind_stands : {A : Type 0} (word : List ℕ) (R : Spelling A) (Each : (Pos → Type 0) → A → Type 0) → Stands R Each → Stands (λ x. BehindWord word (R x)) Each
-behind_stands word R Each stands x all rest h P into = stands x h.0 rest h.2 P (token_stands h.1 P into)
-
-tagged_stands : {A : Type 0} (word : List ℕ) (R : Spelling A) (Each : (Pos → Type 0) → A → Type 0) → Stands R Each → Stands (λ x. InParentheses (BehindWord word (R x))) Each
-tagged_stands word R Each stands = enclosed_stands (λ x. BehindWord word (R x)) Each (behind_stands word R Each stands)
+use Rattle.isle_parser.proofs.RulePositions.{rule_stands, extractor_stands}
+use Rattle.isle_parser.proofs.Stands.{Among, Into, Stands, token_stands, begins_stands, same_stands, flag_stands, name_stands, constant_stands, row_stands, enclosed_stands, behind_stands, tagged_stands}
 
 -- two names
 abbrev Pair : (first second : Name) → List Placed → List Placed → Type 0
@@ -178,9 +134,6 @@ attribute_stands a all rest h P into =
     let ks = row_stands SpellsAttributeKind OfKind kind_stands a.kinds h.behind_target rest h.kinds P t.1 in
     ((begins_stands h.position P into, t.0, ks.0), ks.1)
 
-constant_stands : Stands SpellsConstant OfName
-constant_stands n all rest h P into = (into n.pos (rw h.1 (inl refl)), λ pos a. into pos (rw h.1 (inr a)))
-
 extern_stands : Stands SpellsExtern OfExtern
 extern_stands (extern_extractor term func pos b) all rest h P into =
     let w = h.2 in
@@ -251,7 +204,7 @@ form_stands f all rest h P into =
 tag_stands : Stands SpellsTag OfName
 tag_stands n all rest h P into = tagged_stands (codes "tag") SpellsName OfName name_stands n all rest h P into
 
-instances_stand : (f : Option Name) (gs : List TermSignature) (ts : List Name) (all rest : List Placed) → SpellsInstances f gs ts all rest → (P : Pos → Type 0) → Into all P → OfForm P f × AllByRecursion (OfSignature P) gs × OfNames P ts × Into rest P
+instances_stand : (f : Option Name) (gs : List TermSignature) (ts : List Name) (all rest : List Placed) → SpellsInstances f gs ts all rest → (P : Pos → Type 0) → Into all P → OfOptionalName P f × AllByRecursion (OfSignature P) gs × OfNames P ts × Into rest P
 instances_stand None gs ts all rest h P into =
     let row = signatures_stand gs all rest h.2 P into in
     let none : OfNames P ts = rw h.1 tt in
@@ -293,6 +246,8 @@ opened_behind token all inner h pos a = rw h.1 a
 
 keyword_stands : Stands SpellsKeyword EachPosition
 keyword_stands (type_def x) = behind_stands (codes "type") SpellsTypeDefinition (λ P x. EachPosition P (type_def x)) type_stands x
+keyword_stands (rule x) = behind_stands (codes "rule") SpellsRule OfRule rule_stands x
+keyword_stands (extractor x) = behind_stands (codes "extractor") SpellsExtractor OfExtractor extractor_stands x
 keyword_stands (decl x) = behind_stands (codes "decl") SpellsDeclaration (λ P x. EachPosition P (decl x)) declaration_stands x
 keyword_stands (attr x) = behind_stands (codes "attr") SpellsAttribute (λ P x. EachPosition P (attr x)) attribute_stands x
 keyword_stands (model x) = behind_stands (codes "model") SpellsModel (λ P x. EachPosition P (model x)) model_stands x

@@ -4,7 +4,7 @@ use Rattle.std.proofs.Common.{◌≡◌, ℕ, zero, suc, ◌≤◌, ◌<◌, Boo
 use Rattle.isle_base.specs.Place.{Placed}
 use Rattle.isle_base.specs.Token.{Tok, lparen, rparen, symbol, integer, at_sign}
 use Rattle.isle_ast.specs.Words.{SpellsToken, SpellsAll, InParentheses}
-use Rattle.isle_parser.specs.Reading.{Reader, ◌>>=◌, is_lparen, is_rparen, is_ahead, closes, ends, expect, in_parentheses, many, many_within}
+use Rattle.isle_parser.specs.Reading.{Reader, ◌>>=◌, is_lparen, is_rparen, is_at, is_ahead, closes, ends, expect, in_parentheses, many, many_within}
 
 -- ---- steps
 
@@ -12,7 +12,7 @@ pub bind_some : {A B : Type 0} (r : Option A) (f : A → Option B) (y : B) → (
 bind_some None f y e = absurd cc
 bind_some (Some x) f y e = (x, refl, e)
 
-bind_same : {A B : Type 0} (r : Option A) (f g : A → Option B) → ((x : A) → r ≡ Some x → f x ≡ g x) → (r >>= f) ≡ (r >>= g)
+pub bind_same : {A B : Type 0} (r : Option A) (f g : A → Option B) → ((x : A) → r ≡ Some x → f x ≡ g x) → (r >>= f) ≡ (r >>= g)
 bind_same None f g h = refl
 bind_same (Some x) f g h = h x refl
 
@@ -42,13 +42,6 @@ Spelling A = A → List Placed → List Placed → Type 0
 
 abbrev pub Sound : {A : Type 0} → Spelling A → Reader A → Type 0
 Sound {A} R read = (all rest : List Placed) (x : A) → read all ≡ Some (x, rest) → R x all rest
-
-abbrev pub is_at : Tok → Bool
-is_at lparen = false
-is_at rparen = false
-is_at (symbol _) = false
-is_at (integer _) = false
-is_at at_sign = true
 
 -- No `@` is ahead: a pattern that ends here could go on there.
 abbrev pub Goes : List Placed → Type 0
@@ -208,7 +201,7 @@ is_rparen-is (integer n) e = absurd cc
 is_rparen-is at_sign e = absurd cc
 
 -- a token that passes a test of just this token
-expect_sound : (passes : Tok → Bool) (token : Tok) → ((t : Tok) → passes t ≡ true → t ≡ token) → (all rest : List Placed) (t : Tok) → expect passes all ≡ Some (t, rest) → SpellsToken token all rest
+pub expect_sound : (passes : Tok → Bool) (token : Tok) → ((t : Tok) → passes t ≡ true → t ≡ token) → (all rest : List Placed) (t : Tok) → expect passes all ≡ Some (t, rest) → SpellsToken token all rest
 expect_sound passes token is [] rest t e = absurd cc
 expect_sound passes token is (x ∷ xs) rest t e =
     let c = chosen_some (passes x.token) (x.token, xs) (t, rest) e in

@@ -287,7 +287,7 @@ pub model_type_shrinks : Shrinks model_type
 model_type_shrinks = shrinks SpellsTypeModel model_type model_type_sound model_type_begins
 
 -- two readings that give the same where they give something
-agree : {A : Type 0} (r s : Option A) → ((x : A) → r ≡ Some x → s ≡ Some x) → ((x : A) → s ≡ Some x → r ≡ Some x) → r ≡ s
+pub agree : {A : Type 0} (r s : Option A) → ((x : A) → r ≡ Some x → s ≡ Some x) → ((x : A) → s ≡ Some x → r ≡ Some x) → r ≡ s
 agree None None f g = refl
 agree None (Some y) f g = g y refl
 agree (Some x) s f g = sym (f x refl)

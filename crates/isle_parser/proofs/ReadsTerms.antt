@@ -159,7 +159,7 @@ dollar (b ∷ bs) place n e =
     let is : m ≡ n = some_same c.1 in
     ap (λ (x : ℕ). record { text = x ∷ bs; pos = place }) ((Decides-eqb b 36).0 c.0) ∙ ap (λ (m : Name). record { text = 36 ∷ m.text; pos = m.pos }) is
 
-constant_sound : Sound SpellsConstant constant
+pub constant_sound : Sound SpellsConstant constant
 unfolding constant
 constant_sound all rest n e =
     let w = bind_some (name all) (λ w. behind_dollar w.0 >>= λ n. Some (n, w.1)) (n, rest) e in
@@ -169,7 +169,7 @@ constant_sound all rest n e =
     let spelt : SpellsConstant m.0 all w.0.1 = subst (λ (x : Name). SpellsName x all w.0.1) whole (name_sound all w.0.1 w.0.0 w.1) in
     moved SpellsConstant m.0 n all w.0.1 rest is spelt
 
-constant_complete : (n : Name) (all rest : List Placed) → SpellsConstant n all rest → constant all ≡ Some (n, rest)
+pub constant_complete : (n : Name) (all rest : List Placed) → SpellsConstant n all rest → constant all ≡ Some (n, rest)
 unfolding constant
 constant_complete n all rest h = rw (name_read (record { text = 36 ∷ n.text; pos = n.pos }) all rest h) refl
 

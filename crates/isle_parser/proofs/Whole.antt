@@ -1,5 +1,5 @@
 -- A whole text: what the parser reads of the tokens to come is the one list that they spell.
-use Rattle.std.proofs.Common.{◌≡◌, ℕ, true, List, [], ◌∷◌, Some, None, Result, Ok, Err, refl, sym, ap, subst, ◌∙◌}
+use Rattle.std.proofs.Common.{◌≡◌, ℕ, true, false, List, [], ◌∷◌, Some, None, Result, Ok, Err, refl, sym, ap, subst, ◌∙◌}
 use Rattle.std.specs.Global.{Vec}
 use Rattle.std.specs.Prelude.{IfOk, IfErr}
 use Rattle.isle_base.specs.declared.error.Error.{Error}
@@ -11,6 +11,7 @@ use Rattle.isle_base.specs.declared.lexer.Fault.{Fault}
 use Rattle.isle_base.specs.declared.lexer.Fault.TheVariants as faults
 use Rattle.isle_ast.specs.declared.ast.Def.{Def}
 use Rattle.isle_ast.specs.Erased.{erase}
+use Rattle.isle_ast.specs.MacroArgs.{definitions_have_macro_arg}
 use Rattle.isle_ast.specs.TreeView.{definitions_of}
 use Rattle.isle_ast.specs.Spelt.{Spells}
 use Rattle.isle_ast.specs.Tree.{Definition}
@@ -19,6 +20,7 @@ use Rattle.isle_parser.specs.Parsed.{Parses, RefusesText, RefusesIn, SpellsOnly}
 use Rattle.isle_parser.specs.ReadDefinitions.{definitions}
 use Rattle.isle_ast.proofs.Erasing.{text_erased}
 use Rattle.isle_ast.proofs.Erasing.{text_placed}
+use Rattle.isle_ast.proofs.NoMacroArgs.{spelt_has_no_macro_arg}
 use Rattle.isle_parser.proofs.Definitions.{definitions_sound, definitions_complete, one_list}
 
 ended : (xs : List Lexeme) (ending : Ending) → ended_by xs ending ≡ true → ending ≡ end
@@ -54,6 +56,11 @@ same_ending s t e = ap (λ (u : Source). u.ending) e
 
 pub same_text : (s t : Source) (e : Error) → s ≡ t → RefusesIn s.file s.size e → RefusesIn t.file t.size e
 same_text s t e is h = subst (λ (u : Source). RefusesIn u.file u.size e) is h
+
+-- no pattern that is read is or holds the argument of a macro
+pub whole_found : (place : ℕ → Pos) (feed : Feed) (r : Result (Vec Def) Fault) → Parses place feed r → IfOk r (λ defs. definitions_have_macro_arg (definitions_of defs.items) ≡ false)
+whole_found place feed (Ok defs) h = spelt_has_no_macro_arg (definitions_of defs.items) (placed place feed.coming) h.spelt.1
+whole_found place feed (Err e) h = tt
 
 -- ---- without positions
 

@@ -7,3 +7,8 @@ pub mod ReadDefinitions
 pub mod ReadTypes
 pub mod ReadModels
 pub mod ReadTerms
+pub mod ReadNumbers
+pub mod ReadPatterns
+pub mod ReadExpressions
+pub mod ReadRules
+pub mod RuleParts

@@ -4,7 +4,7 @@ use Rattle.std.specs.List.{AllByRecursion}
 use Rattle.isle_base.specs.declared.lexer.Pos.{Pos}
 use Rattle.isle_base.specs.Place.{in_file, unknown}
 use Rattle.isle_base.specs.Token.{Lexeme}
-use Rattle.isle_ast.specs.Tree.{Name, TypeModel, unspecified_model, auto_model, int_model, bool_model, unit_model, bit_vector_model, struct_model, named_model, ModelFieldRow, no_model_field, model_field, NamedField, IndexedField, FieldList, unit_fields, struct_fields, tuple_fields, EnumVariant, TypeContent, primitive_type, enum_type, struct_type, AttributeTarget, term_target, rule_target, AttributeKind, chain_kind, priority_kind, tag_kind, TermSignature, ModelContent, type_model, ExternDefinition, extern_extractor, extern_constructor, extern_const, Definition, type_def, decl, attr, model, form, instantiation, external, converter}
+use Rattle.isle_ast.specs.Tree.{Name, TypeModel, unspecified_model, auto_model, int_model, bool_model, unit_model, bit_vector_model, struct_model, named_model, ModelFieldRow, no_model_field, model_field, NamedField, IndexedField, FieldList, unit_fields, struct_fields, tuple_fields, EnumVariant, TypeContent, primitive_type, enum_type, struct_type, AttributeTarget, term_target, rule_target, AttributeKind, chain_kind, priority_kind, tag_kind, TermSignature, ModelContent, type_model, PatternNode, var_pattern, bind_pattern, bool_pattern, int_pattern, constant_pattern, term_pattern, wildcard_pattern, and_pattern, macro_arg_pattern, PatternRow, no_pattern, more_pattern, Expression, term_expression, var_expression, bool_expression, int_expression, constant_expression, let_expression, ExpressionRow, no_expression, more_expression, LetRow, no_let, more_let, Condition, RuleDefinition, ExtractorDefinition, ExternDefinition, extern_extractor, extern_constructor, extern_const, Definition, type_def, rule, extractor, decl, attr, model, form, instantiation, external, converter}
 
 abbrev pub OfName : (Pos → Type 0) → Name → Type 0
 OfName P n = P n.pos
@@ -59,9 +59,9 @@ OfKind P (tag_kind name) = OfName P name
 abbrev pub OfSignature : (Pos → Type 0) → TermSignature → Type 0
 OfSignature P s = P s.pos × AllByRecursion (OfModel P) s.args × OfModel P s.ret
 
-abbrev pub OfForm : (Pos → Type 0) → Option Name → Type 0
-OfForm P None = Unit {0}
-OfForm P (Some name) = OfName P name
+abbrev pub OfOptionalName : (Pos → Type 0) → Option Name → Type 0
+OfOptionalName P None = Unit {0}
+OfOptionalName P (Some name) = OfName P name
 
 abbrev pub OfModelContent : (Pos → Type 0) → ModelContent → Type 0
 OfModelContent P (type_model ty) = OfModel P ty
@@ -71,15 +71,61 @@ OfExtern P (extern_extractor term func pos infallible) = P pos × OfName P term 
 OfExtern P (extern_constructor term func pos) = P pos × OfName P term × OfName P func
 OfExtern P (extern_const name ty pos) = P pos × OfName P name × OfName P ty
 
+abbrev mutual
+  pub OfPattern : (Pos → Type 0) → PatternNode → Type 0
+  OfPattern P (var_pattern var pos) = P pos × OfName P var
+  OfPattern P (bind_pattern var subpat pos) = P pos × OfName P var × OfPattern P subpat
+  OfPattern P (bool_pattern val pos) = P pos
+  OfPattern P (int_pattern val pos) = P pos
+  OfPattern P (constant_pattern val pos) = P pos × OfName P val
+  OfPattern P (term_pattern sym args pos) = P pos × OfName P sym × OfPatterns P args
+  OfPattern P (wildcard_pattern pos) = P pos
+  OfPattern P (and_pattern subpats pos) = P pos × OfPatterns P subpats
+  OfPattern P (macro_arg_pattern index pos) = P pos
+
+  pub OfPatterns : (Pos → Type 0) → PatternRow → Type 0
+  OfPatterns P no_pattern = Unit {0}
+  OfPatterns P (more_pattern p ps) = OfPattern P p × OfPatterns P ps
+
+abbrev mutual
+  pub OfExpression : (Pos → Type 0) → Expression → Type 0
+  OfExpression P (term_expression sym args pos) = P pos × OfName P sym × OfExpressions P args
+  OfExpression P (var_expression name pos) = P pos × OfName P name
+  OfExpression P (bool_expression val pos) = P pos
+  OfExpression P (int_expression val pos) = P pos
+  OfExpression P (constant_expression val pos) = P pos × OfName P val
+  OfExpression P (let_expression defs body pos) = P pos × OfLets P defs × OfExpression P body
+
+  pub OfExpressions : (Pos → Type 0) → ExpressionRow → Type 0
+  OfExpressions P no_expression = Unit {0}
+  OfExpressions P (more_expression x xs) = OfExpression P x × OfExpressions P xs
+
+  pub OfLets : (Pos → Type 0) → LetRow → Type 0
+  OfLets P no_let = Unit {0}
+  OfLets P (more_let var ty val pos lets) =
+      P pos × OfName P var × OfName P ty × OfExpression P val × OfLets P lets
+
+abbrev pub OfCondition : (Pos → Type 0) → Condition → Type 0
+OfCondition P c = P c.pos × OfPattern P c.pattern × OfExpression P c.expr
+
+abbrev pub OfRule : (Pos → Type 0) → RuleDefinition → Type 0
+OfRule P r =
+    P r.pos × OfOptionalName P r.name × OfPattern P r.pattern × AllByRecursion (OfCondition P) r.iflets × OfExpression P r.expr
+
+abbrev pub OfExtractor : (Pos → Type 0) → ExtractorDefinition → Type 0
+OfExtractor P e = P e.pos × OfName P e.term × OfNames P e.args × OfPattern P e.template
+
 -- each position in a definition, that of the definition first
 abbrev pub EachPosition : (Pos → Type 0) → Definition → Type 0
 EachPosition P (type_def t) = P t.pos × OfName P t.name × OfTypeContent P t.ty
+EachPosition P (rule r) = OfRule P r
+EachPosition P (extractor e) = OfExtractor P e
 EachPosition P (decl d) = P d.pos × OfName P d.term × OfNames P d.arg_tys × OfName P d.ret_ty
 EachPosition P (attr a) = P a.pos × OfTarget P a.target × AllByRecursion (OfKind P) a.kinds
 EachPosition P (model m) = OfName P m.name × OfModelContent P m.val
 EachPosition P (form f) = P f.pos × OfName P f.name × AllByRecursion (OfSignature P) f.signatures
 EachPosition P (instantiation i) =
-    P i.pos × OfName P i.term × OfForm P i.form × AllByRecursion (OfSignature P) i.signatures × OfNames P i.tags
+    P i.pos × OfName P i.term × OfOptionalName P i.form × AllByRecursion (OfSignature P) i.signatures × OfNames P i.tags
 EachPosition P (external e) = OfExtern P e
 EachPosition P (converter c) = P c.pos × OfName P c.inner_ty × OfName P c.outer_ty × OfName P c.term
 

@@ -28,6 +28,13 @@ is_rparen (symbol _) = false
 is_rparen (integer _) = false
 is_rparen at_sign = false
 
+abbrev pub is_at : Tok → Bool
+is_at lparen = false
+is_at rparen = false
+is_at (symbol _) = false
+is_at (integer _) = false
+is_at at_sign = true
+
 abbrev pub is_word : List ℕ → Tok → Bool
 is_word word lparen = false
 is_word word rparen = false

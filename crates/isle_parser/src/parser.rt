@@ -9,7 +9,11 @@ ghost use Rattle.isle_base.specs.TokenView.{token_of};
 ghost use Rattle.isle_parser.specs.Answers.{Gives, IsPlace, IsRefusal, IsRefusalAt, place, source, tokens};
 ghost use Rattle.isle_parser.specs.Parsed.{Parses, RefusesText};
 ghost use Rattle.isle_parser.specs.Positions.{HasKnownPositions, HasPositions};
-ghost use Rattle.isle_parser.specs.Reading.{ends, expect, first, flag, is_ahead, is_lparen, is_rparen, is_word, pos_ahead, take, take_if, text, token_ahead};
+ghost use Rattle.isle_parser.specs.ReadNumbers.{signed};
+ghost use Rattle.isle_parser.specs.ReadPatterns.{is_const};
+ghost use Rattle.isle_parser.specs.Reading.{ends, expect, first, flag, is_ahead, is_at, is_lparen, is_rparen, is_word, pos_ahead, take, take_if, text, token_ahead};
+ghost use Rattle.isle_ast.specs.MacroArgs.{definitions_have_macro_arg};
+ghost use Rattle.isle_ast.specs.PatternGrammar.{is_constant};
 ghost use Rattle.isle_ast.specs.Spelt.{Spells};
 ghost use Rattle.isle_ast.specs.Tree.{Definition};
 ghost use Rattle.isle_ast.specs.TreeView.{definitions_of};
@@ -17,8 +21,12 @@ ghost use Rattle.isle_base.specs.declared.lexer.Fault.TheVariants.{Failed};
 ghost use Rattle.isle_parser.specs.declared.parser.Stop.TheVariants.{Memory};
 
 mod defs;
+mod exprs;
+pub mod grammar;
 mod models;
 mod names;
+mod patterns;
+mod rules;
 mod terms;
 mod types;
 
@@ -30,9 +38,11 @@ use std::alloc::{AllocError, AllocFailed, Global};
 /// Parse the top-level ISLE definitions and return their AST.
 ///
 /// It reads what the lexer has still to give, its lookahead first. The grammar is the one of the ISLE
-/// language reference, for the two definitions `decl` and `convert`. The list that it answers is the only
-/// one that the tokens spell. Each position in it is a byte offset in the lexer's text, with the number
-/// of the lexer's file: the first byte of a token, and never of the first one.
+/// language reference, for the definitions `type`, `rule`, `extractor`, `decl`, `attr`, `model`, `form`,
+/// `instantiate`, `extern` and `convert`. A pragma is refused, whatever its name. The list that it answers
+/// is the only one that the tokens spell. No pattern in it is or holds the argument of a macro. Each
+/// position in it is a byte offset in the lexer's text, with the number of the lexer's file: the first
+/// byte of a token, and never of the first one.
 ///
 /// It answers an error exactly where the tokens spell no list of definitions, or where the lexer refuses
 /// its text. The error is a parse error at one byte of the text, or at its end. Of a lexer that had
@@ -42,6 +52,7 @@ pub fn parse(alloc: Global, lexer: Lexer) -> Result<Vec<Def>, Fault>
     ensures only { IfOk result (λ defs. (ds : List Definition) → Spells (in_file lexer.entry.file) lexer.entry ds → ds ≡ definitions_of defs.items) }
     ensures positions { IfOk result (λ defs. HasPositions lexer.entry.file lexer.entry.coming (definitions_of defs.items)) }
     ensures known { IfOk result (λ defs. HasKnownPositions (definitions_of defs.items)) }
+    ensures whole { IfOk result (λ defs. definitions_have_macro_arg (definitions_of defs.items) ≡ false) }
     ensures refused { IfErr result (RefusesText (in_file lexer.entry.file) lexer.entry) }
     ensures failed { IsErrOf result Failed ↔ (is_failed lexer.entry ≡ true) }
 {
@@ -58,6 +69,7 @@ pub fn parse_without_pos(alloc: Global, lexer: Lexer) -> Result<Vec<Def>, Fault>
     ensures spelt { IfOk result (λ defs. Spells nowhere lexer.entry (definitions_of defs.items)) }
     ensures only { IfOk result (λ defs. (ds : List Definition) → Spells nowhere lexer.entry ds → ds ≡ definitions_of defs.items) }
     ensures erased { IfOk result (λ defs. (ds : List Definition) × Spells (in_file lexer.entry.file) lexer.entry ds × (definitions_of defs.items ≡ erase ds)) }
+    ensures whole { IfOk result (λ defs. definitions_have_macro_arg (definitions_of defs.items) ≡ false) }
     ensures refused { IfErr result (RefusesText nowhere lexer.entry) }
     ensures refused_by_parse { IfErr result (RefusesText (in_file lexer.entry.file) lexer.entry) }
     ensures failed { IsErrOf result Failed ↔ (is_failed lexer.entry ≡ true) }
@@ -210,6 +222,22 @@ impl<'src> Parser<'src> {
         matches!(self.ahead(), Some(Token::Int(_)))
     }
 
+    fn is_at(&self) -> bool
+        ensures { result ≡ is_ahead is_at (tokens self.now) }
+    {
+        matches!(self.ahead(), Some(Token::At))
+    }
+
+    // Tells whether a constant is ahead: a symbol that begins with `$`.
+    fn is_const(&self) -> bool
+        ensures { result ≡ is_ahead is_const (tokens self.now) }
+    {
+        match self.ahead() {
+            Some(Token::Symbol(text)) => begins_constant(text),
+            _ => false,
+        }
+    }
+
     // The position of the token ahead, as the tree has it.
     fn pos(&self) -> Pos
         ensures { result ≡ pos_ahead (tokens self.now) }
@@ -291,6 +319,14 @@ impl<'src> Parser<'src> {
         self.take_if(alloc, is_wanted)
     }
 
+    fn expect_at(&mut self, alloc: Global) -> Result<Token, Stop>
+        ensures same { source self.new ≡ source self.old }
+        ensures gives { Gives token_of (expect is_at (tokens self.old)) result self.new }
+    {
+        let is_wanted = self.is_at();
+        self.take_if(alloc, is_wanted)
+    }
+
     #[tactic(auto, unfolding(crate::specs::Reading::text))]
     fn expect_symbol(&mut self, alloc: Global) -> Result<String, Stop>
         ensures same { source self.new ≡ source self.old }
@@ -314,6 +350,16 @@ impl<'src> Parser<'src> {
         }
     }
 
+    // An integer, which is always within an `i128`.
+    #[tactic(auto, unfolding(crate::specs::ReadNumbers::signed))]
+    fn parse_int(&mut self, alloc: Global) -> Result<i128, Stop>
+        ensures same { source self.new ≡ source self.old }
+        ensures gives { Gives (λ value. value) (signed 127 (tokens self.old)) result self.new }
+    {
+        let value = self.expect_int(alloc)?;
+        Ok(value)
+    }
+
     // Takes off this word where it is ahead, and tells whether it was.
     #[tactic(auto, unfolding(crate::specs::Reading::flag))]
     fn eat_sym_str(&mut self, alloc: Global, word: &str) -> Result<bool, Stop>
@@ -326,6 +372,13 @@ impl<'src> Parser<'src> {
         }
         Ok(is_eaten)
     }
+}
+
+// Tells whether the text begins with `$`.
+fn begins_constant(text: &str) -> bool
+    ensures { result ≡ is_constant text.now }
+{
+    text.starts_with('$')
 }
 
 // The message about a token that is not expected, or about the end.

@@ -1,5 +1,5 @@
 use crate::parser::{Parser, parse, parse_without_pos};
-use isle_ast::ast::Def;
+use isle_ast::ast::{Def, Pattern};
 use isle_base::error::Error;
 use isle_base::lexer::{Fault, Lexer};
 use std::test::*;
@@ -212,5 +212,97 @@ fn kinds_are_refused(rt: HostRuntime) -> Result<(), Fail> {
         "Not a constant identifier; must start with a '$'"
     );
     assert_eq!(rt; offset, 14);
+    Ok(())
+}
+
+#[test]
+fn rules_are_accepted(rt: HostRuntime) -> Result<(), Fail> {
+    assert!(rt;
+        is_accepted(
+            rt,
+            "(rule (f x) x) (rule r 1 _ (g)) (rule -9223372036854775808 x x) (rule r true $A) (rule (f -5) false)"
+        )
+    );
+    assert!(rt; !is_accepted(rt, "(rule r 2 (f $c @ z) x)"));
+    assert!(rt;
+        is_accepted(
+            rt,
+            "(rule r 2 x @ y @ (and (f) _ $c (g 1 true)) (if-let a @ b (h c)) (if x) (if (k)) (let ((a T 1) (b U (f a))) (f b)))"
+        )
+    );
+    assert!(rt;
+        is_accepted(
+            rt,
+            "(extractor (A x y) (B x _ y)) (extractor (A) _) (extractor (A x) x @ 1)"
+        )
+    );
+    Ok(())
+}
+
+#[test]
+fn rules_are_refused(rt: HostRuntime) -> Result<(), Fail> {
+    let (msg, offset) = refusal(rt, "(rule f? (f) x)")?;
+    assert_eq!(rt;
+        msg.as_str(),
+        "Invalid rule name: Identifier 'f?' contains invalid character (not a-z, A-Z, 0-9, _, ., $)"
+    );
+    assert_eq!(rt; offset, 6);
+    let (msg, offset) = refusal(rt, "(rule r 9223372036854775808 (f) x)")?;
+    assert_eq!(rt;
+        msg.as_str(),
+        "Invalid rule priority: out of range integral type conversion attempted"
+    );
+    assert_eq!(rt; offset, 6);
+    let (msg, offset) = refusal(rt, "(rule r 1)")?;
+    assert_eq!(rt; msg.as_str(), "Unexpected pattern");
+    assert_eq!(rt; offset, 9);
+    let (msg, offset) = refusal(rt, "(rule (f) @)")?;
+    assert_eq!(rt; msg.as_str(), "Invalid expression");
+    assert_eq!(rt; offset, 10);
+    let (msg, offset) = refusal(rt, "(rule (f) (if x))")?;
+    assert_eq!(rt; msg.as_str(), "Invalid expression");
+    assert_eq!(rt; offset, 16);
+    let (msg, offset) = refusal(rt, "(rule (f x y")?;
+    assert_eq!(rt; msg.as_str(), "Unexpected pattern");
+    assert_eq!(rt; offset, 12);
+    let (msg, offset) = refusal(rt, "(rule (f) (g (if-let a b)))")?;
+    assert_eq!(rt;
+        msg.as_str(),
+        "Identifier 'if-let' contains invalid character (not a-z, A-Z, 0-9, _, ., $)"
+    );
+    assert_eq!(rt; offset, 14);
+    let (msg, offset) = refusal(rt, "(rule (f) x x)")?;
+    assert_eq!(rt; msg.as_str(), "Unexpected token Symbol(\"x\")");
+    assert_eq!(rt; offset, 12);
+    let (msg, offset) = refusal(rt, "(extractor A x)")?;
+    assert_eq!(rt; msg.as_str(), "Unexpected token Symbol(\"A\")");
+    assert_eq!(rt; offset, 11);
+    Ok(())
+}
+
+#[test]
+fn a_rule(rt: HostRuntime) -> Result<(), Fail> {
+    let lexer = Lexer::new(rt.alloc(), 3, "(rule r -7 (f) (if (g)) x)")
+        .ok()
+        .ok_or("a token")?;
+    let defs = parse(rt.alloc(), lexer).ok().ok_or("a rule")?;
+    for def in &defs {
+        match def {
+            Def::Rule(rule) => {
+                assert_eq!(rt; rule.pos.offset, 6);
+                assert!(rt; matches!(&rule.prio, Some(-7)));
+                assert!(rt; matches!(&rule.name, Some(_)));
+                assert_eq!(rt; rule.iflets.len(), 1);
+                for iflet in &rule.iflets {
+                    assert_eq!(rt; iflet.pos.offset, 19);
+                    match &iflet.pattern {
+                        Pattern::Wildcard { pos } => assert_eq!(rt; pos.offset, 19),
+                        _ => return Err("it is a wildcard".into()),
+                    }
+                }
+            }
+            _ => return Err("it is a rule".into()),
+        }
+    }
     Ok(())
 }

@@ -64,6 +64,8 @@ impl<'src> Parser<'src> {
             "model" => Ok(Def::Model(self.parse_model(alloc)?)),
             "form" => Ok(Def::Form(self.parse_form(alloc)?)),
             "instantiate" => Ok(Def::Instantiation(self.parse_instantiation(alloc)?)),
+            "rule" => Ok(Def::Rule(self.parse_rule(alloc)?)),
+            "extractor" => Ok(Def::Extractor(self.parse_etor(alloc)?)),
             "extern" => Ok(Def::Extern(self.parse_extern(alloc)?)),
             "convert" => Ok(Def::Converter(self.parse_converter(alloc)?)),
             _ => Err(self.refuse_at(place, format!(in alloc; "Unexpected identifier: {word}"))),

@@ -38,7 +38,7 @@ impl<'src> Parser<'src> {
     }
 
     // Identifiers, up to the closing parenthesis.
-    fn parse_ident_list(&mut self, alloc: Global) -> Result<Vec<Ident>, Stop>
+    pub(super) fn parse_ident_list(&mut self, alloc: Global) -> Result<Vec<Ident>, Stop>
         ensures same { source self.new ≡ source self.old }
         ensures gives { Gives (λ is. names_of is.items) (many closes name (tokens self.old)) result self.new }
     {
@@ -63,7 +63,7 @@ impl<'src> Parser<'src> {
 }
 
 // The message about a text that isn't an identifier.
-fn identifier_message(alloc: Global, text: &str) -> Result<String, AllocError> {
+pub(super) fn identifier_message(alloc: Global, text: &str) -> Result<String, AllocError> {
     match text.chars().next() {
         None => String::from_str(alloc, "empty symbol"),
         Some(first) if !begins_identifier(first) => {

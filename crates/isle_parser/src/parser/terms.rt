@@ -14,7 +14,7 @@ use std::alloc::Global;
 impl<'src> Parser<'src> {
     // The name of a constant, without its `$`.
     #[tactic(auto, unfolding(crate::specs::ReadTerms::constant))]
-    fn parse_const(&mut self, alloc: Global) -> Result<Ident, Stop>
+    pub(super) fn parse_const(&mut self, alloc: Global) -> Result<Ident, Stop>
         ensures same { source self.new ≡ source self.old }
         ensures gives { Gives name_of (constant (tokens self.old)) result self.new }
     {

@@ -1,6 +1,7 @@
 use Rattle.isle_base.specs.Place.{in_file}
 use Rattle.isle_parser.specs.Parsed.{Parses}
 use Rattle.isle_parser.proofs.Positions.{known_found, positions_found}
+use Rattle.isle_parser.proofs.Whole.{whole_found}
 use Rattle.isle_parser.proofs.parser.parse.Goals as goal
 
 pub returns-clause-positions : goal.returns-clause-positions
@@ -12,3 +13,8 @@ pub returns-clause-known : goal.returns-clause-known
 returns-clause-known c =
     let parses : Parses (in_file c.args.lexer.file) c.args.lexer c.parse_all.result = rw (c.new-parser.ensures.lexer, c.new-parser.ensures.positions) at c.parse_all.ensures.parses in
     known_found c.args.lexer c.parse_all.result (rw c.new-parser.ensures.lexer at c.parse_all.ensures.rising) parses
+
+pub returns-clause-whole : goal.returns-clause-whole
+returns-clause-whole c =
+    let parses : Parses (in_file c.args.lexer.file) c.args.lexer c.parse_all.result = rw (c.new-parser.ensures.lexer, c.new-parser.ensures.positions) at c.parse_all.ensures.parses in
+    whole_found (in_file c.args.lexer.file) c.args.lexer c.parse_all.result parses
