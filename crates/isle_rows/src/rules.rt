@@ -89,7 +89,10 @@ fn refused_rules(rt: HostRuntime) -> Result<(), Fail> {
     for (text, want) in [
         ("(rule x y)", "9: Invalid expression"),
         ("(rule (A _ @ b) c)", "11: Unexpected pattern"),
-        ("(rule (A) (if b c) d)", "16: Unexpected token Symbol(\"c\")"),
+        (
+            "(rule (A) (if b c) d)",
+            "16: Unexpected token Symbol(\"c\")",
+        ),
         ("(rule (A) (if-let _ (B)))", "24: Invalid expression"),
         (
             "(rule 9223372036854775808 (A) b)",
@@ -190,7 +193,10 @@ fn nested(alloc: Global) -> Result<String, AllocError> {
 
 /// How many lines a text has that ends with a line end.
 fn count_lines(text: &str) -> usize {
-    text.as_bytes().iter().filter(|byte| **byte == b'\n').count()
+    text.as_bytes()
+        .iter()
+        .filter(|byte| **byte == b'\n')
+        .count()
 }
 
 #[test]
