@@ -14,6 +14,7 @@ mod tests;
 mod walks;
 
 use isle_base::lexer::Pos;
+use std::convert::Infallible;
 use std::hash::Hash;
 
 /// A definition, the toplevel form of an ISLE source.
@@ -59,9 +60,8 @@ pub fn identifiers_are_ordered()
     ensures hash { (a b : Ident) → name_of a ≡ name_of b → ⟦<Ident as Hash>⟧.hash_input a ≡ ⟦<Ident as Hash>⟧.hash_input b }
 {}
 
-/// A pragma. None is defined.
-#[derive(Clone, Debug, PartialEq, Eq, Drop)]
-pub enum Pragma {}
+/// A pragma. None is defined, so there are no values of the type. Upstream has an empty enum of its own for it.
+pub type Pragma = Infallible;
 
 /// A type definition. Upstream calls it `Type`, a word that contracts reserve.
 #[derive(Debug, PartialEq, Eq, Drop)]

@@ -1,4 +1,4 @@
-//! Expressions: the right sides of rules.
+//! Expressions: what a rule or a condition computes.
 
 ghost use Rattle.std.specs.Prelude.{◌≡◌};
 ghost use Rattle.isle_ast.specs.TreeView.{expression_of, expressions_of, single_let_of, single_lets_of};

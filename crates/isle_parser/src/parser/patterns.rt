@@ -1,4 +1,4 @@
-//! Patterns: the left sides of rules.
+//! Patterns: what a rule, a condition or an extractor matches.
 
 ghost use Rattle.std.specs.Prelude.{◌≡◌, map};
 ghost use Rattle.isle_ast.specs.TreeView.{pattern_of, patterns_of};
