@@ -150,7 +150,7 @@ where_plain Wants Spells plain = record {
 
 -- a name, whose token may bear a mark in front of the text
 
-name_placed : (mark : List ℕ → List ℕ) (n : Name) (all after : List Placed) →
+pub name_placed : (mark : List ℕ → List ℕ) (n : Name) (all after : List Placed) →
     erase_tokens all ≡ record { pos = n.pos; token = symbol (mark n.text) } ∷ after →
     (pos : Pos) × (rest : List Placed) × (n.pos ≡ unknown) × (erase_tokens rest ≡ after) × (all ≡ record { pos = pos; token = symbol (mark n.text) } ∷ rest)
 name_placed mark n [] after h = cc

@@ -5,13 +5,17 @@ use Rattle.isle_ast.specs.Erased.{erase, erase_type, erase_declaration, erase_at
 use Rattle.isle_ast.specs.Grammar.{InForm, SpellsDefinition}
 use Rattle.isle_ast.specs.ModelGrammar.{SpellsForm, SpellsInstantiation, SpellsModel}
 use Rattle.isle_ast.specs.RuleGrammar.{SpellsRule, SpellsExtractor}
+use Rattle.isle_ast.specs.SpecDefinitionGrammar.{SpellsSpecDefinition, SpellsSpecMacro, SpellsState}
+use Rattle.isle_ast.specs.SpecErased.{erase_spec_definition, erase_spec_macro, erase_state}
 use Rattle.isle_ast.specs.TermGrammar.{SpellsDeclaration, SpellsAttribute, SpellsExtern, SpellsConversion}
-use Rattle.isle_ast.specs.Tree.{Declaration, Conversion, TypeDefinition, Attribute, FormDefinition, TermInstantiation, ModelDefinition, RuleDefinition, ExtractorDefinition, ExternDefinition, Definition, type_def, rule, extractor, decl, attr, model, form, instantiation, external, converter}
+use Rattle.isle_ast.specs.Tree.{Declaration, Conversion, TypeDefinition, Attribute, SpecDefinition, SpecMacroDefinition, StateDefinition, FormDefinition, TermInstantiation, ModelDefinition, RuleDefinition, ExtractorDefinition, ExternDefinition, Definition, type_def, rule, extractor, decl, attr, spec, spec_macro, model, state, form, instantiation, external, converter}
 use Rattle.isle_ast.specs.TypeGrammar.{SpellsTypeDefinition}
 use Rattle.isle_ast.specs.Words.{SpellsAll, BehindWord}
 use Rattle.isle_ast.proofs.Lawful.{Lawful, all_lawful, made_lawful, parentheses_lawful, word_lawful}
-use Rattle.isle_ast.proofs.LawfulModels.{form_lawful, instantiation_lawful, model_definition_lawful}
+use Rattle.isle_ast.proofs.LawfulModelContents.{model_definition_lawful}
+use Rattle.isle_ast.proofs.LawfulModels.{form_lawful, instantiation_lawful}
 use Rattle.isle_ast.proofs.LawfulRules.{rule_lawful, extractor_lawful}
+use Rattle.isle_ast.proofs.LawfulSpecDefinitions.{spec_definition_lawful, spec_macro_lawful, state_lawful}
 use Rattle.isle_ast.proofs.LawfulTerms.{declaration_lawful, attribute_lawful, extern_lawful, conversion_lawful}
 use Rattle.isle_ast.proofs.LawfulTypes.{type_lawful}
 
@@ -45,9 +49,21 @@ is_attr : (x : Attribute) (y : Definition) → attr (erase_attribute x) ≡ eras
 is_attr x (attr z) same = (z, refl, cc)
 is_attr x _ same = cc
 
+is_spec : (x : SpecDefinition) (y : Definition) → spec (erase_spec_definition x) ≡ erase_definition y → (z : SpecDefinition) × (y ≡ spec z) × (erase_spec_definition x ≡ erase_spec_definition z)
+is_spec x (spec z) same = (z, refl, cc)
+is_spec x _ same = cc
+
+is_spec_macro : (x : SpecMacroDefinition) (y : Definition) → spec_macro (erase_spec_macro x) ≡ erase_definition y → (z : SpecMacroDefinition) × (y ≡ spec_macro z) × (erase_spec_macro x ≡ erase_spec_macro z)
+is_spec_macro x (spec_macro z) same = (z, refl, cc)
+is_spec_macro x _ same = cc
+
 is_model : (x : ModelDefinition) (y : Definition) → model (erase_model_definition x) ≡ erase_definition y → (z : ModelDefinition) × (y ≡ model z) × (erase_model_definition x ≡ erase_model_definition z)
 is_model x (model z) same = (z, refl, cc)
 is_model x _ same = cc
+
+is_state : (x : StateDefinition) (y : Definition) → state (erase_state x) ≡ erase_definition y → (z : StateDefinition) × (y ≡ state z) × (erase_state x ≡ erase_state z)
+is_state x (state z) same = (z, refl, cc)
+is_state x _ same = cc
 
 is_form : (x : FormDefinition) (y : Definition) → form (erase_form x) ≡ erase_definition y → (z : FormDefinition) × (y ≡ form z) × (erase_form x ≡ erase_form z)
 is_form x (form z) same = (z, refl, cc)
@@ -76,8 +92,15 @@ definition_lawful (decl x) =
     in_form (codes "decl") SpellsDeclaration erase_declaration decl (λ y all rest h. h) (λ y all rest h. h) (λ y. refl) x (is_decl x) (declaration_lawful x)
 definition_lawful (attr x) =
     in_form (codes "attr") SpellsAttribute erase_attribute attr (λ y all rest h. h) (λ y all rest h. h) (λ y. refl) x (is_attr x) (attribute_lawful x)
+definition_lawful (spec x) =
+    made_lawful SpellsDefinition erase_definition (λ y. InForm (codes "spec") (SpellsSpecDefinition y)) erase_spec_definition spec
+    (λ y all rest h. h) (λ y all rest h. h) (λ y. refl) x (is_spec x) (spec_definition_lawful x)
+definition_lawful (spec_macro x) =
+    in_form (codes "macro") SpellsSpecMacro erase_spec_macro spec_macro (λ y all rest h. h) (λ y all rest h. h) (λ y. refl) x (is_spec_macro x) (spec_macro_lawful x)
 definition_lawful (model x) =
     in_form (codes "model") SpellsModel erase_model_definition model (λ y all rest h. h) (λ y all rest h. h) (λ y. refl) x (is_model x) (model_definition_lawful x)
+definition_lawful (state x) =
+    in_form (codes "state") SpellsState erase_state state (λ y all rest h. h) (λ y all rest h. h) (λ y. refl) x (is_state x) (state_lawful x)
 definition_lawful (form x) =
     in_form (codes "form") SpellsForm erase_form form (λ y all rest h. h) (λ y all rest h. h) (λ y. refl) x (is_form x) (form_lawful x)
 definition_lawful (instantiation x) =

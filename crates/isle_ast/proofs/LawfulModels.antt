@@ -3,10 +3,10 @@ use Rattle.std.proofs.Common.{◌≡◌, ℕ, pos, ◌<◌, ◌^◌, List, [], c
 use Rattle.isle_base.specs.declared.lexer.Pos.{Pos}
 use Rattle.isle_base.specs.Place.{Placed, unknown}
 use Rattle.isle_base.specs.Token.{integer}
-use Rattle.isle_ast.specs.Erased.{erase_name, erase_names, erase_optional, erase_model, erase_model_fields, erase_signature, erase_form, erase_instantiation, erase_model_content, erase_model_definition}
-use Rattle.isle_ast.specs.ModelGrammar.{SpellsTypeModel, SpellsModelFields, SpellsSignature, SpellsForm, SpellsTag, SpellsInstances, SpellsInstantiation, SpellsModelContent, SpellsModel}
+use Rattle.isle_ast.specs.Erased.{erase_name, erase_names, erase_optional, erase_model, erase_model_fields, erase_signature, erase_form, erase_instantiation}
+use Rattle.isle_ast.specs.ModelGrammar.{SpellsTypeModel, SpellsModelFields, SpellsSignature, SpellsForm, SpellsTag, SpellsInstances, SpellsInstantiation}
 use Rattle.isle_ast.specs.Numbers.{SpellsNumber}
-use Rattle.isle_ast.specs.Tree.{Name, TypeModel, unspecified_model, auto_model, int_model, bool_model, unit_model, bit_vector_model, struct_model, named_model, ModelFieldRow, no_model_field, model_field, TermSignature, FormDefinition, TermInstantiation, ModelContent, type_model, ModelDefinition}
+use Rattle.isle_ast.specs.Tree.{Name, TypeModel, unspecified_model, auto_model, int_model, bool_model, unit_model, bit_vector_model, struct_model, named_model, ModelFieldRow, no_model_field, model_field, TermSignature, FormDefinition, TermInstantiation}
 use Rattle.isle_ast.specs.Words.{SpellsWord, SpellsAll, InParentheses, BehindWord, SpellsName, SpellsOptional, IsNonEmpty}
 use Rattle.isle_ast.proofs.Lawful.{Plain, Lawful, Then, At, token_plain, word_plain, nothing_plain, then_plain, parentheses_plain, where_plain, plain_lawful, name_lawful, pair_lawful, all_lawful, non_empty_lawful, at_lawful, settled_lawful, made_lawful, parentheses_lawful, word_lawful, name_begins, parentheses_begin}
 
@@ -252,26 +252,3 @@ instantiation_lawful i =
     (λ all rest h. name_begins i.term all h.0 h.1)
     (pair_lawful SpellsName erase_name Instances erase_instances i.term (i.form, (i.signatures, i.tags)) (name_lawful i.term)
     (instances_lawful i.form i.signatures i.tags)))
-
--- models
-
-is_type : (ty : TypeModel) (y : ModelContent) → type_model (erase_model ty) ≡ erase_model_content y →
-    (z : TypeModel) × (y ≡ type_model z) × (erase_model ty ≡ erase_model z)
-is_type ty (type_model t) same = (t, refl, cc)
-
-pub model_content_lawful : (val : ModelContent) → Lawful SpellsModelContent erase_model_content val
-model_content_lawful (type_model ty) =
-    made_lawful SpellsModelContent erase_model_content (λ t. InParentheses (BehindWord (codes "type") (SpellsTypeModel t))) erase_model type_model
-    (λ y all rest h. h) (λ y all rest h. h) (λ y. refl) ty (is_type ty)
-    (parentheses_lawful (λ t. BehindWord (codes "type") (SpellsTypeModel t)) erase_model ty
-    (word_lawful (codes "type") SpellsTypeModel erase_model ty (model_lawful ty)))
-
-pub model_definition_lawful : (m : ModelDefinition) → Lawful SpellsModel erase_model_definition m
-model_definition_lawful m =
-    made_lawful SpellsModel erase_model_definition (λ (p : Name × ModelContent). Then (SpellsName p.0) (SpellsModelContent p.1))
-    (λ p. (erase_name p.0, erase_model_content p.1)) (λ p. record { name = p.0; val = p.1 })
-    (λ y all rest h. record { behind_name = h.0; name = h.1; val = h.2 })
-    (λ y all rest h. (h.behind_name, h.name, h.val))
-    (λ y. refl) (m.name, m.val)
-    (λ y same. ((y.name, y.val), refl, λ i. ((same i).name, (same i).val)))
-    (pair_lawful SpellsName erase_name SpellsModelContent erase_model_content m.name m.val (name_lawful m.name) (model_content_lawful m.val))

@@ -61,7 +61,7 @@ testing_lawful c =
     (at_lawful SpellsExpression erase_expression c.pos c.expr (expression_begins c.expr) (expression_lawful c.expr)))
 
 -- a list that begins with a word doesn't begin with another one
-words_apart : (one other : List ℕ) → bytes_eq one other ≡ false → bytes_eq one one ≡ true → (First Second : List Placed → List Placed → Type 0) (all rest after : List Placed) →
+pub words_apart : (one other : List ℕ) → bytes_eq one other ≡ false → bytes_eq one one ≡ true → (First Second : List Placed → List Placed → Type 0) (all rest after : List Placed) →
     InParentheses (BehindWord one First) all rest → InParentheses (BehindWord other Second) all after → ⊥
 words_apart one other apart same First Second all rest after h k =
     let openings = sym h.2.1 ∙ k.2.1 in
@@ -91,7 +91,7 @@ is_some : (n : Name) (y : Option Name) → Some (erase_name n) ≡ erase_optiona
 is_some n (Some m) same = (m, refl, cc)
 is_some n None same = cc
 
-optional_name_lawful : (o : Option Name) → Lawful (SpellsOptional SpellsName) erase_optional o
+pub optional_name_lawful : (o : Option Name) → Lawful (SpellsOptional SpellsName) erase_optional o
 optional_name_lawful None = plain_lawful (SpellsOptional SpellsName) erase_optional None refl is_none nothing_plain
 optional_name_lawful (Some n) =
     made_lawful (SpellsOptional SpellsName) erase_optional SpellsName erase_name Some

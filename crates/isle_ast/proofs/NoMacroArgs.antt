@@ -6,7 +6,7 @@ use Rattle.isle_ast.specs.Grammar.{SpellsDefinition, SpellsDefinitions}
 use Rattle.isle_ast.specs.MacroArgs.{has_macro_arg, have_macro_arg, condition_has_macro_arg, rule_has_macro_arg, extractor_has_macro_arg, definition_has_macro_arg, definitions_have_macro_arg}
 use Rattle.isle_ast.specs.PatternGrammar.{SpellsPattern}
 use Rattle.isle_ast.specs.RuleGrammar.{SpellsCondition, SpellsRule, SpellsExtractor}
-use Rattle.isle_ast.specs.Tree.{PatternNode, var_pattern, bind_pattern, bool_pattern, int_pattern, constant_pattern, term_pattern, wildcard_pattern, and_pattern, macro_arg_pattern, PatternRow, no_pattern, more_pattern, Condition, RuleDefinition, ExtractorDefinition, Definition, type_def, rule, extractor, decl, attr, model, form, instantiation, external, converter}
+use Rattle.isle_ast.specs.Tree.{PatternNode, var_pattern, bind_pattern, bool_pattern, int_pattern, constant_pattern, term_pattern, wildcard_pattern, and_pattern, macro_arg_pattern, PatternRow, no_pattern, more_pattern, Condition, RuleDefinition, ExtractorDefinition, Definition, type_def, rule, extractor, decl, attr, spec, spec_macro, model, state, form, instantiation, external, converter}
 use Rattle.isle_ast.specs.Writable.{Each, IsWritablePattern, AreWritablePatterns, IsWritableCondition, IsWritableRule, IsWritableExtractor, IsWritable, AreWritable}
 use Rattle.isle_ast.proofs.SpeltWritable.{definition-spelt, spelt_is_writable}
 use Rattle.isle_ast.proofs.SpeltWritableRules.{pattern-spelt, condition-spelt, rule-spelt, extractor-spelt}
@@ -54,7 +54,10 @@ writable_has_no_macro_arg (rule r) h = writable_rule_has_no_macro_arg r h
 writable_has_no_macro_arg (extractor e) h = writable_extractor_has_no_macro_arg e h
 writable_has_no_macro_arg (decl _) h = refl
 writable_has_no_macro_arg (attr _) h = refl
+writable_has_no_macro_arg (spec _) h = refl
+writable_has_no_macro_arg (spec_macro _) h = refl
 writable_has_no_macro_arg (model _) h = refl
+writable_has_no_macro_arg (state _) h = refl
 writable_has_no_macro_arg (form _) h = refl
 writable_has_no_macro_arg (instantiation _) h = refl
 writable_has_no_macro_arg (external _) h = refl

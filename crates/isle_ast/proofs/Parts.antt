@@ -8,16 +8,21 @@ use Rattle.isle_ast.specs.ModelGrammar.{SpellsTypeModel, SpellsForm, SpellsInsta
 use Rattle.isle_ast.specs.Parts.{IsByParts, AreParts}
 use Rattle.isle_ast.specs.PatternGrammar.{SpellsPattern}
 use Rattle.isle_ast.specs.RuleGrammar.{SpellsCondition, SpellsRule, SpellsExtractor}
+use Rattle.isle_ast.specs.SpecDefinitionGrammar.{SpellsSpecDefinition, SpellsSpecMacro, SpellsState}
+use Rattle.isle_ast.specs.SpecGrammar.{SpellsSpec}
 use Rattle.isle_ast.specs.TermGrammar.{SpellsDeclaration, SpellsAttribute, SpellsExtern, SpellsConversion}
-use Rattle.isle_ast.specs.Tree.{Name, Declaration, Conversion, TypeModel, TypeDefinition, Attribute, FormDefinition, TermInstantiation, ModelDefinition, PatternNode, Expression, Condition, RuleDefinition, ExtractorDefinition, ExternDefinition, Definition}
+use Rattle.isle_ast.specs.Tree.{Name, Declaration, Conversion, TypeModel, TypeDefinition, Attribute, SpecNode, SpecDefinition, SpecMacroDefinition, StateDefinition, FormDefinition, TermInstantiation, ModelDefinition, PatternNode, Expression, Condition, RuleDefinition, ExtractorDefinition, ExternDefinition, Definition}
 use Rattle.isle_ast.specs.TypeGrammar.{SpellsTypeDefinition}
 use Rattle.isle_ast.specs.Words.{SpellsAll, SpellsName}
 use Rattle.isle_ast.proofs.Lawful.{Lawful, name_lawful, all_lawful}
 use Rattle.isle_ast.proofs.LawfulDefinitions.{definition_lawful}
 use Rattle.isle_ast.proofs.LawfulExpressions.{expression_lawful}
-use Rattle.isle_ast.proofs.LawfulModels.{model_lawful, form_lawful, instantiation_lawful, model_definition_lawful}
+use Rattle.isle_ast.proofs.LawfulModelContents.{model_definition_lawful}
+use Rattle.isle_ast.proofs.LawfulModels.{model_lawful, form_lawful, instantiation_lawful}
 use Rattle.isle_ast.proofs.LawfulPatterns.{pattern_lawful}
 use Rattle.isle_ast.proofs.LawfulRules.{condition_lawful, rule_lawful, extractor_lawful}
+use Rattle.isle_ast.proofs.LawfulSpecDefinitions.{spec_definition_cuts, spec_macro_lawful, state_lawful}
+use Rattle.isle_ast.proofs.LawfulSpecs.{spec_lawful}
 use Rattle.isle_ast.proofs.LawfulTerms.{declaration_lawful, attribute_lawful, extern_lawful, conversion_lawful}
 use Rattle.isle_ast.proofs.LawfulTypes.{type_lawful}
 
@@ -65,6 +70,19 @@ rules_by_parts r = by_parts SpellsRule _ r (rule_lawful r)
 
 pub extractors_by_parts : (e : ExtractorDefinition) → IsByParts (SpellsExtractor e)
 extractors_by_parts e = by_parts SpellsExtractor _ e (extractor_lawful e)
+
+pub specs_by_parts : (x : SpecNode) → IsByParts (SpellsSpec x)
+specs_by_parts x = by_parts SpellsSpec _ x (spec_lawful x)
+
+pub spec_definitions_by_parts : (s : SpecDefinition) → IsByParts (SpellsSpecDefinition s)
+spec_definitions_by_parts s all rest =
+    (spec_definition_cuts s all rest, λ h. subst (λ xs. SpellsSpecDefinition s xs rest) (sym h.1) (h.2 rest))
+
+pub spec_macros_by_parts : (m : SpecMacroDefinition) → IsByParts (SpellsSpecMacro m)
+spec_macros_by_parts m = by_parts SpellsSpecMacro _ m (spec_macro_lawful m)
+
+pub states_by_parts : (s : StateDefinition) → IsByParts (SpellsState s)
+states_by_parts s = by_parts SpellsState _ s (state_lawful s)
 
 pub externs_by_parts : (e : ExternDefinition) → IsByParts (SpellsExtern e)
 externs_by_parts e = by_parts SpellsExtern _ e (extern_lawful e)

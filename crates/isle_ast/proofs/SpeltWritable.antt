@@ -2,13 +2,15 @@
 use Rattle.std.proofs.Common.{ℕ, ◌+◌, List, [], ◌∷◌, Option, None, Some, codes, inl, inr, sym, subst}
 use Rattle.isle_base.specs.Place.{Placed}
 use Rattle.isle_ast.specs.Grammar.{SpellsDefinition, SpellsDefinitions}
-use Rattle.isle_ast.specs.ModelGrammar.{SpellsTypeModel, SpellsModelFields, SpellsSignature, SpellsInstances, SpellsTag, SpellsModelContent}
+use Rattle.isle_ast.specs.ModelGrammar.{SpellsTypeModel, SpellsSignature, SpellsInstances, SpellsTag, SpellsModelContent}
 use Rattle.isle_ast.specs.TermGrammar.{SpellsDeclaration, SpellsAttributeKind, SpellsAttributeTarget, SpellsExtern}
-use Rattle.isle_ast.specs.Tree.{Name, Declaration, TypeModel, unspecified_model, auto_model, int_model, bool_model, unit_model, bit_vector_model, struct_model, named_model, ModelFieldRow, no_model_field, model_field, IndexedField, FieldList, unit_fields, struct_fields, tuple_fields, EnumVariant, TypeContent, primitive_type, enum_type, struct_type, AttributeTarget, term_target, rule_target, AttributeKind, chain_kind, priority_kind, tag_kind, TermSignature, ModelContent, type_model, ExternDefinition, extern_extractor, extern_constructor, extern_const, Definition, type_def, rule, extractor, decl, attr, model, form, instantiation, external, converter}
+use Rattle.isle_ast.specs.Tree.{Name, Declaration, IndexedField, FieldList, unit_fields, struct_fields, tuple_fields, EnumVariant, TypeContent, primitive_type, enum_type, struct_type, AttributeTarget, term_target, rule_target, AttributeKind, chain_kind, priority_kind, tag_kind, TermSignature, ModelContent, type_model, const_model, ExternDefinition, extern_extractor, extern_constructor, extern_const, Definition, type_def, rule, extractor, decl, attr, spec, spec_macro, model, state, form, instantiation, external, converter}
 use Rattle.isle_ast.specs.TypeGrammar.{SpellsNamedField, SpellsIndexedFields, SpellsFields, SpellsVariant, SpellsTypeContent}
-use Rattle.isle_ast.specs.Writable.{IsName, IsWritableDeclaration, IsWritableModel, AreWritableModelFields, IsWritableNamedField, AreWritableIndexedFields, AreWritableFields, IsWritableVariant, IsWritableTypeContent, IsWritableTarget, IsWritableKind, IsWritableSignature, AreWritableInstances, IsWritableModelContent, IsWritableExtern, IsWritable, AreWritable}
+use Rattle.isle_ast.specs.Writable.{IsName, IsWritableDeclaration, IsWritableModel, IsWritableNamedField, AreWritableIndexedFields, AreWritableFields, IsWritableVariant, IsWritableTypeContent, IsWritableTarget, IsWritableKind, IsWritableSignature, AreWritableInstances, IsWritableModelContent, IsWritableExtern, IsWritable, AreWritable}
 use Rattle.isle_ast.proofs.SpeltWords.{both_true, demands-Wants, Each-spelt, names-spelt, differs}
+use Rattle.isle_ast.proofs.SpeltWritableModels.{model-spelt}
 use Rattle.isle_ast.proofs.SpeltWritableRules.{rule-spelt, extractor-spelt}
+use Rattle.isle_ast.proofs.SpeltWritableSpecs.{spec-spelt, spec_definition-spelt, spec_macro-spelt, state-spelt}
 
 declaration-spelt : (d : Declaration) (all rest : List Placed) → SpellsDeclaration d all rest → IsWritableDeclaration d
 declaration-spelt d all rest s =
@@ -24,23 +26,6 @@ declaration-spelt d all rest s =
       not_partial = demands-Wants d.term (codes "partial") _ second.1;
       not_rec = demands-Wants d.term (codes "rec") d.rec first.1;
     }
-
-mutual
-  model-spelt : (m : TypeModel) (all rest : List Placed) → SpellsTypeModel m all rest → IsWritableModel m
-  model-spelt unspecified_model all rest s = tt
-  model-spelt auto_model all rest s = tt
-  model-spelt int_model all rest s = tt
-  model-spelt bool_model all rest s = tt
-  model-spelt unit_model all rest s = tt
-  model-spelt (bit_vector_model None) all rest s = tt
-  model-spelt (bit_vector_model (Some n)) all rest s = s.3.2.0
-  model-spelt (struct_model fields) all rest s = model_fields-spelt fields s.3.0 s.1 s.3.2
-  model-spelt (named_model name) all rest s = s.3.2.0
-
-  model_fields-spelt : (fields : ModelFieldRow) (all rest : List Placed) → SpellsModelFields fields all rest → AreWritableModelFields fields
-  model_fields-spelt no_model_field all rest s = tt
-  model_fields-spelt (model_field name ty fields) all rest s =
-      (s.1.3.1.0, model-spelt ty s.1.3.0 s.1.1 s.1.3.2, model_fields-spelt fields s.0 rest s.2)
 
 indexed_fields-spelt : (place : ℕ) (fs : List IndexedField) (all rest : List Placed) → SpellsIndexedFields place fs all rest → AreWritableIndexedFields place fs
 indexed_fields-spelt place [] all rest s = tt
@@ -90,6 +75,7 @@ instances-spelt (Some name) signatures tags all rest s =
 
 model_content-spelt : (m : ModelContent) (all rest : List Placed) → SpellsModelContent m all rest → IsWritableModelContent m
 model_content-spelt (type_model ty) all rest s = model-spelt ty s.3.0 s.1 s.3.2
+model_content-spelt (const_model value) all rest s = spec-spelt value s.3.0 s.1 s.3.2
 
 extern-spelt : (e : ExternDefinition) (all rest : List Placed) → SpellsExtern e all rest → IsWritableExtern e
 extern-spelt (extern_extractor term func _ infallible) all rest s =
@@ -109,9 +95,12 @@ definition-spelt (attr a) all rest s =
       target-spelt a.target s.3.0 body.behind_target body.target,
       Each-spelt IsWritableKind SpellsAttributeKind kind-spelt a.kinds body.behind_target s.1 body.kinds,
     )
+definition-spelt (spec d) all rest s = spec_definition-spelt d s.3.0 s.1 s.3.2
+definition-spelt (spec_macro m) all rest s = spec_macro-spelt m s.3.0 s.1 s.3.2
 definition-spelt (model m) all rest s =
     let body = s.3.2 in
     (body.name.0, model_content-spelt m.val body.behind_name s.1 body.val)
+definition-spelt (state d) all rest s = state-spelt d s.3.0 s.1 s.3.2
 definition-spelt (form f) all rest s =
     let body = s.3.2 in
     (body.name.0, Each-spelt IsWritableSignature SpellsSignature signature-spelt f.signatures body.behind_name s.1 body.signatures)

@@ -21,7 +21,7 @@ neither_set false b e = (refl, e)
 no_dollar : (n : Name) → is_constant n.text ≡ false → HasNoDollar n
 no_dollar n h behind e = false≢true (sym h ∙ ap is_constant e)
 
-no_bool_word : (n : Name) → is_bool_word n.text ≡ false → IsNot n (codes "true") × IsNot n (codes "false")
+pub no_bool_word : (n : Name) → is_bool_word n.text ≡ false → IsNot n (codes "true") × IsNot n (codes "false")
 no_bool_word n h =
     let both = neither_set (bytes_eq n.text (codes "true")) (bytes_eq n.text (codes "false")) h in
     (differs n.text (codes "true") both.0, differs n.text (codes "false") both.1)
@@ -107,7 +107,7 @@ condition-spelt c all rest s =
 
 -- rules
 
-optional_name-spelt : (o : Option Name) (all rest : List Placed) → SpellsOptional SpellsName o all rest → IfSome o IsName
+pub optional_name-spelt : (o : Option Name) (all rest : List Placed) → SpellsOptional SpellsName o all rest → IfSome o IsName
 optional_name-spelt None all rest s = tt
 optional_name-spelt (Some n) all rest s = s.0
 

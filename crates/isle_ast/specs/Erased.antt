@@ -1,13 +1,9 @@
 -- A tree erased: each position is the default one, which stands for an unknown place.
-use Rattle.std.specs.Prelude.{List, map, Option, None, Some}
+use Rattle.std.specs.Prelude.{List, map}
 use Rattle.isle_base.specs.Place.{Placed, unknown}
-use Rattle.isle_ast.specs.Tree.{Name, Declaration, Conversion, TypeModel, unspecified_model, auto_model, int_model, bool_model, unit_model, bit_vector_model, struct_model, named_model, ModelFieldRow, no_model_field, model_field, NamedField, IndexedField, FieldList, unit_fields, struct_fields, tuple_fields, EnumVariant, TypeContent, primitive_type, enum_type, struct_type, TypeDefinition, AttributeTarget, term_target, rule_target, AttributeKind, chain_kind, priority_kind, tag_kind, Attribute, TermSignature, FormDefinition, TermInstantiation, ModelContent, type_model, ModelDefinition, PatternNode, var_pattern, bind_pattern, bool_pattern, int_pattern, constant_pattern, term_pattern, wildcard_pattern, and_pattern, macro_arg_pattern, PatternRow, no_pattern, more_pattern, Expression, term_expression, var_expression, bool_expression, int_expression, constant_expression, let_expression, ExpressionRow, no_expression, more_expression, LetRow, no_let, more_let, Condition, RuleDefinition, ExtractorDefinition, ExternDefinition, extern_extractor, extern_constructor, extern_const, Definition, type_def, rule, extractor, decl, attr, model, form, instantiation, external, converter}
-
-abbrev pub erase_name : Name → Name
-erase_name n = record n { pos = unknown }
-
-abbrev pub erase_names : List Name → List Name
-erase_names ns = map erase_name ns
+use Rattle.isle_ast.specs.SpecErased.{erase_spec, erase_spec_definition, erase_spec_macro, erase_state}
+use Rattle.isle_ast.specs.Tree.{Declaration, Conversion, NamedField, IndexedField, FieldList, unit_fields, struct_fields, tuple_fields, EnumVariant, TypeContent, primitive_type, enum_type, struct_type, TypeDefinition, AttributeTarget, term_target, rule_target, AttributeKind, chain_kind, priority_kind, tag_kind, Attribute, TermSignature, FormDefinition, TermInstantiation, ModelContent, type_model, const_model, ModelDefinition, PatternNode, var_pattern, bind_pattern, bool_pattern, int_pattern, constant_pattern, term_pattern, wildcard_pattern, and_pattern, macro_arg_pattern, PatternRow, no_pattern, more_pattern, Expression, term_expression, var_expression, bool_expression, int_expression, constant_expression, let_expression, ExpressionRow, no_expression, more_expression, LetRow, no_let, more_let, Condition, RuleDefinition, ExtractorDefinition, ExternDefinition, extern_extractor, extern_constructor, extern_const, Definition, type_def, rule, extractor, decl, attr, spec, spec_macro, model, state, form, instantiation, external, converter}
+pub use Rattle.isle_ast.specs.ErasedModel.{erase_name, erase_names, erase_optional, erase_model, erase_model_fields}
 
 abbrev pub erase_declaration : Declaration → Declaration
 erase_declaration d =
@@ -26,26 +22,6 @@ erase_conversion c =
       outer_ty = erase_name c.outer_ty;
       pos = unknown;
     }
-
-abbrev pub erase_optional : Option Name → Option Name
-erase_optional None = None
-erase_optional (Some n) = Some (erase_name n)
-
-abbrev mutual
-  pub erase_model : TypeModel → TypeModel
-  erase_model unspecified_model = unspecified_model
-  erase_model auto_model = auto_model
-  erase_model int_model = int_model
-  erase_model bool_model = bool_model
-  erase_model unit_model = unit_model
-  erase_model (bit_vector_model width) = bit_vector_model width
-  erase_model (struct_model fields) = struct_model (erase_model_fields fields)
-  erase_model (named_model name) = named_model (erase_name name)
-
-  pub erase_model_fields : ModelFieldRow → ModelFieldRow
-  erase_model_fields no_model_field = no_model_field
-  erase_model_fields (model_field name ty fields) =
-      model_field (erase_name name) (erase_model ty) (erase_model_fields fields)
 
 abbrev pub erase_named_field : NamedField → NamedField
 erase_named_field f = record { name = erase_name f.name; ty = erase_name f.ty; pos = unknown }
@@ -100,6 +76,7 @@ erase_instantiation i =
 
 abbrev pub erase_model_content : ModelContent → ModelContent
 erase_model_content (type_model ty) = type_model (erase_model ty)
+erase_model_content (const_model value) = const_model (erase_spec value)
 
 abbrev pub erase_model_definition : ModelDefinition → ModelDefinition
 erase_model_definition m = record { name = erase_name m.name; val = erase_model_content m.val }
@@ -173,7 +150,10 @@ erase_definition (rule r) = rule (erase_rule r)
 erase_definition (extractor e) = extractor (erase_extractor e)
 erase_definition (decl d) = decl (erase_declaration d)
 erase_definition (attr a) = attr (erase_attribute a)
+erase_definition (spec s) = spec (erase_spec_definition s)
+erase_definition (spec_macro m) = spec_macro (erase_spec_macro m)
 erase_definition (model m) = model (erase_model_definition m)
+erase_definition (state s) = state (erase_state s)
 erase_definition (form f) = form (erase_form f)
 erase_definition (instantiation i) = instantiation (erase_instantiation i)
 erase_definition (external e) = external (erase_extern e)

@@ -5,8 +5,9 @@ use Rattle.std.specs.Prelude.{ℕ, List, [], codes}
 use Rattle.isle_base.specs.Place.{Placed}
 use Rattle.isle_ast.specs.ModelGrammar.{SpellsForm, SpellsInstantiation, SpellsModel}
 use Rattle.isle_ast.specs.RuleGrammar.{SpellsRule, SpellsExtractor}
+use Rattle.isle_ast.specs.SpecDefinitionGrammar.{SpellsSpecDefinition, SpellsSpecMacro, SpellsState}
 use Rattle.isle_ast.specs.TermGrammar.{SpellsDeclaration, SpellsAttribute, SpellsExtern, SpellsConversion}
-use Rattle.isle_ast.specs.Tree.{Definition, type_def, rule, extractor, decl, attr, model, form, instantiation, external, converter}
+use Rattle.isle_ast.specs.Tree.{Definition, type_def, rule, extractor, decl, attr, spec, spec_macro, model, state, form, instantiation, external, converter}
 use Rattle.isle_ast.specs.TypeGrammar.{SpellsTypeDefinition}
 use Rattle.isle_ast.specs.Words.{SpellsAll, InParentheses, BehindWord}
 
@@ -21,7 +22,10 @@ SpellsDefinition (rule r) = InForm (codes "rule") (SpellsRule r)
 SpellsDefinition (extractor e) = InForm (codes "extractor") (SpellsExtractor e)
 SpellsDefinition (decl d) = InForm (codes "decl") (SpellsDeclaration d)
 SpellsDefinition (attr a) = InForm (codes "attr") (SpellsAttribute a)
+SpellsDefinition (spec s) = InForm (codes "spec") (SpellsSpecDefinition s)
+SpellsDefinition (spec_macro m) = InForm (codes "macro") (SpellsSpecMacro m)
 SpellsDefinition (model m) = InForm (codes "model") (SpellsModel m)
+SpellsDefinition (state s) = InForm (codes "state") (SpellsState s)
 SpellsDefinition (form f) = InForm (codes "form") (SpellsForm f)
 SpellsDefinition (instantiation i) = InForm (codes "instantiate") (SpellsInstantiation i)
 SpellsDefinition (external e) = InForm (codes "extern") (SpellsExtern e)

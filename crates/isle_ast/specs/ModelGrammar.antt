@@ -1,30 +1,10 @@
--- The models of types, and the definitions that are made of them: `model`, `form` and `instantiate`.
+-- The definitions that are made of models of types: `model`, `form` and `instantiate`.
 use Rattle.std.specs.Prelude.{◌≡◌, List, [], Option, None, Some, codes}
 use Rattle.isle_base.specs.Place.{Placed}
-use Rattle.isle_ast.specs.Numbers.{SpellsNumber}
-use Rattle.isle_ast.specs.Tree.{Name, TypeModel, unspecified_model, auto_model, int_model, bool_model, unit_model, bit_vector_model, struct_model, named_model, ModelFieldRow, no_model_field, model_field, TermSignature, FormDefinition, TermInstantiation, ModelContent, type_model, ModelDefinition}
-use Rattle.isle_ast.specs.Words.{SpellsWord, BeginsAt, SpellsAll, InParentheses, BehindWord, SpellsName, SpellsOptional, IsNonEmpty}
-
--- `!`, `_`, `Int`, `Bool`, `Unit`, `(bv)` or `(bv N)`, `(struct (I MODEL)..)`, `(named I)`
-abbrev mutual
-  pub SpellsTypeModel : TypeModel → List Placed → List Placed → Type 0
-  SpellsTypeModel unspecified_model all rest = SpellsWord (codes "!") all rest
-  SpellsTypeModel auto_model all rest = SpellsWord (codes "_") all rest
-  SpellsTypeModel int_model all rest = SpellsWord (codes "Int") all rest
-  SpellsTypeModel bool_model all rest = SpellsWord (codes "Bool") all rest
-  SpellsTypeModel unit_model all rest = SpellsWord (codes "Unit") all rest
-  SpellsTypeModel (bit_vector_model width) all rest =
-      InParentheses (BehindWord (codes "bv") (SpellsOptional SpellsNumber width)) all rest
-  SpellsTypeModel (struct_model fields) all rest =
-      InParentheses (BehindWord (codes "struct") (SpellsModelFields fields)) all rest
-  SpellsTypeModel (named_model name) all rest = InParentheses (BehindWord (codes "named") (SpellsName name)) all rest
-
-  pub SpellsModelFields : ModelFieldRow → List Placed → List Placed → Type 0
-  SpellsModelFields no_model_field all rest = all ≡ rest
-  SpellsModelFields (model_field name ty fields) all rest =
-      (mid : List Placed)
-      × InParentheses (λ inner close. (behind : List Placed) × SpellsName name inner behind × SpellsTypeModel ty behind close) all mid
-      × SpellsModelFields fields mid rest
+use Rattle.isle_ast.specs.SpecGrammar.{SpellsSpec}
+use Rattle.isle_ast.specs.Tree.{Name, TermSignature, FormDefinition, TermInstantiation, ModelContent, type_model, const_model, ModelDefinition}
+use Rattle.isle_ast.specs.Words.{BeginsAt, SpellsAll, InParentheses, BehindWord, SpellsName, IsNonEmpty}
+pub use Rattle.isle_ast.specs.TypeModelGrammar.{SpellsTypeModel, SpellsModelFields}
 
 -- `((args MODEL..) (ret MODEL))`, at the position of the token behind its `(`
 abbrev pub SpellsSignature : TermSignature → List Placed → List Placed → Type 0
@@ -61,9 +41,10 @@ pub record SpellsInstantiation (i : TermInstantiation) (all rest : List Placed) 
   pub term : SpellsName i.term all behind_term
   pub instances : SpellsInstances i.form i.signatures i.tags behind_term rest
 
--- `(type MODEL)`
+-- `(type MODEL)` or `(const E)`
 abbrev pub SpellsModelContent : ModelContent → List Placed → List Placed → Type 0
 SpellsModelContent (type_model ty) = InParentheses (BehindWord (codes "type") (SpellsTypeModel ty))
+SpellsModelContent (const_model value) = InParentheses (BehindWord (codes "const") (SpellsSpec value))
 
 -- the name, the content; a model has no position of its own
 pub record SpellsModel (m : ModelDefinition) (all rest : List Placed) : Type 0 where

@@ -2,6 +2,7 @@
 -- it lies in memory. The fields are those of the types of the code.
 use Rattle.std.specs.Prelude.{ℕ, ℤ, List, Bool, Option}
 use Rattle.isle_base.specs.declared.lexer.Pos.{Pos}
+use Rattle.isle_ast.specs.declared.ast.specs.SpecOp.{SpecOp}
 
 pub record Name : Type 0 where
   pub text : List ℕ
@@ -41,6 +42,75 @@ mutual
   pub data ModelFieldRow : Type 0 where
     no_model_field : ModelFieldRow
     model_field : Name → TypeModel → ModelFieldRow → ModelFieldRow
+
+-- what a spec says of values, and what it is made of
+mutual
+  pub data SpecNode : Type 0 where
+    int_spec : (val : ℤ) → Pos → SpecNode
+    bit_vector_spec : (val width : ℕ) → Pos → SpecNode
+    bool_spec : (val : Bool) → Pos → SpecNode
+    var_spec : (var : Name) → Pos → SpecNode
+    as_spec : (x : SpecNode) → (ty : TypeModel) → Pos → SpecNode
+    field_spec : (field : Name) → (x : SpecNode) → Pos → SpecNode
+    discriminator_spec : (variant : Name) → (x : SpecNode) → Pos → SpecNode
+    op_spec : (op : SpecOp) → (args : SpecRow) → Pos → SpecNode
+    match_spec : (x : SpecNode) → (arms : ArmRow) → Pos → SpecNode
+    let_spec : (defs : SpecLetRow) → (body : SpecNode) → Pos → SpecNode
+    with_spec : (decls : List Name) → (body : SpecNode) → Pos → SpecNode
+    macro_spec : (params : List Name) → (body : SpecNode) → Pos → SpecNode
+    expand_spec : (name : Name) → (args : SpecRow) → Pos → SpecNode
+    pair_spec : (l r : SpecNode) → Pos → SpecNode
+    enum_spec : (name variant : Name) → (args : SpecRow) → Pos → SpecNode
+    struct_spec : (fields : FieldInitRow) → Pos → SpecNode
+
+  -- spec expressions in order
+  pub data SpecRow : Type 0 where
+    no_spec : SpecRow
+    more_spec : SpecNode → SpecRow → SpecRow
+
+  -- the arms of a `match`, each a variant, names for its fields, a value and a position
+  pub data ArmRow : Type 0 where
+    no_arm : ArmRow
+    more_arm : (variant : Name) → (args : List Name) → (body : SpecNode) → Pos → ArmRow → ArmRow
+
+  -- the definitions of a `let`, each a name and its value
+  pub data SpecLetRow : Type 0 where
+    no_spec_let : SpecLetRow
+    more_spec_let : Name → SpecNode → SpecLetRow → SpecLetRow
+
+  -- the fields of a `struct`, each a name, its value and a position
+  pub data FieldInitRow : Type 0 where
+    no_field_init : FieldInitRow
+    more_field_init : (name : Name) → (value : SpecNode) → Pos → FieldInitRow → FieldInitRow
+
+-- a state that a term changes, if it is only where a condition holds
+pub record ModifiedState : Type 0 where
+  pub state : Name
+  pub cond : Option Name
+
+-- what holds of a term
+pub record SpecDefinition : Type 0 where
+  pub term : Name
+  pub args : List Name
+  pub provides : List SpecNode
+  pub requires_ : List SpecNode
+  pub matches : List SpecNode
+  pub modifies : List ModifiedState
+  pub pos : Pos
+
+-- a spec expression under a name, with parameters
+pub record SpecMacroDefinition : Type 0 where
+  pub name : Name
+  pub params : List Name
+  pub body : SpecNode
+  pub pos : Pos
+
+-- a state that specs speak of
+pub record StateDefinition : Type 0 where
+  pub name : Name
+  pub ty : TypeModel
+  pub default : SpecNode
+  pub pos : Pos
 
 -- a field that has a name
 pub record NamedField : Type 0 where
@@ -114,6 +184,7 @@ pub record TermInstantiation : Type 0 where
 
 pub data ModelContent : Type 0 where
   type_model : TypeModel → ModelContent
+  const_model : SpecNode → ModelContent
 
 -- the model of a type
 pub record ModelDefinition : Type 0 where
@@ -192,7 +263,10 @@ pub data Definition : Type 0 where
   extractor : ExtractorDefinition → Definition
   decl : Declaration → Definition
   attr : Attribute → Definition
+  spec : SpecDefinition → Definition
+  spec_macro : SpecMacroDefinition → Definition
   model : ModelDefinition → Definition
+  state : StateDefinition → Definition
   form : FormDefinition → Definition
   instantiation : TermInstantiation → Definition
   external : ExternDefinition → Definition

@@ -1,7 +1,6 @@
 -- The tree of the code, as pure values.
 use Rattle.isle_base.specs.declared.lexer.Pos.{Pos}
-use Rattle.std.specs.Prelude.{List, [], ◌∷◌, map, Option, None, Some, string_bytes}
-use Rattle.isle_ast.specs.declared.ast.Ident.{Ident}
+use Rattle.std.specs.Prelude.{List, [], ◌∷◌, map}
 use Rattle.isle_ast.specs.declared.ast.TypeDef.{TypeDef}
 use Rattle.isle_ast.specs.declared.ast.TypeValue.{TypeValue}
 use Rattle.isle_ast.specs.declared.ast.TypeValue.TheVariants as type_values
@@ -19,10 +18,6 @@ use Rattle.isle_ast.specs.declared.ast.AttrTarget.{AttrTarget}
 use Rattle.isle_ast.specs.declared.ast.AttrTarget.TheVariants as targets
 use Rattle.isle_ast.specs.declared.ast.AttrKind.{AttrKind}
 use Rattle.isle_ast.specs.declared.ast.AttrKind.TheVariants as kinds
-use Rattle.isle_ast.specs.declared.ast.ModelType.{ModelType}
-use Rattle.isle_ast.specs.declared.ast.ModelType.TheOpen.{ModelType-F, ModelField-F}
-use Rattle.isle_ast.specs.declared.ast.ModelType.TheFolds.{fold-ModelType, fold-ModelField}
-use Rattle.isle_ast.specs.declared.ast.ModelField.{ModelField}
 use Rattle.isle_ast.specs.declared.ast.ModelValue.{ModelValue}
 use Rattle.isle_ast.specs.declared.ast.ModelValue.TheVariants as model_values
 use Rattle.isle_ast.specs.declared.ast.Model.{Model}
@@ -43,13 +38,9 @@ use Rattle.isle_ast.specs.declared.ast.Extern.TheVariants as externs
 use Rattle.isle_ast.specs.declared.ast.Converter.{Converter}
 use Rattle.isle_ast.specs.declared.ast.Def.{Def}
 use Rattle.isle_ast.specs.declared.ast.Def.TheVariants as variants
-use Rattle.isle_ast.specs.Tree.{Name, Declaration, Conversion, TypeModel, unspecified_model, auto_model, int_model, bool_model, unit_model, bit_vector_model, struct_model, named_model, ModelFieldRow, no_model_field, model_field, NamedField, IndexedField, FieldList, unit_fields, struct_fields, tuple_fields, EnumVariant, TypeContent, primitive_type, enum_type, struct_type, TypeDefinition, AttributeTarget, term_target, rule_target, AttributeKind, chain_kind, priority_kind, tag_kind, Attribute, TermSignature, FormDefinition, TermInstantiation, ModelContent, type_model, ModelDefinition, PatternNode, var_pattern, bind_pattern, bool_pattern, int_pattern, constant_pattern, term_pattern, wildcard_pattern, and_pattern, macro_arg_pattern, PatternRow, no_pattern, more_pattern, Expression, term_expression, var_expression, bool_expression, int_expression, constant_expression, let_expression, ExpressionRow, no_expression, more_expression, LetRow, no_let, more_let, Condition, RuleDefinition, ExtractorDefinition, ExternDefinition, extern_extractor, extern_constructor, extern_const, Definition, type_def, rule, extractor, decl, attr, model, form, instantiation, external, converter}
-
-abbrev pub name_of : Ident → Name
-name_of i = record { text = string_bytes i.0; pos = i.1 }
-
-abbrev pub names_of : List Ident → List Name
-names_of is = map name_of is
+use Rattle.isle_ast.specs.SpecView.{spec_of, spec_definition_of, spec_macro_of, state_of}
+use Rattle.isle_ast.specs.Tree.{Name, Declaration, Conversion, NamedField, IndexedField, FieldList, unit_fields, struct_fields, tuple_fields, EnumVariant, TypeContent, primitive_type, enum_type, struct_type, TypeDefinition, AttributeTarget, term_target, rule_target, AttributeKind, chain_kind, priority_kind, tag_kind, Attribute, TermSignature, FormDefinition, TermInstantiation, ModelContent, type_model, const_model, ModelDefinition, PatternNode, var_pattern, bind_pattern, bool_pattern, int_pattern, constant_pattern, term_pattern, wildcard_pattern, and_pattern, macro_arg_pattern, PatternRow, no_pattern, more_pattern, Expression, term_expression, var_expression, bool_expression, int_expression, constant_expression, let_expression, ExpressionRow, no_expression, more_expression, LetRow, no_let, more_let, Condition, RuleDefinition, ExtractorDefinition, ExternDefinition, extern_extractor, extern_constructor, extern_const, Definition, type_def, rule, extractor, decl, attr, spec, spec_macro, model, state, form, instantiation, external, converter}
+pub use Rattle.isle_ast.specs.ModelView.{name_of, names_of, optional_name_of, SingleModelField, model_row_of, model_type_step, model_field_step, type_model_of, single_model_field_of, single_model_fields_of}
 
 abbrev pub declaration_of : Decl → Declaration
 declaration_of d =
@@ -120,40 +111,9 @@ kind_of (kinds.Tag name) = tag_kind (name_of name)
 abbrev pub attribute_of : Attr → Attribute
 attribute_of a = record { target = target_of a.target; kinds = map kind_of a.kinds.items; pos = a.pos }
 
--- a field of a struct model, by itself
-pub record SingleModelField : Type 0 where
-  pub name : Name
-  pub ty : TypeModel
-
-abbrev pub model_row_of : List SingleModelField → ModelFieldRow
-model_row_of [] = no_model_field
-model_row_of (f ∷ fs) = model_field f.name f.ty (model_row_of fs)
-
--- one node, with the pure value of each part in its place
-abbrev pub model_type_step : ModelType-F TypeModel SingleModelField → TypeModel
-model_type_step ModelType-F.Unspecified = unspecified_model
-model_type_step ModelType-F.Auto = auto_model
-model_type_step ModelType-F.Int = int_model
-model_type_step ModelType-F.Bool = bool_model
-model_type_step ModelType-F.Unit = unit_model
-model_type_step (ModelType-F.BitVec width) = bit_vector_model width
-model_type_step (ModelType-F.Struct fs) = struct_model (model_row_of fs.items)
-model_type_step (ModelType-F.Named name) = named_model (name_of name)
-
-abbrev pub model_field_step : ModelField-F TypeModel SingleModelField → SingleModelField
-model_field_step f = record { name = name_of f.name; ty = f.ty }
-
-abbrev pub type_model_of : ModelType → TypeModel
-type_model_of = fold-ModelType TypeModel SingleModelField model_type_step model_field_step
-
-abbrev pub single_model_field_of : ModelField → SingleModelField
-single_model_field_of = fold-ModelField TypeModel SingleModelField model_type_step model_field_step
-
-abbrev pub single_model_fields_of : List ModelField → List SingleModelField
-single_model_fields_of fs = map single_model_field_of fs
-
 abbrev pub model_content_of : ModelValue → ModelContent
 model_content_of (model_values.TypeValue ty) = type_model (type_model_of ty)
+model_content_of (model_values.ConstValue value) = const_model (spec_of value)
 
 abbrev pub model_definition_of : Model → ModelDefinition
 model_definition_of m = record { name = name_of m.name; val = model_content_of m.val }
@@ -166,10 +126,6 @@ signatures_of ss = map signature_of ss
 
 abbrev pub form_of : Form → FormDefinition
 form_of f = record { name = name_of f.name; signatures = signatures_of f.signatures.items; pos = f.pos }
-
-abbrev pub optional_name_of : Option Ident → Option Name
-optional_name_of None = None
-optional_name_of (Some i) = Some (name_of i)
 
 abbrev pub instantiation_of : Instantiation → TermInstantiation
 instantiation_of i =
@@ -281,7 +237,10 @@ definition_of (variants.Rule r) = rule (rule_of r)
 definition_of (variants.Extractor e) = extractor (extractor_of e)
 definition_of (variants.Decl d) = decl (declaration_of d)
 definition_of (variants.Attr a) = attr (attribute_of a)
+definition_of (variants.Spec s) = spec (spec_definition_of s)
+definition_of (variants.SpecMacro m) = spec_macro (spec_macro_of m)
 definition_of (variants.Model m) = model (model_definition_of m)
+definition_of (variants.State s) = state (state_of s)
 definition_of (variants.Form f) = form (form_of f)
 definition_of (variants.Instantiation i) = instantiation (instantiation_of i)
 definition_of (variants.Extern e) = external (extern_of e)

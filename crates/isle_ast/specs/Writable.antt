@@ -1,19 +1,12 @@
 -- Which trees are written so that they read back: the conditions on each node. They name no text and
 -- no width, and positions play no part.
-use Rattle.std.specs.Prelude.{◌≡◌, ◌≢◌, ℕ, ◌+◌, ◌^◌, ◌<◌, List, [], ◌∷◌, Bool, true, ◌||◌, Option, None, Some, IfSome, codes}
+use Rattle.std.specs.Prelude.{◌≡◌, ◌≢◌, ℕ, ◌+◌, List, [], ◌∷◌, Bool, true, ◌||◌, Option, None, Some, IfSome, codes}
 use Rattle.isle_ast.specs.Identifier.{is_identifier}
 use Rattle.isle_ast.specs.Numbers.{IsSigned}
-use Rattle.isle_ast.specs.Tree.{Name, Declaration, Conversion, TypeModel, unspecified_model, auto_model, int_model, bool_model, unit_model, bit_vector_model, struct_model, named_model, ModelFieldRow, no_model_field, model_field, NamedField, IndexedField, FieldList, unit_fields, struct_fields, tuple_fields, EnumVariant, TypeContent, primitive_type, enum_type, struct_type, TypeDefinition, AttributeTarget, term_target, rule_target, AttributeKind, chain_kind, priority_kind, tag_kind, Attribute, TermSignature, FormDefinition, TermInstantiation, ModelContent, type_model, ModelDefinition, PatternNode, var_pattern, bind_pattern, bool_pattern, int_pattern, constant_pattern, term_pattern, wildcard_pattern, and_pattern, macro_arg_pattern, PatternRow, no_pattern, more_pattern, Expression, term_expression, var_expression, bool_expression, int_expression, constant_expression, let_expression, ExpressionRow, no_expression, more_expression, LetRow, no_let, more_let, Condition, RuleDefinition, ExtractorDefinition, ExternDefinition, extern_extractor, extern_constructor, extern_const, Definition, type_def, rule, extractor, decl, attr, model, form, instantiation, external, converter}
+use Rattle.isle_ast.specs.SpecWritable.{IsWritableSpec, IsWritableSpecDefinition, IsWritableSpecMacro, IsWritableState}
+use Rattle.isle_ast.specs.Tree.{Name, Declaration, Conversion, NamedField, IndexedField, FieldList, unit_fields, struct_fields, tuple_fields, EnumVariant, TypeContent, primitive_type, enum_type, struct_type, TypeDefinition, AttributeTarget, term_target, rule_target, AttributeKind, chain_kind, priority_kind, tag_kind, Attribute, TermSignature, FormDefinition, TermInstantiation, ModelContent, type_model, const_model, ModelDefinition, PatternNode, var_pattern, bind_pattern, bool_pattern, int_pattern, constant_pattern, term_pattern, wildcard_pattern, and_pattern, macro_arg_pattern, PatternRow, no_pattern, more_pattern, Expression, term_expression, var_expression, bool_expression, int_expression, constant_expression, let_expression, ExpressionRow, no_expression, more_expression, LetRow, no_let, more_let, Condition, RuleDefinition, ExtractorDefinition, ExternDefinition, extern_extractor, extern_constructor, extern_const, Definition, type_def, rule, extractor, decl, attr, spec, spec_macro, model, state, form, instantiation, external, converter}
 use Rattle.isle_ast.specs.Words.{IsNonEmpty}
-
--- a name is an identifier
-abbrev pub IsName : Name → Type 0
-IsName n = is_identifier n.text ≡ true
-
--- each element of a list
-abbrev pub Each : {A : Type 0} → (A → Type 0) → List A → Type 0
-Each P [] = Unit {0}
-Each P (x ∷ xs) = P x × Each P xs
+pub use Rattle.isle_ast.specs.WritableModel.{IsName, Each, IsNot, IsWritableModel, AreWritableModelFields}
 
 -- a name that is this word wants this to be set
 abbrev pub Wants : Name → List ℕ → Bool → Type 0
@@ -31,22 +24,6 @@ pub record IsWritableDeclaration (d : Declaration) : Type 0 where
 
 abbrev pub IsWritableConversion : Conversion → Type 0
 IsWritableConversion c = IsName c.term × IsName c.inner_ty × IsName c.outer_ty
-
--- a width is a number of its type
-abbrev mutual
-  pub IsWritableModel : TypeModel → Type 0
-  IsWritableModel unspecified_model = Unit {0}
-  IsWritableModel auto_model = Unit {0}
-  IsWritableModel int_model = Unit {0}
-  IsWritableModel bool_model = Unit {0}
-  IsWritableModel unit_model = Unit {0}
-  IsWritableModel (bit_vector_model width) = IfSome width (λ n. n < 2 ^ 64)
-  IsWritableModel (struct_model fields) = AreWritableModelFields fields
-  IsWritableModel (named_model name) = IsName name
-
-  pub AreWritableModelFields : ModelFieldRow → Type 0
-  AreWritableModelFields no_model_field = Unit {0}
-  AreWritableModelFields (model_field name ty fields) = IsName name × IsWritableModel ty × AreWritableModelFields fields
 
 abbrev pub IsWritableNamedField : NamedField → Type 0
 IsWritableNamedField f = IsName f.name × IsName f.ty
@@ -102,13 +79,10 @@ IsWritableInstantiation i = IsName i.term × AreWritableInstances i.form i.signa
 
 abbrev pub IsWritableModelContent : ModelContent → Type 0
 IsWritableModelContent (type_model ty) = IsWritableModel ty
+IsWritableModelContent (const_model value) = IsWritableSpec value
 
 abbrev pub IsWritableModelDefinition : ModelDefinition → Type 0
 IsWritableModelDefinition m = IsName m.name × IsWritableModelContent m.val
-
--- a name that isn't this word
-abbrev pub IsNot : Name → List ℕ → Type 0
-IsNot n word = n.text ≢ word
 
 -- a name that doesn't begin with `$`
 abbrev pub HasNoDollar : Name → Type 0
@@ -216,7 +190,10 @@ IsWritable (rule r) = IsWritableRule r
 IsWritable (extractor e) = IsWritableExtractor e
 IsWritable (decl d) = IsWritableDeclaration d
 IsWritable (attr a) = IsWritableAttribute a
+IsWritable (spec s) = IsWritableSpecDefinition s
+IsWritable (spec_macro m) = IsWritableSpecMacro m
 IsWritable (model m) = IsWritableModelDefinition m
+IsWritable (state s) = IsWritableState s
 IsWritable (form f) = IsWritableForm f
 IsWritable (instantiation i) = IsWritableInstantiation i
 IsWritable (external e) = IsWritableExtern e

@@ -3,17 +3,20 @@
 ghost use Rattle.std.specs.Prelude.{◌≡◌, ◌↔◌, IsTrue, Some};
 ghost use Rattle.std.specs.declared.cmp.Ordering.TheVariants.{Equal};
 ghost use Rattle.isle_ast.specs.NameOrder.{name_cmp};
+ghost use Rattle.isle_ast.specs.SpecView.{modified_of, single_arm_of, single_field_init_of, spec_definition_of, spec_macro_of, spec_of, state_of};
 ghost use Rattle.isle_ast.specs.TreeView.{attribute_of, condition_of, conversion_of, declaration_of, definition_of, expression_of, extern_of, extractor_of, fields_of, form_of, indexed_field_of, instantiation_of, kind_of, model_content_of, model_definition_of, name_of, named_field_of, pattern_of, rule_of, signature_of, single_let_of, single_model_field_of, struct_fields_of, target_of, tuple_fields_of, type_content_of, type_definition_of, type_model_of, variant_of};
 
 mod clone;
 mod compare;
 pub mod grammar;
 pub mod identifier;
+mod specs;
 #[cfg(test)]
 mod tests;
 mod walks;
 
 use isle_base::lexer::Pos;
+pub use specs::{Arm, FieldInit, Modifies, Spec, SpecExpr, SpecMacro, SpecOp, State};
 use std::convert::Infallible;
 use std::hash::Hash;
 
@@ -32,8 +35,14 @@ pub enum Def {
     Decl(Decl),
     /// Attributes of a term or a rule, `(attr ..)`.
     Attr(Attr),
+    /// What holds of a term, `(spec ..)`.
+    Spec(Spec),
+    /// A macro of spec expressions, `(macro ..)`.
+    SpecMacro(SpecMacro),
     /// A model of a type, `(model ..)`.
     Model(Model),
+    /// A state that specs speak of, `(state ..)`.
+    State(State),
     /// A form: signatures under a name, `(form ..)`.
     Form(Form),
     /// The signatures of a term, `(instantiate ..)`.
@@ -255,6 +264,8 @@ pub struct ModelField {
 pub enum ModelValue {
     /// A model of the type, `(type ..)`.
     TypeValue(ModelType),
+    /// A constant, `(const ..)`.
+    ConstValue(SpecExpr),
 }
 
 /// The model of a type.
@@ -530,6 +541,14 @@ pub fn definitions_are_compared()
     ensures patterns { (a b : Pattern) → IsTrue (⟦<Pattern as PartialEq>⟧.eq a b) ↔ (pattern_of a ≡ pattern_of b) }
     ensures exprs { (a b : Expr) → IsTrue (⟦<Expr as PartialEq>⟧.eq a b) ↔ (expression_of a ≡ expression_of b) }
     ensures let_defs { (a b : LetDef) → IsTrue (⟦<LetDef as PartialEq>⟧.eq a b) ↔ (single_let_of a ≡ single_let_of b) }
+    ensures specs { (a b : Spec) → IsTrue (⟦<Spec as PartialEq>⟧.eq a b) ↔ (spec_definition_of a ≡ spec_definition_of b) }
+    ensures spec_exprs { (a b : SpecExpr) → IsTrue (⟦<SpecExpr as PartialEq>⟧.eq a b) ↔ (spec_of a ≡ spec_of b) }
+    ensures spec_ops { (a b : SpecOp) → IsTrue (⟦<SpecOp as PartialEq>⟧.eq a b) ↔ (a ≡ b) }
+    ensures arms { (a b : Arm) → IsTrue (⟦<Arm as PartialEq>⟧.eq a b) ↔ (single_arm_of a ≡ single_arm_of b) }
+    ensures field_inits { (a b : FieldInit) → IsTrue (⟦<FieldInit as PartialEq>⟧.eq a b) ↔ (single_field_init_of a ≡ single_field_init_of b) }
+    ensures modifies { (a b : Modifies) → IsTrue (⟦<Modifies as PartialEq>⟧.eq a b) ↔ (modified_of a ≡ modified_of b) }
+    ensures spec_macros { (a b : SpecMacro) → IsTrue (⟦<SpecMacro as PartialEq>⟧.eq a b) ↔ (spec_macro_of a ≡ spec_macro_of b) }
+    ensures states { (a b : State) → IsTrue (⟦<State as PartialEq>⟧.eq a b) ↔ (state_of a ≡ state_of b) }
     ensures decls { (a b : Decl) → IsTrue (⟦<Decl as PartialEq>⟧.eq a b) ↔ (declaration_of a ≡ declaration_of b) }
     ensures instantiations { (a b : Instantiation) → IsTrue (⟦<Instantiation as PartialEq>⟧.eq a b) ↔ (instantiation_of a ≡ instantiation_of b) }
     ensures attrs { (a b : Attr) → IsTrue (⟦<Attr as PartialEq>⟧.eq a b) ↔ (attribute_of a ≡ attribute_of b) }

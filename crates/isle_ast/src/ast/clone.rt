@@ -5,6 +5,7 @@ ghost use Rattle.std.specs.Prelude.{◌≡◌, IfOk};
 ghost use Rattle.isle_ast.specs.TreeView.{attribute_of, conversion_of, declaration_of, definition_of, extern_of, fields_of, form_of, indexed_field_of, instantiation_of, kind_of, model_content_of, model_definition_of, named_field_of, signature_of, single_model_field_of, single_model_fields_of, struct_fields_of, target_of, tuple_fields_of, type_content_of, type_definition_of, type_model_of, variant_of};
 
 mod rules;
+mod specs;
 
 use crate::ast::{
     Attr, AttrKind, AttrTarget, Converter, Decl, Def, Extern, Fields, Form, Instantiation, Model,
@@ -24,7 +25,10 @@ impl Clone for Def {
             Def::Extractor(extractor) => Ok(Def::Extractor(extractor.clone()?)),
             Def::Decl(decl) => Ok(Def::Decl(decl.clone()?)),
             Def::Attr(attr) => Ok(Def::Attr(attr.clone()?)),
+            Def::Spec(spec) => Ok(Def::Spec(spec.clone()?)),
+            Def::SpecMacro(spec_macro) => Ok(Def::SpecMacro(spec_macro.clone()?)),
             Def::Model(model) => Ok(Def::Model(model.clone()?)),
+            Def::State(state) => Ok(Def::State(state.clone()?)),
             Def::Form(form) => Ok(Def::Form(form.clone()?)),
             Def::Instantiation(instantiation) => Ok(Def::Instantiation(instantiation.clone()?)),
             Def::Extern(external) => Ok(Def::Extern(external.clone()?)),
@@ -257,6 +261,7 @@ impl Clone for ModelValue {
     fn clone(&self) -> Result<ModelValue, AllocError> {
         match self {
             ModelValue::TypeValue(ty) => Ok(ModelValue::TypeValue(ty.clone()?)),
+            ModelValue::ConstValue(value) => Ok(ModelValue::ConstValue(value.clone()?)),
         }
     }
 }

@@ -1,5 +1,5 @@
-//! The comparison of models of types, and below it of patterns and of expressions. Two are equal exactly
-//! where they are the same, their positions included.
+//! The comparison of models of types, and below it of patterns, of expressions and of spec expressions. Two
+//! are equal exactly where they are the same, their positions included.
 //!
 //! The comparisons are written out, since a proof learns nothing of the derived ones where a type
 //! contains itself.
@@ -12,6 +12,7 @@ ghost use Rattle.isle_ast.specs.TreeView.{model_row_of, single_model_field_of, s
 
 mod exprs;
 mod patterns;
+mod specs;
 
 use crate::ast::{ModelField, ModelType};
 

@@ -8,7 +8,11 @@
 //! - `(extractor (I I..) P)`: the term with its parameters, and the pattern that it stands for;
 //! - `(decl I (I..) I)` with the flags `pure`, `multi`, `partial` and `rec` in this order behind `decl`;
 //! - `(attr I KIND..)` of a term, `(attr rule I KIND..)` of a rule;
-//! - `(model I (type MODEL))`, `(form I SIGNATURE..)`;
+//! - `(spec (I I..) CLAUSE..)`, the clauses `(provide E..)`, `(require E..)`, `(match E..)` and
+//!   `(modifies I [I])` in any order and repeated;
+//! - `(macro (I I..) E)`;
+//! - `(model I (type MODEL))` or `(model I (const E))`, `(form I SIGNATURE..)`;
+//! - `(state I (type MODEL) (default E))`;
 //! - `(instantiate I SIGNATURE ..)` and `(instantiate I I (tag I)..)`;
 //! - `(extern constructor I I)`, `(extern extractor I I)` with or without `infallible`, and
 //!   `(extern const $I I)`, where the name behind the `$` may be empty;
@@ -19,6 +23,12 @@
 //! `(let ((I I X)..) X)`, where each variable has a type and a value. A constant is a `$` and its name,
 //! which may be empty. An integer is one of 128 bits, and a priority one of 64, both with a sign. The
 //! argument of a macro is spelt by nothing.
+//!
+//! A spec expression E is an integer, a bit vector, `true` or `false`, a variable, `(as E MODEL)`, `(:I E)`,
+//! `(I? E)`, `(OPERATOR E..)`, `(switch E (E E)..)`, `(match E ((I I..) E)..)`, `(let ((I E)..) E)`,
+//! `(with (I..) E)`, `(macro (I..) E)`, `(I! E..)`, `(I.I E..)` or `(struct (I E)..)`. A bit vector is `#b` and
+//! binary digits, or `#x` and hexadecimal ones, below 2^128. No text has the operator `-`, which begins a
+//! number. In `(I.I E..)` the first name holds no dot, and both together are no operator.
 //!
 //! A name that would be read as a word of its definition wants what is read: a term of a declaration
 //! that is the word of a flag wants that flag, or a later one, to be set; a term of an attribute isn't
@@ -40,9 +50,11 @@ ghost use Rattle.isle_ast.specs.ModelGrammar.{SpellsForm, SpellsInstantiation, S
 ghost use Rattle.isle_ast.specs.Parts.{AreParts, IsByParts};
 ghost use Rattle.isle_ast.specs.PatternGrammar.{SpellsPattern};
 ghost use Rattle.isle_ast.specs.RuleGrammar.{SpellsCondition, SpellsExtractor, SpellsRule};
+ghost use Rattle.isle_ast.specs.SpecDefinitionGrammar.{SpellsSpecDefinition, SpellsSpecMacro, SpellsState};
+ghost use Rattle.isle_ast.specs.SpecGrammar.{SpellsSpec};
 ghost use Rattle.isle_ast.specs.Spelt.{Spells};
 ghost use Rattle.isle_ast.specs.TermGrammar.{SpellsAttribute, SpellsConversion, SpellsDeclaration, SpellsExtern};
-ghost use Rattle.isle_ast.specs.Tree.{Attribute, Condition, Conversion, Declaration, Definition, Expression, ExternDefinition, ExtractorDefinition, FormDefinition, ModelDefinition, Name, PatternNode, RuleDefinition, TermInstantiation, TypeDefinition, TypeModel};
+ghost use Rattle.isle_ast.specs.Tree.{Attribute, Condition, Conversion, Declaration, Definition, Expression, ExternDefinition, ExtractorDefinition, FormDefinition, ModelDefinition, Name, PatternNode, RuleDefinition, SpecDefinition, SpecMacroDefinition, SpecNode, StateDefinition, TermInstantiation, TypeDefinition, TypeModel};
 ghost use Rattle.isle_ast.specs.TypeGrammar.{SpellsTypeDefinition};
 ghost use Rattle.isle_ast.specs.Words.{SpellsAll, SpellsName};
 ghost use Rattle.isle_ast.specs.Writable.{AreWritable};
@@ -65,6 +77,10 @@ pub fn spellings_are_parts()
     ensures conditions { (c : Condition) → IsByParts (SpellsCondition c) }
     ensures rules { (r : RuleDefinition) → IsByParts (SpellsRule r) }
     ensures extractors { (e : ExtractorDefinition) → IsByParts (SpellsExtractor e) }
+    ensures specs { (x : SpecNode) → IsByParts (SpellsSpec x) }
+    ensures spec_definitions { (s : SpecDefinition) → IsByParts (SpellsSpecDefinition s) }
+    ensures spec_macros { (m : SpecMacroDefinition) → IsByParts (SpellsSpecMacro m) }
+    ensures states { (s : StateDefinition) → IsByParts (SpellsState s) }
     ensures externs { (e : ExternDefinition) → IsByParts (SpellsExtern e) }
     ensures conversions { (c : Conversion) → IsByParts (SpellsConversion c) }
     ensures definitions { (d : Definition) → IsByParts (SpellsDefinition d) }

@@ -1,3 +1,5 @@
+mod specs;
+
 use crate::ast::identifier::{begins_identifier, continues_identifier, is_identifier};
 use crate::ast::{
     Attr, AttrKind, AttrTarget, Converter, Decl, Def, Expr, Extern, Extractor, Fields, Form, Ident,

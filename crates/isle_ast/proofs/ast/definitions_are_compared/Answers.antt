@@ -2,7 +2,9 @@ use Rattle.std.proofs.Common.{refl, ap}
 use Rattle.isle_ast.specs.SameModel.{model-Decides, single-Decides}
 use Rattle.isle_ast.specs.SameExpression.{expression-Decides, single_let-Decides}
 use Rattle.isle_ast.specs.SamePattern.{pattern-Decides}
-use Rattle.isle_ast.specs.Tree.{primitive_type, enum_type, struct_type, struct_fields, tuple_fields, term_target, rule_target, tag_kind, type_model, extern_extractor, extern_constructor, extern_const, type_def, rule, extractor, decl, attr, model, form, instantiation, external, converter}
+use Rattle.isle_ast.specs.SameSpec.{operator-Decides, spec-Decides, single_arm-Decides, single_field_init-Decides}
+use Rattle.isle_ast.specs.SpecView.{spec_of, single_arm_of, single_field_init_of, modified_of}
+use Rattle.isle_ast.specs.Tree.{primitive_type, enum_type, struct_type, struct_fields, tuple_fields, term_target, rule_target, tag_kind, type_model, const_model, extern_extractor, extern_constructor, extern_const, type_def, rule, extractor, decl, attr, spec, spec_macro, model, state, form, instantiation, external, converter}
 use Rattle.isle_ast.specs.TreeView.{named_field_of, indexed_field_of, variant_of, kind_of, type_model_of, single_model_field_of, signature_of, pattern_of, expression_of, single_let_of, condition_of}
 use Rattle.isle_ast.specs.declared.ast.TypeValue.TheVariants as type_values
 use Rattle.isle_ast.specs.declared.ast.Fields.TheVariants as fields
@@ -109,9 +111,24 @@ returns-clause-model_types c a b = model-Decides (type_model_of a) (type_model_o
 pub returns-clause-model_fields : goal.returns-clause-model_fields
 returns-clause-model_fields c a b = single-Decides (single_model_field_of a) (single_model_field_of b)
 
+pub returns-clause-spec_ops : goal.returns-clause-spec_ops
+returns-clause-spec_ops c a b = operator-Decides a b
+
+pub returns-clause-spec_exprs : goal.returns-clause-spec_exprs
+returns-clause-spec_exprs c a b = spec-Decides (spec_of a) (spec_of b)
+
+pub returns-clause-arms : goal.returns-clause-arms
+returns-clause-arms c a b = single_arm-Decides (single_arm_of a) (single_arm_of b)
+
+pub returns-clause-field_inits : goal.returns-clause-field_inits
+returns-clause-field_inits c a b = single_field_init-Decides (single_field_init_of a) (single_field_init_of b)
+
 pub returns-clause-model_values : goal.returns-clause-model_values
 returns-clause-model_values c (model_values.TypeValue a) (model_values.TypeValue b) =
     Decides-map _ (λ e. ap type_model e) (λ e. cc) (returns-clause-model_types c a b)
+returns-clause-model_values c (model_values.ConstValue a) (model_values.ConstValue b) =
+    Decides-map _ (λ e. ap const_model e) (λ e. cc) (returns-clause-spec_exprs c a b)
+returns-clause-model_values c _ _ = (λ e. cc, λ e. cc)
 
 pub returns-clause-models : goal.returns-clause-models
 returns-clause-models c a b =
@@ -173,6 +190,47 @@ returns-clause-extractors c a b =
     (and-Decides _ _ (names-Decides a.args.items b.args.items)
     (and-Decides _ _ (returns-clause-patterns c a.template b.template) (pos_eq-Decides a.pos b.pos))))
 
+pub returns-clause-modifies : goal.returns-clause-modifies
+returns-clause-modifies c a b =
+    Decides-map _ (λ h. λ i. record { state = h.0 i; cond = h.1 i }) (λ e. ((λ i. (e i).state), (λ i. (e i).cond)))
+    (and-Decides _ _ (ident_eq-Decides a.state b.state) (option-Decides a.cond b.cond))
+
+pub returns-clause-specs : goal.returns-clause-specs
+returns-clause-specs c a b =
+    Decides-map _
+    (λ h. λ i. record {
+      term = h.0 i;
+      args = h.1.0 i;
+      provides = h.1.1.0 i;
+      requires_ = h.1.1.1.0 i;
+      matches = h.1.1.1.1.0 i;
+      modifies = h.1.1.1.1.1.0 i;
+      pos = h.1.1.1.1.1.1 i;
+    })
+    (λ e. ((λ i. (e i).term), ((λ i. (e i).args), ((λ i. (e i).provides), ((λ i. (e i).requires_), ((λ i. (e i).matches), ((λ i. (e i).modifies), (λ i. (e i).pos))))))))
+    (and-Decides _ _ (ident_eq-Decides a.term b.term)
+    (and-Decides _ _ (names-Decides a.args.items b.args.items)
+    (and-Decides _ _ (rows-Decides _ spec_of (returns-clause-spec_exprs c) a.provides.items b.provides.items)
+    (and-Decides _ _ (rows-Decides _ spec_of (returns-clause-spec_exprs c) a.requires_.items b.requires_.items)
+    (and-Decides _ _ (rows-Decides _ spec_of (returns-clause-spec_exprs c) a.matches.items b.matches.items)
+    (and-Decides _ _ (rows-Decides _ modified_of (returns-clause-modifies c) a.modifies.items b.modifies.items) (pos_eq-Decides a.pos b.pos)))))))
+
+pub returns-clause-spec_macros : goal.returns-clause-spec_macros
+returns-clause-spec_macros c a b =
+    Decides-map _ (λ h. λ i. record { name = h.0 i; params = h.1.0 i; body = h.1.1.0 i; pos = h.1.1.1 i })
+    (λ e. ((λ i. (e i).name), ((λ i. (e i).params), ((λ i. (e i).body), (λ i. (e i).pos)))))
+    (and-Decides _ _ (ident_eq-Decides a.name b.name)
+    (and-Decides _ _ (names-Decides a.params.items b.params.items)
+    (and-Decides _ _ (returns-clause-spec_exprs c a.body b.body) (pos_eq-Decides a.pos b.pos))))
+
+pub returns-clause-states : goal.returns-clause-states
+returns-clause-states c a b =
+    Decides-map _ (λ h. λ i. record { name = h.0 i; ty = h.1.0 i; default = h.1.1.0 i; pos = h.1.1.1 i })
+    (λ e. ((λ i. (e i).name), ((λ i. (e i).ty), ((λ i. (e i).default), (λ i. (e i).pos)))))
+    (and-Decides _ _ (ident_eq-Decides a.name b.name)
+    (and-Decides _ _ (returns-clause-model_types c a.ty b.ty)
+    (and-Decides _ _ (returns-clause-spec_exprs c a.default b.default) (pos_eq-Decides a.pos b.pos))))
+
 pub returns-clause-externs : goal.returns-clause-externs
 returns-clause-externs c (externs.Extractor a f p s) (externs.Extractor b g q t) =
     Decides-map _ (λ h. λ i. extern_extractor (h.0 i) (h.1.0 i) (h.1.1.0 i) (h.1.1.1 i)) (λ e. (cc, (cc, (cc, cc))))
@@ -201,7 +259,10 @@ returns-clause-defs c (defs.Rule a) (defs.Rule b) = Decides-map _ (λ e. ap rule
 returns-clause-defs c (defs.Extractor a) (defs.Extractor b) = Decides-map _ (λ e. ap extractor e) (λ e. cc) (returns-clause-extractors c a b)
 returns-clause-defs c (defs.Decl a) (defs.Decl b) = Decides-map _ (λ e. ap decl e) (λ e. cc) (returns-clause-decls c a b)
 returns-clause-defs c (defs.Attr a) (defs.Attr b) = Decides-map _ (λ e. ap attr e) (λ e. cc) (returns-clause-attrs c a b)
+returns-clause-defs c (defs.Spec a) (defs.Spec b) = Decides-map _ (λ e. ap spec e) (λ e. cc) (returns-clause-specs c a b)
+returns-clause-defs c (defs.SpecMacro a) (defs.SpecMacro b) = Decides-map _ (λ e. ap spec_macro e) (λ e. cc) (returns-clause-spec_macros c a b)
 returns-clause-defs c (defs.Model a) (defs.Model b) = Decides-map _ (λ e. ap model e) (λ e. cc) (returns-clause-models c a b)
+returns-clause-defs c (defs.State a) (defs.State b) = Decides-map _ (λ e. ap state e) (λ e. cc) (returns-clause-states c a b)
 returns-clause-defs c (defs.Form a) (defs.Form b) = Decides-map _ (λ e. ap form e) (λ e. cc) (returns-clause-forms c a b)
 returns-clause-defs c (defs.Instantiation a) (defs.Instantiation b) = Decides-map _ (λ e. ap instantiation e) (λ e. cc) (returns-clause-instantiations c a b)
 returns-clause-defs c (defs.Extern a) (defs.Extern b) = Decides-map _ (λ e. ap external e) (λ e. cc) (returns-clause-externs c a b)

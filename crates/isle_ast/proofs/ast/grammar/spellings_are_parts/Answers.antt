@@ -1,4 +1,4 @@
-use Rattle.isle_ast.proofs.Parts.{names_by_parts, rows_by_parts, types_by_parts, declarations_by_parts, attributes_by_parts, type_models_by_parts, models_by_parts, forms_by_parts, instantiations_by_parts, patterns_by_parts, expressions_by_parts, conditions_by_parts, rules_by_parts, extractors_by_parts, externs_by_parts, conversions_by_parts, definition_by_parts, definitions_by_parts}
+use Rattle.isle_ast.proofs.Parts.{names_by_parts, rows_by_parts, types_by_parts, declarations_by_parts, attributes_by_parts, type_models_by_parts, models_by_parts, forms_by_parts, instantiations_by_parts, patterns_by_parts, expressions_by_parts, conditions_by_parts, rules_by_parts, extractors_by_parts, specs_by_parts, spec_definitions_by_parts, spec_macros_by_parts, states_by_parts, externs_by_parts, conversions_by_parts, definition_by_parts, definitions_by_parts}
 use Rattle.isle_ast.proofs.ast.grammar.spellings_are_parts.Goals as goal
 
 pub returns : goal.returns
@@ -17,6 +17,10 @@ returns c = record {
   conditions = conditions_by_parts;
   rules = rules_by_parts;
   extractors = extractors_by_parts;
+  specs = specs_by_parts;
+  spec_definitions = spec_definitions_by_parts;
+  spec_macros = spec_macros_by_parts;
+  states = states_by_parts;
   externs = externs_by_parts;
   conversions = conversions_by_parts;
   definitions = definition_by_parts;
