@@ -9,8 +9,6 @@ mod clone;
 mod compare;
 pub mod grammar;
 pub mod identifier;
-#[cfg(test)]
-mod tests;
 mod walks;
 
 use isle_base::lexer::Pos;
