@@ -11,8 +11,6 @@ mod compare;
 pub mod grammar;
 pub mod identifier;
 mod specs;
-#[cfg(test)]
-mod tests;
 mod walks;
 
 use isle_base::lexer::Pos;

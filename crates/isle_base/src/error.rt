@@ -275,6 +275,3 @@ impl From<&Span> for Range<usize> {
         span.from.offset..span.to.offset
     }
 }
-
-#[cfg(test)]
-mod tests;

@@ -261,6 +261,3 @@ impl Files {
         self.sources.get(file).map(|source| &source.line_map)
     }
 }
-
-#[cfg(test)]
-mod tests;

@@ -10,8 +10,6 @@ ghost use Rattle.isle_base.specs.declared.lexer.Fault.TheVariants.{Memory};
 mod literal;
 mod read;
 mod scan;
-#[cfg(test)]
-mod tests;
 
 use crate::error::Error;
 use crate::files::Files;

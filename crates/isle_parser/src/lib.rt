@@ -2,5 +2,3 @@
 #![tactic(auto)]
 
 pub mod parser;
-#[cfg(test)]
-mod tests;

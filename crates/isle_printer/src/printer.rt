@@ -8,8 +8,6 @@
 mod layout;
 mod sexpr;
 mod shapes;
-#[cfg(test)]
-mod tests;
 
 ghost use Rattle.std.specs.Prelude.{◌≡◌, ◌≤◌, ◌↔◌, ◌++◌, ℕ, List, [], IfOk, OnOk, IfSome, IsSome, IsErrOf, None, true, false, string_bytes};
 ghost use Rattle.isle_ast.specs.MacroArgs.{definition_has_macro_arg, definitions_have_macro_arg};

@@ -2,13 +2,13 @@
 
 mod rules;
 
-use super::{PrintFault, SExpr, ToSExpr, print, print_node};
 use isle_ast::ast::{
     Attr, AttrKind, AttrTarget, Converter, Decl, Def, Extern, Fields, Form, Ident, Instantiation,
     Model, ModelField, ModelType, ModelValue, Signature, StructField, StructFields, TupleField,
     TupleFields, TypeDef, TypeValue, Variant,
 };
 use isle_base::lexer::Pos;
+use isle_printer::printer::{PrintFault, SExpr, ToSExpr, print, print_node};
 use std::alloc::{AllocError, Global};
 use std::test::Fail;
 

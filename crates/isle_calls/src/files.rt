@@ -1,6 +1,8 @@
 //! Tests of the calls that take memory.
-use super::*;
-use crate::lexer::Pos;
+
+use isle_base::files::*;
+use isle_base::lexer::Pos;
+use std::alloc::{AllocError, Global};
 use std::test::Fail;
 
 #[test]

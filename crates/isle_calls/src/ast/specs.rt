@@ -1,5 +1,7 @@
+//! Specs: copies and comparisons.
+
 use super::ident;
-use crate::ast::{
+use isle_ast::ast::{
     Arm, Def, FieldInit, Model, ModelType, ModelValue, Modifies, Spec, SpecExpr, SpecMacro, SpecOp,
     State,
 };

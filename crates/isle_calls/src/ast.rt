@@ -1,7 +1,9 @@
+//! Identifiers, and the copies and comparisons of trees.
+
 mod specs;
 
-use crate::ast::identifier::{begins_identifier, continues_identifier, is_identifier};
-use crate::ast::{
+use isle_ast::ast::identifier::{begins_identifier, continues_identifier, is_identifier};
+use isle_ast::ast::{
     Attr, AttrKind, AttrTarget, Converter, Decl, Def, Expr, Extern, Extractor, Fields, Form, Ident,
     IfLet, Instantiation, LetDef, Model, ModelField, ModelType, ModelValue, Pattern, Rule,
     Signature, StructField, StructFields, TupleField, TupleFields, TypeDef, TypeValue, Variant,

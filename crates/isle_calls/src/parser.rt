@@ -1,7 +1,9 @@
-use crate::parser::{Parser, parse, parse_without_pos};
+//! The parser's calls, and its messages.
+
 use isle_ast::ast::{Def, Pattern};
 use isle_base::error::Error;
 use isle_base::lexer::{Fault, Lexer};
+use isle_parser::parser::{Parser, parse, parse_without_pos};
 use std::test::*;
 
 // The message and the offset of a refusal.

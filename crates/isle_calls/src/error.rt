@@ -1,6 +1,11 @@
 //! Tests of what is written, and of the calls that take memory.
-use super::*;
-use std::fmt::Write;
+
+use isle_base::error::*;
+use isle_base::files::Files;
+use isle_base::lexer::Pos;
+use std::alloc::{AllocError, Global};
+use std::fmt::{self, Write};
+use std::rc::Rc;
 use std::test::Fail;
 
 const SHOWN: &str = "more general higher-priority rule shadows other rules

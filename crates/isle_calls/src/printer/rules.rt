@@ -1,9 +1,9 @@
 //! Worked examples of patterns, expressions, rules and extractors.
 
 use super::ident;
-use crate::printer::{PrintFault, ToSExpr, print, print_node};
 use isle_ast::ast::{Def, Expr, Extractor, IfLet, LetDef, Pattern, Rule};
 use isle_base::lexer::Pos;
+use isle_printer::printer::{PrintFault, ToSExpr, print, print_node};
 use std::alloc::{AllocError, Global};
 use std::test::Fail;
 

@@ -1,6 +1,9 @@
 //! The lexer's calls, each once where it succeeds, and its messages.
 
-use super::*;
+use isle_base::error::Error;
+use isle_base::files::Files;
+use isle_base::lexer::*;
+use std::alloc::{AllocError, Global};
 
 /// Gives the tokens of a text, each with the offset of its first byte, until the text ends or is refused.
 fn tokens(alloc: Global, text: &str) -> Result<Vec<(usize, Token)>, Fault> {
