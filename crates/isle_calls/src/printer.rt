@@ -1,6 +1,7 @@
 //! Worked examples of printed text, on trees built by hand.
 
 mod rules;
+mod specs;
 
 use isle_ast::ast::{
     Attr, AttrKind, AttrTarget, Converter, Decl, Def, Extern, Fields, Form, Ident, Instantiation,

@@ -15,3 +15,5 @@ mod listing;
 mod parsing;
 #[cfg(test)]
 mod rules;
+#[cfg(test)]
+mod specs;

@@ -1,8 +1,11 @@
 //! Tokens, trees and faults in short texts, which the rows compare.
 
 mod rules;
+mod specs;
 
-use isle_ast::ast::{Converter, Decl, Def, Fields, Ident, TypeDef, TypeValue, Variant};
+use isle_ast::ast::{
+    Converter, Decl, Def, Fields, Ident, Model, ModelValue, TypeDef, TypeValue, Variant,
+};
 use isle_base::error::Error;
 use isle_base::lexer::{Fault, Lexer, Pos, Token};
 use isle_parser::parser::{parse, parse_without_pos};
@@ -204,6 +207,18 @@ fn push_type(alloc: Global, out: &mut String, def: &TypeDef) -> Result<(), Alloc
     }
 }
 
+fn push_model(alloc: Global, out: &mut String, model: &Model) -> Result<(), AllocError> {
+    out.push_str("Model ")?;
+    push_name(alloc, out, &model.name)?;
+    match &model.val {
+        ModelValue::TypeValue(_) => out.push_str(" type"),
+        ModelValue::ConstValue(spec) => {
+            out.push(' ')?;
+            specs::push_const(alloc, out, spec)
+        }
+    }
+}
+
 /// The fields of each definition, with their positions, a `;` behind each.
 pub fn tree_words(alloc: Global, defs: &[Def]) -> Result<String, AllocError> {
     let mut out = String::new(alloc);
@@ -214,6 +229,10 @@ pub fn tree_words(alloc: Global, defs: &[Def]) -> Result<String, AllocError> {
             Def::TypeDef(def) => push_type(alloc, &mut out, def)?,
             Def::Rule(rule) => rules::push_rule(alloc, &mut out, rule)?,
             Def::Extractor(extractor) => rules::push_extractor(alloc, &mut out, extractor)?,
+            Def::Spec(spec) => specs::push_spec_definition(alloc, &mut out, spec)?,
+            Def::SpecMacro(spec_macro) => specs::push_spec_macro(alloc, &mut out, spec_macro)?,
+            Def::State(state) => specs::push_state(alloc, &mut out, state)?,
+            Def::Model(model) => push_model(alloc, &mut out, model)?,
             _ => out.push_str("other")?,
         }
         out.push(';')?;

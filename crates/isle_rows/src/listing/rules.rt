@@ -6,7 +6,12 @@ use isle_base::lexer::Pos;
 use std::alloc::{AllocError, Global};
 
 /// The kind of a node and its position.
-fn push_kind(alloc: Global, out: &mut String, kind: &str, pos: Pos) -> Result<(), AllocError> {
+pub(super) fn push_kind(
+    alloc: Global,
+    out: &mut String,
+    kind: &str,
+    pos: Pos,
+) -> Result<(), AllocError> {
     let place = pos_word(alloc, pos)?;
     out.push_str(kind)?;
     out.push(' ')?;
@@ -14,7 +19,7 @@ fn push_kind(alloc: Global, out: &mut String, kind: &str, pos: Pos) -> Result<()
 }
 
 /// A node that has a name alone.
-fn push_named(
+pub(super) fn push_named(
     alloc: Global,
     out: &mut String,
     kind: &str,
@@ -26,12 +31,22 @@ fn push_named(
     push_name(alloc, out, name)
 }
 
-fn push_bool(alloc: Global, out: &mut String, pos: Pos, val: bool) -> Result<(), AllocError> {
+pub(super) fn push_bool(
+    alloc: Global,
+    out: &mut String,
+    pos: Pos,
+    val: bool,
+) -> Result<(), AllocError> {
     push_kind(alloc, out, "Bool", pos)?;
     out.push_str(if val { " true" } else { " false" })
 }
 
-fn push_int(alloc: Global, out: &mut String, pos: Pos, val: i128) -> Result<(), AllocError> {
+pub(super) fn push_int(
+    alloc: Global,
+    out: &mut String,
+    pos: Pos,
+    val: i128,
+) -> Result<(), AllocError> {
     push_kind(alloc, out, "Int", pos)?;
     let digits = format!(in alloc; " {val}")?;
     out.push_str(&digits)
