@@ -2,7 +2,7 @@
 
 use crate::listing::{fault_message, next_word, parsed, parsed_without_pos};
 use isle_base::lexer::Lexer;
-use isle_parser::parser::parse;
+use isle_parser::parser::{parse, parse_without_pos};
 use std::test::Fail;
 
 #[test]
@@ -91,6 +91,28 @@ fn trees_without_positions(rt: HostRuntime) -> Result<(), Fail> {
         ("(convert A B c", "fault at 14"),
     ] {
         let got = parsed_without_pos(alloc, Lexer::new(alloc, 0, text)?)?;
+        assert_eq!(rt; got.as_str(), want, "the text {text}");
+    }
+    Ok(())
+}
+
+/// Each refusal stands where that of `parse` stands, though the tree would hold no positions.
+#[test]
+fn refusals_without_positions(rt: HostRuntime) -> Result<(), Fail> {
+    let alloc = rt.alloc();
+    for (text, want) in [
+        ("(model M (other))", "7: Model must be a type or const"),
+        (
+            "(model M (const (foo x)))",
+            "16: Unexpected spec expression",
+        ),
+        ("(rule x y)", "9: Invalid expression"),
+        ("(decl pure () T)", "11: Unexpected token LParen"),
+    ] {
+        let got = match parse_without_pos(alloc, Lexer::new(alloc, 0, text)?) {
+            Ok(_) => "accepted".to_string(alloc)?,
+            Err(fault) => fault_message(alloc, &fault)?,
+        };
         assert_eq!(rt; got.as_str(), want, "the text {text}");
     }
     Ok(())
