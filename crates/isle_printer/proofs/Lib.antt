@@ -11,3 +11,4 @@ pub mod PrintLaw
 pub mod NumberAtoms
 pub mod RuleShapeLaw
 pub mod RuleErased
+pub mod RadixTexts

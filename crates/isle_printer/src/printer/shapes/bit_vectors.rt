@@ -1,6 +1,7 @@
 //! The atoms of bit vectors: digits in a radix, behind zeros up to the width.
 
-ghost use Rattle.std.specs.Prelude.{◌≡◌, ◌≤◌, ◌++◌, replicate, string_bytes, IfOk, OnOk};
+ghost use Rattle.std.specs.Prelude.{◌≡◌, ◌≤◌, ◌<◌, [], ◌∷◌, ◌++◌, replicate, string_bytes, IfOk, OnOk};
+ghost use Rattle.std.specs.Char.{digit_char};
 ghost use Rattle.isle_printer.specs.Sexp.{atom};
 ghost use Rattle.isle_printer.specs.SexpView.{sexp_of};
 ghost use Rattle.isle_printer.specs.SpecShapes.{bit_vector_text, radix_text, zero_padded};
@@ -59,9 +60,16 @@ fn push_digits(out: &mut String, radix: u32, val: u128) -> Result<(), AllocError
     if val >= base {
         push_digits(out, radix, val / base)?;
     }
-    let digit = (val % base) as u32;
-    if let Some(written) = char::from_digit(digit, radix) {
-        out.push(written)?;
-    }
+    push_digit(out, (val % base) as u32)?;
+    Ok(())
+}
+
+/// Appends a digit, `a` to `f` for those from ten on.
+fn push_digit(out: &mut String, digit: u32) -> Result<(), AllocError>
+    requires { digit < 16 }
+    ensures { OnOk result (string_bytes out.new ≡ string_bytes out.old ++ digit_char digit ∷ []) }
+{
+    let written = char::from_digit(digit, 16).unwrap();
+    out.push(written)?;
     Ok(())
 }
