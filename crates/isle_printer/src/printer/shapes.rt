@@ -195,9 +195,7 @@ fn name(alloc: Global, ident: &Ident) -> Result<SExpr, AllocError>
 fn constant(alloc: Global, ident: &Ident) -> Result<SExpr, AllocError>
     ensures { IfOk result (λ s. sexp_of s ≡ constant_shape (name_of ident.now)) }
 {
-    let mut text = String::from_str(alloc, "$")?;
-    text.push_str(&ident.0)?;
-    Ok(SExpr::Atom(text))
+    joined(alloc, "$", &ident.0)
 }
 
 /// The atom of two texts, one behind the other.
