@@ -1,6 +1,5 @@
 -- The texts of operators, and names with a mark, are symbols.
-use Rattle.std.proofs.Common.{◌≡◌, ◌≢◌, ℕ, List, [], ◌∷◌, ◌++◌, Bool, true, false, codes, refl, ap, ◌∙◌}
-use Rattle.std.proofs.lemmas.Bool.{false≢true}
+use Rattle.std.proofs.Common.{◌≡◌, ◌≢◌, ℕ, List, [], ◌∷◌, ◌++◌, true, refl, ◌∙◌}
 use Rattle.std.proofs.lemmas.List.Folds.{list_all-append}
 use Rattle.std.specs.List.{list_all}
 use Rattle.isle_base.specs.Literals.{begins_literal}
@@ -16,6 +15,7 @@ use Rattle.isle_ast.specs.SpecGrammar.{field_mark, discriminator_mark, expansion
 use Rattle.isle_ast.specs.Tree.{Name}
 use Rattle.isle_ast.specs.Writable.{IsName}
 use Rattle.isle_printer.specs.ReadBack.{ReadsAs}
+use Rattle.isle_printer.proofs.NumberAtoms.{begins_with-append}
 use Rattle.isle_printer.proofs.ReadBackLaw.{ReadsAs-symbol}
 use Rattle.isle_printer.proofs.Spellings.{all_true}
 
@@ -33,11 +33,6 @@ operator_bytes _ = refl
 
 pub operator-ReadsAs : (operator : SpecOp) → operator ≢ op.Sub → ReadsAs (operator_text operator) (symbol (operator_text operator))
 operator-ReadsAs operator other = ReadsAs-symbol (operator_text operator) (operator_begins operator other) (operator_bytes operator)
-
--- bytes behind a text that begins a symbol
-begins_with-append : (kind : ℕ → Bool) (xs ys : List ℕ) → begins_with kind xs ≡ true → begins_with kind (xs ++ ys) ≡ true
-begins_with-append kind [] ys h = absurd (false≢true h)
-begins_with-append kind (x ∷ xs) ys h = h
 
 -- bytes of a symbol behind an identifier
 identifier_behind-ReadsAs : (text behind : List ℕ) → is_identifier text ≡ true → list_all in_symbol behind ≡ true → ReadsAs (text ++ behind) (symbol (text ++ behind))

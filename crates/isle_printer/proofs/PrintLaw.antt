@@ -7,10 +7,10 @@ use Rattle.isle_base.specs.Place.{unknown, nowhere, placed}
 use Rattle.isle_base.specs.Skips.{nothing}
 use Rattle.isle_base.specs.Token.{Tok, Lexeme, end}
 use Rattle.isle_ast.proofs.SpeltWritable.{spelt_is_writable}
-use Rattle.isle_ast.specs.Erased.{erase_name, erase_names, erase_model, erase_model_fields, erase_named_field, erase_indexed_field, erase_fields, erase_variant, erase_type_content, erase_target, erase_kind, erase_signature, erase_optional, erase_model_content, erase_definition, erase}
+use Rattle.isle_ast.specs.Erased.{erase_name, erase_names, erase_model, erase_named_field, erase_indexed_field, erase_fields, erase_variant, erase_type_content, erase_target, erase_kind, erase_signature, erase_optional, erase_definition, erase}
 use Rattle.isle_ast.specs.Grammar.{SpellsDefinitions}
 use Rattle.isle_ast.specs.Spelt.{IsSpelt}
-use Rattle.isle_ast.specs.Tree.{Name, TypeModel, unspecified_model, auto_model, int_model, bool_model, unit_model, bit_vector_model, struct_model, named_model, ModelFieldRow, no_model_field, model_field, FieldList, unit_fields, struct_fields, tuple_fields, EnumVariant, TypeContent, primitive_type, enum_type, struct_type, AttributeTarget, term_target, rule_target, AttributeKind, chain_kind, priority_kind, tag_kind, TermSignature, ModelContent, type_model, extern_extractor, extern_constructor, extern_const, Definition, type_def, rule, extractor, decl, attr, spec, spec_macro, model, state, form, instantiation, external, converter}
+use Rattle.isle_ast.specs.Tree.{Name, FieldList, unit_fields, struct_fields, tuple_fields, EnumVariant, TypeContent, primitive_type, enum_type, struct_type, AttributeTarget, term_target, rule_target, AttributeKind, chain_kind, priority_kind, tag_kind, TermSignature, extern_extractor, extern_constructor, extern_const, Definition, type_def, rule, extractor, decl, attr, spec, spec_macro, model, state, form, instantiation, external, converter}
 use Rattle.isle_ast.specs.Writable.{AreWritable}
 use Rattle.isle_printer.specs.Choices.{Choice, render}
 use Rattle.isle_printer.specs.DefinitionShapes.{definition_shape}
@@ -18,7 +18,7 @@ use Rattle.isle_printer.specs.Layout.{layout}
 use Rattle.isle_printer.specs.Printed.{definition_text, behind_text, printed_text, IsPrinted}
 use Rattle.isle_printer.specs.ReadBack.{TokensOf, Reads, ReadsBack, unplaced}
 use Rattle.isle_printer.specs.Sexp.{Sexp, atom, row_of}
-use Rattle.isle_printer.specs.Shapes.{name_shape, flag_shape, form_shape, model_shape, model_field_shapes, named_field_shape, indexed_field_shape, field_shapes, variant_shape, type_content_shape, target_shape, tag_shape, kind_shape, signature_shape, instance_shapes}
+use Rattle.isle_printer.specs.Shapes.{name_shape, flag_shape, form_shape, model_shape, named_field_shape, indexed_field_shape, field_shapes, variant_shape, type_content_shape, target_shape, tag_shape, kind_shape, signature_shape, instance_shapes}
 use Rattle.isle_printer.proofs.Greedy.{greedy, layout_is_render}
 use Rattle.isle_printer.proofs.Printing.{IsPrinted-from_text, IsPrinted-text, IsPrinted-plain}
 use Rattle.isle_printer.proofs.RuleErased.{shapes-erased, names-erased, rule-erased, extractor-erased, macro_args-erased}

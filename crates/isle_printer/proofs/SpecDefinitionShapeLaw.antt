@@ -14,7 +14,7 @@ use Rattle.isle_ast.specs.TypeModelGrammar.{SpellsTypeModel}
 use Rattle.isle_ast.specs.Words.{SpellsAll, InParentheses, BehindWord, SpellsName, SpellsOptional}
 use Rattle.isle_ast.specs.Writable.{IsName, Each}
 use Rattle.isle_printer.specs.ReadBack.{ReadsAs, unplaced}
-use Rattle.isle_printer.specs.Shapes.{name_shape, form_shape, model_shape}
+use Rattle.isle_printer.specs.Shapes.{name_shape, model_shape}
 use Rattle.isle_printer.specs.SpecShapes.{spec_shape, state_condition_shape, modifies_shape, clause_shape, spec_definition_shape, spec_macro_shape, state_shape}
 use Rattle.isle_printer.proofs.ModelShapeLaw.{spell-model}
 use Rattle.isle_printer.proofs.SpecShapeLaw.{spell-spec, spell-headed}

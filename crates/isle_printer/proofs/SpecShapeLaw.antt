@@ -1,6 +1,5 @@
 -- The tokens of the shape of a writable spec expression spell it, erased.
-use Rattle.std.proofs.Common.{◌≡◌, ◌≢◌, ℕ, List, [], ◌∷◌, ◌++◌, codes, Bool, true, false, ◌||◌, not, ◌⊎◌, inl, inr, refl, ap, ◌∙◌, ne_eqb}
-use Rattle.std.proofs.lemmas.Bool.{false≢true}
+use Rattle.std.proofs.Common.{◌≡◌, ◌≢◌, ℕ, List, [], ◌∷◌, ◌++◌, codes, true, false, ◌||◌, not, ◌⊎◌, inl, inr, refl, ap, ◌∙◌, ne_eqb}
 use Rattle.std.specs.List.{list_all}
 use Rattle.std.specs.Str.{bytes_eq}
 use Rattle.isle_base.specs.Place.{Placed, unknown}
