@@ -6,19 +6,18 @@ use Rattle.isle_base.specs.Place.{Placed, unknown}
 use Rattle.isle_base.specs.Token.{Tok, rparen, symbol}
 use Rattle.isle_ast.specs.declared.ast.specs.SpecOp.{SpecOp}
 use Rattle.isle_ast.specs.declared.ast.specs.SpecOp.TheVariants as op
-use Rattle.isle_ast.specs.Erased.{erase_name, erase_names, erase_model}
+use Rattle.isle_ast.specs.Erased.{erase_name, erase_names}
 use Rattle.isle_ast.specs.Operators.{operator_text}
 use Rattle.isle_ast.specs.PatternGrammar.{bool_word, is_bool_word}
 use Rattle.isle_ast.specs.SpecErased.{erase_spec, erase_specs, erase_arms, erase_spec_lets, erase_field_inits}
 use Rattle.isle_ast.specs.SpecGrammar.{SpellsBitVector, SpellsMarked, field_mark, discriminator_mark, expansion_mark, SpellsNames, SpellsHeaded, is_dot, dotted, AreVariant, is_plain_operator, SpellsSpec, SpellsSpecs, SpellsCases, SpellsPairs, SpellsArms, SpellsSpecLets, SpellsFieldInits}
 use Rattle.isle_ast.specs.SpecWritable.{IsWritableBitVector, IsWritableVariantName, IsWritableSpec, AreWritableSpecs, AreWritableCases, AreWritablePairs, AreWritableArms, AreWritableSpecLets, AreWritableFieldInits}
 use Rattle.isle_ast.specs.Tree.{Name, SpecNode, int_spec, bit_vector_spec, bool_spec, var_spec, as_spec, field_spec, discriminator_spec, op_spec, match_spec, let_spec, with_spec, macro_spec, expand_spec, pair_spec, enum_spec, struct_spec, SpecRow, no_spec, more_spec, ArmRow, no_arm, more_arm, SpecLetRow, no_spec_let, more_spec_let, FieldInitRow, no_field_init, more_field_init}
-use Rattle.isle_ast.specs.TypeModelGrammar.{SpellsTypeModel}
-use Rattle.isle_ast.specs.Words.{BeginsAt, SpellsAll, InParentheses, SpellsName}
+use Rattle.isle_ast.specs.Words.{BeginsAt, SpellsAll, InParentheses, BehindWord, SpellsName}
 use Rattle.isle_ast.specs.Writable.{IsName, Each}
 use Rattle.isle_printer.specs.ReadBack.{ReadsAs, unplaced}
 use Rattle.isle_printer.specs.Sexp.{Sexp, atom, row_of}
-use Rattle.isle_printer.specs.Shapes.{name_shape, name_shapes, model_shape}
+use Rattle.isle_printer.specs.Shapes.{name_shape, name_shapes, form_shape}
 use Rattle.isle_printer.specs.SpecShapes.{bit_vector_text, names_shape, headed_shape, spec_shape, spec_shapes, arm_shapes, spec_let_shapes, field_init_shapes}
 use Rattle.isle_printer.proofs.BitVectorAtoms.{bit_vector_text-atom}
 use Rattle.isle_printer.proofs.ModelShapeLaw.{spell-model}
@@ -71,6 +70,20 @@ spell-placed_turn second first = record {
   spells = (item-ahead first.tokens, unplaced second.all, first.spells, second.spells);
 }
 
+-- the same in parentheses, alone and behind a word
+
+spell-row_turn : {x : Sexp} {xs ys : List Sexp} {First Second : List Placed → List Placed → Type 0} {rest : List Tok}
+    → (second : Spelling ys Second (rparen ∷ rest)) → Spelling (x ∷ xs) First second.all
+    → Spelling (row_of (x ∷ (xs ++ ys)) ∷ []) (λ all rest. BeginsAt unknown all × InParentheses (InTurn First Second) all rest) rest
+spell-row_turn {x} {xs} {ys} {First} {Second} {rest} second first =
+    placed (spell-row (x ∷ (xs ++ ys)) (InTurn First Second) rest (spell-turn second first))
+
+spell-form_turn : (word : List ℕ) → ReadsAs word (symbol word) → {x : Sexp} {xs ys : List Sexp} {First Second : List Placed → List Placed → Type 0} {rest : List Tok}
+    → (second : Spelling ys Second (rparen ∷ rest)) → Spelling (x ∷ xs) First second.all
+    → Spelling (form_shape word (x ∷ (xs ++ ys)) ∷ []) (λ all rest. BeginsAt unknown all × InParentheses (BehindWord word (InTurn First Second)) all rest) rest
+spell-form_turn word reads {x} {xs} {ys} {First} {Second} {rest} second first =
+    placed (spell-form word reads (x ∷ (xs ++ ys)) (InTurn First Second) rest (spell-turn second first))
+
 -- the tests on a variant and on an operator
 
 no_dot-test : (text : List ℕ) → ((before behind : List ℕ) → text ≢ before ++ 46 ∷ behind) → list_all (λ byte. not (is_dot byte)) text ≡ true
@@ -119,28 +132,13 @@ mutual
       record { all = s.all; tokens = s.tokens; spells = (no_bool-test var.text is.1 is.2, item-ahead s.tokens, s.spells) }
   spell-spec (as_spec x ty _) is rest =
       let second = spell-model ty is.1 (rparen ∷ rest) in
-      let first = spell-spec x is.0 second.all in
-      placed
-      (spell-form (codes "as") word-as (spec_shape x ∷ model_shape ty ∷ [])
-      (InTurn (SpellsSpec (erase_spec x)) (SpellsTypeModel (erase_model ty)))
-      rest
-      (spell-turn second first))
+      spell-form_turn (codes "as") word-as second (spell-spec x is.0 second.all)
   spell-spec (field_spec field x _) is rest =
       let second = spell-spec x is.1 (rparen ∷ rest) in
-      let first = spell-marked field_mark field is.0 (field-ReadsAs field is.0) second.all in
-      placed
-      (spell-row (atom (field_mark field.text) ∷ spec_shape x ∷ [])
-      (InTurn (SpellsMarked field_mark (erase_name field)) (SpellsSpec (erase_spec x)))
-      rest
-      (spell-turn second first))
+      spell-row_turn second (spell-marked field_mark field is.0 (field-ReadsAs field is.0) second.all)
   spell-spec (discriminator_spec variant x _) is rest =
       let second = spell-spec x is.1 (rparen ∷ rest) in
-      let first = spell-marked discriminator_mark variant is.0 (discriminator-ReadsAs variant is.0) second.all in
-      placed
-      (spell-row (atom (discriminator_mark variant.text) ∷ spec_shape x ∷ [])
-      (InTurn (SpellsMarked discriminator_mark (erase_name variant)) (SpellsSpec (erase_spec x)))
-      rest
-      (spell-turn second first))
+      spell-row_turn second (spell-marked discriminator_mark variant is.0 (discriminator-ReadsAs variant is.0) second.all)
   spell-spec (op_spec operator args _) is rest =
       placed
       (spell-form (operator_text operator) (operator-ReadsAs operator is.0) (spec_shapes args)
@@ -152,44 +150,21 @@ mutual
       ]))
   spell-spec (match_spec x arms _) is rest =
       let second = spell-arms arms is.1 (rparen ∷ rest) in
-      let first = spell-spec x is.0 second.all in
-      placed
-      (spell-form (codes "match") word-match (spec_shape x ∷ arm_shapes arms)
-      (InTurn (SpellsSpec (erase_spec x)) (SpellsArms (erase_arms arms)))
-      rest
-      (spell-turn second first))
+      spell-form_turn (codes "match") word-match second (spell-spec x is.0 second.all)
   spell-spec (let_spec defs body _) is rest =
       let second = spell-spec body is.1 (rparen ∷ rest) in
-      let first = spell-row (spec_let_shapes defs) (SpellsSpecLets (erase_spec_lets defs)) second.all (spell-spec_lets defs is.0 (rparen ∷ second.all)) in
-      placed
-      (spell-form (codes "let") word-let (row_of (spec_let_shapes defs) ∷ spec_shape body ∷ [])
-      (InTurn (InParentheses (SpellsSpecLets (erase_spec_lets defs))) (SpellsSpec (erase_spec body)))
-      rest
-      (spell-turn second first))
+      let inner = spell-spec_lets defs is.0 (rparen ∷ second.all) in
+      let first = spell-row (spec_let_shapes defs) (SpellsSpecLets (erase_spec_lets defs)) second.all inner in
+      spell-form_turn (codes "let") word-let second first
   spell-spec (with_spec decls body _) is rest =
       let second = spell-spec body is.1 (rparen ∷ rest) in
-      let first = spell-names_row decls is.0 second.all in
-      placed
-      (spell-form (codes "with") word-with (names_shape decls ∷ spec_shape body ∷ [])
-      (InTurn (SpellsNames (erase_names decls)) (SpellsSpec (erase_spec body)))
-      rest
-      (spell-turn second first))
+      spell-form_turn (codes "with") word-with second (spell-names_row decls is.0 second.all)
   spell-spec (macro_spec params body _) is rest =
       let second = spell-spec body is.1 (rparen ∷ rest) in
-      let first = spell-names_row params is.0 second.all in
-      placed
-      (spell-form (codes "macro") word-macro (names_shape params ∷ spec_shape body ∷ [])
-      (InTurn (SpellsNames (erase_names params)) (SpellsSpec (erase_spec body)))
-      rest
-      (spell-turn second first))
+      spell-form_turn (codes "macro") word-macro second (spell-names_row params is.0 second.all)
   spell-spec (expand_spec name args _) is rest =
       let second = spell-specs args is.1 (rparen ∷ rest) in
-      let first = spell-marked expansion_mark name is.0 (expansion-ReadsAs name is.0) second.all in
-      placed
-      (spell-row (atom (expansion_mark name.text) ∷ spec_shapes args)
-      (InTurn (SpellsMarked expansion_mark (erase_name name)) (SpellsSpecs (erase_specs args)))
-      rest
-      (spell-turn second first))
+      spell-row_turn second (spell-marked expansion_mark name is.0 (expansion-ReadsAs name is.0) second.all)
   spell-spec (pair_spec _ _ _) is rest = absurd is
   spell-spec (enum_spec name variant args _) is rest =
       let names = is.0 in
