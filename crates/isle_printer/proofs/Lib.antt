@@ -5,6 +5,12 @@ pub mod LineEnds
 pub mod Printing
 pub mod ReadBackLaw
 pub mod WordSymbols
+pub mod OperatorSymbols
+pub mod BitVectorAtoms
+pub mod ModelShapeLaw
+pub mod SpecShapeLaw
+pub mod SpecDefinitionShapeLaw
+pub mod SpecErased
 pub mod Spellings
 pub mod ShapeLaw
 pub mod PrintLaw
