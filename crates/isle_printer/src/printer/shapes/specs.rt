@@ -94,7 +94,7 @@ pub(super) fn spec(node: &SpecExpr, alloc: Global) -> Result<SExpr, AllocError>
             variant,
             args,
             ..
-        } => { specs_behind(args, dotted(alloc, name, variant)?, alloc) }
+        } => specs_behind(args, dotted(alloc, name, variant)?, alloc),
         SpecExpr::Struct { fields, .. } => field_inits(fields, alloc),
     }
 }
