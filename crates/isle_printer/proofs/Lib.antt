@@ -5,9 +5,16 @@ pub mod LineEnds
 pub mod Printing
 pub mod ReadBackLaw
 pub mod WordSymbols
+pub mod OperatorSymbols
+pub mod BitVectorAtoms
+pub mod ModelShapeLaw
+pub mod SpecShapeLaw
+pub mod SpecDefinitionShapeLaw
+pub mod SpecErased
 pub mod Spellings
 pub mod ShapeLaw
 pub mod PrintLaw
 pub mod NumberAtoms
 pub mod RuleShapeLaw
 pub mod RuleErased
+pub mod RadixTexts

@@ -76,7 +76,8 @@ record IsDigits (n : ℕ) (text : List ℕ) : Type 0 where
   each : list_all is_ascii_digit text ≡ true
   value : number_of 10 (map digit_value text) ≡ n
 
-begins_with-append : (kind : ℕ → Bool) (xs ys : List ℕ) → begins_with kind xs ≡ true → begins_with kind (xs ++ ys) ≡ true
+-- what a text begins with, it begins with before any rest
+pub begins_with-append : (kind : ℕ → Bool) (xs ys : List ℕ) → begins_with kind xs ≡ true → begins_with kind (xs ++ ys) ≡ true
 begins_with-append kind [] ys h = absurd (false≢true h)
 begins_with-append kind (x ∷ xs) ys h = h
 

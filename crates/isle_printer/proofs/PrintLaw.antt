@@ -7,10 +7,10 @@ use Rattle.isle_base.specs.Place.{unknown, nowhere, placed}
 use Rattle.isle_base.specs.Skips.{nothing}
 use Rattle.isle_base.specs.Token.{Tok, Lexeme, end}
 use Rattle.isle_ast.proofs.SpeltWritable.{spelt_is_writable}
-use Rattle.isle_ast.specs.Erased.{erase_name, erase_names, erase_model, erase_model_fields, erase_named_field, erase_indexed_field, erase_fields, erase_variant, erase_type_content, erase_target, erase_kind, erase_signature, erase_optional, erase_model_content, erase_definition, erase}
+use Rattle.isle_ast.specs.Erased.{erase_name, erase_names, erase_model, erase_named_field, erase_indexed_field, erase_fields, erase_variant, erase_type_content, erase_target, erase_kind, erase_signature, erase_optional, erase_definition, erase}
 use Rattle.isle_ast.specs.Grammar.{SpellsDefinitions}
 use Rattle.isle_ast.specs.Spelt.{IsSpelt}
-use Rattle.isle_ast.specs.Tree.{Name, TypeModel, unspecified_model, auto_model, int_model, bool_model, unit_model, bit_vector_model, struct_model, named_model, ModelFieldRow, no_model_field, model_field, FieldList, unit_fields, struct_fields, tuple_fields, EnumVariant, TypeContent, primitive_type, enum_type, struct_type, AttributeTarget, term_target, rule_target, AttributeKind, chain_kind, priority_kind, tag_kind, TermSignature, ModelContent, type_model, extern_extractor, extern_constructor, extern_const, Definition, type_def, rule, extractor, decl, attr, model, form, instantiation, external, converter}
+use Rattle.isle_ast.specs.Tree.{Name, FieldList, unit_fields, struct_fields, tuple_fields, EnumVariant, TypeContent, primitive_type, enum_type, struct_type, AttributeTarget, term_target, rule_target, AttributeKind, chain_kind, priority_kind, tag_kind, TermSignature, extern_extractor, extern_constructor, extern_const, Definition, type_def, rule, extractor, decl, attr, spec, spec_macro, model, state, form, instantiation, external, converter}
 use Rattle.isle_ast.specs.Writable.{AreWritable}
 use Rattle.isle_printer.specs.Choices.{Choice, render}
 use Rattle.isle_printer.specs.DefinitionShapes.{definition_shape}
@@ -18,12 +18,13 @@ use Rattle.isle_printer.specs.Layout.{layout}
 use Rattle.isle_printer.specs.Printed.{definition_text, behind_text, printed_text, IsPrinted}
 use Rattle.isle_printer.specs.ReadBack.{TokensOf, Reads, ReadsBack, unplaced}
 use Rattle.isle_printer.specs.Sexp.{Sexp, atom, row_of}
-use Rattle.isle_printer.specs.Shapes.{name_shape, flag_shape, form_shape, model_shape, model_field_shapes, named_field_shape, indexed_field_shape, field_shapes, variant_shape, type_content_shape, target_shape, tag_shape, kind_shape, signature_shape, instance_shapes, model_content_shape}
+use Rattle.isle_printer.specs.Shapes.{name_shape, flag_shape, form_shape, model_shape, named_field_shape, indexed_field_shape, field_shapes, variant_shape, type_content_shape, target_shape, tag_shape, kind_shape, signature_shape, instance_shapes}
 use Rattle.isle_printer.proofs.Greedy.{greedy, layout_is_render}
 use Rattle.isle_printer.proofs.Printing.{IsPrinted-from_text, IsPrinted-text, IsPrinted-plain}
 use Rattle.isle_printer.proofs.RuleErased.{shapes-erased, names-erased, rule-erased, extractor-erased, macro_args-erased}
 use Rattle.isle_printer.proofs.ReadBackLaw.{render-reads, Reads-blank, is_blank-10, in_symbol-10}
 use Rattle.isle_printer.proofs.ShapeLaw.{spell-definition}
+use Rattle.isle_printer.proofs.SpecErased.{model-erased, model_content-erased, spec_definition-erased, spec_macro-erased, state-erased}
 
 -- The offsets of the pieces make lexemes of them.
 pub Lexes-from_reads : (size : ℕ) (text : List ℕ) (tokens : List Tok) → Reads text tokens → (l : List Lexeme) × Lexes size text l end × (placed nowhere l ≡ unplaced tokens)
@@ -99,23 +100,6 @@ IsPrinted-ReadsBack width ds text is all s =
 
 -- positions play no part in a shape
 
-mutual
-  model-erased : (m : TypeModel) → model_shape (erase_model m) ≡ model_shape m
-  model-erased unspecified_model = refl
-  model-erased auto_model = refl
-  model-erased int_model = refl
-  model-erased bool_model = refl
-  model-erased unit_model = refl
-  model-erased (bit_vector_model width) = refl
-  model-erased (struct_model fields) = ap (λ ss. form_shape (codes "struct") ss) (model_fields-erased fields)
-  model-erased (named_model name) = refl
-
-  model_fields-erased : (fields : ModelFieldRow) → model_field_shapes (erase_model_fields fields) ≡ model_field_shapes fields
-  model_fields-erased no_model_field = refl
-  model_fields-erased (model_field name ty fields) =
-      ap (λ s. row_of (name_shape name ∷ s ∷ []) ∷ model_field_shapes (erase_model_fields fields)) (model-erased ty)
-      ∙ ap (λ ss. row_of (name_shape name ∷ model_shape ty ∷ []) ∷ ss) (model_fields-erased fields)
-
 fields-erased : (fields : FieldList) → field_shapes (erase_fields fields) ≡ field_shapes fields
 fields-erased unit_fields = refl
 fields-erased (struct_fields fields _) = shapes-erased named_field_shape erase_named_field (λ f. refl) fields
@@ -149,9 +133,6 @@ instances-erased : (o : Option Name) (gs : List TermSignature) → instance_shap
 instances-erased None gs = shapes-erased signature_shape erase_signature signature-erased gs
 instances-erased (Some name) gs = refl
 
-model_content-erased : (m : ModelContent) → model_content_shape (erase_model_content m) ≡ model_content_shape m
-model_content-erased (type_model ty) = ap (λ s. form_shape (codes "type") (s ∷ [])) (model-erased ty)
-
 definition_shape-erased : (d : Definition) → definition_shape (erase_definition d) ≡ definition_shape d
 definition_shape-erased (type_def t) =
     ap
@@ -173,8 +154,11 @@ definition_shape-erased (decl d) =
 definition_shape-erased (attr a) =
     ap (λ t. row_of (atom (codes "attr") ∷ [] ++ t ++ map kind_shape (map erase_kind a.kinds))) (target-erased a.target)
     ∙ ap (λ ks. row_of (atom (codes "attr") ∷ [] ++ target_shape a.target ++ ks)) (shapes-erased kind_shape erase_kind kind-erased a.kinds)
+definition_shape-erased (spec s) = spec_definition-erased s
+definition_shape-erased (spec_macro m) = spec_macro-erased m
 definition_shape-erased (model m) =
     ap (λ s. row_of (atom (codes "model") ∷ [] ++ name_shape m.name ∷ [] ++ s ∷ [])) (model_content-erased m.val)
+definition_shape-erased (state s) = state-erased s
 definition_shape-erased (form f) =
     ap (λ ss. row_of (atom (codes "form") ∷ [] ++ name_shape f.name ∷ [] ++ ss)) (shapes-erased signature_shape erase_signature signature-erased f.signatures)
 definition_shape-erased (instantiation i) =

@@ -17,18 +17,14 @@ use Rattle.isle_printer.specs.RuleShapes.{integer_shape, pattern_shape, pattern_
 use Rattle.isle_printer.specs.Sexp.{Sexp, atom, binding, row_of}
 use Rattle.isle_printer.specs.Shapes.{name_shape, name_shapes}
 use Rattle.isle_printer.proofs.NumberAtoms.{integer_text-ReadsAs, signed_decimal-ReadsAs}
-use Rattle.isle_printer.proofs.Spellings.{◌then◌, item-ahead, items-ahead, Spelling, spell-nothing, spell-word, spell-name, spell-all, spell-names, spell-row, spell-form, InTurn, spell-turn, all_true, differs-test, spell-constant}
+use Rattle.isle_printer.proofs.Spellings.{◌then◌, item-ahead, items-ahead, Spelling, placed, spell-nothing, spell-word, spell-name, spell-all, spell-names, spell-row, spell-form, InTurn, spell-turn, all_true, differs-test, spell-constant}
 use Rattle.isle_printer.proofs.WordSymbols.{word-and, word-let, word-if_let, word-true, word-false, word-underscore, word-rule, word-extractor}
 
--- what stands ahead is at the default position
-placed : {x : Sexp} {xs : List Sexp} {Spells : List Placed → List Placed → Type 0} {rest : List Tok} → Spelling (x ∷ xs) Spells rest → Spelling (x ∷ xs) (λ all rest. BeginsAt unknown all × Spells all rest) rest
-placed s = record { all = s.all; tokens = s.tokens; spells = (item-ahead s.tokens, s.spells) }
-
-word-bool : (b : Bool) → ReadsAs (bool_word b) (symbol (bool_word b))
+pub word-bool : (b : Bool) → ReadsAs (bool_word b) (symbol (bool_word b))
 word-bool true = word-true
 word-bool false = word-false
 
-spell-integer : (z : ℤ) → IsSigned 127 z → (rest : List Tok) → Spelling (integer_shape z ∷ []) (SpellsInteger z) rest
+pub spell-integer : (z : ℤ) → IsSigned 127 z → (rest : List Tok) → Spelling (integer_shape z ∷ []) (SpellsInteger z) rest
 spell-integer z fits rest = record {
   all = integer z ∷ rest;
   tokens = record { are = (rest, (integer z, integer_text-ReadsAs z fits, refl), refl) };

@@ -1,26 +1,30 @@
 -- The tokens of the shape of a writable definition spell it, erased.
-use Rattle.std.proofs.Common.{◌≡◌, ℕ, ◌+◌, ◌^◌, ◌<◌, List, [], ◌∷◌, ◌++◌, map, codes, Bool, true, false, ◌||◌, not, Option, None, Some, IfSome, pos, inr, refl, arith}
+use Rattle.std.proofs.Common.{◌≡◌, ℕ, ◌+◌, List, [], ◌∷◌, ◌++◌, map, codes, Bool, true, false, ◌||◌, not, Option, None, Some, inr, refl}
 use Rattle.std.proofs.lemmas.Slice.Eq.{bytes_eq-Decides}
 use Rattle.std.specs.Str.{bytes_eq}
 use Rattle.isle_base.specs.Place.{Placed, unknown}
-use Rattle.isle_base.specs.Token.{Tok, rparen, integer}
-use Rattle.isle_ast.specs.Erased.{erase_name, erase_names, erase_declaration, erase_conversion, erase_type, erase_attribute, erase_form, erase_instantiation, erase_model_definition, erase_optional, erase_model, erase_model_fields, erase_named_field, erase_indexed_field, erase_fields, erase_variant, erase_type_content, erase_target, erase_kind, erase_signature, erase_model_content, erase_extern, erase_definition}
+use Rattle.isle_base.specs.Token.{Tok, rparen}
+use Rattle.isle_ast.specs.Erased.{erase_name, erase_names, erase_declaration, erase_conversion, erase_type, erase_attribute, erase_form, erase_instantiation, erase_model_definition, erase_optional, erase_model, erase_named_field, erase_indexed_field, erase_fields, erase_variant, erase_type_content, erase_target, erase_kind, erase_signature, erase_model_content, erase_extern, erase_definition}
 use Rattle.isle_ast.specs.Grammar.{SpellsDefinition}
-use Rattle.isle_ast.specs.ModelGrammar.{SpellsTypeModel, SpellsModelFields, SpellsSignature, SpellsTag, SpellsInstances, SpellsModelContent, SpellsModel, SpellsForm, SpellsInstantiation}
-use Rattle.isle_ast.specs.Numbers.{SpellsNumber}
+use Rattle.isle_ast.specs.SpecErased.{erase_spec}
+use Rattle.isle_ast.specs.SpecGrammar.{SpellsSpec}
+use Rattle.isle_ast.specs.ModelGrammar.{SpellsTypeModel, SpellsSignature, SpellsTag, SpellsInstances, SpellsModelContent, SpellsModel, SpellsForm, SpellsInstantiation}
 use Rattle.isle_ast.specs.TermGrammar.{demands, SpellsDeclaration, SpellsConversion, SpellsAttributeKind, SpellsAttributeTarget, SpellsPair, SpellsExtern, SpellsAttribute}
-use Rattle.isle_ast.specs.Tree.{Name, Declaration, Conversion, TypeModel, unspecified_model, auto_model, int_model, bool_model, unit_model, bit_vector_model, struct_model, named_model, ModelFieldRow, no_model_field, model_field, NamedField, IndexedField, FieldList, unit_fields, struct_fields, tuple_fields, EnumVariant, TypeContent, primitive_type, enum_type, struct_type, AttributeTarget, term_target, rule_target, AttributeKind, chain_kind, priority_kind, tag_kind, TermSignature, ModelContent, type_model, ExternDefinition, extern_extractor, extern_constructor, extern_const, Definition, type_def, rule, extractor, decl, attr, model, form, instantiation, external, converter}
+use Rattle.isle_ast.specs.Tree.{Name, Declaration, Conversion, NamedField, IndexedField, FieldList, unit_fields, struct_fields, tuple_fields, EnumVariant, TypeContent, primitive_type, enum_type, struct_type, AttributeTarget, term_target, rule_target, AttributeKind, chain_kind, priority_kind, tag_kind, TermSignature, ModelContent, type_model, const_model, ExternDefinition, extern_extractor, extern_constructor, extern_const, Definition, type_def, rule, extractor, decl, attr, spec, spec_macro, model, state, form, instantiation, external, converter}
 use Rattle.isle_ast.specs.TypeGrammar.{SpellsNamedField, SpellsIndexedFields, SpellsFields, SpellsVariant, SpellsTypeContent, SpellsModifiers, SpellsTypeDefinition}
-use Rattle.isle_ast.specs.Words.{SpellsWord, BeginsAt, SpellsAll, InParentheses, BehindWord, SpellsName, SpellsOptional}
-use Rattle.isle_ast.specs.Writable.{IsName, Each, Wants, IsWritableDeclaration, IsWritableConversion, IsWritableModel, AreWritableModelFields, IsWritableNamedField, AreWritableIndexedFields, AreWritableFields, IsWritableVariant, IsWritableTypeContent, IsWritableTarget, IsWritableKind, IsWritableSignature, AreWritableInstances, IsWritableModelContent, IsWritableExtern, IsWritable}
+use Rattle.isle_ast.specs.Words.{SpellsWord, BeginsAt, SpellsAll, InParentheses, BehindWord, SpellsName}
+use Rattle.isle_ast.specs.Writable.{IsName, Each, Wants, IsWritableDeclaration, IsWritableConversion, IsWritableModel, IsWritableNamedField, AreWritableIndexedFields, AreWritableFields, IsWritableVariant, IsWritableTypeContent, IsWritableTarget, IsWritableKind, IsWritableSignature, AreWritableInstances, IsWritableModelContent, IsWritableExtern, IsWritable}
 use Rattle.isle_printer.specs.DefinitionShapes.{definition_shape}
 use Rattle.isle_printer.specs.Sexp.{atom}
-use Rattle.isle_printer.specs.Shapes.{name_shape, name_shapes, flag_shape, form_shape, number_shape, width_shape, model_shape, model_field_shapes, named_field_shape, indexed_field_shape, field_shapes, variant_shape, type_content_shape, target_shape, tag_shape, kind_shape, signature_shape, instance_shapes, model_content_shape, constant_shape, extern_shape}
+use Rattle.isle_printer.specs.Shapes.{name_shape, name_shapes, flag_shape, form_shape, model_shape, named_field_shape, indexed_field_shape, field_shapes, variant_shape, type_content_shape, target_shape, tag_shape, kind_shape, signature_shape, instance_shapes, constant_shape, extern_shape}
+use Rattle.isle_printer.specs.SpecShapes.{spec_shape, model_content_shape}
 use Rattle.isle_printer.specs.ReadBack.{unplaced}
-use Rattle.isle_printer.proofs.NumberAtoms.{decimal-ReadsAs}
+use Rattle.isle_printer.proofs.ModelShapeLaw.{spell-model}
+use Rattle.isle_printer.proofs.SpecDefinitionShapeLaw.{spell-spec_definition, spell-spec_macro, spell-state}
+use Rattle.isle_printer.proofs.SpecShapeLaw.{spell-spec}
 use Rattle.isle_printer.proofs.RuleShapeLaw.{spell-rule, spell-extractor_definition}
 use Rattle.isle_printer.proofs.Spellings.{ItemTokens, ◌then◌, IsAhead, item-ahead, items-ahead, Spelling, spell-nothing, spell-word, spell-flag, spell-name, spell-all, spell-names, spell-row, spell-behind, spell-form, InTurn, spell-turn, all_true, differs-test, regrouped, spell-constant}
-use Rattle.isle_printer.proofs.WordSymbols.{word-decl, word-convert, word-pure, word-multi, word-partial, word-rec, word-type, word-extern, word-nodebug, word-primitive, word-enum, word-struct, word-attr, word-rule, word-veri, word-chain, word-priority, word-tag, word-model, word-form, word-instantiate, word-args, word-ret, word-bv, word-named, word-extractor, word-infallible, word-constructor, word-const, word-Int, word-Bool, word-Unit, word-bang, word-underscore}
+use Rattle.isle_printer.proofs.WordSymbols.{word-decl, word-convert, word-pure, word-multi, word-partial, word-rec, word-type, word-extern, word-nodebug, word-primitive, word-enum, word-struct, word-attr, word-rule, word-veri, word-chain, word-priority, word-tag, word-model, word-form, word-instantiate, word-args, word-ret, word-extractor, word-infallible, word-constructor, word-const}
 
 -- what a wish says of a text, as a test
 wanted : (text word : List ℕ) (set b : Bool) → bytes_eq text word ≡ b → (text ≡ word → set ≡ true) → (not b || set) ≡ true
@@ -29,45 +33,6 @@ wanted text word set false e want = refl
 
 Wants-demands : (n : Name) (word : List ℕ) (set : Bool) → Wants n word set → demands n.text word set ≡ true
 Wants-demands n word set want = wanted n.text word set (bytes_eq n.text word) refl want
-
-spell-number : (n : ℕ) → n < 2 ^ 64 → (rest : List Tok) → Spelling (number_shape n ∷ []) (SpellsNumber n) rest
-spell-number n fits rest = record {
-  all = integer (pos n) ∷ rest;
-  tokens = record { are = (rest, (integer (pos n), λ rest apart. decimal-ReadsAs n (omega arith) rest apart, refl), refl) };
-  spells = (fits, (unknown, refl));
-}
-
-spell-width : (width : Option ℕ) → IfSome width (λ n. n < 2 ^ 64) → (rest : List Tok) → Spelling (width_shape width) (SpellsOptional SpellsNumber width) rest
-spell-width None fits rest = spell-nothing rest
-spell-width (Some n) fits rest = spell-number n fits rest
-
-mutual
-  spell-model : (m : TypeModel) → IsWritableModel m → (rest : List Tok) → Spelling (model_shape m ∷ []) (SpellsTypeModel (erase_model m)) rest
-  spell-model unspecified_model is rest = spell-word (codes "!") word-bang rest
-  spell-model auto_model is rest = spell-word (codes "_") word-underscore rest
-  spell-model int_model is rest = spell-word (codes "Int") word-Int rest
-  spell-model bool_model is rest = spell-word (codes "Bool") word-Bool rest
-  spell-model unit_model is rest = spell-word (codes "Unit") word-Unit rest
-  spell-model (bit_vector_model width) is rest =
-      spell-form (codes "bv") word-bv (width_shape width) (SpellsOptional SpellsNumber width) rest (spell-width width is (rparen ∷ rest))
-  spell-model (struct_model fields) is rest =
-      spell-form (codes "struct") word-struct (model_field_shapes fields) (SpellsModelFields (erase_model_fields fields)) rest
-      (spell-model_fields fields is (rparen ∷ rest))
-  spell-model (named_model name) is rest =
-      spell-form (codes "named") word-named (name_shape name ∷ []) (SpellsName (erase_name name)) rest (spell-name name is (rparen ∷ rest))
-
-  spell-model_fields : (fields : ModelFieldRow) → AreWritableModelFields fields → (rest : List Tok) → Spelling (model_field_shapes fields) (SpellsModelFields (erase_model_fields fields)) rest
-  spell-model_fields no_model_field is rest = spell-nothing rest
-  spell-model_fields (model_field name ty fields) is rest =
-      let behind = spell-model_fields fields is.2 rest in
-      let second = spell-model ty is.1 (rparen ∷ behind.all) in
-      let first = spell-name name is.0 second.all in
-      let field = spell-row (name_shape name ∷ model_shape ty ∷ []) (InTurn (SpellsName (erase_name name)) (SpellsTypeModel (erase_model ty))) behind.all (spell-turn second first) in
-      record {
-        all = field.all;
-        tokens = field.tokens then behind.tokens;
-        spells = (unplaced behind.all, field.spells, behind.spells);
-      }
 
 spell-named_field : (f : NamedField) → IsWritableNamedField f → (rest : List Tok) → Spelling (named_field_shape f ∷ []) (SpellsNamedField (erase_named_field f)) rest
 spell-named_field f is rest =
@@ -232,6 +197,8 @@ spell-instances (Some name) [] tags is rest =
 spell-model_content : (m : ModelContent) → IsWritableModelContent m → (rest : List Tok) → Spelling (model_content_shape m ∷ []) (SpellsModelContent (erase_model_content m)) rest
 spell-model_content (type_model ty) is rest =
     spell-form (codes "type") word-type (model_shape ty ∷ []) (SpellsTypeModel (erase_model ty)) rest (spell-model ty is (rparen ∷ rest))
+spell-model_content (const_model value) is rest =
+    spell-form (codes "const") word-const (spec_shape value ∷ []) (SpellsSpec (erase_spec value)) rest (spell-spec value is (rparen ∷ rest))
 
 spell-pair : (first second : Name) → IsName first → IsName second → (rest : List Tok) → Spelling (name_shape first ∷ name_shape second ∷ []) (SpellsPair (erase_name first) (erase_name second)) rest
 spell-pair first second is so rest =
@@ -416,6 +383,9 @@ spell-definition (attr a) is rest =
         },
       );
     })
+spell-definition (spec s) is rest = spell-spec_definition s is rest
+spell-definition (spec_macro m) is rest = spell-spec_macro m is rest
+spell-definition (state s) is rest = spell-state s is rest
 spell-definition (model m) is rest =
     let val = spell-model_content m.val is.1 (rparen ∷ rest) in
     let name = spell-name m.name is.0 val.all in

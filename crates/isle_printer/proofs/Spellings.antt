@@ -56,6 +56,10 @@ pub record Spelling (items : List Sexp) (Spells : List Placed → List Placed �
   pub tokens : ItemTokens items all rest
   pub spells : Spells (unplaced all) (unplaced rest)
 
+-- what stands ahead is at the default position
+pub placed : {x : Sexp} {xs : List Sexp} {Spells : List Placed → List Placed → Type 0} {rest : List Tok} → Spelling (x ∷ xs) Spells rest → Spelling (x ∷ xs) (λ all rest. BeginsAt unknown all × Spells all rest) rest
+placed s = record { all = s.all; tokens = s.tokens; spells = (item-ahead s.tokens, s.spells) }
+
 -- no items
 pub spell-nothing : (rest : List Tok) → Spelling [] (λ all rest. all ≡ rest) rest
 spell-nothing rest = record { all = rest; tokens = record { are = refl }; spells = refl }

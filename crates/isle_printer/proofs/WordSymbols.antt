@@ -162,3 +162,43 @@ word-true = ReadsAs-symbol (codes "true") refl refl
 pub word-false : ReadsAs (codes "false") (symbol (codes "false"))
 unfolding in_symbol begins_symbol is_blank begins_literal
 word-false = ReadsAs-symbol (codes "false") refl refl
+
+pub word-spec : ReadsAs (codes "spec") (symbol (codes "spec"))
+unfolding in_symbol begins_symbol is_blank begins_literal
+word-spec = ReadsAs-symbol (codes "spec") refl refl
+
+pub word-provide : ReadsAs (codes "provide") (symbol (codes "provide"))
+unfolding in_symbol begins_symbol is_blank begins_literal
+word-provide = ReadsAs-symbol (codes "provide") refl refl
+
+pub word-require : ReadsAs (codes "require") (symbol (codes "require"))
+unfolding in_symbol begins_symbol is_blank begins_literal
+word-require = ReadsAs-symbol (codes "require") refl refl
+
+pub word-match : ReadsAs (codes "match") (symbol (codes "match"))
+unfolding in_symbol begins_symbol is_blank begins_literal
+word-match = ReadsAs-symbol (codes "match") refl refl
+
+pub word-modifies : ReadsAs (codes "modifies") (symbol (codes "modifies"))
+unfolding in_symbol begins_symbol is_blank begins_literal
+word-modifies = ReadsAs-symbol (codes "modifies") refl refl
+
+pub word-state : ReadsAs (codes "state") (symbol (codes "state"))
+unfolding in_symbol begins_symbol is_blank begins_literal
+word-state = ReadsAs-symbol (codes "state") refl refl
+
+pub word-default : ReadsAs (codes "default") (symbol (codes "default"))
+unfolding in_symbol begins_symbol is_blank begins_literal
+word-default = ReadsAs-symbol (codes "default") refl refl
+
+pub word-as : ReadsAs (codes "as") (symbol (codes "as"))
+unfolding in_symbol begins_symbol is_blank begins_literal
+word-as = ReadsAs-symbol (codes "as") refl refl
+
+pub word-with : ReadsAs (codes "with") (symbol (codes "with"))
+unfolding in_symbol begins_symbol is_blank begins_literal
+word-with = ReadsAs-symbol (codes "with") refl refl
+
+pub word-macro : ReadsAs (codes "macro") (symbol (codes "macro"))
+unfolding in_symbol begins_symbol is_blank begins_literal
+word-macro = ReadsAs-symbol (codes "macro") refl refl

@@ -9,3 +9,4 @@ pub mod RuleShapes
 pub mod Sexp
 pub mod SexpView
 pub mod Shapes
+pub mod SpecShapes

@@ -1,8 +1,8 @@
--- The S-expressions of names, numbers and definitions without patterns. A name is an atom as it stands,
--- whatever bytes it holds.
+-- The S-expressions of names, numbers and definitions without patterns and spec expressions. A name is an
+-- atom as it stands, whatever bytes it holds.
 use Rattle.std.specs.Prelude.{ℕ, List, [], ◌∷◌, ◌++◌, Bool, true, false, Option, None, Some, map, codes}
 use Rattle.std.specs.Fmt.{decimal}
-use Rattle.isle_ast.specs.Tree.{Name, Declaration, Conversion, TypeModel, unspecified_model, auto_model, int_model, bool_model, unit_model, bit_vector_model, struct_model, named_model, ModelFieldRow, no_model_field, model_field, NamedField, IndexedField, FieldList, unit_fields, struct_fields, tuple_fields, EnumVariant, TypeContent, primitive_type, enum_type, struct_type, TypeDefinition, AttributeTarget, term_target, rule_target, AttributeKind, chain_kind, priority_kind, tag_kind, Attribute, TermSignature, FormDefinition, TermInstantiation, ModelContent, type_model, ModelDefinition, ExternDefinition, extern_extractor, extern_constructor, extern_const}
+use Rattle.isle_ast.specs.Tree.{Name, Declaration, Conversion, TypeModel, unspecified_model, auto_model, int_model, bool_model, unit_model, bit_vector_model, struct_model, named_model, ModelFieldRow, no_model_field, model_field, NamedField, IndexedField, FieldList, unit_fields, struct_fields, tuple_fields, EnumVariant, TypeContent, primitive_type, enum_type, struct_type, TypeDefinition, AttributeTarget, term_target, rule_target, AttributeKind, chain_kind, priority_kind, tag_kind, Attribute, TermSignature, FormDefinition, TermInstantiation, ExternDefinition, extern_extractor, extern_constructor, extern_const}
 use Rattle.isle_ast.specs.TreeView.{SingleModelField}
 use Rattle.isle_printer.specs.Sexp.{Sexp, atom, row_of}
 
@@ -151,15 +151,6 @@ instantiation_shape i =
     ++ name_shape i.term ∷ []
     ++ instance_shapes i.form i.signatures
     ++ map tag_shape i.tags)
-
--- `(type model)`
-abbrev pub model_content_shape : ModelContent → Sexp
-model_content_shape (type_model ty) = form_shape (codes "type") (model_shape ty ∷ [])
-
--- `(model name content)`
-abbrev pub model_definition_shape : ModelDefinition → Sexp
-model_definition_shape m =
-    row_of (atom (codes "model") ∷ [] ++ name_shape m.name ∷ [] ++ model_content_shape m.val ∷ [])
 
 -- `$` and the name of a constant
 abbrev pub constant_shape : Name → Sexp

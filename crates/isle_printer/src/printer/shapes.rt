@@ -7,12 +7,17 @@ ghost use Rattle.isle_printer.specs.DefinitionShapes.{definition_shape};
 ghost use Rattle.isle_printer.specs.RuleShapes.{integer_shape};
 ghost use Rattle.isle_printer.specs.Sexp.{atom, row_of};
 ghost use Rattle.isle_printer.specs.SexpView.{sexp_of, sexps_of};
+ghost use Rattle.isle_printer.specs.SpecShapes.{headed_shape};
 ghost use Rattle.isle_printer.specs.Shapes.{constant_shape, flag_shape, form_shape, name_shape, name_shapes, number_shape};
 
+mod bit_vectors;
 mod expressions;
 mod models;
+mod operators;
 mod patterns;
 mod rules;
+mod spec_definitions;
+mod specs;
 mod terms;
 mod types;
 
@@ -59,7 +64,10 @@ fn definition(alloc: Global, def: &Def) -> Result<SExpr, AllocError>
         Def::Extractor(extractor) => rules::extractor(alloc, extractor),
         Def::Decl(decl) => terms::declaration(alloc, decl),
         Def::Attr(attr) => terms::attribute(alloc, attr),
+        Def::Spec(spec) => spec_definitions::spec_definition(alloc, spec),
+        Def::SpecMacro(definition) => spec_definitions::spec_macro(alloc, definition),
         Def::Model(model) => models::model(alloc, model),
+        Def::State(state) => spec_definitions::state(alloc, state),
         Def::Form(form) => terms::form(alloc, form),
         Def::Instantiation(instantiation) => terms::instantiation(alloc, instantiation),
         Def::Extern(external) => terms::external(alloc, external),
@@ -72,6 +80,16 @@ fn names(alloc: Global, idents: &[Ident]) -> Result<SExpr, AllocError>
     ensures { IfOk result (λ s. sexp_of s ≡ row_of (name_shapes (names_of idents.now))) }
 {
     let mut items = Vec::new(alloc);
+    push_names(&mut items, alloc, idents)?;
+    Ok(list(items))
+}
+
+/// The list of a name and several more.
+fn headed_names(alloc: Global, head: &Ident, idents: &[Ident]) -> Result<SExpr, AllocError>
+    ensures { IfOk result (λ s. sexp_of s ≡ headed_shape (name_of head.now) (names_of idents.now)) }
+{
+    let mut items = Vec::new(alloc);
+    push_name(&mut items, alloc, head)?;
     push_names(&mut items, alloc, idents)?;
     Ok(list(items))
 }
@@ -99,6 +117,16 @@ fn headed(alloc: Global, word: &str, item: SExpr) -> Result<SExpr, AllocError>
 {
     let mut items = begun(alloc, word)?;
     items.push(item)?;
+    Ok(list(items))
+}
+
+/// The list of a word and two items.
+fn headed_pair(alloc: Global, word: &str, first: SExpr, second: SExpr) -> Result<SExpr, AllocError>
+    ensures { IfOk result (λ s. sexp_of s ≡ form_shape word.now (sexp_of first ∷ sexp_of second ∷ [])) }
+{
+    let mut items = begun(alloc, word)?;
+    items.push(first)?;
+    items.push(second)?;
     Ok(list(items))
 }
 
@@ -167,8 +195,15 @@ fn name(alloc: Global, ident: &Ident) -> Result<SExpr, AllocError>
 fn constant(alloc: Global, ident: &Ident) -> Result<SExpr, AllocError>
     ensures { IfOk result (λ s. sexp_of s ≡ constant_shape (name_of ident.now)) }
 {
-    let mut text = String::from_str(alloc, "$")?;
-    text.push_str(&ident.0)?;
+    joined(alloc, "$", &ident.0)
+}
+
+/// The atom of two texts, one behind the other.
+fn joined(alloc: Global, front: &str, back: &str) -> Result<SExpr, AllocError>
+    ensures { IfOk result (λ s. sexp_of s ≡ atom (front.now ++ back.now)) }
+{
+    let mut text = String::from_str(alloc, front)?;
+    text.push_str(back)?;
     Ok(SExpr::Atom(text))
 }
 

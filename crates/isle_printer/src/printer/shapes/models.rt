@@ -3,8 +3,10 @@
 ghost use Rattle.std.specs.Prelude.{◌≡◌, ◌++◌, map, IfOk, OnOk, codes};
 ghost use Rattle.isle_ast.specs.TreeView.{model_content_of, model_definition_of, model_row_of, signature_of, signatures_of, single_model_field_of, single_model_fields_of, type_model_of};
 ghost use Rattle.isle_printer.specs.SexpView.{sexp_of, sexps_of};
-ghost use Rattle.isle_printer.specs.Shapes.{form_shape, model_content_shape, model_definition_shape, model_field_shape, model_field_shapes, model_shape, signature_shape, width_shape};
+ghost use Rattle.isle_printer.specs.Shapes.{form_shape, model_field_shape, model_field_shapes, model_shape, signature_shape, width_shape};
+ghost use Rattle.isle_printer.specs.SpecShapes.{model_content_shape, model_definition_shape};
 
+use super::specs::spec;
 use super::{atom, begun, headed, list, name, number, pair, push_name};
 use crate::printer::sexpr::{PrintFault, SExpr, ToSExpr};
 use isle_ast::ast::{Model, ModelField, ModelType, ModelValue, Signature};
@@ -13,7 +15,7 @@ use std::alloc::{AllocError, Global};
 impl ToSExpr for Model {
     ghost use Rattle.std.specs.Prelude.{Some};
     ghost use Rattle.isle_ast.specs.TreeView.{model_definition_of};
-    ghost use Rattle.isle_printer.specs.Shapes.{model_definition_shape};
+    ghost use Rattle.isle_printer.specs.SpecShapes.{model_definition_shape};
 
     ghost meaning = { λ m. Some (model_definition_shape (model_definition_of m)) };
 
@@ -25,7 +27,7 @@ impl ToSExpr for Model {
 impl ToSExpr for ModelValue {
     ghost use Rattle.std.specs.Prelude.{Some};
     ghost use Rattle.isle_ast.specs.TreeView.{model_content_of};
-    ghost use Rattle.isle_printer.specs.Shapes.{model_content_shape};
+    ghost use Rattle.isle_printer.specs.SpecShapes.{model_content_shape};
 
     ghost meaning = { λ v. Some (model_content_shape (model_content_of v)) };
 
@@ -86,12 +88,13 @@ fn model_value(alloc: Global, value: &ModelValue) -> Result<SExpr, AllocError>
 {
     match value {
         ModelValue::TypeValue(ty) => headed(alloc, "type", model_type(ty, alloc)?),
+        ModelValue::ConstValue(value) => headed(alloc, "const", spec(value, alloc)?),
     }
 }
 
 /// The S-expression of a model.
 #[cycle(model_types)]
-fn model_type(ty: &ModelType, alloc: Global) -> Result<SExpr, AllocError>
+pub(super) fn model_type(ty: &ModelType, alloc: Global) -> Result<SExpr, AllocError>
     ensures { IfOk result (λ s. sexp_of s ≡ model_shape (type_model_of ty.now)) }
 {
     match ty {
