@@ -2,9 +2,8 @@
 
 ghost use Rattle.std.specs.Prelude.{◌≡◌, ◌++◌, map, IfOk, OnOk};
 ghost use Rattle.isle_ast.specs.SpecView.{modified_of, spec_definition_of, spec_macro_of, specs_of, state_of};
-ghost use Rattle.isle_ast.specs.TreeView.{optional_name_of};
 ghost use Rattle.isle_printer.specs.SexpView.{sexp_of, sexps_of};
-ghost use Rattle.isle_printer.specs.SpecShapes.{clause_shape, modifies_shape, spec_definition_shape, spec_macro_shape, spec_shape, state_condition_shape, state_shape};
+ghost use Rattle.isle_printer.specs.SpecShapes.{clause_shape, modifies_shape, spec_definition_shape, spec_macro_shape, spec_shape, state_shape};
 
 use super::models::model_type;
 use super::specs::spec;
