@@ -60,7 +60,8 @@ impl ToSExpr for State {
     }
 }
 
-/// The S-expression of a spec: a clause for each kind that has something to say, and one for each state that is changed.
+/// The S-expression of a spec: a clause for each kind that says something, and one for each state that is
+/// changed.
 pub(super) fn spec_definition(alloc: Global, spec: &Spec) -> Result<SExpr, AllocError>
     ensures { IfOk result (λ s. sexp_of s ≡ spec_definition_shape (spec_definition_of spec.now)) }
 {
