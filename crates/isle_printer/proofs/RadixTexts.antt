@@ -1,5 +1,5 @@
 -- The digits of a number in a radix are those of its quotient and then the remainder.
-use Rattle.std.proofs.Common.{◌≡◌, ◌==◌, ℕ, zero, suc, ◌/◌, ◌%◌, ◌*◌, ◌<◌, ◌≤◌, codes, List, [], ◌∷◌, ◌++◌, map, Bool, true, false, if◌then◌else◌, refl, sym, ap, ◌∙◌, append_assoc, arith}
+use Rattle.std.proofs.Common.{◌≡◌, ◌==◌, ℕ, zero, suc, ◌/◌, ◌%◌, ◌<◌, ◌≤◌, codes, List, [], ◌∷◌, ◌++◌, map, false, if◌then◌else◌, sym, ap, ◌∙◌, append_assoc, arith}
 use Rattle.std.proofs.lemmas.Bool.Decides.{nat_tests}
 use Rattle.std.proofs.lemmas.Int.Digits.{digits_of_step}
 use Rattle.std.proofs.lemmas.List.{map-append}
@@ -20,12 +20,15 @@ digits_map radix n two h =
     ap (map digit_char) (digits_of_step radix n two h)
     ∙ map-append digit_char (digits_of radix (n / radix)) (n % radix ∷ [])
 
+-- a number of at least two digits: the digits of its quotient, and the remainder
 pub radix_text-more : (radix n : ℕ) → 2 ≤ radix → radix ≤ n → radix_text radix n ≡ radix_text radix (n / radix) ++ digit_char (n % radix) ∷ []
 radix_text-more radix n two h =
     let some : 0 < n / radix = le-div 1 n radix (omega arith) (omega arith) in
     positive radix n (omega arith)
     ∙ digits_map radix n two (omega arith)
     ∙ ap (λ digits. digits ++ digit_char (n % radix) ∷ []) (sym (positive radix (n / radix) some))
+
+-- a number below the radix: one digit, whether it is zero or not
 
 one_digit : (radix n : ℕ) → 2 ≤ radix → 0 < n → n / radix ≡ 0 → radix_text radix n ≡ digit_char (n % radix) ∷ []
 one_digit radix n two h none =

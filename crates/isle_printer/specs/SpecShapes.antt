@@ -89,10 +89,6 @@ abbrev mutual
 abbrev pub arm_shape : SingleArm → Sexp
 arm_shape a = row_of (headed_shape a.variant a.args ∷ spec_shape a.body ∷ [])
 
--- `(x X)`
-abbrev pub spec_let_shape : Name × SpecNode → Sexp
-spec_let_shape d = row_of (name_shape d.0 ∷ spec_shape d.1 ∷ [])
-
 -- `(name X)`
 abbrev pub field_init_shape : SingleFieldInit → Sexp
 field_init_shape f = row_of (name_shape f.name ∷ spec_shape f.value ∷ [])

@@ -9,7 +9,8 @@ ghost use Rattle.isle_printer.specs.SpecShapes.{bit_vector_text, radix_text, zer
 use crate::printer::sexpr::SExpr;
 use std::alloc::{AllocError, Global};
 
-/// The atom of a bit vector of this value and width: in hexadecimal where four divides the width, else in binary.
+/// The atom of a bit vector of this value and width: in hexadecimal where four divides the width, else in
+/// binary.
 pub(super) fn bit_vector(alloc: Global, val: u128, width: usize) -> Result<SExpr, AllocError>
     ensures { IfOk result (λ s. sexp_of s ≡ atom (bit_vector_text val width)) }
 {

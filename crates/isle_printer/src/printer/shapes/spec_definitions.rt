@@ -2,9 +2,8 @@
 
 ghost use Rattle.std.specs.Prelude.{◌≡◌, ◌++◌, map, IfOk, OnOk};
 ghost use Rattle.isle_ast.specs.SpecView.{modified_of, spec_definition_of, spec_macro_of, specs_of, state_of};
-ghost use Rattle.isle_ast.specs.TreeView.{optional_name_of};
 ghost use Rattle.isle_printer.specs.SexpView.{sexp_of, sexps_of};
-ghost use Rattle.isle_printer.specs.SpecShapes.{clause_shape, modifies_shape, spec_definition_shape, spec_macro_shape, spec_shape, state_condition_shape, state_shape};
+ghost use Rattle.isle_printer.specs.SpecShapes.{clause_shape, modifies_shape, spec_definition_shape, spec_macro_shape, spec_shape, state_shape};
 
 use super::models::model_type;
 use super::specs::spec;
@@ -61,7 +60,8 @@ impl ToSExpr for State {
     }
 }
 
-/// The S-expression of a spec: a clause for each kind that has something to say, and one for each state that is changed.
+/// The S-expression of a spec: a clause for each kind that says something, and one for each state that is
+/// changed.
 pub(super) fn spec_definition(alloc: Global, spec: &Spec) -> Result<SExpr, AllocError>
     ensures { IfOk result (λ s. sexp_of s ≡ spec_definition_shape (spec_definition_of spec.now)) }
 {

@@ -1,20 +1,18 @@
 //! The S-expressions of spec expressions, and of the arms and the fields in them.
 
-ghost use Rattle.std.specs.Prelude.{◌≡◌, ◌∷◌, [], ◌++◌, codes, IfOk, OnOk};
+ghost use Rattle.std.specs.Prelude.{◌≡◌, ◌∷◌, codes, IfOk};
 ghost use Rattle.isle_ast.specs.SpecGrammar.{dotted};
 ghost use Rattle.isle_ast.specs.SpecView.{arm_row_of, field_init_row_of, single_arm_of, single_arms_of, single_field_init_of, single_field_inits_of, single_spec_lets_of, spec_let_row_of, spec_of, spec_row_of, specs_of};
 ghost use Rattle.isle_ast.specs.TreeView.{name_of};
 ghost use Rattle.isle_printer.specs.Sexp.{atom, row_of};
-ghost use Rattle.isle_printer.specs.SexpView.{sexp_of, sexps_of};
+ghost use Rattle.isle_printer.specs.SexpView.{sexp_of};
 ghost use Rattle.isle_printer.specs.Shapes.{form_shape};
 ghost use Rattle.isle_printer.specs.SpecShapes.{arm_shape, arm_shapes, field_init_shape, field_init_shapes, spec_let_shapes, spec_shape, spec_shapes};
 
 use super::bit_vectors::bit_vector;
 use super::models::model_type;
 use super::operators::operator;
-use super::{
-    begun, boolean, headed_names, headed_pair, integer, joined, list, name, names, pair, push_name,
-};
+use super::{begun, boolean, headed_names, headed_pair, integer, joined, list, name, names, pair};
 use crate::printer::sexpr::{PrintFault, SExpr, ToSExpr};
 use isle_ast::ast::{Arm, FieldInit, Ident, SpecExpr};
 use std::alloc::{AllocError, Global};
