@@ -27,3 +27,5 @@ pub mod SpeltWritableRules
 pub mod SpeltWritable
 pub mod NoMacroArgs
 pub mod SpecLets
+pub mod Calls
+pub mod LetHeads

@@ -3,6 +3,7 @@ pub mod Erased
 pub mod ErasedModel
 pub mod ExpressionGrammar
 pub mod Grammar
+pub mod Heads
 pub mod Identifier
 pub mod MacroArgs
 pub mod ModelGrammar
@@ -12,6 +13,7 @@ pub mod Numbers
 pub mod Operators
 pub mod Parts
 pub mod PatternGrammar
+pub mod Roots
 pub mod RuleGrammar
 pub mod SameExpression
 pub mod SameModel

@@ -1,9 +1,13 @@
 //! Walks over the tree: which nodes are, or hold, the argument of a macro. No text spells one, so a
-//! tree that holds one isn't written. No walk takes memory.
+//! tree that holds one isn't written. Beside them stand the walks over the terms of patterns and
+//! expressions, and what is said of one node. No walk takes memory.
 
 ghost use Rattle.std.specs.Prelude.{◌≡◌};
 ghost use Rattle.isle_ast.specs.MacroArgs.{condition_has_macro_arg, definition_has_macro_arg, extractor_has_macro_arg, has_macro_arg, have_macro_arg, rule_has_macro_arg};
 ghost use Rattle.isle_ast.specs.TreeView.{condition_of, definition_of, extractor_of, pattern_of, pattern_row_of, patterns_of, rule_of};
+
+mod nodes;
+mod terms;
 
 use crate::ast::{Def, Extractor, IfLet, Pattern, Rule};
 
