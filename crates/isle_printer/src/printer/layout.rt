@@ -5,8 +5,8 @@
 
 ghost use Rattle.std.specs.Prelude.{◌≡◌, ◌≤◌, ◌<◌, ◌+◌, ◌++◌, ◌↔◌, IsTrue, OnOk, IfSome, MatchOption, string_bytes, string_len};
 ghost use Rattle.isle_printer.specs.Flat.{flat, counted};
-ghost use Rattle.isle_printer.specs.Looks.{nodes};
 ghost use Rattle.isle_printer.specs.Layout.{layout_in, layout_broken, new_line};
+ghost use Rattle.isle_printer.specs.Looks.{nodes};
 ghost use Rattle.isle_printer.specs.Sexp.{sexps};
 ghost use Rattle.isle_printer.specs.SexpView.{sexp_of, sexps_of};
 

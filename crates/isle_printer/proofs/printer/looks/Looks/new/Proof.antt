@@ -2,8 +2,6 @@
 use Rattle.std.proofs.Common.{[], ◌∷◌, refl}
 use Rattle.std.proofs.raw_atomic.Walks.{proved}
 use mir.Val.{Val, vstruct, vcons, vnil}
-use contract.Monad.{fact}
-use contract.Running.{tables}
 use types.Kit.{raw, ◌$◌, ◌∵◌, !, qed, keep, join, suffices, done}
 use types.Run.{no_more, and_then, returns, enter}
 use types.Part.{agg}
