@@ -10,6 +10,8 @@ mod files;
 #[cfg(test)]
 mod lexer;
 #[cfg(test)]
+mod looks;
+#[cfg(test)]
 mod parser;
 #[cfg(test)]
 mod printer;

@@ -3,6 +3,7 @@ pub mod DefinitionShapes
 pub mod Flat
 pub mod Layout
 pub mod Lines
+pub mod Looks
 pub mod Printed
 pub mod ReadBack
 pub mod RuleShapes

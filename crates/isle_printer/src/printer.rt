@@ -6,6 +6,7 @@
 //! answered in place of writing to a writer.
 
 mod layout;
+mod looks;
 mod sexpr;
 mod shapes;
 
@@ -26,6 +27,8 @@ ghost use Rattle.isle_base.specs.Place.{nowhere, placed};
 ghost use Rattle.isle_base.specs.Token.{Tok, Lexeme, end};
 
 use isle_ast::ast::Def;
+pub use layout::fits;
+pub use looks::Looks;
 pub use sexpr::{PrintFault, SExpr, ToSExpr};
 use std::alloc::Global;
 
@@ -46,8 +49,9 @@ pub fn print(alloc: Global, defs: &[Def], width: usize) -> Result<String, PrintF
         (λ text. ReadsBack (definitions_of defs.now) (string_bytes text)) }
     ensures refused { IsErrOf result MacroArg → definitions_have_macro_arg (definitions_of defs.now) ≡ true }
 {
+    let mut looks = Looks::new();
     let mut out = String::new(alloc);
-    put_definitions(alloc, defs, width, &mut out)?;
+    put_definitions(alloc, defs, width, &mut looks, &mut out)?;
     Ok(out)
 }
 
@@ -68,8 +72,9 @@ pub fn print_node<N: ToSExpr>(alloc: Global, node: &N, width: usize) -> Result<S
     ensures refused { IsErrOf result MacroArg → N.meaning node.now ≡ None }
 {
     let sexpr = node.to_sexpr(alloc)?;
+    let mut looks = Looks::new();
     let mut out = String::new(alloc);
-    layout::put(&sexpr, width, width, 0, &mut out)?;
+    layout::put(&sexpr, width, width, 0, &mut looks, &mut out)?;
     Ok(out)
 }
 
@@ -107,6 +112,7 @@ fn put_definitions(
     alloc: Global,
     defs: &[Def],
     width: usize,
+    looks: &mut Looks,
     out: &mut String,
 ) -> Result<(), PrintFault>
     ensures plain { OnOk result (definitions_have_macro_arg (definitions_of defs.now) ≡ false) }
@@ -117,10 +123,10 @@ fn put_definitions(
     match defs {
         [] => Ok(()),
         [first, rest @ ..] => {
-            put_definition(alloc, first, width, out)?;
+            put_definition(alloc, first, width, looks, out)?;
             for def in rest {
                 out.push('\n')?;
-                put_definition(alloc, def, width, out)?;
+                put_definition(alloc, def, width, looks, out)?;
             }
             Ok(())
         }
@@ -132,6 +138,7 @@ fn put_definition(
     alloc: Global,
     def: &Def,
     width: usize,
+    looks: &mut Looks,
     out: &mut String,
 ) -> Result<(), PrintFault>
     ensures plain { OnOk result (definition_has_macro_arg (definition_of def.now) ≡ false) }
@@ -140,7 +147,7 @@ fn put_definition(
     ensures refused { IsErrOf result MacroArg → definition_has_macro_arg (definition_of def.now) ≡ true }
 {
     let sexpr = def.to_sexpr(alloc)?;
-    layout::put(&sexpr, width, width, 0, out)?;
+    layout::put(&sexpr, width, width, 0, looks, out)?;
     out.push('\n')?;
     Ok(())
 }

@@ -3,12 +3,14 @@
 //! Columns count the bytes written on a line, its indentation apart. The functions are given the room that
 //! the width leaves of the line, and the level of indentation.
 
-ghost use Rattle.std.specs.Prelude.{◌≡◌, ◌≤◌, ◌<◌, ◌+◌, ◌++◌, ◌↔◌, IsTrue, OnOk, MatchOption, string_bytes, string_len};
+ghost use Rattle.std.specs.Prelude.{◌≡◌, ◌≤◌, ◌<◌, ◌+◌, ◌++◌, ◌↔◌, IsTrue, OnOk, IfSome, MatchOption, string_bytes, string_len};
 ghost use Rattle.isle_printer.specs.Flat.{flat, counted};
 ghost use Rattle.isle_printer.specs.Layout.{layout_in, layout_broken, new_line};
+ghost use Rattle.isle_printer.specs.Looks.{nodes};
 ghost use Rattle.isle_printer.specs.Sexp.{sexps};
 ghost use Rattle.isle_printer.specs.SexpView.{sexp_of, sexps_of};
 
+use super::looks::Looks;
 use super::sexpr::SExpr;
 use std::alloc::AllocError;
 
@@ -19,6 +21,7 @@ pub(super) fn put(
     width: usize,
     room: usize,
     level: usize,
+    looks: &mut Looks,
     out: &mut String,
 ) -> Result<(), AllocError>
     requires { level ≤ string_len out.old }
@@ -34,15 +37,15 @@ pub(super) fn put(
             out.push_str(name)?;
             out.push_str(" @ ")?;
             let left = room.saturating_sub(name.len()).saturating_sub(3);
-            put(inner, width, left, level, out)?;
+            put(inner, width, left, level, looks, out)?;
             Ok(())
         }
         SExpr::List(items) => {
-            if fits(sexpr, room) {
+            if fits(sexpr, room, looks) {
                 put_flat(sexpr, out)?;
                 return Ok(());
             }
-            put_broken(items, width, room, level, out)?;
+            put_broken(items, width, room, level, looks, out)?;
             Ok(())
         }
     }
@@ -55,6 +58,7 @@ fn put_broken(
     width: usize,
     room: usize,
     level: usize,
+    looks: &mut Looks,
     out: &mut String,
 ) -> Result<(), AllocError>
     requires { level ≤ string_len out.old }
@@ -68,10 +72,10 @@ fn put_broken(
         }
         [first, rest @ ..] => {
             out.push('(')?;
-            put(first, width, room.saturating_sub(1), level, out)?;
+            put(first, width, room.saturating_sub(1), level, looks, out)?;
             for item in rest {
                 put_new_line(level + 1, out)?;
-                put(item, width, width, level + 1, out)?;
+                put(item, width, width, level + 1, looks, out)?;
             }
             put_new_line(level, out)?;
             out.push(')')?;
@@ -126,31 +130,46 @@ fn put_flat(sexpr: &SExpr, out: &mut String) -> Result<(), AllocError>
     }
 }
 
-/// Tells whether the counted length is within the room.
-fn fits(sexpr: &SExpr, room: usize) -> bool
-    ensures { IsTrue result ↔ (counted (sexp_of sexpr.now) ≤ room) }
+/// Tells whether an S-expression's counted length is at most the room.
+///
+/// An atom counts its bytes, a binding the bytes of its name, 3 and what it binds, a list 1 and for each item
+/// 1 more than the item.
+///
+/// Each node that is examined adds one to the looks: a node at least, and at most one more than the room.
+/// Where the answer is true, each node was examined once. No memory is taken.
+pub fn fits(sexpr: &SExpr, room: usize, looks: &mut Looks) -> bool
+    ensures answer { IsTrue result ↔ (counted (sexp_of sexpr.now) ≤ room) }
+    ensures at_most { looks.new.count ≤ looks.old.count + room + 1 }
+    ensures at_least { looks.old.count + 1 ≤ looks.new.count }
+    ensures exact { IsTrue result → looks.new.count ≡ looks.old.count + nodes (sexp_of sexpr.now) }
 {
-    room_left(sexpr, room).is_some()
+    room_left(sexpr, room, looks).is_some()
 }
 
 /// The room less the counted length, or none where that is more than the room.
 ///
-/// It looks no further than the room reaches.
-fn room_left(sexpr: &SExpr, room: usize) -> Option<usize>
-    ensures { MatchOption result
+/// It looks no further than the room reaches: each look but the first is paid with one of the room.
+fn room_left(sexpr: &SExpr, room: usize, looks: &mut Looks) -> Option<usize>
+    ensures answer { MatchOption result
         (room < counted (sexp_of sexpr.now))
         (λ left. left + counted (sexp_of sexpr.now) ≡ room) }
+    ensures at_most { MatchOption result
+        (looks.new.count ≤ looks.old.count + room + 1)
+        (λ left. looks.new.count + left ≤ looks.old.count + room + 1) }
+    ensures at_least { looks.old.count + 1 ≤ looks.new.count }
+    ensures exact { IfSome result (λ left. looks.new.count ≡ looks.old.count + nodes (sexp_of sexpr.now)) }
 {
+    looks.look();
     match sexpr {
         SExpr::Atom(text) => room.checked_sub(text.len()),
         SExpr::Binding(name, inner) => {
             let behind = room.checked_sub(name.len())?.checked_sub(3)?;
-            room_left(inner, behind)
+            room_left(inner, behind, looks)
         }
         SExpr::List(items) => {
             let mut left = room.checked_sub(1)?;
             for item in items {
-                left = room_left(item, left.checked_sub(1)?)?;
+                left = room_left(item, left.checked_sub(1)?, looks)?;
             }
             Some(left)
         }
