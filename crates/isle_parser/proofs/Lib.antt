@@ -28,3 +28,5 @@ pub mod ReadOnce
 pub mod PatternParts
 pub mod ExpressionParts
 pub mod SpecShrinks
+pub mod SpecLayers
+pub mod SpecParts

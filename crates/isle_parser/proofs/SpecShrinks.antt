@@ -64,7 +64,7 @@ text_shrinks all rest t e =
     let l = ap (λ (r : List Placed). length r) (text_sound all rest t e) in
     omega (arith, l)
 
-names_keep : Keeps names
+pub names_keep : Keeps names
 unfolding names
 names_keep = keeps (enclosed_shrinks (many closes name) (many_keeps name closes (keeps name_shrinks)))
 
@@ -104,7 +104,7 @@ one_let_shrinks read s =
     let b = bound a.2 in
     omega (arith, name_shrinks all a.0.1 a.0.0 a.1, s a.0.1 b.0.1 b.0.0 b.1, made_here b.2))
 
-lets_keep : (read : Reader SpecNode) → Shrinks read → Keeps (spec_lets read)
+pub lets_keep : (read : Reader SpecNode) → Shrinks read → Keeps (spec_lets read)
 unfolding spec_lets
 lets_keep read s = keeps (enclosed_shrinks (many closes (spec_let read)) (many_keeps (spec_let read) closes (keeps (one_let_shrinks read s))))
 
@@ -119,13 +119,13 @@ one_field_shrinks read s =
 -- ---- what stands behind a head
 
 -- one part, then another, and a node made of both
-two_keep : {A B C : Type 0} (one : Reader A) (other : Reader B) (make : A → B → C) → Keeps one → Keeps other → (all rest : List Placed) (z : C) → (one all >>= λ x. other x.1 >>= λ y. Some (make x.0 y.0, y.1)) ≡ Some (z, rest) → length rest ≤ length all
+two_keep : {A B C : Type 0} (one : Reader A) (other : Reader B) (make : A → B → C) → Keeps one → Keeps other → (all rest : List Placed) (z : C) → ◌>>=◌ {B = C × List Placed} (one all) (λ x. ◌>>=◌ {B = C × List Placed} (other x.1) (λ y. Some (make x.0 y.0, y.1))) ≡ Some (z, rest) → length rest ≤ length all
 two_keep one other make k h all rest z e =
     let a = bound e in
     let b = bound a.2 in
     omega (arith, k all a.0.1 a.0.0 a.1, h a.0.1 b.0.1 b.0.0 b.1, made_here b.2)
 
-one_keeps : {A B : Type 0} (read : Reader A) (make : A → B) → Keeps read → (all rest : List Placed) (z : B) → (read all >>= λ x. Some (make x.0, x.1)) ≡ Some (z, rest) → length rest ≤ length all
+one_keeps : {A B : Type 0} (read : Reader A) (make : A → B) → Keeps read → (all rest : List Placed) (z : B) → ◌>>=◌ {B = B × List Placed} (read all) (λ x. Some (make x.0, x.1)) ≡ Some (z, rest) → length rest ≤ length all
 one_keeps read make k all rest z e =
     let a = bound e in
     omega (arith, k all a.0.1 a.0.0 a.1, made_here a.2)
@@ -151,23 +151,23 @@ inside_keeps : (read : Reader SpecNode) → Shrinks read → (start : Pos) → K
 unfolding spec_inside
 inside_keeps read s start all rest y e =
     let a = bound e in
-    let b = bound a.2 in
+    let b = bind_some (head_of a.0.0) (λ h. behind_spec_head read start (pos_ahead all) h a.0.1) (y, rest) a.2 in
     omega (arith, text_shrinks all a.0.1 a.0.0 a.1, behind_keeps read s start (pos_ahead all) b.0 a.0.1 rest y b.2)
 
 word_shrinks : Shrinks spec_word
 unfolding spec_word
 word_shrinks all rest y e =
     let a = bound e in
-    let b = bound a.2 in
-    omega (arith, text_shrinks all a.0.1 a.0.0 a.1, made_here b.2)
-
-number_shrinks : (all rest : List Placed) (y : SpecNode) → (signed 127 all >>= λ n. Some (int_spec n.0 (pos_ahead all), n.1)) ≡ Some (y, rest) → length rest < length all
-number_shrinks all rest y e =
-    let a = bound e in
-    omega (arith, (signed_begins 127 a.0.0 all a.0.1 (signed_sound 127 all a.0.1 a.0.0 a.1)).1, made_here a.2)
+    let b = bind_some (word_of (pos_ahead all) a.0.0) (λ x. Some (x, a.0.1)) (y, rest) a.2 in
+    omega (arith, text_shrinks all a.0.1 a.0.0 a.1, made_here {x = b.0} {y = y} {i = a.0.1} {j = rest} b.2)
 
 abbrev number_step : Reader SpecNode
 number_step all = signed 127 all >>= λ n. Some (int_spec n.0 (pos_ahead all), n.1)
+
+number_shrinks : (all rest : List Placed) (y : SpecNode) → number_step all ≡ Some (y, rest) → length rest < length all
+number_shrinks all rest y e =
+    let a = bound e in
+    omega (arith, (signed_begins 127 a.0.0 all a.0.1 (signed_sound 127 all a.0.1 a.0.0 a.1)).1, made_here {x = int_spec a.0.0 (pos_ahead all)} {y = y} {i = a.0.1} {j = rest} a.2)
 
 abbrev plain_step : Reader SpecNode
 plain_step all = cond (is_ahead is_symbol all) (spec_word all) (cond (is_ahead is_int all) (number_step all) None)
@@ -188,7 +188,7 @@ step_shrinks read s all rest y e =
           ]
     ]
 
-within_shrinks : (n : ℕ) → Shrinks (spec_within n)
+pub within_shrinks : (n : ℕ) → Shrinks (spec_within n)
 unfolding spec_within
 within_shrinks zero all rest y e = absurd cc
 within_shrinks (suc n) all rest y e = step_shrinks (spec_within n) (within_shrinks n) all rest y e
@@ -211,6 +211,3 @@ spec_lets_keep = lets_keep spec_expression spec_shrinks
 
 pub field_init_shrinks : Shrinks (field_init spec_expression)
 field_init_shrinks = one_field_shrinks spec_expression spec_shrinks
-
-pub spec_names_keep : Keeps names
-spec_names_keep = names_keep

@@ -1,6 +1,6 @@
 -- Reading of the definitions that are made of spec expressions: what stands behind the keywords `spec`,
 -- `macro`, `state` and `model`.
-use Rattle.std.specs.Prelude.{List, Option, Some, None, if◌then◌else◌, codes}
+use Rattle.std.specs.Prelude.{ℕ, List, Option, Some, None, if◌then◌else◌, codes}
 use Rattle.std.specs.Str.{bytes_eq}
 use Rattle.isle_base.specs.Token.{is_symbol}
 use Rattle.isle_ast.specs.SpecDefinitionGrammar.{SpecClause, provide_clause, require_clause, match_clause, modifies_clause, provided, required, matched, modified}
@@ -49,6 +49,10 @@ pub record Joined : Type 0 where
 abbrev pub joined : List SpecClause → Joined
 joined clauses =
     record { provides = provided clauses; requires_ = required clauses; matches = matched clauses; modifies = modified clauses }
+
+-- clauses, joined
+abbrev pub joined_clauses : Reader Joined
+joined_clauses all = many closes clause all >>= λ clauses. Some (joined clauses.0, clauses.1)
 
 unfoldable pub spec_definition : Reader SpecDefinition
 spec_definition all = do

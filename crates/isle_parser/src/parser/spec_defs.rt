@@ -1,12 +1,12 @@
 //! What is said for verification: specs of terms, macros of spec expressions, and states.
 
-ghost use Rattle.std.specs.Prelude.{◌≡◌, Some, codes};
+ghost use Rattle.std.specs.Prelude.{◌≡◌};
 ghost use Rattle.isle_ast.specs.SpecView.{modified_of, spec_definition_of, spec_macro_of, spec_of, state_of};
 ghost use Rattle.isle_ast.specs.TreeView.{name_of, names_of, optional_name_of};
 ghost use Rattle.isle_parser.specs.Answers.{Gives, IsPlace, source, tokens};
 ghost use Rattle.isle_parser.specs.ReadRules.{head_inside};
-ghost use Rattle.isle_parser.specs.ReadSpecDefinitions.{behind_clause_word, clause, condition_name, default_inside, joined, modified_state, spec_definition, spec_macro_definition, state_definition};
-ghost use Rattle.isle_parser.specs.Reading.{◌>>=◌, closes, in_parentheses, many};
+ghost use Rattle.isle_parser.specs.ReadSpecDefinitions.{behind_clause_word, clause, condition_name, default_inside, joined_clauses, modified_state, spec_definition, spec_macro_definition, state_definition};
+ghost use Rattle.isle_parser.specs.Reading.{in_parentheses};
 ghost use Rattle.isle_parser.specs.SpecParts.{clause_of, joined_of};
 
 use crate::parser::names::identifier_message;
@@ -80,7 +80,7 @@ impl<'src> Parser<'src> {
     fn parse_clauses(&mut self, alloc: Global, place: Pos) -> Result<Clauses, Stop>
         requires { IsPlace (source self.old) place }
         ensures same { source self.new ≡ source self.old }
-        ensures gives { Gives joined_of (many closes clause (tokens self.old) >>= λ cs. Some (joined cs.0, cs.1)) result self.new }
+        ensures gives { Gives joined_of (joined_clauses (tokens self.old)) result self.new }
     {
         let mut provides = Vec::new(alloc);
         let mut requires_ = Vec::new(alloc);

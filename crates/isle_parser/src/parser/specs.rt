@@ -1,11 +1,12 @@
 //! Spec expressions: what specs, macros, states and models say.
 
-ghost use Rattle.std.specs.Prelude.{◌≡◌, ◌∷◌, Some, string_bytes};
+ghost use Rattle.std.specs.Prelude.{◌≡◌, string_bytes};
 ghost use Rattle.isle_ast.specs.SpecView.{single_arm_of, single_arms_of, single_field_init_of, single_field_inits_of, single_spec_let_of, single_spec_lets_of, spec_of, specs_of};
 ghost use Rattle.isle_parser.specs.Answers.{Gives, IsPlace, source, tokens};
 ghost use Rattle.isle_parser.specs.ReadSpecs.{arm, behind_spec_head, field_init, spec_expression, spec_inside, spec_let, spec_lets, spec_pair};
-ghost use Rattle.isle_parser.specs.Reading.{◌>>=◌, closes, many};
+ghost use Rattle.isle_parser.specs.Reading.{closes, many};
 ghost use Rattle.isle_parser.specs.SpecHeads.{head_view};
+ghost use Rattle.isle_parser.specs.SpecParts.{cases_behind};
 ghost use Rattle.isle_parser.specs.SpecWords.{as_head, discriminator_head, expansion_head, field_head, let_head, macro_head, match_head, operator_head, struct_head, switch_head, variant_head, with_head};
 
 use crate::parser::spec_words::Head;
@@ -44,7 +45,7 @@ impl<'src> Parser<'src> {
 
     // A head, and what stands behind it. The `(` stood at this place, whose position in the tree is `start`.
     #[cycle(spec)]
-    #[tactic(auto, unfolding(crate::specs::ReadSpecs::spec_inside))]
+    #[tactic(auto, using(crate::proofs::SpecParts::inside_by_head))]
     fn parse_spec_inside(
         &mut self,
         alloc: Global,
@@ -108,7 +109,7 @@ impl<'src> Parser<'src> {
     #[cycle(spec)]
     fn parse_cases(&mut self, alloc: Global, subject: SpecExpr) -> Result<Vec<SpecExpr>, Stop>
         ensures same { source self.new ≡ source self.old }
-        ensures gives { Gives (λ xs. specs_of xs.items) (many closes (spec_pair spec_expression) (tokens self.old) >>= λ ps. Some (spec_of subject ∷ ps.0, ps.1)) result self.new }
+        ensures gives { Gives (λ xs. specs_of xs.items) (cases_behind (spec_of subject) (tokens self.old)) result self.new }
     {
         let mut args = Vec::new(alloc);
         args.push(subject)?;
