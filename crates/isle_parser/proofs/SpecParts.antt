@@ -1,18 +1,25 @@
 -- Spec expressions, as the code reads them.
-use Rattle.std.proofs.Common.{◌≡◌, true, false, List, Option, Some, None, sym, ◌∙◌, refl, rules}
+use Rattle.std.proofs.Common.{◌≡◌, ◌<◌, true, false, List, [], ◌∷◌, length, Option, Some, None, sym, ◌∙◌, refl, rules, arith}
+use Rattle.std.specs.Global.{Box, Vec}
 use Rattle.std.specs.Prelude.{ℕ, ℤ}
 use Rattle.isle_base.specs.declared.lexer.Pos.{Pos}
 use Rattle.isle_base.specs.Place.{Placed}
 use Rattle.isle_base.specs.Token.{is_int, is_symbol}
 use Rattle.isle_ast.specs.declared.ast.specs.SpecExpr.{the_lemmas}
-use Rattle.isle_ast.specs.declared.ast.specs.SpecExpr.TheVariants.{ConstInt}
-use Rattle.isle_ast.specs.SpecView.{spec_of}
+use Rattle.isle_ast.specs.declared.ast.specs.SpecExpr.TheVariants.{ConstInt, Let}
+use Rattle.isle_ast.specs.declared.ast.Ident.{Ident}
+use Rattle.isle_ast.specs.declared.ast.specs.SpecExpr.{SpecExpr}
+use Rattle.isle_ast.specs.SpecView.{single_spec_lets_of, spec_of}
 use Rattle.isle_ast.specs.Tree.{SpecNode, int_spec}
+use Rattle.isle_ast.proofs.SpecLets.{let_seen}
 use Rattle.isle_parser.specs.Reading.{Reader, ◌>>=◌, is_ahead, is_lparen, pos_ahead, text}
 use Rattle.isle_parser.specs.ReadNumbers.{signed}
-use Rattle.isle_parser.specs.ReadSpecs.{behind_spec_head, spec_expression, spec_inside, spec_step}
-use Rattle.isle_parser.specs.SpecWords.{SpecHead, head_of, spec_head}
+use Rattle.isle_parser.specs.ReadSpecs.{behind_spec_head, spec_expression, spec_inside, spec_lets, spec_step}
+use Rattle.isle_parser.specs.SpecWords.{SpecHead, let_head, head_of, spec_head}
+use Rattle.isle_parser.proofs.Choices.{bound}
+use Rattle.isle_parser.proofs.Readers.{bind_some}
 use Rattle.isle_parser.proofs.SpecLayers.{spec-unfolds}
+use Rattle.isle_parser.proofs.SpecShrinks.{made_here, text_shrinks}
 
 -- an expression is its own step
 pub spec_is : (all : List Placed) → spec_expression all ≡ spec_step spec_expression all
@@ -52,3 +59,14 @@ text_bound (Some w) next = head_bound w.1 (head_of w.0) next
 pub inside_by_head : (start : Pos) (read : Reader SpecNode) (all : List Placed) → spec_inside start read all ≡ found (spec_head all) (behind_spec_head read start (pos_ahead all))
 unfolding spec_inside
 inside_by_head start read all = text_bound (text all) (behind_spec_head read start (pos_ahead all))
+
+pub spec_head_shrinks : (all rest : List Placed) (head : SpecHead) → spec_head all ≡ Some (head, rest) → length rest < length all
+spec_head_shrinks all rest head e =
+    let a = bind_some (text all) (λ w. with_rest w.1 (head_of w.0)) (head, rest) e in
+    let b = bind_some (head_of a.0.0) (λ h. Some (h, a.0.1)) (head, rest) a.2 in
+    omega (arith, text_shrinks all a.0.1 a.0.0 a.1, made_here {x = b.0} {y = head} {i = a.0.1} {j = rest} b.2)
+
+-- a `let` behind its word
+pub let_read : (all mid rest : List Placed) (defs : Vec (Ident × SpecExpr)) (body : Box SpecExpr) (start : Pos) → spec_lets spec_expression all ≡ Some (single_spec_lets_of defs.items, mid) → spec_expression mid ≡ Some (spec_of body.value, rest) → behind_spec_head spec_expression start start let_head all ≡ Some (spec_of (Let defs body start), rest)
+unfolding behind_spec_head
+let_read all mid rest defs body start e f = rw (e, f, let_seen defs body start) refl
