@@ -12,3 +12,6 @@ pub mod ReadPatterns
 pub mod ReadExpressions
 pub mod ReadRules
 pub mod RuleParts
+pub mod SpecWords
+pub mod ReadSpecs
+pub mod ReadSpecDefinitions
