@@ -15,3 +15,4 @@ pub mod RuleParts
 pub mod SpecWords
 pub mod ReadSpecs
 pub mod ReadSpecDefinitions
+pub mod SpecHeads

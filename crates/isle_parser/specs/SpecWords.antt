@@ -2,7 +2,7 @@
 use Rattle.std.specs.Prelude.{◌≡◌, ℕ, ◌*◌, ◌^◌, List, [], ◌++◌, ◌∷◌, length, Bool, true, false, ◌&&◌, ◌||◌, ◌==◌, Option, Some, None, option_map, nat_lt, not, if◌then◌else◌, codes}
 use Rattle.std.specs.Char.{digit_value}
 use Rattle.std.specs.List.{list_all}
-use Rattle.std.specs.Option.{is_some}
+use Rattle.std.specs.Option.{is_some, option_or}
 use Rattle.std.specs.Str.{bytes_eq}
 use Rattle.std.specs.Str.Parse.{digits_value, without_leading_plus}
 use Rattle.isle_base.specs.declared.lexer.Pos.{Pos}
@@ -106,19 +106,14 @@ float_tests =
     op.FPPositiveInfinity ∷ op.FPNegativeInfinity ∷ op.FPPositiveZero ∷ op.FPNegativeZero ∷ op.FPNaN ∷ op.FPIsZero ∷
     op.FPIsInfinite ∷ op.FPIsNaN ∷ op.FPIsNegative ∷ op.FPIsPositive ∷ op.FPToUBV ∷ op.FPToSBV ∷ []
 
--- the first answer, or else the second
-abbrev pub or_else : {A : Type 0} → Option A → Option A → Option A
-or_else (Some x) other = Some x
-or_else None other = other
-
 -- The operator of this text. It is neither `-`, which no symbol is, nor `switch`, which is a head of its own.
 unfoldable pub operator_of : List ℕ → Option SpecOp
 operator_of text =
-    or_else (first_named sign_operators text)
-    (or_else (first_named bit_vector_operators text)
-    (or_else (first_named bit_vector_tests text)
-    (or_else (first_named word_operators text)
-    (or_else (first_named float_operators text)
+    option_or (first_named sign_operators text)
+    (option_or (first_named bit_vector_operators text)
+    (option_or (first_named bit_vector_tests text)
+    (option_or (first_named word_operators text)
+    (option_or (first_named float_operators text)
     (first_named float_tests text)))))
 
 -- the head that one of these words is
@@ -169,7 +164,7 @@ other_head text = if begins_bit_vector text then None else discriminator_or_othe
 
 -- the head that this text is
 unfoldable pub head_of : List ℕ → Option SpecHead
-head_of text = or_else (keyword_head text) (other_head text)
+head_of text = option_or (keyword_head text) (other_head text)
 
 abbrev pub are_digits : ℕ → List ℕ → Bool
 are_digits radix [] = true

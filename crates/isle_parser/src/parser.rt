@@ -27,6 +27,8 @@ mod models;
 mod names;
 mod patterns;
 mod rules;
+mod spec_operators;
+mod spec_words;
 mod terms;
 mod types;
 
