@@ -5,9 +5,8 @@ ghost use Rattle.isle_ast.specs.Identifier.{is_identifier};
 ghost use Rattle.isle_ast.specs.SpecView.{spec_of};
 ghost use Rattle.isle_parser.specs.Answers.{Gives, IsPlace, IsRefusal, source, tokens};
 ghost use Rattle.isle_parser.specs.ReadSpecs.{spec_word};
-ghost use Rattle.isle_parser.specs.Reading.{◌>>=◌, text};
 ghost use Rattle.isle_parser.specs.SpecHeads.{Finds, head_view};
-ghost use Rattle.isle_parser.specs.SpecWords.{around, before_last, begins_bit_vector, behind_mark, bit_vector_at, bit_vector_of, discriminator_or_other, expansion_or_other, field_or_variant, head_of, hexadecimal_or_plain, keyword_head, operator_or_name, other_head, plain_word, variant_of, word_of};
+ghost use Rattle.isle_parser.specs.SpecWords.{around, before_last, begins_bit_vector, behind_mark, bit_vector_at, bit_vector_of, discriminator_or_other, expansion_or_other, field_or_variant, head_of, hexadecimal_or_plain, keyword_head, operator_or_name, other_head, plain_word, spec_head, variant_of, word_of};
 
 use crate::parser::spec_operators::operator_of;
 use crate::parser::{Parser, Stop};
@@ -49,7 +48,7 @@ impl<'src> Parser<'src> {
     pub(super) fn parse_spec_head(&mut self, alloc: Global, start: Pos) -> Result<Head, Stop>
         requires { IsPlace (source self.old) start }
         ensures same { source self.new ≡ source self.old }
-        ensures gives { Gives head_view (text (tokens self.old) >>= λ w. head_of w.0 >>= λ h. Some (h, w.1)) result self.new }
+        ensures gives { Gives head_view (spec_head (tokens self.old)) result self.new }
     {
         let place = self.place();
         let word = self.expect_symbol(alloc)?;
