@@ -27,3 +27,4 @@ pub mod RightSides
 pub mod ReadOnce
 pub mod PatternParts
 pub mod ExpressionParts
+pub mod SpecTexts

@@ -12,7 +12,7 @@ use Rattle.isle_ast.specs.Identifier.{is_identifier}
 use Rattle.isle_ast.specs.Operators.{operator_text, is_operator_text}
 use Rattle.isle_ast.specs.SpecGrammar.{field_mark, discriminator_mark, expansion_mark, is_dot, is_plain_operator}
 use Rattle.isle_ast.specs.Tree.{SpecNode, bit_vector_spec, bool_spec, var_spec}
-use Rattle.isle_parser.specs.Reading.{Reader, ◌>>=◌, text}
+use Rattle.isle_parser.specs.Reading.{Reader, ◌>>=◌, text as text_ahead}
 
 -- the first word in parentheses, with the names in it
 pub data SpecHead : Type 0 where
@@ -211,4 +211,4 @@ word_of place text = binary_or_other place text (behind_mark (codes "#b") text)
 
 -- a symbol that is a head
 abbrev pub spec_head : Reader SpecHead
-spec_head all = text all >>= λ word. head_of word.0 >>= λ head. Some (head, word.1)
+spec_head all = text_ahead all >>= λ word. head_of word.0 >>= λ head. Some (head, word.1)
