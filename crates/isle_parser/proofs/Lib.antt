@@ -28,3 +28,4 @@ pub mod ReadOnce
 pub mod PatternParts
 pub mod ExpressionParts
 pub mod SpecTexts
+pub mod SpecBitVectors
