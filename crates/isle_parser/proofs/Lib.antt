@@ -30,3 +30,5 @@ pub mod ExpressionParts
 pub mod SpecShrinks
 pub mod SpecLayers
 pub mod SpecParts
+pub mod SpecTexts
+pub mod SpecBitVectors

@@ -28,6 +28,7 @@ mod names;
 mod patterns;
 mod rules;
 mod spec_defs;
+mod spec_operators;
 mod spec_words;
 mod specs;
 mod terms;
