@@ -27,3 +27,8 @@ pub mod RightSides
 pub mod ReadOnce
 pub mod PatternParts
 pub mod ExpressionParts
+pub mod SpecWords
+pub mod SpecRows
+pub mod SpecInside
+pub mod SpecBegins
+pub mod ReadsSpecs
