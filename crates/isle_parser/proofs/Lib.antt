@@ -32,3 +32,5 @@ pub mod SpecRows
 pub mod SpecInside
 pub mod SpecBegins
 pub mod ReadsSpecs
+pub mod ReadsSpecDefinitions
+pub mod ReadsModelContents
