@@ -34,3 +34,5 @@ pub mod SpecBegins
 pub mod ReadsSpecs
 pub mod ReadsSpecDefinitions
 pub mod ReadsModelContents
+pub mod ModelPositions
+pub mod SpecPositions

@@ -7,7 +7,7 @@ use Rattle.isle_base.specs.Place.{Placed}
 use Rattle.isle_ast.specs.ModelGrammar.{SpellsTypeModel, SpellsSignature, SpellsForm, SpellsTag, SpellsInstances, SpellsInstantiation}
 use Rattle.isle_ast.specs.Tree.{Name, TypeModel, TermSignature, FormDefinition, TermInstantiation}
 use Rattle.isle_ast.specs.Words.{BeginsAt, SpellsAll, InParentheses, BehindWord, SpellsName, IsNonEmpty}
-use Rattle.isle_parser.specs.Reading.{◌>>=◌, is_ahead, is_lparen, closes, pos_ahead, text, in_parentheses, many}
+use Rattle.isle_parser.specs.Reading.{◌>>=◌, is_ahead, is_lparen, closes, pos_ahead, text, many}
 use Rattle.isle_parser.specs.ReadNames.{name}
 use Rattle.isle_parser.specs.ReadModels.{model_type, tagged_inside, tagged_types, tagged_one_inside, tagged_type, signature_inside, signature, signatures, form_definition, tag_inside, tag, instantiation_of_term}
 use Rattle.isle_parser.proofs.Choices.{nothing, made_of, word_is, word_read, word_shorter, flag_read, choice, CompleteClosed, row_sound, row_complete, enclosed_complete, position_of, name_at, opened_at, opens, opens_not_closes, row_nonempty}

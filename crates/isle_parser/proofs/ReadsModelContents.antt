@@ -1,5 +1,5 @@
 -- Models of types are read as the grammar spells them.
-use Rattle.std.proofs.Common.{◌≡◌, inl, inr, ◌≤◌, List, length, Some, None, refl, subst, arith}
+use Rattle.std.proofs.Common.{inl, inr, ◌≤◌, List, length, Some, None, refl, subst, arith}
 use Rattle.std.specs.Prelude.{codes}
 use Rattle.isle_base.specs.Place.{Placed}
 use Rattle.isle_ast.specs.ModelGrammar.{SpellsTypeModel, SpellsModelContent, SpellsModel}

@@ -1,5 +1,5 @@
 -- The definitions that are made of spec expressions are read as the grammar spells them.
-use Rattle.std.proofs.Common.{◌≡◌, inl, inr, ℕ, ◌≤◌, ◌<◌, true, false, cond, List, [], ◌∷◌, length, Option, Some, None, refl, subst, arith}
+use Rattle.std.proofs.Common.{◌≡◌, inl, inr, ℕ, ◌≤◌, true, false, cond, List, [], ◌∷◌, length, Option, Some, None, refl, subst, arith}
 use Rattle.std.specs.Prelude.{codes}
 use Rattle.std.specs.Str.{bytes_eq}
 use Rattle.isle_base.specs.Place.{Placed}
@@ -9,7 +9,6 @@ use Rattle.isle_ast.specs.SpecGrammar.{SpellsSpec}
 use Rattle.isle_ast.specs.Tree.{Name, SpecNode, ModifiedState, SpecDefinition, SpecMacroDefinition, StateDefinition}
 use Rattle.isle_ast.specs.Words.{SpellsAll, InParentheses, BehindWord, SpellsName, SpellsOptional}
 use Rattle.isle_parser.specs.Reading.{Reader, ◌>>=◌, is_ahead, is_rparen, closes, pos_ahead, text, in_parentheses, many}
-use Rattle.isle_parser.specs.ReadModels.{tagged_type}
 use Rattle.isle_parser.specs.ReadNames.{name}
 use Rattle.isle_parser.specs.ReadRules.{head_inside}
 use Rattle.isle_parser.specs.ReadSpecs.{spec_expression}

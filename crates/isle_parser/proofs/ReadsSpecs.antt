@@ -1,19 +1,17 @@
 -- Spec expressions are read as the grammar spells them.
-use Rattle.std.proofs.Common.{◌≡◌, inl, inr, ℕ, zero, suc, ◌<◌, true, false, cond, List, [], ◌∷◌, length, Option, Some, None, refl, sym, ap, subst, ◌∙◌, arith}
+use Rattle.std.proofs.Common.{◌≡◌, inl, inr, ℕ, zero, suc, ◌<◌, true, false, cond, List, ◌∷◌, length, Option, Some, None, refl, sym, ap, subst, ◌∙◌, arith}
 use Rattle.std.specs.Prelude.{ℤ, codes}
 use Rattle.isle_base.specs.declared.lexer.Pos.{Pos}
 use Rattle.isle_base.specs.Place.{Placed}
 use Rattle.isle_base.specs.Token.{symbol, is_int, is_symbol}
-use Rattle.isle_ast.specs.declared.ast.specs.SpecOp.{SpecOp}
 use Rattle.isle_ast.specs.declared.ast.specs.SpecOp.TheVariants as op
 use Rattle.isle_ast.specs.Operators.{operator_text, is_operator_text}
 use Rattle.isle_ast.specs.PatternGrammar.{bool_word}
-use Rattle.isle_ast.specs.SpecGrammar.{AreVariant, SpellsMarked, SpellsSpec, SpellsSpecs, SpellsCases, SpellsPairs, SpellsArms, SpellsSpecLets, SpellsFieldInits, dotted, discriminator_mark, expansion_mark, field_mark}
+use Rattle.isle_ast.specs.SpecGrammar.{AreVariant, SpellsSpec, SpellsSpecs, SpellsCases, SpellsPairs, SpellsArms, SpellsSpecLets, SpellsFieldInits, dotted, discriminator_mark, expansion_mark, field_mark}
 use Rattle.isle_ast.specs.SpecView.{SingleArm, SingleFieldInit, spec_row_of, arm_row_of, field_init_row_of, spec_let_row_of}
 use Rattle.isle_ast.specs.Tree.{Name, TypeModel, SpecNode, int_spec, bit_vector_spec, bool_spec, var_spec, as_spec, field_spec, discriminator_spec, op_spec, match_spec, let_spec, with_spec, macro_spec, expand_spec, pair_spec, enum_spec, struct_spec, SpecRow, no_spec, more_spec, ArmRow, SpecLetRow, FieldInitRow}
-use Rattle.isle_ast.specs.Words.{SpellsWord, BeginsAt, SpellsAll, InParentheses, SpellsName}
+use Rattle.isle_ast.specs.Words.{SpellsWord, BeginsAt, SpellsAll, InParentheses}
 use Rattle.isle_parser.specs.Reading.{Reader, ◌>>=◌, is_ahead, is_lparen, closes, pos_ahead, in_parentheses, many}
-use Rattle.isle_parser.specs.ReadModels.{model_type}
 use Rattle.isle_parser.specs.ReadNames.{names}
 use Rattle.isle_parser.specs.ReadNumbers.{signed}
 use Rattle.isle_parser.specs.ReadRules.{head_inside}
@@ -21,11 +19,11 @@ use Rattle.isle_parser.specs.ReadSpecs.{spec_pair_inside, spec_pair, arm_inside,
 use Rattle.isle_parser.specs.SpecWords.{SpecHead, switch_head, let_head, with_head, match_head, struct_head, macro_head, as_head, discriminator_head, expansion_head, operator_head, field_head, variant_head, IsHead, word_of}
 use Rattle.isle_parser.proofs.Choices.{bound, both, nothing, made_of, row_sound, position_of, begins_here, name_at, opened_at}
 use Rattle.isle_parser.proofs.Names.{SpellsNames, SpellsText, text_sound, text_complete, name_sound, name_read, name_begins, names_sound, names_complete}
-use Rattle.isle_parser.proofs.ReadsModels.{agree, model_type_sound, model_type_complete}
+use Rattle.isle_parser.proofs.ReadsModels.{model_type_sound, model_type_complete}
 use Rattle.isle_parser.proofs.ReadsNumbers.{signed_sound, signed_complete, signed_begins}
 use Rattle.isle_parser.proofs.ReadsRules.{SpellsHead, head_sound, head_complete, head_begins}
 use Rattle.isle_parser.proofs.Readers.{Sound, chosen, begins_goes, moved, many_complete, stopping_closes, parentheses_sound, parentheses_complete, parentheses_begin}
-use Rattle.isle_parser.proofs.SpecBegins.{names_begin, spec_begins, specs_shorter, spec_lets_shorter, pair_begins, arm_begins, spec_let_begins, field_init_begins}
+use Rattle.isle_parser.proofs.SpecBegins.{names_begin, spec_begins, spec_lets_shorter, pair_begins, arm_begins, spec_let_begins, field_init_begins}
 use Rattle.isle_parser.proofs.SpecInside.{SpellsInside, from_inside, to_inside}
 use Rattle.isle_parser.proofs.SpecRows.{listed, row_listed, specs_spelt, specs_listed, SpellsPairInside, SpellsPair, pairs_spelt, pairs_listed, SpellsArmInside, SpellsArm, listed_arms, arms_row, arms_spelt, arms_listed, SpellsSpecLetInside, SpellsSpecLet, listed_lets, lets_row, lets_spelt, lets_listed, SpellsFieldInitInside, SpellsFieldInit, listed_fields, fields_row, fields_spelt, fields_listed}
 use Rattle.isle_parser.proofs.SpecWords.{head_is, is_head, word_is, bit_vector_word, bool_word_is, variable_word}

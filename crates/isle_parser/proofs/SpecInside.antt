@@ -1,5 +1,5 @@
 -- What stands in the parentheses of a spec expression.
-use Rattle.std.proofs.Common.{◌≡◌, ◌⊎◌, ◌∷◌, List, Bool, true, false, refl, sym, subst}
+use Rattle.std.proofs.Common.{◌≡◌, ◌⊎◌, List, Bool, true, false, sym, subst}
 use Rattle.std.specs.Prelude.{codes}
 use Rattle.isle_base.specs.declared.lexer.Pos.{Pos}
 use Rattle.isle_base.specs.Place.{Placed}
