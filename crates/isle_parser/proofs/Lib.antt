@@ -32,3 +32,12 @@ pub mod SpecLayers
 pub mod SpecParts
 pub mod SpecTexts
 pub mod SpecBitVectors
+pub mod SpecWords
+pub mod SpecRows
+pub mod SpecInside
+pub mod SpecBegins
+pub mod ReadsSpecs
+pub mod ReadsSpecDefinitions
+pub mod ReadsModelContents
+pub mod ModelPositions
+pub mod SpecPositions
