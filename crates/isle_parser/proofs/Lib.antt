@@ -30,6 +30,7 @@ pub mod ExpressionParts
 pub mod SpecShrinks
 pub mod SpecLayers
 pub mod SpecParts
+pub mod SpecClauses
 pub mod SpecTexts
 pub mod SpecBitVectors
 pub mod SpecWords
