@@ -29,3 +29,6 @@ pub mod PatternParts
 pub mod ExpressionParts
 pub mod SpecTexts
 pub mod SpecBitVectors
+pub mod SpecMarks
+pub mod SpecOperators
+pub mod SpecWords
