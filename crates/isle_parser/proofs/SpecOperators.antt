@@ -1,5 +1,5 @@
 -- The operators and their texts: an operator is found by its text, and by no other.
-use Rattle.std.proofs.Common.{◌≡◌, ℕ, Bool, true, false, not, ◌&&◌, cond, List, [], ◌∷◌, Option, Some, None, refl, sym, ap, subst, ◌∙◌, ◌⊎◌, inl, inr, ⊎_elim}
+use Rattle.std.proofs.Common.{◌≡◌, ℕ, Bool, true, false, List, [], ◌∷◌, Option, Some, None, refl, sym, ap, subst, ◌∙◌, ⊎_elim}
 use Rattle.std.specs.Prelude.{codes}
 use Rattle.std.specs.List.{list_all, list_any}
 use Rattle.std.specs.Option.{option_or}
@@ -10,7 +10,7 @@ use Rattle.isle_ast.specs.declared.ast.specs.SpecOp.TheVariants as op
 use Rattle.isle_ast.specs.Operators.{is_operator_text, operator_text, operators}
 use Rattle.isle_ast.specs.SpecGrammar.{is_plain_operator}
 use Rattle.isle_parser.specs.SpecWords.{bit_vector_operators, bit_vector_tests, first_named, float_operators, discriminator_or_other, expansion_or_other, float_tests, head_of, keyword_head, operator_head, operator_of, operator_or_name, other_head, sign_operators, word_operators}
-use Rattle.isle_parser.proofs.Keywords.{is_false, other_bytes}
+use Rattle.isle_parser.proofs.Keywords.{other_bytes}
 use Rattle.isle_parser.proofs.Readers.{chosen}
 use Rattle.isle_parser.proofs.SpecTexts.{both_true, or_is, some_is}
 

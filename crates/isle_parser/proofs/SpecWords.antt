@@ -1,8 +1,7 @@
 -- A symbol's text is the head or the word that the grammar says, and no other.
-use Rattle.std.proofs.Common.{◌≡◌, ℕ, ◌*◌, ◌^◌, ◌<◌, eqb, Bool, true, false, not, ◌||◌, cond, List, [], ◌∷◌, ◌++◌, length, Option, Some, None, refl, sym, ap, subst, ◌∙◌, ◌⊎◌, inl, inr, ⊎_elim}
+use Rattle.std.proofs.Common.{◌≡◌, ℕ, ◌*◌, ◌^◌, ◌<◌, Bool, true, false, ◌||◌, cond, List, [], ◌∷◌, ◌++◌, length, Option, Some, None, refl, sym, ap, subst, ◌∙◌, inl, inr, ⊎_elim}
 use Rattle.std.specs.Prelude.{codes}
 use Rattle.std.specs.List.{list_all}
-use Rattle.std.specs.Option.{option_or}
 use Rattle.std.specs.Str.{bytes_eq}
 use Rattle.std.proofs.lemmas.Slice.Eq.{bytes_eq-Decides}
 use Rattle.isle_base.specs.declared.lexer.Pos.{Pos}
@@ -13,13 +12,13 @@ use Rattle.isle_ast.specs.BitVectors.{IsBitVector, IsBitVectorIn}
 use Rattle.isle_ast.specs.Identifier.{is_identifier}
 use Rattle.isle_ast.specs.Operators.{is_operator_text, operator_text}
 use Rattle.isle_ast.specs.PatternGrammar.{bool_word, is_bool_word}
-use Rattle.isle_ast.specs.SpecGrammar.{SpellsSpec, is_dot}
+use Rattle.isle_ast.specs.SpecGrammar.{SpellsSpec}
 use Rattle.isle_ast.specs.Tree.{SpecNode, bit_vector_spec, bool_spec, var_spec}
 use Rattle.isle_parser.specs.SpecWords.{IsHead, SpecHead, around, as_head, before_last, begins_bit_vector, behind_mark, binary_or_other, bit_vector_at, bit_vector_of, discriminator_head, discriminator_or_other, expansion_head, expansion_or_other, field_head, field_or_variant, head_of, hexadecimal_or_plain, keyword_head, let_head, macro_head, match_head, named_head, operator_head, operator_of, operator_or_name, other_head, plain_word, struct_head, switch_head, variant_head, variant_of, with_head, word_of}
 use Rattle.isle_parser.proofs.Keywords.{other_bytes}
 use Rattle.isle_parser.proofs.Readers.{bind_some, chosen, chosen_some}
 use Rattle.isle_parser.proofs.SpecBitVectors.{IsMade, bit_vector_is, bit_vector_made}
-use Rattle.isle_parser.proofs.SpecMarks.{PlainText, identifier_is_plain, identifier_text, is_plain, no_exclamation_mark, no_mark, no_question_mark}
+use Rattle.isle_parser.proofs.SpecMarks.{PlainText, identifier_text, no_exclamation_mark, no_mark, no_question_mark}
 use Rattle.isle_parser.proofs.SpecOperators.{no_operator_text, operator_head_found, operator_is, operator_none}
 use Rattle.isle_parser.proofs.SpecTexts.{around_is, around_made, before_last_behind, before_last_is, before_last_made, before_last_other, behind_is, is_other, or_is, some_is}
 

@@ -1,6 +1,3 @@
-use Rattle.isle_parser.proofs.SpecWords.{head_is}
-use Rattle.isle_parser.proofs.SpecMarks.{identifier_text}
-use Rattle.isle_parser.proofs.SpecOperators.{no_operator_text}
 use Rattle.std.proofs.Common.{arith}
 use Rattle.std.proofs.lemmas.Str.Pattern.{split_parts}
 use Rattle.isle_parser.proofs.SpecTexts.{split_around}
