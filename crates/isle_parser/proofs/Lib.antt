@@ -32,3 +32,4 @@ pub mod SpecBitVectors
 pub mod SpecMarks
 pub mod SpecOperators
 pub mod SpecWords
+pub mod SpecHeadsAhead
