@@ -42,3 +42,6 @@ pub mod ReadsSpecDefinitions
 pub mod ReadsModelContents
 pub mod ModelPositions
 pub mod SpecPositions
+pub mod SpecMarks
+pub mod SpecOperators
+pub mod SpecHeadsAhead

@@ -1,21 +1,18 @@
 -- The digits of bit vectors, as a test and as a statement.
-use Rattle.std.proofs.Common.{◌≡◌, ℕ, ◌*◌, ◌^◌, ◌<◌, ltb, ltb→lt, Bool, true, false, ◌&&◌, cond, List, [], ◌∷◌, length, Option, Some, None, Result, Ok, Err, OkIff, refl, sym, ap, subst, ◌∙◌, arith}
+use Rattle.std.proofs.Common.{◌≡◌, ℕ, ◌*◌, ◌^◌, ◌<◌, ltb, true, ◌&&◌, List, [], ◌∷◌, length, Option, Some, None, Result, Ok, Err, OkIff, refl, sym, ap, ◌∙◌, arith}
 use Rattle.std.specs.Result.{result_ok}
 use Rattle.std.specs.Char.{digit_value}
 use Rattle.std.specs.Str.Parse.{AllDigits, IsNumeral, digits_value, without_leading_plus}
 use Rattle.std.proofs.lemmas.Bool.Decides.{nat_tests}
 use Rattle.isle_parser.specs.SpecWords.{are_digits, bit_vector_of, is_numeral}
 use Rattle.isle_parser.proofs.Readers.{chosen_some}
+use Rattle.isle_parser.proofs.SpecTexts.{both_true, some_is}
 
 below : (a b : ℕ) → ltb a b ≡ true → a < b
 below a b e = grind (arith, nat_tests)
 
 is_below : (a b : ℕ) → a < b → ltb a b ≡ true
 is_below a b e = grind (arith, nat_tests)
-
-both_true : (a b : Bool) → (a && b) ≡ true → (a ≡ true) × (b ≡ true)
-both_true true b e = (refl, e)
-both_true false b e = cc
 
 digits_are : (radix : ℕ) (ds : List ℕ) → are_digits radix ds ≡ true → AllDigits radix ds
 digits_are radix [] e = tt
@@ -49,9 +46,6 @@ pub record IsMade (radix bits : ℕ) (digits : List ℕ) (v : ℕ × ℕ) : Type
   pub bytes : length digits * bits ≡ v.1
   pub fits : length digits * bits < 2 ^ 64
 
-pair_is : {A : Type 0} (x y : A) → Some x ≡ Some y → x ≡ y
-pair_is x y e = cc
-
 pub bit_vector_is : (radix bits : ℕ) (digits : List ℕ) (v : ℕ × ℕ) → bit_vector_of radix bits digits ≡ Some v → IsMade radix bits digits v
 unfolding bit_vector_of
 bit_vector_is radix bits digits v e =
@@ -61,7 +55,7 @@ bit_vector_is radix bits digits v e =
     let made = chosen_some (is_numeral radix ds && ltb value (2 ^ 128) && ltb width (2 ^ 64)) (value, width) v e in
     let p = both_true (is_numeral radix ds && ltb value (2 ^ 128)) (ltb width (2 ^ 64)) made.0 in
     let q = both_true (is_numeral radix ds) (ltb value (2 ^ 128)) p.0 in
-    let is = pair_is (value, width) v made.1 in
+    let is = some_is (value, width) v made.1 in
     record {
       numeral = numeral_is radix ds q.0;
       value = ap (λ (r : ℕ × ℕ). r.0) is;

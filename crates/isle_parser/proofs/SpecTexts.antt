@@ -1,7 +1,8 @@
 -- How texts are parted: behind a mark, before the last byte, around the first byte of a kind.
-use Rattle.std.proofs.Common.{◌≡◌, ◌≢◌, ℕ, zero, suc, ◌<◌, eqb, Bool, true, false, not, ◌&&◌, cond, List, [], ◌∷◌, ◌++◌, length, get_or, Option, Some, None, MatchOption, Bor, refl, sym, ap, subst, ◌∙◌, ◌⊎◌, inl, inr, arith}
+use Rattle.std.proofs.Common.{◌≡◌, ◌≢◌, ℕ, suc, ◌<◌, eqb, Bool, true, false, not, ◌&&◌, cond, List, [], ◌∷◌, ◌++◌, length, get_or, Option, Some, None, MatchOption, Bor, refl, sym, ap, subst, ◌∙◌, ◌⊎◌, inl, inr, arith}
 use Rattle.std.specs.Prelude.{option_map}
 use Rattle.std.specs.List.{list_all}
+use Rattle.std.specs.Option.{option_or}
 use Rattle.std.proofs.lemmas.Bool.{eqb-true, eq-eqb}
 use Rattle.isle_parser.specs.SpecWords.{around, before_last, behind_mark}
 use Rattle.isle_parser.proofs.Keywords.{is_false}
@@ -11,6 +12,22 @@ same_byte b = eq-eqb b b refl
 
 pub other_byte : (a b : ℕ) → (a ≡ b → ⊥) → eqb a b ≡ false
 other_byte a b h = is_false (eqb a b) (λ e. h (eqb-true a b e))
+
+pub both_true : (a b : Bool) → (a && b) ≡ true → (a ≡ true) × (b ≡ true)
+both_true true b e = (refl, e)
+both_true false b e = cc
+
+pub not_true : (b : Bool) → not b ≡ true → b ≡ false
+not_true true e = absurd cc
+not_true false e = refl
+
+pub some_is : {A : Type 0} (x y : A) → Some x ≡ Some y → x ≡ y
+some_is x y e = cc
+
+-- which of the two gave it
+pub or_is : {A : Type 0} (a b : Option A) (x : A) → option_or a b ≡ Some x → (a ≡ Some x) ⊎ ((a ≡ None) × (b ≡ Some x))
+or_is None b x e = inr (refl, e)
+or_is (Some y) b x e = inl e
 
 -- what holds of the answer, where there is one
 pub mapped_some : {A B : Type 0} (f : A → B) (o : Option A) (z : B) → option_map f o ≡ Some z → (y : A) × (o ≡ Some y) × (f y ≡ z)
@@ -82,14 +99,6 @@ stripped_first byte text (Some x) h = sym (subst (λ (t : List ℕ). behind_mark
 
 abbrev pub is_other : ℕ → ℕ → Bool
 is_other byte b = not (eqb b byte)
-
-both_true : (a b : Bool) → (a && b) ≡ true → (a ≡ true) × (b ≡ true)
-both_true true b e = (refl, e)
-both_true false b e = cc
-
-not_true : (b : Bool) → not b ≡ true → b ≡ false
-not_true true e = absurd cc
-not_true false e = refl
 
 pub around_made : (byte : ℕ) (front rest : List ℕ) → list_all (is_other byte) front ≡ true → around byte (front ++ byte ∷ rest) ≡ Some (front, rest)
 around_made byte [] rest e = rw (same_byte byte) refl

@@ -50,6 +50,9 @@ impl<'src> Parser<'src> {
         ensures same { source self.new ≡ source self.old }
         ensures gives { Gives head_view (spec_head (tokens self.old)) result self.new }
     {
+        if !self.is_sym() {
+            return Err(self.unexpected_spec(alloc, start));
+        }
         let place = self.place();
         let word = self.expect_symbol(alloc)?;
         self.spec_head(alloc, start, place, &word)
