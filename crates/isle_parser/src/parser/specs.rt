@@ -37,21 +37,13 @@ impl<'src> Parser<'src> {
             let val = self.parse_int(alloc)?;
             return Ok(SpecExpr::ConstInt { val, pos: start });
         }
-        Err(self.refuse_at(
-            place,
-            String::from_str(alloc, "Unexpected spec expression"),
-        ))
+        Err(self.refuse_at(place, String::from_str(alloc, "Unexpected spec expression")))
     }
 
     // A head, and what stands behind it. The `(` stood at this place, whose position in the tree is `start`.
     #[cycle(spec)]
     #[tactic(auto, using(crate::proofs::SpecParts::inside_by_head))]
-    fn parse_spec_inside(
-        &mut self,
-        alloc: Global,
-        place: Pos,
-        start: Pos,
-    ) -> Result<SpecExpr, Stop>
+    fn parse_spec_inside(&mut self, alloc: Global, place: Pos, start: Pos) -> Result<SpecExpr, Stop>
         requires { IsPlace (source self.old) place }
         ensures same { source self.new ≡ source self.old }
         ensures gives { Gives spec_of (spec_inside start spec_expression (tokens self.old)) result self.new }
