@@ -1,6 +1,6 @@
 //! The parser's calls, and its messages.
 
-use isle_ast::ast::{Def, Pattern};
+use isle_ast::ast::{Def, Pattern, SpecExpr};
 use isle_base::error::Error;
 use isle_base::lexer::{Fault, Lexer};
 use isle_parser::parser::{Parser, parse, parse_without_pos};
@@ -304,6 +304,151 @@ fn a_rule(rt: HostRuntime) -> Result<(), Fail> {
                 }
             }
             _ => return Err("it is a rule".into()),
+        }
+    }
+    Ok(())
+}
+
+#[test]
+fn specs_are_accepted(rt: HostRuntime) -> Result<(), Fail> {
+    assert!(rt;
+        is_accepted(
+            rt,
+            "(spec (f x y)) (spec (f) (provide) (require a b) (match true) (modifies s) (modifies s c) (provide (= x 1)))"
+        )
+    );
+    assert!(rt;
+        is_accepted(
+            rt,
+            "(macro (m x) (switch x (1 #b01) (2 #xFF))) (macro (m) (let ((a 1) (b a)) (with (c d) (macro () (fp.+oo)))))"
+        )
+    );
+    assert!(rt;
+        is_accepted(
+            rt,
+            "(macro (m) (match x ((V a b) a) ((W) -2))) (macro (m) (struct (a 1) (b (as x (bv 8))))) (macro (m) (struct))"
+        )
+    );
+    assert!(rt;
+        is_accepted(
+            rt,
+            "(macro (m) (V? (:field (m! (E.V a b) (bvadd) (if x y z))))) (macro (m) (switch x)) (macro (m) (match x))"
+        )
+    );
+    assert!(rt;
+        is_accepted(
+            rt,
+            "(state s (type (bv 64)) (default false)) (model A (const (+ 1 x))) (model A (const #b1))"
+        )
+    );
+    Ok(())
+}
+
+#[test]
+fn spec_expressions_are_refused(rt: HostRuntime) -> Result<(), Fail> {
+    let (msg, offset) = refusal(rt, "(macro (f) @)")?;
+    assert_eq!(rt; msg.as_str(), "Unexpected spec expression");
+    assert_eq!(rt; offset, 11);
+    let (msg, offset) = refusal(rt, "(macro (f) (1))")?;
+    assert_eq!(rt; msg.as_str(), "Unexpected spec expression");
+    assert_eq!(rt; offset, 11);
+    let (msg, offset) = refusal(rt, "(macro (f) (#b1))")?;
+    assert_eq!(rt; msg.as_str(), "Unexpected spec expression");
+    assert_eq!(rt; offset, 11);
+    let (msg, offset) = refusal(rt, "(macro (f) (= 1 (x)))")?;
+    assert_eq!(rt; msg.as_str(), "Unexpected spec expression");
+    assert_eq!(rt; offset, 16);
+    let (msg, offset) = refusal(rt, "(macro (f) (&? x))")?;
+    assert_eq!(rt;
+        msg.as_str(),
+        "Identifier '&' does not start with letter or _ or $"
+    );
+    assert_eq!(rt; offset, 12);
+    let (msg, offset) = refusal(rt, "(macro (f) (: x))")?;
+    assert_eq!(rt; msg.as_str(), "empty symbol");
+    assert_eq!(rt; offset, 12);
+    let (msg, offset) = refusal(rt, "(macro (f) (a.&b y))")?;
+    assert_eq!(rt;
+        msg.as_str(),
+        "Identifier '&b' does not start with letter or _ or $"
+    );
+    assert_eq!(rt; offset, 11);
+    let (msg, offset) = refusal(rt, "(macro (f) #b2)")?;
+    assert_eq!(rt; msg.as_str(), "Not a constant binary bit vector");
+    assert_eq!(rt; offset, 11);
+    let (msg, offset) = refusal(rt, "(macro (f) #xG)")?;
+    assert_eq!(rt; msg.as_str(), "Not a constant hex bit vector");
+    assert_eq!(rt; offset, 11);
+    let (msg, offset) = refusal(rt, "(macro (f) (switch x y))")?;
+    assert_eq!(rt; msg.as_str(), "Unexpected token Symbol(\"y\")");
+    assert_eq!(rt; offset, 21);
+    let (msg, offset) = refusal(rt, "(macro f x)")?;
+    assert_eq!(rt; msg.as_str(), "Unexpected token Symbol(\"f\")");
+    assert_eq!(rt; offset, 7);
+    Ok(())
+}
+
+#[test]
+fn specs_are_refused(rt: HostRuntime) -> Result<(), Fail> {
+    let (msg, offset) = refusal(rt, "(spec (f) (provided x))")?;
+    assert_eq!(rt;
+        msg.as_str(),
+        "Invalid spec: unexpected field provided. Expect (provide ...), (require ...) or (match ...)"
+    );
+    assert_eq!(rt; offset, 6);
+    let (msg, offset) = refusal(rt, "(spec (f) (modifies s c?))")?;
+    assert_eq!(rt;
+        msg.as_str(),
+        "Invalid modifies condition: Identifier 'c?' contains invalid character (not a-z, A-Z, 0-9, _, ., $)"
+    );
+    assert_eq!(rt; offset, 6);
+    let (msg, offset) = refusal(rt, "(spec (f) x)")?;
+    assert_eq!(rt; msg.as_str(), "Unexpected token Symbol(\"x\")");
+    assert_eq!(rt; offset, 10);
+    let (msg, offset) = refusal(rt, "(state s (type Int) (defaults 1))")?;
+    assert_eq!(rt; msg.as_str(), "Invalid default: expected (default <expr>)");
+    assert_eq!(rt; offset, 21);
+    let (msg, offset) = refusal(rt, "(state s (tipe Int) (default 1))")?;
+    assert_eq!(rt; msg.as_str(), "Invalid type: expected (type <arg>)");
+    assert_eq!(rt; offset, 10);
+    let (msg, offset) = refusal(rt, "(model A (const))")?;
+    assert_eq!(rt; msg.as_str(), "Unexpected spec expression");
+    assert_eq!(rt; offset, 15);
+    Ok(())
+}
+
+#[test]
+fn a_spec(rt: HostRuntime) -> Result<(), Fail> {
+    let lexer = Lexer::new(
+        rt.alloc(),
+        3,
+        "(spec (f x) (provide a) (require b) (provide (E.V c) d) (modifies s t))",
+    )
+    .ok()
+    .ok_or("a token")?;
+    let defs = parse(rt.alloc(), lexer).ok().ok_or("a spec")?;
+    for def in &defs {
+        match def {
+            Def::Spec(spec) => {
+                assert_eq!(rt; spec.pos.offset, 6);
+                assert_eq!(rt; spec.term.1.offset, 7);
+                assert_eq!(rt; spec.args.len(), 1);
+                assert_eq!(rt; spec.provides.len(), 3);
+                assert_eq!(rt; spec.requires_.len(), 1);
+                assert_eq!(rt; spec.matches.len(), 0);
+                assert_eq!(rt; spec.modifies.len(), 1);
+                for (expr, place) in spec.provides.iter().zip([21, 45, 53]) {
+                    match expr {
+                        SpecExpr::Var { pos, .. } => assert_eq!(rt; pos.offset, place),
+                        SpecExpr::Enum { variant, pos, .. } => {
+                            assert_eq!(rt; pos.offset, place);
+                            assert_eq!(rt; variant.1.offset, place);
+                        }
+                        _ => return Err("it is a variable or a variant".into()),
+                    }
+                }
+            }
+            _ => return Err("it is a spec".into()),
         }
     }
     Ok(())

@@ -7,22 +7,26 @@ use Rattle.isle_base.specs.Token.{symbol}
 use Rattle.isle_ast.specs.Grammar.{SpellsDefinition, SpellsDefinitions}
 use Rattle.isle_ast.specs.ModelGrammar.{SpellsForm, SpellsInstantiation, SpellsModel}
 use Rattle.isle_ast.specs.RuleGrammar.{SpellsRule, SpellsExtractor}
+use Rattle.isle_ast.specs.SpecDefinitionGrammar.{SpellsSpecDefinition, SpellsSpecMacro, SpellsState}
 use Rattle.isle_ast.specs.TermGrammar.{SpellsDeclaration, SpellsAttribute, SpellsExtern, SpellsConversion}
 use Rattle.isle_ast.specs.TypeGrammar.{SpellsTypeDefinition}
 use Rattle.isle_ast.specs.Words.{BeginsAt, SpellsName, SpellsAll, InParentheses, BehindWord}
-use Rattle.isle_ast.specs.Tree.{Name, Declaration, Conversion, Definition, type_def, rule, extractor, decl, attr, model, form, instantiation, external, converter}
+use Rattle.isle_ast.specs.Tree.{Name, Declaration, Conversion, Definition, type_def, rule, extractor, decl, attr, spec, spec_macro, model, state, form, instantiation, external, converter}
 use Rattle.isle_parser.specs.Reading.{Reader, ◌>>=◌, is_ahead, ends, pos_ahead, text, flag}
 use Rattle.isle_parser.specs.ReadNames.{name, names}
 use Rattle.isle_parser.specs.ReadDefinitions.{declaration, conversion, behind, keyword_form, definition, definitions}
-use Rattle.isle_parser.specs.ReadModels.{form_definition, instantiation_of_term, model_definition}
+use Rattle.isle_parser.specs.ReadModels.{form_definition, instantiation_of_term}
 use Rattle.isle_parser.specs.ReadRules.{rule_definition, extractor_definition}
+use Rattle.isle_parser.specs.ReadSpecDefinitions.{spec_definition, spec_macro_definition, model_definition, state_definition}
 use Rattle.isle_parser.specs.ReadTerms.{attribute, extern_definition}
 use Rattle.isle_parser.specs.ReadTypes.{type_definition}
 use Rattle.isle_parser.proofs.Choices.{nothing, made_of, word_is, word_read, word_shorter, CompleteClosed, enclosed_complete}
 use Rattle.isle_parser.proofs.Flags.{Front, flag_sound, flag_complete, flag_shorter, front_sound, front_unset}
 use Rattle.isle_parser.proofs.Names.{SpellsNames, name_sound, name_complete, name_begins, names_sound, names_complete}
-use Rattle.isle_parser.proofs.ReadsForms.{form_definition_sound, form_definition_complete, form_definition_shorter, instantiation_sound, instantiation_complete, instantiation_shorter, model_definition_sound, model_definition_complete, model_definition_shorter}
+use Rattle.isle_parser.proofs.ReadsForms.{form_definition_sound, form_definition_complete, form_definition_shorter, instantiation_sound, instantiation_complete, instantiation_shorter}
+use Rattle.isle_parser.proofs.ReadsModelContents.{model_definition_sound, model_definition_complete, model_definition_shorter}
 use Rattle.isle_parser.proofs.ReadsRules.{rule_sound, rule_complete, rule_shorter, extractor_sound, extractor_complete, extractor_shorter}
+use Rattle.isle_parser.proofs.ReadsSpecDefinitions.{spec_definition_sound, spec_definition_complete, spec_definition_shorter, spec_macro_sound, spec_macro_complete, spec_macro_shorter, state_sound, state_complete, state_shorter}
 use Rattle.isle_parser.proofs.ReadsTerms.{attribute_sound, attribute_complete, attribute_shorter, extern_sound, extern_complete, extern_shorter}
 use Rattle.isle_parser.proofs.ReadsTypes.{type_definition_sound, type_definition_complete, type_definition_shorter}
 use Rattle.isle_parser.proofs.Readers.{Spelling, Sound, Complete, Begins, Shrinks, Goes, begins_node, bind_some, chosen, done, done_is, shrinks, many_sound, many_complete, stopping_closes, stopping_ends, row_shorter, moved, parentheses_sound, parentheses_begin}
@@ -194,7 +198,10 @@ SpellsKeyword (rule x) = BehindWord (codes "rule") (SpellsRule x)
 SpellsKeyword (extractor x) = BehindWord (codes "extractor") (SpellsExtractor x)
 SpellsKeyword (decl x) = BehindWord (codes "decl") (SpellsDeclaration x)
 SpellsKeyword (attr x) = BehindWord (codes "attr") (SpellsAttribute x)
+SpellsKeyword (spec x) = BehindWord (codes "spec") (SpellsSpecDefinition x)
+SpellsKeyword (spec_macro x) = BehindWord (codes "macro") (SpellsSpecMacro x)
 SpellsKeyword (model x) = BehindWord (codes "model") (SpellsModel x)
+SpellsKeyword (state x) = BehindWord (codes "state") (SpellsState x)
 SpellsKeyword (form x) = BehindWord (codes "form") (SpellsForm x)
 SpellsKeyword (instantiation x) = BehindWord (codes "instantiate") (SpellsInstantiation x)
 SpellsKeyword (external x) = BehindWord (codes "extern") (SpellsExtern x)
@@ -217,14 +224,17 @@ keyword_form_sound all rest x e =
     keyword_chosen (codes "type") SpellsTypeDefinition type_definition type_def _ type_definition_sound w.1 (λ y h. h)
     (keyword_chosen (codes "decl") SpellsDeclaration declaration decl _ declaration_sound w.1 (λ y h. h)
     (keyword_chosen (codes "attr") SpellsAttribute attribute attr _ attribute_sound w.1 (λ y h. h)
+    (keyword_chosen (codes "spec") SpellsSpecDefinition spec_definition spec _ spec_definition_sound w.1 (λ y h. h)
+    (keyword_chosen (codes "macro") SpellsSpecMacro spec_macro_definition spec_macro _ spec_macro_sound w.1 (λ y h. h)
     (keyword_chosen (codes "model") SpellsModel model_definition model _ model_definition_sound w.1 (λ y h. h)
+    (keyword_chosen (codes "state") SpellsState state_definition state _ state_sound w.1 (λ y h. h)
     (keyword_chosen (codes "form") SpellsForm form_definition form _ form_definition_sound w.1 (λ y h. h)
     (keyword_chosen (codes "instantiate") SpellsInstantiation instantiation_of_term instantiation _ instantiation_sound w.1 (λ y h. h)
     (keyword_chosen (codes "rule") SpellsRule rule_definition rule _ rule_sound w.1 (λ y h. h)
     (keyword_chosen (codes "extractor") SpellsExtractor extractor_definition extractor _ extractor_sound w.1 (λ y h. h)
     (keyword_chosen (codes "extern") SpellsExtern extern_definition external _ extern_sound w.1 (λ y h. h)
     (keyword_chosen (codes "convert") SpellsConversion conversion converter _ conversion_sound w.1 (λ y h. h)
-    (λ h. absurd (nothing h))))))))))) w.2
+    (λ h. absurd (nothing h)))))))))))))) w.2
 
 keyword_form_complete : CompleteClosed SpellsKeyword keyword_form
 unfolding keyword_form behind
@@ -233,7 +243,10 @@ keyword_form_complete (rule x) all rest closed h = rw (word_read h.1, rule_compl
 keyword_form_complete (extractor x) all rest closed h = rw (word_read h.1, extractor_complete x h.0 rest closed h.2) refl
 keyword_form_complete (decl x) all rest closed h = rw (word_read h.1, declaration_complete x h.0 rest (stopping_closes.goes rest closed) h.2) refl
 keyword_form_complete (attr x) all rest closed h = rw (word_read h.1, attribute_complete x h.0 rest closed h.2) refl
+keyword_form_complete (spec x) all rest closed h = rw (word_read h.1, spec_definition_complete x h.0 rest closed h.2) refl
+keyword_form_complete (spec_macro x) all rest closed h = rw (word_read h.1, spec_macro_complete x h.0 rest h.2) refl
 keyword_form_complete (model x) all rest closed h = rw (word_read h.1, model_definition_complete x h.0 rest closed h.2) refl
+keyword_form_complete (state x) all rest closed h = rw (word_read h.1, state_complete x h.0 rest h.2) refl
 keyword_form_complete (form x) all rest closed h = rw (word_read h.1, form_definition_complete x h.0 rest closed h.2) refl
 keyword_form_complete (instantiation x) all rest closed h = rw (word_read h.1, instantiation_complete x h.0 rest closed h.2) refl
 keyword_form_complete (external x) all rest closed h = rw (word_read h.1, extern_complete x h.0 rest h.2) refl
@@ -245,7 +258,10 @@ keyword_form_shorter (rule x) all rest h = omega (arith, word_shorter (codes "ru
 keyword_form_shorter (extractor x) all rest h = omega (arith, word_shorter (codes "extractor") all h.0 h.1, extractor_shorter x h.0 rest h.2)
 keyword_form_shorter (decl x) all rest h = omega (arith, word_shorter (codes "decl") all h.0 h.1, declaration_shorter x h.0 rest h.2)
 keyword_form_shorter (attr x) all rest h = omega (arith, word_shorter (codes "attr") all h.0 h.1, attribute_shorter x h.0 rest h.2)
+keyword_form_shorter (spec x) all rest h = omega (arith, word_shorter (codes "spec") all h.0 h.1, spec_definition_shorter x h.0 rest h.2)
+keyword_form_shorter (spec_macro x) all rest h = omega (arith, word_shorter (codes "macro") all h.0 h.1, spec_macro_shorter x h.0 rest h.2)
 keyword_form_shorter (model x) all rest h = omega (arith, word_shorter (codes "model") all h.0 h.1, model_definition_shorter x h.0 rest h.2)
+keyword_form_shorter (state x) all rest h = omega (arith, word_shorter (codes "state") all h.0 h.1, state_shorter x h.0 rest h.2)
 keyword_form_shorter (form x) all rest h = omega (arith, word_shorter (codes "form") all h.0 h.1, form_definition_shorter x h.0 rest h.2)
 keyword_form_shorter (instantiation x) all rest h = omega (arith, word_shorter (codes "instantiate") all h.0 h.1, instantiation_shorter x h.0 rest h.2)
 keyword_form_shorter (external x) all rest h = omega (arith, word_shorter (codes "extern") all h.0 h.1, extern_shorter x h.0 rest h.2)
@@ -257,7 +273,10 @@ to_keyword (rule x) all rest h = h
 to_keyword (extractor x) all rest h = h
 to_keyword (decl x) all rest h = h
 to_keyword (attr x) all rest h = h
+to_keyword (spec x) all rest h = h
+to_keyword (spec_macro x) all rest h = h
 to_keyword (model x) all rest h = h
+to_keyword (state x) all rest h = h
 to_keyword (form x) all rest h = h
 to_keyword (instantiation x) all rest h = h
 to_keyword (external x) all rest h = h
@@ -269,7 +288,10 @@ from_keyword (rule x) all rest h = h
 from_keyword (extractor x) all rest h = h
 from_keyword (decl x) all rest h = h
 from_keyword (attr x) all rest h = h
+from_keyword (spec x) all rest h = h
+from_keyword (spec_macro x) all rest h = h
 from_keyword (model x) all rest h = h
+from_keyword (state x) all rest h = h
 from_keyword (form x) all rest h = h
 from_keyword (instantiation x) all rest h = h
 from_keyword (external x) all rest h = h

@@ -19,10 +19,10 @@ other_bytes xs ys h = is_false (bytes_eq xs ys) (λ e. h ((bytes_eq-Decides xs y
 pub same_bytes : (xs : List ℕ) → bytes_eq xs xs ≡ true
 same_bytes xs = (bytes_eq-Decides xs xs).1 refl
 
-no_keyword : (word : List ℕ) (all : List Placed) → bytes_eq word (codes "type") ≡ false → bytes_eq word (codes "decl") ≡ false → bytes_eq word (codes "attr") ≡ false → bytes_eq word (codes "model") ≡ false → bytes_eq word (codes "form") ≡ false → bytes_eq word (codes "instantiate") ≡ false → bytes_eq word (codes "rule") ≡ false → bytes_eq word (codes "extractor") ≡ false → bytes_eq word (codes "extern") ≡ false → bytes_eq word (codes "convert") ≡ false → behind word all ≡ None
+no_keyword : (word : List ℕ) (all : List Placed) → bytes_eq word (codes "type") ≡ false → bytes_eq word (codes "decl") ≡ false → bytes_eq word (codes "attr") ≡ false → bytes_eq word (codes "spec") ≡ false → bytes_eq word (codes "macro") ≡ false → bytes_eq word (codes "model") ≡ false → bytes_eq word (codes "state") ≡ false → bytes_eq word (codes "form") ≡ false → bytes_eq word (codes "instantiate") ≡ false → bytes_eq word (codes "rule") ≡ false → bytes_eq word (codes "extractor") ≡ false → bytes_eq word (codes "extern") ≡ false → bytes_eq word (codes "convert") ≡ false → behind word all ≡ None
 unfolding behind
-no_keyword word all a b c d f g j k h i = rw (a, b, c, d, f, g, j, k, h, i) refl
+no_keyword word all a b c l m d n f g j k h i = rw (a, b, c, l, m, d, n, f, g, j, k, h, i) refl
 
-pub keyword_refused : (word : List ℕ) (all : List Placed) (s : Source) (e : Stop) → (word ≡ codes "type" → ⊥) → (word ≡ codes "decl" → ⊥) → (word ≡ codes "attr" → ⊥) → (word ≡ codes "model" → ⊥) → (word ≡ codes "form" → ⊥) → (word ≡ codes "instantiate" → ⊥) → (word ≡ codes "rule" → ⊥) → (word ≡ codes "extractor" → ⊥) → (word ≡ codes "extern" → ⊥) → (word ≡ codes "convert" → ⊥) → IsRefusal s e → Stops (behind word all) s e
-keyword_refused word all s e a b c d f g j k h i refused =
-    stopped (behind word all) s e (no_keyword word all (other_bytes word (codes "type") a) (other_bytes word (codes "decl") b) (other_bytes word (codes "attr") c) (other_bytes word (codes "model") d) (other_bytes word (codes "form") f) (other_bytes word (codes "instantiate") g) (other_bytes word (codes "rule") j) (other_bytes word (codes "extractor") k) (other_bytes word (codes "extern") h) (other_bytes word (codes "convert") i)) refused
+pub keyword_refused : (word : List ℕ) (all : List Placed) (s : Source) (e : Stop) → (word ≡ codes "type" → ⊥) → (word ≡ codes "decl" → ⊥) → (word ≡ codes "attr" → ⊥) → (word ≡ codes "spec" → ⊥) → (word ≡ codes "macro" → ⊥) → (word ≡ codes "model" → ⊥) → (word ≡ codes "state" → ⊥) → (word ≡ codes "form" → ⊥) → (word ≡ codes "instantiate" → ⊥) → (word ≡ codes "rule" → ⊥) → (word ≡ codes "extractor" → ⊥) → (word ≡ codes "extern" → ⊥) → (word ≡ codes "convert" → ⊥) → IsRefusal s e → Stops (behind word all) s e
+keyword_refused word all s e a b c l m d n f g j k h i refused =
+    stopped (behind word all) s e (no_keyword word all (other_bytes word (codes "type") a) (other_bytes word (codes "decl") b) (other_bytes word (codes "attr") c) (other_bytes word (codes "spec") l) (other_bytes word (codes "macro") m) (other_bytes word (codes "model") d) (other_bytes word (codes "state") n) (other_bytes word (codes "form") f) (other_bytes word (codes "instantiate") g) (other_bytes word (codes "rule") j) (other_bytes word (codes "extractor") k) (other_bytes word (codes "extern") h) (other_bytes word (codes "convert") i)) refused

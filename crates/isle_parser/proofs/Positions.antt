@@ -10,19 +10,22 @@ use Rattle.isle_base.specs.Steps.{Rises}
 use Rattle.isle_base.specs.Token.{Tok, Lexeme, Feed}
 use Rattle.isle_ast.specs.declared.ast.Def.{Def}
 use Rattle.isle_ast.specs.Grammar.{SpellsDefinition}
-use Rattle.isle_ast.specs.ModelGrammar.{SpellsTypeModel, SpellsModelFields, SpellsSignature, SpellsForm, SpellsTag, SpellsInstances, SpellsInstantiation, SpellsModelContent, SpellsModel}
-use Rattle.isle_ast.specs.Numbers.{SpellsNumber}
+use Rattle.isle_ast.specs.ModelGrammar.{SpellsTypeModel, SpellsSignature, SpellsForm, SpellsTag, SpellsInstances, SpellsInstantiation, SpellsModelContent, SpellsModel}
 use Rattle.isle_ast.specs.RuleGrammar.{SpellsRule, SpellsExtractor}
+use Rattle.isle_ast.specs.SpecDefinitionGrammar.{SpellsSpecDefinition, SpellsSpecMacro, SpellsState}
+use Rattle.isle_ast.specs.SpecGrammar.{SpellsSpec}
 use Rattle.isle_ast.specs.Spelt.{Spells}
-use Rattle.isle_ast.specs.Tree.{Name, TypeModel, unspecified_model, auto_model, int_model, bool_model, unit_model, bit_vector_model, struct_model, named_model, ModelFieldRow, no_model_field, model_field, unit_fields, struct_fields, tuple_fields, EnumVariant, primitive_type, enum_type, struct_type, term_target, rule_target, chain_kind, priority_kind, tag_kind, TermSignature, type_model, extern_extractor, extern_constructor, extern_const, Definition, type_def, rule, extractor, decl, attr, model, form, instantiation, external, converter}
+use Rattle.isle_ast.specs.Tree.{Name, unit_fields, struct_fields, tuple_fields, EnumVariant, primitive_type, enum_type, struct_type, term_target, rule_target, chain_kind, priority_kind, tag_kind, TermSignature, type_model, const_model, extern_extractor, extern_constructor, extern_const, Definition, type_def, rule, extractor, decl, attr, spec, spec_macro, model, state, form, instantiation, external, converter}
 use Rattle.isle_ast.specs.TermGrammar.{SpellsDeclaration, SpellsConversion, SpellsAttributeKind, SpellsAttributeTarget, SpellsAttribute, SpellsExtern}
 use Rattle.isle_ast.specs.TreeView.{definitions_of}
 use Rattle.isle_ast.specs.TypeGrammar.{SpellsNamedField, SpellsIndexedFields, SpellsFields, SpellsVariant, SpellsTypeContent, SpellsTypeDefinition}
-use Rattle.isle_ast.specs.Words.{SpellsToken, SpellsWord, BeginsAt, SpellsAll, InParentheses, SpellsName, SpellsOptional}
+use Rattle.isle_ast.specs.Words.{SpellsToken, SpellsWord, BeginsAt, SpellsAll, InParentheses, SpellsName}
 use Rattle.isle_parser.specs.Parsed.{Parses}
-use Rattle.isle_parser.specs.Positions.{OfName, OfNames, OfModel, OfModelFields, OfNamedField, OfIndexedField, OfFields, OfVariant, OfTypeContent, OfTarget, OfKind, OfSignature, OfOptionalName, OfModelContent, OfRule, OfExtractor, OfExtern, BeginsToken, EachPosition, HasKnownPositions, HasPositions, behind_first}
+use Rattle.isle_parser.specs.Positions.{OfName, OfNames, OfModel, OfNamedField, OfIndexedField, OfFields, OfVariant, OfTypeContent, OfTarget, OfKind, OfSignature, OfOptionalName, OfSpec, OfModelContent, OfSpecDefinition, OfSpecMacro, OfState, OfRule, OfExtractor, OfExtern, BeginsToken, EachPosition, HasKnownPositions, HasPositions, behind_first}
 use Rattle.isle_parser.proofs.Definitions.{SpellsKeyword, to_keyword}
+use Rattle.isle_parser.proofs.ModelPositions.{type_model_stands}
 use Rattle.isle_parser.proofs.RulePositions.{rule_stands, extractor_stands}
+use Rattle.isle_parser.proofs.SpecPositions.{spec_stands, spec_definition_stands, spec_macro_stands, state_stands}
 use Rattle.isle_parser.proofs.Stands.{Among, Into, Stands, token_stands, begins_stands, same_stands, flag_stands, name_stands, constant_stands, row_stands, enclosed_stands, behind_stands, tagged_stands}
 
 -- two names
@@ -155,33 +158,6 @@ extern_stands (extern_const n ty pos) all rest h P into =
 
 -- ---- models
 
-width_stands : (w : Option ℕ) (all rest : List Placed) → SpellsOptional SpellsNumber w all rest → (P : Pos → Type 0) → Into all P → Into rest P
-width_stands None all rest h P into = same_stands h P into
-width_stands (Some n) all rest h P into = token_stands h.1 P into
-
-mutual
-  type_model_stands : (m : TypeModel) (all rest : List Placed) → SpellsTypeModel m all rest → (P : Pos → Type 0) → Into all P → OfModel P m × Into rest P
-  type_model_stands unspecified_model all rest h P into = (tt, token_stands h P into)
-  type_model_stands auto_model all rest h P into = (tt, token_stands h P into)
-  type_model_stands int_model all rest h P into = (tt, token_stands h P into)
-  type_model_stands bool_model all rest h P into = (tt, token_stands h P into)
-  type_model_stands unit_model all rest h P into = (tt, token_stands h P into)
-  type_model_stands (bit_vector_model w) all rest h P into =
-      (tt, token_stands h.4 P (width_stands w h.3.0 h.1 h.3.2 P (token_stands h.3.1 P (token_stands h.2 P into))))
-  type_model_stands (struct_model fs) all rest h P into =
-      let inner = model_fields_stand fs h.3.0 h.1 h.3.2 P (token_stands h.3.1 P (token_stands h.2 P into)) in
-      (inner.0, token_stands h.4 P inner.1)
-  type_model_stands (named_model n) all rest h P into = tagged_stands (codes "named") SpellsName OfName name_stands n all rest h P into
-
-  model_fields_stand : (fs : ModelFieldRow) (all rest : List Placed) → SpellsModelFields fs all rest → (P : Pos → Type 0) → Into all P → OfModelFields P fs × Into rest P
-  model_fields_stand no_model_field all rest h P into = (tt, same_stands h P into)
-  model_fields_stand (model_field n ty fs) all rest h P into =
-      let one = h.1 in
-      let name = name_stands n one.0 one.3.0 one.3.1 P (token_stands one.2 P into) in
-      let model = type_model_stands ty one.3.0 one.1 one.3.2 P name.1 in
-      let others = model_fields_stand fs h.0 rest h.2 P (token_stands one.4 P model.1) in
-      ((name.0, model.0, others.0), others.1)
-
 models_stand : Stands (SpellsAll SpellsTypeModel) (λ P ms. AllByRecursion (OfModel P) ms)
 models_stand = row_stands SpellsTypeModel OfModel type_model_stands
 
@@ -223,6 +199,7 @@ instantiation_stands i all rest h P into =
 
 model_content_stands : Stands SpellsModelContent OfModelContent
 model_content_stands (type_model ty) all rest h P into = tagged_stands (codes "type") SpellsTypeModel OfModel type_model_stands ty all rest h P into
+model_content_stands (const_model x) all rest h P into = tagged_stands (codes "const") SpellsSpec OfSpec spec_stands x all rest h P into
 
 model_stands : Stands SpellsModel (λ P m. EachPosition P (model m))
 model_stands m all rest h P into =
@@ -250,7 +227,10 @@ keyword_stands (rule x) = behind_stands (codes "rule") SpellsRule OfRule rule_st
 keyword_stands (extractor x) = behind_stands (codes "extractor") SpellsExtractor OfExtractor extractor_stands x
 keyword_stands (decl x) = behind_stands (codes "decl") SpellsDeclaration (λ P x. EachPosition P (decl x)) declaration_stands x
 keyword_stands (attr x) = behind_stands (codes "attr") SpellsAttribute (λ P x. EachPosition P (attr x)) attribute_stands x
+keyword_stands (spec x) = behind_stands (codes "spec") SpellsSpecDefinition OfSpecDefinition spec_definition_stands x
+keyword_stands (spec_macro x) = behind_stands (codes "macro") SpellsSpecMacro OfSpecMacro spec_macro_stands x
 keyword_stands (model x) = behind_stands (codes "model") SpellsModel (λ P x. EachPosition P (model x)) model_stands x
+keyword_stands (state x) = behind_stands (codes "state") SpellsState OfState state_stands x
 keyword_stands (form x) = behind_stands (codes "form") SpellsForm (λ P x. EachPosition P (form x)) form_stands x
 keyword_stands (instantiation x) = behind_stands (codes "instantiate") SpellsInstantiation (λ P x. EachPosition P (instantiation x)) instantiation_stands x
 keyword_stands (external x) = behind_stands (codes "extern") SpellsExtern OfExtern extern_stands x

@@ -1,15 +1,15 @@
--- Forms, instantiations and models of types are read as the grammar spells them.
+-- Forms and instantiations are read as the grammar spells them.
 use Rattle.std.proofs.Common.{◌≡◌, inl, inr, ℕ, ◌≤◌, ◌<◌, true, false, cond, List, [], ◌∷◌, length, Option, Some, None, refl, sym, subst, arith}
 use Rattle.std.specs.Prelude.{codes}
 use Rattle.std.specs.Str.{bytes_eq}
 use Rattle.isle_base.specs.declared.lexer.Pos.{Pos}
 use Rattle.isle_base.specs.Place.{Placed}
-use Rattle.isle_ast.specs.ModelGrammar.{SpellsTypeModel, SpellsSignature, SpellsForm, SpellsTag, SpellsInstances, SpellsInstantiation, SpellsModelContent, SpellsModel}
-use Rattle.isle_ast.specs.Tree.{Name, TypeModel, TermSignature, FormDefinition, TermInstantiation, ModelContent, type_model, ModelDefinition}
+use Rattle.isle_ast.specs.ModelGrammar.{SpellsTypeModel, SpellsSignature, SpellsForm, SpellsTag, SpellsInstances, SpellsInstantiation}
+use Rattle.isle_ast.specs.Tree.{Name, TypeModel, TermSignature, FormDefinition, TermInstantiation}
 use Rattle.isle_ast.specs.Words.{BeginsAt, SpellsAll, InParentheses, BehindWord, SpellsName, IsNonEmpty}
-use Rattle.isle_parser.specs.Reading.{◌>>=◌, is_ahead, is_lparen, closes, pos_ahead, text, in_parentheses, many}
+use Rattle.isle_parser.specs.Reading.{◌>>=◌, is_ahead, is_lparen, closes, pos_ahead, text, many}
 use Rattle.isle_parser.specs.ReadNames.{name}
-use Rattle.isle_parser.specs.ReadModels.{model_type, tagged_inside, tagged_types, tagged_one_inside, tagged_type, signature_inside, signature, signatures, form_definition, tag_inside, tag, instantiation_of_term, model_content_inside, model_definition}
+use Rattle.isle_parser.specs.ReadModels.{model_type, tagged_inside, tagged_types, tagged_one_inside, tagged_type, signature_inside, signature, signatures, form_definition, tag_inside, tag, instantiation_of_term}
 use Rattle.isle_parser.proofs.Choices.{nothing, made_of, word_is, word_read, word_shorter, flag_read, choice, CompleteClosed, row_sound, row_complete, enclosed_complete, position_of, name_at, opened_at, opens, opens_not_closes, row_nonempty}
 use Rattle.isle_parser.proofs.Names.{name_sound, name_read, name_begins}
 use Rattle.isle_parser.proofs.Readers.{Sound, Complete, Begins, Shrinks, bind_some, chosen, done_is, moved, shrinks, many_sound, row_shorter, parentheses_sound, parentheses_begin}
@@ -50,6 +50,18 @@ tagged_one_sound word all rest m e =
 tagged_one_complete : (word : List ℕ) → CompleteClosed (SpellsTaggedOne word) (tagged_one_inside word)
 unfolding tagged_one_inside
 tagged_one_complete word m all rest closed h = rw (flag_read word all h.0 h.1) (model_type_complete m h.0 rest h.2)
+
+pub tagged_type_sound : (word : List ℕ) → Sound (λ m. InParentheses (SpellsTaggedOne word m)) (tagged_type word)
+unfolding tagged_type
+tagged_type_sound word = parentheses_sound (SpellsTaggedOne word) (tagged_one_inside word) (tagged_one_sound word)
+
+pub tagged_type_complete : (word : List ℕ) (m : TypeModel) (all rest : List Placed) → InParentheses (SpellsTaggedOne word m) all rest → tagged_type word all ≡ Some (m, rest)
+unfolding tagged_type
+tagged_type_complete word m all rest h = enclosed_complete (SpellsTaggedOne word) (tagged_one_inside word) (tagged_one_complete word) m all rest h
+
+pub tagged_type_begins : (word : List ℕ) → Begins (λ m. InParentheses (SpellsTaggedOne word m))
+tagged_type_begins word m all rest h =
+    parentheses_begin (SpellsTaggedOne word m) (λ i j b. omega (arith, word_shorter word i b.0 b.1, (model_type_begins m b.0 j b.2).1)) all rest h
 
 abbrev SpellsSignatureInside : TermSignature → List Placed → List Placed → Type 0
 SpellsSignatureInside s inner close =
@@ -220,53 +232,3 @@ instances_shorter (Some f) gs ts all rest h = omega (arith, (name_begins f all h
 
 pub instantiation_shorter : (i : TermInstantiation) (all rest : List Placed) → SpellsInstantiation i all rest → length rest ≤ length all
 instantiation_shorter i all rest h = omega (arith, (name_begins i.term all h.behind_term h.term).1, instances_shorter i.form i.signatures i.tags h.behind_term rest h.instances)
-
--- ---- models of types
-
-abbrev SpellsModelInside : ModelContent → List Placed → List Placed → Type 0
-SpellsModelInside (type_model ty) = BehindWord (codes "type") (SpellsTypeModel ty)
-
-from_model : (c : ModelContent) (all rest : List Placed) → InParentheses (SpellsModelInside c) all rest → SpellsModelContent c all rest
-from_model (type_model ty) all rest h = h
-
-to_model : (c : ModelContent) (all rest : List Placed) → SpellsModelContent c all rest → InParentheses (SpellsModelInside c) all rest
-to_model (type_model ty) all rest h = h
-
-model_inside_sound : Sound SpellsModelInside model_content_inside
-unfolding model_content_inside
-model_inside_sound all rest c e =
-    elim (choice (codes "type") (λ i. model_type i >>= λ ty. Some (type_model ty.0, ty.1)) (λ i. None) all e) [
-      | inl h ↦
-          let ty = made_of type_model h.2 in
-          subst (λ (c : ModelContent). SpellsModelInside c all rest) ty.2 (h.0, h.1, model_type_sound h.0 rest ty.0 ty.1)
-      | inr h ↦ absurd (nothing h.1)
-    ]
-
-model_inside_complete : CompleteClosed SpellsModelInside model_content_inside
-unfolding model_content_inside
-model_inside_complete (type_model ty) all rest closed h = rw (flag_read (codes "type") all h.0 h.1, model_type_complete ty h.0 rest h.2) refl
-
-model_inside_shorter : (c : ModelContent) (all rest : List Placed) → SpellsModelInside c all rest → length rest ≤ length all
-model_inside_shorter (type_model ty) all rest h = omega (arith, word_shorter (codes "type") all h.0 h.1, (model_type_begins ty h.0 rest h.2).1)
-
-pub model_definition_sound : Sound SpellsModel model_definition
-unfolding model_definition
-model_definition_sound all rest m e =
-    let n = bind_some (name all) (λ n. in_parentheses model_content_inside n.1 >>= λ c. Some (record { name = n.0; val = c.0 }, c.1)) (m, rest) e in
-    let c = bind_some (in_parentheses model_content_inside n.0.1) (λ c. Some (record { name = n.0.0; val = c.0 }, c.1)) (m, rest) n.2 in
-    let made : ModelDefinition = record { name = n.0.0; val = c.0.0 } in
-    let is = done_is made m c.0.1 rest c.2 in
-    let val = from_model c.0.0 n.0.1 c.0.1 (parentheses_sound SpellsModelInside model_content_inside model_inside_sound n.0.1 c.0.1 c.0.0 c.1) in
-    let whole : SpellsModel made all c.0.1 = record { behind_name = n.0.1; name = name_sound all n.0.1 n.0.0 n.1; val = val } in
-    moved SpellsModel made m all c.0.1 rest is whole
-
-pub model_definition_complete : CompleteClosed SpellsModel model_definition
-unfolding model_definition
-model_definition_complete m all rest closed h =
-    let val = enclosed_complete SpellsModelInside model_content_inside model_inside_complete m.val h.behind_name rest (to_model m.val h.behind_name rest h.val) in
-    rw (name_read m.name all h.behind_name h.name, val) refl
-
-pub model_definition_shorter : (m : ModelDefinition) (all rest : List Placed) → SpellsModel m all rest → length rest ≤ length all
-model_definition_shorter m all rest h =
-    let val = parentheses_begin (SpellsModelInside m.val) (model_inside_shorter m.val) h.behind_name rest (to_model m.val h.behind_name rest h.val) in
-    omega (arith, (name_begins m.name all h.behind_name h.name).1, val.1)

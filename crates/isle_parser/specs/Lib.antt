@@ -12,3 +12,8 @@ pub mod ReadPatterns
 pub mod ReadExpressions
 pub mod ReadRules
 pub mod RuleParts
+pub mod SpecWords
+pub mod ReadSpecs
+pub mod ReadSpecDefinitions
+pub mod SpecParts
+pub mod SpecHeads

@@ -4,7 +4,7 @@ use Rattle.std.specs.List.{AllByRecursion}
 use Rattle.isle_base.specs.declared.lexer.Pos.{Pos}
 use Rattle.isle_base.specs.Place.{in_file, unknown}
 use Rattle.isle_base.specs.Token.{Lexeme}
-use Rattle.isle_ast.specs.Tree.{Name, TypeModel, unspecified_model, auto_model, int_model, bool_model, unit_model, bit_vector_model, struct_model, named_model, ModelFieldRow, no_model_field, model_field, NamedField, IndexedField, FieldList, unit_fields, struct_fields, tuple_fields, EnumVariant, TypeContent, primitive_type, enum_type, struct_type, AttributeTarget, term_target, rule_target, AttributeKind, chain_kind, priority_kind, tag_kind, TermSignature, ModelContent, type_model, PatternNode, var_pattern, bind_pattern, bool_pattern, int_pattern, constant_pattern, term_pattern, wildcard_pattern, and_pattern, macro_arg_pattern, PatternRow, no_pattern, more_pattern, Expression, term_expression, var_expression, bool_expression, int_expression, constant_expression, let_expression, ExpressionRow, no_expression, more_expression, LetRow, no_let, more_let, Condition, RuleDefinition, ExtractorDefinition, ExternDefinition, extern_extractor, extern_constructor, extern_const, Definition, type_def, rule, extractor, decl, attr, model, form, instantiation, external, converter}
+use Rattle.isle_ast.specs.Tree.{Name, TypeModel, unspecified_model, auto_model, int_model, bool_model, unit_model, bit_vector_model, struct_model, named_model, ModelFieldRow, no_model_field, model_field, NamedField, IndexedField, FieldList, unit_fields, struct_fields, tuple_fields, EnumVariant, TypeContent, primitive_type, enum_type, struct_type, AttributeTarget, term_target, rule_target, AttributeKind, chain_kind, priority_kind, tag_kind, ModifiedState, SpecDefinition, SpecMacroDefinition, StateDefinition, TermSignature, ModelContent, type_model, const_model, SpecNode, int_spec, bit_vector_spec, bool_spec, var_spec, as_spec, field_spec, discriminator_spec, op_spec, match_spec, let_spec, with_spec, macro_spec, expand_spec, pair_spec, enum_spec, struct_spec, SpecRow, no_spec, more_spec, ArmRow, no_arm, more_arm, SpecLetRow, no_spec_let, more_spec_let, FieldInitRow, no_field_init, more_field_init, PatternNode, var_pattern, bind_pattern, bool_pattern, int_pattern, constant_pattern, term_pattern, wildcard_pattern, and_pattern, macro_arg_pattern, PatternRow, no_pattern, more_pattern, Expression, term_expression, var_expression, bool_expression, int_expression, constant_expression, let_expression, ExpressionRow, no_expression, more_expression, LetRow, no_let, more_let, Condition, RuleDefinition, ExtractorDefinition, ExternDefinition, extern_extractor, extern_constructor, extern_const, Definition, type_def, rule, extractor, decl, attr, spec, spec_macro, model, state, form, instantiation, external, converter}
 
 abbrev pub OfName : (Pos → Type 0) → Name → Type 0
 OfName P n = P n.pos
@@ -63,8 +63,59 @@ abbrev pub OfOptionalName : (Pos → Type 0) → Option Name → Type 0
 OfOptionalName P None = Unit {0}
 OfOptionalName P (Some name) = OfName P name
 
+abbrev mutual
+  pub OfSpec : (Pos → Type 0) → SpecNode → Type 0
+  OfSpec P (int_spec val pos) = P pos
+  OfSpec P (bit_vector_spec val width pos) = P pos
+  OfSpec P (bool_spec val pos) = P pos
+  OfSpec P (var_spec var pos) = P pos × OfName P var
+  OfSpec P (as_spec x ty pos) = P pos × OfSpec P x × OfModel P ty
+  OfSpec P (field_spec field x pos) = P pos × OfName P field × OfSpec P x
+  OfSpec P (discriminator_spec variant x pos) = P pos × OfName P variant × OfSpec P x
+  OfSpec P (op_spec operator args pos) = P pos × OfSpecs P args
+  OfSpec P (match_spec x arms pos) = P pos × OfSpec P x × OfArms P arms
+  OfSpec P (let_spec defs body pos) = P pos × OfSpecLets P defs × OfSpec P body
+  OfSpec P (with_spec decls body pos) = P pos × OfNames P decls × OfSpec P body
+  OfSpec P (macro_spec params body pos) = P pos × OfNames P params × OfSpec P body
+  OfSpec P (expand_spec name args pos) = P pos × OfName P name × OfSpecs P args
+  OfSpec P (pair_spec l r pos) = P pos × OfSpec P l × OfSpec P r
+  OfSpec P (enum_spec name variant args pos) = P pos × OfName P name × OfName P variant × OfSpecs P args
+  OfSpec P (struct_spec fields pos) = P pos × OfFieldInits P fields
+
+  pub OfSpecs : (Pos → Type 0) → SpecRow → Type 0
+  OfSpecs P no_spec = Unit {0}
+  OfSpecs P (more_spec x xs) = OfSpec P x × OfSpecs P xs
+
+  pub OfArms : (Pos → Type 0) → ArmRow → Type 0
+  OfArms P no_arm = Unit {0}
+  OfArms P (more_arm variant args body pos arms) =
+      P pos × OfName P variant × OfNames P args × OfSpec P body × OfArms P arms
+
+  pub OfSpecLets : (Pos → Type 0) → SpecLetRow → Type 0
+  OfSpecLets P no_spec_let = Unit {0}
+  OfSpecLets P (more_spec_let name value lets) = OfName P name × OfSpec P value × OfSpecLets P lets
+
+  pub OfFieldInits : (Pos → Type 0) → FieldInitRow → Type 0
+  OfFieldInits P no_field_init = Unit {0}
+  OfFieldInits P (more_field_init name value pos fields) = P pos × OfName P name × OfSpec P value × OfFieldInits P fields
+
 abbrev pub OfModelContent : (Pos → Type 0) → ModelContent → Type 0
 OfModelContent P (type_model ty) = OfModel P ty
+OfModelContent P (const_model value) = OfSpec P value
+
+abbrev pub OfModified : (Pos → Type 0) → ModifiedState → Type 0
+OfModified P m = OfName P m.state × OfOptionalName P m.cond
+
+abbrev pub OfSpecDefinition : (Pos → Type 0) → SpecDefinition → Type 0
+OfSpecDefinition P s =
+    P s.pos × OfName P s.term × OfNames P s.args × AllByRecursion (OfSpec P) s.provides
+    × AllByRecursion (OfSpec P) s.requires_ × AllByRecursion (OfSpec P) s.matches × AllByRecursion (OfModified P) s.modifies
+
+abbrev pub OfSpecMacro : (Pos → Type 0) → SpecMacroDefinition → Type 0
+OfSpecMacro P m = P m.pos × OfName P m.name × OfNames P m.params × OfSpec P m.body
+
+abbrev pub OfState : (Pos → Type 0) → StateDefinition → Type 0
+OfState P s = P s.pos × OfName P s.name × OfModel P s.ty × OfSpec P s.default
 
 abbrev pub OfExtern : (Pos → Type 0) → ExternDefinition → Type 0
 OfExtern P (extern_extractor term func pos infallible) = P pos × OfName P term × OfName P func
@@ -122,7 +173,10 @@ EachPosition P (rule r) = OfRule P r
 EachPosition P (extractor e) = OfExtractor P e
 EachPosition P (decl d) = P d.pos × OfName P d.term × OfNames P d.arg_tys × OfName P d.ret_ty
 EachPosition P (attr a) = P a.pos × OfTarget P a.target × AllByRecursion (OfKind P) a.kinds
+EachPosition P (spec s) = OfSpecDefinition P s
+EachPosition P (spec_macro m) = OfSpecMacro P m
 EachPosition P (model m) = OfName P m.name × OfModelContent P m.val
+EachPosition P (state s) = OfState P s
 EachPosition P (form f) = P f.pos × OfName P f.name × AllByRecursion (OfSignature P) f.signatures
 EachPosition P (instantiation i) =
     P i.pos × OfName P i.term × OfOptionalName P i.form × AllByRecursion (OfSignature P) i.signatures × OfNames P i.tags

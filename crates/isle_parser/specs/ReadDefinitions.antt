@@ -1,11 +1,12 @@
 -- Reading of definitions.
 use Rattle.std.specs.Prelude.{ℕ, List, Some, None, if◌then◌else◌, codes}
 use Rattle.std.specs.Str.{bytes_eq}
-use Rattle.isle_ast.specs.Tree.{Declaration, Conversion, Definition, type_def, rule, extractor, decl, attr, model, form, instantiation, external, converter}
+use Rattle.isle_ast.specs.Tree.{Declaration, Conversion, Definition, type_def, rule, extractor, decl, attr, spec, spec_macro, model, state, form, instantiation, external, converter}
 use Rattle.isle_parser.specs.Reading.{Reader, ◌>>=◌, text, flag, pos_ahead, ends, in_parentheses, many}
 use Rattle.isle_parser.specs.ReadNames.{name, names}
-use Rattle.isle_parser.specs.ReadModels.{form_definition, instantiation_of_term, model_definition}
+use Rattle.isle_parser.specs.ReadModels.{form_definition, instantiation_of_term}
 use Rattle.isle_parser.specs.ReadRules.{rule_definition, extractor_definition}
+use Rattle.isle_parser.specs.ReadSpecDefinitions.{model_definition, spec_definition, spec_macro_definition, state_definition}
 use Rattle.isle_parser.specs.ReadTerms.{attribute, extern_definition}
 use Rattle.isle_parser.specs.ReadTypes.{type_definition}
 
@@ -49,14 +50,17 @@ behind word all =
     if bytes_eq word (codes "type") then (type_definition all >>= λ t. Some (type_def t.0, t.1))
     else (if bytes_eq word (codes "decl") then (declaration all >>= λ d. Some (decl d.0, d.1))
     else (if bytes_eq word (codes "attr") then (attribute all >>= λ a. Some (attr a.0, a.1))
+    else (if bytes_eq word (codes "spec") then (spec_definition all >>= λ s. Some (spec s.0, s.1))
+    else (if bytes_eq word (codes "macro") then (spec_macro_definition all >>= λ m. Some (spec_macro m.0, m.1))
     else (if bytes_eq word (codes "model") then (model_definition all >>= λ m. Some (model m.0, m.1))
+    else (if bytes_eq word (codes "state") then (state_definition all >>= λ s. Some (state s.0, s.1))
     else (if bytes_eq word (codes "form") then (form_definition all >>= λ f. Some (form f.0, f.1))
     else (if bytes_eq word (codes "instantiate") then (instantiation_of_term all >>= λ i. Some (instantiation i.0, i.1))
     else (if bytes_eq word (codes "rule") then (rule_definition all >>= λ r. Some (rule r.0, r.1))
     else (if bytes_eq word (codes "extractor") then (extractor_definition all >>= λ e. Some (extractor e.0, e.1))
     else (if bytes_eq word (codes "extern") then (extern_definition all >>= λ e. Some (external e.0, e.1))
     else (if bytes_eq word (codes "convert") then (conversion all >>= λ c. Some (converter c.0, c.1))
-    else None)))))))))
+    else None))))))))))))
 
 -- a keyword, and what stands behind it
 unfoldable pub keyword_form : Reader Definition

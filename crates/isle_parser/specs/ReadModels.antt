@@ -1,10 +1,10 @@
 -- Reading of the models of types, and of what is made of them: what stands behind the keywords
--- `model`, `form` and `instantiate`.
+-- `form` and `instantiate`.
 use Rattle.std.specs.Prelude.{ℕ, zero, suc, ◌^◌, ℤ, pos, negsuc, List, [], ◌∷◌, length, Option, Some, None, nat_lt, if◌then◌else◌, codes}
 use Rattle.std.specs.Str.{bytes_eq}
 use Rattle.isle_base.specs.Place.{Placed}
 use Rattle.isle_base.specs.Token.{Tok, lparen, rparen, symbol, integer, at_sign, is_int}
-use Rattle.isle_ast.specs.Tree.{Name, TypeModel, unspecified_model, auto_model, int_model, bool_model, unit_model, bit_vector_model, struct_model, named_model, ModelFieldRow, no_model_field, model_field, TermSignature, FormDefinition, TermInstantiation, ModelContent, type_model, ModelDefinition}
+use Rattle.isle_ast.specs.Tree.{Name, TypeModel, unspecified_model, auto_model, int_model, bool_model, unit_model, bit_vector_model, struct_model, named_model, ModelFieldRow, no_model_field, model_field, TermSignature, FormDefinition, TermInstantiation}
 use Rattle.isle_parser.specs.Reading.{Reader, ◌>>=◌, is_lparen, is_ahead, expect, text, token_ahead, flag, pos_ahead, closes, in_parentheses, many}
 use Rattle.isle_parser.specs.ReadNames.{name}
 
@@ -154,14 +154,3 @@ instantiation_of_term all = do
   if is_ahead is_lparen term.1
       then (signatures term.1 >>= λ gs. Some (record { term = term.0; form = None; signatures = gs.0; tags = []; pos = pos_ahead all }, gs.1))
       else (name term.1 >>= λ f. many closes tag f.1 >>= λ ts. Some (record { term = term.0; form = Some f.0; signatures = []; tags = ts.0; pos = pos_ahead all }, ts.1))
-
-unfoldable pub model_content_inside : Reader ModelContent
-model_content_inside all = do
-  word ← flag (codes "type") all
-  if word.0 then (model_type word.1 >>= λ ty. Some (type_model ty.0, ty.1)) else None
-
-unfoldable pub model_definition : Reader ModelDefinition
-model_definition all = do
-  n ← name all
-  val ← in_parentheses model_content_inside n.1
-  Some (record { name = n.0; val = val.0 }, val.1)

@@ -1,12 +1,12 @@
 -- Reading of the definitions that are made of spec expressions: what stands behind the keywords `spec`,
--- `macro` and `state`.
-use Rattle.std.specs.Prelude.{List, Option, Some, None, if◌then◌else◌, codes}
+-- `macro`, `state` and `model`.
+use Rattle.std.specs.Prelude.{ℕ, List, Option, Some, None, if◌then◌else◌, codes}
 use Rattle.std.specs.Str.{bytes_eq}
 use Rattle.isle_base.specs.Token.{is_symbol}
 use Rattle.isle_ast.specs.SpecDefinitionGrammar.{SpecClause, provide_clause, require_clause, match_clause, modifies_clause, provided, required, matched, modified}
-use Rattle.isle_ast.specs.Tree.{Name, SpecNode, ModifiedState, SpecDefinition, SpecMacroDefinition, StateDefinition}
+use Rattle.isle_ast.specs.Tree.{Name, SpecNode, ModelContent, type_model, const_model, ModelDefinition, ModifiedState, SpecDefinition, SpecMacroDefinition, StateDefinition}
 use Rattle.isle_parser.specs.Reading.{Reader, ◌>>=◌, is_ahead, text, flag, pos_ahead, closes, in_parentheses, many}
-use Rattle.isle_parser.specs.ReadModels.{tagged_type}
+use Rattle.isle_parser.specs.ReadModels.{model_type, tagged_type}
 use Rattle.isle_parser.specs.ReadNames.{name}
 use Rattle.isle_parser.specs.ReadRules.{head_inside}
 use Rattle.isle_parser.specs.ReadSpecs.{spec_expression}
@@ -38,6 +38,21 @@ clause_inside all = do
 
 unfoldable pub clause : Reader SpecClause
 clause = in_parentheses clause_inside
+
+-- what clauses say, joined by kind
+pub record Joined : Type 0 where
+  pub provides : List SpecNode
+  pub requires_ : List SpecNode
+  pub matches : List SpecNode
+  pub modifies : List ModifiedState
+
+abbrev pub joined : List SpecClause → Joined
+joined clauses =
+    record { provides = provided clauses; requires_ = required clauses; matches = matched clauses; modifies = modified clauses }
+
+-- clauses, joined
+abbrev pub joined_clauses : Reader Joined
+joined_clauses all = many closes clause all >>= λ clauses. Some (joined clauses.0, clauses.1)
 
 unfoldable pub spec_definition : Reader SpecDefinition
 spec_definition all = do
@@ -74,3 +89,21 @@ state_definition all = do
   ty ← tagged_type (codes "type") n.1
   default ← in_parentheses default_inside ty.1
   Some (record { name = n.0; ty = ty.0; default = default.0; pos = pos_ahead all }, default.1)
+
+-- a model of a type that is a spec expression
+unfoldable pub const_inside : Reader ModelContent
+const_inside all = do
+  word ← flag (codes "const") all
+  if word.0 then (spec_expression word.1 >>= λ x. Some (const_model x.0, x.1)) else None
+
+-- `type` and a model, or `const` and a spec expression
+unfoldable pub model_content_inside : Reader ModelContent
+model_content_inside all = do
+  word ← flag (codes "type") all
+  if word.0 then (model_type word.1 >>= λ ty. Some (type_model ty.0, ty.1)) else const_inside word.1
+
+unfoldable pub model_definition : Reader ModelDefinition
+model_definition all = do
+  n ← name all
+  val ← in_parentheses model_content_inside n.1
+  Some (record { name = n.0; val = val.0 }, val.1)

@@ -27,6 +27,10 @@ mod models;
 mod names;
 mod patterns;
 mod rules;
+mod spec_defs;
+mod spec_operators;
+mod spec_words;
+mod specs;
 mod terms;
 mod types;
 
@@ -38,8 +42,8 @@ use std::alloc::{AllocError, AllocFailed, Global};
 /// Parse the top-level ISLE definitions and return their AST.
 ///
 /// It reads what the lexer has still to give, its lookahead first. The grammar is the one of the ISLE
-/// language reference, for the definitions `type`, `rule`, `extractor`, `decl`, `attr`, `model`, `form`,
-/// `instantiate`, `extern` and `convert`. A pragma is refused, whatever its name. The list that it answers
+/// language reference, for the definitions `type`, `rule`, `extractor`, `decl`, `attr`, `spec`, `macro`,
+/// `state`, `model`, `form`, `instantiate`, `extern` and `convert`. A pragma is refused, whatever its name. The list that it answers
 /// is the only one that the tokens spell. No pattern in it is or holds the argument of a macro. Each
 /// position in it is a byte offset in the lexer's text, with the number of the lexer's file: the first
 /// byte of a token, and never of the first one.

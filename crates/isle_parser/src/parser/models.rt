@@ -4,7 +4,8 @@ ghost use Rattle.std.specs.Prelude.{◌≡◌, map, option_map};
 ghost use Rattle.isle_ast.specs.Tree.{Name, TypeModel};
 ghost use Rattle.isle_ast.specs.TreeView.{form_of, instantiation_of, model_content_of, model_definition_of, name_of, names_of, signature_of, signatures_of, type_model_of};
 ghost use Rattle.isle_parser.specs.Answers.{Gives, IsPlace, source, tokens};
-ghost use Rattle.isle_parser.specs.ReadModels.{form_definition, instantiation_of_term, model_content_inside, model_definition, model_field_inside, model_ahead, model_inside, model_type, model_word, signature, signature_inside, signatures, tag, tag_inside, tagged_inside, tagged_one_inside, tagged_type, tagged_types, width};
+ghost use Rattle.isle_parser.specs.ReadModels.{form_definition, instantiation_of_term, model_field_inside, model_ahead, model_inside, model_type, model_word, signature, signature_inside, signatures, tag, tag_inside, tagged_inside, tagged_one_inside, tagged_type, tagged_types, width};
+ghost use Rattle.isle_parser.specs.ReadSpecDefinitions.{model_content_inside, model_definition};
 ghost use Rattle.isle_parser.specs.Reading.{closes, in_parentheses, many};
 
 use crate::parser::{Parser, Stop};
@@ -15,7 +16,7 @@ use isle_base::lexer::{Pos, Token};
 use std::alloc::Global;
 
 impl<'src> Parser<'src> {
-    #[tactic(auto, unfolding(crate::specs::ReadModels::model_definition, crate::specs::Reading::in_parentheses))]
+    #[tactic(auto, unfolding(crate::specs::ReadSpecDefinitions::model_definition, crate::specs::Reading::in_parentheses))]
     pub(super) fn parse_model(&mut self, alloc: Global) -> Result<Model, Stop>
         ensures same { source self.new ≡ source self.old }
         ensures gives { Gives model_definition_of (model_definition (tokens self.old)) result self.new }
@@ -29,7 +30,7 @@ impl<'src> Parser<'src> {
     }
 
     // What a model is given by. The model's name stood at this place.
-    #[tactic(auto, unfolding(crate::specs::ReadModels::model_content_inside))]
+    #[tactic(auto, unfolding(crate::specs::ReadSpecDefinitions::model_content_inside, crate::specs::ReadSpecDefinitions::const_inside))]
     fn parse_model_value(&mut self, alloc: Global, place: Pos) -> Result<ModelValue, Stop>
         requires { IsPlace (source self.old) place }
         ensures same { source self.new ≡ source self.old }
@@ -37,6 +38,9 @@ impl<'src> Parser<'src> {
     {
         if self.eat_sym_str(alloc, "type")? {
             return Ok(ModelValue::TypeValue(self.parse_model_type(alloc)?));
+        }
+        if self.eat_sym_str(alloc, "const")? {
+            return Ok(ModelValue::ConstValue(self.parse_spec_expr(alloc)?));
         }
         Err(self.refuse_at(
             place,
@@ -46,7 +50,7 @@ impl<'src> Parser<'src> {
 
     #[cycle(model_type)]
     #[tactic(auto, using(crate::proofs::ModelWords::model_type_is), unfolding(crate::specs::ReadModels::model_step, crate::specs::Reading::in_parentheses))]
-    fn parse_model_type(&mut self, alloc: Global) -> Result<ModelType, Stop>
+    pub(super) fn parse_model_type(&mut self, alloc: Global) -> Result<ModelType, Stop>
         ensures same { source self.new ≡ source self.old }
         ensures gives { Gives type_model_of (model_type (tokens self.old)) result self.new }
     {
@@ -250,7 +254,7 @@ impl<'src> Parser<'src> {
 
     // A model behind this word, in parentheses.
     #[tactic(auto, unfolding(crate::specs::ReadModels::tagged_type, crate::specs::ReadModels::tagged_one_inside, crate::specs::Reading::in_parentheses))]
-    fn parse_tagged_type(&mut self, alloc: Global, tag: &str) -> Result<ModelType, Stop>
+    pub(super) fn parse_tagged_type(&mut self, alloc: Global, tag: &str) -> Result<ModelType, Stop>
         ensures same { source self.new ≡ source self.old }
         ensures gives { Gives type_model_of (tagged_type tag.now (tokens self.old)) result self.new }
     {

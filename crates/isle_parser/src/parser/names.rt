@@ -15,7 +15,7 @@ use std::alloc::{AllocError, Global};
 
 impl<'src> Parser<'src> {
     // Refuses the text of the symbol at this place where it isn't an identifier.
-    fn check_identifier(&self, alloc: Global, place: Pos, text: &str) -> Result<(), Stop>
+    pub(super) fn check_identifier(&self, alloc: Global, place: Pos, text: &str) -> Result<(), Stop>
         requires { IsPlace (source self.now) place }
         ensures { Judges (is_identifier text.now) (source self.now) result }
     {
