@@ -116,7 +116,7 @@ keyword_none text a b c d f g h =
 no_keyword : {A : Type 0} (test : List ℕ → Option A) (text : List ℕ) (x : A) → test text ≡ Some x → test (codes "switch") ≡ None → test (codes "let") ≡ None → test (codes "with") ≡ None → test (codes "match") ≡ None → test (codes "struct") ≡ None → test (codes "macro") ≡ None → test (codes "as") ≡ None → keyword_head text ≡ None
 no_keyword {A} test text x e a b c d f g h =
     let differs : (word : List ℕ) → test word ≡ None → text ≡ word → ⊥ = λ word none is.
-      let clash : None ≡ Some x = sym none ∙ sym (ap test is) ∙ e in cc in
+    let clash : None ≡ Some x = sym none ∙ sym (ap test is) ∙ e in cc in
     keyword_none text (differs (codes "switch") a) (differs (codes "let") b) (differs (codes "with") c) (differs (codes "match") d) (differs (codes "struct") f) (differs (codes "macro") g) (differs (codes "as") h)
 
 named : (make : List ℕ → SpecHead) (name : List ℕ) → is_identifier name ≡ true → named_head make name ≡ Some (make name)

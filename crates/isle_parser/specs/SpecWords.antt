@@ -179,8 +179,8 @@ is_numeral radix (byte ∷ text) = are_digits radix (byte ∷ text)
 unfoldable pub bit_vector_of : (radix bits : ℕ) → List ℕ → Option (ℕ × ℕ)
 bit_vector_of radix bits digits =
     if is_numeral radix (without_leading_plus digits)
-        && nat_lt (digits_value radix (without_leading_plus digits)) (2 ^ 128)
-        && nat_lt (length digits * bits) (2 ^ 64)
+    && nat_lt (digits_value radix (without_leading_plus digits)) (2 ^ 128)
+    && nat_lt (length digits * bits) (2 ^ 64)
     then Some (digits_value radix (without_leading_plus digits), length digits * bits)
     else None
 

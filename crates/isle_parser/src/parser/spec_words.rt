@@ -6,7 +6,7 @@ ghost use Rattle.isle_ast.specs.SpecView.{spec_of};
 ghost use Rattle.isle_parser.specs.Answers.{Gives, IsPlace, IsRefusal, source, tokens};
 ghost use Rattle.isle_parser.specs.ReadSpecs.{spec_word};
 ghost use Rattle.isle_parser.specs.SpecHeads.{Finds, head_view};
-ghost use Rattle.isle_parser.specs.SpecWords.{around, before_last, begins_bit_vector, behind_mark, bit_vector_at, bit_vector_of, discriminator_or_other, expansion_or_other, field_or_variant, head_of, hexadecimal_or_plain, keyword_head, operator_of, operator_or_name, other_head, plain_word, spec_head, variant_of, word_of};
+ghost use Rattle.isle_parser.specs.SpecWords.{around, before_last, begins_bit_vector, behind_mark, bit_vector_of, expansion_or_other, field_or_variant, head_of, hexadecimal_or_plain, keyword_head, operator_of, operator_or_name, other_head, plain_word, spec_head, variant_of, word_of};
 
 use crate::parser::spec_operators::operator_of;
 use crate::parser::{Parser, Stop};
@@ -89,7 +89,13 @@ impl<'src> Parser<'src> {
 
     // The same of a word that does not end with `?`.
     #[tactic(auto, unfolding(crate::specs::SpecWords::expansion_or_other, crate::specs::SpecWords::named_head))]
-    fn expansion_or_other(&self, alloc: Global, start: Pos, place: Pos, word: &str) -> Result<Head, Stop>
+    fn expansion_or_other(
+        &self,
+        alloc: Global,
+        start: Pos,
+        place: Pos,
+        word: &str,
+    ) -> Result<Head, Stop>
         requires start { IsPlace (source self.now) start }
         requires place { IsPlace (source self.now) place }
         ensures { Finds head_view (expansion_or_other word.now (before_last 33 word.now)) (source self.now) result }
@@ -102,7 +108,13 @@ impl<'src> Parser<'src> {
 
     // The same of a word that does not end with `!` either.
     #[tactic(auto, unfolding(crate::specs::SpecWords::operator_or_name))]
-    fn operator_or_name(&self, alloc: Global, start: Pos, place: Pos, word: &str) -> Result<Head, Stop>
+    fn operator_or_name(
+        &self,
+        alloc: Global,
+        start: Pos,
+        place: Pos,
+        word: &str,
+    ) -> Result<Head, Stop>
         requires start { IsPlace (source self.now) start }
         requires place { IsPlace (source self.now) place }
         ensures { Finds head_view (operator_or_name word.now (operator_of word.now)) (source self.now) result }
@@ -115,7 +127,13 @@ impl<'src> Parser<'src> {
 
     // The same of a word that is no operator either.
     #[tactic(auto, unfolding(crate::specs::SpecWords::field_or_variant, crate::specs::SpecWords::named_head))]
-    fn field_or_variant(&self, alloc: Global, start: Pos, place: Pos, word: &str) -> Result<Head, Stop>
+    fn field_or_variant(
+        &self,
+        alloc: Global,
+        start: Pos,
+        place: Pos,
+        word: &str,
+    ) -> Result<Head, Stop>
         requires start { IsPlace (source self.now) start }
         requires place { IsPlace (source self.now) place }
         ensures { Finds head_view (field_or_variant word.now (behind_mark (codes ":") word.now)) (source self.now) result }
@@ -191,7 +209,13 @@ impl<'src> Parser<'src> {
 
     // The same of a word that does not begin with `#b`.
     #[tactic(auto, unfolding(crate::specs::SpecWords::hexadecimal_or_plain, crate::specs::SpecWords::bit_vector_at))]
-    fn hexadecimal_or_plain(&self, alloc: Global, place: Pos, pos: Pos, word: String) -> Result<SpecExpr, Stop>
+    fn hexadecimal_or_plain(
+        &self,
+        alloc: Global,
+        place: Pos,
+        pos: Pos,
+        word: String,
+    ) -> Result<SpecExpr, Stop>
         requires { IsPlace (source self.now) place }
         ensures { Finds spec_of (hexadecimal_or_plain pos (string_bytes word) (behind_mark (codes "#x") (string_bytes word))) (source self.now) result }
     {
@@ -209,7 +233,13 @@ impl<'src> Parser<'src> {
 
     // `true`, `false` or a variable.
     #[tactic(auto, unfolding(crate::specs::SpecWords::plain_word))]
-    fn plain_word(&self, alloc: Global, place: Pos, pos: Pos, word: String) -> Result<SpecExpr, Stop>
+    fn plain_word(
+        &self,
+        alloc: Global,
+        place: Pos,
+        pos: Pos,
+        word: String,
+    ) -> Result<SpecExpr, Stop>
         requires { IsPlace (source self.now) place }
         ensures { Finds spec_of (plain_word pos (string_bytes word)) (source self.now) result }
     {
