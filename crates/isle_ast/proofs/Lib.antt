@@ -27,3 +27,4 @@ pub mod SpeltWritableRules
 pub mod SpeltWritable
 pub mod NoMacroArgs
 pub mod SpecLets
+pub mod Templates
