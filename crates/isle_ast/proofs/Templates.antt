@@ -1,13 +1,15 @@
 -- Templates of rows, patterns put into rows, and the law that joins both: a template with its
 -- arguments put in is the pattern with its places replaced.
-use Rattle.std.proofs.Common.{◌≡◌, ℕ, ◌+◌, ◌<◌, ◌≤◌, List, [], ◌∷◌, ◌++◌, length, get_or, take, drop, map, Bool, false, ◌||◌, Option, None, Some, option_map, slice_get, refl, ap, sym, ◌∙◌, rules}
+use Rattle.std.proofs.Common.{◌≡◌, ℕ, ◌+◌, ◌<◌, ◌≤◌, List, [], ◌∷◌, ◌++◌, length, get_or, take, drop, map, Bool, true, false, ◌||◌, nat_le, Option, None, Some, option_map, is_none, slice_get, inl, inr, refl, ap, sym, ◌∙◌, rules}
 use Rattle.std.proofs.lemmas.List.{drop_all, drop_more, take_all, map-append}
-use Rattle.std.proofs.lemmas.Option.{slice_get-map}
+use Rattle.std.proofs.lemmas.Bool.{le-leb, lt-leb}
+use Rattle.std.proofs.lemmas.List.Folds.{list_any-append}
+use Rattle.std.proofs.lemmas.Option.{slice_get-map, slice_get_cases}
 use Rattle.isle_base.specs.declared.lexer.Pos.{Pos}
 use Rattle.isle_ast.specs.declared.ast.Pattern.{Pattern, the_lemmas}
 use Rattle.isle_ast.specs.declared.ast.Pattern.TheVariants.{MacroArg}
 use Rattle.isle_ast.specs.MacroArgs.{has_macro_arg, have_macro_arg}
-use Rattle.isle_ast.specs.Templates.{bound_index, first_index, join, plug, plug_row, put, replace, replace_by, replace_row, replace_row_by}
+use Rattle.isle_ast.specs.Templates.{bound_index, first_index, indices, join, lacks, plug, plug_row, put, replace, replace_by, replace_row, replace_row_by, row_indices}
 use Rattle.isle_ast.specs.Tree.{Name, PatternNode, var_pattern, bind_pattern, bool_pattern, int_pattern, constant_pattern, term_pattern, wildcard_pattern, and_pattern, macro_arg_pattern, PatternRow, no_pattern, more_pattern}
 use Rattle.isle_ast.specs.TreeView.{pattern_of, pattern_row_of, patterns_of}
 
@@ -120,3 +122,42 @@ mutual
   template_row_filled no_pattern names args h = refl
   template_row_filled (more_pattern p ps) names args h =
       λ i. join (template_filled p names args (first_lacks (has_macro_arg p) (have_macro_arg ps) h) i) (template_row_filled ps names args (second_lacks (has_macro_arg p) (have_macro_arg ps) h) i)
+
+pub mapped_none : {A B : Type 0} (f : A → B) (o : Option A) → is_none (option_map f o) ≡ is_none o
+mapped_none f None = refl
+mapped_none f (Some x) = refl
+
+joined_none : (o : Option PatternNode) (row : Option PatternRow) → is_none (join o row) ≡ (is_none o || is_none row)
+joined_none None row = refl
+joined_none (Some p) None = refl
+joined_none (Some p) (Some ps) = refl
+
+or_false : (b : Bool) → (b || false) ≡ b
+or_false true = refl
+or_false false = refl
+
+none_past : (args : List PatternNode) (i : ℕ) → is_none (slice_get args i) ≡ nat_le (length args) i
+none_past args i =
+    elim (slice_get_cases args i).1 [
+      | inl found ↦ ap is_none found.2 ∙ sym (lt-leb (length args) i found.1)
+      | inr past ↦ ap is_none past.1 ∙ sym (le-leb (length args) i past.0)
+    ]
+
+-- patterns can't be put in exactly where one of the indices has none
+mutual
+  pub plug_lacks : (p : PatternNode) (args : List PatternNode) → is_none (plug p args) ≡ lacks args (indices p)
+  plug_lacks (var_pattern var place) args = refl
+  plug_lacks (bind_pattern var subpat place) args = mapped_none (λ p. bind_pattern var p place) (plug subpat args) ∙ plug_lacks subpat args
+  plug_lacks (bool_pattern val place) args = refl
+  plug_lacks (int_pattern val place) args = refl
+  plug_lacks (constant_pattern val place) args = refl
+  plug_lacks (term_pattern term parts place) args = mapped_none (λ ps. term_pattern term ps place) (plug_row parts args) ∙ plug_row_lacks parts args
+  plug_lacks (wildcard_pattern place) args = refl
+  plug_lacks (and_pattern subpats place) args = mapped_none (λ ps. and_pattern ps place) (plug_row subpats args) ∙ plug_row_lacks subpats args
+  plug_lacks (macro_arg_pattern index place) args = none_past args index ∙ sym (or_false (nat_le (length args) index))
+
+  pub plug_row_lacks : (ps : PatternRow) (args : List PatternNode) → is_none (plug_row ps args) ≡ lacks args (row_indices ps)
+  plug_row_lacks no_pattern args = refl
+  plug_row_lacks (more_pattern p ps) args =
+      joined_none (plug p args) (plug_row ps args) ∙ (λ i. plug_lacks p args i || plug_row_lacks ps args i)
+      ∙ sym (list_any-append (λ i. nat_le (length args) i) (indices p) (row_indices ps))

@@ -1,6 +1,7 @@
 -- Macro templates: which places of a pattern the arguments of a macro replace, and what stands there
 -- once patterns are put in for the arguments. A place is a variable `x`, or `x @ _`.
-use Rattle.std.specs.Prelude.{ℕ, ◌+◌, List, [], ◌∷◌, Bool, true, false, Option, None, Some, option_map, slice_get, if◌then◌else◌}
+use Rattle.std.specs.Prelude.{ℕ, ◌+◌, List, [], ◌∷◌, ◌++◌, Bool, true, false, Option, None, Some, option_map, length, slice_get, nat_le, if◌then◌else◌}
+use Rattle.std.specs.List.{list_any}
 use Rattle.std.specs.Str.{bytes_eq}
 use Rattle.isle_base.specs.declared.lexer.Pos.{Pos}
 use Rattle.isle_ast.specs.Tree.{Name, PatternNode, var_pattern, bind_pattern, bool_pattern, int_pattern, constant_pattern, term_pattern, wildcard_pattern, and_pattern, macro_arg_pattern, PatternRow, no_pattern, more_pattern}
@@ -97,3 +98,24 @@ abbrev mutual
   pub plug_row : PatternRow → List PatternNode → Option PatternRow
   plug_row no_pattern args = Some no_pattern
   plug_row (more_pattern p ps) args = join (plug p args) (plug_row ps args)
+
+-- the indices of the arguments of a macro in a pattern, from left to right
+abbrev mutual
+  pub indices : PatternNode → List ℕ
+  indices (var_pattern _ _) = []
+  indices (bind_pattern _ subpat _) = indices subpat
+  indices (bool_pattern _ _) = []
+  indices (int_pattern _ _) = []
+  indices (constant_pattern _ _) = []
+  indices (term_pattern _ args _) = row_indices args
+  indices (wildcard_pattern _) = []
+  indices (and_pattern subpats _) = row_indices subpats
+  indices (macro_arg_pattern index _) = index ∷ []
+
+  pub row_indices : PatternRow → List ℕ
+  row_indices no_pattern = []
+  row_indices (more_pattern p ps) = indices p ++ row_indices ps
+
+-- whether one of the indices has no pattern
+abbrev pub lacks : List PatternNode → List ℕ → Bool
+lacks args is = list_any (λ i. nat_le (length args) i) is

@@ -1,9 +1,9 @@
 //! Macro templates: patterns in which the arguments of a macro stand for variables, and the patterns
 //! that come of them once the arguments are given.
 
-ghost use Rattle.std.specs.Prelude.{◌≡◌, List, IfOk, false, option_map, slice_get};
+ghost use Rattle.std.specs.Prelude.{◌≡◌, List, IfOk, false, is_none, option_map, slice_get};
 ghost use Rattle.isle_ast.specs.MacroArgs.{has_macro_arg};
-ghost use Rattle.isle_ast.specs.Templates.{bound_index, first_index, is_wildcard, plug, plug_row, replace, replace_by, replace_row};
+ghost use Rattle.isle_ast.specs.Templates.{bound_index, first_index, indices, is_wildcard, lacks, plug, plug_row, replace, replace_by, replace_row};
 ghost use Rattle.isle_ast.specs.Tree.{PatternNode, macro_arg_pattern};
 ghost use Rattle.isle_ast.specs.TreeView.{name_of, names_of, pattern_of, pattern_row_of, patterns_of};
 
@@ -23,6 +23,7 @@ impl Pattern {
     ) -> Result<Pattern, AllocError>
         requires { has_macro_arg (pattern_of self.now) ≡ false }
         ensures template { IfOk result (λ made. pattern_of made ≡ replace (pattern_of self.now) (names_of macro_args.now) macro_arg_pattern) }
+        ensures missing { IfOk result (λ made. (args : List PatternNode) → is_none (plug (pattern_of made) args) ≡ lacks args (indices (pattern_of made))) }
         ensures filled { IfOk result (λ made. (args : List PatternNode) → plug (pattern_of made) args ≡ replace_by (pattern_of self.now) (names_of macro_args.now) (λ i _. slice_get args i)) }
     {
         template_of(self, alloc, macro_args)
@@ -37,7 +38,8 @@ impl Pattern {
         alloc: Global,
         macro_args: &[Pattern],
     ) -> Result<Option<Pattern>, AllocError>
-        ensures { IfOk result (λ made. option_map pattern_of made ≡ plug (pattern_of self.now) (patterns_of macro_args.now)) }
+        ensures plugged { IfOk result (λ made. option_map pattern_of made ≡ plug (pattern_of self.now) (patterns_of macro_args.now)) }
+        ensures missing { IfOk result (λ made. is_none made ≡ lacks (patterns_of macro_args.now) (indices (pattern_of self.now))) }
     {
         plugged(self, alloc, macro_args)
     }
