@@ -29,3 +29,4 @@ pub mod NoMacroArgs
 pub mod SpecLets
 pub mod Calls
 pub mod LetHeads
+pub mod Templates

@@ -26,6 +26,7 @@ pub mod SpecGrammar
 pub mod SpecView
 pub mod SpecWritable
 pub mod Spelt
+pub mod Templates
 pub mod TermGrammar
 pub mod Tree
 pub mod TreeView

@@ -10,6 +10,7 @@ mod clone;
 mod compare;
 pub mod grammar;
 pub mod identifier;
+mod macros;
 mod specs;
 mod walks;
 

@@ -15,3 +15,5 @@ mod looks;
 mod parser;
 #[cfg(test)]
 mod printer;
+#[cfg(test)]
+mod templates;
