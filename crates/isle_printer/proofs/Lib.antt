@@ -18,3 +18,8 @@ pub mod NumberAtoms
 pub mod RuleShapeLaw
 pub mod RuleErased
 pub mod RadixTexts
+pub mod ShortLines
+pub mod ShortLinesParts
+pub mod ShortLinesRules
+pub mod ShortLinesSpecs
+pub mod ShortLinesDefinitions

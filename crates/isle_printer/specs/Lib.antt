@@ -10,4 +10,5 @@ pub mod RuleShapes
 pub mod Sexp
 pub mod SexpView
 pub mod Shapes
+pub mod ShortLines
 pub mod SpecShapes

@@ -18,10 +18,12 @@ ghost use Rattle.isle_printer.specs.Layout.{layout};
 ghost use Rattle.isle_printer.specs.Lines.{HasFewestLines, WiderHasNoMoreLines};
 ghost use Rattle.isle_printer.specs.Printed.{IsPrinted, definition_text, printed_text};
 ghost use Rattle.isle_printer.specs.ReadBack.{ReadsBack, TokensOf, unplaced};
+ghost use Rattle.isle_printer.specs.ShortLines.{HasShortLines};
 ghost use Rattle.isle_printer.specs.Sexp.{Sexp};
 ghost use Rattle.isle_printer.specs.declared.printer.sexpr.PrintFault.TheVariants.{MacroArg};
 ghost use Rattle.isle_ast.specs.Erased.{erase};
 ghost use Rattle.isle_ast.specs.Tree.{Definition};
+ghost use Rattle.isle_ast.specs.Writable.{AreWritable};
 ghost use Rattle.isle_base.specs.Lexing.{lexes};
 ghost use Rattle.isle_base.specs.Place.{nowhere, placed};
 ghost use Rattle.isle_base.specs.Token.{Tok, Lexeme, end};
@@ -105,6 +107,13 @@ pub fn prints_read_back()
         → IsPrinted width ds text → ReadsBack ds text }
     ensures erased { (width : ℕ) (ds : List Definition) (text : List ℕ)
         → IsPrinted width ds text ↔ IsPrinted width (erase ds) text }
+{}
+
+/// A law, which runs no code: where a list stands whole on a line of the print of writable definitions, at a
+/// width from 1, the line is no longer than the width, its indentation and one byte for each empty list on it.
+pub fn prints_have_short_lines()
+    ensures { (width : ℕ) (ds : List Definition) (text : List ℕ) → 1 ≤ width → AreWritable ds
+        → IsPrinted width ds text → HasShortLines width text }
 {}
 
 /// Appends the printed text of definitions.

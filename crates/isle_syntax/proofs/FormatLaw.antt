@@ -12,7 +12,10 @@ use Rattle.isle_ast.specs.Spelt.{Spells, IsSpelt}
 use Rattle.isle_ast.specs.Tree.{Definition}
 use Rattle.isle_ast.proofs.Erasing.{text_erased}
 use Rattle.isle_printer.specs.Printed.{IsPrinted}
+use Rattle.isle_ast.proofs.SpeltWritable.{spelt_is_writable}
+use Rattle.isle_printer.proofs.Printing.{IsPrinted-text, WiderHasNoMoreLines-from_text}
 use Rattle.isle_printer.proofs.PrintLaw.{IsPrinted-ReadsBack, IsPrinted-erased}
+use Rattle.isle_printer.proofs.ShortLinesDefinitions.{IsPrinted-HasShortLines}
 use Rattle.isle_parser.specs.Parsed.{RefusesText, RefusesIn}
 use Rattle.isle_base.specs.declared.lexer.Fault.{Fault}
 use Rattle.isle_base.specs.declared.lexer.Fault.TheVariants as faults
@@ -54,6 +57,8 @@ IsFormatted-from width text answer tree s is =
         λ print. IsSpelt-one answer (erase ds) tree (IsPrinted-IsSpelt width place other answer ds t print) back,
         λ same. (IsPrinted-erased width ds answer).1 (subst (λ d. IsPrinted width d answer) (sym same) is),
       );
+      short_lines = λ some. IsPrinted-HasShortLines width tree answer some (spelt_is_writable tree (placed nowhere s.0) s.2) is;
+      fewer_lines = WiderHasNoMoreLines-from_text width tree answer (IsPrinted-text width tree answer is);
     }
 
 pub IsRefused-from : (text : List ℕ) → ((ds : List Definition) → IsSpelt nowhere text ds → ⊥) → IsRefused text

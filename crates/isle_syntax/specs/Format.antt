@@ -1,5 +1,5 @@
 -- What `format` answers.
-use Rattle.std.specs.Prelude.{◌≡◌, ◌↔◌, ℕ, List, length, Result, Ok, Err, string_bytes}
+use Rattle.std.specs.Prelude.{◌≡◌, ◌↔◌, ℕ, ◌≤◌, List, length, Result, Ok, Err, string_bytes}
 use Rattle.std.specs.declared.string.String.{String}
 use Rattle.std.specs.declared.alloc.Global.{Global}
 use Rattle.isle_base.specs.declared.lexer.Fault.{Fault}
@@ -10,7 +10,9 @@ use Rattle.isle_ast.specs.Erased.{erase}
 use Rattle.isle_ast.specs.Spelt.{IsSpelt}
 use Rattle.isle_ast.specs.Tree.{Definition}
 use Rattle.isle_parser.specs.Parsed.{RefusesIn}
+use Rattle.isle_printer.specs.Lines.{WiderHasNoMoreLines}
 use Rattle.isle_printer.specs.Printed.{IsPrinted}
+use Rattle.isle_printer.specs.ShortLines.{HasShortLines}
 
 -- The answer is the print, at this width, of the one tree that the text spells. Trees are compared
 -- erased; a text spells a tree whatever positions its tokens are given.
@@ -24,6 +26,10 @@ pub record IsFormatted (width : ℕ) (text answer : List ℕ) : Type 0 where
   pub read_back : IsSpelt nowhere answer tree
   -- the print of another text's tree is the answer exactly if that tree is this one
   pub equal_prints : (place : ℕ → Pos) (other : List ℕ) (ds : List Definition) → IsSpelt place other ds → IsPrinted width ds answer ↔ (erase ds ≡ tree)
+  -- a line on which a list stands whole is within the width, its indentation and its empty lists apart
+  pub short_lines : 1 ≤ width → HasShortLines width answer
+  -- at every greater width the print of the tree has no more lines
+  pub fewer_lines : WiderHasNoMoreLines width tree answer
 
 -- no tree is spelt by the text
 abbrev pub IsRefused : List ℕ → Type 0
