@@ -13,3 +13,5 @@ mod lexer;
 mod parser;
 #[cfg(test)]
 mod printer;
+#[cfg(test)]
+mod walks;
