@@ -17,3 +17,4 @@ mod parser;
 mod printer;
 #[cfg(test)]
 mod templates;
+mod walks;
