@@ -4,10 +4,9 @@ use Rattle.std.proofs.Common.{◌≡◌, ℕ, ◌+◌, ◌<◌, ◌≤◌, List,
 use Rattle.std.proofs.lemmas.List.{drop_all, drop_more, take_all, map-append}
 use Rattle.std.proofs.lemmas.Bool.{le-leb, lt-leb}
 use Rattle.std.proofs.lemmas.List.Folds.{list_any-append}
-use Rattle.std.proofs.lemmas.Option.{slice_get-map, slice_get_cases}
+use Rattle.std.proofs.lemmas.Option.{slice_get_cases}
 use Rattle.isle_base.specs.declared.lexer.Pos.{Pos}
-use Rattle.isle_ast.specs.declared.ast.Pattern.{Pattern, the_lemmas}
-use Rattle.isle_ast.specs.declared.ast.Pattern.TheVariants.{MacroArg}
+use Rattle.isle_ast.specs.declared.ast.Pattern.{Pattern}
 use Rattle.isle_ast.specs.MacroArgs.{has_macro_arg, have_macro_arg}
 use Rattle.isle_ast.specs.Templates.{bound_index, first_index, indices, join, lacks, plug, plug_row, put, replace, replace_by, replace_row, replace_row_by, row_indices}
 use Rattle.isle_ast.specs.Tree.{Name, PatternNode, var_pattern, bind_pattern, bool_pattern, int_pattern, constant_pattern, term_pattern, wildcard_pattern, and_pattern, macro_arg_pattern, PatternRow, no_pattern, more_pattern}
@@ -79,15 +78,6 @@ pub row_ends : (made ps : List Pattern) (i : ℕ) (args : List PatternNode) → 
 row_ends made ps i args past h =
     sym (join_end (patterns_of made))
     ∙ sym (ap (λ qs. join_all (patterns_of made) (plug_row (pattern_row_of (patterns_of qs)) args)) (drop_all i ps past)) ∙ h
-
--- what is put in for an argument is the pattern at its index
-plug_at : (index : ℕ) (place : Pos) (args : List Pattern) → plug (pattern_of (MacroArg index place)) (patterns_of args) ≡ option_map pattern_of (slice_get args index)
-plug_at index place args = let e : pattern_of (MacroArg index place) ≡ macro_arg_pattern index place = search (rules, the_lemmas) in
-    ap (λ p. plug p (patterns_of args)) e ∙ slice_get-map pattern_of args index
-
-pub argument_put_in : (p : Pattern) (index : ℕ) (place : Pos) (args : List Pattern) → p ≡ MacroArg index place →
-    plug (pattern_of p) (patterns_of args) ≡ option_map pattern_of (slice_get args index)
-argument_put_in p index place args e = ap (λ q. plug (pattern_of q) (patterns_of args)) e ∙ plug_at index place args
 
 -- what is put in at a place of a template
 filled : (o : Option ℕ) (place : Pos) (old : PatternNode) (args : List PatternNode) → plug (put o (λ i. macro_arg_pattern i place) old) args

@@ -75,6 +75,10 @@ fn names_are_replaced_at_once(rt: HostRuntime) -> Result<(), Fail> {
     let swapped = vec![in alloc; pattern(rt, "y")?, pattern(rt, "x")?]?;
     let template = made(alloc, &pattern(rt, "(B x y)")?, &names(alloc)?)?;
     assert!(rt; template.subst_macro_args(alloc, &swapped)? == Some(pattern(rt, "(B y x)")?));
+    let x = vec![in alloc; name(alloc, "x")?]?;
+    let one = vec![in alloc; pattern(rt, "1")?]?;
+    let template = made(alloc, &pattern(rt, "x @ x")?, &x)?;
+    assert!(rt; template.subst_macro_args(alloc, &one)? == Some(pattern(rt, "x @ 1")?));
     Ok(())
 }
 

@@ -159,15 +159,22 @@ fn plugged(
             Some(subpats) => Ok(Some(Pattern::And { subpats, pos: *pos })),
             None => Ok(None),
         },
-        Pattern::MacroArg { index, .. } => match macro_args.get(*index) {
-            Some(arg) => Ok(Some(arg.clone()?)),
-            None => Ok(None),
-        },
+        Pattern::MacroArg { index, .. } => argument(*index, macro_args),
         Pattern::Var { .. }
         | Pattern::ConstBool { .. }
         | Pattern::ConstInt { .. }
         | Pattern::ConstPrim { .. }
         | Pattern::Wildcard { .. } => Ok(Some(pattern.clone()?)),
+    }
+}
+
+/// Copies the pattern that is put in for the argument of an index, if there is one.
+fn argument(index: usize, macro_args: &[Pattern]) -> Result<Option<Pattern>, AllocError>
+    ensures { IfOk result (λ made. option_map pattern_of made ≡ slice_get (patterns_of macro_args.now) index) }
+{
+    match macro_args.get(index) {
+        Some(arg) => Ok(Some(arg.clone()?)),
+        None => Ok(None),
     }
 }
 

@@ -1,24 +1,8 @@
-use Rattle.std.proofs.Common.{Some, option_map, refl, sym, ap, ◌∙◌}
-use Rattle.std.proofs.lemmas.Option.{slice_get_past, slice_get_read}
-use Rattle.std.proofs.Common.{length}
+use Rattle.std.proofs.Common.{option_map, sym, ap, ◌∙◌}
 use Rattle.isle_ast.specs.Templates.{plug_row}
 use Rattle.isle_ast.specs.TreeView.{pattern_of, pattern_row_of, patterns_of}
-use Rattle.isle_ast.proofs.Templates.{argument_put_in, row_ends, row_grows, row_lacks}
+use Rattle.isle_ast.proofs.Templates.{row_ends, row_grows, row_lacks}
 use Rattle.isle_ast.proofs.ast.macros.+plug.Goals as goal
-
-pub plugged-returns-in_ok-clone-in-Some-get : goal.plugged-returns-in_ok-clone-in-Some-get
-plugged-returns-in_ok-clone-in-Some-get t c =
-    let found = c.in-Some-get.ensures.lookup in
-    let args = c.args.macro_args.now in
-    ap Some c.in_ok-clone-in-Some-get.ensures.cases
-    ∙ sym (ap (option_map pattern_of) (slice_get_read args (length args) c.in-MacroArg.index c.in-Some-get.arg.now refl found.3.0 found.1))
-    ∙ sym (argument_put_in c.args.pattern.now c.in-MacroArg.index c.in-MacroArg.pos args c.in-MacroArg.is)
-
-pub plugged-returns-in-None-get : goal.plugged-returns-in-None-get
-plugged-returns-in-None-get t c =
-    let args = c.args.macro_args.now in
-    sym (ap (option_map pattern_of) (slice_get_past args c.in-MacroArg.index c.in-None-get.ensures.lookup.3))
-    ∙ sym (argument_put_in c.args.pattern.now c.in-MacroArg.index c.in-MacroArg.pos args c.in-MacroArg.is)
 
 pub plugged_row-returns-in-None : goal.plugged_row-returns-in-None
 plugged_row-returns-in-None t c =
