@@ -6,7 +6,7 @@ ghost use Rattle.isle_ast.specs.SpecView.{spec_of};
 ghost use Rattle.isle_parser.specs.Answers.{Gives, IsPlace, IsRefusal, source, tokens};
 ghost use Rattle.isle_parser.specs.ReadSpecs.{spec_word};
 ghost use Rattle.isle_parser.specs.SpecHeads.{Finds, head_view};
-ghost use Rattle.isle_parser.specs.SpecWords.{around, before_last, begins_bit_vector, behind_mark, bit_vector_at, bit_vector_of, discriminator_or_other, expansion_or_other, field_or_variant, head_of, hexadecimal_or_plain, keyword_head, operator_of, operator_or_name, other_head, plain_word, spec_head, variant_of, word_of};
+ghost use Rattle.isle_parser.specs.SpecWords.{around, before_last, begins_bit_vector, behind_mark, bit_vector_of, expansion_or_other, field_or_variant, head_of, hexadecimal_or_plain, keyword_head, operator_of, operator_or_name, other_head, plain_word, spec_head, variant_of, word_of};
 
 use crate::parser::spec_operators::operator_of;
 use crate::parser::{Parser, Stop};
