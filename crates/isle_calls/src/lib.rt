@@ -17,4 +17,5 @@ mod parser;
 mod printer;
 #[cfg(test)]
 mod templates;
+#[cfg(test)]
 mod walks;
