@@ -36,52 +36,42 @@ fn ident(alloc: Global, text: &str, offset: usize) -> Result<Ident, AllocError> 
     Ok(Ident(String::from_str(alloc, text)?, Pos::new(2, offset)))
 }
 
-fn pattern(
-    alloc: Global,
-    sym: &str,
-    offset: usize,
-    args: Vec<Pattern>,
-) -> Result<Pattern, AllocError> {
-    Ok(Pattern::Term {
-        sym: ident(alloc, sym, offset)?,
+fn pattern(sym: Ident, offset: usize, args: Vec<Pattern>) -> Pattern {
+    Pattern::Term {
+        sym,
         args,
         pos: Pos::new(2, offset),
-    })
+    }
 }
 
-/// `(A (B x) y @ (C (D)))`, the left side of the rule below.
+/// `(A (B x) y @ (C (D)))`, the left side of `(rule (A (B x) y @ (C (D))) (let ((x T (F))) (G (H x))))`.
 fn left(alloc: Global) -> Result<Pattern, AllocError> {
     let x = Pattern::Var {
-        var: ident(alloc, "x", 11)?,
-        pos: Pos::new(2, 11),
+        var: ident(alloc, "x", 12)?,
+        pos: Pos::new(2, 12),
     };
-    let first = pattern(alloc, "B", 9, vec![in alloc; x]?)?;
-    let innermost = pattern(alloc, "D", 22, Vec::new(alloc))?;
-    let inner = pattern(alloc, "C", 19, vec![in alloc; innermost]?)?;
+    let first = pattern(ident(alloc, "B", 10)?, 9, vec![in alloc; x]?);
+    let innermost = pattern(ident(alloc, "D", 23)?, 22, Vec::new(alloc));
+    let inner = pattern(ident(alloc, "C", 20)?, 19, vec![in alloc; innermost]?);
     let second = Pattern::BindPattern {
-        var: ident(alloc, "y", 14)?,
+        var: ident(alloc, "y", 15)?,
         subpat: Box::new(alloc, inner)?,
-        pos: Pos::new(2, 14),
+        pos: Pos::new(2, 15),
     };
-    pattern(alloc, "A", 6, vec![in alloc; first, second]?)
+    Ok(pattern(ident(alloc, "A", 7)?, 6, vec![in alloc; first, second]?))
 }
 
-fn expression(
-    alloc: Global,
-    sym: &str,
-    offset: usize,
-    args: Vec<Expr>,
-) -> Result<Expr, AllocError> {
-    Ok(Expr::Term {
-        sym: ident(alloc, sym, offset)?,
+fn expression(sym: Ident, offset: usize, args: Vec<Expr>) -> Expr {
+    Expr::Term {
+        sym,
         args,
         pos: Pos::new(2, offset),
-    })
+    }
 }
 
-/// `(let ((x T (F))) (G (H x)))`, the right side of `(rule (A (B x) y @ (C (D))) (let ((x T (F))) (G (H x))))`.
+/// `(let ((x T (F))) (G (H x)))`, the right side of that rule.
 fn right(alloc: Global) -> Result<Expr, AllocError> {
-    let value = expression(alloc, "F", 39, Vec::new(alloc))?;
+    let value = expression(ident(alloc, "F", 40)?, 39, Vec::new(alloc));
     let def = LetDef {
         var: ident(alloc, "x", 35)?,
         ty: ident(alloc, "T", 37)?,
@@ -89,11 +79,11 @@ fn right(alloc: Global) -> Result<Expr, AllocError> {
         pos: Pos::new(2, 34),
     };
     let x = Expr::Var {
-        name: ident(alloc, "x", 50)?,
-        pos: Pos::new(2, 50),
+        name: ident(alloc, "x", 51)?,
+        pos: Pos::new(2, 51),
     };
-    let inner = expression(alloc, "H", 48, vec![in alloc; x]?)?;
-    let body = expression(alloc, "G", 45, vec![in alloc; inner]?)?;
+    let inner = expression(ident(alloc, "H", 49)?, 48, vec![in alloc; x]?);
+    let body = expression(ident(alloc, "G", 46)?, 45, vec![in alloc; inner]?);
     Ok(Expr::Let {
         defs: vec![in alloc; def]?,
         body: Box::new(alloc, body)?,
@@ -104,33 +94,31 @@ fn right(alloc: Global) -> Result<Expr, AllocError> {
 #[test]
 fn terms_of_a_pattern(rt: HostRuntime) -> Result<(), AllocError> {
     let pattern = left(rt.alloc())?;
-    let mut want = [("A", 6), ("B", 9), ("C", 19), ("D", 22)].iter();
-    let mut right = true;
+    let mut want = [("A", 6, 7), ("B", 9, 10), ("C", 19, 20), ("D", 22, 23)].iter();
+    let mut agrees = true;
     let mut compare = |pos: Pos, sym: &Ident| {
-        right &= want.next() == Some(&(sym.0.as_str(), pos.offset)) && sym.1 == pos;
+        agrees &= want.next() == Some(&(sym.0.as_str(), pos.offset, sym.1.offset));
     };
     pattern.terms(&mut compare);
-    assert!(rt; right && want.next().is_none());
+    assert!(rt; agrees && want.next().is_none());
     assert!(rt; last_term(&pattern) == Some(Pos::new(2, 22)));
-    assert!(rt;
-        last_term(&Pattern::Wildcard {
-            pos: Pos::new(2, 6)
-        })
-        .is_none()
-    );
+    let wildcard = Pattern::Wildcard {
+        pos: Pos::new(2, 6),
+    };
+    assert!(rt; last_term(&wildcard).is_none());
     Ok(())
 }
 
 #[test]
 fn terms_of_an_expression(rt: HostRuntime) -> Result<(), AllocError> {
     let expr = right(rt.alloc())?;
-    let mut want = [("F", 39), ("G", 45), ("H", 48)].iter();
-    let mut right = true;
+    let mut want = [("F", 39, 40), ("G", 45, 46), ("H", 48, 49)].iter();
+    let mut agrees = true;
     let mut compare = |pos: Pos, sym: &Ident| {
-        right &= want.next() == Some(&(sym.0.as_str(), pos.offset)) && sym.1 == pos;
+        agrees &= want.next() == Some(&(sym.0.as_str(), pos.offset, sym.1.offset));
     };
     expr.terms(&mut compare);
-    assert!(rt; right && want.next().is_none());
+    assert!(rt; agrees && want.next().is_none());
     for (symbol, found) in [
         ("F", true),
         ("G", true),
