@@ -15,6 +15,7 @@ first_from i text (name ∷ names) = if bytes_eq name.text text then Some i else
 abbrev pub first_index : List ℕ → List Name → Option ℕ
 first_index text names = first_from 0 text names
 
+-- whether a pattern is `_`
 abbrev pub is_wildcard : PatternNode → Bool
 is_wildcard (var_pattern _ _) = false
 is_wildcard (bind_pattern _ _ _) = false
@@ -30,7 +31,7 @@ is_wildcard (macro_arg_pattern _ _) = false
 abbrev pub bound_index : List ℕ → PatternNode → List Name → Option ℕ
 bound_index text subpat names = if is_wildcard subpat then first_index text names else None
 
--- what the argument of an index is replaced by, if there is an index, and else what stood there
+-- what `new` gives for an index, if there is one, and else what stood there
 abbrev pub put : {A : Type 0} → Option ℕ → (ℕ → A) → A → A
 put None new old = old
 put (Some i) new old = new i
