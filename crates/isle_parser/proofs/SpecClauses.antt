@@ -1,17 +1,17 @@
 -- The loop that reads the clauses of a spec: what they said before, with what is still read, is what all of
 -- them say, joined by kind.
-use Rattle.std.proofs.Common.{◌≡◌, ℕ, ◌≤◌, Bool, true, false, cond, List, [], ◌∷◌, ◌++◌, Option, Some, None, inl, inr, refl, sym, ap, ◌∙◌, append_assoc, length, arith}
+use Rattle.std.proofs.Common.{◌≡◌, ℕ, true, false, cond, List, [], ◌∷◌, ◌++◌, Option, Some, None, inl, inr, refl, sym, ap, ◌∙◌, append_assoc, arith}
 use Rattle.std.proofs.lemmas.List.{append-nil}
 use Rattle.std.specs.Prelude.{codes}
 use Rattle.std.specs.Str.{bytes_eq}
 use Rattle.isle_base.specs.Place.{Placed}
 use Rattle.isle_base.specs.Token.{is_symbol}
 use Rattle.isle_ast.specs.SpecDefinitionGrammar.{SpecClause, provide_clause, require_clause, match_clause, modifies_clause, provided, required, matched, modified}
-use Rattle.isle_ast.specs.Tree.{Name, ModifiedState, SpecNode}
+use Rattle.isle_ast.specs.Tree.{ModifiedState, SpecNode}
 use Rattle.isle_parser.specs.declared.parser.Stop.{Stop}
 use Rattle.isle_parser.specs.declared.parser.Stop.TheVariants as stops
 use Rattle.isle_parser.specs.Answers.{Source, Stops}
-use Rattle.isle_parser.specs.Reading.{Reader, ◌>>=◌, closes, in_parentheses, is_ahead, many, text}
+use Rattle.isle_parser.specs.Reading.{Reader, ◌>>=◌, closes, is_ahead, many, text}
 use Rattle.isle_parser.specs.ReadNames.{name}
 use Rattle.isle_parser.specs.ReadSpecDefinitions.{Joined, behind_clause_word, clause, clause_inside, condition_name, joined, joined_clauses, modified_state}
 use Rattle.isle_parser.specs.ReadSpecs.{spec_expression}

@@ -1,5 +1,5 @@
 -- Spec expressions, as the code reads them.
-use Rattle.std.proofs.Common.{◌≡◌, ◌<◌, true, false, List, [], ◌∷◌, length, Option, Some, None, sym, ◌∙◌, refl, rules, arith}
+use Rattle.std.proofs.Common.{◌≡◌, ◌<◌, true, false, List, length, Option, Some, None, sym, ◌∙◌, refl, rules, arith}
 use Rattle.std.specs.Global.{Box, Vec}
 use Rattle.std.specs.Prelude.{ℕ, ℤ}
 use Rattle.isle_base.specs.declared.lexer.Pos.{Pos}
@@ -16,7 +16,6 @@ use Rattle.isle_parser.specs.Reading.{Reader, ◌>>=◌, is_ahead, is_lparen, po
 use Rattle.isle_parser.specs.ReadNumbers.{signed}
 use Rattle.isle_parser.specs.ReadSpecs.{behind_spec_head, spec_expression, spec_inside, spec_lets, spec_step}
 use Rattle.isle_parser.specs.SpecWords.{SpecHead, let_head, head_of, spec_head}
-use Rattle.isle_parser.proofs.Choices.{bound}
 use Rattle.isle_parser.proofs.Readers.{bind_some}
 use Rattle.isle_parser.proofs.SpecLayers.{spec-unfolds}
 use Rattle.isle_parser.proofs.SpecShrinks.{made_here, text_shrinks}

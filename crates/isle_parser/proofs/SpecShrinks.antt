@@ -1,12 +1,11 @@
 -- Readers of spec expressions leave fewer tokens, or no more, and an expression is one layer, whose parts
 -- are expressions. This follows from how they read alone, and not from the grammar.
-use Rattle.std.proofs.Common.{◌≡◌, ℕ, zero, suc, ◌≤◌, ◌<◌, inl, inr, Bool, true, false, cond, List, [], ◌∷◌, length, Option, Some, None, refl, sym, ap, ◌∙◌, arith}
+use Rattle.std.proofs.Common.{◌≡◌, ℕ, zero, suc, ◌≤◌, ◌<◌, inl, inr, Bool, cond, List, [], ◌∷◌, length, Some, None, ap, arith}
 use Rattle.isle_base.specs.declared.lexer.Pos.{Pos}
 use Rattle.isle_base.specs.Place.{Placed}
-use Rattle.isle_base.specs.Token.{Tok, is_int, is_symbol}
-use Rattle.isle_ast.specs.SpecView.{SingleArm, SingleFieldInit}
-use Rattle.isle_ast.specs.Tree.{Name, SpecNode, int_spec}
-use Rattle.isle_parser.specs.Reading.{Reader, ◌>>=◌, closes, expect, in_parentheses, is_ahead, is_lparen, is_rparen, many, many_within, pos_ahead, text}
+use Rattle.isle_base.specs.Token.{is_int, is_symbol}
+use Rattle.isle_ast.specs.Tree.{SpecNode, int_spec}
+use Rattle.isle_parser.specs.Reading.{Reader, ◌>>=◌, closes, in_parentheses, is_ahead, is_lparen, is_rparen, many, many_within, pos_ahead, text}
 use Rattle.isle_parser.specs.ReadModels.{model_type}
 use Rattle.isle_parser.specs.ReadNames.{name, names}
 use Rattle.isle_parser.specs.ReadNumbers.{signed}
@@ -16,7 +15,7 @@ use Rattle.isle_parser.specs.SpecWords.{SpecHead, switch_head, let_head, with_he
 use Rattle.isle_parser.proofs.Choices.{bound, both}
 use Rattle.isle_parser.proofs.Lengths.{expect_shorter}
 use Rattle.isle_parser.proofs.Names.{name_shrinks, text_sound}
-use Rattle.isle_parser.proofs.Readers.{Shrinks, bind_some, bind_same, chosen, done, done_is}
+use Rattle.isle_parser.proofs.Readers.{Shrinks, bind_some, chosen, done, done_is}
 use Rattle.isle_parser.proofs.ReadsModels.{model_type_shrinks}
 use Rattle.isle_parser.proofs.ReadsNumbers.{signed_begins, signed_sound}
 

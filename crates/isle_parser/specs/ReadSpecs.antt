@@ -1,5 +1,5 @@
 -- Reading of spec expressions.
-use Rattle.std.specs.Prelude.{ℕ, zero, suc, List, [], ◌∷◌, length, true, false, Some, None, if◌then◌else◌}
+use Rattle.std.specs.Prelude.{ℕ, zero, suc, List, ◌∷◌, length, Some, None, if◌then◌else◌}
 use Rattle.isle_base.specs.declared.lexer.Pos.{Pos}
 use Rattle.isle_base.specs.Token.{is_int, is_symbol}
 use Rattle.isle_ast.specs.declared.ast.specs.SpecOp.TheVariants as op

@@ -4,7 +4,7 @@ use Rattle.std.proofs.lemmas.List.{map-append, map_push}
 use Rattle.isle_ast.specs.SpecDefinitionGrammar.{match_clause, modifies_clause, provide_clause, require_clause}
 use Rattle.isle_ast.specs.SpecView.{modified_of, spec_of, specs_of}
 use Rattle.isle_parser.specs.Answers.{source, tokens}
-use Rattle.isle_parser.specs.ReadSpecDefinitions.{Joined, joined_clauses}
+use Rattle.isle_parser.specs.ReadSpecDefinitions.{joined_clauses}
 use Rattle.isle_parser.specs.SpecParts.{clause_of}
 use Rattle.isle_parser.proofs.SpecClauses.{clause_shrinks, clauses_end, clauses_push, clauses_stop}
 use Rattle.isle_parser.proofs.parser.Parser.parse_clauses.Goals as goal
