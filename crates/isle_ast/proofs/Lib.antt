@@ -26,14 +26,7 @@ pub mod SpeltWritableSpecs
 pub mod SpeltWritableRules
 pub mod SpeltWritable
 pub mod NoMacroArgs
-pub mod ErasedWritableSpecs
-pub mod ErasedWritableRules
-pub mod ErasedWritable
 pub mod SpecLets
 pub mod Calls
 pub mod LetHeads
 pub mod Templates
-pub mod WritableNames
-pub mod DecidedNames
-pub mod DecidedSpecs
-pub mod DecidedDefinitions

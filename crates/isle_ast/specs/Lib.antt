@@ -35,7 +35,4 @@ pub mod TypeModelGrammar
 pub mod Words
 pub mod Writable
 pub mod WritableModel
-pub mod WritableNameTests
-pub mod WritableSpecTests
-pub mod WritableTests
 pub use Rattle.isle_base.specs.Token

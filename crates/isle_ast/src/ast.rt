@@ -13,7 +13,6 @@ pub mod identifier;
 mod macros;
 mod specs;
 mod walks;
-pub mod writable;
 
 use isle_base::lexer::Pos;
 pub use specs::{Arm, FieldInit, Modifies, Spec, SpecExpr, SpecMacro, SpecOp, State};

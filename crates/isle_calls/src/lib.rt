@@ -19,5 +19,3 @@ mod printer;
 mod templates;
 #[cfg(test)]
 mod walks;
-#[cfg(test)]
-mod writable;

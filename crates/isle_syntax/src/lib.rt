@@ -20,8 +20,7 @@ use std::alloc::Global;
 /// Comments and blank lines are no part of the tree, so they go. The answer is accepted and formats to
 /// itself at this width; another text has the same answer exactly if it spells the same tree,
 /// positions aside. From width 1 on, a line of the answer on which a list stands whole has at most the width, its
-/// indentation and one byte for each empty list on it; at a greater width the answer has no more lines. At
-/// every other width the print of the tree is spelt by it too, and has the same tokens, offsets aside.
+/// indentation and one byte for each empty list on it; at a greater width the answer has no more lines.
 ///
 /// `Error` comes where no tree is spelt by the text: it is a parse error whose span begins in file 0, at
 /// a byte of the text or at its end. `Memory` comes where a growth was refused. `Failed` never comes.

@@ -102,8 +102,3 @@ pub fn spelt_trees_are_writable()
     ensures writable { (ds : List Definition) (all : List Placed) → SpellsDefinitions ds all → AreWritable ds }
     ensures no_macro_args { (ds : List Definition) (all : List Placed) → SpellsDefinitions ds all → definitions_have_macro_arg ds ≡ false }
 {}
-
-/// A law: positions play no part in what is writable. A tree is writable exactly if it is once erased.
-pub fn erasing_keeps_writable()
-    ensures { (ds : List Definition) → AreWritable (erase ds) ↔ AreWritable ds }
-{}
