@@ -161,7 +161,10 @@ fn formatted<R: Read, W: Write>(
     let width = width_of(words)?;
     let text = read_text(alloc, input)?;
     let answer = answer_to(alloc, text.as_str(), width)?;
-    write_whole(output, answer.as_bytes()).map_err(|_| Failure::Output)
+    match write_whole(output, answer.as_bytes()) {
+        Ok(()) => Ok(()),
+        Err(_) => Err(Failure::Output),
+    }
 }
 
 /// Writes what a failure says to standard error, as far as it takes it, and answers the status.
