@@ -4,11 +4,11 @@ use Rattle.std.proofs.Common.{◌≡◌, ℕ, List, [], ◌∷◌, refl, sym, ap
 use Rattle.isle_base.specs.declared.lexer.Pos.{Pos}
 use Rattle.isle_base.specs.Place.{Placed, nowhere, placed, placed_at}
 use Rattle.isle_base.specs.Token.{Lexeme, Feed}
+use Rattle.isle_spec.specs.Tree.{Definition}
+use Rattle.isle_spec.specs.Words.{SpellsAll}
 use Rattle.isle_ast.specs.Erased.{erase, erase_tokens}
 use Rattle.isle_ast.specs.Grammar.{SpellsDefinition, SpellsDefinitions}
 use Rattle.isle_ast.specs.Spelt.{Spells}
-use Rattle.isle_ast.specs.Tree.{Definition}
-use Rattle.isle_ast.specs.Words.{SpellsAll}
 use Rattle.isle_ast.proofs.LawfulDefinitions.{definitions_lawful}
 
 -- the tokens of a text at the default position are those at any positions, erased

@@ -4,12 +4,12 @@ use Rattle.std.proofs.lemmas.List.{append-nil}
 use Rattle.isle_base.specs.declared.lexer.Pos.{Pos}
 use Rattle.isle_base.specs.Place.{Placed, unknown}
 use Rattle.isle_base.specs.Token.{Tok, lparen, rparen, symbol}
+use Rattle.isle_spec.specs.Identifier.{is_identifier}
+use Rattle.isle_spec.specs.Tree.{Name}
+use Rattle.isle_spec.specs.Words.{SpellsToken, SpellsWord, BeginsAt, SpellsAll, InParentheses, BehindWord, SpellsName, SpellsFlag, IsNonEmpty}
 use Rattle.isle_ast.specs.Erased.{erase_name, erase_token, erase_tokens}
-use Rattle.isle_ast.specs.Identifier.{is_identifier}
 use Rattle.isle_ast.specs.Parts.{CutsPart}
 use Rattle.isle_ast.specs.TermGrammar.{SpellsConstant}
-use Rattle.isle_ast.specs.Tree.{Name}
-use Rattle.isle_ast.specs.Words.{SpellsToken, SpellsWord, BeginsAt, SpellsAll, InParentheses, BehindWord, SpellsName, SpellsFlag, IsNonEmpty}
 
 -- what it spells in front of some tokens is a part of the list
 abbrev pub Cuts : (List Placed → List Placed → Type 0) → Type 0

@@ -4,13 +4,13 @@ use Rattle.std.specs.Str.{bytes_eq}
 use Rattle.isle_base.specs.declared.lexer.Pos.{Pos}
 use Rattle.isle_base.specs.Place.{Placed, unknown}
 use Rattle.isle_base.specs.Token.{symbol}
+use Rattle.isle_spec.specs.Numbers.{SpellsInteger}
+use Rattle.isle_spec.specs.Tree.{Name, Expression, term_expression, var_expression, bool_expression, int_expression, constant_expression, let_expression, ExpressionRow, no_expression, more_expression, LetRow, no_let, more_let}
+use Rattle.isle_spec.specs.Words.{SpellsWord, InParentheses, BehindWord, SpellsName}
 use Rattle.isle_ast.specs.Erased.{erase_name, erase_expression, erase_expressions, erase_lets}
 use Rattle.isle_ast.specs.ExpressionGrammar.{is_expression_variable, SpellsExpressionVariable, SpellsExpression, SpellsExpressions, SpellsLets}
-use Rattle.isle_ast.specs.Numbers.{SpellsInteger}
 use Rattle.isle_ast.specs.PatternGrammar.{bool_word}
 use Rattle.isle_ast.specs.TermGrammar.{SpellsConstant}
-use Rattle.isle_ast.specs.Tree.{Name, Expression, term_expression, var_expression, bool_expression, int_expression, constant_expression, let_expression, ExpressionRow, no_expression, more_expression, LetRow, no_let, more_let}
-use Rattle.isle_ast.specs.Words.{SpellsWord, InParentheses, BehindWord, SpellsName}
 use Rattle.isle_ast.proofs.Lawful.{Lawful, Begins, Then, At, word_plain, nothing_plain, plain_lawful, value_lawful, tested_lawful, name_lawful, constant_lawful, pair_lawful, at_lawful, where_lawful, made_lawful, made_at_lawful, parentheses_lawful, word_lawful, token_begins, parentheses_begin}
 use Rattle.isle_ast.proofs.LawfulPatterns.{integer_plain, integer_begins, constant_begins}
 

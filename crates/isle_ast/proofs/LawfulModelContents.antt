@@ -1,11 +1,11 @@
 -- The relation of models keeps the laws.
 use Rattle.std.proofs.Common.{◌≡◌, codes, refl}
+use Rattle.isle_spec.specs.SpecErased.{erase_spec}
+use Rattle.isle_spec.specs.Tree.{Name, TypeModel, SpecNode, ModelContent, type_model, const_model, ModelDefinition}
+use Rattle.isle_spec.specs.Words.{InParentheses, BehindWord, SpellsName}
 use Rattle.isle_ast.specs.Erased.{erase_name, erase_model, erase_model_content, erase_model_definition}
 use Rattle.isle_ast.specs.ModelGrammar.{SpellsTypeModel, SpellsModelContent, SpellsModel}
-use Rattle.isle_ast.specs.SpecErased.{erase_spec}
 use Rattle.isle_ast.specs.SpecGrammar.{SpellsSpec}
-use Rattle.isle_ast.specs.Tree.{Name, TypeModel, SpecNode, ModelContent, type_model, const_model, ModelDefinition}
-use Rattle.isle_ast.specs.Words.{InParentheses, BehindWord, SpellsName}
 use Rattle.isle_ast.proofs.Lawful.{Lawful, Then, name_lawful, pair_lawful, made_lawful, parentheses_lawful, word_lawful}
 use Rattle.isle_ast.proofs.LawfulModels.{model_lawful}
 use Rattle.isle_ast.proofs.LawfulSpecs.{spec_lawful}

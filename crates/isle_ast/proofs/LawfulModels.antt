@@ -3,11 +3,11 @@ use Rattle.std.proofs.Common.{◌≡◌, ℕ, pos, ◌<◌, ◌^◌, List, [], c
 use Rattle.isle_base.specs.declared.lexer.Pos.{Pos}
 use Rattle.isle_base.specs.Place.{Placed, unknown}
 use Rattle.isle_base.specs.Token.{integer}
+use Rattle.isle_spec.specs.Numbers.{SpellsNumber}
+use Rattle.isle_spec.specs.Tree.{Name, TypeModel, unspecified_model, auto_model, int_model, bool_model, unit_model, bit_vector_model, struct_model, named_model, ModelFieldRow, no_model_field, model_field, TermSignature, FormDefinition, TermInstantiation}
+use Rattle.isle_spec.specs.Words.{SpellsWord, SpellsAll, InParentheses, BehindWord, SpellsName, SpellsOptional, IsNonEmpty}
 use Rattle.isle_ast.specs.Erased.{erase_name, erase_names, erase_optional, erase_model, erase_model_fields, erase_signature, erase_form, erase_instantiation}
 use Rattle.isle_ast.specs.ModelGrammar.{SpellsTypeModel, SpellsModelFields, SpellsSignature, SpellsForm, SpellsTag, SpellsInstances, SpellsInstantiation}
-use Rattle.isle_ast.specs.Numbers.{SpellsNumber}
-use Rattle.isle_ast.specs.Tree.{Name, TypeModel, unspecified_model, auto_model, int_model, bool_model, unit_model, bit_vector_model, struct_model, named_model, ModelFieldRow, no_model_field, model_field, TermSignature, FormDefinition, TermInstantiation}
-use Rattle.isle_ast.specs.Words.{SpellsWord, SpellsAll, InParentheses, BehindWord, SpellsName, SpellsOptional, IsNonEmpty}
 use Rattle.isle_ast.proofs.Lawful.{Plain, Lawful, Then, At, token_plain, word_plain, nothing_plain, then_plain, parentheses_plain, where_plain, plain_lawful, name_lawful, pair_lawful, all_lawful, non_empty_lawful, at_lawful, settled_lawful, made_lawful, parentheses_lawful, word_lawful, name_begins, parentheses_begin}
 
 -- models of types

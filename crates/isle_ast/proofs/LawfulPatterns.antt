@@ -4,12 +4,12 @@ use Rattle.std.specs.Str.{bytes_eq}
 use Rattle.isle_base.specs.declared.lexer.Pos.{Pos}
 use Rattle.isle_base.specs.Place.{Placed, unknown}
 use Rattle.isle_base.specs.Token.{symbol, integer, at_sign}
+use Rattle.isle_spec.specs.Numbers.{IsSigned, SpellsInteger}
+use Rattle.isle_spec.specs.Tree.{Name, PatternNode, var_pattern, bind_pattern, bool_pattern, int_pattern, constant_pattern, term_pattern, wildcard_pattern, and_pattern, macro_arg_pattern, PatternRow, no_pattern, more_pattern}
+use Rattle.isle_spec.specs.Words.{SpellsToken, SpellsWord, InParentheses, BehindWord, SpellsName}
 use Rattle.isle_ast.specs.Erased.{erase_name, erase_pattern, erase_patterns}
-use Rattle.isle_ast.specs.Numbers.{IsSigned, SpellsInteger}
 use Rattle.isle_ast.specs.PatternGrammar.{bool_word, is_variable, SpellsVariable, SpellsPattern, SpellsPatterns}
 use Rattle.isle_ast.specs.TermGrammar.{SpellsConstant}
-use Rattle.isle_ast.specs.Tree.{Name, PatternNode, var_pattern, bind_pattern, bool_pattern, int_pattern, constant_pattern, term_pattern, wildcard_pattern, and_pattern, macro_arg_pattern, PatternRow, no_pattern, more_pattern}
-use Rattle.isle_ast.specs.Words.{SpellsToken, SpellsWord, InParentheses, BehindWord, SpellsName}
 use Rattle.isle_ast.proofs.Lawful.{Plain, Lawful, Begins, Then, token_plain, word_plain, nothing_plain, where_plain, plain_lawful, value_lawful, tested_lawful, name_lawful, constant_lawful, before_lawful, pair_lawful, where_lawful, made_lawful, made_at_lawful, parentheses_lawful, word_lawful, token_begins, parentheses_begin}
 
 variable_lawful : (n : Name) → Lawful SpellsVariable erase_name n

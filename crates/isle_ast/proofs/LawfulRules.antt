@@ -5,13 +5,13 @@ use Rattle.std.specs.Str.{bytes_eq}
 use Rattle.isle_base.specs.declared.lexer.Pos.{Pos}
 use Rattle.isle_base.specs.Place.{Placed, unknown}
 use Rattle.isle_base.specs.Token.{symbol, integer}
+use Rattle.isle_spec.specs.Numbers.{IsSigned, SpellsPriority}
+use Rattle.isle_spec.specs.Tree.{Name, PatternNode, var_pattern, bind_pattern, bool_pattern, int_pattern, constant_pattern, term_pattern, wildcard_pattern, and_pattern, macro_arg_pattern, Expression, term_expression, var_expression, bool_expression, int_expression, constant_expression, let_expression, Condition, RuleDefinition, ExtractorDefinition}
+use Rattle.isle_spec.specs.Words.{BeginsAt, SpellsAll, InParentheses, BehindWord, SpellsName, SpellsOptional}
 use Rattle.isle_ast.specs.Erased.{erase_name, erase_names, erase_optional, erase_pattern, erase_expression, erase_condition, erase_rule, erase_extractor}
 use Rattle.isle_ast.specs.ExpressionGrammar.{SpellsExpression}
-use Rattle.isle_ast.specs.Numbers.{IsSigned, SpellsPriority}
 use Rattle.isle_ast.specs.PatternGrammar.{SpellsPattern}
 use Rattle.isle_ast.specs.RuleGrammar.{SpellsMatch, SpellsTest, SpellsCondition, is_list_pattern, is_int_pattern, is_if_expression, pattern_is_no_head, SpellsRule, SpellsExtractor}
-use Rattle.isle_ast.specs.Tree.{Name, PatternNode, var_pattern, bind_pattern, bool_pattern, int_pattern, constant_pattern, term_pattern, wildcard_pattern, and_pattern, macro_arg_pattern, Expression, term_expression, var_expression, bool_expression, int_expression, constant_expression, let_expression, Condition, RuleDefinition, ExtractorDefinition}
-use Rattle.isle_ast.specs.Words.{BeginsAt, SpellsAll, InParentheses, BehindWord, SpellsName, SpellsOptional}
 use Rattle.isle_ast.proofs.Lawful.{Plain, Lawful, Begins, Then, At, token_plain, nothing_plain, where_plain, plain_lawful, value_lawful, name_lawful, pair_lawful, all_lawful, at_lawful, where_lawful, settled_lawful, either_lawful, made_lawful, parentheses_lawful, word_lawful, token_begins, name_begins, parentheses_begin}
 use Rattle.isle_ast.proofs.LawfulExpressions.{expression_lawful, expression_begins}
 use Rattle.isle_ast.proofs.LawfulPatterns.{pattern_lawful, pattern_begins}

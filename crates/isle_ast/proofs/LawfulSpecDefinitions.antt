@@ -7,16 +7,16 @@ use Rattle.std.specs.Str.{bytes_eq}
 use Rattle.isle_base.specs.declared.lexer.Pos.{Pos}
 use Rattle.isle_base.specs.Place.{Placed, unknown}
 use Rattle.isle_base.specs.Token.{Tok, lparen, rparen, symbol, integer}
+use Rattle.isle_spec.specs.SpecErased.{erase_spec, erase_modified, erase_spec_definition, erase_spec_macro, erase_state}
+use Rattle.isle_spec.specs.Tree.{Name, TypeModel, SpecNode, int_spec, bit_vector_spec, bool_spec, var_spec, pair_spec, enum_spec, ModifiedState, SpecDefinition, SpecMacroDefinition, StateDefinition}
+use Rattle.isle_spec.specs.Words.{SpellsToken, SpellsWord, SpellsAll, InParentheses, BehindWord, SpellsName, SpellsOptional}
+use Rattle.isle_spec.proofs.ErasedSpecs.{HeadNode, erase_head}
 use Rattle.isle_ast.specs.Erased.{erase_name, erase_optional, erase_model}
 use Rattle.isle_ast.specs.Grammar.{InForm}
 use Rattle.isle_ast.specs.ModelGrammar.{SpellsTypeModel}
 use Rattle.isle_ast.specs.PatternGrammar.{bool_word}
 use Rattle.isle_ast.specs.SpecDefinitionGrammar.{SpecClause, provide_clause, require_clause, match_clause, modifies_clause, SpellsClause, provided, required, matched, modified, SpellsSpecDefinition, SpellsSpecMacro, SpellsState}
-use Rattle.isle_ast.specs.SpecErased.{erase_spec, erase_modified, erase_spec_definition, erase_spec_macro, erase_state}
 use Rattle.isle_ast.specs.SpecGrammar.{SpellsSpec}
-use Rattle.isle_ast.specs.Tree.{Name, TypeModel, SpecNode, int_spec, bit_vector_spec, bool_spec, var_spec, pair_spec, enum_spec, ModifiedState, SpecDefinition, SpecMacroDefinition, StateDefinition}
-use Rattle.isle_ast.specs.Words.{SpellsToken, SpellsWord, SpellsAll, InParentheses, BehindWord, SpellsName, SpellsOptional}
-use Rattle.isle_ast.proofs.ErasedSpecs.{HeadNode, erase_head}
 use Rattle.isle_ast.proofs.Lawful.{Cuts, Agree, Lawful, Then, At, agree_from, token_plain, word_plain, name_lawful, pair_lawful, all_lawful, at_lawful, before_lawful, behind_lawful, made_lawful, parentheses_lawful, word_lawful, name_begins}
 use Rattle.isle_ast.proofs.LawfulModels.{model_lawful}
 use Rattle.isle_ast.proofs.LawfulRules.{words_apart, optional_name_lawful}

@@ -5,19 +5,19 @@ use Rattle.std.specs.List.{list_all}
 use Rattle.isle_base.specs.declared.lexer.Pos.{Pos}
 use Rattle.isle_base.specs.Place.{Placed, unknown}
 use Rattle.isle_base.specs.Token.{symbol}
-use Rattle.isle_ast.specs.declared.ast.specs.SpecOp.{SpecOp}
-use Rattle.isle_ast.specs.declared.ast.specs.SpecOp.TheVariants as op
+use Rattle.isle_spec.specs.declared.ast.specs.SpecOp.{SpecOp}
+use Rattle.isle_spec.specs.declared.ast.specs.SpecOp.TheVariants as op
+use Rattle.isle_spec.specs.Identifier.{is_identifier}
+use Rattle.isle_spec.specs.Numbers.{SpellsInteger}
+use Rattle.isle_spec.specs.Operators.{operator_text, is_operator_text}
+use Rattle.isle_spec.specs.SpecErased.{erase_spec, erase_specs, erase_arms, erase_spec_lets, erase_field_inits}
+use Rattle.isle_spec.specs.Tree.{Name, SpecNode, int_spec, bit_vector_spec, bool_spec, var_spec, as_spec, field_spec, discriminator_spec, op_spec, match_spec, let_spec, with_spec, macro_spec, expand_spec, pair_spec, enum_spec, struct_spec, SpecRow, no_spec, more_spec, ArmRow, no_arm, more_arm, SpecLetRow, no_spec_let, more_spec_let, FieldInitRow, no_field_init, more_field_init}
+use Rattle.isle_spec.specs.Words.{SpellsWord, SpellsAll, InParentheses, BehindWord, SpellsName}
+use Rattle.isle_spec.proofs.ErasedSpecs.{is_int, BitsNode, is_bits, is_bool, is_var, AsNode, erase_as, is_as, NamedNode, erase_named, is_field, is_discriminator, is_op, MatchNode, erase_match, is_match, LetNode, erase_let, is_let, BoundNode, erase_bound, is_with, is_macro, ExpandNode, erase_expand, is_expand, EnumNode, erase_enum, enum_of, is_enum, is_struct, is_no_spec, RowNode, erase_row, is_more, PairNode, erase_both, erase_pairs, pair_row, is_pair, is_no_arm, HeadNode, erase_head, ArmNode, erase_arm, ArmRowNode, erase_arm_row, arm_row, is_arm, is_no_let, LetRowNode, erase_let_row, let_row, is_more_let, is_no_init, InitRowNode, erase_init_row, init_row, is_init}
 use Rattle.isle_ast.specs.Erased.{erase_name, erase_names, erase_model, erase_tokens}
-use Rattle.isle_ast.specs.Identifier.{is_identifier}
 use Rattle.isle_ast.specs.ModelGrammar.{SpellsTypeModel}
-use Rattle.isle_ast.specs.Numbers.{SpellsInteger}
-use Rattle.isle_ast.specs.Operators.{operator_text, is_operator_text}
 use Rattle.isle_ast.specs.PatternGrammar.{bool_word, is_bool_word}
-use Rattle.isle_ast.specs.SpecErased.{erase_spec, erase_specs, erase_arms, erase_spec_lets, erase_field_inits}
 use Rattle.isle_ast.specs.SpecGrammar.{SpellsBitVector, SpellsMarked, field_mark, discriminator_mark, expansion_mark, SpellsNames, SpellsHeaded, is_dot, is_plain_operator, SpellsSpec, SpellsSpecs, SpellsCases, SpellsPairs, SpellsArms, SpellsSpecLets, SpellsFieldInits}
-use Rattle.isle_ast.specs.Tree.{Name, SpecNode, int_spec, bit_vector_spec, bool_spec, var_spec, as_spec, field_spec, discriminator_spec, op_spec, match_spec, let_spec, with_spec, macro_spec, expand_spec, pair_spec, enum_spec, struct_spec, SpecRow, no_spec, more_spec, ArmRow, no_arm, more_arm, SpecLetRow, no_spec_let, more_spec_let, FieldInitRow, no_field_init, more_field_init}
-use Rattle.isle_ast.specs.Words.{SpellsWord, SpellsAll, InParentheses, BehindWord, SpellsName}
-use Rattle.isle_ast.proofs.ErasedSpecs.{is_int, BitsNode, is_bits, is_bool, is_var, AsNode, erase_as, is_as, NamedNode, erase_named, is_field, is_discriminator, is_op, MatchNode, erase_match, is_match, LetNode, erase_let, is_let, BoundNode, erase_bound, is_with, is_macro, ExpandNode, erase_expand, is_expand, EnumNode, erase_enum, enum_of, is_enum, is_struct, is_no_spec, RowNode, erase_row, is_more, PairNode, erase_both, erase_pairs, pair_row, is_pair, is_no_arm, HeadNode, erase_head, ArmNode, erase_arm, ArmRowNode, erase_arm_row, arm_row, is_arm, is_no_let, LetRowNode, erase_let_row, let_row, is_more_let, is_no_init, InitRowNode, erase_init_row, init_row, is_init}
 use Rattle.isle_ast.proofs.Lawful.{Plain, Lawful, Begins, Then, At, name_placed, name_at, name_agrees, word_plain, nothing_plain, plain_lawful, value_lawful, name_lawful, pair_lawful, all_lawful, at_lawful, where_lawful, settled_lawful, either_lawful, made_lawful, made_at_lawful, parentheses_lawful, word_lawful, token_begins, name_begins, parentheses_begin}
 use Rattle.isle_ast.proofs.LawfulModels.{model_lawful}
 use Rattle.isle_ast.proofs.LawfulPatterns.{integer_plain, integer_begins}

@@ -2,11 +2,11 @@
 use Rattle.std.proofs.Common.{◌≡◌, List, [], ◌∷◌, Bool, false, ◌||◌, refl}
 use Rattle.std.specs.List.{list_any}
 use Rattle.isle_base.specs.Place.{Placed}
+use Rattle.isle_spec.specs.Tree.{PatternNode, var_pattern, bind_pattern, bool_pattern, int_pattern, constant_pattern, term_pattern, wildcard_pattern, and_pattern, macro_arg_pattern, PatternRow, no_pattern, more_pattern, Condition, RuleDefinition, ExtractorDefinition, Definition, type_def, rule, extractor, decl, attr, spec, spec_macro, model, state, form, instantiation, external, converter}
 use Rattle.isle_ast.specs.Grammar.{SpellsDefinition, SpellsDefinitions}
 use Rattle.isle_ast.specs.MacroArgs.{has_macro_arg, have_macro_arg, condition_has_macro_arg, rule_has_macro_arg, extractor_has_macro_arg, definition_has_macro_arg, definitions_have_macro_arg}
 use Rattle.isle_ast.specs.PatternGrammar.{SpellsPattern}
 use Rattle.isle_ast.specs.RuleGrammar.{SpellsCondition, SpellsRule, SpellsExtractor}
-use Rattle.isle_ast.specs.Tree.{PatternNode, var_pattern, bind_pattern, bool_pattern, int_pattern, constant_pattern, term_pattern, wildcard_pattern, and_pattern, macro_arg_pattern, PatternRow, no_pattern, more_pattern, Condition, RuleDefinition, ExtractorDefinition, Definition, type_def, rule, extractor, decl, attr, spec, spec_macro, model, state, form, instantiation, external, converter}
 use Rattle.isle_ast.specs.Writable.{Each, IsWritablePattern, AreWritablePatterns, IsWritableCondition, IsWritableRule, IsWritableExtractor, IsWritable, AreWritable}
 use Rattle.isle_ast.proofs.SpeltWritable.{definition-spelt, spelt_is_writable}
 use Rattle.isle_ast.proofs.SpeltWritableRules.{pattern-spelt, condition-spelt, rule-spelt, extractor-spelt}

@@ -1,6 +1,8 @@
 -- Each relation of the grammar is by parts.
 use Rattle.std.proofs.Common.{◌↔◌, List, [], ◌∷◌, map, sym, subst}
 use Rattle.isle_base.specs.Place.{Placed}
+use Rattle.isle_spec.specs.Tree.{Name, Declaration, Conversion, TypeModel, TypeDefinition, Attribute, SpecNode, SpecDefinition, SpecMacroDefinition, StateDefinition, FormDefinition, TermInstantiation, ModelDefinition, PatternNode, Expression, Condition, RuleDefinition, ExtractorDefinition, ExternDefinition, Definition}
+use Rattle.isle_spec.specs.Words.{SpellsAll, SpellsName}
 use Rattle.isle_ast.specs.Erased.{erase_name}
 use Rattle.isle_ast.specs.ExpressionGrammar.{SpellsExpression}
 use Rattle.isle_ast.specs.Grammar.{SpellsDefinition, SpellsDefinitions}
@@ -11,9 +13,7 @@ use Rattle.isle_ast.specs.RuleGrammar.{SpellsCondition, SpellsRule, SpellsExtrac
 use Rattle.isle_ast.specs.SpecDefinitionGrammar.{SpellsSpecDefinition, SpellsSpecMacro, SpellsState}
 use Rattle.isle_ast.specs.SpecGrammar.{SpellsSpec}
 use Rattle.isle_ast.specs.TermGrammar.{SpellsDeclaration, SpellsAttribute, SpellsExtern, SpellsConversion}
-use Rattle.isle_ast.specs.Tree.{Name, Declaration, Conversion, TypeModel, TypeDefinition, Attribute, SpecNode, SpecDefinition, SpecMacroDefinition, StateDefinition, FormDefinition, TermInstantiation, ModelDefinition, PatternNode, Expression, Condition, RuleDefinition, ExtractorDefinition, ExternDefinition, Definition}
 use Rattle.isle_ast.specs.TypeGrammar.{SpellsTypeDefinition}
-use Rattle.isle_ast.specs.Words.{SpellsAll, SpellsName}
 use Rattle.isle_ast.proofs.Lawful.{Lawful, name_lawful, all_lawful}
 use Rattle.isle_ast.proofs.LawfulDefinitions.{definition_lawful}
 use Rattle.isle_ast.proofs.LawfulExpressions.{expression_lawful}

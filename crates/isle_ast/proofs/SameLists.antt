@@ -1,33 +1,12 @@
--- The comparison of the lists that models of types, patterns and expressions hold.
-use Rattle.std.proofs.Common.{◌≡◌, List, Bool, true, false, ◌&&◌, refl}
-use Rattle.isle_ast.specs.declared.ast.ModelField.{ModelField}
+-- The comparison of the lists that patterns and expressions hold.
+use Rattle.std.proofs.Common.{List, Bool, refl}
+use Rattle.isle_spec.proofs.SameRows.{AreRows}
 use Rattle.isle_ast.specs.declared.ast.Pattern.{Pattern}
 use Rattle.isle_ast.specs.declared.ast.Expr.{Expr}
 use Rattle.isle_ast.specs.declared.ast.LetDef.{LetDef}
 use Rattle.isle_ast.specs.SameExpression.{same_expression, same_expressions, same_lets, same_single_let}
-use Rattle.isle_ast.specs.SameModel.{same_model, same_model_fields, same_single}
-use Rattle.isle_ast.specs.SameParts.{same_name}
 use Rattle.isle_ast.specs.SamePattern.{same_pattern, same_patterns}
-use Rattle.isle_ast.specs.TreeView.{model_row_of, single_model_field_of, single_model_fields_of, pattern_of, pattern_row_of, patterns_of, expression_of, expression_row_of, expressions_of, let_row_of, single_let_of, single_lets_of}
-use Rattle.isle_ast.proofs.SameRows.{AreRows}
-
-and_assoc : (a b c : Bool) → (a && (b && c)) ≡ ((a && b) && c)
-and_assoc true b c = refl
-and_assoc false b c = refl
-
-abbrev pub field_rows : List ModelField → List ModelField → Bool
-field_rows fs gs = same_model_fields (model_row_of (single_model_fields_of fs)) (model_row_of (single_model_fields_of gs))
-
-pub fields_are_rows : AreRows field_rows (λ f g. same_single (single_model_field_of f) (single_model_field_of g))
-fields_are_rows = record {
-  ended = refl;
-  first = λ f g fs gs.
-      let x = single_model_field_of f in
-      let y = single_model_field_of g in
-      and_assoc (same_name x.name y.name) (same_model x.ty y.ty) (field_rows fs gs);
-  shorter = λ g gs. refl;
-  longer = λ f fs. refl;
-}
+use Rattle.isle_ast.specs.TreeView.{pattern_of, pattern_row_of, patterns_of, expression_of, expression_row_of, expressions_of, let_row_of, single_let_of, single_lets_of}
 
 abbrev pub pattern_rows : List Pattern → List Pattern → Bool
 pattern_rows ps qs = same_patterns (pattern_row_of (patterns_of ps)) (pattern_row_of (patterns_of qs))

@@ -4,9 +4,9 @@ use Rattle.std.proofs.lemmas.Bool.{false≢true}
 use Rattle.std.proofs.lemmas.Slice.Eq.{bytes_eq-Decides}
 use Rattle.std.specs.Str.{bytes_eq}
 use Rattle.isle_base.specs.Place.{Placed}
+use Rattle.isle_spec.specs.Tree.{Name}
+use Rattle.isle_spec.specs.Words.{SpellsAll, SpellsName}
 use Rattle.isle_ast.specs.TermGrammar.{demands}
-use Rattle.isle_ast.specs.Tree.{Name}
-use Rattle.isle_ast.specs.Words.{SpellsAll, SpellsName}
 use Rattle.isle_ast.specs.Writable.{IsName, Each, Wants}
 
 pub both_true : (a b : Bool) → (a && b) ≡ true → (a ≡ true) × (b ≡ true)

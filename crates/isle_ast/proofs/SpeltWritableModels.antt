@@ -1,8 +1,8 @@
 -- Spelt models of types are writable.
 use Rattle.std.proofs.Common.{List, None, Some}
 use Rattle.isle_base.specs.Place.{Placed}
+use Rattle.isle_spec.specs.Tree.{TypeModel, unspecified_model, auto_model, int_model, bool_model, unit_model, bit_vector_model, struct_model, named_model, ModelFieldRow, no_model_field, model_field}
 use Rattle.isle_ast.specs.ModelGrammar.{SpellsTypeModel, SpellsModelFields}
-use Rattle.isle_ast.specs.Tree.{TypeModel, unspecified_model, auto_model, int_model, bool_model, unit_model, bit_vector_model, struct_model, named_model, ModelFieldRow, no_model_field, model_field}
 use Rattle.isle_ast.specs.Writable.{IsWritableModel, AreWritableModelFields}
 
 mutual

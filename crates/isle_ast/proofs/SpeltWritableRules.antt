@@ -3,12 +3,12 @@ use Rattle.std.proofs.Common.{◌≡◌, ℤ, List, Bool, true, false, ◌||◌,
 use Rattle.std.proofs.lemmas.Bool.{false≢true, true≢false, not-true}
 use Rattle.std.specs.Str.{bytes_eq}
 use Rattle.isle_base.specs.Place.{Placed}
+use Rattle.isle_spec.specs.Numbers.{IsSigned, SpellsPriority}
+use Rattle.isle_spec.specs.Tree.{Name, PatternNode, var_pattern, bind_pattern, bool_pattern, int_pattern, constant_pattern, term_pattern, wildcard_pattern, and_pattern, macro_arg_pattern, PatternRow, no_pattern, more_pattern, Expression, term_expression, var_expression, bool_expression, int_expression, constant_expression, let_expression, ExpressionRow, no_expression, more_expression, LetRow, no_let, more_let, Condition, RuleDefinition, ExtractorDefinition}
+use Rattle.isle_spec.specs.Words.{SpellsName, SpellsOptional}
 use Rattle.isle_ast.specs.ExpressionGrammar.{is_expression_variable, SpellsExpression, SpellsExpressions, SpellsLets}
-use Rattle.isle_ast.specs.Numbers.{IsSigned, SpellsPriority}
 use Rattle.isle_ast.specs.PatternGrammar.{is_constant, is_bool_word, is_variable, SpellsPattern, SpellsPatterns}
 use Rattle.isle_ast.specs.RuleGrammar.{SpellsCondition, is_list_pattern, is_int_pattern, is_if_expression, pattern_is_no_head, SpellsRule, SpellsExtractor}
-use Rattle.isle_ast.specs.Tree.{Name, PatternNode, var_pattern, bind_pattern, bool_pattern, int_pattern, constant_pattern, term_pattern, wildcard_pattern, and_pattern, macro_arg_pattern, PatternRow, no_pattern, more_pattern, Expression, term_expression, var_expression, bool_expression, int_expression, constant_expression, let_expression, ExpressionRow, no_expression, more_expression, LetRow, no_let, more_let, Condition, RuleDefinition, ExtractorDefinition}
-use Rattle.isle_ast.specs.Words.{SpellsName, SpellsOptional}
 use Rattle.isle_ast.specs.Writable.{IsName, IsNot, HasNoDollar, IsPatternVariable, IsWritablePattern, AreWritablePatterns, IsExpressionVariable, IsWritableExpression, AreWritableExpressions, AreWritableLets, IsWritableCondition, IsTermOrAnd, IsNoInteger, IsNoIf, IsWritableRule, IsWritableExtractor}
 use Rattle.isle_ast.proofs.SpeltWords.{both_true, Each-spelt, names-spelt, differs}
 

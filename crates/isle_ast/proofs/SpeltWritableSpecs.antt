@@ -9,14 +9,14 @@ use Rattle.std.proofs.lemmas.Nat.{pow-add, mul-pow}
 use Rattle.std.specs.List.{list_all}
 use Rattle.std.specs.Str.Parse.{digits_value, without_leading_plus}
 use Rattle.isle_base.specs.Place.{Placed}
-use Rattle.isle_ast.specs.declared.ast.specs.SpecOp.{SpecOp}
-use Rattle.isle_ast.specs.declared.ast.specs.SpecOp.TheVariants as op
-use Rattle.isle_ast.specs.BitVectors.{IsBitVectorIn, IsBitVector}
+use Rattle.isle_spec.specs.declared.ast.specs.SpecOp.{SpecOp}
+use Rattle.isle_spec.specs.declared.ast.specs.SpecOp.TheVariants as op
+use Rattle.isle_spec.specs.BitVectors.{IsBitVectorIn, IsBitVector}
+use Rattle.isle_spec.specs.SpecWritable.{IsWritableBitVector, IsWritableVariantName, IsWritableSpec, AreWritableSpecs, AreWritableCases, AreWritablePairs, AreWritableArms, AreWritableSpecLets, AreWritableFieldInits, IsWritableModified, IsWritableSpecDefinition, IsWritableSpecMacro, IsWritableState}
+use Rattle.isle_spec.specs.Tree.{Name, SpecNode, int_spec, bit_vector_spec, bool_spec, var_spec, as_spec, field_spec, discriminator_spec, op_spec, match_spec, let_spec, with_spec, macro_spec, expand_spec, pair_spec, enum_spec, struct_spec, SpecRow, no_spec, more_spec, ArmRow, no_arm, more_arm, SpecLetRow, no_spec_let, more_spec_let, FieldInitRow, no_field_init, more_field_init, SpecDefinition, SpecMacroDefinition, StateDefinition}
+use Rattle.isle_spec.specs.Words.{SpellsAll}
 use Rattle.isle_ast.specs.SpecDefinitionGrammar.{SpecClause, provide_clause, require_clause, match_clause, modifies_clause, SpellsClause, provided, required, matched, modified, SpellsSpecDefinition, SpellsSpecMacro, SpellsState}
 use Rattle.isle_ast.specs.SpecGrammar.{is_dot, AreVariant, is_plain_operator, SpellsSpec, SpellsSpecs, SpellsCases, SpellsPairs, SpellsArms, SpellsSpecLets, SpellsFieldInits}
-use Rattle.isle_ast.specs.SpecWritable.{IsWritableBitVector, IsWritableVariantName, IsWritableSpec, AreWritableSpecs, AreWritableCases, AreWritablePairs, AreWritableArms, AreWritableSpecLets, AreWritableFieldInits, IsWritableModified, IsWritableSpecDefinition, IsWritableSpecMacro, IsWritableState}
-use Rattle.isle_ast.specs.Tree.{Name, SpecNode, int_spec, bit_vector_spec, bool_spec, var_spec, as_spec, field_spec, discriminator_spec, op_spec, match_spec, let_spec, with_spec, macro_spec, expand_spec, pair_spec, enum_spec, struct_spec, SpecRow, no_spec, more_spec, ArmRow, no_arm, more_arm, SpecLetRow, no_spec_let, more_spec_let, FieldInitRow, no_field_init, more_field_init, SpecDefinition, SpecMacroDefinition, StateDefinition}
-use Rattle.isle_ast.specs.Words.{SpellsAll}
 use Rattle.isle_ast.specs.Writable.{Each}
 use Rattle.isle_ast.proofs.SpeltWords.{both_true, Each-spelt, names-spelt}
 use Rattle.isle_ast.proofs.SpeltWritableModels.{model-spelt}

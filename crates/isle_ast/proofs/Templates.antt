@@ -6,10 +6,10 @@ use Rattle.std.proofs.lemmas.Bool.{le-leb, lt-leb}
 use Rattle.std.proofs.lemmas.List.Folds.{list_any-append}
 use Rattle.std.proofs.lemmas.Option.{slice_get_cases}
 use Rattle.isle_base.specs.declared.lexer.Pos.{Pos}
+use Rattle.isle_spec.specs.Tree.{Name, PatternNode, var_pattern, bind_pattern, bool_pattern, int_pattern, constant_pattern, term_pattern, wildcard_pattern, and_pattern, macro_arg_pattern, PatternRow, no_pattern, more_pattern}
 use Rattle.isle_ast.specs.declared.ast.Pattern.{Pattern}
 use Rattle.isle_ast.specs.MacroArgs.{has_macro_arg, have_macro_arg}
 use Rattle.isle_ast.specs.Templates.{bound_index, first_index, indices, join, lacks, plug, plug_row, put, replace, replace_by, replace_row, replace_row_by, row_indices}
-use Rattle.isle_ast.specs.Tree.{Name, PatternNode, var_pattern, bind_pattern, bool_pattern, int_pattern, constant_pattern, term_pattern, wildcard_pattern, and_pattern, macro_arg_pattern, PatternRow, no_pattern, more_pattern}
 use Rattle.isle_ast.specs.TreeView.{pattern_of, pattern_row_of, patterns_of}
 
 -- the templates of patterns are the template of their row

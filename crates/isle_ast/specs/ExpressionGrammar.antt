@@ -3,12 +3,12 @@ use Rattle.std.specs.Prelude.{◌≡◌, ℕ, List, ◌∷◌, Bool, true, false
 use Rattle.std.specs.Str.{bytes_eq}
 use Rattle.isle_base.specs.Place.{Placed}
 use Rattle.isle_base.specs.Token.{symbol}
-use Rattle.isle_ast.specs.Identifier.{is_identifier}
-use Rattle.isle_ast.specs.Numbers.{SpellsInteger}
+use Rattle.isle_spec.specs.Identifier.{is_identifier}
+use Rattle.isle_spec.specs.Numbers.{SpellsInteger}
+use Rattle.isle_spec.specs.Tree.{Name, Expression, term_expression, var_expression, bool_expression, int_expression, constant_expression, let_expression, ExpressionRow, no_expression, more_expression, LetRow, no_let, more_let}
+use Rattle.isle_spec.specs.Words.{SpellsWord, BeginsAt, InParentheses, BehindWord, SpellsName}
 use Rattle.isle_ast.specs.PatternGrammar.{is_constant, bool_word, is_bool_word}
 use Rattle.isle_ast.specs.TermGrammar.{SpellsConstant}
-use Rattle.isle_ast.specs.Tree.{Name, Expression, term_expression, var_expression, bool_expression, int_expression, constant_expression, let_expression, ExpressionRow, no_expression, more_expression, LetRow, no_let, more_let}
-use Rattle.isle_ast.specs.Words.{SpellsWord, BeginsAt, InParentheses, BehindWord, SpellsName}
 
 -- a variable of an expression: an identifier that isn't `true` or `false` and doesn't begin with `$`
 abbrev pub is_expression_variable : List ℕ → Bool

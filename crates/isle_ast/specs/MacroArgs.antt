@@ -1,7 +1,7 @@
 -- Which nodes are or hold the argument of a macro, which no text spells and nothing prints.
 use Rattle.std.specs.Prelude.{List, Bool, true, false, ◌||◌}
 use Rattle.std.specs.List.{list_any}
-use Rattle.isle_ast.specs.Tree.{PatternNode, var_pattern, bind_pattern, bool_pattern, int_pattern, constant_pattern, term_pattern, wildcard_pattern, and_pattern, macro_arg_pattern, PatternRow, no_pattern, more_pattern, Condition, RuleDefinition, ExtractorDefinition, Definition, type_def, rule, extractor, decl, attr, spec, spec_macro, model, state, form, instantiation, external, converter}
+use Rattle.isle_spec.specs.Tree.{PatternNode, var_pattern, bind_pattern, bool_pattern, int_pattern, constant_pattern, term_pattern, wildcard_pattern, and_pattern, macro_arg_pattern, PatternRow, no_pattern, more_pattern, Condition, RuleDefinition, ExtractorDefinition, Definition, type_def, rule, extractor, decl, attr, spec, spec_macro, model, state, form, instantiation, external, converter}
 
 abbrev mutual
   pub has_macro_arg : PatternNode → Bool

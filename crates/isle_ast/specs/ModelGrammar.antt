@@ -1,9 +1,9 @@
 -- The definitions that are made of models of types: `model`, `form` and `instantiate`.
 use Rattle.std.specs.Prelude.{◌≡◌, List, [], Option, None, Some, codes}
 use Rattle.isle_base.specs.Place.{Placed}
+use Rattle.isle_spec.specs.Tree.{Name, TermSignature, FormDefinition, TermInstantiation, ModelContent, type_model, const_model, ModelDefinition}
+use Rattle.isle_spec.specs.Words.{BeginsAt, SpellsAll, InParentheses, BehindWord, SpellsName, IsNonEmpty}
 use Rattle.isle_ast.specs.SpecGrammar.{SpellsSpec}
-use Rattle.isle_ast.specs.Tree.{Name, TermSignature, FormDefinition, TermInstantiation, ModelContent, type_model, const_model, ModelDefinition}
-use Rattle.isle_ast.specs.Words.{BeginsAt, SpellsAll, InParentheses, BehindWord, SpellsName, IsNonEmpty}
 pub use Rattle.isle_ast.specs.TypeModelGrammar.{SpellsTypeModel, SpellsModelFields}
 
 -- `((args MODEL..) (ret MODEL))`, at the position of the token behind its `(`

@@ -4,11 +4,11 @@ use Rattle.std.specs.Str.{bytes_eq}
 use Rattle.isle_base.specs.Place.{Placed}
 use Rattle.isle_base.specs.Skips.{begins_with}
 use Rattle.isle_base.specs.Token.{symbol, at_sign}
-use Rattle.isle_ast.specs.Identifier.{is_identifier}
-use Rattle.isle_ast.specs.Numbers.{SpellsInteger}
+use Rattle.isle_spec.specs.Identifier.{is_identifier}
+use Rattle.isle_spec.specs.Numbers.{SpellsInteger}
+use Rattle.isle_spec.specs.Tree.{Name, PatternNode, var_pattern, bind_pattern, bool_pattern, int_pattern, constant_pattern, term_pattern, wildcard_pattern, and_pattern, macro_arg_pattern, PatternRow, no_pattern, more_pattern}
+use Rattle.isle_spec.specs.Words.{SpellsToken, SpellsWord, BeginsAt, InParentheses, BehindWord, SpellsName}
 use Rattle.isle_ast.specs.TermGrammar.{SpellsConstant}
-use Rattle.isle_ast.specs.Tree.{Name, PatternNode, var_pattern, bind_pattern, bool_pattern, int_pattern, constant_pattern, term_pattern, wildcard_pattern, and_pattern, macro_arg_pattern, PatternRow, no_pattern, more_pattern}
-use Rattle.isle_ast.specs.Words.{SpellsToken, SpellsWord, BeginsAt, InParentheses, BehindWord, SpellsName}
 
 abbrev pub is_dollar : ℕ → Bool
 is_dollar byte = nat_eq byte 36

@@ -2,11 +2,11 @@
 use Rattle.std.specs.Prelude.{◌≡◌, ℤ, List, Bool, true, false, not, ◌⊎◌, Option, None, Some, codes}
 use Rattle.std.specs.Str.{bytes_eq}
 use Rattle.isle_base.specs.Place.{Placed}
+use Rattle.isle_spec.specs.Numbers.{SpellsPriority}
+use Rattle.isle_spec.specs.Tree.{Name, PatternNode, var_pattern, bind_pattern, bool_pattern, int_pattern, constant_pattern, term_pattern, wildcard_pattern, and_pattern, macro_arg_pattern, Expression, term_expression, var_expression, bool_expression, int_expression, constant_expression, let_expression, Condition, RuleDefinition, ExtractorDefinition}
+use Rattle.isle_spec.specs.Words.{BeginsAt, SpellsAll, InParentheses, BehindWord, SpellsName, SpellsOptional}
 use Rattle.isle_ast.specs.ExpressionGrammar.{SpellsExpression}
-use Rattle.isle_ast.specs.Numbers.{SpellsPriority}
 use Rattle.isle_ast.specs.PatternGrammar.{SpellsPattern}
-use Rattle.isle_ast.specs.Tree.{Name, PatternNode, var_pattern, bind_pattern, bool_pattern, int_pattern, constant_pattern, term_pattern, wildcard_pattern, and_pattern, macro_arg_pattern, Expression, term_expression, var_expression, bool_expression, int_expression, constant_expression, let_expression, Condition, RuleDefinition, ExtractorDefinition}
-use Rattle.isle_ast.specs.Words.{BeginsAt, SpellsAll, InParentheses, BehindWord, SpellsName, SpellsOptional}
 
 -- a pattern, and the expression that it matches
 abbrev pub SpellsMatch : Condition → List Placed → List Placed → Type 0

@@ -6,8 +6,8 @@ use Rattle.std.specs.Cmp.{IsEquivalence, decided, on_equiv, booleans_Decides, si
 use Rattle.std.specs.Ordering.{on, int_eq}
 use Rattle.std.proofs.Common.{refl, sym, subst}
 use Rattle.std.proofs.lemmas.Bool.{true≢false}
-use Rattle.isle_ast.specs.SameParts.{same_pos, same_name, both_true, and_true, pos_same, pos_self, name_same, name_self}
-use Rattle.isle_ast.specs.Tree.{Expression, term_expression, var_expression, bool_expression, int_expression, constant_expression, let_expression, ExpressionRow, no_expression, more_expression, LetRow, no_let, more_let}
+use Rattle.isle_spec.specs.SameParts.{same_pos, same_name, both_true, and_true, pos_same, pos_self, name_same, name_self}
+use Rattle.isle_spec.specs.Tree.{Expression, term_expression, var_expression, bool_expression, int_expression, constant_expression, let_expression, ExpressionRow, no_expression, more_expression, LetRow, no_let, more_let}
 use Rattle.isle_ast.specs.TreeView.{SingleLet, expression_of, single_let_of}
 
 abbrev mutual

@@ -7,8 +7,8 @@ use Rattle.std.specs.Ordering.{on, int_eq}
 use Rattle.std.proofs.Common.{refl, sym, ap, subst}
 use Rattle.std.proofs.lemmas.Bool.{true≢false}
 use Rattle.std.proofs.lemmas.Bool.Decides.{Decides-eqb}
-use Rattle.isle_ast.specs.SameParts.{same_pos, same_name, both_true, and_true, pos_same, pos_self, name_same, name_self}
-use Rattle.isle_ast.specs.Tree.{PatternNode, var_pattern, bind_pattern, bool_pattern, int_pattern, constant_pattern, term_pattern, wildcard_pattern, and_pattern, macro_arg_pattern, PatternRow, no_pattern, more_pattern}
+use Rattle.isle_spec.specs.SameParts.{same_pos, same_name, both_true, and_true, pos_same, pos_self, name_same, name_self}
+use Rattle.isle_spec.specs.Tree.{PatternNode, var_pattern, bind_pattern, bool_pattern, int_pattern, constant_pattern, term_pattern, wildcard_pattern, and_pattern, macro_arg_pattern, PatternRow, no_pattern, more_pattern}
 use Rattle.isle_ast.specs.TreeView.{pattern_of}
 
 abbrev mutual

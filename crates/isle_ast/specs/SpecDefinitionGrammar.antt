@@ -1,10 +1,10 @@
 -- The definitions that are made of spec expressions: `spec`, `macro` and `state`.
 use Rattle.std.specs.Prelude.{◌≡◌, List, [], ◌∷◌, ◌++◌, codes}
 use Rattle.isle_base.specs.Place.{Placed}
+use Rattle.isle_spec.specs.Tree.{SpecNode, ModifiedState, SpecDefinition, SpecMacroDefinition, StateDefinition}
+use Rattle.isle_spec.specs.Words.{BeginsAt, SpellsAll, InParentheses, BehindWord, SpellsName, SpellsOptional}
 use Rattle.isle_ast.specs.SpecGrammar.{SpellsSpec, SpellsHeaded}
-use Rattle.isle_ast.specs.Tree.{SpecNode, ModifiedState, SpecDefinition, SpecMacroDefinition, StateDefinition}
 use Rattle.isle_ast.specs.TypeModelGrammar.{SpellsTypeModel}
-use Rattle.isle_ast.specs.Words.{BeginsAt, SpellsAll, InParentheses, BehindWord, SpellsName, SpellsOptional}
 
 -- one clause of a spec
 pub data SpecClause : Type 0 where

@@ -5,16 +5,16 @@ use Rattle.std.specs.List.{list_all}
 use Rattle.isle_base.specs.declared.lexer.Pos.{Pos}
 use Rattle.isle_base.specs.Place.{Placed}
 use Rattle.isle_base.specs.Token.{symbol}
-use Rattle.isle_ast.specs.declared.ast.specs.SpecOp.{SpecOp}
-use Rattle.isle_ast.specs.declared.ast.specs.SpecOp.TheVariants as op
-use Rattle.isle_ast.specs.BitVectors.{IsBitVector}
-use Rattle.isle_ast.specs.Identifier.{is_identifier}
-use Rattle.isle_ast.specs.Numbers.{SpellsInteger}
-use Rattle.isle_ast.specs.Operators.{operator_text, is_operator_text}
+use Rattle.isle_spec.specs.declared.ast.specs.SpecOp.{SpecOp}
+use Rattle.isle_spec.specs.declared.ast.specs.SpecOp.TheVariants as op
+use Rattle.isle_spec.specs.BitVectors.{IsBitVector}
+use Rattle.isle_spec.specs.Identifier.{is_identifier}
+use Rattle.isle_spec.specs.Numbers.{SpellsInteger}
+use Rattle.isle_spec.specs.Operators.{operator_text, is_operator_text}
+use Rattle.isle_spec.specs.Tree.{Name, SpecNode, int_spec, bit_vector_spec, bool_spec, var_spec, as_spec, field_spec, discriminator_spec, op_spec, match_spec, let_spec, with_spec, macro_spec, expand_spec, pair_spec, enum_spec, struct_spec, SpecRow, no_spec, more_spec, ArmRow, no_arm, more_arm, SpecLetRow, no_spec_let, more_spec_let, FieldInitRow, no_field_init, more_field_init}
+use Rattle.isle_spec.specs.Words.{SpellsWord, BeginsAt, SpellsAll, InParentheses, BehindWord, SpellsName}
 use Rattle.isle_ast.specs.PatternGrammar.{bool_word, is_bool_word}
-use Rattle.isle_ast.specs.Tree.{Name, SpecNode, int_spec, bit_vector_spec, bool_spec, var_spec, as_spec, field_spec, discriminator_spec, op_spec, match_spec, let_spec, with_spec, macro_spec, expand_spec, pair_spec, enum_spec, struct_spec, SpecRow, no_spec, more_spec, ArmRow, no_arm, more_arm, SpecLetRow, no_spec_let, more_spec_let, FieldInitRow, no_field_init, more_field_init}
 use Rattle.isle_ast.specs.TypeModelGrammar.{SpellsTypeModel}
-use Rattle.isle_ast.specs.Words.{SpellsWord, BeginsAt, SpellsAll, InParentheses, BehindWord, SpellsName}
 
 -- a bit vector, as one symbol
 abbrev pub SpellsBitVector : ℕ → ℕ → List Placed → List Placed → Type 0

@@ -3,9 +3,9 @@ use Rattle.std.specs.Prelude.{◌≡◌, ℕ, List, ◌∷◌, Bool, true, false
 use Rattle.std.specs.Str.{bytes_eq}
 use Rattle.isle_base.specs.Place.{Placed}
 use Rattle.isle_base.specs.Token.{symbol}
-use Rattle.isle_ast.specs.Identifier.{is_identifier}
-use Rattle.isle_ast.specs.Tree.{Name, Declaration, Conversion, Attribute, AttributeTarget, term_target, rule_target, AttributeKind, chain_kind, priority_kind, tag_kind, ExternDefinition, extern_extractor, extern_constructor, extern_const}
-use Rattle.isle_ast.specs.Words.{SpellsWord, BeginsAt, SpellsAll, InParentheses, BehindWord, SpellsName, SpellsFlag}
+use Rattle.isle_spec.specs.Identifier.{is_identifier}
+use Rattle.isle_spec.specs.Tree.{Name, Declaration, Conversion, Attribute, AttributeTarget, term_target, rule_target, AttributeKind, chain_kind, priority_kind, tag_kind, ExternDefinition, extern_extractor, extern_constructor, extern_const}
+use Rattle.isle_spec.specs.Words.{SpellsWord, BeginsAt, SpellsAll, InParentheses, BehindWord, SpellsName, SpellsFlag}
 
 -- what this text demands of a flag, where it is this word
 abbrev pub demands : List ℕ → List ℕ → Bool → Bool

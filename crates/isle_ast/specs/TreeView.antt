@@ -1,6 +1,9 @@
 -- The tree of the code, as pure values.
 use Rattle.isle_base.specs.declared.lexer.Pos.{Pos}
 use Rattle.std.specs.Prelude.{List, [], ◌∷◌, map}
+use Rattle.isle_spec.specs.SpecView.{spec_of, spec_definition_of, spec_macro_of, state_of}
+use Rattle.isle_spec.specs.Tree.{Name, Declaration, Conversion, NamedField, IndexedField, FieldList, unit_fields, struct_fields, tuple_fields, EnumVariant, TypeContent, primitive_type, enum_type, struct_type, TypeDefinition, AttributeTarget, term_target, rule_target, AttributeKind, chain_kind, priority_kind, tag_kind, Attribute, TermSignature, FormDefinition, TermInstantiation, ModelContent, type_model, const_model, ModelDefinition, PatternNode, var_pattern, bind_pattern, bool_pattern, int_pattern, constant_pattern, term_pattern, wildcard_pattern, and_pattern, macro_arg_pattern, PatternRow, no_pattern, more_pattern, Expression, term_expression, var_expression, bool_expression, int_expression, constant_expression, let_expression, ExpressionRow, no_expression, more_expression, LetRow, no_let, more_let, Condition, RuleDefinition, ExtractorDefinition, ExternDefinition, extern_extractor, extern_constructor, extern_const, Definition, type_def, rule, extractor, decl, attr, spec, spec_macro, model, state, form, instantiation, external, converter}
+pub use Rattle.isle_spec.specs.ModelView.{name_of, names_of, optional_name_of, SingleModelField, model_row_of, model_type_step, model_field_step, type_model_of, single_model_field_of, single_model_fields_of}
 use Rattle.isle_ast.specs.declared.ast.TypeDef.{TypeDef}
 use Rattle.isle_ast.specs.declared.ast.TypeValue.{TypeValue}
 use Rattle.isle_ast.specs.declared.ast.TypeValue.TheVariants as type_values
@@ -38,9 +41,6 @@ use Rattle.isle_ast.specs.declared.ast.Extern.TheVariants as externs
 use Rattle.isle_ast.specs.declared.ast.Converter.{Converter}
 use Rattle.isle_ast.specs.declared.ast.Def.{Def}
 use Rattle.isle_ast.specs.declared.ast.Def.TheVariants as variants
-use Rattle.isle_ast.specs.SpecView.{spec_of, spec_definition_of, spec_macro_of, state_of}
-use Rattle.isle_ast.specs.Tree.{Name, Declaration, Conversion, NamedField, IndexedField, FieldList, unit_fields, struct_fields, tuple_fields, EnumVariant, TypeContent, primitive_type, enum_type, struct_type, TypeDefinition, AttributeTarget, term_target, rule_target, AttributeKind, chain_kind, priority_kind, tag_kind, Attribute, TermSignature, FormDefinition, TermInstantiation, ModelContent, type_model, const_model, ModelDefinition, PatternNode, var_pattern, bind_pattern, bool_pattern, int_pattern, constant_pattern, term_pattern, wildcard_pattern, and_pattern, macro_arg_pattern, PatternRow, no_pattern, more_pattern, Expression, term_expression, var_expression, bool_expression, int_expression, constant_expression, let_expression, ExpressionRow, no_expression, more_expression, LetRow, no_let, more_let, Condition, RuleDefinition, ExtractorDefinition, ExternDefinition, extern_extractor, extern_constructor, extern_const, Definition, type_def, rule, extractor, decl, attr, spec, spec_macro, model, state, form, instantiation, external, converter}
-pub use Rattle.isle_ast.specs.ModelView.{name_of, names_of, optional_name_of, SingleModelField, model_row_of, model_type_step, model_field_step, type_model_of, single_model_field_of, single_model_fields_of}
 
 abbrev pub declaration_of : Decl → Declaration
 declaration_of d =

@@ -1,9 +1,9 @@
 -- The models of types.
 use Rattle.std.specs.Prelude.{◌≡◌, List, codes}
 use Rattle.isle_base.specs.Place.{Placed}
-use Rattle.isle_ast.specs.Numbers.{SpellsNumber}
-use Rattle.isle_ast.specs.Tree.{TypeModel, unspecified_model, auto_model, int_model, bool_model, unit_model, bit_vector_model, struct_model, named_model, ModelFieldRow, no_model_field, model_field}
-use Rattle.isle_ast.specs.Words.{SpellsWord, InParentheses, BehindWord, SpellsName, SpellsOptional}
+use Rattle.isle_spec.specs.Numbers.{SpellsNumber}
+use Rattle.isle_spec.specs.Tree.{TypeModel, unspecified_model, auto_model, int_model, bool_model, unit_model, bit_vector_model, struct_model, named_model, ModelFieldRow, no_model_field, model_field}
+use Rattle.isle_spec.specs.Words.{SpellsWord, InParentheses, BehindWord, SpellsName, SpellsOptional}
 
 -- `!`, `_`, `Int`, `Bool`, `Unit`, `(bv)` or `(bv N)`, `(struct (I MODEL)..)`, `(named I)`
 abbrev mutual

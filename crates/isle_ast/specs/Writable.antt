@@ -1,12 +1,12 @@
 -- Which trees are written so that they read back: the conditions on each node. They name no text and
 -- no width, and positions play no part.
 use Rattle.std.specs.Prelude.{◌≡◌, ◌≢◌, ℕ, ◌+◌, List, [], ◌∷◌, Bool, true, ◌||◌, Option, None, Some, IfSome, codes}
-use Rattle.isle_ast.specs.Identifier.{is_identifier}
-use Rattle.isle_ast.specs.Numbers.{IsSigned}
-use Rattle.isle_ast.specs.SpecWritable.{IsWritableSpec, IsWritableSpecDefinition, IsWritableSpecMacro, IsWritableState}
-use Rattle.isle_ast.specs.Tree.{Name, Declaration, Conversion, NamedField, IndexedField, FieldList, unit_fields, struct_fields, tuple_fields, EnumVariant, TypeContent, primitive_type, enum_type, struct_type, TypeDefinition, AttributeTarget, term_target, rule_target, AttributeKind, chain_kind, priority_kind, tag_kind, Attribute, TermSignature, FormDefinition, TermInstantiation, ModelContent, type_model, const_model, ModelDefinition, PatternNode, var_pattern, bind_pattern, bool_pattern, int_pattern, constant_pattern, term_pattern, wildcard_pattern, and_pattern, macro_arg_pattern, PatternRow, no_pattern, more_pattern, Expression, term_expression, var_expression, bool_expression, int_expression, constant_expression, let_expression, ExpressionRow, no_expression, more_expression, LetRow, no_let, more_let, Condition, RuleDefinition, ExtractorDefinition, ExternDefinition, extern_extractor, extern_constructor, extern_const, Definition, type_def, rule, extractor, decl, attr, spec, spec_macro, model, state, form, instantiation, external, converter}
-use Rattle.isle_ast.specs.Words.{IsNonEmpty}
-pub use Rattle.isle_ast.specs.WritableModel.{IsName, Each, IsNot, IsWritableModel, AreWritableModelFields}
+use Rattle.isle_spec.specs.Identifier.{is_identifier}
+use Rattle.isle_spec.specs.Numbers.{IsSigned}
+use Rattle.isle_spec.specs.SpecWritable.{IsWritableSpec, IsWritableSpecDefinition, IsWritableSpecMacro, IsWritableState}
+use Rattle.isle_spec.specs.Tree.{Name, Declaration, Conversion, NamedField, IndexedField, FieldList, unit_fields, struct_fields, tuple_fields, EnumVariant, TypeContent, primitive_type, enum_type, struct_type, TypeDefinition, AttributeTarget, term_target, rule_target, AttributeKind, chain_kind, priority_kind, tag_kind, Attribute, TermSignature, FormDefinition, TermInstantiation, ModelContent, type_model, const_model, ModelDefinition, PatternNode, var_pattern, bind_pattern, bool_pattern, int_pattern, constant_pattern, term_pattern, wildcard_pattern, and_pattern, macro_arg_pattern, PatternRow, no_pattern, more_pattern, Expression, term_expression, var_expression, bool_expression, int_expression, constant_expression, let_expression, ExpressionRow, no_expression, more_expression, LetRow, no_let, more_let, Condition, RuleDefinition, ExtractorDefinition, ExternDefinition, extern_extractor, extern_constructor, extern_const, Definition, type_def, rule, extractor, decl, attr, spec, spec_macro, model, state, form, instantiation, external, converter}
+use Rattle.isle_spec.specs.Words.{IsNonEmpty}
+pub use Rattle.isle_spec.specs.WritableModel.{IsName, Each, IsNot, IsWritableModel, AreWritableModelFields}
 
 -- a name that is this word wants this to be set
 abbrev pub Wants : Name → List ℕ → Bool → Type 0

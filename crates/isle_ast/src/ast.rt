@@ -1,23 +1,22 @@
 //! Abstract syntax tree (AST) created from parsed ISLE.
 
-ghost use Rattle.std.specs.Prelude.{◌≡◌, ◌↔◌, IsTrue, Some};
-ghost use Rattle.std.specs.declared.cmp.Ordering.TheVariants.{Equal};
-ghost use Rattle.isle_ast.specs.NameOrder.{name_cmp};
-ghost use Rattle.isle_ast.specs.SpecView.{modified_of, single_arm_of, single_field_init_of, spec_definition_of, spec_macro_of, spec_of, state_of};
-ghost use Rattle.isle_ast.specs.TreeView.{attribute_of, condition_of, conversion_of, declaration_of, definition_of, expression_of, extern_of, extractor_of, fields_of, form_of, indexed_field_of, instantiation_of, kind_of, model_content_of, model_definition_of, name_of, named_field_of, pattern_of, rule_of, signature_of, single_let_of, single_model_field_of, struct_fields_of, target_of, tuple_fields_of, type_content_of, type_definition_of, type_model_of, variant_of};
+ghost use Rattle.std.specs.Prelude.{◌≡◌, ◌↔◌, IsTrue};
+ghost use Rattle.isle_spec.specs.SpecView.{modified_of, single_arm_of, single_field_init_of, spec_definition_of, spec_macro_of, spec_of, state_of};
+ghost use Rattle.isle_ast.specs.TreeView.{attribute_of, condition_of, conversion_of, declaration_of, definition_of, expression_of, extern_of, extractor_of, fields_of, form_of, indexed_field_of, instantiation_of, kind_of, model_content_of, model_definition_of, named_field_of, pattern_of, rule_of, signature_of, single_let_of, single_model_field_of, struct_fields_of, target_of, tuple_fields_of, type_content_of, type_definition_of, type_model_of, variant_of};
 
 mod clone;
 mod compare;
 pub mod grammar;
-pub mod identifier;
 mod macros;
-mod specs;
 mod walks;
+pub mod writable;
 
 use isle_base::lexer::Pos;
-pub use specs::{Arm, FieldInit, Modifies, Spec, SpecExpr, SpecMacro, SpecOp, State};
+pub use isle_spec::ast::{
+    Arm, FieldInit, Ident, ModelField, ModelType, Modifies, Spec, SpecExpr, SpecMacro, SpecOp,
+    State, identifier, identifiers_are_ordered,
+};
 use std::convert::Infallible;
-use std::hash::Hash;
 
 /// A definition, the toplevel form of an ISLE source.
 #[derive(Debug, PartialEq, Eq, Drop)]
@@ -51,22 +50,6 @@ pub enum Def {
     /// An automatic conversion between types, `(convert ..)`.
     Converter(Converter),
 }
-
-/// An identifier: a variable, a term symbol, or a type.
-///
-/// Identifiers are ordered by the bytes of the text, then by file, then by offset.
-#[derive(Clone, Debug, PartialEq, Eq, PartialOrd, Ord, Hash, Drop)]
-pub struct Ident(pub String, pub Pos);
-
-/// A law, which runs no code: the order, the equality and the hash of identifiers are of their texts
-/// and positions alone, and agree.
-pub fn identifiers_are_ordered()
-    ensures order { (a b : Ident) → ⟦<Ident as Ord>⟧.cmp a b ≡ name_cmp (name_of a) (name_of b) }
-    ensures partial_order { (a b : Ident) → ⟦<Ident as PartialOrd>⟧.partial_cmp a b ≡ Some (name_cmp (name_of a) (name_of b)) }
-    ensures equality { (a b : Ident) → IsTrue (⟦<Ident as PartialEq>⟧.eq a b) ↔ (name_of a ≡ name_of b) }
-    ensures equal_in_order { (a b : Ident) → (name_cmp (name_of a) (name_of b) ≡ Equal) ↔ (name_of a ≡ name_of b) }
-    ensures hash { (a b : Ident) → name_of a ≡ name_of b → ⟦<Ident as Hash>⟧.hash_input a ≡ ⟦<Ident as Hash>⟧.hash_input b }
-{}
 
 /// A pragma. None is defined, so there are no values of the type. Upstream has an empty enum of its own for it.
 pub type Pragma = Infallible;
@@ -224,38 +207,6 @@ pub enum AttrKind {
     Priority,
     /// A tag, `(tag ..)`.
     Tag(Ident),
-}
-
-/// A model of a type, which verification speaks of.
-#[cycle(model)]
-#[derive(Debug, Drop)]
-pub enum ModelType {
-    /// Not specified, `!`.
-    Unspecified,
-    /// Inferred, `_`.
-    Auto,
-    /// Mathematical integers.
-    Int,
-    /// Booleans.
-    Bool,
-    /// The one value.
-    Unit,
-    /// Bit vectors, of a number of bits if it is known.
-    BitVec(Option<usize>),
-    /// Structs of these fields.
-    Struct(Vec<ModelField>),
-    /// A model under a name.
-    Named(Ident),
-}
-
-/// A field of a struct model.
-#[cycle(model)]
-#[derive(Debug, Drop)]
-pub struct ModelField {
-    /// The name of the field.
-    pub name: Ident,
-    /// The model of its type.
-    pub ty: ModelType,
 }
 
 /// What a model is given by.

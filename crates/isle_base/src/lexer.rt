@@ -188,7 +188,8 @@ impl<'src> Lexer<'src> {
     /// Makes the lexer of a text, which is the file of this number, and reads the first token ahead.
     ///
     /// It answers `Error` exactly where the text begins, after blanks and comments, with a fault: the
-    /// error's span is the one byte at which the fault begins. It never answers `Failed`.
+    /// error's span is the one byte at which the fault begins. `Memory` comes where a growth was refused. It never answers
+    /// `Failed`.
     pub fn new(alloc: Global, file: usize, src: &'src str) -> Result<Lexer<'src>, Fault>
         ensures { Starts file src.now result }
     {

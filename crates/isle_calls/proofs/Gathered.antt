@@ -4,7 +4,7 @@ use Rattle.std.proofs.lemmas.Fn.{chained_keeps}
 use Rattle.std.proofs.lemmas.List.Folds.{list_any-append}
 use Rattle.std.specs.List.{FoldsTo, list_any}
 use Rattle.isle_base.specs.declared.lexer.Pos.{Pos}
-use Rattle.isle_ast.specs.Tree.{Name}
+use Rattle.isle_spec.specs.Tree.{Name}
 use Rattle.isle_calls.specs.Walks.{last_pos}
 
 last_push : (heads : List (Pos × Name)) (head : Pos × Name) → last_pos (heads ++ (head ∷ [])) ≡ Some head.0

@@ -2,7 +2,7 @@
 use Rattle.std.specs.Prelude.{ℕ, List, [], ◌∷◌, Bool, Option, None, Some}
 use Rattle.std.specs.Str.{bytes_eq}
 use Rattle.isle_base.specs.declared.lexer.Pos.{Pos}
-use Rattle.isle_ast.specs.Tree.{Name}
+use Rattle.isle_spec.specs.Tree.{Name}
 
 -- the position of the last term, if there is one
 abbrev pub last_pos : List (Pos × Name) → Option Pos

@@ -24,6 +24,7 @@ fn knows_names_texts_and_lines(rt: HostRuntime) -> Result<(), Fail> {
     assert_eq!(rt; map.get(0), Some(&7));
     assert_eq!(rt; map.get(1), None);
     assert_eq!(rt; LineMap::default(alloc).line(100), 0);
+    assert!(rt; Files::default(alloc).file_name(0).is_none());
 
     let line = Pos::new(0, 7).pretty_print_line(alloc, &files)?;
     assert_eq!(rt; line.as_str(), "a.isle line 1");

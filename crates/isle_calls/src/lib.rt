@@ -19,3 +19,5 @@ mod printer;
 mod templates;
 #[cfg(test)]
 mod walks;
+#[cfg(test)]
+mod writable;

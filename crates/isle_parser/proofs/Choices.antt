@@ -5,8 +5,8 @@ use Rattle.std.proofs.lemmas.Slice.Eq.{bytes_eq-Decides}
 use Rattle.isle_base.specs.declared.lexer.Pos.{Pos}
 use Rattle.isle_base.specs.Place.{Placed}
 use Rattle.isle_base.specs.Token.{Tok, lparen, rparen, symbol, integer, at_sign}
-use Rattle.isle_ast.specs.Words.{SpellsWord, SpellsAll, InParentheses, SpellsName, BeginsAt, IsNonEmpty}
-use Rattle.isle_ast.specs.Tree.{Name}
+use Rattle.isle_spec.specs.Words.{SpellsWord, SpellsAll, InParentheses, SpellsName, BeginsAt, IsNonEmpty}
+use Rattle.isle_spec.specs.Tree.{Name}
 use Rattle.isle_parser.specs.Reading.{Reader, ◌>>=◌, is_ahead, is_word, is_lparen, is_rparen, closes, flag, text, pos_ahead, in_parentheses, many}
 use Rattle.isle_parser.proofs.Flags.{ReadsFlag, flag_sound, flag_complete}
 use Rattle.isle_parser.proofs.Names.{text_sound, text_complete}

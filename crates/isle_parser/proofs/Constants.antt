@@ -1,7 +1,7 @@
 -- A constant is read with its `$`.
 use Rattle.std.proofs.Common.{◌≡◌, ℕ, false, ◌==◌, List, [], ◌∷◌, Some, None, refl, ap}
 use Rattle.std.proofs.lemmas.Bool.{eqb-true}
-use Rattle.isle_ast.specs.Tree.{Name}
+use Rattle.isle_spec.specs.Tree.{Name}
 use Rattle.isle_base.specs.declared.lexer.Pos.{Pos}
 use Rattle.isle_base.specs.Place.{Placed}
 use Rattle.isle_parser.specs.declared.parser.Stop.{Stop}

@@ -4,14 +4,14 @@ use Rattle.std.specs.Prelude.{codes}
 use Rattle.std.specs.Str.{bytes_eq}
 use Rattle.isle_base.specs.Place.{Placed}
 use Rattle.isle_base.specs.Token.{symbol}
+use Rattle.isle_spec.specs.Words.{BeginsAt, SpellsName, SpellsAll, InParentheses, BehindWord}
+use Rattle.isle_spec.specs.Tree.{Name, Declaration, Conversion, Definition, type_def, rule, extractor, decl, attr, spec, spec_macro, model, state, form, instantiation, external, converter}
 use Rattle.isle_ast.specs.Grammar.{SpellsDefinition, SpellsDefinitions}
 use Rattle.isle_ast.specs.ModelGrammar.{SpellsForm, SpellsInstantiation, SpellsModel}
 use Rattle.isle_ast.specs.RuleGrammar.{SpellsRule, SpellsExtractor}
 use Rattle.isle_ast.specs.SpecDefinitionGrammar.{SpellsSpecDefinition, SpellsSpecMacro, SpellsState}
 use Rattle.isle_ast.specs.TermGrammar.{SpellsDeclaration, SpellsAttribute, SpellsExtern, SpellsConversion}
 use Rattle.isle_ast.specs.TypeGrammar.{SpellsTypeDefinition}
-use Rattle.isle_ast.specs.Words.{BeginsAt, SpellsName, SpellsAll, InParentheses, BehindWord}
-use Rattle.isle_ast.specs.Tree.{Name, Declaration, Conversion, Definition, type_def, rule, extractor, decl, attr, spec, spec_macro, model, state, form, instantiation, external, converter}
 use Rattle.isle_parser.specs.Reading.{Reader, ◌>>=◌, is_ahead, ends, pos_ahead, text, flag}
 use Rattle.isle_parser.specs.ReadNames.{name, names}
 use Rattle.isle_parser.specs.ReadDefinitions.{declaration, conversion, behind, keyword_form, definition, definitions}

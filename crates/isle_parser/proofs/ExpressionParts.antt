@@ -4,9 +4,9 @@ use Rattle.std.specs.Prelude.{ℤ}
 use Rattle.isle_base.specs.declared.lexer.Pos.{Pos}
 use Rattle.isle_base.specs.Place.{Placed}
 use Rattle.isle_base.specs.Token.{is_int, is_symbol}
+use Rattle.isle_spec.specs.Tree.{int_expression}
 use Rattle.isle_ast.specs.declared.ast.Expr.{the_lemmas}
 use Rattle.isle_ast.specs.declared.ast.Expr.TheVariants.{ConstInt}
-use Rattle.isle_ast.specs.Tree.{int_expression}
 use Rattle.isle_ast.specs.TreeView.{expression_of}
 use Rattle.isle_parser.specs.Reading.{is_ahead, is_lparen, pos_ahead}
 use Rattle.isle_parser.specs.ReadExpressions.{expression, expression_step}

@@ -5,9 +5,9 @@ use Rattle.std.specs.Str.{bytes_eq}
 use Rattle.std.proofs.lemmas.Slice.Eq.{bytes_eq-Decides}
 use Rattle.isle_base.specs.Place.{Placed}
 use Rattle.isle_base.specs.Token.{Tok, lparen, rparen, symbol, integer, at_sign}
+use Rattle.isle_spec.specs.Words.{SpellsWord, SpellsFlag, SpellsName}
+use Rattle.isle_spec.specs.Tree.{Name, Declaration}
 use Rattle.isle_ast.specs.TermGrammar.{demands, term_is_no_flag}
-use Rattle.isle_ast.specs.Words.{SpellsWord, SpellsFlag, SpellsName}
-use Rattle.isle_ast.specs.Tree.{Name, Declaration}
 use Rattle.isle_parser.specs.Reading.{◌>>=◌, is_ahead, is_word, take, flag}
 use Rattle.isle_parser.proofs.Keywords.{same_bytes}
 use Rattle.isle_parser.proofs.Readers.{chosen, done_is}

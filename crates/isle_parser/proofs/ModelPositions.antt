@@ -3,10 +3,10 @@ use Rattle.std.proofs.Common.{ℕ, List, Option, None, Some}
 use Rattle.std.specs.Prelude.{codes}
 use Rattle.isle_base.specs.declared.lexer.Pos.{Pos}
 use Rattle.isle_base.specs.Place.{Placed}
-use Rattle.isle_ast.specs.Numbers.{SpellsNumber}
-use Rattle.isle_ast.specs.Tree.{TypeModel, unspecified_model, auto_model, int_model, bool_model, unit_model, bit_vector_model, struct_model, named_model, ModelFieldRow, no_model_field, model_field}
+use Rattle.isle_spec.specs.Numbers.{SpellsNumber}
+use Rattle.isle_spec.specs.Tree.{TypeModel, unspecified_model, auto_model, int_model, bool_model, unit_model, bit_vector_model, struct_model, named_model, ModelFieldRow, no_model_field, model_field}
+use Rattle.isle_spec.specs.Words.{SpellsName, SpellsOptional}
 use Rattle.isle_ast.specs.TypeModelGrammar.{SpellsTypeModel, SpellsModelFields}
-use Rattle.isle_ast.specs.Words.{SpellsName, SpellsOptional}
 use Rattle.isle_parser.specs.Positions.{OfName, OfModel, OfModelFields}
 use Rattle.isle_parser.proofs.Stands.{Into, token_stands, same_stands, name_stands, tagged_stands}
 

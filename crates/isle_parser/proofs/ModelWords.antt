@@ -5,10 +5,10 @@ use Rattle.isle_base.specs.Place.{Placed}
 use Rattle.isle_base.specs.Token.{Tok, lparen, rparen, symbol, integer, at_sign}
 use Rattle.std.specs.Prelude.{codes, false, map, true}
 use Rattle.std.specs.Global.{Vec}
-use Rattle.isle_ast.specs.declared.ast.ModelType.TheVariants.{Struct}
-use Rattle.isle_ast.specs.declared.ast.ModelField.{ModelField}
-use Rattle.isle_ast.specs.declared.ast.ModelType.{the_lemmas}
-use Rattle.isle_ast.specs.Tree.{Name, ModelFieldRow, TypeModel, model_field, struct_model}
+use Rattle.isle_spec.specs.declared.ast.ModelType.TheVariants.{Struct}
+use Rattle.isle_spec.specs.declared.ast.ModelField.{ModelField}
+use Rattle.isle_spec.specs.declared.ast.ModelType.{the_lemmas}
+use Rattle.isle_spec.specs.Tree.{Name, ModelFieldRow, TypeModel, model_field, struct_model}
 use Rattle.isle_ast.specs.TreeView.{model_row_of, name_of, single_model_field_of, single_model_fields_of, type_model_of}
 use Rattle.isle_parser.specs.declared.parser.Stop.{Stop}
 use Rattle.isle_parser.specs.declared.parser.Stop.TheVariants as stops

@@ -3,9 +3,9 @@ use Rattle.std.proofs.Common.{◌≡◌, ℕ, cond, List, [], ◌∷◌, length,
 use Rattle.isle_base.specs.declared.lexer.Pos.{Pos}
 use Rattle.isle_base.specs.Place.{Placed}
 use Rattle.isle_base.specs.Token.{Tok, lparen, rparen, symbol, integer, at_sign, is_symbol}
-use Rattle.isle_ast.specs.Words.{SpellsName, SpellsAll, InParentheses}
-use Rattle.isle_ast.specs.Identifier.{is_identifier}
-use Rattle.isle_ast.specs.Tree.{Name}
+use Rattle.isle_spec.specs.Words.{SpellsName, SpellsAll, InParentheses}
+use Rattle.isle_spec.specs.Identifier.{is_identifier}
+use Rattle.isle_spec.specs.Tree.{Name}
 use Rattle.isle_parser.specs.Reading.{◌>>=◌, closes, pos_ahead, expect, text, text_of, many}
 use Rattle.isle_parser.specs.ReadNames.{name, names}
 use Rattle.isle_parser.proofs.Readers.{Sound, Complete, Begins, Shrinks, bind_some, chosen_some, done_is, shrinks, moved, many_sound, many_complete, stopping_closes, parentheses_sound, parentheses_complete}

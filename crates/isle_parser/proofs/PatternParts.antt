@@ -4,9 +4,9 @@ use Rattle.std.specs.Prelude.{ℤ}
 use Rattle.isle_base.specs.declared.lexer.Pos.{Pos}
 use Rattle.isle_base.specs.Place.{Placed}
 use Rattle.isle_base.specs.Token.{is_int}
+use Rattle.isle_spec.specs.Tree.{int_pattern}
 use Rattle.isle_ast.specs.declared.ast.Pattern.{the_lemmas}
 use Rattle.isle_ast.specs.declared.ast.Pattern.TheVariants.{ConstInt}
-use Rattle.isle_ast.specs.Tree.{int_pattern}
 use Rattle.isle_ast.specs.TreeView.{pattern_of}
 use Rattle.isle_parser.specs.Reading.{is_ahead, pos_ahead}
 use Rattle.isle_parser.specs.ReadNumbers.{signed}

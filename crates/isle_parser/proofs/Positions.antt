@@ -8,6 +8,8 @@ use Rattle.isle_base.specs.declared.lexer.Pos.{Pos}
 use Rattle.isle_base.specs.Place.{Placed, in_file, placed, unknown}
 use Rattle.isle_base.specs.Steps.{Rises}
 use Rattle.isle_base.specs.Token.{Tok, Lexeme, Feed}
+use Rattle.isle_spec.specs.Tree.{Name, unit_fields, struct_fields, tuple_fields, EnumVariant, primitive_type, enum_type, struct_type, term_target, rule_target, chain_kind, priority_kind, tag_kind, TermSignature, type_model, const_model, extern_extractor, extern_constructor, extern_const, Definition, type_def, rule, extractor, decl, attr, spec, spec_macro, model, state, form, instantiation, external, converter}
+use Rattle.isle_spec.specs.Words.{SpellsToken, SpellsWord, BeginsAt, SpellsAll, InParentheses, SpellsName}
 use Rattle.isle_ast.specs.declared.ast.Def.{Def}
 use Rattle.isle_ast.specs.Grammar.{SpellsDefinition}
 use Rattle.isle_ast.specs.ModelGrammar.{SpellsTypeModel, SpellsSignature, SpellsForm, SpellsTag, SpellsInstances, SpellsInstantiation, SpellsModelContent, SpellsModel}
@@ -15,11 +17,9 @@ use Rattle.isle_ast.specs.RuleGrammar.{SpellsRule, SpellsExtractor}
 use Rattle.isle_ast.specs.SpecDefinitionGrammar.{SpellsSpecDefinition, SpellsSpecMacro, SpellsState}
 use Rattle.isle_ast.specs.SpecGrammar.{SpellsSpec}
 use Rattle.isle_ast.specs.Spelt.{Spells}
-use Rattle.isle_ast.specs.Tree.{Name, unit_fields, struct_fields, tuple_fields, EnumVariant, primitive_type, enum_type, struct_type, term_target, rule_target, chain_kind, priority_kind, tag_kind, TermSignature, type_model, const_model, extern_extractor, extern_constructor, extern_const, Definition, type_def, rule, extractor, decl, attr, spec, spec_macro, model, state, form, instantiation, external, converter}
 use Rattle.isle_ast.specs.TermGrammar.{SpellsDeclaration, SpellsConversion, SpellsAttributeKind, SpellsAttributeTarget, SpellsAttribute, SpellsExtern}
 use Rattle.isle_ast.specs.TreeView.{definitions_of}
 use Rattle.isle_ast.specs.TypeGrammar.{SpellsNamedField, SpellsIndexedFields, SpellsFields, SpellsVariant, SpellsTypeContent, SpellsTypeDefinition}
-use Rattle.isle_ast.specs.Words.{SpellsToken, SpellsWord, BeginsAt, SpellsAll, InParentheses, SpellsName}
 use Rattle.isle_parser.specs.Parsed.{Parses}
 use Rattle.isle_parser.specs.Positions.{OfName, OfNames, OfModel, OfNamedField, OfIndexedField, OfFields, OfVariant, OfTypeContent, OfTarget, OfKind, OfSignature, OfOptionalName, OfSpec, OfModelContent, OfSpecDefinition, OfSpecMacro, OfState, OfRule, OfExtractor, OfExtern, BeginsToken, EachPosition, HasKnownPositions, HasPositions, behind_first}
 use Rattle.isle_parser.proofs.Definitions.{SpellsKeyword, to_keyword}

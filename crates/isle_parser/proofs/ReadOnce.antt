@@ -1,9 +1,9 @@
 -- Two nodes spelt at the front of one list of tokens are one.
 use Rattle.std.proofs.Common.{◌≡◌, List, sym, ◌∙◌}
 use Rattle.isle_base.specs.Place.{Placed}
+use Rattle.isle_spec.specs.Tree.{PatternNode, Expression}
 use Rattle.isle_ast.specs.ExpressionGrammar.{SpellsExpression}
 use Rattle.isle_ast.specs.PatternGrammar.{SpellsPattern}
-use Rattle.isle_ast.specs.Tree.{PatternNode, Expression}
 use Rattle.isle_parser.proofs.ReadsExpressions.{expression_complete}
 use Rattle.isle_parser.proofs.ReadsPatterns.{pattern_complete}
 use Rattle.isle_parser.proofs.Readers.{Goes, done_is}

@@ -3,7 +3,7 @@
 use Rattle.std.proofs.Common.{◌≡◌, ℕ, zero, suc, ◌≤◌, ◌<◌, Bool, true, false, cond, List, [], ◌∷◌, length, Option, Some, None, refl, sym, ap, subst, ◌∙◌, arith, ◌⊎◌, inl, inr}
 use Rattle.isle_base.specs.Place.{Placed}
 use Rattle.isle_base.specs.Token.{Tok, lparen, rparen, symbol, integer, at_sign}
-use Rattle.isle_ast.specs.Words.{SpellsToken, SpellsAll, InParentheses}
+use Rattle.isle_spec.specs.Words.{SpellsToken, SpellsAll, InParentheses}
 use Rattle.isle_parser.specs.Reading.{Reader, ◌>>=◌, is_lparen, is_rparen, is_at, is_ahead, closes, ends, expect, in_parentheses, many, many_within}
 
 -- ---- steps

@@ -6,11 +6,11 @@ use Rattle.std.proofs.lemmas.Str.{chars-IsAscii}
 use Rattle.std.proofs.lemmas.Slice.Eq.{bytes_eq-Decides}
 use Rattle.isle_base.specs.declared.lexer.Pos.{Pos}
 use Rattle.isle_base.specs.Place.{Placed}
+use Rattle.isle_spec.specs.Identifier.{is_identifier}
+use Rattle.isle_spec.specs.Tree.{PatternNode, wildcard_pattern, Expression, term_expression, var_expression, bool_expression, int_expression, constant_expression, let_expression, Condition}
+use Rattle.isle_spec.specs.Words.{BeginsAt, SpellsAll, InParentheses, BehindWord}
 use Rattle.isle_ast.specs.ExpressionGrammar.{SpellsExpression}
-use Rattle.isle_ast.specs.Identifier.{is_identifier}
 use Rattle.isle_ast.specs.RuleGrammar.{SpellsMatch, SpellsTest, SpellsCondition, is_if_expression}
-use Rattle.isle_ast.specs.Tree.{PatternNode, wildcard_pattern, Expression, term_expression, var_expression, bool_expression, int_expression, constant_expression, let_expression, Condition}
-use Rattle.isle_ast.specs.Words.{BeginsAt, SpellsAll, InParentheses, BehindWord}
 use Rattle.isle_parser.specs.Reading.{Reader, ◌>>=◌, is_ahead, is_lparen, is_word, closes, pos_ahead, in_parentheses}
 use Rattle.isle_parser.specs.ReadExpressions.{expression, expression_inside}
 use Rattle.isle_parser.specs.ReadPatterns.{pattern}

@@ -5,12 +5,12 @@ use Rattle.std.specs.Str.{bytes_eq}
 use Rattle.isle_base.specs.declared.lexer.Pos.{Pos}
 use Rattle.isle_base.specs.Place.{Placed}
 use Rattle.isle_base.specs.Token.{symbol, is_int, is_symbol}
+use Rattle.isle_spec.specs.Identifier.{is_identifier}
+use Rattle.isle_spec.specs.Tree.{Name, Expression, term_expression, var_expression, bool_expression, int_expression, constant_expression, let_expression, ExpressionRow, no_expression, more_expression, LetRow, no_let, more_let}
+use Rattle.isle_spec.specs.Words.{SpellsWord, BeginsAt, SpellsAll, InParentheses, SpellsName}
 use Rattle.isle_ast.specs.ExpressionGrammar.{is_expression_variable, SpellsExpressionVariable, SpellsExpression, SpellsExpressions, SpellsLets}
-use Rattle.isle_ast.specs.Identifier.{is_identifier}
 use Rattle.isle_ast.specs.PatternGrammar.{is_constant}
-use Rattle.isle_ast.specs.Tree.{Name, Expression, term_expression, var_expression, bool_expression, int_expression, constant_expression, let_expression, ExpressionRow, no_expression, more_expression, LetRow, no_let, more_let}
 use Rattle.isle_ast.specs.TreeView.{SingleLet, expression_row_of, let_row_of}
-use Rattle.isle_ast.specs.Words.{SpellsWord, BeginsAt, SpellsAll, InParentheses, SpellsName}
 use Rattle.isle_parser.specs.Reading.{Reader, ◌>>=◌, is_ahead, is_lparen, is_word, closes, pos_ahead, in_parentheses, many}
 use Rattle.isle_parser.specs.ReadExpressions.{let_inside, let_definition, let_definitions, expression_inside, variable_expression, false_expression, word_expression, symbol_expression, expression_step, expression_within, expression}
 use Rattle.isle_parser.specs.ReadNames.{name}

@@ -4,9 +4,9 @@ use Rattle.std.specs.Prelude.{codes}
 use Rattle.std.specs.Str.{bytes_eq}
 use Rattle.isle_base.specs.declared.lexer.Pos.{Pos}
 use Rattle.isle_base.specs.Place.{Placed}
+use Rattle.isle_spec.specs.Tree.{Name, TypeModel, TermSignature, FormDefinition, TermInstantiation}
+use Rattle.isle_spec.specs.Words.{BeginsAt, SpellsAll, InParentheses, BehindWord, SpellsName, IsNonEmpty}
 use Rattle.isle_ast.specs.ModelGrammar.{SpellsTypeModel, SpellsSignature, SpellsForm, SpellsTag, SpellsInstances, SpellsInstantiation}
-use Rattle.isle_ast.specs.Tree.{Name, TypeModel, TermSignature, FormDefinition, TermInstantiation}
-use Rattle.isle_ast.specs.Words.{BeginsAt, SpellsAll, InParentheses, BehindWord, SpellsName, IsNonEmpty}
 use Rattle.isle_parser.specs.Reading.{◌>>=◌, is_ahead, is_lparen, closes, pos_ahead, text, many}
 use Rattle.isle_parser.specs.ReadNames.{name}
 use Rattle.isle_parser.specs.ReadModels.{model_type, tagged_inside, tagged_types, tagged_one_inside, tagged_type, signature_inside, signature, signatures, form_definition, tag_inside, tag, instantiation_of_term}

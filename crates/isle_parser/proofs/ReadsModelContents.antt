@@ -2,10 +2,10 @@
 use Rattle.std.proofs.Common.{inl, inr, ◌≤◌, List, length, Some, None, refl, subst, arith}
 use Rattle.std.specs.Prelude.{codes}
 use Rattle.isle_base.specs.Place.{Placed}
+use Rattle.isle_spec.specs.Tree.{ModelContent, type_model, const_model, ModelDefinition}
+use Rattle.isle_spec.specs.Words.{InParentheses, BehindWord}
 use Rattle.isle_ast.specs.ModelGrammar.{SpellsTypeModel, SpellsModelContent, SpellsModel}
 use Rattle.isle_ast.specs.SpecGrammar.{SpellsSpec}
-use Rattle.isle_ast.specs.Tree.{ModelContent, type_model, const_model, ModelDefinition}
-use Rattle.isle_ast.specs.Words.{InParentheses, BehindWord}
 use Rattle.isle_parser.specs.Reading.{◌>>=◌, in_parentheses}
 use Rattle.isle_parser.specs.ReadModels.{model_type}
 use Rattle.isle_parser.specs.ReadNames.{name}

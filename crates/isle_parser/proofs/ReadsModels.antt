@@ -6,10 +6,10 @@ use Rattle.std.proofs.lemmas.Bool.{lt-ltb, ltb-true}
 use Rattle.isle_base.specs.declared.lexer.Pos.{Pos}
 use Rattle.isle_base.specs.Place.{Placed}
 use Rattle.isle_base.specs.Token.{Tok, lparen, rparen, symbol, integer, at_sign}
+use Rattle.isle_spec.specs.Numbers.{SpellsNumber}
+use Rattle.isle_spec.specs.Tree.{Name, TypeModel, unspecified_model, auto_model, int_model, bool_model, unit_model, bit_vector_model, struct_model, named_model, ModelFieldRow, no_model_field, model_field}
+use Rattle.isle_spec.specs.Words.{SpellsWord, SpellsAll, InParentheses, BehindWord, SpellsName, SpellsOptional}
 use Rattle.isle_ast.specs.ModelGrammar.{SpellsTypeModel, SpellsModelFields}
-use Rattle.isle_ast.specs.Numbers.{SpellsNumber}
-use Rattle.isle_ast.specs.Tree.{Name, TypeModel, unspecified_model, auto_model, int_model, bool_model, unit_model, bit_vector_model, struct_model, named_model, ModelFieldRow, no_model_field, model_field}
-use Rattle.isle_ast.specs.Words.{SpellsWord, SpellsAll, InParentheses, BehindWord, SpellsName, SpellsOptional}
 use Rattle.isle_parser.specs.Reading.{Reader, ◌>>=◌, is_ahead, is_lparen, closes, text, in_parentheses, many}
 use Rattle.isle_parser.specs.ReadNames.{name}
 use Rattle.isle_parser.specs.ReadModels.{number, width, model_fields, model_field_inside, named_inside, struct_inside, model_inside, model_of_word, model_word, model_step, model_within, model_type}

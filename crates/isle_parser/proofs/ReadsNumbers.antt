@@ -5,8 +5,8 @@ use Rattle.std.proofs.lemmas.Bool.{lt-ltb, ltb-true}
 use Rattle.isle_base.specs.declared.lexer.Pos.{Pos}
 use Rattle.isle_base.specs.Place.{Placed}
 use Rattle.isle_base.specs.Token.{Tok, lparen, rparen, symbol, integer, at_sign}
-use Rattle.isle_ast.specs.Numbers.{IsSigned}
-use Rattle.isle_ast.specs.Words.{SpellsToken}
+use Rattle.isle_spec.specs.Numbers.{IsSigned}
+use Rattle.isle_spec.specs.Words.{SpellsToken}
 use Rattle.isle_parser.specs.Reading.{is_ahead}
 use Rattle.isle_parser.specs.ReadNumbers.{is_signed, signed}
 use Rattle.isle_parser.proofs.Readers.{begins_node, bind_some, chosen_some, done, done_is}

@@ -5,11 +5,11 @@ use Rattle.std.specs.Str.{bytes_eq}
 use Rattle.isle_base.specs.declared.lexer.Pos.{Pos}
 use Rattle.isle_base.specs.Place.{Placed}
 use Rattle.isle_base.specs.Token.{Tok, lparen, rparen, symbol, integer, at_sign, is_int, is_symbol}
-use Rattle.isle_ast.specs.Identifier.{is_identifier}
+use Rattle.isle_spec.specs.Identifier.{is_identifier}
+use Rattle.isle_spec.specs.Tree.{Name, PatternNode, var_pattern, bind_pattern, bool_pattern, int_pattern, constant_pattern, term_pattern, wildcard_pattern, and_pattern, macro_arg_pattern, PatternRow, no_pattern, more_pattern}
+use Rattle.isle_spec.specs.Words.{SpellsToken, SpellsWord, BeginsAt, SpellsAll, InParentheses, SpellsName}
 use Rattle.isle_ast.specs.PatternGrammar.{is_constant, is_variable, SpellsVariable, SpellsPattern, SpellsPatterns}
-use Rattle.isle_ast.specs.Tree.{Name, PatternNode, var_pattern, bind_pattern, bool_pattern, int_pattern, constant_pattern, term_pattern, wildcard_pattern, and_pattern, macro_arg_pattern, PatternRow, no_pattern, more_pattern}
 use Rattle.isle_ast.specs.TreeView.{pattern_row_of}
-use Rattle.isle_ast.specs.Words.{SpellsToken, SpellsWord, BeginsAt, SpellsAll, InParentheses, SpellsName}
 use Rattle.isle_parser.specs.Reading.{Reader, ◌>>=◌, is_at, is_ahead, is_lparen, is_word, closes, expect, pos_ahead, in_parentheses, many}
 use Rattle.isle_parser.specs.ReadNames.{name}
 use Rattle.isle_parser.specs.ReadNumbers.{signed}

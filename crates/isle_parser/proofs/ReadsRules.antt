@@ -4,11 +4,11 @@ use Rattle.std.specs.Prelude.{ℤ}
 use Rattle.isle_base.specs.declared.lexer.Pos.{Pos}
 use Rattle.isle_base.specs.Place.{Placed}
 use Rattle.isle_base.specs.Token.{is_int, is_symbol}
-use Rattle.isle_ast.specs.Numbers.{SpellsPriority}
+use Rattle.isle_spec.specs.Numbers.{SpellsPriority}
+use Rattle.isle_spec.specs.Tree.{Name, PatternNode, var_pattern, bind_pattern, bool_pattern, int_pattern, constant_pattern, term_pattern, wildcard_pattern, and_pattern, macro_arg_pattern, RuleDefinition, ExtractorDefinition}
+use Rattle.isle_spec.specs.Words.{SpellsAll, InParentheses, SpellsName, SpellsOptional}
 use Rattle.isle_ast.specs.PatternGrammar.{SpellsPattern}
 use Rattle.isle_ast.specs.RuleGrammar.{is_list_pattern, is_int_pattern, pattern_is_no_head, SpellsRule, SpellsExtractor}
-use Rattle.isle_ast.specs.Tree.{Name, PatternNode, var_pattern, bind_pattern, bool_pattern, int_pattern, constant_pattern, term_pattern, wildcard_pattern, and_pattern, macro_arg_pattern, RuleDefinition, ExtractorDefinition}
-use Rattle.isle_ast.specs.Words.{SpellsAll, InParentheses, SpellsName, SpellsOptional}
 use Rattle.isle_parser.specs.Reading.{◌>>=◌, is_ahead, closes, pos_ahead, in_parentheses, many}
 use Rattle.isle_parser.specs.ReadNames.{name}
 use Rattle.isle_parser.specs.ReadNumbers.{signed}

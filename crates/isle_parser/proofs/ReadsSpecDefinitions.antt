@@ -4,10 +4,10 @@ use Rattle.std.specs.Prelude.{codes}
 use Rattle.std.specs.Str.{bytes_eq}
 use Rattle.isle_base.specs.Place.{Placed}
 use Rattle.isle_base.specs.Token.{Tok, lparen, rparen, symbol, integer, at_sign, is_symbol}
+use Rattle.isle_spec.specs.Tree.{Name, SpecNode, ModifiedState, SpecDefinition, SpecMacroDefinition, StateDefinition}
+use Rattle.isle_spec.specs.Words.{SpellsAll, InParentheses, BehindWord, SpellsName, SpellsOptional}
 use Rattle.isle_ast.specs.SpecDefinitionGrammar.{SpecClause, provide_clause, require_clause, match_clause, modifies_clause, SpellsClause, provided, required, matched, modified, SpellsSpecDefinition, SpellsSpecMacro, SpellsState}
 use Rattle.isle_ast.specs.SpecGrammar.{SpellsSpec}
-use Rattle.isle_ast.specs.Tree.{Name, SpecNode, ModifiedState, SpecDefinition, SpecMacroDefinition, StateDefinition}
-use Rattle.isle_ast.specs.Words.{SpellsAll, InParentheses, BehindWord, SpellsName, SpellsOptional}
 use Rattle.isle_parser.specs.Reading.{Reader, ◌>>=◌, is_ahead, is_rparen, closes, pos_ahead, text, in_parentheses, many}
 use Rattle.isle_parser.specs.ReadNames.{name}
 use Rattle.isle_parser.specs.ReadRules.{head_inside}

@@ -4,13 +4,13 @@ use Rattle.std.specs.Prelude.{ℤ, codes}
 use Rattle.isle_base.specs.declared.lexer.Pos.{Pos}
 use Rattle.isle_base.specs.Place.{Placed}
 use Rattle.isle_base.specs.Token.{symbol, is_int, is_symbol}
-use Rattle.isle_ast.specs.declared.ast.specs.SpecOp.TheVariants as op
-use Rattle.isle_ast.specs.Operators.{operator_text, is_operator_text}
+use Rattle.isle_spec.specs.declared.ast.specs.SpecOp.TheVariants as op
+use Rattle.isle_spec.specs.Operators.{operator_text, is_operator_text}
+use Rattle.isle_spec.specs.SpecView.{SingleArm, SingleFieldInit, spec_row_of, arm_row_of, field_init_row_of, spec_let_row_of}
+use Rattle.isle_spec.specs.Tree.{Name, TypeModel, SpecNode, int_spec, bit_vector_spec, bool_spec, var_spec, as_spec, field_spec, discriminator_spec, op_spec, match_spec, let_spec, with_spec, macro_spec, expand_spec, pair_spec, enum_spec, struct_spec, SpecRow, no_spec, more_spec, ArmRow, SpecLetRow, FieldInitRow}
+use Rattle.isle_spec.specs.Words.{SpellsWord, BeginsAt, SpellsAll, InParentheses}
 use Rattle.isle_ast.specs.PatternGrammar.{bool_word}
 use Rattle.isle_ast.specs.SpecGrammar.{AreVariant, SpellsSpec, SpellsSpecs, SpellsCases, SpellsPairs, SpellsArms, SpellsSpecLets, SpellsFieldInits, dotted, discriminator_mark, expansion_mark, field_mark}
-use Rattle.isle_ast.specs.SpecView.{SingleArm, SingleFieldInit, spec_row_of, arm_row_of, field_init_row_of, spec_let_row_of}
-use Rattle.isle_ast.specs.Tree.{Name, TypeModel, SpecNode, int_spec, bit_vector_spec, bool_spec, var_spec, as_spec, field_spec, discriminator_spec, op_spec, match_spec, let_spec, with_spec, macro_spec, expand_spec, pair_spec, enum_spec, struct_spec, SpecRow, no_spec, more_spec, ArmRow, SpecLetRow, FieldInitRow}
-use Rattle.isle_ast.specs.Words.{SpellsWord, BeginsAt, SpellsAll, InParentheses}
 use Rattle.isle_parser.specs.Reading.{Reader, ◌>>=◌, is_ahead, is_lparen, closes, pos_ahead, in_parentheses, many}
 use Rattle.isle_parser.specs.ReadNames.{names}
 use Rattle.isle_parser.specs.ReadNumbers.{signed}

@@ -5,9 +5,9 @@ use Rattle.std.specs.Str.{bytes_eq}
 use Rattle.std.proofs.lemmas.Bool.Decides.{Decides-eqb}
 use Rattle.isle_base.specs.declared.lexer.Pos.{Pos}
 use Rattle.isle_base.specs.Place.{Placed}
+use Rattle.isle_spec.specs.Tree.{Name, AttributeTarget, term_target, rule_target, AttributeKind, chain_kind, priority_kind, tag_kind, Attribute, ExternDefinition, extern_extractor, extern_constructor, extern_const}
+use Rattle.isle_spec.specs.Words.{SpellsWord, BeginsAt, SpellsAll, InParentheses, BehindWord, SpellsName}
 use Rattle.isle_ast.specs.TermGrammar.{demands, SpellsAttributeKind, SpellsAttributeTarget, SpellsAttribute, SpellsConstant, SpellsPair, SpellsExtern}
-use Rattle.isle_ast.specs.Tree.{Name, AttributeTarget, term_target, rule_target, AttributeKind, chain_kind, priority_kind, tag_kind, Attribute, ExternDefinition, extern_extractor, extern_constructor, extern_const}
-use Rattle.isle_ast.specs.Words.{SpellsWord, BeginsAt, SpellsAll, InParentheses, BehindWord, SpellsName}
 use Rattle.isle_parser.specs.Reading.{◌>>=◌, is_ahead, is_word, closes, flag, pos_ahead, text, many}
 use Rattle.isle_parser.specs.ReadNames.{name}
 use Rattle.isle_parser.specs.ReadTerms.{veri_kind, kind_inside, kind, attribute, behind_dollar, constant, extern_constant, extern_etor, extern_definition}

@@ -3,7 +3,7 @@
 use Rattle.std.proofs.Common.{◌≡◌, List, [], ◌∷◌, ◌++◌, Option, Some, None, refl, sym, ap, ◌∙◌, append_assoc}
 use Rattle.std.proofs.lemmas.List.{append-nil}
 use Rattle.isle_base.specs.Place.{Placed}
-use Rattle.isle_ast.specs.Tree.{Condition, Expression}
+use Rattle.isle_spec.specs.Tree.{Condition, Expression}
 use Rattle.isle_parser.specs.declared.parser.Stop.{Stop}
 use Rattle.isle_parser.specs.declared.parser.Stop.TheVariants as stops
 use Rattle.isle_parser.specs.Answers.{Source, Stops}

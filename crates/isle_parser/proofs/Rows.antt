@@ -2,8 +2,8 @@
 use Rattle.std.proofs.Common.{◌≡◌, ℕ, suc, ◌+◌, Bool, true, false, not, ◌||◌, Some, List, [], ◌∷◌, ◌++◌, length, map, refl, ap, ◌∙◌, arith}
 use Rattle.std.specs.List.{list_any}
 use Rattle.std.proofs.lemmas.List.{map_push}
+use Rattle.isle_spec.specs.Tree.{Name, IndexedField}
 use Rattle.isle_ast.specs.declared.ast.TupleField.{TupleField}
-use Rattle.isle_ast.specs.Tree.{Name, IndexedField}
 use Rattle.isle_ast.specs.TreeView.{indexed_field_of, name_of}
 use Rattle.isle_ast.specs.TypeGrammar.{is_extern_word, is_nodebug_word}
 use Rattle.isle_base.specs.Place.{Placed}

@@ -4,12 +4,12 @@ use Rattle.std.specs.Prelude.{ℤ}
 use Rattle.isle_base.specs.declared.lexer.Pos.{Pos}
 use Rattle.isle_base.specs.Place.{Placed}
 use Rattle.isle_base.specs.Token.{symbol}
+use Rattle.isle_spec.specs.Numbers.{SpellsPriority}
+use Rattle.isle_spec.specs.Tree.{Name, PatternNode, var_pattern, bind_pattern, bool_pattern, int_pattern, constant_pattern, term_pattern, wildcard_pattern, and_pattern, macro_arg_pattern, PatternRow, no_pattern, more_pattern, Expression, term_expression, var_expression, bool_expression, int_expression, constant_expression, let_expression, ExpressionRow, no_expression, more_expression, LetRow, no_let, more_let}
+use Rattle.isle_spec.specs.Words.{SpellsName, SpellsOptional}
 use Rattle.isle_ast.specs.ExpressionGrammar.{SpellsExpression, SpellsExpressions, SpellsLets}
-use Rattle.isle_ast.specs.Numbers.{SpellsPriority}
 use Rattle.isle_ast.specs.PatternGrammar.{SpellsPattern, SpellsPatterns}
 use Rattle.isle_ast.specs.RuleGrammar.{SpellsCondition, SpellsRule, SpellsExtractor}
-use Rattle.isle_ast.specs.Tree.{Name, PatternNode, var_pattern, bind_pattern, bool_pattern, int_pattern, constant_pattern, term_pattern, wildcard_pattern, and_pattern, macro_arg_pattern, PatternRow, no_pattern, more_pattern, Expression, term_expression, var_expression, bool_expression, int_expression, constant_expression, let_expression, ExpressionRow, no_expression, more_expression, LetRow, no_let, more_let}
-use Rattle.isle_ast.specs.Words.{SpellsName, SpellsOptional}
 use Rattle.isle_parser.specs.Positions.{OfName, OfOptionalName, OfPattern, OfPatterns, OfExpression, OfExpressions, OfLets, OfCondition, OfRule, OfExtractor}
 use Rattle.isle_parser.proofs.Stands.{Into, Stands, token_stands, begins_stands, same_stands, name_stands, constant_stands, row_stands}
 

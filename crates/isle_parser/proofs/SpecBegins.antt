@@ -2,10 +2,10 @@
 use Rattle.std.proofs.Common.{◌≡◌, ℕ, ◌≤◌, ◌<◌, true, List, length, inl, inr, refl, arith}
 use Rattle.std.specs.Prelude.{codes}
 use Rattle.isle_base.specs.Place.{Placed}
-use Rattle.isle_ast.specs.Operators.{operator_text}
+use Rattle.isle_spec.specs.Operators.{operator_text}
+use Rattle.isle_spec.specs.Tree.{Name, SpecNode, int_spec, bit_vector_spec, bool_spec, var_spec, as_spec, field_spec, discriminator_spec, op_spec, match_spec, let_spec, with_spec, macro_spec, expand_spec, pair_spec, enum_spec, struct_spec, SpecRow, no_spec, more_spec, ArmRow, no_arm, more_arm, SpecLetRow, no_spec_let, more_spec_let, FieldInitRow, no_field_init, more_field_init}
+use Rattle.isle_spec.specs.Words.{SpellsAll, SpellsName}
 use Rattle.isle_ast.specs.SpecGrammar.{SpellsMarked, SpellsSpec, SpellsSpecs, SpellsCases, SpellsPairs, SpellsArms, SpellsSpecLets, SpellsFieldInits, dotted, discriminator_mark, expansion_mark, field_mark}
-use Rattle.isle_ast.specs.Tree.{Name, SpecNode, int_spec, bit_vector_spec, bool_spec, var_spec, as_spec, field_spec, discriminator_spec, op_spec, match_spec, let_spec, with_spec, macro_spec, expand_spec, pair_spec, enum_spec, struct_spec, SpecRow, no_spec, more_spec, ArmRow, no_arm, more_arm, SpecLetRow, no_spec_let, more_spec_let, FieldInitRow, no_field_init, more_field_init}
-use Rattle.isle_ast.specs.Words.{SpellsAll, SpellsName}
 use Rattle.isle_parser.specs.Reading.{is_ahead}
 use Rattle.isle_parser.proofs.Choices.{word_shorter}
 use Rattle.isle_parser.proofs.Names.{SpellsNames, name_begins}

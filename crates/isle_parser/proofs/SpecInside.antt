@@ -3,12 +3,12 @@ use Rattle.std.proofs.Common.{◌≡◌, ◌⊎◌, List, Bool, true, false, sym
 use Rattle.std.specs.Prelude.{codes}
 use Rattle.isle_base.specs.declared.lexer.Pos.{Pos}
 use Rattle.isle_base.specs.Place.{Placed}
-use Rattle.isle_ast.specs.declared.ast.specs.SpecOp.TheVariants as op
-use Rattle.isle_ast.specs.Operators.{operator_text}
+use Rattle.isle_spec.specs.declared.ast.specs.SpecOp.TheVariants as op
+use Rattle.isle_spec.specs.Operators.{operator_text}
+use Rattle.isle_spec.specs.Tree.{SpecNode, int_spec, bit_vector_spec, bool_spec, var_spec, as_spec, field_spec, discriminator_spec, op_spec, match_spec, let_spec, with_spec, macro_spec, expand_spec, pair_spec, enum_spec, struct_spec}
+use Rattle.isle_spec.specs.Words.{BeginsAt, InParentheses, BehindWord}
 use Rattle.isle_ast.specs.SpecGrammar.{AreVariant, SpellsMarked, SpellsNames, SpellsSpec, SpellsSpecs, SpellsCases, SpellsArms, SpellsSpecLets, SpellsFieldInits, dotted, discriminator_mark, expansion_mark, field_mark, is_plain_operator}
-use Rattle.isle_ast.specs.Tree.{SpecNode, int_spec, bit_vector_spec, bool_spec, var_spec, as_spec, field_spec, discriminator_spec, op_spec, match_spec, let_spec, with_spec, macro_spec, expand_spec, pair_spec, enum_spec, struct_spec}
 use Rattle.isle_ast.specs.TypeModelGrammar.{SpellsTypeModel}
-use Rattle.isle_ast.specs.Words.{BeginsAt, InParentheses, BehindWord}
 use Rattle.isle_parser.specs.Reading.{pos_ahead}
 use Rattle.isle_parser.proofs.Choices.{opened_at, position_of}
 

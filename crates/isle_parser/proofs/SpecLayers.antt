@@ -3,7 +3,7 @@ use Rattle.std.proofs.Common.{◌≡◌, ℕ, zero, suc, ◌<◌, Bool, cond, Li
 use Rattle.isle_base.specs.declared.lexer.Pos.{Pos}
 use Rattle.isle_base.specs.Place.{Placed}
 use Rattle.isle_base.specs.Token.{is_int, is_symbol}
-use Rattle.isle_ast.specs.Tree.{SpecNode, int_spec}
+use Rattle.isle_spec.specs.Tree.{SpecNode, int_spec}
 use Rattle.isle_parser.specs.Reading.{Reader, ◌>>=◌, closes, expect, in_parentheses, is_ahead, is_lparen, many, many_within, pos_ahead, text}
 use Rattle.isle_parser.specs.ReadModels.{model_type}
 use Rattle.isle_parser.specs.ReadNames.{name, names}

@@ -7,8 +7,8 @@ use Rattle.std.proofs.lemmas.Bool.Decides.{nat_tests}
 use Rattle.std.proofs.lemmas.Str.{encodes-chars, encode_ascii}
 use Rattle.std.proofs.lemmas.List.Folds.{list_all-append}
 use Rattle.std.proofs.Math.Utf8.{encode, encodes}
-use Rattle.isle_ast.specs.Identifier.{is_identifier, are_identifier, begins_identifier, continues_identifier, is_digit, is_letter}
-use Rattle.isle_ast.proofs.IdentifierBytes.{identifier_bytes, identifier_is_text}
+use Rattle.isle_spec.specs.Identifier.{is_identifier, are_identifier, begins_identifier, continues_identifier, is_digit, is_letter}
+use Rattle.isle_spec.proofs.IdentifierBytes.{identifier_bytes, identifier_is_text}
 use Rattle.isle_parser.specs.SpecWords.{before_last}
 use Rattle.isle_parser.proofs.SpecTexts.{both_true, not_true}
 

@@ -5,9 +5,9 @@ use Rattle.std.specs.List.{list_all, list_any}
 use Rattle.std.specs.Option.{option_or}
 use Rattle.std.specs.Str.{bytes_eq}
 use Rattle.std.proofs.lemmas.Slice.Eq.{bytes_eq-Decides}
-use Rattle.isle_ast.specs.declared.ast.specs.SpecOp.{SpecOp}
-use Rattle.isle_ast.specs.declared.ast.specs.SpecOp.TheVariants as op
-use Rattle.isle_ast.specs.Operators.{is_operator_text, operator_text, operators}
+use Rattle.isle_spec.specs.declared.ast.specs.SpecOp.{SpecOp}
+use Rattle.isle_spec.specs.declared.ast.specs.SpecOp.TheVariants as op
+use Rattle.isle_spec.specs.Operators.{is_operator_text, operator_text, operators}
 use Rattle.isle_ast.specs.SpecGrammar.{is_plain_operator}
 use Rattle.isle_parser.specs.SpecWords.{bit_vector_operators, bit_vector_tests, first_named, float_operators, discriminator_or_other, expansion_or_other, float_tests, head_of, keyword_head, operator_head, operator_of, operator_or_name, other_head, sign_operators, word_operators}
 use Rattle.isle_parser.proofs.Keywords.{other_bytes}

@@ -5,13 +5,13 @@ use Rattle.std.specs.Prelude.{ℕ, ℤ}
 use Rattle.isle_base.specs.declared.lexer.Pos.{Pos}
 use Rattle.isle_base.specs.Place.{Placed}
 use Rattle.isle_base.specs.Token.{is_int, is_symbol}
-use Rattle.isle_ast.specs.declared.ast.specs.SpecExpr.{the_lemmas}
-use Rattle.isle_ast.specs.declared.ast.specs.SpecExpr.TheVariants.{ConstInt, Let}
-use Rattle.isle_ast.specs.declared.ast.Ident.{Ident}
-use Rattle.isle_ast.specs.declared.ast.specs.SpecExpr.{SpecExpr}
-use Rattle.isle_ast.specs.SpecView.{single_spec_lets_of, spec_of}
-use Rattle.isle_ast.specs.Tree.{SpecNode, int_spec}
-use Rattle.isle_ast.proofs.SpecLets.{let_seen}
+use Rattle.isle_spec.specs.declared.ast.specs.SpecExpr.{the_lemmas}
+use Rattle.isle_spec.specs.declared.ast.specs.SpecExpr.TheVariants.{ConstInt, Let}
+use Rattle.isle_spec.specs.declared.ast.Ident.{Ident}
+use Rattle.isle_spec.specs.declared.ast.specs.SpecExpr.{SpecExpr}
+use Rattle.isle_spec.specs.SpecView.{single_spec_lets_of, spec_of}
+use Rattle.isle_spec.specs.Tree.{SpecNode, int_spec}
+use Rattle.isle_spec.proofs.SpecLets.{let_seen}
 use Rattle.isle_parser.specs.Reading.{Reader, ◌>>=◌, is_ahead, is_lparen, pos_ahead, text}
 use Rattle.isle_parser.specs.ReadNumbers.{signed}
 use Rattle.isle_parser.specs.ReadSpecs.{behind_spec_head, spec_expression, spec_inside, spec_lets, spec_step}

@@ -1,10 +1,10 @@
 -- Rows of the parts of spec expressions, as lists of them: pairs, arms, values of a `let` and fields.
 use Rattle.std.proofs.Common.{◌≡◌, List, [], ◌∷◌, refl, ap}
 use Rattle.isle_base.specs.Place.{Placed}
+use Rattle.isle_spec.specs.SpecView.{SingleArm, SingleFieldInit, spec_row_of, arm_row_of, field_init_row_of, spec_let_row_of}
+use Rattle.isle_spec.specs.Tree.{Name, SpecNode, int_spec, bit_vector_spec, bool_spec, var_spec, as_spec, field_spec, discriminator_spec, op_spec, match_spec, let_spec, with_spec, macro_spec, expand_spec, pair_spec, enum_spec, struct_spec, SpecRow, no_spec, more_spec, ArmRow, no_arm, more_arm, SpecLetRow, no_spec_let, more_spec_let, FieldInitRow, no_field_init, more_field_init}
+use Rattle.isle_spec.specs.Words.{BeginsAt, SpellsAll, InParentheses, SpellsName}
 use Rattle.isle_ast.specs.SpecGrammar.{SpellsHeaded, SpellsSpec, SpellsSpecs, SpellsPairs, SpellsArms, SpellsSpecLets, SpellsFieldInits}
-use Rattle.isle_ast.specs.SpecView.{SingleArm, SingleFieldInit, spec_row_of, arm_row_of, field_init_row_of, spec_let_row_of}
-use Rattle.isle_ast.specs.Tree.{Name, SpecNode, int_spec, bit_vector_spec, bool_spec, var_spec, as_spec, field_spec, discriminator_spec, op_spec, match_spec, let_spec, with_spec, macro_spec, expand_spec, pair_spec, enum_spec, struct_spec, SpecRow, no_spec, more_spec, ArmRow, no_arm, more_arm, SpecLetRow, no_spec_let, more_spec_let, FieldInitRow, no_field_init, more_field_init}
-use Rattle.isle_ast.specs.Words.{BeginsAt, SpellsAll, InParentheses, SpellsName}
 
 -- ---- expressions
 

@@ -7,13 +7,13 @@ use Rattle.std.proofs.lemmas.Slice.Eq.{bytes_eq-Decides}
 use Rattle.isle_base.specs.declared.lexer.Pos.{Pos}
 use Rattle.isle_base.specs.Place.{Placed}
 use Rattle.isle_base.specs.Token.{symbol}
-use Rattle.isle_ast.specs.declared.ast.specs.SpecOp.{SpecOp}
-use Rattle.isle_ast.specs.BitVectors.{IsBitVector, IsBitVectorIn}
-use Rattle.isle_ast.specs.Identifier.{is_identifier}
-use Rattle.isle_ast.specs.Operators.{is_operator_text, operator_text}
+use Rattle.isle_spec.specs.declared.ast.specs.SpecOp.{SpecOp}
+use Rattle.isle_spec.specs.BitVectors.{IsBitVector, IsBitVectorIn}
+use Rattle.isle_spec.specs.Identifier.{is_identifier}
+use Rattle.isle_spec.specs.Operators.{is_operator_text, operator_text}
+use Rattle.isle_spec.specs.Tree.{SpecNode, bit_vector_spec, bool_spec, var_spec}
 use Rattle.isle_ast.specs.PatternGrammar.{bool_word, is_bool_word}
 use Rattle.isle_ast.specs.SpecGrammar.{SpellsSpec}
-use Rattle.isle_ast.specs.Tree.{SpecNode, bit_vector_spec, bool_spec, var_spec}
 use Rattle.isle_parser.specs.SpecWords.{IsHead, SpecHead, around, as_head, before_last, begins_bit_vector, behind_mark, binary_or_other, bit_vector_at, bit_vector_of, discriminator_head, discriminator_or_other, expansion_head, expansion_or_other, field_head, field_or_variant, head_of, hexadecimal_or_plain, keyword_head, let_head, macro_head, match_head, named_head, operator_head, operator_of, operator_or_name, other_head, plain_word, struct_head, switch_head, variant_head, variant_of, with_head, word_of}
 use Rattle.isle_parser.proofs.Keywords.{other_bytes}
 use Rattle.isle_parser.proofs.Readers.{bind_some, chosen, chosen_some}

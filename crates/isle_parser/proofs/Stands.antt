@@ -4,8 +4,8 @@ use Rattle.std.specs.List.{AllByRecursion}
 use Rattle.isle_base.specs.declared.lexer.Pos.{Pos}
 use Rattle.isle_base.specs.Place.{Placed}
 use Rattle.isle_base.specs.Token.{Tok}
+use Rattle.isle_spec.specs.Words.{SpellsToken, SpellsFlag, BeginsAt, SpellsAll, InParentheses, BehindWord, SpellsName}
 use Rattle.isle_ast.specs.TermGrammar.{SpellsConstant}
-use Rattle.isle_ast.specs.Words.{SpellsToken, SpellsFlag, BeginsAt, SpellsAll, InParentheses, BehindWord, SpellsName}
 use Rattle.isle_parser.specs.Positions.{OfName}
 use Rattle.isle_parser.proofs.Readers.{Spelling}
 

@@ -9,12 +9,12 @@ use Rattle.isle_base.specs.Steps.{ended_by, is_at_end}
 use Rattle.isle_base.specs.Token.{Lexeme, Ending, end, fault, Feed}
 use Rattle.isle_base.specs.declared.lexer.Fault.{Fault}
 use Rattle.isle_base.specs.declared.lexer.Fault.TheVariants as faults
+use Rattle.isle_spec.specs.Tree.{Definition}
 use Rattle.isle_ast.specs.declared.ast.Def.{Def}
 use Rattle.isle_ast.specs.Erased.{erase}
 use Rattle.isle_ast.specs.MacroArgs.{definitions_have_macro_arg}
 use Rattle.isle_ast.specs.TreeView.{definitions_of}
 use Rattle.isle_ast.specs.Spelt.{Spells}
-use Rattle.isle_ast.specs.Tree.{Definition}
 use Rattle.isle_parser.specs.Answers.{Source, is_fault}
 use Rattle.isle_parser.specs.Parsed.{Parses, RefusesText, RefusesIn, SpellsOnly}
 use Rattle.isle_parser.specs.ReadDefinitions.{definitions}

@@ -8,9 +8,9 @@ use Rattle.isle_base.specs.declared.lexer.Pos.{Pos}
 use Rattle.isle_base.specs.Place.{in_file}
 use Rattle.isle_base.specs.Steps.{RefusesAt, is_failed}
 use Rattle.isle_base.specs.Token.{Feed}
+use Rattle.isle_spec.specs.Tree.{Definition}
 use Rattle.isle_ast.specs.declared.ast.Def.{Def}
 use Rattle.isle_ast.specs.Spelt.{Spells}
-use Rattle.isle_ast.specs.Tree.{Definition}
 use Rattle.isle_ast.specs.TreeView.{definitions_of}
 
 -- a parse error whose span is one byte of the file, or the one behind the text's end

@@ -1,7 +1,7 @@
 -- Reading of definitions.
 use Rattle.std.specs.Prelude.{ℕ, List, Some, None, if◌then◌else◌, codes}
 use Rattle.std.specs.Str.{bytes_eq}
-use Rattle.isle_ast.specs.Tree.{Declaration, Conversion, Definition, type_def, rule, extractor, decl, attr, spec, spec_macro, model, state, form, instantiation, external, converter}
+use Rattle.isle_spec.specs.Tree.{Declaration, Conversion, Definition, type_def, rule, extractor, decl, attr, spec, spec_macro, model, state, form, instantiation, external, converter}
 use Rattle.isle_parser.specs.Reading.{Reader, ◌>>=◌, text, flag, pos_ahead, ends, in_parentheses, many}
 use Rattle.isle_parser.specs.ReadNames.{name, names}
 use Rattle.isle_parser.specs.ReadModels.{form_definition, instantiation_of_term}

@@ -2,7 +2,7 @@
 use Rattle.std.specs.Prelude.{ℕ, zero, suc, List, length, true, false, Some, None, if◌then◌else◌, codes}
 use Rattle.isle_base.specs.declared.lexer.Pos.{Pos}
 use Rattle.isle_base.specs.Token.{is_int, is_symbol}
-use Rattle.isle_ast.specs.Tree.{Expression, term_expression, var_expression, bool_expression, int_expression, constant_expression, let_expression}
+use Rattle.isle_spec.specs.Tree.{Expression, term_expression, var_expression, bool_expression, int_expression, constant_expression, let_expression}
 use Rattle.isle_ast.specs.TreeView.{SingleLet, expression_row_of, let_row_of}
 use Rattle.isle_parser.specs.Reading.{Reader, ◌>>=◌, is_lparen, is_ahead, flag, pos_ahead, closes, in_parentheses, many}
 use Rattle.isle_parser.specs.ReadNames.{name}

@@ -4,7 +4,7 @@ use Rattle.std.specs.Prelude.{ℕ, zero, suc, ◌^◌, ℤ, pos, negsuc, List, [
 use Rattle.std.specs.Str.{bytes_eq}
 use Rattle.isle_base.specs.Place.{Placed}
 use Rattle.isle_base.specs.Token.{Tok, lparen, rparen, symbol, integer, at_sign, is_int}
-use Rattle.isle_ast.specs.Tree.{Name, TypeModel, unspecified_model, auto_model, int_model, bool_model, unit_model, bit_vector_model, struct_model, named_model, ModelFieldRow, no_model_field, model_field, TermSignature, FormDefinition, TermInstantiation}
+use Rattle.isle_spec.specs.Tree.{Name, TypeModel, unspecified_model, auto_model, int_model, bool_model, unit_model, bit_vector_model, struct_model, named_model, ModelFieldRow, no_model_field, model_field, TermSignature, FormDefinition, TermInstantiation}
 use Rattle.isle_parser.specs.Reading.{Reader, ◌>>=◌, is_lparen, is_ahead, expect, text, token_ahead, flag, pos_ahead, closes, in_parentheses, many}
 use Rattle.isle_parser.specs.ReadNames.{name}
 

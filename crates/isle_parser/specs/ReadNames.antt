@@ -1,7 +1,7 @@
 -- Reading of identifiers.
 use Rattle.std.specs.Prelude.{List, Some, None, if◌then◌else◌}
-use Rattle.isle_ast.specs.Identifier.{is_identifier}
-use Rattle.isle_ast.specs.Tree.{Name}
+use Rattle.isle_spec.specs.Identifier.{is_identifier}
+use Rattle.isle_spec.specs.Tree.{Name}
 use Rattle.isle_parser.specs.Reading.{Reader, ◌>>=◌, text, pos_ahead, closes, in_parentheses, many}
 
 unfoldable pub name : Reader Name

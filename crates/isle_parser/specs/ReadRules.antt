@@ -3,7 +3,7 @@ use Rattle.std.specs.Prelude.{ℕ, zero, suc, ℤ, List, [], ◌∷◌, length, 
 use Rattle.isle_base.specs.declared.lexer.Pos.{Pos}
 use Rattle.isle_base.specs.Place.{Placed}
 use Rattle.isle_base.specs.Token.{is_int, is_symbol}
-use Rattle.isle_ast.specs.Tree.{Name, wildcard_pattern, Expression, Condition, RuleDefinition, ExtractorDefinition}
+use Rattle.isle_spec.specs.Tree.{Name, wildcard_pattern, Expression, Condition, RuleDefinition, ExtractorDefinition}
 use Rattle.isle_parser.specs.Reading.{Reader, ◌>>=◌, is_lparen, is_ahead, flag, pos_ahead, closes, in_parentheses, many}
 use Rattle.isle_parser.specs.ReadExpressions.{expression, expression_inside}
 use Rattle.isle_parser.specs.ReadNames.{name}

@@ -3,8 +3,8 @@
 use Rattle.std.specs.Prelude.{ℕ, List, Option, Some, None, if◌then◌else◌, codes}
 use Rattle.std.specs.Str.{bytes_eq}
 use Rattle.isle_base.specs.Token.{is_symbol}
+use Rattle.isle_spec.specs.Tree.{Name, SpecNode, ModelContent, type_model, const_model, ModelDefinition, ModifiedState, SpecDefinition, SpecMacroDefinition, StateDefinition}
 use Rattle.isle_ast.specs.SpecDefinitionGrammar.{SpecClause, provide_clause, require_clause, match_clause, modifies_clause, provided, required, matched, modified}
-use Rattle.isle_ast.specs.Tree.{Name, SpecNode, ModelContent, type_model, const_model, ModelDefinition, ModifiedState, SpecDefinition, SpecMacroDefinition, StateDefinition}
 use Rattle.isle_parser.specs.Reading.{Reader, ◌>>=◌, is_ahead, text, flag, pos_ahead, closes, in_parentheses, many}
 use Rattle.isle_parser.specs.ReadModels.{model_type, tagged_type}
 use Rattle.isle_parser.specs.ReadNames.{name}

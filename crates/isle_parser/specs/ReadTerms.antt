@@ -2,7 +2,7 @@
 use Rattle.std.specs.Prelude.{ℕ, List, [], ◌∷◌, ◌==◌, Option, Some, None, if◌then◌else◌, codes}
 use Rattle.std.specs.Str.{bytes_eq}
 use Rattle.isle_base.specs.declared.lexer.Pos.{Pos}
-use Rattle.isle_ast.specs.Tree.{Name, term_target, rule_target, AttributeKind, chain_kind, priority_kind, tag_kind, Attribute, ExternDefinition, extern_extractor, extern_constructor, extern_const}
+use Rattle.isle_spec.specs.Tree.{Name, term_target, rule_target, AttributeKind, chain_kind, priority_kind, tag_kind, Attribute, ExternDefinition, extern_extractor, extern_constructor, extern_const}
 use Rattle.isle_parser.specs.Reading.{Reader, ◌>>=◌, text, flag, pos_ahead, closes, in_parentheses, many}
 use Rattle.isle_parser.specs.ReadNames.{name}
 

@@ -4,7 +4,7 @@ use Rattle.std.specs.List.{list_any}
 use Rattle.isle_base.specs.declared.lexer.Pos.{Pos}
 use Rattle.isle_base.specs.Place.{Placed}
 use Rattle.isle_base.specs.Token.{is_symbol}
-use Rattle.isle_ast.specs.Tree.{Name, NamedField, IndexedField, FieldList, unit_fields, struct_fields, tuple_fields, EnumVariant, TypeContent, primitive_type, enum_type, struct_type, TypeDefinition}
+use Rattle.isle_spec.specs.Tree.{Name, NamedField, IndexedField, FieldList, unit_fields, struct_fields, tuple_fields, EnumVariant, TypeContent, primitive_type, enum_type, struct_type, TypeDefinition}
 use Rattle.isle_ast.specs.TypeGrammar.{is_extern_word, is_nodebug_word}
 use Rattle.isle_parser.specs.Reading.{Reader, ◌>>=◌, is_lparen, is_ahead, text, flag, pos_ahead, closes, in_parentheses, many}
 use Rattle.isle_parser.specs.ReadNames.{name}

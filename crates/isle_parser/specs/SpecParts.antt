@@ -1,8 +1,8 @@
 -- What the code reads apart: the cases of a `switch`, and the clauses of a spec as pure values.
 use Rattle.std.specs.Prelude.{List, ◌∷◌, Some, map}
+use Rattle.isle_spec.specs.SpecView.{modified_of, specs_of}
+use Rattle.isle_spec.specs.Tree.{SpecNode}
 use Rattle.isle_ast.specs.SpecDefinitionGrammar.{SpecClause, provide_clause, require_clause, match_clause, modifies_clause}
-use Rattle.isle_ast.specs.SpecView.{modified_of, specs_of}
-use Rattle.isle_ast.specs.Tree.{SpecNode}
 use Rattle.isle_parser.specs.declared.parser.spec_defs.Clause.{Clause}
 use Rattle.isle_parser.specs.declared.parser.spec_defs.Clause.TheVariants as clauses
 use Rattle.isle_parser.specs.declared.parser.spec_defs.Clauses.{Clauses}

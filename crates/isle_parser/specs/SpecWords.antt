@@ -6,12 +6,12 @@ use Rattle.std.specs.Option.{is_some, option_or}
 use Rattle.std.specs.Str.{bytes_eq}
 use Rattle.std.specs.Str.Parse.{digits_value, without_leading_plus}
 use Rattle.isle_base.specs.declared.lexer.Pos.{Pos}
-use Rattle.isle_ast.specs.declared.ast.specs.SpecOp.{SpecOp}
-use Rattle.isle_ast.specs.declared.ast.specs.SpecOp.TheVariants as op
-use Rattle.isle_ast.specs.Identifier.{is_identifier}
-use Rattle.isle_ast.specs.Operators.{operator_text, is_operator_text}
+use Rattle.isle_spec.specs.declared.ast.specs.SpecOp.{SpecOp}
+use Rattle.isle_spec.specs.declared.ast.specs.SpecOp.TheVariants as op
+use Rattle.isle_spec.specs.Identifier.{is_identifier}
+use Rattle.isle_spec.specs.Operators.{operator_text, is_operator_text}
+use Rattle.isle_spec.specs.Tree.{SpecNode, bit_vector_spec, bool_spec, var_spec}
 use Rattle.isle_ast.specs.SpecGrammar.{field_mark, discriminator_mark, expansion_mark, is_dot, is_plain_operator}
-use Rattle.isle_ast.specs.Tree.{SpecNode, bit_vector_spec, bool_spec, var_spec}
 use Rattle.isle_parser.specs.Reading.{Reader, ◌>>=◌, text as text_ahead}
 
 -- the first word in parentheses, with the names in it

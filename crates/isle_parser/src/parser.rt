@@ -12,10 +12,10 @@ ghost use Rattle.isle_parser.specs.Positions.{HasKnownPositions, HasPositions};
 ghost use Rattle.isle_parser.specs.ReadNumbers.{signed};
 ghost use Rattle.isle_parser.specs.ReadPatterns.{is_const};
 ghost use Rattle.isle_parser.specs.Reading.{ends, expect, first, flag, is_ahead, is_at, is_lparen, is_rparen, is_word, pos_ahead, take, take_if, text, token_ahead};
+ghost use Rattle.isle_spec.specs.Tree.{Definition};
 ghost use Rattle.isle_ast.specs.MacroArgs.{definitions_have_macro_arg};
 ghost use Rattle.isle_ast.specs.PatternGrammar.{is_constant};
 ghost use Rattle.isle_ast.specs.Spelt.{Spells};
-ghost use Rattle.isle_ast.specs.Tree.{Definition};
 ghost use Rattle.isle_ast.specs.TreeView.{definitions_of};
 ghost use Rattle.isle_base.specs.declared.lexer.Fault.TheVariants.{Failed};
 ghost use Rattle.isle_parser.specs.declared.parser.Stop.TheVariants.{Memory};
@@ -41,6 +41,12 @@ use std::alloc::{AllocError, AllocFailed, Global};
 
 /// Parse the top-level ISLE definitions and return their AST.
 ///
+/// The promise: for every text and every width, want of memory aside, `parse` and `parse_without_pos` accept
+/// exactly the texts that the grammar of ISLE spells and give the one tree so spelt; two accepted texts spell
+/// the same tree, positions erased, exactly if their prints at that width are equal bytes, and such a print is
+/// accepted and prints as itself. The first half is in the clauses here, the second in those of `isle_syntax`'s
+/// `format`.
+///
 /// It reads what the lexer has still to give, its lookahead first. The grammar is the one of the ISLE
 /// language reference, for the definitions `type`, `rule`, `extractor`, `decl`, `attr`, `spec`, `macro`,
 /// `state`, `model`, `form`, `instantiate`, `extern` and `convert`. A pragma is refused, whatever its name. The list that it answers
@@ -50,7 +56,8 @@ use std::alloc::{AllocError, AllocFailed, Global};
 ///
 /// It answers an error exactly where the tokens spell no list of definitions, or where the lexer refuses
 /// its text. The error is a parse error at one byte of the text, or at its end. Of a lexer that had
-/// refused its text before this call it answers `Failed`. The lexer is gone afterwards, whatever the answer.
+/// refused its text before this call it answers `Failed`. `Memory` comes where a growth was refused. The lexer is gone
+/// afterwards, whatever the answer.
 pub fn parse(alloc: Global, lexer: Lexer) -> Result<Vec<Def>, Fault>
     ensures spelt { IfOk result (λ defs. Spells (in_file lexer.entry.file) lexer.entry (definitions_of defs.items)) }
     ensures only { IfOk result (λ defs. (ds : List Definition) → Spells (in_file lexer.entry.file) lexer.entry ds → ds ≡ definitions_of defs.items) }
@@ -67,8 +74,8 @@ pub fn parse(alloc: Global, lexer: Lexer) -> Result<Vec<Def>, Fault>
 /// Parse without positional information. Provided mainly to support testing, to enable equality testing
 /// on structure alone.
 ///
-/// It answers what `parse` does, with the default position in place of each. Its errors stand where those
-/// of `parse` do.
+/// It answers what `parse` does, with the default position in place of each, `Memory` and `Failed` too. Its errors stand
+/// where those of `parse` do.
 pub fn parse_without_pos(alloc: Global, lexer: Lexer) -> Result<Vec<Def>, Fault>
     ensures spelt { IfOk result (λ defs. Spells nowhere lexer.entry (definitions_of defs.items)) }
     ensures only { IfOk result (λ defs. (ds : List Definition) → Spells nowhere lexer.entry ds → ds ≡ definitions_of defs.items) }

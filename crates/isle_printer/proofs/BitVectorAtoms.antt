@@ -13,8 +13,8 @@ use Rattle.isle_base.specs.Literals.{begins_literal}
 use Rattle.isle_base.specs.Pieces.{in_symbol, begins_symbol}
 use Rattle.isle_base.specs.Skips.{is_blank}
 use Rattle.isle_base.specs.Token.{symbol}
-use Rattle.isle_ast.specs.BitVectors.{IsBitVectorIn, IsBitVector}
-use Rattle.isle_ast.specs.SpecWritable.{IsWritableBitVector}
+use Rattle.isle_spec.specs.BitVectors.{IsBitVectorIn, IsBitVector}
+use Rattle.isle_spec.specs.SpecWritable.{IsWritableBitVector}
 use Rattle.isle_printer.specs.ReadBack.{ReadsAs}
 use Rattle.isle_printer.specs.SpecShapes.{radix_text, zero_padded, bit_vector_text}
 use Rattle.isle_printer.proofs.ReadBackLaw.{ReadsAs-symbol}

@@ -2,11 +2,11 @@
 use Rattle.std.proofs.Common.{ℕ, ◌^◌, ◌<◌, List, [], ◌∷◌, codes, Option, None, Some, IfSome, pos, refl, arith}
 use Rattle.isle_base.specs.Place.{unknown}
 use Rattle.isle_base.specs.Token.{Tok, rparen, integer}
+use Rattle.isle_spec.specs.Numbers.{SpellsNumber}
+use Rattle.isle_spec.specs.Tree.{TypeModel, unspecified_model, auto_model, int_model, bool_model, unit_model, bit_vector_model, struct_model, named_model, ModelFieldRow, no_model_field, model_field}
+use Rattle.isle_spec.specs.Words.{SpellsName, SpellsOptional}
 use Rattle.isle_ast.specs.Erased.{erase_name, erase_model, erase_model_fields}
 use Rattle.isle_ast.specs.ModelGrammar.{SpellsTypeModel, SpellsModelFields}
-use Rattle.isle_ast.specs.Numbers.{SpellsNumber}
-use Rattle.isle_ast.specs.Tree.{TypeModel, unspecified_model, auto_model, int_model, bool_model, unit_model, bit_vector_model, struct_model, named_model, ModelFieldRow, no_model_field, model_field}
-use Rattle.isle_ast.specs.Words.{SpellsName, SpellsOptional}
 use Rattle.isle_ast.specs.Writable.{IsWritableModel, AreWritableModelFields}
 use Rattle.isle_printer.specs.ReadBack.{unplaced}
 use Rattle.isle_printer.specs.Shapes.{name_shape, number_shape, width_shape, model_shape, model_field_shapes}

@@ -14,7 +14,7 @@ use Rattle.isle_base.specs.Literals.{begins_literal, in_literal, has_minus, behi
 use Rattle.isle_base.specs.Pieces.{in_symbol}
 use Rattle.isle_base.specs.Skips.{begins_with, is_blank, Longest}
 use Rattle.isle_base.specs.Token.{integer}
-use Rattle.isle_ast.specs.Numbers.{IsSigned}
+use Rattle.isle_spec.specs.Numbers.{IsSigned}
 use Rattle.isle_printer.specs.ReadBack.{ReadsAs, Separated}
 use Rattle.isle_printer.specs.RuleShapes.{integer_text}
 

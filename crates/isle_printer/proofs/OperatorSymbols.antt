@@ -6,13 +6,13 @@ use Rattle.isle_base.specs.Literals.{begins_literal}
 use Rattle.isle_base.specs.Pieces.{in_symbol, begins_symbol}
 use Rattle.isle_base.specs.Skips.{begins_with, is_blank}
 use Rattle.isle_base.specs.Token.{symbol}
-use Rattle.isle_ast.proofs.IdentifierBytes.{identifier_begins_symbol, identifier_in_symbol}
-use Rattle.isle_ast.specs.declared.ast.specs.SpecOp.{SpecOp}
-use Rattle.isle_ast.specs.declared.ast.specs.SpecOp.TheVariants as op
-use Rattle.isle_ast.specs.Identifier.{is_identifier}
-use Rattle.isle_ast.specs.Operators.{operator_text}
+use Rattle.isle_spec.proofs.IdentifierBytes.{identifier_begins_symbol, identifier_in_symbol}
+use Rattle.isle_spec.specs.declared.ast.specs.SpecOp.{SpecOp}
+use Rattle.isle_spec.specs.declared.ast.specs.SpecOp.TheVariants as op
+use Rattle.isle_spec.specs.Identifier.{is_identifier}
+use Rattle.isle_spec.specs.Operators.{operator_text}
+use Rattle.isle_spec.specs.Tree.{Name}
 use Rattle.isle_ast.specs.SpecGrammar.{field_mark, discriminator_mark, expansion_mark, dotted}
-use Rattle.isle_ast.specs.Tree.{Name}
 use Rattle.isle_ast.specs.Writable.{IsName}
 use Rattle.isle_printer.specs.ReadBack.{ReadsAs}
 use Rattle.isle_printer.proofs.NumberAtoms.{begins_with-append}

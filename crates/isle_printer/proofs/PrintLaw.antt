@@ -1,22 +1,26 @@
--- The print of writable definitions is spelt by them, erased; and every choice of broken lists lexes to
--- the tokens of the S-expression.
-use Rattle.std.proofs.Common.{◌≡◌, ℕ, ◌-◌, length, List, [], ◌∷◌, ◌++◌, map, codes, Option, None, Some, refl, sym, ap, ◌∙◌, subst, ◌↔◌}
+-- The print of definitions is spelt by them, erased, exactly if they are writable, and at every width it has
+-- the same tokens; and every choice of broken lists lexes to the tokens of the S-expression.
+use Rattle.std.proofs.Common.{◌≡◌, ℕ, ◌-◌, length, List, [], ◌∷◌, ◌++◌, map, codes, Option, None, Some, true, refl, sym, ap, ◌∙◌, subst, ◌↔◌}
+use Rattle.std.proofs.lemmas.Bool.{false≢true}
 use Rattle.std.proofs.lemmas.List.{append_assoc, append-nil}
 use Rattle.isle_base.specs.Lexing.{Lexes, lexes}
 use Rattle.isle_base.specs.Place.{unknown, nowhere, placed}
 use Rattle.isle_base.specs.Skips.{nothing}
 use Rattle.isle_base.specs.Token.{Tok, Lexeme, end}
+use Rattle.isle_spec.specs.Tree.{Name, FieldList, unit_fields, struct_fields, tuple_fields, EnumVariant, TypeContent, primitive_type, enum_type, struct_type, AttributeTarget, term_target, rule_target, AttributeKind, chain_kind, priority_kind, tag_kind, TermSignature, extern_extractor, extern_constructor, extern_const, Definition, type_def, rule, extractor, decl, attr, spec, spec_macro, model, state, form, instantiation, external, converter}
+use Rattle.isle_ast.proofs.ErasedWritable.{writable-erased}
+use Rattle.isle_ast.proofs.NoMacroArgs.{writable_trees_have_no_macro_arg}
 use Rattle.isle_ast.proofs.SpeltWritable.{spelt_is_writable}
 use Rattle.isle_ast.specs.Erased.{erase_name, erase_names, erase_model, erase_named_field, erase_indexed_field, erase_fields, erase_variant, erase_type_content, erase_target, erase_kind, erase_signature, erase_optional, erase_definition, erase}
 use Rattle.isle_ast.specs.Grammar.{SpellsDefinitions}
+use Rattle.isle_ast.specs.MacroArgs.{definitions_have_macro_arg}
 use Rattle.isle_ast.specs.Spelt.{IsSpelt}
-use Rattle.isle_ast.specs.Tree.{Name, FieldList, unit_fields, struct_fields, tuple_fields, EnumVariant, TypeContent, primitive_type, enum_type, struct_type, AttributeTarget, term_target, rule_target, AttributeKind, chain_kind, priority_kind, tag_kind, TermSignature, extern_extractor, extern_constructor, extern_const, Definition, type_def, rule, extractor, decl, attr, spec, spec_macro, model, state, form, instantiation, external, converter}
 use Rattle.isle_ast.specs.Writable.{AreWritable}
 use Rattle.isle_printer.specs.Choices.{Choice, render}
 use Rattle.isle_printer.specs.DefinitionShapes.{definition_shape}
 use Rattle.isle_printer.specs.Layout.{layout}
 use Rattle.isle_printer.specs.Printed.{definition_text, behind_text, printed_text, IsPrinted}
-use Rattle.isle_printer.specs.ReadBack.{TokensOf, Reads, ReadsBack, unplaced}
+use Rattle.isle_printer.specs.ReadBack.{TokensOf, Reads, ReadsBack, ReadsBackIfWritable, HaveSameTokens, unplaced}
 use Rattle.isle_printer.specs.Sexp.{Sexp, atom, row_of}
 use Rattle.isle_printer.specs.Shapes.{name_shape, flag_shape, form_shape, model_shape, named_field_shape, indexed_field_shape, field_shapes, variant_shape, type_content_shape, target_shape, tag_shape, kind_shape, signature_shape, instance_shapes}
 use Rattle.isle_printer.proofs.Greedy.{greedy, layout_is_render}
@@ -43,10 +47,10 @@ render-lexes s c level tokens t =
     Lexes-from_reads (length (render s c level)) (render s c level) tokens
     (subst (λ b. Reads b tokens) (append-nil (render s c level)) (render-reads s c level tokens [] t [] refl (nothing refl)))
 
--- a text that reads as tokens which spell the definitions, erased
-record ReadsDefinitions (text : List ℕ) (ds : List Definition) : Type 0 where
+-- A text for each width, which reads at every width as the same tokens, and these spell the definitions, erased.
+record ReadsDefinitions (text : ℕ → List ℕ) (ds : List Definition) : Type 0 where
   all : List Tok
-  reads : Reads text all
+  reads : (width : ℕ) → Reads (text width) all
   spells : SpellsDefinitions (erase ds) (unplaced all)
 
 -- a definition's lines read as its tokens, and what follows as what follows
@@ -59,44 +63,73 @@ definition_text-reads width d text all rest t r =
     (Reads-blank 10 text rest is_blank-10 r))
 
 -- a definition's lines before a text of definitions
-definition-reads : (width : ℕ) (d : Definition) (ds : List Definition) (text : List ℕ) → AreWritable (d ∷ ds) → ReadsDefinitions text ds → ReadsDefinitions (definition_text width d ++ text) (d ∷ ds)
-definition-reads width d ds text is behind =
+definition-reads : (d : Definition) (ds : List Definition) (text : ℕ → List ℕ) → AreWritable (d ∷ ds) → ReadsDefinitions text ds → ReadsDefinitions (λ width. definition_text width d ++ text width) (d ∷ ds)
+definition-reads d ds text is behind =
     let shape = spell-definition d is.0 behind.all in
     record {
       all = shape.all;
-      reads = definition_text-reads width d text shape.all behind.all (first_tokens shape.all behind.all shape.tokens.are) behind.reads;
+      reads = λ width. definition_text-reads width d (text width) shape.all behind.all (first_tokens shape.all behind.all shape.tokens.are) (behind.reads width);
       spells = (unplaced behind.all, shape.spells, behind.spells);
     }
   where
     first_tokens : (all rest : List Tok) → (mid : List Tok) × TokensOf (definition_shape d) all mid × (mid ≡ rest) → TokensOf (definition_shape d) all rest
     first_tokens all rest t = subst (λ r. TokensOf (definition_shape d) all r) t.2 t.1
 
-behind_text-reads : (width : ℕ) (ds : List Definition) → AreWritable ds → ReadsDefinitions (behind_text width ds) ds
-behind_text-reads width [] is = record { all = []; reads = nothing refl; spells = refl }
-behind_text-reads width (d ∷ ds) is =
-    let s = definition-reads width d ds (behind_text width ds) is (behind_text-reads width ds is.1) in
+behind_text-reads : (ds : List Definition) → AreWritable ds → ReadsDefinitions (λ width. behind_text width ds) ds
+behind_text-reads [] is = record { all = []; reads = λ width. nothing refl; spells = refl }
+behind_text-reads (d ∷ ds) is =
+    let s = definition-reads d ds (λ width. behind_text width ds) is (behind_text-reads ds is.1) in
     record {
       all = s.all;
-      reads = Reads-blank 10 (definition_text width d ++ behind_text width ds) s.all is_blank-10 s.reads;
+      reads = λ width. Reads-blank 10 (definition_text width d ++ behind_text width ds) s.all is_blank-10 (s.reads width);
       spells = s.spells;
     }
 
-printed_text-reads : (width : ℕ) (ds : List Definition) → AreWritable ds → ReadsDefinitions (printed_text width ds) ds
-printed_text-reads width [] is = record { all = []; reads = nothing refl; spells = refl }
-printed_text-reads width (d ∷ ds) is =
-    definition-reads width d ds (behind_text width ds) is (behind_text-reads width ds is.1)
+printed_text-reads : (ds : List Definition) → AreWritable ds → ReadsDefinitions (λ width. printed_text width ds) ds
+printed_text-reads [] is = record { all = []; reads = λ width. nothing refl; spells = refl }
+printed_text-reads (d ∷ ds) is = definition-reads d ds (λ width. behind_text width ds) is (behind_text-reads ds is.1)
 
 -- The print of writable definitions, at any width, is spelt by them, erased.
 pub printed_text-spelt : (width : ℕ) (ds : List Definition) → AreWritable ds → IsSpelt nowhere (printed_text width ds) (erase ds)
 printed_text-spelt width ds is =
-    let r = printed_text-reads width ds is in
-    let l = Lexes-from_reads (length (printed_text width ds)) (printed_text width ds) r.all r.reads in
+    let r = printed_text-reads ds is in
+    let l = Lexes-from_reads (length (printed_text width ds)) (printed_text width ds) r.all (r.reads width) in
     (l.0, l.1, subst (λ p. SpellsDefinitions (erase ds) p) (sym l.2) r.spells)
 
--- so is every text that is the print of spelt definitions
+-- The prints of writable definitions at two widths have the same tokens.
+printed_text-tokens : (width other : ℕ) (ds : List Definition) → AreWritable ds → HaveSameTokens (printed_text width ds) (printed_text other ds)
+printed_text-tokens width other ds is =
+    let r = printed_text-reads ds is in
+    let l = Lexes-from_reads (length (printed_text width ds)) (printed_text width ds) r.all (r.reads width) in
+    let m = Lexes-from_reads (length (printed_text other ds)) (printed_text other ds) r.all (r.reads other) in
+    (l.0, m.0, l.1, m.1, l.2 ∙ sym m.2)
+
+-- So is every text that is the print of writable definitions,
+pub IsPrinted-IsSpelt : (width : ℕ) (ds : List Definition) (text : List ℕ) → AreWritable ds → IsPrinted width ds text → IsSpelt nowhere text (erase ds)
+IsPrinted-IsSpelt width ds text writable is =
+    subst (λ t. IsSpelt nowhere t (erase ds)) (sym (IsPrinted-text width ds text is)) (printed_text-spelt width ds writable)
+
+-- and of no others, since spelt definitions are writable, erased or not.
+pub IsPrinted-ReadsBackIfWritable : (width : ℕ) (ds : List Definition) (text : List ℕ) → IsPrinted width ds text → ReadsBackIfWritable ds text
+IsPrinted-ReadsBackIfWritable width ds text is = (
+  λ spelt. (writable-erased ds).0 (spelt_is_writable (erase ds) (placed nowhere spelt.0) spelt.2),
+  λ writable. IsPrinted-IsSpelt width ds text writable is,
+)
+
+pub IsPrinted-tokens : (width other : ℕ) (ds : List Definition) (text another : List ℕ) → AreWritable ds → IsPrinted width ds text → IsPrinted other ds another → HaveSameTokens text another
+IsPrinted-tokens width other ds text another writable is also =
+    let first = sym (IsPrinted-text width ds text is) in
+    let second = sym (IsPrinted-text other ds another also) in
+    subst (λ t. HaveSameTokens t another) first
+    (subst (λ t. HaveSameTokens (printed_text width ds) t) second (printed_text-tokens width other ds writable))
+
+-- What holds the argument of a macro isn't writable.
+pub macro_arg-unwritable : (ds : List Definition) → definitions_have_macro_arg ds ≡ true → AreWritable ds → ⊥
+macro_arg-unwritable ds holds writable = false≢true (sym (writable_trees_have_no_macro_arg ds writable) ∙ holds)
+
+-- the print of spelt definitions
 pub IsPrinted-ReadsBack : (width : ℕ) (ds : List Definition) (text : List ℕ) → IsPrinted width ds text → ReadsBack ds text
-IsPrinted-ReadsBack width ds text is all s =
-    subst (λ t. IsSpelt nowhere t (erase ds)) (sym (IsPrinted-text width ds text is)) (printed_text-spelt width ds (spelt_is_writable ds all s))
+IsPrinted-ReadsBack width ds text is all s = IsPrinted-IsSpelt width ds text (spelt_is_writable ds all s) is
 
 -- positions play no part in a shape
 

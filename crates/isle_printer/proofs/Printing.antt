@@ -1,8 +1,8 @@
 -- The printed text: the relation and the function are one, and a greater width has no more lines.
 use Rattle.std.proofs.Common.{◌≡◌, ℕ, ◌+◌, ◌≤◌, List, [], ◌∷◌, ◌++◌, Bool, true, false, ◌||◌, refl, sym, ap, ◌∙◌, subst, arith}
 use Rattle.std.proofs.lemmas.Bool.{false≢true}
+use Rattle.isle_spec.specs.Tree.{Definition}
 use Rattle.isle_ast.specs.MacroArgs.{definition_has_macro_arg, definitions_have_macro_arg}
-use Rattle.isle_ast.specs.Tree.{Definition}
 use Rattle.isle_printer.specs.Choices.{IsLayout}
 use Rattle.isle_printer.specs.Layout.{layout}
 use Rattle.isle_printer.specs.Lines.{line_ends, HasFewestLines, WiderHasNoMoreLines}

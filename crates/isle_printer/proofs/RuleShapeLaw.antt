@@ -3,14 +3,14 @@ use Rattle.std.proofs.Common.{◌≡◌, ◌≢◌, ℕ, ℤ, List, [], ◌∷�
 use Rattle.std.specs.Str.{bytes_eq}
 use Rattle.isle_base.specs.Place.{Placed, unknown}
 use Rattle.isle_base.specs.Token.{Tok, rparen, symbol, integer, at_sign}
-use Rattle.isle_ast.proofs.IdentifierBytes.{identifier_is_symbol}
+use Rattle.isle_spec.proofs.IdentifierBytes.{identifier_is_symbol}
+use Rattle.isle_spec.specs.Numbers.{IsSigned, SpellsInteger, SpellsPriority}
+use Rattle.isle_spec.specs.Tree.{Name, PatternNode, var_pattern, bind_pattern, bool_pattern, int_pattern, constant_pattern, term_pattern, wildcard_pattern, and_pattern, macro_arg_pattern, PatternRow, no_pattern, more_pattern, Expression, term_expression, var_expression, bool_expression, int_expression, constant_expression, let_expression, ExpressionRow, no_expression, more_expression, LetRow, no_let, more_let, Condition, RuleDefinition, ExtractorDefinition}
+use Rattle.isle_spec.specs.Words.{SpellsToken, BeginsAt, SpellsAll, InParentheses, BehindWord, SpellsName, SpellsOptional}
 use Rattle.isle_ast.specs.Erased.{erase_name, erase_names, erase_optional, erase_pattern, erase_patterns, erase_expression, erase_expressions, erase_lets, erase_condition, erase_rule, erase_extractor}
 use Rattle.isle_ast.specs.ExpressionGrammar.{is_expression_variable, SpellsExpressionVariable, SpellsExpression, SpellsExpressions, SpellsLets}
-use Rattle.isle_ast.specs.Numbers.{IsSigned, SpellsInteger, SpellsPriority}
 use Rattle.isle_ast.specs.PatternGrammar.{is_constant, bool_word, is_bool_word, is_variable, SpellsVariable, SpellsPattern, SpellsPatterns}
 use Rattle.isle_ast.specs.RuleGrammar.{SpellsMatch, SpellsCondition, is_list_pattern, is_int_pattern, is_if_expression, pattern_is_no_head, SpellsRule, SpellsExtractor}
-use Rattle.isle_ast.specs.Tree.{Name, PatternNode, var_pattern, bind_pattern, bool_pattern, int_pattern, constant_pattern, term_pattern, wildcard_pattern, and_pattern, macro_arg_pattern, PatternRow, no_pattern, more_pattern, Expression, term_expression, var_expression, bool_expression, int_expression, constant_expression, let_expression, ExpressionRow, no_expression, more_expression, LetRow, no_let, more_let, Condition, RuleDefinition, ExtractorDefinition}
-use Rattle.isle_ast.specs.Words.{SpellsToken, BeginsAt, SpellsAll, InParentheses, BehindWord, SpellsName, SpellsOptional}
 use Rattle.isle_ast.specs.Writable.{IsName, HasNoDollar, IsPatternVariable, IsExpressionVariable, IsWritablePattern, AreWritablePatterns, IsWritableExpression, AreWritableExpressions, AreWritableLets, IsWritableCondition, IsTermOrAnd, IsNoInteger, IsNoIf, IsWritableRule, IsWritableExtractor}
 use Rattle.isle_printer.specs.ReadBack.{ReadsAs, unplaced}
 use Rattle.isle_printer.specs.RuleShapes.{integer_shape, pattern_shape, pattern_shapes, expression_shape, expression_shapes, let_shapes, condition_shape, rule_name_shape, priority_shape, rule_shape, extractor_shape}

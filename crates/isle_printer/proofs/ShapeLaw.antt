@@ -4,15 +4,15 @@ use Rattle.std.proofs.lemmas.Slice.Eq.{bytes_eq-Decides}
 use Rattle.std.specs.Str.{bytes_eq}
 use Rattle.isle_base.specs.Place.{Placed, unknown}
 use Rattle.isle_base.specs.Token.{Tok, rparen}
+use Rattle.isle_spec.specs.SpecErased.{erase_spec}
+use Rattle.isle_spec.specs.Tree.{Name, Declaration, Conversion, NamedField, IndexedField, FieldList, unit_fields, struct_fields, tuple_fields, EnumVariant, TypeContent, primitive_type, enum_type, struct_type, AttributeTarget, term_target, rule_target, AttributeKind, chain_kind, priority_kind, tag_kind, TermSignature, ModelContent, type_model, const_model, ExternDefinition, extern_extractor, extern_constructor, extern_const, Definition, type_def, rule, extractor, decl, attr, spec, spec_macro, model, state, form, instantiation, external, converter}
+use Rattle.isle_spec.specs.Words.{SpellsWord, BeginsAt, SpellsAll, InParentheses, BehindWord, SpellsName}
 use Rattle.isle_ast.specs.Erased.{erase_name, erase_names, erase_declaration, erase_conversion, erase_type, erase_attribute, erase_form, erase_instantiation, erase_model_definition, erase_optional, erase_model, erase_named_field, erase_indexed_field, erase_fields, erase_variant, erase_type_content, erase_target, erase_kind, erase_signature, erase_model_content, erase_extern, erase_definition}
 use Rattle.isle_ast.specs.Grammar.{SpellsDefinition}
-use Rattle.isle_ast.specs.SpecErased.{erase_spec}
 use Rattle.isle_ast.specs.SpecGrammar.{SpellsSpec}
 use Rattle.isle_ast.specs.ModelGrammar.{SpellsTypeModel, SpellsSignature, SpellsTag, SpellsInstances, SpellsModelContent, SpellsModel, SpellsForm, SpellsInstantiation}
 use Rattle.isle_ast.specs.TermGrammar.{demands, SpellsDeclaration, SpellsConversion, SpellsAttributeKind, SpellsAttributeTarget, SpellsPair, SpellsExtern, SpellsAttribute}
-use Rattle.isle_ast.specs.Tree.{Name, Declaration, Conversion, NamedField, IndexedField, FieldList, unit_fields, struct_fields, tuple_fields, EnumVariant, TypeContent, primitive_type, enum_type, struct_type, AttributeTarget, term_target, rule_target, AttributeKind, chain_kind, priority_kind, tag_kind, TermSignature, ModelContent, type_model, const_model, ExternDefinition, extern_extractor, extern_constructor, extern_const, Definition, type_def, rule, extractor, decl, attr, spec, spec_macro, model, state, form, instantiation, external, converter}
 use Rattle.isle_ast.specs.TypeGrammar.{SpellsNamedField, SpellsIndexedFields, SpellsFields, SpellsVariant, SpellsTypeContent, SpellsModifiers, SpellsTypeDefinition}
-use Rattle.isle_ast.specs.Words.{SpellsWord, BeginsAt, SpellsAll, InParentheses, BehindWord, SpellsName}
 use Rattle.isle_ast.specs.Writable.{IsName, Each, Wants, IsWritableDeclaration, IsWritableConversion, IsWritableModel, IsWritableNamedField, AreWritableIndexedFields, AreWritableFields, IsWritableVariant, IsWritableTypeContent, IsWritableTarget, IsWritableKind, IsWritableSignature, AreWritableInstances, IsWritableModelContent, IsWritableExtern, IsWritable}
 use Rattle.isle_printer.specs.DefinitionShapes.{definition_shape}
 use Rattle.isle_printer.specs.Sexp.{atom}

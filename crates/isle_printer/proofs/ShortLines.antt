@@ -5,7 +5,7 @@ use Rattle.std.proofs.lemmas.List.{append_assoc, length-append, length-replicate
 use Rattle.std.proofs.lemmas.List.Folds.{list_all-append}
 use Rattle.std.proofs.lemmas.Bool.{false≢true}
 use Rattle.std.specs.List.{list_all}
-use Rattle.isle_ast.specs.WritableModel.{Each}
+use Rattle.isle_spec.specs.WritableModel.{Each}
 use Rattle.isle_printer.specs.Choices.{Choice, Choices, render, render_behind, FitsAt, FitsBehind}
 use Rattle.isle_printer.specs.Flat.{flat, flat_behind, counted, counted_items}
 use Rattle.isle_printer.specs.Layout.{new_line, layout}

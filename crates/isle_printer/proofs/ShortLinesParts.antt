@@ -7,11 +7,11 @@ use Rattle.std.specs.List.{list_all}
 use Rattle.isle_base.specs.Pieces.{in_symbol}
 use Rattle.isle_base.specs.Skips.{is_blank}
 use Rattle.isle_base.specs.Token.{symbol}
-use Rattle.isle_ast.proofs.IdentifierBytes.{identifier_in_symbol}
-use Rattle.isle_ast.specs.Identifier.{is_identifier}
-use Rattle.isle_ast.specs.Numbers.{IsSigned}
+use Rattle.isle_spec.proofs.IdentifierBytes.{identifier_in_symbol}
+use Rattle.isle_spec.specs.Identifier.{is_identifier}
+use Rattle.isle_spec.specs.Numbers.{IsSigned}
+use Rattle.isle_spec.specs.Tree.{Name}
 use Rattle.isle_ast.specs.PatternGrammar.{bool_word}
-use Rattle.isle_ast.specs.Tree.{Name}
 use Rattle.isle_ast.specs.Writable.{IsName, Each}
 use Rattle.isle_printer.specs.ReadBack.{ReadsAs}
 use Rattle.isle_printer.specs.RuleShapes.{integer_text}

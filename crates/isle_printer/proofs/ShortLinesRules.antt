@@ -1,7 +1,7 @@
 -- The shapes of writable patterns, expressions, rules and extractors are tidy.
 use Rattle.std.proofs.Common.{ℤ, [], ◌∷◌, codes, Option, None, Some, IfSome, refl}
-use Rattle.isle_ast.specs.Numbers.{IsSigned}
-use Rattle.isle_ast.specs.Tree.{Name, PatternNode, var_pattern, bind_pattern, bool_pattern, int_pattern, constant_pattern, term_pattern, wildcard_pattern, and_pattern, macro_arg_pattern, PatternRow, no_pattern, more_pattern, Expression, term_expression, var_expression, bool_expression, int_expression, constant_expression, let_expression, ExpressionRow, no_expression, more_expression, LetRow, no_let, more_let, Condition, RuleDefinition, ExtractorDefinition}
+use Rattle.isle_spec.specs.Numbers.{IsSigned}
+use Rattle.isle_spec.specs.Tree.{Name, PatternNode, var_pattern, bind_pattern, bool_pattern, int_pattern, constant_pattern, term_pattern, wildcard_pattern, and_pattern, macro_arg_pattern, PatternRow, no_pattern, more_pattern, Expression, term_expression, var_expression, bool_expression, int_expression, constant_expression, let_expression, ExpressionRow, no_expression, more_expression, LetRow, no_let, more_let, Condition, RuleDefinition, ExtractorDefinition}
 use Rattle.isle_ast.specs.Writable.{IsName, IsConstantName, IsWritablePattern, AreWritablePatterns, IsWritableExpression, AreWritableExpressions, AreWritableLets, IsWritableCondition, IsWritableRule, IsWritableExtractor}
 use Rattle.isle_printer.specs.RuleShapes.{pattern_shape, pattern_shapes, expression_shape, expression_shapes, let_shapes, condition_shape, rule_name_shape, priority_shape, rule_shape, extractor_shape}
 use Rattle.isle_printer.specs.Sexp.{row_of}

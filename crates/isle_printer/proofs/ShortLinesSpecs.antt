@@ -1,10 +1,10 @@
 -- The shapes of writable models of types and of writable specs are tidy.
 use Rattle.std.proofs.Common.{◌≡◌, ℕ, ◌^◌, ◌<◌, true, map, List, [], ◌∷◌, codes, Option, None, Some, IfSome, inl, inr, refl, arith}
 use Rattle.std.specs.List.{list_all}
-use Rattle.isle_ast.specs.Operators.{operator_text}
+use Rattle.isle_spec.specs.Operators.{operator_text}
+use Rattle.isle_spec.specs.SpecWritable.{IsWritableSpec, AreWritableSpecs, AreWritableCases, AreWritablePairs, AreWritableArms, AreWritableSpecLets, AreWritableFieldInits, IsWritableModified, IsWritableSpecDefinition, IsWritableSpecMacro, IsWritableState}
+use Rattle.isle_spec.specs.Tree.{Name, TypeModel, unspecified_model, auto_model, int_model, bool_model, unit_model, bit_vector_model, struct_model, named_model, ModelFieldRow, no_model_field, model_field, SpecNode, int_spec, bit_vector_spec, bool_spec, var_spec, as_spec, field_spec, discriminator_spec, op_spec, match_spec, let_spec, with_spec, macro_spec, expand_spec, pair_spec, enum_spec, struct_spec, SpecRow, no_spec, more_spec, ArmRow, no_arm, more_arm, SpecLetRow, no_spec_let, more_spec_let, FieldInitRow, no_field_init, more_field_init, ModifiedState, SpecDefinition, SpecMacroDefinition, StateDefinition}
 use Rattle.isle_ast.specs.SpecGrammar.{field_mark, discriminator_mark, expansion_mark, dotted}
-use Rattle.isle_ast.specs.SpecWritable.{IsWritableSpec, AreWritableSpecs, AreWritableCases, AreWritablePairs, AreWritableArms, AreWritableSpecLets, AreWritableFieldInits, IsWritableModified, IsWritableSpecDefinition, IsWritableSpecMacro, IsWritableState}
-use Rattle.isle_ast.specs.Tree.{Name, TypeModel, unspecified_model, auto_model, int_model, bool_model, unit_model, bit_vector_model, struct_model, named_model, ModelFieldRow, no_model_field, model_field, SpecNode, int_spec, bit_vector_spec, bool_spec, var_spec, as_spec, field_spec, discriminator_spec, op_spec, match_spec, let_spec, with_spec, macro_spec, expand_spec, pair_spec, enum_spec, struct_spec, SpecRow, no_spec, more_spec, ArmRow, no_arm, more_arm, SpecLetRow, no_spec_let, more_spec_let, FieldInitRow, no_field_init, more_field_init, ModifiedState, SpecDefinition, SpecMacroDefinition, StateDefinition}
 use Rattle.isle_ast.specs.Writable.{IsName, Each, IsWritableModel, AreWritableModelFields}
 use Rattle.isle_printer.specs.Sexp.{row_of}
 use Rattle.isle_printer.specs.Shapes.{name_shape, width_shape, model_shape, model_field_shapes}

@@ -4,14 +4,14 @@ use Rattle.std.proofs.Common.{◌≡◌, ℕ, List, [], ◌∷◌, ◌++◌, map
 use Rattle.std.proofs.lemmas.List.{append-nil}
 use Rattle.isle_base.specs.Place.{Placed}
 use Rattle.isle_base.specs.Token.{Tok, rparen, symbol}
+use Rattle.isle_spec.specs.SpecErased.{erase_spec, erase_modified, erase_spec_definition, erase_spec_macro, erase_state}
+use Rattle.isle_spec.specs.SpecWritable.{IsWritableSpec, IsWritableModified, IsWritableSpecDefinition, IsWritableSpecMacro, IsWritableState}
+use Rattle.isle_spec.specs.Tree.{Name, SpecNode, ModifiedState, SpecDefinition, SpecMacroDefinition, StateDefinition}
+use Rattle.isle_spec.specs.Words.{SpellsAll, InParentheses, BehindWord, SpellsName, SpellsOptional}
 use Rattle.isle_ast.specs.Erased.{erase_name, erase_optional, erase_model}
 use Rattle.isle_ast.specs.SpecDefinitionGrammar.{SpecClause, provide_clause, require_clause, match_clause, modifies_clause, SpellsClause, provided, required, matched, modified, SpellsSpecDefinition, SpellsSpecMacro, SpellsState}
-use Rattle.isle_ast.specs.SpecErased.{erase_spec, erase_modified, erase_spec_definition, erase_spec_macro, erase_state}
 use Rattle.isle_ast.specs.SpecGrammar.{SpellsSpec}
-use Rattle.isle_ast.specs.SpecWritable.{IsWritableSpec, IsWritableModified, IsWritableSpecDefinition, IsWritableSpecMacro, IsWritableState}
-use Rattle.isle_ast.specs.Tree.{Name, SpecNode, ModifiedState, SpecDefinition, SpecMacroDefinition, StateDefinition}
 use Rattle.isle_ast.specs.TypeModelGrammar.{SpellsTypeModel}
-use Rattle.isle_ast.specs.Words.{SpellsAll, InParentheses, BehindWord, SpellsName, SpellsOptional}
 use Rattle.isle_ast.specs.Writable.{IsName, Each}
 use Rattle.isle_printer.specs.ReadBack.{ReadsAs, unplaced}
 use Rattle.isle_printer.specs.Shapes.{name_shape, model_shape}

@@ -1,10 +1,10 @@
 -- Positions play no part in the shapes of models of types, spec expressions, specs, their macros and states.
 use Rattle.std.proofs.Common.{◌≡◌, ℕ, List, [], ◌∷◌, ◌++◌, map, codes, Option, None, Some, refl, ap, ◌∙◌}
+use Rattle.isle_spec.specs.Operators.{operator_text}
+use Rattle.isle_spec.specs.SpecErased.{erase_spec, erase_specs, erase_arms, erase_spec_lets, erase_field_inits, erase_modified, erase_spec_definition, erase_spec_macro, erase_state}
+use Rattle.isle_spec.specs.Tree.{Name, TypeModel, unspecified_model, auto_model, int_model, bool_model, unit_model, bit_vector_model, struct_model, named_model, ModelFieldRow, no_model_field, model_field, ModelContent, type_model, const_model, SpecNode, int_spec, bit_vector_spec, bool_spec, var_spec, as_spec, field_spec, discriminator_spec, op_spec, match_spec, let_spec, with_spec, macro_spec, expand_spec, pair_spec, enum_spec, struct_spec, SpecRow, no_spec, more_spec, ArmRow, no_arm, more_arm, SpecLetRow, no_spec_let, more_spec_let, FieldInitRow, no_field_init, more_field_init, ModifiedState, SpecDefinition, SpecMacroDefinition, StateDefinition}
 use Rattle.isle_ast.specs.Erased.{erase_name, erase_names, erase_optional, erase_model, erase_model_fields, erase_model_content}
-use Rattle.isle_ast.specs.Operators.{operator_text}
-use Rattle.isle_ast.specs.SpecErased.{erase_spec, erase_specs, erase_arms, erase_spec_lets, erase_field_inits, erase_modified, erase_spec_definition, erase_spec_macro, erase_state}
 use Rattle.isle_ast.specs.SpecGrammar.{field_mark, discriminator_mark, expansion_mark, dotted}
-use Rattle.isle_ast.specs.Tree.{Name, TypeModel, unspecified_model, auto_model, int_model, bool_model, unit_model, bit_vector_model, struct_model, named_model, ModelFieldRow, no_model_field, model_field, ModelContent, type_model, const_model, SpecNode, int_spec, bit_vector_spec, bool_spec, var_spec, as_spec, field_spec, discriminator_spec, op_spec, match_spec, let_spec, with_spec, macro_spec, expand_spec, pair_spec, enum_spec, struct_spec, SpecRow, no_spec, more_spec, ArmRow, no_arm, more_arm, SpecLetRow, no_spec_let, more_spec_let, FieldInitRow, no_field_init, more_field_init, ModifiedState, SpecDefinition, SpecMacroDefinition, StateDefinition}
 use Rattle.isle_printer.specs.Sexp.{Sexp, atom, row_of}
 use Rattle.isle_printer.specs.Shapes.{name_shape, form_shape, model_shape, model_field_shapes}
 use Rattle.isle_printer.specs.SpecShapes.{names_shape, headed_shape, spec_shape, spec_shapes, arm_shapes, spec_let_shapes, field_init_shapes, state_condition_shape, modifies_shape, clause_shape, spec_definition_shape, spec_macro_shape, state_shape, model_content_shape}

@@ -6,12 +6,12 @@ use Rattle.std.proofs.lemmas.Slice.Eq.{bytes_eq-Decides}
 use Rattle.std.specs.Str.{bytes_eq}
 use Rattle.isle_base.specs.Place.{Placed, unknown}
 use Rattle.isle_base.specs.Token.{Tok, lparen, rparen, symbol}
-use Rattle.isle_ast.proofs.IdentifierBytes.{identifier_is_symbol}
+use Rattle.isle_spec.proofs.IdentifierBytes.{identifier_is_symbol}
+use Rattle.isle_spec.specs.Identifier.{is_identifier}
+use Rattle.isle_spec.specs.Tree.{Name}
+use Rattle.isle_spec.specs.Words.{SpellsWord, BeginsAt, SpellsAll, InParentheses, BehindWord, SpellsName, SpellsFlag}
 use Rattle.isle_ast.specs.Erased.{erase_name, erase_names}
-use Rattle.isle_ast.specs.Identifier.{is_identifier}
 use Rattle.isle_ast.specs.TermGrammar.{SpellsConstant}
-use Rattle.isle_ast.specs.Tree.{Name}
-use Rattle.isle_ast.specs.Words.{SpellsWord, BeginsAt, SpellsAll, InParentheses, BehindWord, SpellsName, SpellsFlag}
 use Rattle.isle_ast.specs.Writable.{IsName, Each}
 use Rattle.isle_printer.specs.Sexp.{Sexp, atom, binding, row, sexps, row_of}
 use Rattle.isle_printer.specs.Shapes.{name_shape, name_shapes, flag_shape, form_shape, constant_shape}

@@ -1,5 +1,5 @@
 -- The S-expression of a definition.
-use Rattle.isle_ast.specs.Tree.{Definition, type_def, rule, extractor, decl, attr, spec, spec_macro, model, state, form, instantiation, external, converter}
+use Rattle.isle_spec.specs.Tree.{Definition, type_def, rule, extractor, decl, attr, spec, spec_macro, model, state, form, instantiation, external, converter}
 use Rattle.isle_printer.specs.RuleShapes.{rule_shape, extractor_shape}
 use Rattle.isle_printer.specs.Sexp.{Sexp}
 use Rattle.isle_printer.specs.Shapes.{declaration_shape, conversion_shape, type_shape, attribute_shape, form_definition_shape, instantiation_shape, extern_shape}

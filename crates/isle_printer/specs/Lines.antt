@@ -1,6 +1,6 @@
 -- How many lines a text ends, and what that says of layouts and printed texts.
 use Rattle.std.specs.Prelude.{ℕ, ◌≤◌, List, count_by, ◌==◌}
-use Rattle.isle_ast.specs.Tree.{Definition}
+use Rattle.isle_spec.specs.Tree.{Definition}
 use Rattle.isle_printer.specs.Choices.{Choice, Fits, render}
 use Rattle.isle_printer.specs.Printed.{IsPrinted}
 use Rattle.isle_printer.specs.Sexp.{Sexp}

@@ -1,13 +1,15 @@
 -- How a written S-expression reads back: which tokens its atoms are the texts of.
-use Rattle.std.specs.Prelude.{◌≡◌, ℕ, List, [], ◌∷◌, ◌++◌, false}
+use Rattle.std.specs.Prelude.{◌≡◌, ◌↔◌, ℕ, List, [], ◌∷◌, ◌++◌, false}
+use Rattle.isle_spec.specs.Tree.{Definition}
 use Rattle.isle_ast.specs.Erased.{erase}
 use Rattle.isle_ast.specs.Grammar.{SpellsDefinitions}
 use Rattle.isle_ast.specs.Spelt.{IsSpelt}
-use Rattle.isle_ast.specs.Tree.{Definition}
-use Rattle.isle_base.specs.Place.{Placed, unknown, nowhere}
+use Rattle.isle_ast.specs.Writable.{AreWritable}
+use Rattle.isle_base.specs.Lexing.{lexes}
+use Rattle.isle_base.specs.Place.{Placed, unknown, nowhere, placed}
 use Rattle.isle_base.specs.Pieces.{Piece, in_symbol}
 use Rattle.isle_base.specs.Skips.{Skip, begins_with}
-use Rattle.isle_base.specs.Token.{Tok, lparen, rparen, at_sign}
+use Rattle.isle_base.specs.Token.{Tok, Lexeme, end, lparen, rparen, at_sign}
 use Rattle.isle_printer.specs.Sexp.{Sexp, Sexps, atom, binding, row, none, more}
 
 -- no byte of a symbol stands here
@@ -44,3 +46,12 @@ unplaced (token ∷ tokens) = record { pos = unknown; token = token } ∷ unplac
 -- Where some tokens spell the definitions, the text is spelt by them, erased.
 abbrev pub ReadsBack : List Definition → List ℕ → Type 0
 ReadsBack ds text = (all : List Placed) → SpellsDefinitions ds all → IsSpelt nowhere text (erase ds)
+
+-- The text is spelt by the definitions, erased, exactly if they are writable.
+abbrev pub ReadsBackIfWritable : List Definition → List ℕ → Type 0
+ReadsBackIfWritable ds text = IsSpelt nowhere text (erase ds) ↔ AreWritable ds
+
+-- Both texts lex, up to their ends, to the same tokens, offsets aside.
+abbrev pub HaveSameTokens : List ℕ → List ℕ → Type 0
+HaveSameTokens text other =
+    (l m : List Lexeme) × lexes text l end × lexes other m end × (placed nowhere l ≡ placed nowhere m)

@@ -1,8 +1,8 @@
 -- The S-expressions of patterns, expressions and rules, and of the parts of each.
 use Rattle.std.specs.Prelude.{ℕ, ◌^◌, ◌==◌, suc, ℤ, pos, negsuc, List, [], ◌∷◌, ◌++◌, if◌then◌else◌, Option, None, Some, map, codes}
 use Rattle.std.specs.Fmt.{decimal, signed_decimal}
+use Rattle.isle_spec.specs.Tree.{Name, PatternNode, var_pattern, bind_pattern, bool_pattern, int_pattern, constant_pattern, term_pattern, wildcard_pattern, and_pattern, macro_arg_pattern, PatternRow, no_pattern, more_pattern, Expression, term_expression, var_expression, bool_expression, int_expression, constant_expression, let_expression, ExpressionRow, no_expression, more_expression, LetRow, no_let, more_let, Condition, RuleDefinition, ExtractorDefinition}
 use Rattle.isle_ast.specs.PatternGrammar.{bool_word}
-use Rattle.isle_ast.specs.Tree.{Name, PatternNode, var_pattern, bind_pattern, bool_pattern, int_pattern, constant_pattern, term_pattern, wildcard_pattern, and_pattern, macro_arg_pattern, PatternRow, no_pattern, more_pattern, Expression, term_expression, var_expression, bool_expression, int_expression, constant_expression, let_expression, ExpressionRow, no_expression, more_expression, LetRow, no_let, more_let, Condition, RuleDefinition, ExtractorDefinition}
 use Rattle.isle_ast.specs.TreeView.{SingleLet}
 use Rattle.isle_printer.specs.Sexp.{Sexp, atom, binding, row_of}
 use Rattle.isle_printer.specs.Shapes.{name_shape, name_shapes, form_shape, constant_shape}

@@ -1,7 +1,7 @@
 -- How long the lines of a text are on which lists stand whole.
 use Rattle.std.specs.Prelude.{◌≡◌, ℕ, ◌+◌, ◌≤◌, ◌==◌, ◌&&◌, List, [], ◌∷◌, ◌++◌, length, if◌then◌else◌}
 use Rattle.isle_base.specs.Skips.{begins_with}
-use Rattle.isle_ast.specs.WritableModel.{Each}
+use Rattle.isle_spec.specs.WritableModel.{Each}
 
 -- one more byte before the first line
 abbrev pub before_first : ℕ → List (List ℕ) → List (List ℕ)

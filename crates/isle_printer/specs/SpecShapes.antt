@@ -2,12 +2,12 @@
 use Rattle.std.specs.Prelude.{ℕ, ◌-◌, ◌/◌, ◌%◌, ◌==◌, List, [], ◌∷◌, ◌++◌, length, replicate, if◌then◌else◌, Option, None, Some, map, codes}
 use Rattle.std.specs.Char.{digit_char}
 use Rattle.std.specs.Int.Digits.{digits_of}
-use Rattle.isle_ast.specs.declared.ast.specs.SpecOp.{SpecOp}
-use Rattle.isle_ast.specs.Operators.{operator_text}
+use Rattle.isle_spec.specs.declared.ast.specs.SpecOp.{SpecOp}
+use Rattle.isle_spec.specs.Operators.{operator_text}
+use Rattle.isle_spec.specs.SpecView.{SingleArm, SingleFieldInit}
+use Rattle.isle_spec.specs.Tree.{Name, SpecNode, int_spec, bit_vector_spec, bool_spec, var_spec, as_spec, field_spec, discriminator_spec, op_spec, match_spec, let_spec, with_spec, macro_spec, expand_spec, pair_spec, enum_spec, struct_spec, SpecRow, no_spec, more_spec, ArmRow, no_arm, more_arm, SpecLetRow, no_spec_let, more_spec_let, FieldInitRow, no_field_init, more_field_init, ModifiedState, SpecDefinition, SpecMacroDefinition, StateDefinition, ModelContent, type_model, const_model, ModelDefinition}
 use Rattle.isle_ast.specs.PatternGrammar.{bool_word}
 use Rattle.isle_ast.specs.SpecGrammar.{field_mark, discriminator_mark, expansion_mark, dotted}
-use Rattle.isle_ast.specs.SpecView.{SingleArm, SingleFieldInit}
-use Rattle.isle_ast.specs.Tree.{Name, SpecNode, int_spec, bit_vector_spec, bool_spec, var_spec, as_spec, field_spec, discriminator_spec, op_spec, match_spec, let_spec, with_spec, macro_spec, expand_spec, pair_spec, enum_spec, struct_spec, SpecRow, no_spec, more_spec, ArmRow, no_arm, more_arm, SpecLetRow, no_spec_let, more_spec_let, FieldInitRow, no_field_init, more_field_init, ModifiedState, SpecDefinition, SpecMacroDefinition, StateDefinition, ModelContent, type_model, const_model, ModelDefinition}
 use Rattle.isle_printer.specs.RuleShapes.{integer_shape}
 use Rattle.isle_printer.specs.Sexp.{Sexp, atom, row_of}
 use Rattle.isle_printer.specs.Shapes.{name_shape, name_shapes, form_shape, model_shape}

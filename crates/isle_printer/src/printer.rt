@@ -17,12 +17,13 @@ ghost use Rattle.isle_printer.specs.Choices.{Choice, IsWithin, IsLeast, IsLayout
 ghost use Rattle.isle_printer.specs.Layout.{layout};
 ghost use Rattle.isle_printer.specs.Lines.{HasFewestLines, WiderHasNoMoreLines};
 ghost use Rattle.isle_printer.specs.Printed.{IsPrinted, definition_text, printed_text};
-ghost use Rattle.isle_printer.specs.ReadBack.{ReadsBack, TokensOf, unplaced};
+ghost use Rattle.isle_printer.specs.ReadBack.{HaveSameTokens, ReadsBack, ReadsBackIfWritable, TokensOf, unplaced};
 ghost use Rattle.isle_printer.specs.ShortLines.{HasShortLines};
 ghost use Rattle.isle_printer.specs.Sexp.{Sexp};
 ghost use Rattle.isle_printer.specs.declared.printer.sexpr.PrintFault.TheVariants.{MacroArg};
+ghost use Rattle.isle_spec.specs.Tree.{Definition};
 ghost use Rattle.isle_ast.specs.Erased.{erase};
-ghost use Rattle.isle_ast.specs.Tree.{Definition};
+ghost use Rattle.isle_ast.specs.Spelt.{IsSpelt};
 ghost use Rattle.isle_ast.specs.Writable.{AreWritable};
 ghost use Rattle.isle_base.specs.Lexing.{lexes};
 ghost use Rattle.isle_base.specs.Place.{nowhere, placed};
@@ -40,8 +41,10 @@ use std::alloc::Global;
 /// A list is broken exactly if it does not end within the width and the lists around it are broken, so
 /// that no layout within the width has fewer lines.
 ///
-/// The fault is `MacroArg`, where a definition holds the argument of a macro, or `Memory`, where a growth
-/// was refused. The text begun is dropped then, and nothing is left of it.
+/// The text is spelt by the definitions, positions aside, exactly if they are writable.
+///
+/// The fault is `MacroArg`, where a definition holds the argument of a macro, so that they aren't writable, or
+/// `Memory`, where a growth was refused. The text begun is dropped then, and nothing is left of it.
 pub fn print(alloc: Global, defs: &[Def], width: usize) -> Result<String, PrintFault>
     ensures printed { IfOk result
         (λ text. IsPrinted width (definitions_of defs.now) (string_bytes text)) }
@@ -50,6 +53,9 @@ pub fn print(alloc: Global, defs: &[Def], width: usize) -> Result<String, PrintF
     ensures reads_back { IfOk result
         (λ text. ReadsBack (definitions_of defs.now) (string_bytes text)) }
     ensures refused { IsErrOf result MacroArg → definitions_have_macro_arg (definitions_of defs.now) ≡ true }
+    ensures writable { IfOk result
+        (λ text. ReadsBackIfWritable (definitions_of defs.now) (string_bytes text)) }
+    ensures unwritable { IsErrOf result MacroArg → AreWritable (definitions_of defs.now) → ⊥ }
 {
     let mut looks = Looks::new();
     let mut out = String::new(alloc);
@@ -107,6 +113,20 @@ pub fn prints_read_back()
         → IsPrinted width ds text → ReadsBack ds text }
     ensures erased { (width : ℕ) (ds : List Definition) (text : List ℕ)
         → IsPrinted width ds text ↔ IsPrinted width (erase ds) text }
+{}
+
+/// A law, which runs no code: the print of definitions, at any width, is spelt by them, erased, exactly if
+/// they are writable; then it has the same tokens at every width, offsets aside. Definitions that hold the
+/// argument of a macro, which have no print, aren't writable.
+pub fn writable_definitions_read_back()
+    ensures spelt { (width : ℕ) (ds : List Definition) (text : List ℕ) → AreWritable ds
+        → IsPrinted width ds text → IsSpelt nowhere text (erase ds) }
+    ensures exactly { (width : ℕ) (ds : List Definition) (text : List ℕ)
+        → IsPrinted width ds text → ReadsBackIfWritable ds text }
+    ensures same_tokens { (width other : ℕ) (ds : List Definition) (text another : List ℕ) → AreWritable ds
+        → IsPrinted width ds text → IsPrinted other ds another → HaveSameTokens text another }
+    ensures macro_args { (ds : List Definition)
+        → definitions_have_macro_arg ds ≡ true → AreWritable ds → ⊥ }
 {}
 
 /// A law, which runs no code: where a list stands whole on a line of the print of writable definitions, at a

@@ -1,9 +1,7 @@
 //! Rows on types, externs, attributes, forms, instantiations and models of types. The expected values are
 //! those of upstream's parser and printer.
 
-use crate::listing::{fault_message, formatted, parsed};
-use isle_base::lexer::Lexer;
-use isle_parser::parser::parse;
+use crate::listing::{formatted, lexer_of, parsed, refusal};
 use std::test::Fail;
 
 #[test]
@@ -184,13 +182,8 @@ fn refused_definitions(rt: HostRuntime) -> Result<(), Fail> {
             "14: Not a constant identifier; must start with a '$'",
         ),
     ] {
-        match parse(alloc, Lexer::new(alloc, 0, text)?) {
-            Ok(_) => assert!(rt; false, "{text} is accepted"),
-            Err(fault) => {
-                let got = fault_message(alloc, &fault)?;
-                assert_eq!(rt; got.as_str(), want, "the text {text}");
-            }
-        }
+        let got = refusal(alloc, text)?;
+        assert_eq!(rt; got.as_str(), want, "the text {text}");
     }
     Ok(())
 }
@@ -200,7 +193,7 @@ fn positions_of_types(rt: HostRuntime) -> Result<(), Fail> {
     let alloc = rt.alloc();
     let text =
         "\n            (type UImm8 (primitive UImm8))\n            (type A extern (enum (B (f1 u32) (f2 u32)) (C (f1 u32))))\n        ";
-    let got = parsed(alloc, Lexer::new(alloc, 0, text)?)?;
+    let got = parsed(alloc, lexer_of(alloc, text)?)?;
     assert_eq!(rt;
         got.as_str(),
         "TypeDef 0:19 primitive;TypeDef 0:62 extern enum B 0:77 fields 0:80 C 0:99 fields 0:102;"

@@ -17,3 +17,5 @@ mod parsing;
 mod rules;
 #[cfg(test)]
 mod specs;
+#[cfg(test)]
+mod trees;

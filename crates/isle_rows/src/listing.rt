@@ -11,6 +11,7 @@ use isle_base::lexer::{Fault, Lexer, Pos, Token};
 use isle_parser::parser::{parse, parse_without_pos};
 use isle_syntax::format;
 use std::alloc::{AllocError, Global};
+use std::test::Fail;
 
 /// One word for a token.
 fn token_word(alloc: Global, token: &Token) -> Result<String, AllocError> {
@@ -44,6 +45,22 @@ pub fn fault_message(alloc: Global, fault: &Fault) -> Result<String, AllocError>
             format!(in alloc; "{offset}: {msg}")
         }
         _ => fault_words(alloc, fault),
+    }
+}
+
+/// A lexer of the text, whose first token is read.
+pub fn lexer_of<'a>(alloc: Global, text: &'a str) -> Result<Lexer<'a>, Fail> {
+    let lexer = Lexer::new(alloc, 0, text)
+        .ok()
+        .ok_or("the text begins with a token")?;
+    Ok(lexer)
+}
+
+/// Why `parse` refuses the text, with the offset, or `accepted`.
+pub fn refusal(alloc: Global, text: &str) -> Result<String, Fail> {
+    match parse(alloc, lexer_of(alloc, text)?) {
+        Ok(_) => Ok("accepted".to_string(alloc)?),
+        Err(fault) => Ok(fault_message(alloc, &fault)?),
     }
 }
 

@@ -1,8 +1,8 @@
 //! Rows on trees and positions. The expected values are those of upstream's parser.
 
-use crate::listing::{fault_message, next_word, parsed, parsed_without_pos};
+use crate::listing::{fault_message, next_word, parsed, parsed_without_pos, refusal};
 use isle_base::lexer::Lexer;
-use isle_parser::parser::{parse, parse_without_pos};
+use isle_parser::parser::parse_without_pos;
 use std::test::Fail;
 
 #[test]
@@ -62,13 +62,8 @@ fn refused_texts(rt: HostRuntime) -> Result<(), Fail> {
         ("(decl f (A", "10: Unexpected EOF"),
         ("(decl f () T) (;", "14: unterminated block comment"),
     ] {
-        match parse(alloc, Lexer::new(alloc, 0, text)?) {
-            Ok(_) => assert!(rt; false, "{text} is accepted"),
-            Err(fault) => {
-                let got = fault_message(alloc, &fault)?;
-                assert_eq!(rt; got.as_str(), want, "the text {text}");
-            }
-        }
+        let got = refusal(alloc, text)?;
+        assert_eq!(rt; got.as_str(), want, "the text {text}");
     }
     Ok(())
 }

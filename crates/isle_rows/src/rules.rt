@@ -2,9 +2,7 @@
 //! and printer, but for the least integer, which upstream prints with a minus that it refuses to read, and
 //! for messages that hold the debug text of a cause.
 
-use crate::listing::{fault_message, formatted, parsed};
-use isle_base::lexer::Lexer;
-use isle_parser::parser::parse;
+use crate::listing::{formatted, lexer_of, parsed, refusal};
 use std::alloc::{AllocError, Global};
 use std::test::Fail;
 
@@ -127,13 +125,8 @@ fn refused_rules(rt: HostRuntime) -> Result<(), Fail> {
             "19: Unexpected token Symbol(\"z\")",
         ),
     ] {
-        match parse(alloc, Lexer::new(alloc, 0, text)?) {
-            Ok(_) => assert!(rt; false, "{text} is accepted"),
-            Err(fault) => {
-                let got = fault_message(alloc, &fault)?;
-                assert_eq!(rt; got.as_str(), want, "the text {text}");
-            }
-        }
+        let got = refusal(alloc, text)?;
+        assert_eq!(rt; got.as_str(), want, "the text {text}");
     }
     Ok(())
 }
@@ -172,7 +165,7 @@ fn trees_of_rules(rt: HostRuntime) -> Result<(), Fail> {
             "Extractor 0:11 e@0:12 [ x@0:14 ] | And 0:17 [ Bind 0:22 x@0:22 Any 0:26 Term 0:28 B@0:29 [ Const 0:31 x@0:31 ] ];",
         ),
     ] {
-        let got = parsed(alloc, Lexer::new(alloc, 0, text)?)?;
+        let got = parsed(alloc, lexer_of(alloc, text)?)?;
         assert_eq!(rt; got.as_str(), want, "the text {text}");
     }
     Ok(())

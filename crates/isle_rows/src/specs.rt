@@ -1,30 +1,13 @@
 //! Rows on specs. The expected values are those of upstream's parser and printer, but for the message that holds
 //! the debug text of a cause.
 
-use crate::listing::{fault_message, formatted, parsed};
-use isle_base::lexer::Lexer;
-use isle_parser::parser::parse;
+use crate::listing::{formatted, lexer_of, parsed, refusal};
 use std::alloc::{AllocError, Global};
 use std::test::Fail;
 
 /// The constant model with this value.
 fn model_of(alloc: Global, spec: &str) -> Result<String, AllocError> {
     format!(in alloc; "(model M (const {spec}))")
-}
-
-fn lexer_of<'a>(alloc: Global, text: &'a str) -> Result<Lexer<'a>, Fail> {
-    let lexer = Lexer::new(alloc, 0, text)
-        .ok()
-        .ok_or("the text begins with a token")?;
-    Ok(lexer)
-}
-
-/// Why the text is refused, with the offset.
-fn refusal(alloc: Global, text: &str) -> Result<String, Fail> {
-    match parse(alloc, lexer_of(alloc, text)?) {
-        Ok(_) => Ok("accepted".to_string(alloc)?),
-        Err(fault) => Ok(fault_message(alloc, &fault)?),
-    }
 }
 
 #[test]
@@ -529,5 +512,15 @@ fn refused_spec_definitions(rt: HostRuntime) -> Result<(), Fail> {
         let got = refusal(alloc, text)?;
         assert_eq!(rt; got.as_str(), want, "the text {text}");
     }
+    Ok(())
+}
+
+#[test]
+fn bit_vectors_past_upstreams_longest(rt: HostRuntime) -> Result<(), Fail> {
+    let alloc = rt.alloc();
+    let digits = "0".repeat(alloc, 65_536)?;
+    let model = format!(in alloc; "(model M (const #x{digits}))\n")?;
+    let got = formatted(alloc, &model, 100_000)?;
+    assert!(rt; got == model);
     Ok(())
 }

@@ -6,15 +6,15 @@ use Rattle.isle_base.specs.Place.{nowhere, placed}
 use Rattle.isle_base.specs.Token.{end, fault, Feed}
 use Rattle.isle_base.proofs.Complete.{Lexes-unique}
 use Rattle.isle_parser.proofs.Definitions.{one_list}
+use Rattle.isle_spec.specs.Tree.{Definition}
 use Rattle.isle_ast.specs.Erased.{erase}
 use Rattle.isle_ast.specs.Grammar.{SpellsDefinitions}
 use Rattle.isle_ast.specs.Spelt.{Spells, IsSpelt}
-use Rattle.isle_ast.specs.Tree.{Definition}
 use Rattle.isle_ast.proofs.Erasing.{text_erased}
 use Rattle.isle_printer.specs.Printed.{IsPrinted}
 use Rattle.isle_ast.proofs.SpeltWritable.{spelt_is_writable}
 use Rattle.isle_printer.proofs.Printing.{IsPrinted-text, WiderHasNoMoreLines-from_text}
-use Rattle.isle_printer.proofs.PrintLaw.{IsPrinted-ReadsBack, IsPrinted-erased}
+use Rattle.isle_printer.proofs.PrintLaw.{IsPrinted-ReadsBack, IsPrinted-erased, IsPrinted-tokens}
 use Rattle.isle_printer.proofs.ShortLinesDefinitions.{IsPrinted-HasShortLines}
 use Rattle.isle_parser.specs.Parsed.{RefusesText, RefusesIn}
 use Rattle.isle_base.specs.declared.lexer.Fault.{Fault}
@@ -47,6 +47,7 @@ IsFormatted-from width text answer tree s is =
     let erased = erase-spelt text tree s in
     let back : IsSpelt nowhere answer tree =
     subst (λ t. IsSpelt nowhere answer t) erased (IsPrinted-IsSpelt width nowhere text answer tree s is) in
+    let writable = spelt_is_writable tree (placed nowhere s.0) s.2 in
     record {
       tree = tree;
       spelt = s;
@@ -57,8 +58,12 @@ IsFormatted-from width text answer tree s is =
         λ print. IsSpelt-one answer (erase ds) tree (IsPrinted-IsSpelt width place other answer ds t print) back,
         λ same. (IsPrinted-erased width ds answer).1 (subst (λ d. IsPrinted width d answer) (sym same) is),
       );
-      short_lines = λ some. IsPrinted-HasShortLines width tree answer some (spelt_is_writable tree (placed nowhere s.0) s.2) is;
+      short_lines = λ some. IsPrinted-HasShortLines width tree answer some writable is;
       fewer_lines = WiderHasNoMoreLines-from_text width tree answer (IsPrinted-text width tree answer is);
+      other_widths = λ other print also. (
+        subst (λ t. IsSpelt nowhere print t) erased (IsPrinted-IsSpelt other nowhere text print tree s also),
+        IsPrinted-tokens width other tree answer print writable is also,
+      );
     }
 
 pub IsRefused-from : (text : List ℕ) → ((ds : List Definition) → IsSpelt nowhere text ds → ⊥) → IsRefused text

@@ -6,12 +6,13 @@ use Rattle.isle_base.specs.declared.lexer.Fault.{Fault}
 use Rattle.isle_base.specs.declared.lexer.Fault.TheVariants as faults
 use Rattle.isle_base.specs.declared.lexer.Pos.{Pos}
 use Rattle.isle_base.specs.Place.{nowhere}
+use Rattle.isle_spec.specs.Tree.{Definition}
 use Rattle.isle_ast.specs.Erased.{erase}
 use Rattle.isle_ast.specs.Spelt.{IsSpelt}
-use Rattle.isle_ast.specs.Tree.{Definition}
 use Rattle.isle_parser.specs.Parsed.{RefusesIn}
 use Rattle.isle_printer.specs.Lines.{WiderHasNoMoreLines}
 use Rattle.isle_printer.specs.Printed.{IsPrinted}
+use Rattle.isle_printer.specs.ReadBack.{HaveSameTokens}
 use Rattle.isle_printer.specs.ShortLines.{HasShortLines}
 
 -- The answer is the print, at this width, of the one tree that the text spells. Trees are compared
@@ -30,6 +31,8 @@ pub record IsFormatted (width : ℕ) (text answer : List ℕ) : Type 0 where
   pub short_lines : 1 ≤ width → HasShortLines width answer
   -- at every greater width the print of the tree has no more lines
   pub fewer_lines : WiderHasNoMoreLines width tree answer
+  -- at every other width the print of the tree is spelt by it too, and has the same tokens, offsets aside
+  pub other_widths : (other : ℕ) (print : List ℕ) → IsPrinted other tree print → IsSpelt nowhere print tree × HaveSameTokens answer print
 
 -- no tree is spelt by the text
 abbrev pub IsRefused : List ℕ → Type 0

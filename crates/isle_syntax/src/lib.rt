@@ -17,10 +17,16 @@ use std::alloc::Global;
 
 /// Formats a text of ISLE: the print, at this width in bytes, of the one tree that the text spells.
 ///
+/// The promise: for every text and every width, want of memory aside, `parse` and `parse_without_pos` accept
+/// exactly the texts that the grammar of ISLE spells and give the one tree so spelt; two accepted texts spell
+/// the same tree, positions erased, exactly if their prints at that width are equal bytes, and such a print is
+/// accepted and prints as itself.
+///
 /// Comments and blank lines are no part of the tree, so they go. The answer is accepted and formats to
 /// itself at this width; another text has the same answer exactly if it spells the same tree,
 /// positions aside. From width 1 on, a line of the answer on which a list stands whole has at most the width, its
-/// indentation and one byte for each empty list on it; at a greater width the answer has no more lines.
+/// indentation and one byte for each empty list on it; at a greater width the answer has no more lines. At
+/// every other width the print of the tree is spelt by it too, and has the same tokens, offsets aside.
 ///
 /// `Error` comes where no tree is spelt by the text: it is a parse error whose span begins in file 0, at
 /// a byte of the text or at its end. `Memory` comes where a growth was refused. `Failed` never comes.

@@ -42,6 +42,8 @@ ghost use Rattle.std.specs.Prelude.{◌≡◌, ◌↔◌, ℕ, List, false};
 ghost use Rattle.isle_base.specs.declared.lexer.Pos.{Pos};
 ghost use Rattle.isle_base.specs.Place.{Placed, nowhere};
 ghost use Rattle.isle_base.specs.Token.{Feed};
+ghost use Rattle.isle_spec.specs.Tree.{Attribute, Condition, Conversion, Declaration, Definition, Expression, ExternDefinition, ExtractorDefinition, FormDefinition, ModelDefinition, Name, PatternNode, RuleDefinition, SpecDefinition, SpecMacroDefinition, SpecNode, StateDefinition, TermInstantiation, TypeDefinition, TypeModel};
+ghost use Rattle.isle_spec.specs.Words.{SpellsAll, SpellsName};
 ghost use Rattle.isle_ast.specs.Erased.{erase};
 ghost use Rattle.isle_ast.specs.ExpressionGrammar.{SpellsExpression};
 ghost use Rattle.isle_ast.specs.Grammar.{SpellsDefinition, SpellsDefinitions};
@@ -54,9 +56,7 @@ ghost use Rattle.isle_ast.specs.SpecDefinitionGrammar.{SpellsSpecDefinition, Spe
 ghost use Rattle.isle_ast.specs.SpecGrammar.{SpellsSpec};
 ghost use Rattle.isle_ast.specs.Spelt.{Spells};
 ghost use Rattle.isle_ast.specs.TermGrammar.{SpellsAttribute, SpellsConversion, SpellsDeclaration, SpellsExtern};
-ghost use Rattle.isle_ast.specs.Tree.{Attribute, Condition, Conversion, Declaration, Definition, Expression, ExternDefinition, ExtractorDefinition, FormDefinition, ModelDefinition, Name, PatternNode, RuleDefinition, SpecDefinition, SpecMacroDefinition, SpecNode, StateDefinition, TermInstantiation, TypeDefinition, TypeModel};
 ghost use Rattle.isle_ast.specs.TypeGrammar.{SpellsTypeDefinition};
-ghost use Rattle.isle_ast.specs.Words.{SpellsAll, SpellsName};
 ghost use Rattle.isle_ast.specs.Writable.{AreWritable};
 
 /// A law: what spells a node in front of some tokens is a part of the list, and it spells the node in
@@ -101,4 +101,9 @@ pub fn spellings_are_erased()
 pub fn spelt_trees_are_writable()
     ensures writable { (ds : List Definition) (all : List Placed) → SpellsDefinitions ds all → AreWritable ds }
     ensures no_macro_args { (ds : List Definition) (all : List Placed) → SpellsDefinitions ds all → definitions_have_macro_arg ds ≡ false }
+{}
+
+/// A law: positions play no part in what is writable. A tree is writable exactly if it is once erased.
+pub fn erasing_keeps_writable()
+    ensures { (ds : List Definition) → AreWritable (erase ds) ↔ AreWritable ds }
 {}

@@ -2,9 +2,9 @@
 //! that come of them once the arguments are given.
 
 ghost use Rattle.std.specs.Prelude.{◌≡◌, List, IfOk, false, is_none, option_map, slice_get};
+ghost use Rattle.isle_spec.specs.Tree.{PatternNode, macro_arg_pattern};
 ghost use Rattle.isle_ast.specs.MacroArgs.{has_macro_arg};
 ghost use Rattle.isle_ast.specs.Templates.{bound_index, first_index, indices, is_wildcard, lacks, plug, plug_row, replace, replace_by, replace_row};
-ghost use Rattle.isle_ast.specs.Tree.{PatternNode, macro_arg_pattern};
 ghost use Rattle.isle_ast.specs.TreeView.{name_of, names_of, pattern_of, pattern_row_of, patterns_of};
 
 use crate::ast::{Ident, Pattern};
@@ -16,6 +16,9 @@ impl Pattern {
     ///
     /// A place is a variable `x`, or `x @ _`. Of two parameters of one name the first counts. A variable
     /// that is bound to any other pattern, `x @ P`, stays, and the places in `P` are filled.
+    ///
+    /// It asks that the pattern holds no argument of a macro yet; `has_macro_arg` is the test. It refuses only where a
+    /// growth of memory was refused.
     pub fn make_macro_template(
         &self,
         alloc: Global,
@@ -32,7 +35,8 @@ impl Pattern {
     /// Puts patterns in for the arguments of a macro, each by its index. None if there is no pattern for
     /// one of the arguments.
     ///
-    /// What was put in isn't looked at again, so an argument of a macro in one of the patterns stays.
+    /// What was put in isn't looked at again, so an argument of a macro in one of the patterns stays. It refuses only where
+    /// a growth of memory was refused.
     pub fn subst_macro_args(
         &self,
         alloc: Global,

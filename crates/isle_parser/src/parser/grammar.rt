@@ -2,9 +2,9 @@
 
 ghost use Rattle.std.specs.Prelude.{◌≡◌, List, false};
 ghost use Rattle.isle_base.specs.Place.{Placed};
+ghost use Rattle.isle_spec.specs.Tree.{Expression, PatternNode};
 ghost use Rattle.isle_ast.specs.ExpressionGrammar.{SpellsExpression};
 ghost use Rattle.isle_ast.specs.PatternGrammar.{SpellsPattern};
-ghost use Rattle.isle_ast.specs.Tree.{Expression, PatternNode};
 ghost use Rattle.isle_parser.specs.Reading.{is_ahead, is_at};
 
 /// A law: two patterns that the front of one list of tokens spells are the same, and the same tokens

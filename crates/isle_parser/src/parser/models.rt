@@ -1,7 +1,7 @@
 //! Models of types, and what is made of them.
 
 ghost use Rattle.std.specs.Prelude.{◌≡◌, map, option_map};
-ghost use Rattle.isle_ast.specs.Tree.{Name, TypeModel};
+ghost use Rattle.isle_spec.specs.Tree.{Name, TypeModel};
 ghost use Rattle.isle_ast.specs.TreeView.{form_of, instantiation_of, model_content_of, model_definition_of, name_of, names_of, signature_of, signatures_of, type_model_of};
 ghost use Rattle.isle_parser.specs.Answers.{Gives, IsPlace, source, tokens};
 ghost use Rattle.isle_parser.specs.ReadModels.{form_definition, instantiation_of_term, model_field_inside, model_ahead, model_inside, model_type, model_word, signature, signature_inside, signatures, tag, tag_inside, tagged_inside, tagged_one_inside, tagged_type, tagged_types, width};

@@ -1,7 +1,7 @@
 //! Identifiers.
 
 ghost use Rattle.std.specs.Prelude.{◌≡◌};
-ghost use Rattle.isle_ast.specs.Identifier.{is_identifier};
+ghost use Rattle.isle_spec.specs.Identifier.{is_identifier};
 ghost use Rattle.isle_ast.specs.TreeView.{name_of, names_of};
 ghost use Rattle.isle_parser.specs.Answers.{Gives, IsPlace, Judges, source, tokens};
 ghost use Rattle.isle_parser.specs.ReadNames.{name, names};

@@ -1,7 +1,7 @@
 //! What is said for verification: specs of terms, macros of spec expressions, and states.
 
 ghost use Rattle.std.specs.Prelude.{◌≡◌};
-ghost use Rattle.isle_ast.specs.SpecView.{modified_of, spec_definition_of, spec_macro_of, spec_of, state_of};
+ghost use Rattle.isle_spec.specs.SpecView.{modified_of, spec_definition_of, spec_macro_of, spec_of, state_of};
 ghost use Rattle.isle_ast.specs.TreeView.{name_of, names_of, optional_name_of};
 ghost use Rattle.isle_parser.specs.Answers.{Gives, IsPlace, source, tokens};
 ghost use Rattle.isle_parser.specs.ReadRules.{head_inside};

@@ -1,8 +1,8 @@
 //! Single symbols of spec expressions: the heads behind a `(`, and the words that are expressions by themselves.
 
 ghost use Rattle.std.specs.Prelude.{◌≡◌, ◌≤◌, option_map, string_bytes, Some, None, if◌then◌else◌, codes};
-ghost use Rattle.isle_ast.specs.Identifier.{is_identifier};
-ghost use Rattle.isle_ast.specs.SpecView.{spec_of};
+ghost use Rattle.isle_spec.specs.Identifier.{is_identifier};
+ghost use Rattle.isle_spec.specs.SpecView.{spec_of};
 ghost use Rattle.isle_parser.specs.Answers.{Gives, IsPlace, IsRefusal, source, tokens};
 ghost use Rattle.isle_parser.specs.ReadSpecs.{spec_word};
 ghost use Rattle.isle_parser.specs.SpecHeads.{Finds, head_view};

@@ -1,7 +1,7 @@
 //! Spec expressions: what specs, macros, states and models say.
 
 ghost use Rattle.std.specs.Prelude.{◌≡◌, string_bytes};
-ghost use Rattle.isle_ast.specs.SpecView.{single_arm_of, single_arms_of, single_field_init_of, single_field_inits_of, single_spec_let_of, single_spec_lets_of, spec_of, specs_of};
+ghost use Rattle.isle_spec.specs.SpecView.{single_arm_of, single_arms_of, single_field_init_of, single_field_inits_of, single_spec_let_of, single_spec_lets_of, spec_of, specs_of};
 ghost use Rattle.isle_parser.specs.Answers.{Gives, IsPlace, source, tokens};
 ghost use Rattle.isle_parser.specs.ReadSpecs.{arm, behind_spec_head, field_init, spec_expression, spec_inside, spec_let, spec_lets, spec_pair};
 ghost use Rattle.isle_parser.specs.Reading.{closes, many};

@@ -1,10 +1,11 @@
 use Rattle.std.proofs.Common.{refl, ap}
-use Rattle.isle_ast.specs.SameModel.{model-Decides, single-Decides}
+use Rattle.isle_spec.specs.SameModel.{model-Decides, single-Decides}
+use Rattle.isle_spec.specs.SameSpec.{operator-Decides, spec-Decides, single_arm-Decides, single_field_init-Decides}
+use Rattle.isle_spec.specs.SpecView.{spec_of, single_arm_of, single_field_init_of, modified_of}
+use Rattle.isle_spec.specs.Tree.{primitive_type, enum_type, struct_type, struct_fields, tuple_fields, term_target, rule_target, tag_kind, type_model, const_model, extern_extractor, extern_constructor, extern_const, type_def, rule, extractor, decl, attr, spec, spec_macro, model, state, form, instantiation, external, converter}
+use Rattle.isle_spec.proofs.Equalities.{pos_eq-Decides, ident_eq-Decides, nat_eq-Decides, beq-Decides, and-Decides, Decides-map, rows-Decides, names-Decides, option-Decides, priority-Decides}
 use Rattle.isle_ast.specs.SameExpression.{expression-Decides, single_let-Decides}
 use Rattle.isle_ast.specs.SamePattern.{pattern-Decides}
-use Rattle.isle_ast.specs.SameSpec.{operator-Decides, spec-Decides, single_arm-Decides, single_field_init-Decides}
-use Rattle.isle_ast.specs.SpecView.{spec_of, single_arm_of, single_field_init_of, modified_of}
-use Rattle.isle_ast.specs.Tree.{primitive_type, enum_type, struct_type, struct_fields, tuple_fields, term_target, rule_target, tag_kind, type_model, const_model, extern_extractor, extern_constructor, extern_const, type_def, rule, extractor, decl, attr, spec, spec_macro, model, state, form, instantiation, external, converter}
 use Rattle.isle_ast.specs.TreeView.{named_field_of, indexed_field_of, variant_of, kind_of, type_model_of, single_model_field_of, signature_of, pattern_of, expression_of, single_let_of, condition_of}
 use Rattle.isle_ast.specs.declared.ast.TypeValue.TheVariants as type_values
 use Rattle.isle_ast.specs.declared.ast.Fields.TheVariants as fields
@@ -13,7 +14,6 @@ use Rattle.isle_ast.specs.declared.ast.AttrKind.TheVariants as kinds
 use Rattle.isle_ast.specs.declared.ast.ModelValue.TheVariants as model_values
 use Rattle.isle_ast.specs.declared.ast.Extern.TheVariants as externs
 use Rattle.isle_ast.specs.declared.ast.Def.TheVariants as defs
-use Rattle.isle_ast.proofs.Equalities.{pos_eq-Decides, ident_eq-Decides, nat_eq-Decides, beq-Decides, and-Decides, Decides-map, rows-Decides, names-Decides, option-Decides, priority-Decides}
 use Rattle.isle_ast.proofs.ast.definitions_are_compared.Goals as goal
 
 pub returns-clause-struct_field : goal.returns-clause-struct_field

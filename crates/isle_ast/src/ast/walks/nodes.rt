@@ -2,11 +2,10 @@
 
 ghost use Rattle.std.specs.Prelude.{◌≡◌, IfOk};
 ghost use Rattle.std.specs.Option.{option_map};
-ghost use Rattle.isle_ast.specs.Roots.{expression_pos, full_name, pattern_pos, root_term, spec_pos};
-ghost use Rattle.isle_ast.specs.SpecView.{spec_of};
+ghost use Rattle.isle_spec.specs.Roots.{expression_pos, full_name, pattern_pos, root_term};
 ghost use Rattle.isle_ast.specs.TreeView.{expression_of, name_of, pattern_of};
 
-use crate::ast::{Expr, Ident, Pattern, SpecExpr, Variant};
+use crate::ast::{Expr, Ident, Pattern, Variant};
 use isle_base::lexer::Pos;
 use std::alloc::{AllocError, Global};
 
@@ -68,32 +67,6 @@ impl Expr {
             | Expr::ConstInt { pos, .. }
             | Expr::ConstPrim { pos, .. }
             | Expr::Let { pos, .. } => *pos,
-        }
-    }
-}
-
-impl SpecExpr {
-    /// Gives the position of the spec expression.
-    pub fn pos(&self) -> Pos
-        ensures { result ≡ spec_pos (spec_of self.now) }
-    {
-        match self {
-            SpecExpr::ConstInt { pos, .. }
-            | SpecExpr::ConstBitVec { pos, .. }
-            | SpecExpr::ConstBool { pos, .. }
-            | SpecExpr::Var { pos, .. }
-            | SpecExpr::As { pos, .. }
-            | SpecExpr::Field { pos, .. }
-            | SpecExpr::Discriminator { pos, .. }
-            | SpecExpr::Op { pos, .. }
-            | SpecExpr::Match { pos, .. }
-            | SpecExpr::Let { pos, .. }
-            | SpecExpr::With { pos, .. }
-            | SpecExpr::Macro { pos, .. }
-            | SpecExpr::Expand { pos, .. }
-            | SpecExpr::Pair { pos, .. }
-            | SpecExpr::Enum { pos, .. }
-            | SpecExpr::Struct { pos, .. } => *pos,
         }
     }
 }

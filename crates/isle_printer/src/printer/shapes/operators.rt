@@ -1,7 +1,7 @@
 //! The S-expressions of the operators of spec expressions.
 
 ghost use Rattle.std.specs.Prelude.{◌≡◌, IfOk};
-ghost use Rattle.isle_ast.specs.Operators.{operator_text};
+ghost use Rattle.isle_spec.specs.Operators.{operator_text};
 ghost use Rattle.isle_printer.specs.SexpView.{sexp_of};
 ghost use Rattle.isle_printer.specs.SpecShapes.{operator_shape};
 

@@ -1,7 +1,7 @@
 //! The S-expressions of specs, of their macros and of states.
 
 ghost use Rattle.std.specs.Prelude.{◌≡◌, ◌++◌, map, IfOk, OnOk};
-ghost use Rattle.isle_ast.specs.SpecView.{modified_of, spec_definition_of, spec_macro_of, specs_of, state_of};
+ghost use Rattle.isle_spec.specs.SpecView.{modified_of, spec_definition_of, spec_macro_of, specs_of, state_of};
 ghost use Rattle.isle_printer.specs.SexpView.{sexp_of, sexps_of};
 ghost use Rattle.isle_printer.specs.SpecShapes.{clause_shape, modifies_shape, spec_definition_shape, spec_macro_shape, spec_shape, state_shape};
 
@@ -14,7 +14,7 @@ use std::alloc::{AllocError, Global};
 
 impl ToSExpr for Spec {
     ghost use Rattle.std.specs.Prelude.{Some};
-    ghost use Rattle.isle_ast.specs.SpecView.{spec_definition_of};
+    ghost use Rattle.isle_spec.specs.SpecView.{spec_definition_of};
     ghost use Rattle.isle_printer.specs.SpecShapes.{spec_definition_shape};
 
     ghost meaning = { λ s. Some (spec_definition_shape (spec_definition_of s)) };
@@ -26,7 +26,7 @@ impl ToSExpr for Spec {
 
 impl ToSExpr for Modifies {
     ghost use Rattle.std.specs.Prelude.{Some};
-    ghost use Rattle.isle_ast.specs.SpecView.{modified_of};
+    ghost use Rattle.isle_spec.specs.SpecView.{modified_of};
     ghost use Rattle.isle_printer.specs.SpecShapes.{modifies_shape};
 
     ghost meaning = { λ m. Some (modifies_shape (modified_of m)) };
@@ -38,7 +38,7 @@ impl ToSExpr for Modifies {
 
 impl ToSExpr for SpecMacro {
     ghost use Rattle.std.specs.Prelude.{Some};
-    ghost use Rattle.isle_ast.specs.SpecView.{spec_macro_of};
+    ghost use Rattle.isle_spec.specs.SpecView.{spec_macro_of};
     ghost use Rattle.isle_printer.specs.SpecShapes.{spec_macro_shape};
 
     ghost meaning = { λ m. Some (spec_macro_shape (spec_macro_of m)) };
@@ -50,7 +50,7 @@ impl ToSExpr for SpecMacro {
 
 impl ToSExpr for State {
     ghost use Rattle.std.specs.Prelude.{Some};
-    ghost use Rattle.isle_ast.specs.SpecView.{state_of};
+    ghost use Rattle.isle_spec.specs.SpecView.{state_of};
     ghost use Rattle.isle_printer.specs.SpecShapes.{state_shape};
 
     ghost meaning = { λ s. Some (state_shape (state_of s)) };

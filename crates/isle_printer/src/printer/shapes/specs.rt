@@ -1,8 +1,8 @@
 //! The S-expressions of spec expressions, and of the arms and the fields in them.
 
 ghost use Rattle.std.specs.Prelude.{◌≡◌, ◌∷◌, codes, IfOk};
+ghost use Rattle.isle_spec.specs.SpecView.{arm_row_of, field_init_row_of, single_arm_of, single_arms_of, single_field_init_of, single_field_inits_of, single_spec_lets_of, spec_let_row_of, spec_of, spec_row_of, specs_of};
 ghost use Rattle.isle_ast.specs.SpecGrammar.{dotted};
-ghost use Rattle.isle_ast.specs.SpecView.{arm_row_of, field_init_row_of, single_arm_of, single_arms_of, single_field_init_of, single_field_inits_of, single_spec_lets_of, spec_let_row_of, spec_of, spec_row_of, specs_of};
 ghost use Rattle.isle_ast.specs.TreeView.{name_of};
 ghost use Rattle.isle_printer.specs.Sexp.{atom, row_of};
 ghost use Rattle.isle_printer.specs.SexpView.{sexp_of};
@@ -19,7 +19,7 @@ use std::alloc::{AllocError, Global};
 
 impl ToSExpr for SpecExpr {
     ghost use Rattle.std.specs.Prelude.{Some};
-    ghost use Rattle.isle_ast.specs.SpecView.{spec_of};
+    ghost use Rattle.isle_spec.specs.SpecView.{spec_of};
     ghost use Rattle.isle_printer.specs.SpecShapes.{spec_shape};
 
     ghost meaning = { λ x. Some (spec_shape (spec_of x)) };
@@ -31,7 +31,7 @@ impl ToSExpr for SpecExpr {
 
 impl ToSExpr for Arm {
     ghost use Rattle.std.specs.Prelude.{Some};
-    ghost use Rattle.isle_ast.specs.SpecView.{single_arm_of};
+    ghost use Rattle.isle_spec.specs.SpecView.{single_arm_of};
     ghost use Rattle.isle_printer.specs.SpecShapes.{arm_shape};
 
     ghost meaning = { λ a. Some (arm_shape (single_arm_of a)) };
@@ -43,7 +43,7 @@ impl ToSExpr for Arm {
 
 impl ToSExpr for FieldInit {
     ghost use Rattle.std.specs.Prelude.{Some};
-    ghost use Rattle.isle_ast.specs.SpecView.{single_field_init_of};
+    ghost use Rattle.isle_spec.specs.SpecView.{single_field_init_of};
     ghost use Rattle.isle_printer.specs.SpecShapes.{field_init_shape};
 
     ghost meaning = { λ f. Some (field_init_shape (single_field_init_of f)) };

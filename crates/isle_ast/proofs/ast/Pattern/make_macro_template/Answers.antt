@@ -1,7 +1,7 @@
 use Rattle.std.proofs.Common.{◌≡◌, List, is_none, slice_get, ap, ◌∙◌}
 use Rattle.std.proofs.lemmas.Result.{IfOk-weaker}
+use Rattle.isle_spec.specs.Tree.{PatternNode, macro_arg_pattern}
 use Rattle.isle_ast.specs.Templates.{indices, lacks, plug, replace, replace_by}
-use Rattle.isle_ast.specs.Tree.{PatternNode, macro_arg_pattern}
 use Rattle.isle_ast.specs.TreeView.{names_of, pattern_of}
 use Rattle.isle_ast.proofs.Templates.{plug_lacks, template_filled}
 use Rattle.isle_ast.proofs.ast.Pattern.make_macro_template.Goals as goal

@@ -1,6 +1,6 @@
 use Rattle.std.proofs.Common.{ap, ◌∙◌}
+use Rattle.isle_spec.specs.Tree.{macro_arg_pattern}
 use Rattle.isle_ast.specs.Templates.{replace_row}
-use Rattle.isle_ast.specs.Tree.{macro_arg_pattern}
 use Rattle.isle_ast.specs.TreeView.{names_of, pattern_row_of, patterns_of}
 use Rattle.isle_ast.proofs.Templates.{template_end}
 use Rattle.isle_ast.proofs.ast.macros.+template.Goals as goal

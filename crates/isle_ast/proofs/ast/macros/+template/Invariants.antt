@@ -1,6 +1,6 @@
 use Rattle.std.proofs.Common.{◌≡◌, map, take}
+use Rattle.isle_spec.specs.Tree.{macro_arg_pattern}
 use Rattle.isle_ast.specs.Templates.{replace}
-use Rattle.isle_ast.specs.Tree.{macro_arg_pattern}
 use Rattle.isle_ast.specs.TreeView.{names_of, pattern_of, patterns_of}
 use Rattle.isle_ast.proofs.ast.macros.+template.Given as goal
 

@@ -1,5 +1,5 @@
 use Rattle.std.proofs.Common.{◌≡◌, ◌+◌, ◌*◌, ◌≤◌, [], ◌∷◌, length}
-use Rattle.isle_ast.specs.SpecView.{single_arms_of, single_field_inits_of, single_spec_lets_of, spec_of, specs_of}
+use Rattle.isle_spec.specs.SpecView.{single_arms_of, single_field_inits_of, single_spec_lets_of, spec_of, specs_of}
 use Rattle.isle_parser.specs.Answers.{source, tokens}
 use Rattle.isle_parser.specs.ReadSpecs.{arm, field_init, spec_expression, spec_let, spec_pair}
 use Rattle.isle_parser.specs.Reading.{closes, many}

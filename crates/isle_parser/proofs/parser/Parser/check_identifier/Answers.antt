@@ -1,4 +1,4 @@
-use Rattle.isle_ast.specs.Identifier.{is_identifier}
+use Rattle.isle_spec.specs.Identifier.{is_identifier}
 use Rattle.isle_parser.specs.Answers.{source}
 use Rattle.isle_parser.proofs.Ahead.{judged}
 use Rattle.isle_parser.proofs.parser.Parser.check_identifier.Goals as goal

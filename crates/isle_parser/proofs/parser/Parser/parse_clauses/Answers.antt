@@ -1,8 +1,8 @@
 use Rattle.std.proofs.Common.{◌≡◌, [], ◌∷◌, ◌++◌, map, sym, ◌∙◌}
 use Rattle.std.proofs.lemmas.Result.{err_from_is_err_and}
 use Rattle.std.proofs.lemmas.List.{map-append, map_push}
+use Rattle.isle_spec.specs.SpecView.{modified_of, spec_of, specs_of}
 use Rattle.isle_ast.specs.SpecDefinitionGrammar.{match_clause, modifies_clause, provide_clause, require_clause}
-use Rattle.isle_ast.specs.SpecView.{modified_of, spec_of, specs_of}
 use Rattle.isle_parser.specs.Answers.{source, tokens}
 use Rattle.isle_parser.specs.ReadSpecDefinitions.{joined_clauses}
 use Rattle.isle_parser.specs.SpecParts.{clause_of}

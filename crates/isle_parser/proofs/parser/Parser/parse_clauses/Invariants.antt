@@ -1,5 +1,5 @@
 use Rattle.std.proofs.Common.{◌≡◌, length, map}
-use Rattle.isle_ast.specs.SpecView.{modified_of, specs_of}
+use Rattle.isle_spec.specs.SpecView.{modified_of, specs_of}
 use Rattle.isle_parser.specs.Answers.{source, tokens}
 use Rattle.isle_parser.specs.ReadSpecDefinitions.{clause, joined_clauses}
 use Rattle.isle_parser.specs.Reading.{closes, many}

@@ -1,5 +1,5 @@
+use Rattle.isle_spec.proofs.Copies.{copied_row}
 use Rattle.isle_ast.specs.TreeView.{kind_of}
-use Rattle.isle_ast.proofs.Copies.{copied_row}
 use Rattle.isle_ast.proofs.ast.clone.AttrClone.clone.Goals as goal
 
 pub returns : goal.returns

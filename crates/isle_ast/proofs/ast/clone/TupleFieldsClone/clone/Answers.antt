@@ -1,6 +1,6 @@
-use Rattle.isle_ast.specs.Tree.{tuple_fields}
+use Rattle.isle_spec.specs.Tree.{tuple_fields}
+use Rattle.isle_spec.proofs.Copies.{copied_row}
 use Rattle.isle_ast.specs.TreeView.{indexed_field_of}
-use Rattle.isle_ast.proofs.Copies.{copied_row}
 use Rattle.isle_ast.proofs.ast.clone.TupleFieldsClone.clone.Goals as goal
 
 pub returns : goal.returns

@@ -1,6 +1,6 @@
 use Rattle.std.proofs.Common.{true, false, ◌<◌, ◌≤◌, length, sym, subst, ◌∙◌}
+use Rattle.isle_spec.proofs.SameRows.{count, uneven_rows, rows_step, rows_end}
 use Rattle.isle_ast.proofs.SameLists.{exprs_are_rows, lets_are_rows}
-use Rattle.isle_ast.proofs.SameRows.{count, uneven_rows, rows_step, rows_end}
 use Rattle.isle_ast.proofs.ast.compare.exprs.+same.Goals as goal
 
 pub same_exprs-returns-then-len : goal.same_exprs-returns-then-len

@@ -1,6 +1,6 @@
 use Rattle.std.proofs.Common.{true, false, ◌<◌, ◌≤◌, length, sym, subst, ◌∙◌}
+use Rattle.isle_spec.proofs.SameRows.{count, uneven_rows, rows_step, rows_end}
 use Rattle.isle_ast.proofs.SameLists.{patterns_are_rows}
-use Rattle.isle_ast.proofs.SameRows.{count, uneven_rows, rows_step, rows_end}
 use Rattle.isle_ast.proofs.ast.compare.patterns.+same.Goals as goal
 
 pub same_patterns-returns-then-len : goal.same_patterns-returns-then-len

@@ -1,5 +1,5 @@
 use Rattle.std.proofs.Common.{◌≡◌, ◌++◌, map, take}
-use Rattle.isle_ast.specs.SpecView.{specs_of}
+use Rattle.isle_spec.specs.SpecView.{specs_of}
 use Rattle.isle_printer.specs.SexpView.{sexps_of}
 use Rattle.isle_printer.specs.SpecShapes.{spec_shape}
 use Rattle.isle_printer.proofs.printer.shapes.spec_definitions.push_specs.Given as goal

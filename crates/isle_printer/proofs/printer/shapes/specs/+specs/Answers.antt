@@ -1,6 +1,6 @@
 use Rattle.std.proofs.Common.{◌≡◌, [], ◌∷◌, codes, ap, ◌∙◌, rules}
-use Rattle.isle_ast.proofs.SpecLets.{let_seen}
-use Rattle.isle_ast.specs.SpecView.{single_spec_lets_of, spec_let_row_of, spec_of}
+use Rattle.isle_spec.proofs.SpecLets.{let_seen}
+use Rattle.isle_spec.specs.SpecView.{single_spec_lets_of, spec_let_row_of, spec_of}
 use Rattle.isle_printer.specs.Sexp.{row_of}
 use Rattle.isle_printer.specs.Shapes.{form_shape}
 use Rattle.isle_printer.specs.SpecShapes.{spec_let_shapes, spec_shape}

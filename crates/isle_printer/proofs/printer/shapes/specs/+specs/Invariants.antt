@@ -1,6 +1,6 @@
 -- What is made, and then what is left, is what stands in front and all.
 use Rattle.std.proofs.Common.{◌≡◌, ◌++◌, ◌∷◌, codes, drop}
-use Rattle.isle_ast.specs.SpecView.{arm_row_of, field_init_row_of, single_arms_of, single_field_inits_of, single_spec_lets_of, spec_let_row_of, spec_row_of, specs_of}
+use Rattle.isle_spec.specs.SpecView.{arm_row_of, field_init_row_of, single_arms_of, single_field_inits_of, single_spec_lets_of, spec_let_row_of, spec_row_of, specs_of}
 use Rattle.isle_printer.specs.Sexp.{atom}
 use Rattle.isle_printer.specs.SexpView.{sexp_of, sexps_of}
 use Rattle.isle_printer.specs.SpecShapes.{arm_shapes, field_init_shapes, spec_let_shapes, spec_shapes}

@@ -1,4 +1,4 @@
-use Rattle.isle_ast.proofs.Copies.{copied_name, copied_names}
+use Rattle.isle_spec.proofs.Copies.{copied_name, copied_names}
 use Rattle.isle_ast.proofs.ast.clone.rules.ExtractorClone.clone.Goals as goal
 
 pub returns : goal.returns

@@ -1,0 +1,14 @@
+pub mod Identifiers
+pub mod IdentifierBytes
+pub mod Copies
+pub mod NameOrders
+pub mod ErasedSpecs
+pub mod SameRows
+pub mod SameModelLists
+pub mod SameSpecLists
+pub mod Equalities
+pub mod ErasedWritableSpecs
+pub mod SpecLets
+pub mod WritableNames
+pub mod DecidedNames
+pub mod DecidedSpecs
