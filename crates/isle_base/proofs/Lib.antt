@@ -7,6 +7,7 @@ pub mod LabelLemmas
 pub mod LineLemmas
 pub mod Numbers
 pub mod Places
+pub mod PositionOrders
 pub mod Runs
 pub mod SourceLemmas
 pub mod Stepping

@@ -7,6 +7,7 @@ pub mod Lines
 pub mod Literals
 pub mod Pieces
 pub mod Place
+pub mod PositionOrder
 pub mod PrettyLine
 pub mod Reads
 pub mod Skips

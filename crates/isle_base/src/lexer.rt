@@ -1,7 +1,9 @@
 //! Lexer for the ISLE language.
 
-ghost use Rattle.std.specs.Prelude.{◌≡◌, ◌↔◌, ℕ, List, IsTrue, option_map};
+ghost use Rattle.std.specs.Prelude.{◌≡◌, ◌↔◌, ℕ, List, IsTrue, Some, option_map};
+ghost use Rattle.std.specs.declared.cmp.Ordering.TheVariants.{Equal};
 ghost use Rattle.isle_base.specs.Lexing.{HasOneLexing};
+ghost use Rattle.isle_base.specs.PositionOrder.{position_cmp};
 ghost use Rattle.isle_base.specs.Steps.{Gives, IsWithin, Rises, Starts, current_pos, is_at_end, lookahead, placed_of};
 ghost use Rattle.isle_base.specs.Token.{is_int, is_symbol};
 ghost use Rattle.isle_base.specs.TokenView.{token_of};
@@ -15,6 +17,7 @@ use crate::error::Error;
 use crate::files::Files;
 use read::{Found, error, read};
 use std::alloc::{AllocError, AllocFailed, Global};
+use std::hash::Hash;
 use std::marker::Model;
 
 /// Why a lexer, a parser or the formatter gives no answer.
@@ -46,7 +49,8 @@ impl<T: Drop> From<AllocFailed<T>> for Fault {
 
 /// A source position.
 ///
-/// The default position, file 0 at offset 0, stands for an unknown place.
+/// The default position, file 0 at offset 0, stands for an unknown place. Positions are ordered by file,
+/// then by offset.
 #[derive(Clone, Copy, Debug, Default, PartialEq, Eq, PartialOrd, Ord, Hash)]
 pub struct Pos {
     /// The number of the file, from 0.
@@ -90,6 +94,16 @@ impl Pos {
         format!(in alloc; "{name} line {line}")
     }
 }
+
+/// A law, which runs no code: positions are ordered by file, then by offset, and their order, their
+/// equality and their hash agree. Two compare as equal exactly if they are the same position.
+pub fn positions_are_ordered()
+    ensures order { (a b : Pos) → ⟦<Pos as Ord>⟧.cmp a b ≡ position_cmp a b }
+    ensures partial_order { (a b : Pos) → ⟦<Pos as PartialOrd>⟧.partial_cmp a b ≡ Some (position_cmp a b) }
+    ensures equality { (a b : Pos) → IsTrue (⟦<Pos as PartialEq>⟧.eq a b) ↔ (a ≡ b) }
+    ensures equal_in_order { (a b : Pos) → (position_cmp a b ≡ Equal) ↔ (a ≡ b) }
+    ensures hash { (a b : Pos) → a ≡ b → ⟦<Pos as Hash>⟧.hash_input a ≡ ⟦<Pos as Hash>⟧.hash_input b }
+{}
 
 /// A token of ISLE source.
 #[derive(Debug, PartialEq, Eq, Drop)]
