@@ -1,10 +1,14 @@
--- Positions that are equal in order are equal.
-use Rattle.std.proofs.Common.{◌≡◌, ℕ, refl, ap, subst, ◌∙◌, arith}
+-- Positions that are equal in order, or in what their hash is of, are equal.
+use Rattle.std.proofs.Common.{◌≡◌, ℕ, ◌<◌, ◌^◌, refl, ap, subst, sym, ◌∙◌, arith}
 use Rattle.std.proofs.lemmas.Bool.Decides.{nat_tests}
+use Rattle.std.proofs.lemmas.Nat.{from_le_bytes-to_le_bytes_8}
+use Rattle.std.specs.Hash.{le_bytes}
+use Rattle.std.specs.Int.{from_le_bytes, w64}
+use Rattle.std.specs.Prelude.{[], get_or}
 use Rattle.std.specs.Ordering.{nat_cmp, ordering_then}
 use Rattle.std.specs.declared.cmp.Ordering.{Ordering}
 use Rattle.std.specs.declared.cmp.Ordering.TheVariants.{Less, Equal, Greater}
-use Rattle.isle_base.specs.PositionOrder.{position_cmp}
+use Rattle.isle_base.specs.PositionOrder.{IsInRange, position_cmp, position_hash}
 use Rattle.isle_base.specs.declared.lexer.Pos.{Pos}
 
 both_equal : (o p : Ordering) → ordering_then o p ≡ Equal → (o ≡ Equal) × (p ≡ Equal)
@@ -34,3 +38,14 @@ position_itself p =
 
 pub equal_positions : (p q : Pos) → p ≡ q → position_cmp p q ≡ Equal
 equal_positions p q e = subst (λ x. position_cmp p x ≡ Equal) e (position_itself p)
+
+bytes_equal : (x y : ℕ) → x < 2 ^ 64 → y < 2 ^ 64 → le_bytes 8 x ≡ le_bytes 8 y → x ≡ y
+unfolding le_bytes
+bytes_equal x y l m e =
+    sym (from_le_bytes-to_le_bytes_8 x l) ∙ (ap (from_le_bytes w64) e ∙ from_le_bytes-to_le_bytes_8 y m)
+
+pub hashes_equal : (p q : Pos) → IsInRange p → IsInRange q → position_hash p ≡ position_hash q → p ≡ q
+hashes_equal p q l m e =
+    let file = bytes_equal p.file q.file l.0 m.0 (ap (λ writes. get_or writes 0 []) e) in
+    let offset = bytes_equal p.offset q.offset l.1 m.1 (ap (λ writes. get_or writes 1 []) e) in
+    λ i. record { file = file i; offset = offset i }

@@ -3,7 +3,7 @@
 ghost use Rattle.std.specs.Prelude.{◌≡◌, ◌↔◌, ℕ, List, IsTrue, Some, option_map};
 ghost use Rattle.std.specs.declared.cmp.Ordering.TheVariants.{Equal};
 ghost use Rattle.isle_base.specs.Lexing.{HasOneLexing};
-ghost use Rattle.isle_base.specs.PositionOrder.{position_cmp};
+ghost use Rattle.isle_base.specs.PositionOrder.{IsInRange, position_cmp, position_hash};
 ghost use Rattle.isle_base.specs.Steps.{Gives, IsWithin, Rises, Starts, current_pos, is_at_end, lookahead, placed_of};
 ghost use Rattle.isle_base.specs.Token.{is_int, is_symbol};
 ghost use Rattle.isle_base.specs.TokenView.{token_of};
@@ -102,7 +102,8 @@ pub fn positions_are_ordered()
     ensures partial_order { (a b : Pos) → ⟦<Pos as PartialOrd>⟧.partial_cmp a b ≡ Some (position_cmp a b) }
     ensures equality { (a b : Pos) → IsTrue (⟦<Pos as PartialEq>⟧.eq a b) ↔ (a ≡ b) }
     ensures equal_in_order { (a b : Pos) → (position_cmp a b ≡ Equal) ↔ (a ≡ b) }
-    ensures hash { (a b : Pos) → a ≡ b → ⟦<Pos as Hash>⟧.hash_input a ≡ ⟦<Pos as Hash>⟧.hash_input b }
+    ensures hash { (a : Pos) → ⟦<Pos as Hash>⟧.hash_input a ≡ position_hash a }
+    ensures equal_in_hash { (a b : Pos) → IsInRange a → IsInRange b → (position_hash a ≡ position_hash b) ↔ (a ≡ b) }
 {}
 
 /// A token of ISLE source.
