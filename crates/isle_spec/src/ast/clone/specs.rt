@@ -1,10 +1,14 @@
 //! Copies of specs, of their macros and states, and of the spec expressions that they are made of.
 
 ghost use Rattle.std.specs.Prelude.{◌≡◌, IfOk};
-ghost use Rattle.isle_spec.specs.SpecView.{modified_of, single_arm_of, single_arms_of, single_field_init_of, single_field_inits_of, single_spec_lets_of, spec_definition_of, spec_macro_of, spec_of, specs_of, state_of};
-ghost use Rattle.isle_spec.specs.ModelView.{names_of};
+ghost use Rattle.isle_spec.specs.SpecView.{field_init_row_of, modified_of, single_arm_of, single_arms_of, single_field_init_of, single_field_inits_of, single_spec_lets_of, spec_definition_of, spec_macro_of, spec_of, spec_row_of, specs_of, state_of};
+ghost use Rattle.isle_spec.specs.ModelView.{name_of, names_of, type_model_of};
+ghost use Rattle.isle_spec.specs.Tree.{as_spec, discriminator_spec, enum_spec, expand_spec, field_spec, macro_spec, op_spec, struct_spec, var_spec, with_spec};
 
-use crate::ast::{Arm, FieldInit, Ident, Modifies, Spec, SpecExpr, SpecMacro, State};
+use crate::ast::{
+    Arm, FieldInit, Ident, ModelType, Modifies, Spec, SpecExpr, SpecMacro, SpecOp, State,
+};
+use isle_base::lexer::Pos;
 use std::alloc::AllocError;
 
 impl Clone for Spec {
@@ -111,101 +115,169 @@ fn copy_spec(expr: &SpecExpr) -> Result<SpecExpr, AllocError>
             val: *val,
             pos: *pos,
         }),
-        SpecExpr::Var { var, pos } => Ok(SpecExpr::Var {
-            var: var.clone()?,
+        SpecExpr::Var { var, pos } => copy_var(var, *pos),
+        SpecExpr::As { x, ty, pos } => copy_as(x, ty, *pos),
+        SpecExpr::Field { field, x, pos } => copy_field(field, x, *pos),
+        SpecExpr::Discriminator { variant, x, pos } => copy_discriminator(variant, x, *pos),
+        SpecExpr::Op { op, args, pos } => copy_operation(op, args, *pos),
+        SpecExpr::Match { x, arms, pos } => Ok(SpecExpr::Match {
+            x: copy_boxed(x)?,
+            arms: copy_arms(arms)?,
             pos: *pos,
         }),
-        SpecExpr::As { x, ty, pos } => {
-            let copied = copy_spec(x)?;
-            Ok(SpecExpr::As {
-                x: Box::new(*Box::allocator(x), copied)?,
-                ty: ty.clone()?,
-                pos: *pos,
-            })
-        }
-        SpecExpr::Field { field, x, pos } => {
-            let copied = copy_spec(x)?;
-            Ok(SpecExpr::Field {
-                field: field.clone()?,
-                x: Box::new(*Box::allocator(x), copied)?,
-                pos: *pos,
-            })
-        }
-        SpecExpr::Discriminator { variant, x, pos } => {
-            let copied = copy_spec(x)?;
-            Ok(SpecExpr::Discriminator {
-                variant: variant.clone()?,
-                x: Box::new(*Box::allocator(x), copied)?,
-                pos: *pos,
-            })
-        }
-        SpecExpr::Op { op, args, pos } => Ok(SpecExpr::Op {
-            op: op.clone()?,
-            args: copy_specs(args)?,
+        SpecExpr::Let { defs, body, pos } => Ok(SpecExpr::Let {
+            defs: copy_spec_lets(defs)?,
+            body: copy_boxed(body)?,
             pos: *pos,
         }),
-        SpecExpr::Match { x, arms, pos } => {
-            let copied = copy_spec(x)?;
-            Ok(SpecExpr::Match {
-                x: Box::new(*Box::allocator(x), copied)?,
-                arms: copy_arms(arms)?,
-                pos: *pos,
-            })
-        }
-        SpecExpr::Let { defs, body, pos } => {
-            let copied = copy_spec(body)?;
-            Ok(SpecExpr::Let {
-                defs: copy_spec_lets(defs)?,
-                body: Box::new(*Box::allocator(body), copied)?,
-                pos: *pos,
-            })
-        }
-        SpecExpr::With { decls, body, pos } => {
-            let copied = copy_spec(body)?;
-            Ok(SpecExpr::With {
-                decls: copy_names(decls)?,
-                body: Box::new(*Box::allocator(body), copied)?,
-                pos: *pos,
-            })
-        }
-        SpecExpr::Macro { params, body, pos } => {
-            let copied = copy_spec(body)?;
-            Ok(SpecExpr::Macro {
-                params: copy_names(params)?,
-                body: Box::new(*Box::allocator(body), copied)?,
-                pos: *pos,
-            })
-        }
-        SpecExpr::Expand { name, args, pos } => Ok(SpecExpr::Expand {
-            name: name.clone()?,
-            args: copy_specs(args)?,
+        SpecExpr::With { decls, body, pos } => copy_with(decls, body, *pos),
+        SpecExpr::Macro { params, body, pos } => copy_macro(params, body, *pos),
+        SpecExpr::Expand { name, args, pos } => copy_expansion(name, args, *pos),
+        SpecExpr::Pair { l, r, pos } => Ok(SpecExpr::Pair {
+            l: copy_boxed(l)?,
+            r: copy_boxed(r)?,
             pos: *pos,
         }),
-        SpecExpr::Pair { l, r, pos } => {
-            let copied = copy_spec(l)?;
-            let other = copy_spec(r)?;
-            Ok(SpecExpr::Pair {
-                l: Box::new(*Box::allocator(l), copied)?,
-                r: Box::new(*Box::allocator(r), other)?,
-                pos: *pos,
-            })
-        }
         SpecExpr::Enum {
             name,
             variant,
             args,
             pos,
-        } => Ok(SpecExpr::Enum {
-            name: name.clone()?,
-            variant: variant.clone()?,
-            args: copy_specs(args)?,
-            pos: *pos,
-        }),
-        SpecExpr::Struct { fields, pos } => Ok(SpecExpr::Struct {
-            fields: copy_field_inits(fields)?,
-            pos: *pos,
-        }),
+        } => copy_enum(name, variant, args, *pos),
+        SpecExpr::Struct { fields, pos } => copy_struct(fields, *pos),
     }
+}
+
+/// Copies a spec expression and the box that holds it.
+#[cycle(copy_spec)]
+fn copy_boxed(expr: &Box<SpecExpr>) -> Result<Box<SpecExpr>, AllocError>
+    ensures { IfOk result (λ copy. spec_of copy.value ≡ spec_of expr.now.value) }
+{
+    let copied = copy_spec(expr)?;
+    Ok(Box::new(*Box::allocator(expr), copied)?)
+}
+
+/// Copies a variable.
+fn copy_var(var: &Ident, pos: Pos) -> Result<SpecExpr, AllocError>
+    ensures { IfOk result (λ copy. spec_of copy ≡ var_spec (name_of var.now) pos) }
+{
+    Ok(SpecExpr::Var {
+        var: var.clone()?,
+        pos,
+    })
+}
+
+/// Copies a spec expression whose type is given.
+#[cycle(copy_spec)]
+fn copy_as(x: &Box<SpecExpr>, ty: &ModelType, pos: Pos) -> Result<SpecExpr, AllocError>
+    ensures { IfOk result (λ copy. spec_of copy ≡ as_spec (spec_of x.now.value) (type_model_of ty.now) pos) }
+{
+    Ok(SpecExpr::As {
+        x: copy_boxed(x)?,
+        ty: ty.clone()?,
+        pos,
+    })
+}
+
+/// Copies a field of a spec expression.
+#[cycle(copy_spec)]
+fn copy_field(field: &Ident, x: &Box<SpecExpr>, pos: Pos) -> Result<SpecExpr, AllocError>
+    ensures { IfOk result (λ copy. spec_of copy ≡ field_spec (name_of field.now) (spec_of x.now.value) pos) }
+{
+    Ok(SpecExpr::Field {
+        field: field.clone()?,
+        x: copy_boxed(x)?,
+        pos,
+    })
+}
+
+/// Copies the question whether a spec expression is of a variant.
+#[cycle(copy_spec)]
+fn copy_discriminator(variant: &Ident, x: &Box<SpecExpr>, pos: Pos) -> Result<SpecExpr, AllocError>
+    ensures { IfOk result (λ copy. spec_of copy ≡ discriminator_spec (name_of variant.now) (spec_of x.now.value) pos) }
+{
+    Ok(SpecExpr::Discriminator {
+        variant: variant.clone()?,
+        x: copy_boxed(x)?,
+        pos,
+    })
+}
+
+/// Copies an operation.
+#[cycle(copy_spec)]
+fn copy_operation(op: &SpecOp, args: &Vec<SpecExpr>, pos: Pos) -> Result<SpecExpr, AllocError>
+    ensures { IfOk result (λ copy. spec_of copy ≡ op_spec op.now (spec_row_of (specs_of args.now.items)) pos) }
+{
+    Ok(SpecExpr::Op {
+        op: op.clone()?,
+        args: copy_specs(args)?,
+        pos,
+    })
+}
+
+/// Copies a `with`.
+#[cycle(copy_spec)]
+fn copy_with(decls: &Vec<Ident>, body: &Box<SpecExpr>, pos: Pos) -> Result<SpecExpr, AllocError>
+    ensures { IfOk result (λ copy. spec_of copy ≡ with_spec (names_of decls.now.items) (spec_of body.now.value) pos) }
+{
+    Ok(SpecExpr::With {
+        decls: copy_names(decls)?,
+        body: copy_boxed(body)?,
+        pos,
+    })
+}
+
+/// Copies a macro within a spec expression.
+#[cycle(copy_spec)]
+fn copy_macro(params: &Vec<Ident>, body: &Box<SpecExpr>, pos: Pos) -> Result<SpecExpr, AllocError>
+    ensures { IfOk result (λ copy. spec_of copy ≡ macro_spec (names_of params.now.items) (spec_of body.now.value) pos) }
+{
+    Ok(SpecExpr::Macro {
+        params: copy_names(params)?,
+        body: copy_boxed(body)?,
+        pos,
+    })
+}
+
+/// Copies the expansion of a macro.
+#[cycle(copy_spec)]
+fn copy_expansion(name: &Ident, args: &Vec<SpecExpr>, pos: Pos) -> Result<SpecExpr, AllocError>
+    ensures { IfOk result (λ copy. spec_of copy ≡ expand_spec (name_of name.now) (spec_row_of (specs_of args.now.items)) pos) }
+{
+    Ok(SpecExpr::Expand {
+        name: name.clone()?,
+        args: copy_specs(args)?,
+        pos,
+    })
+}
+
+/// Copies a variant of an enum.
+#[cycle(copy_spec)]
+fn copy_enum(
+    name: &Ident,
+    variant: &Ident,
+    args: &Vec<SpecExpr>,
+    pos: Pos,
+) -> Result<SpecExpr, AllocError>
+    ensures { IfOk result (λ copy. spec_of copy ≡ enum_spec (name_of name.now) (name_of variant.now) (spec_row_of (specs_of args.now.items)) pos) }
+{
+    Ok(SpecExpr::Enum {
+        name: name.clone()?,
+        variant: variant.clone()?,
+        args: copy_specs(args)?,
+        pos,
+    })
+}
+
+/// Copies a struct.
+#[cycle(copy_spec)]
+fn copy_struct(fields: &Vec<FieldInit>, pos: Pos) -> Result<SpecExpr, AllocError>
+    ensures { IfOk result (λ copy. spec_of copy ≡ struct_spec (field_init_row_of (single_field_inits_of fields.now.items)) pos) }
+{
+    Ok(SpecExpr::Struct {
+        fields: copy_field_inits(fields)?,
+        pos,
+    })
 }
 
 /// Copies spec expressions, in order.
@@ -275,10 +347,9 @@ fn copy_field_inits(fields: &Vec<FieldInit>) -> Result<Vec<FieldInit>, AllocErro
 fn copy_field_init(field: &FieldInit) -> Result<FieldInit, AllocError>
     ensures { IfOk result (λ copy. single_field_init_of copy ≡ single_field_init_of field.now) }
 {
-    let copied = copy_spec(&field.value)?;
     Ok(FieldInit {
         name: field.name.clone()?,
-        value: Box::new(*Box::allocator(&field.value), copied)?,
+        value: copy_boxed(&field.value)?,
         pos: field.pos,
     })
 }
