@@ -1,6 +1,7 @@
 //! Which trees built by hand are written so that they read back: for each condition a tree that breaks it, and one near
 //! it that does not.
 
+mod names;
 mod rules;
 mod specs;
 
