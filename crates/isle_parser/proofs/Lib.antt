@@ -45,3 +45,4 @@ pub mod SpecPositions
 pub mod SpecMarks
 pub mod SpecOperators
 pub mod SpecHeadsAhead
+pub mod Expected

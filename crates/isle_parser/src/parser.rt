@@ -4,7 +4,7 @@ ghost use Rattle.std.specs.Prelude.{◌≡◌, ◌+◌, ◌<◌, ◌^◌, ◌↔
 ghost use Rattle.isle_ast.specs.Erased.{erase};
 ghost use Rattle.isle_base.specs.Place.{in_file, nowhere};
 ghost use Rattle.isle_base.specs.Steps.{IsWithin, Rises, is_at_end, is_failed};
-ghost use Rattle.isle_base.specs.Token.{integer, is_int, is_symbol};
+ghost use Rattle.isle_base.specs.Token.{integer, is_int, is_symbol, rparen};
 ghost use Rattle.isle_base.specs.TokenView.{token_of};
 ghost use Rattle.isle_parser.specs.Answers.{Gives, IsPlace, IsRefusal, IsRefusalAt, place, source, tokens};
 ghost use Rattle.isle_parser.specs.Parsed.{Parses, RefusesText};
@@ -328,6 +328,18 @@ impl<'src> Parser<'src> {
     {
         let is_wanted = self.is_rparen();
         self.take_if(alloc, is_wanted)
+    }
+
+    // Takes off the closing parenthesis behind a node, and gives the node.
+    #[tactic(auto, using(crate::proofs::Expected::expected_rparen))]
+    fn close<T: Drop>(&mut self, alloc: Global, node: T) -> Result<T, Stop>
+        ensures same { source self.new ≡ source self.old }
+        ensures kept { IfOk result (λ n. n ≡ node) }
+        ensures gives { Gives (λ _. rparen) (expect is_rparen (tokens self.old)) result self.new }
+        ensures goes_on { OnOk result (is_failed self.new.lexer ≡ false) }
+    {
+        self.expect_rparen(alloc)?;
+        Ok(node)
     }
 
     fn expect_at(&mut self, alloc: Global) -> Result<Token, Stop>

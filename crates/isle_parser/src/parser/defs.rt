@@ -34,8 +34,7 @@ impl<'src> Parser<'src> {
     {
         self.expect_lparen(alloc)?;
         let def = self.parse_keyword_form(alloc)?;
-        self.expect_rparen(alloc)?;
-        Ok(def)
+        self.close(alloc, def)
     }
 
     // A keyword, and what stands behind it.

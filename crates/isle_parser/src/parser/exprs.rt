@@ -22,8 +22,7 @@ impl<'src> Parser<'src> {
         if self.is_lparen() {
             self.expect_lparen(alloc)?;
             let expr = self.parse_expr_inner_parens(alloc, pos)?;
-            self.expect_rparen(alloc)?;
-            return Ok(expr);
+            return self.close(alloc, expr);
         }
         if self.is_sym() {
             return self.parse_expr_symbol(alloc, pos);
@@ -94,8 +93,7 @@ impl<'src> Parser<'src> {
     {
         self.expect_lparen(alloc)?;
         let defs = self.parse_letdef_list(alloc)?;
-        self.expect_rparen(alloc)?;
-        Ok(defs)
+        self.close(alloc, defs)
     }
 
     // Definitions, up to the closing parenthesis.
@@ -122,7 +120,6 @@ impl<'src> Parser<'src> {
         let var = self.parse_ident(alloc)?;
         let ty = self.parse_ident(alloc)?;
         let val = Box::new(alloc, self.parse_expr(alloc)?)?;
-        self.expect_rparen(alloc)?;
-        Ok(LetDef { var, ty, val, pos })
+        self.close(alloc, LetDef { var, ty, val, pos })
     }
 }

@@ -25,8 +25,7 @@ impl<'src> Parser<'src> {
         let name = self.parse_ident(alloc)?;
         self.expect_lparen(alloc)?;
         let val = self.parse_model_value(alloc, place)?;
-        self.expect_rparen(alloc)?;
-        Ok(Model { name, val })
+        self.close(alloc, Model { name, val })
     }
 
     // What a model is given by. The model's name stood at this place.
@@ -60,8 +59,7 @@ impl<'src> Parser<'src> {
         }
         self.expect_lparen(alloc)?;
         let ty = self.parse_model_inside(alloc, place)?;
-        self.expect_rparen(alloc)?;
-        Ok(ty)
+        self.close(alloc, ty)
     }
 
     // The model that the word ahead stands for.
@@ -176,8 +174,7 @@ impl<'src> Parser<'src> {
         self.expect_lparen(alloc)?;
         let name = self.parse_ident(alloc)?;
         let ty = self.parse_model_type(alloc)?;
-        self.expect_rparen(alloc)?;
-        Ok(ModelField { name, ty })
+        self.close(alloc, ModelField { name, ty })
     }
 
     #[tactic(auto, unfolding(crate::specs::ReadModels::form_definition))]
@@ -217,8 +214,7 @@ impl<'src> Parser<'src> {
         let pos = self.pos();
         let args = self.parse_tagged_types(alloc, "args")?;
         let ret = self.parse_tagged_type(alloc, "ret")?;
-        self.expect_rparen(alloc)?;
-        Ok(Signature { args, ret, pos })
+        self.close(alloc, Signature { args, ret, pos })
     }
 
     // Models behind this word, in parentheses.
@@ -236,8 +232,7 @@ impl<'src> Parser<'src> {
             ));
         }
         let params = self.parse_model_types(alloc)?;
-        self.expect_rparen(alloc)?;
-        Ok(params)
+        self.close(alloc, params)
     }
 
     // Models, up to the closing parenthesis.
@@ -267,8 +262,7 @@ impl<'src> Parser<'src> {
             ));
         }
         let ty = self.parse_model_type(alloc)?;
-        self.expect_rparen(alloc)?;
-        Ok(ty)
+        self.close(alloc, ty)
     }
 
     // A term's own signatures where `(` is ahead, else a form and tags.
@@ -327,7 +321,6 @@ impl<'src> Parser<'src> {
             ));
         }
         let tag = self.parse_ident(alloc)?;
-        self.expect_rparen(alloc)?;
-        Ok(tag)
+        self.close(alloc, tag)
     }
 }

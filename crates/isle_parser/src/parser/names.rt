@@ -57,8 +57,7 @@ impl<'src> Parser<'src> {
     {
         self.expect_lparen(alloc)?;
         let idents = self.parse_ident_list(alloc)?;
-        self.expect_rparen(alloc)?;
-        Ok(idents)
+        self.close(alloc, idents)
     }
 }
 

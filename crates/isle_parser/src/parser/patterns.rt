@@ -29,8 +29,7 @@ impl<'src> Parser<'src> {
         if self.is_lparen() {
             self.expect_lparen(alloc)?;
             let pattern = self.parse_pattern_inner_parens(alloc, pos)?;
-            self.expect_rparen(alloc)?;
-            return Ok(pattern);
+            return self.close(alloc, pattern);
         }
         Err(self.refuse_at(self.place(), String::from_str(alloc, "Unexpected pattern")))
     }

@@ -126,8 +126,7 @@ impl<'src> Parser<'src> {
         }
         self.expect_lparen(alloc)?;
         let part = self.parse_iflet_or_expr_inner_parens(alloc, pos)?;
-        self.expect_rparen(alloc)?;
-        Ok(part)
+        self.close(alloc, part)
     }
 
     // What a condition or an expression has in its parentheses. The `(` stood at this position.

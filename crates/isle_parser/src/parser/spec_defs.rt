@@ -52,8 +52,7 @@ impl<'src> Parser<'src> {
         self.expect_lparen(alloc)?;
         let name = self.parse_ident(alloc)?;
         let names = self.parse_ident_list(alloc)?;
-        self.expect_rparen(alloc)?;
-        Ok((name, names))
+        self.close(alloc, (name, names))
     }
 
     #[tactic(auto, unfolding(crate::specs::ReadSpecDefinitions::spec_definition))]
@@ -112,8 +111,7 @@ impl<'src> Parser<'src> {
         self.expect_lparen(alloc)?;
         let word = self.expect_symbol(alloc)?;
         let clause = self.parse_behind_clause_word(alloc, place, &word)?;
-        self.expect_rparen(alloc)?;
-        Ok(clause)
+        self.close(alloc, clause)
     }
 
     // What stands behind the word of a clause. What stands behind the keyword of its spec stood at this place.
@@ -220,8 +218,7 @@ impl<'src> Parser<'src> {
             ));
         }
         let default = self.parse_spec_expr(alloc)?;
-        self.expect_rparen(alloc)?;
-        Ok(default)
+        self.close(alloc, default)
     }
 }
 

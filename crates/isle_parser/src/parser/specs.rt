@@ -27,8 +27,7 @@ impl<'src> Parser<'src> {
         if self.is_lparen() {
             self.expect_lparen(alloc)?;
             let expr = self.parse_spec_inside(alloc, place, start)?;
-            self.expect_rparen(alloc)?;
-            return Ok(expr);
+            return self.close(alloc, expr);
         }
         if self.is_sym() {
             return self.parse_spec_word(alloc);
@@ -121,8 +120,7 @@ impl<'src> Parser<'src> {
         let pos = self.pos();
         let l = Box::new(alloc, self.parse_spec_expr(alloc)?)?;
         let r = Box::new(alloc, self.parse_spec_expr(alloc)?)?;
-        self.expect_rparen(alloc)?;
-        Ok(SpecExpr::Pair { l, r, pos })
+        self.close(alloc, SpecExpr::Pair { l, r, pos })
     }
 
     #[cycle(spec)]
@@ -149,8 +147,7 @@ impl<'src> Parser<'src> {
     {
         self.expect_lparen(alloc)?;
         let defs = self.parse_spec_letdef_list(alloc)?;
-        self.expect_rparen(alloc)?;
-        Ok(defs)
+        self.close(alloc, defs)
     }
 
     // Definitions, up to the closing parenthesis.
@@ -175,8 +172,7 @@ impl<'src> Parser<'src> {
         self.expect_lparen(alloc)?;
         let name = self.parse_ident(alloc)?;
         let value = self.parse_spec_expr(alloc)?;
-        self.expect_rparen(alloc)?;
-        Ok((name, value))
+        self.close(alloc, (name, value))
     }
 
     #[cycle(spec)]
@@ -232,13 +228,15 @@ impl<'src> Parser<'src> {
         let pos = self.pos();
         let (variant, args) = self.parse_headed(alloc)?;
         let body = self.parse_spec_expr(alloc)?;
-        self.expect_rparen(alloc)?;
-        Ok(Arm {
-            variant,
-            args,
-            body,
-            pos,
-        })
+        self.close(
+            alloc,
+            Arm {
+                variant,
+                args,
+                body,
+                pos,
+            },
+        )
     }
 
     #[cycle(spec)]
@@ -274,8 +272,7 @@ impl<'src> Parser<'src> {
         let pos = self.pos();
         let name = self.parse_ident(alloc)?;
         let value = Box::new(alloc, self.parse_spec_expr(alloc)?)?;
-        self.expect_rparen(alloc)?;
-        Ok(FieldInit { name, value, pos })
+        self.close(alloc, FieldInit { name, value, pos })
     }
 
     #[cycle(spec)]

@@ -76,8 +76,7 @@ impl<'src> Parser<'src> {
     {
         self.expect_lparen(alloc)?;
         let kind = self.parse_attr_kind_inside(alloc)?;
-        self.expect_rparen(alloc)?;
-        Ok(kind)
+        self.close(alloc, kind)
     }
 
     #[tactic(auto, unfolding(crate::specs::ReadTerms::kind_inside))]

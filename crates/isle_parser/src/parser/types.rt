@@ -72,8 +72,7 @@ impl<'src> Parser<'src> {
         let pos = self.pos();
         self.expect_lparen(alloc)?;
         let ty = self.parse_typevalue_inside(alloc, place, pos)?;
-        self.expect_rparen(alloc)?;
-        Ok(ty)
+        self.close(alloc, ty)
     }
 
     // `primitive`, `enum` or `struct`, and what stands behind the word. The `(` stood at this place.
@@ -128,8 +127,7 @@ impl<'src> Parser<'src> {
         self.expect_lparen(alloc)?;
         let name = self.parse_ident(alloc)?;
         let fields = self.parse_fields(alloc)?;
-        self.expect_rparen(alloc)?;
-        Ok(Variant { name, fields, pos })
+        self.close(alloc, Variant { name, fields, pos })
     }
 
     #[tactic(auto, unfolding(crate::specs::ReadTypes::fields))]
@@ -167,8 +165,7 @@ impl<'src> Parser<'src> {
         self.expect_lparen(alloc)?;
         let name = self.parse_ident(alloc)?;
         let ty = self.parse_ident(alloc)?;
-        self.expect_rparen(alloc)?;
-        Ok(StructField { name, ty, pos })
+        self.close(alloc, StructField { name, ty, pos })
     }
 
     fn parse_tuple_fields(&mut self, alloc: Global) -> Result<TupleFields, Stop>

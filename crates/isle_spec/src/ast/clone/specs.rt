@@ -324,8 +324,7 @@ fn copy_spec_lets(defs: &Vec<(Ident, SpecExpr)>) -> Result<Vec<(Ident, SpecExpr)
 {
     let mut copies = Vec::with_capacity(*defs.allocator(), defs.len())?;
     for def in defs {
-        let value = copy_spec(&def.1)?;
-        copies.push((def.0.clone()?, value))?;
+        copies.push((def.0.clone()?, copy_spec(&def.1)?))?;
     }
     Ok(copies)
 }
