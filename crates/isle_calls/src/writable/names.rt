@@ -46,10 +46,9 @@ fn yes() -> SpecExpr {
 }
 
 #[test]
-fn specs_by_themselves(rt: HostRuntime) -> Result<(), AllocError> {
+fn models_by_themselves(rt: HostRuntime) -> Result<(), AllocError> {
     let alloc = rt.alloc();
     assert!(rt; is_writable_model(&ModelType::Int));
-    assert!(rt; is_writable_spec(&yes()));
     let state = State {
         name: ident(alloc, "s")?,
         ty: ModelType::Int,
@@ -57,6 +56,13 @@ fn specs_by_themselves(rt: HostRuntime) -> Result<(), AllocError> {
         pos: pos(),
     };
     assert!(rt; is_writable_state(&state));
+    drop(state);
+    Ok(())
+}
+
+#[test]
+fn specs_by_themselves(rt: HostRuntime) -> Result<(), AllocError> {
+    let alloc = rt.alloc();
     let spec_macro = SpecMacro {
         name: ident(alloc, "m")?,
         params: Vec::new(alloc),
@@ -64,15 +70,20 @@ fn specs_by_themselves(rt: HostRuntime) -> Result<(), AllocError> {
         pos: pos(),
     };
     assert!(rt; is_writable_macro(&spec_macro));
+    assert!(rt; is_writable_spec(&spec_macro.body));
+    drop(spec_macro);
+    let mut provides = Vec::new(alloc);
+    provides.push(yes())?;
     let spec = Spec {
         term: ident(alloc, "f")?,
         args: Vec::new(alloc),
-        provides: vec![in alloc; yes()]?,
+        provides,
         requires_: Vec::new(alloc),
         matches: Vec::new(alloc),
         modifies: Vec::new(alloc),
         pos: pos(),
     };
     assert!(rt; is_writable_definition(&spec));
+    drop(spec);
     Ok(())
 }
