@@ -172,64 +172,64 @@ fn rule(alloc: Global) -> Result<Rule, AllocError> {
         subpat: Box::new(alloc, Pattern::Wildcard { pos })?,
         pos,
     };
-    let args = vec![in alloc;
-        bound,
-        Pattern::ConstBool { val: true, pos },
-        Pattern::ConstInt { val: -2, pos },
-        Pattern::ConstPrim {
-            val: ident(alloc, "c", 28)?,
-            pos
-        },
-        Pattern::And {
-            subpats: Vec::new(alloc),
-            pos
-        },
-        Pattern::MacroArg { index: 1, pos },
-    ]?;
-    let iflet = IfLet {
+    let mut args = Vec::new(alloc);
+    args.push(bound)?;
+    args.push(Pattern::ConstBool { val: true, pos })?;
+    args.push(Pattern::ConstInt { val: -2, pos })?;
+    args.push(Pattern::ConstPrim {
+        val: ident(alloc, "c", 28)?,
+        pos,
+    })?;
+    args.push(Pattern::And {
+        subpats: Vec::new(alloc),
+        pos,
+    })?;
+    args.push(Pattern::MacroArg { index: 1, pos })?;
+    let mut iflets = Vec::new(alloc);
+    iflets.push(IfLet {
         pattern: Pattern::Var {
             var: ident(alloc, "x", 47)?,
             pos,
         },
         expr: Expr::ConstBool { val: false, pos },
         pos,
-    };
-    let defined = LetDef {
+    })?;
+    let mut defs = Vec::new(alloc);
+    defs.push(LetDef {
         var: ident(alloc, "x", 63)?,
         ty: ident(alloc, "T", 65)?,
         val: Box::new(alloc, Expr::ConstInt { val: -3, pos })?,
         pos,
-    };
-    let given = vec![in alloc;
-        Expr::Var {
-            name: ident(alloc, "x", 75)?,
-            pos
-        },
-        Expr::ConstPrim {
-            val: ident(alloc, "c", 78)?,
-            pos
-        },
-    ]?;
-    let body = Expr::Term {
-        sym: ident(alloc, "f", 73)?,
-        args: given,
-        pos,
-    };
+    })?;
+    let body = Box::new(alloc, term_of_two(alloc)?)?;
+    let name = ident(alloc, "r", 6)?;
+    let sym = ident(alloc, "T", 12)?;
     Ok(Rule {
-        pattern: Pattern::Term {
-            sym: ident(alloc, "T", 12)?,
-            args,
-            pos,
-        },
-        iflets: vec![in alloc; iflet]?,
-        expr: Expr::Let {
-            defs: vec![in alloc; defined]?,
-            body: Box::new(alloc, body)?,
-            pos,
-        },
+        pattern: Pattern::Term { sym, args, pos },
+        iflets,
+        expr: Expr::Let { defs, body, pos },
         pos,
         prio: Some(-1),
-        name: Some(ident(alloc, "r", 6)?),
+        name: Some(name),
+    })
+}
+
+/// `(f x $c)`
+fn term_of_two(alloc: Global) -> Result<Expr, AllocError> {
+    let pos = Pos::new(0, 6);
+    let mut args = Vec::new(alloc);
+    args.push(Expr::Var {
+        name: ident(alloc, "x", 75)?,
+        pos,
+    })?;
+    args.push(Expr::ConstPrim {
+        val: ident(alloc, "c", 78)?,
+        pos,
+    })?;
+    Ok(Expr::Term {
+        sym: ident(alloc, "f", 73)?,
+        args,
+        pos,
     })
 }
 

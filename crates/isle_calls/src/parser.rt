@@ -2,8 +2,9 @@
 
 use isle_ast::ast::{Def, Pattern, SpecExpr};
 use isle_base::error::Error;
-use isle_base::lexer::{Fault, Lexer};
+use isle_base::lexer::{Fault, Lexer, Pos, Token};
 use isle_parser::parser::{Parser, parse, parse_without_pos};
+use std::alloc::AllocError;
 use std::test::*;
 
 // The message and the offset of a refusal.
@@ -13,7 +14,10 @@ fn refusal(rt: HostRuntime, text: &str) -> Result<(String, usize), Fail> {
         .ok_or("the text begins with a token")?;
     match parse(rt.alloc(), lexer) {
         Err(Fault::Error(Error::ParseError { msg, span })) => Ok((msg, span.from.offset)),
-        _ => Err("the text is refused".into()),
+        other => {
+            drop(other);
+            Err("the text is refused".into())
+        }
     }
 }
 
@@ -63,42 +67,57 @@ fn two_conversions_without_positions(rt: HostRuntime) -> Result<(), Fail> {
 
 #[test]
 fn refusals(rt: HostRuntime) -> Result<(), Fail> {
-    let (msg, offset) = refusal(rt, "(decl pure () T)")?;
-    assert_eq!(rt; msg.as_str(), "Unexpected token LParen");
-    assert_eq!(rt; offset, 11);
-    let (msg, offset) = refusal(rt, "(pragma x)")?;
-    assert_eq!(rt; msg.as_str(), "Unknown pragma 'x'");
-    assert_eq!(rt; offset, 8);
-    let (msg, offset) = refusal(rt, "(convert A B c")?;
-    assert_eq!(rt; msg.as_str(), "Unexpected EOF");
-    assert_eq!(rt; offset, 14);
-    let (msg, offset) = refusal(rt, "(convert A B 7)")?;
-    assert_eq!(rt; msg.as_str(), "Unexpected token Int(7)");
-    assert_eq!(rt; offset, 13);
-    let (msg, offset) = refusal(rt, "(decl f g T)")?;
-    assert_eq!(rt; msg.as_str(), "Unexpected token Symbol(\"g\")");
-    assert_eq!(rt; offset, 8);
-    let (msg, offset) = refusal(rt, "(decl ?f () T)")?;
-    assert_eq!(rt;
-        msg.as_str(),
-        "Identifier '?f' does not start with letter or _ or $"
-    );
-    assert_eq!(rt; offset, 6);
-    let (msg, offset) = refusal(rt, "(decl f? () T)")?;
-    assert_eq!(rt;
-        msg.as_str(),
-        "Identifier 'f?' contains invalid character (not a-z, A-Z, 0-9, _, ., $)"
-    );
-    assert_eq!(rt; offset, 6);
+    for (text, want, offset) in [
+        ("(decl pure () T)", "Unexpected token LParen", 11),
+        ("(pragma x)", "Unknown pragma 'x'", 8),
+        ("(convert A B c", "Unexpected EOF", 14),
+        ("(convert A B 7)", "Unexpected token Int(7)", 13),
+        ("(decl f g T)", "Unexpected token Symbol(\"g\")", 8),
+        (
+            "(decl ?f () T)",
+            "Identifier '?f' does not start with letter or _ or $",
+            6,
+        ),
+        (
+            "(decl f? () T)",
+            "Identifier 'f?' contains invalid character (not a-z, A-Z, 0-9, _, ., $)",
+            6,
+        ),
+    ] {
+        let (msg, at) = refusal(rt, text)?;
+        assert_eq!(rt; msg.as_str(), want, "the text {text}");
+        assert_eq!(rt; at, offset, "the text {text}");
+    }
     Ok(())
+}
+
+// Whether the lexer, whose answer ends here, refused what is ahead.
+fn is_refusal(next: Result<Option<(Pos, Token)>, Fault>) -> bool {
+    let answer = matches!(&next, Err(Fault::Error(_)));
+    drop(next);
+    answer
+}
+
+// Whether the parser, whose answer ends here, was given a lexer that had failed.
+fn is_failed(parsed: Result<Vec<Def>, Fault>) -> bool {
+    let answer = matches!(&parsed, Err(Fault::Failed));
+    drop(parsed);
+    answer
 }
 
 #[test]
 fn a_failed_lexer(rt: HostRuntime) -> Result<(), Fail> {
     let mut lexer = Lexer::new(rt.alloc(), 3, "( \u{c}").ok().ok_or("a token")?;
-    assert!(rt; matches!(lexer.next(rt.alloc()), Err(Fault::Error(_))));
-    assert!(rt; matches!(parse(rt.alloc(), lexer), Err(Fault::Failed)));
+    assert!(rt; is_refusal(lexer.next(rt.alloc())));
+    assert!(rt; is_failed(parse(rt.alloc(), lexer)));
     Ok(())
+}
+
+// Whether there is a copy, which ends here.
+fn is_copied(copy: Result<Parser, AllocError>) -> bool {
+    let answer = copy.is_ok();
+    drop(copy);
+    answer
 }
 
 #[test]
@@ -108,15 +127,25 @@ fn a_copy_of_a_parser(rt: HostRuntime) -> Result<(), Fail> {
             .ok()
             .ok_or("a token")?,
     );
-    assert!(rt; parser.clone().is_ok());
+    assert!(rt; is_copied(parser.clone()));
     Ok(())
+}
+
+// Whether the parser, whose answer ends here, accepted its text.
+fn is_read(parsed: Result<Vec<Def>, Fault>) -> bool {
+    let answer = parsed.is_ok();
+    drop(parsed);
+    answer
 }
 
 // Whether a text is accepted.
 fn is_accepted(rt: HostRuntime, text: &str) -> bool {
     match Lexer::new(rt.alloc(), 3, text) {
-        Ok(lexer) => parse(rt.alloc(), lexer).is_ok(),
-        Err(_) => false,
+        Ok(lexer) => is_read(parse(rt.alloc(), lexer)),
+        Err(fault) => {
+            drop(fault);
+            false
+        }
     }
 }
 
@@ -157,63 +186,70 @@ fn kinds_are_accepted(rt: HostRuntime) -> Result<(), Fail> {
 
 #[test]
 fn kinds_are_refused(rt: HostRuntime) -> Result<(), Fail> {
-    let (msg, offset) = refusal(rt, "(type A fast (primitive A))")?;
-    assert_eq!(rt; msg.as_str(), "unknown type declaration modifier: fast");
-    assert_eq!(rt; offset, 13);
-    let (msg, offset) = refusal(rt, "(type A (union A))")?;
-    assert_eq!(rt; msg.as_str(), "Unknown type definition");
-    assert_eq!(rt; offset, 8);
-    let (msg, offset) = refusal(rt, "(attr t (slow x))")?;
-    assert_eq!(rt; msg.as_str(), "Not a valid attribute: slow");
-    assert_eq!(rt; offset, 9);
-    let (msg, offset) = refusal(rt, "(attr t (veri x))")?;
-    assert_eq!(rt; msg.as_str(), "Not a valid verification attribute: x");
-    assert_eq!(rt; offset, 14);
-    let (msg, offset) = refusal(rt, "(model A (union A))")?;
-    assert_eq!(rt; msg.as_str(), "Model must be a type or const");
-    assert_eq!(rt; offset, 7);
-    let (msg, offset) = refusal(rt, "(model A (type (bv 18446744073709551616)))")?;
-    assert_eq!(rt;
-        msg.as_str(),
-        "Invalid BitVector width: out of range integral type conversion attempted"
-    );
-    assert_eq!(rt; offset, 15);
-    let (msg, offset) = refusal(rt, "(model A (type (bv x)))")?;
-    assert_eq!(rt; msg.as_str(), "Badly formed BitVector (bv ...)");
-    assert_eq!(rt; offset, 15);
-    let (msg, offset) = refusal(rt, "(model A (type (x)))")?;
-    assert_eq!(rt;
-        msg.as_str(),
-        "Badly formed model: should be BitVector (bv ...) or Struct (struct ...)"
-    );
-    assert_eq!(rt; offset, 15);
-    let (msg, offset) = refusal(rt, "(model A (type A))")?;
-    assert_eq!(rt;
-        msg.as_str(),
-        "Model type be a Bool, Int, BitVector (bv ...) or Struct (struct ...)"
-    );
-    assert_eq!(rt; offset, 15);
-    let (msg, offset) = refusal(rt, "(form f ((arg) (ret Int)))")?;
-    assert_eq!(rt; msg.as_str(), "Invalid args: expected (args <arg> ...)");
-    assert_eq!(rt; offset, 10);
-    let (msg, offset) = refusal(rt, "(form f ((args) (rets Int)))")?;
-    assert_eq!(rt; msg.as_str(), "Invalid ret: expected (ret <arg>)");
-    assert_eq!(rt; offset, 17);
-    let (msg, offset) = refusal(rt, "(instantiate t f (tags a))")?;
-    assert_eq!(rt; msg.as_str(), "Not a valid instantiate attribute: tags");
-    assert_eq!(rt; offset, 18);
-    let (msg, offset) = refusal(rt, "(extern x a b)")?;
-    assert_eq!(rt;
-        msg.as_str(),
-        "Invalid extern: must be (extern constructor ...), (extern extractor ...) or (extern const ...)"
-    );
-    assert_eq!(rt; offset, 8);
-    let (msg, offset) = refusal(rt, "(extern const A T)")?;
-    assert_eq!(rt;
-        msg.as_str(),
-        "Not a constant identifier; must start with a '$'"
-    );
-    assert_eq!(rt; offset, 14);
+    for (text, want, offset) in [
+        (
+            "(type A fast (primitive A))",
+            "unknown type declaration modifier: fast",
+            13,
+        ),
+        ("(type A (union A))", "Unknown type definition", 8),
+        ("(attr t (slow x))", "Not a valid attribute: slow", 9),
+        (
+            "(attr t (veri x))",
+            "Not a valid verification attribute: x",
+            14,
+        ),
+        ("(model A (union A))", "Model must be a type or const", 7),
+        (
+            "(model A (type (bv 18446744073709551616)))",
+            "Invalid BitVector width: out of range integral type conversion attempted",
+            15,
+        ),
+        (
+            "(model A (type (bv x)))",
+            "Badly formed BitVector (bv ...)",
+            15,
+        ),
+        (
+            "(model A (type (x)))",
+            "Badly formed model: should be BitVector (bv ...) or Struct (struct ...)",
+            15,
+        ),
+        (
+            "(model A (type A))",
+            "Model type be a Bool, Int, BitVector (bv ...) or Struct (struct ...)",
+            15,
+        ),
+        (
+            "(form f ((arg) (ret Int)))",
+            "Invalid args: expected (args <arg> ...)",
+            10,
+        ),
+        (
+            "(form f ((args) (rets Int)))",
+            "Invalid ret: expected (ret <arg>)",
+            17,
+        ),
+        (
+            "(instantiate t f (tags a))",
+            "Not a valid instantiate attribute: tags",
+            18,
+        ),
+        (
+            "(extern x a b)",
+            "Invalid extern: must be (extern constructor ...), (extern extractor ...) or (extern const ...)",
+            8,
+        ),
+        (
+            "(extern const A T)",
+            "Not a constant identifier; must start with a '$'",
+            14,
+        ),
+    ] {
+        let (msg, at) = refusal(rt, text)?;
+        assert_eq!(rt; msg.as_str(), want, "the text {text}");
+        assert_eq!(rt; at, offset, "the text {text}");
+    }
     Ok(())
 }
 
@@ -243,42 +279,33 @@ fn rules_are_accepted(rt: HostRuntime) -> Result<(), Fail> {
 
 #[test]
 fn rules_are_refused(rt: HostRuntime) -> Result<(), Fail> {
-    let (msg, offset) = refusal(rt, "(rule f? (f) x)")?;
-    assert_eq!(rt;
-        msg.as_str(),
-        "Invalid rule name: Identifier 'f?' contains invalid character (not a-z, A-Z, 0-9, _, ., $)"
-    );
-    assert_eq!(rt; offset, 6);
-    let (msg, offset) = refusal(rt, "(rule r 9223372036854775808 (f) x)")?;
-    assert_eq!(rt;
-        msg.as_str(),
-        "Invalid rule priority: out of range integral type conversion attempted"
-    );
-    assert_eq!(rt; offset, 6);
-    let (msg, offset) = refusal(rt, "(rule r 1)")?;
-    assert_eq!(rt; msg.as_str(), "Unexpected pattern");
-    assert_eq!(rt; offset, 9);
-    let (msg, offset) = refusal(rt, "(rule (f) @)")?;
-    assert_eq!(rt; msg.as_str(), "Invalid expression");
-    assert_eq!(rt; offset, 10);
-    let (msg, offset) = refusal(rt, "(rule (f) (if x))")?;
-    assert_eq!(rt; msg.as_str(), "Invalid expression");
-    assert_eq!(rt; offset, 16);
-    let (msg, offset) = refusal(rt, "(rule (f x y")?;
-    assert_eq!(rt; msg.as_str(), "Unexpected pattern");
-    assert_eq!(rt; offset, 12);
-    let (msg, offset) = refusal(rt, "(rule (f) (g (if-let a b)))")?;
-    assert_eq!(rt;
-        msg.as_str(),
-        "Identifier 'if-let' contains invalid character (not a-z, A-Z, 0-9, _, ., $)"
-    );
-    assert_eq!(rt; offset, 14);
-    let (msg, offset) = refusal(rt, "(rule (f) x x)")?;
-    assert_eq!(rt; msg.as_str(), "Unexpected token Symbol(\"x\")");
-    assert_eq!(rt; offset, 12);
-    let (msg, offset) = refusal(rt, "(extractor A x)")?;
-    assert_eq!(rt; msg.as_str(), "Unexpected token Symbol(\"A\")");
-    assert_eq!(rt; offset, 11);
+    for (text, want, offset) in [
+        (
+            "(rule f? (f) x)",
+            "Invalid rule name: Identifier 'f?' contains invalid character (not a-z, A-Z, 0-9, _, ., $)",
+            6,
+        ),
+        (
+            "(rule r 9223372036854775808 (f) x)",
+            "Invalid rule priority: out of range integral type conversion attempted",
+            6,
+        ),
+        ("(rule r 1)", "Unexpected pattern", 9),
+        ("(rule (f) @)", "Invalid expression", 10),
+        ("(rule (f) (if x))", "Invalid expression", 16),
+        ("(rule (f x y", "Unexpected pattern", 12),
+        (
+            "(rule (f) (g (if-let a b)))",
+            "Identifier 'if-let' contains invalid character (not a-z, A-Z, 0-9, _, ., $)",
+            14,
+        ),
+        ("(rule (f) x x)", "Unexpected token Symbol(\"x\")", 12),
+        ("(extractor A x)", "Unexpected token Symbol(\"A\")", 11),
+    ] {
+        let (msg, at) = refusal(rt, text)?;
+        assert_eq!(rt; msg.as_str(), want, "the text {text}");
+        assert_eq!(rt; at, offset, "the text {text}");
+    }
     Ok(())
 }
 
@@ -346,74 +373,68 @@ fn specs_are_accepted(rt: HostRuntime) -> Result<(), Fail> {
 
 #[test]
 fn spec_expressions_are_refused(rt: HostRuntime) -> Result<(), Fail> {
-    let (msg, offset) = refusal(rt, "(macro (f) @)")?;
-    assert_eq!(rt; msg.as_str(), "Unexpected spec expression");
-    assert_eq!(rt; offset, 11);
-    let (msg, offset) = refusal(rt, "(macro (f) (1))")?;
-    assert_eq!(rt; msg.as_str(), "Unexpected spec expression");
-    assert_eq!(rt; offset, 11);
-    let (msg, offset) = refusal(rt, "(macro (f) (#b1))")?;
-    assert_eq!(rt; msg.as_str(), "Unexpected spec expression");
-    assert_eq!(rt; offset, 11);
-    let (msg, offset) = refusal(rt, "(macro (f) (= 1 (x)))")?;
-    assert_eq!(rt; msg.as_str(), "Unexpected spec expression");
-    assert_eq!(rt; offset, 16);
-    let (msg, offset) = refusal(rt, "(macro (f) (&? x))")?;
-    assert_eq!(rt;
-        msg.as_str(),
-        "Identifier '&' does not start with letter or _ or $"
-    );
-    assert_eq!(rt; offset, 12);
-    let (msg, offset) = refusal(rt, "(macro (f) (: x))")?;
-    assert_eq!(rt; msg.as_str(), "empty symbol");
-    assert_eq!(rt; offset, 12);
-    let (msg, offset) = refusal(rt, "(macro (f) (a.&b y))")?;
-    assert_eq!(rt;
-        msg.as_str(),
-        "Identifier '&b' does not start with letter or _ or $"
-    );
-    assert_eq!(rt; offset, 11);
-    let (msg, offset) = refusal(rt, "(macro (f) #b2)")?;
-    assert_eq!(rt; msg.as_str(), "Not a constant binary bit vector");
-    assert_eq!(rt; offset, 11);
-    let (msg, offset) = refusal(rt, "(macro (f) #xG)")?;
-    assert_eq!(rt; msg.as_str(), "Not a constant hex bit vector");
-    assert_eq!(rt; offset, 11);
-    let (msg, offset) = refusal(rt, "(macro (f) (switch x y))")?;
-    assert_eq!(rt; msg.as_str(), "Unexpected token Symbol(\"y\")");
-    assert_eq!(rt; offset, 21);
-    let (msg, offset) = refusal(rt, "(macro f x)")?;
-    assert_eq!(rt; msg.as_str(), "Unexpected token Symbol(\"f\")");
-    assert_eq!(rt; offset, 7);
+    for (text, want, offset) in [
+        ("(macro (f) @)", "Unexpected spec expression", 11),
+        ("(macro (f) (1))", "Unexpected spec expression", 11),
+        ("(macro (f) (#b1))", "Unexpected spec expression", 11),
+        ("(macro (f) (= 1 (x)))", "Unexpected spec expression", 16),
+        (
+            "(macro (f) (&? x))",
+            "Identifier '&' does not start with letter or _ or $",
+            12,
+        ),
+        ("(macro (f) (: x))", "empty symbol", 12),
+        (
+            "(macro (f) (a.&b y))",
+            "Identifier '&b' does not start with letter or _ or $",
+            11,
+        ),
+        ("(macro (f) #b2)", "Not a constant binary bit vector", 11),
+        ("(macro (f) #xG)", "Not a constant hex bit vector", 11),
+        (
+            "(macro (f) (switch x y))",
+            "Unexpected token Symbol(\"y\")",
+            21,
+        ),
+        ("(macro f x)", "Unexpected token Symbol(\"f\")", 7),
+    ] {
+        let (msg, at) = refusal(rt, text)?;
+        assert_eq!(rt; msg.as_str(), want, "the text {text}");
+        assert_eq!(rt; at, offset, "the text {text}");
+    }
     Ok(())
 }
 
 #[test]
 fn specs_are_refused(rt: HostRuntime) -> Result<(), Fail> {
-    let (msg, offset) = refusal(rt, "(spec (f) (provided x))")?;
-    assert_eq!(rt;
-        msg.as_str(),
-        "Invalid spec: unexpected field provided. Expect (provide ...), (require ...) or (match ...)"
-    );
-    assert_eq!(rt; offset, 6);
-    let (msg, offset) = refusal(rt, "(spec (f) (modifies s c?))")?;
-    assert_eq!(rt;
-        msg.as_str(),
-        "Invalid modifies condition: Identifier 'c?' contains invalid character (not a-z, A-Z, 0-9, _, ., $)"
-    );
-    assert_eq!(rt; offset, 6);
-    let (msg, offset) = refusal(rt, "(spec (f) x)")?;
-    assert_eq!(rt; msg.as_str(), "Unexpected token Symbol(\"x\")");
-    assert_eq!(rt; offset, 10);
-    let (msg, offset) = refusal(rt, "(state s (type Int) (defaults 1))")?;
-    assert_eq!(rt; msg.as_str(), "Invalid default: expected (default <expr>)");
-    assert_eq!(rt; offset, 21);
-    let (msg, offset) = refusal(rt, "(state s (tipe Int) (default 1))")?;
-    assert_eq!(rt; msg.as_str(), "Invalid type: expected (type <arg>)");
-    assert_eq!(rt; offset, 10);
-    let (msg, offset) = refusal(rt, "(model A (const))")?;
-    assert_eq!(rt; msg.as_str(), "Unexpected spec expression");
-    assert_eq!(rt; offset, 15);
+    for (text, want, offset) in [
+        (
+            "(spec (f) (provided x))",
+            "Invalid spec: unexpected field provided. Expect (provide ...), (require ...) or (match ...)",
+            6,
+        ),
+        (
+            "(spec (f) (modifies s c?))",
+            "Invalid modifies condition: Identifier 'c?' contains invalid character (not a-z, A-Z, 0-9, _, ., $)",
+            6,
+        ),
+        ("(spec (f) x)", "Unexpected token Symbol(\"x\")", 10),
+        (
+            "(state s (type Int) (defaults 1))",
+            "Invalid default: expected (default <expr>)",
+            21,
+        ),
+        (
+            "(state s (tipe Int) (default 1))",
+            "Invalid type: expected (type <arg>)",
+            10,
+        ),
+        ("(model A (const))", "Unexpected spec expression", 15),
+    ] {
+        let (msg, at) = refusal(rt, text)?;
+        assert_eq!(rt; msg.as_str(), want, "the text {text}");
+        assert_eq!(rt; at, offset, "the text {text}");
+    }
     Ok(())
 }
 

@@ -217,19 +217,23 @@ fn prints_parts_of_specs(rt: HostRuntime) -> Result<(), Fail> {
         pos,
     };
     assert_eq!(rt; print_node(alloc, &arm, 78)?.as_str(), "((A x y) z)");
+    drop(arm);
     let field = FieldInit {
         name: ident(alloc, "a")?,
         value: boxed(alloc, "x")?,
         pos,
     };
     assert_eq!(rt; print_node(alloc, &field, 78)?.as_str(), "(a x)");
+    drop(field);
     let always = Modifies {
         state: ident(alloc, "s")?,
         cond: None,
     };
     assert_eq!(rt; print_node(alloc, &always, 78)?.as_str(), "(modifies s)");
+    drop(always);
     let value = ModelValue::ConstValue(bit_vector(1, 1));
     assert_eq!(rt; print_node(alloc, &value, 78)?.as_str(), "(const #b1)");
+    drop(value);
     Ok(())
 }
 

@@ -45,7 +45,10 @@ fn rule(
 
 /// Whether a pattern is writable, as that of a rule with a priority and without a name.
 fn is_pattern(alloc: Global, pattern: Pattern) -> Result<bool, AllocError> {
-    Ok(rule(pattern, value(alloc, "e")?, Some(-1), None, alloc).is_writable())
+    let def = rule(pattern, value(alloc, "e")?, Some(-1), None, alloc);
+    let answer = def.is_writable();
+    drop(def);
+    Ok(answer)
 }
 
 /// Whether an expression is writable, as that of a condition.

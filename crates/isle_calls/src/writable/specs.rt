@@ -13,7 +13,9 @@ fn is_spec(alloc: Global, expr: SpecExpr) -> Result<bool, AllocError> {
         name: ident(alloc, "A")?,
         val: ModelValue::ConstValue(expr),
     });
-    Ok(model.is_writable())
+    let answer = model.is_writable();
+    drop(model);
+    Ok(answer)
 }
 
 fn var(alloc: Global, name: &str) -> Result<SpecExpr, AllocError> {
@@ -190,23 +192,22 @@ fn words(alloc: Global, name: &str, x: &str) -> Result<Vec<SpecExpr>, AllocError
 
 /// The forms with names of their own: `(let ((NAME x)) y)`, `(with (NAME) x)` and `(macro (NAME) x)`.
 fn binders(alloc: Global, name: &str, x: &str) -> Result<Vec<SpecExpr>, AllocError> {
-    let exprs = vec![in alloc;
-        SpecExpr::Let {
-            defs: vec![in alloc; (ident(alloc, name)?, var(alloc, x)?)]?,
-            body: Box::new(alloc, var(alloc, "y")?)?,
-            pos: pos(),
-        },
-        SpecExpr::With {
-            decls: vec![in alloc; ident(alloc, name)?]?,
-            body: Box::new(alloc, var(alloc, x)?)?,
-            pos: pos(),
-        },
-        SpecExpr::Macro {
-            params: vec![in alloc; ident(alloc, name)?]?,
-            body: Box::new(alloc, var(alloc, x)?)?,
-            pos: pos(),
-        },
-    ]?;
+    let mut exprs = Vec::new(alloc);
+    exprs.push(SpecExpr::Let {
+        defs: vec![in alloc; (ident(alloc, name)?, var(alloc, x)?)]?,
+        body: Box::new(alloc, var(alloc, "y")?)?,
+        pos: pos(),
+    })?;
+    exprs.push(SpecExpr::With {
+        decls: vec![in alloc; ident(alloc, name)?]?,
+        body: Box::new(alloc, var(alloc, x)?)?,
+        pos: pos(),
+    })?;
+    exprs.push(SpecExpr::Macro {
+        params: vec![in alloc; ident(alloc, name)?]?,
+        body: Box::new(alloc, var(alloc, x)?)?,
+        pos: pos(),
+    })?;
     Ok(exprs)
 }
 
