@@ -11,18 +11,18 @@ use Rattle.std.specs.declared.cmp.Ordering.TheVariants.{Less, Equal, Greater}
 use Rattle.isle_base.specs.PositionOrder.{IsInRange, position_cmp, position_hash}
 use Rattle.isle_base.specs.declared.lexer.Pos.{Pos}
 
-both_equal : (o p : Ordering) → ordering_then o p ≡ Equal → (o ≡ Equal) × (p ≡ Equal)
+pub both_equal : (o p : Ordering) → ordering_then o p ≡ Equal → (o ≡ Equal) × (p ≡ Equal)
 both_equal Less p e = cc
 both_equal Equal p e = (refl, e)
 both_equal Greater p e = cc
 
-numbers_equal : (x y : ℕ) → nat_cmp x y ≡ Equal → x ≡ y
+pub numbers_equal : (x y : ℕ) → nat_cmp x y ≡ Equal → x ≡ y
 numbers_equal x y e = grind (arith, nat_tests)
 
-number_itself : (x : ℕ) → nat_cmp x x ≡ Equal
+pub number_itself : (x : ℕ) → nat_cmp x x ≡ Equal
 number_itself x = grind (arith, nat_tests)
 
-then_equal : (o p : Ordering) → o ≡ Equal → p ≡ Equal → ordering_then o p ≡ Equal
+pub then_equal : (o p : Ordering) → o ≡ Equal → p ≡ Equal → ordering_then o p ≡ Equal
 then_equal o p e f = ap (λ x. ordering_then x p) e ∙ f
 
 pub positions_equal : (p q : Pos) → position_cmp p q ≡ Equal → p ≡ q

@@ -22,6 +22,13 @@ fn ident(alloc: Global, text: &str) -> Result<Ident, AllocError> {
     Ok(Ident(String::from_str(alloc, text)?, pos()))
 }
 
+/// Whether a definition is writable, which ends here.
+fn is_writable(def: Def) -> bool {
+    let answer = def.is_writable();
+    drop(def);
+    answer
+}
+
 fn converter(alloc: Global, term: &str) -> Result<Def, AllocError> {
     Ok(Def::Converter(Converter {
         term: ident(alloc, term)?,

@@ -1,23 +1,11 @@
 -- Names that are equal in order are equal.
-use Rattle.std.proofs.Common.{◌≡◌, ℕ, List, [], ◌∷◌, refl, ap, subst, sym, ◌∙◌, arith}
-use Rattle.std.proofs.lemmas.Bool.Decides.{nat_tests}
+use Rattle.std.proofs.Common.{◌≡◌, ℕ, List, [], ◌∷◌, refl, subst, sym}
 use Rattle.std.specs.Cmp.Lexicographic.{slice_cmp}
 use Rattle.std.specs.Ordering.{nat_cmp, ordering_then}
-use Rattle.std.specs.declared.cmp.Ordering.{Ordering}
-use Rattle.std.specs.declared.cmp.Ordering.TheVariants.{Less, Equal, Greater}
+use Rattle.std.specs.declared.cmp.Ordering.TheVariants.{Equal}
+use Rattle.isle_base.proofs.PositionOrders.{both_equal, numbers_equal, number_itself, then_equal}
 use Rattle.isle_spec.specs.NameOrder.{name_cmp}
 use Rattle.isle_spec.specs.Tree.{Name}
-
-both_equal : (o p : Ordering) → ordering_then o p ≡ Equal → (o ≡ Equal) × (p ≡ Equal)
-both_equal Less p e = cc
-both_equal Equal p e = (refl, e)
-both_equal Greater p e = cc
-
-numbers_equal : (x y : ℕ) → nat_cmp x y ≡ Equal → x ≡ y
-numbers_equal x y e = grind (arith, nat_tests)
-
-number_itself : (x : ℕ) → nat_cmp x x ≡ Equal
-number_itself x = grind (arith, nat_tests)
 
 texts_equal : (xs ys : List ℕ) → slice_cmp nat_cmp xs ys ≡ Equal → xs ≡ ys
 texts_equal [] [] e = refl
@@ -32,9 +20,6 @@ texts_equal (x ∷ xs) (y ∷ ys) e =
 text_itself : (xs : List ℕ) → slice_cmp nat_cmp xs xs ≡ Equal
 text_itself [] = refl
 text_itself (x ∷ xs) = subst (λ o. ordering_then o (slice_cmp nat_cmp xs xs) ≡ Equal) (sym (number_itself x)) (text_itself xs)
-
-then_equal : (o p : Ordering) → o ≡ Equal → p ≡ Equal → ordering_then o p ≡ Equal
-then_equal o p e f = ap (λ x. ordering_then x p) e ∙ f
 
 pub names_equal : (m n : Name) → name_cmp m n ≡ Equal → m ≡ n
 names_equal m n e =

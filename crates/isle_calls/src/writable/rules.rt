@@ -1,6 +1,6 @@
 //! Rules, their patterns and their expressions.
 
-use super::{ident, pos};
+use super::{ident, is_writable, pos};
 use isle_ast::ast::{Def, Expr, Extractor, Ident, IfLet, LetDef, Pattern, Rule};
 use std::alloc::{AllocError, Global};
 
@@ -45,10 +45,7 @@ fn rule(
 
 /// Whether a pattern is writable, as that of a rule with a priority and without a name.
 fn is_pattern(alloc: Global, pattern: Pattern) -> Result<bool, AllocError> {
-    let def = rule(pattern, value(alloc, "e")?, Some(-1), None, alloc);
-    let answer = def.is_writable();
-    drop(def);
-    Ok(answer)
+    Ok(is_writable(rule(pattern, value(alloc, "e")?, Some(-1), None, alloc)))
 }
 
 /// Whether an expression is writable, as that of a condition.
@@ -66,7 +63,7 @@ fn is_expr(alloc: Global, expr: Expr) -> Result<bool, AllocError> {
         prio: None,
         name: Some(ident(alloc, "r")?),
     };
-    Ok(Def::Rule(rule).is_writable())
+    Ok(is_writable(Def::Rule(rule)))
 }
 
 /// Whether a rule with this pattern is writable: with a priority or not, and with a name or not.
@@ -80,7 +77,7 @@ fn is_rule(
         Some(name) => Some(ident(alloc, name)?),
         None => None,
     };
-    Ok(rule(pattern, value(alloc, "e")?, prio, name, alloc).is_writable())
+    Ok(is_writable(rule(pattern, value(alloc, "e")?, prio, name, alloc)))
 }
 
 #[test]

@@ -1,6 +1,6 @@
 //! Specs, their macros and states, and constants of models.
 
-use super::{ident, pos};
+use super::{ident, is_writable, pos};
 use isle_ast::ast::{
     Arm, Def, FieldInit, Model, ModelType, ModelValue, Modifies, Spec, SpecExpr, SpecMacro, SpecOp,
     State,
@@ -13,9 +13,7 @@ fn is_spec(alloc: Global, expr: SpecExpr) -> Result<bool, AllocError> {
         name: ident(alloc, "A")?,
         val: ModelValue::ConstValue(expr),
     });
-    let answer = model.is_writable();
-    drop(model);
-    Ok(answer)
+    Ok(is_writable(model))
 }
 
 fn var(alloc: Global, name: &str) -> Result<SpecExpr, AllocError> {
