@@ -5,6 +5,7 @@ use isle_base::files::Files;
 use isle_base::lexer::Pos;
 use std::alloc::{AllocError, Global};
 use std::fmt::{self, Write};
+use std::ops::Range;
 use std::rc::Rc;
 use std::test::Fail;
 
@@ -37,6 +38,14 @@ fn two_errors(alloc: Global) -> Result<ErrorsBuilder, AllocError> {
             .files(files)
             .errors(vec![in alloc; shadowed, parse]?),
     )
+}
+
+#[test]
+fn a_span_is_a_range_of_bytes(rt: HostRuntime) -> Result<(), Fail> {
+    let range = Range::from(&Span::new_single(Pos::new(1, 5)));
+    assert_eq!(rt; range.start, 5);
+    assert_eq!(rt; range.end, 6);
+    Ok(())
 }
 
 #[test]

@@ -23,6 +23,10 @@ fn knows_names_texts_and_lines(rt: HostRuntime) -> Result<(), Fail> {
     assert_eq!(rt; map.line(7), 1);
     assert_eq!(rt; map.get(0), Some(&7));
     assert_eq!(rt; map.get(1), None);
+    match map.get(0) {
+        Some(end) => assert_eq!(rt; map[0], *end),
+        None => return Err("the text has a line feed".into()),
+    }
     assert_eq!(rt; LineMap::default(alloc).line(100), 0);
     assert!(rt; Files::default(alloc).file_name(0).is_none());
 

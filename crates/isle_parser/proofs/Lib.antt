@@ -5,6 +5,7 @@ pub mod Names
 pub mod Keywords
 pub mod Flags
 pub mod Choices
+pub mod OptionalNames
 pub mod ReadsModels
 pub mod ReadsForms
 pub mod ReadsTerms

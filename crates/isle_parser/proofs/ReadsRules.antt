@@ -10,44 +10,19 @@ use Rattle.isle_spec.specs.Words.{SpellsAll, InParentheses, SpellsName, SpellsOp
 use Rattle.isle_ast.specs.PatternGrammar.{SpellsPattern}
 use Rattle.isle_ast.specs.RuleGrammar.{is_list_pattern, is_int_pattern, pattern_is_no_head, SpellsRule, SpellsExtractor}
 use Rattle.isle_parser.specs.Reading.{◌>>=◌, is_ahead, closes, pos_ahead, in_parentheses, many}
-use Rattle.isle_parser.specs.ReadNames.{name}
+use Rattle.isle_parser.specs.ReadNames.{name, optional_name}
 use Rattle.isle_parser.specs.ReadNumbers.{signed}
 use Rattle.isle_parser.specs.ReadPatterns.{pattern}
-use Rattle.isle_parser.specs.ReadRules.{RightSide, rule_name, priority, right_side, rule_definition, head_inside, extractor_definition}
+use Rattle.isle_parser.specs.ReadRules.{RightSide, priority, right_side, rule_definition, head_inside, extractor_definition}
 use Rattle.isle_parser.proofs.Choices.{made_of, CompleteClosed, row_sound, row_complete, position_of, begins_here, opened_at}
 use Rattle.isle_parser.proofs.Names.{name_sound, name_read, name_complete, name_begins}
+use Rattle.isle_parser.proofs.OptionalNames.{ReadsName, optional_name_sound, optional_name_complete, name_spelt}
 use Rattle.isle_parser.proofs.ReadsConditions.{SpellsRightSide, right_side_sound, right_side_complete, right_side_begins}
 use Rattle.isle_parser.proofs.ReadsNumbers.{signed_sound, signed_complete, signed_begins}
 use Rattle.isle_parser.proofs.ReadsPatterns.{pattern_begins, pattern_sound, pattern_complete}
 use Rattle.isle_parser.proofs.Readers.{Sound, Goes, begins_node, bind_some, chosen, done_is, moved, begins_goes, stopping_closes, row_shorter, parentheses_sound, parentheses_complete, parentheses_begin}
 
--- ---- names and priorities
-
--- a name as it is read: where there is none, no symbol is ahead
-abbrev ReadsName : Option Name → List Placed → List Placed → Type 0
-ReadsName None all rest = (all ≡ rest) × (is_ahead is_symbol all ≡ false)
-ReadsName (Some n) all rest = SpellsName n all rest
-
-rule_name_sound : Sound ReadsName rule_name
-unfolding rule_name
-rule_name_sound all rest n e =
-    elim (chosen (is_ahead is_symbol all) (name all >>= λ n. Some (Some n.0, n.1)) (Some (None, all)) (Some (n, rest)) e) [
-      | inl h ↦
-          let m = made_of (λ (m : Name). Some m) h.1 in
-          subst (λ (n : Option Name). ReadsName n all rest) m.2 (name_sound all rest m.0 m.1)
-      | inr h ↦ moved ReadsName None n all all rest (done_is None n all rest h.1) (refl, h.0)
-    ]
-
-rule_name_complete : (n : Option Name) (all rest : List Placed) → ReadsName n all rest → rule_name all ≡ Some (n, rest)
-unfolding rule_name
-rule_name_complete None all rest h = rw h.1 (ap (λ (r : List Placed). Some (None, r)) h.0)
-rule_name_complete (Some n) all rest h =
-    let here : is_ahead is_symbol all ≡ true = rw h.1 refl in
-    rw (here, name_read n all rest h) refl
-
-name_spelt : (n : Option Name) (all rest : List Placed) → ReadsName n all rest → SpellsOptional SpellsName n all rest
-name_spelt None all rest h = h.0
-name_spelt (Some n) all rest h = h
+-- ---- priorities
 
 -- a priority as it is read: where there is none, no integer is ahead
 abbrev ReadsPriority : Option ℤ → List Placed → List Placed → Type 0
@@ -192,13 +167,13 @@ made n prio p r place = record { pattern = p; iflets = r.0; expr = r.1; pos = pl
 pub rule_sound : Sound SpellsRule rule_definition
 unfolding rule_definition
 rule_sound all rest r e =
-    let n = bind_some (rule_name all) (λ n. priority n.1 >>= λ prio. pattern prio.1 >>= λ p. right_side p.1 >>= λ s. Some (made n.0 prio.0 p.0 s.0 (pos_ahead all), s.1)) (r, rest) e in
+    let n = bind_some (optional_name all) (λ n. priority n.1 >>= λ prio. pattern prio.1 >>= λ p. right_side p.1 >>= λ s. Some (made n.0 prio.0 p.0 s.0 (pos_ahead all), s.1)) (r, rest) e in
     let prio = bind_some (priority n.0.1) (λ prio. pattern prio.1 >>= λ p. right_side p.1 >>= λ s. Some (made n.0.0 prio.0 p.0 s.0 (pos_ahead all), s.1)) (r, rest) n.2 in
     let p = bind_some (pattern prio.0.1) (λ p. right_side p.1 >>= λ s. Some (made n.0.0 prio.0.0 p.0 s.0 (pos_ahead all), s.1)) (r, rest) prio.2 in
     let s = bind_some (right_side p.0.1) (λ s. Some (made n.0.0 prio.0.0 p.0.0 s.0 (pos_ahead all), s.1)) (r, rest) p.2 in
     let node : RuleDefinition = made n.0.0 prio.0.0 p.0.0 s.0.0 (pos_ahead all) in
     let is = done_is node r s.0.1 rest s.2 in
-    let named = rule_name_sound all n.0.1 n.0.0 n.1 in
+    let named = optional_name_sound all n.0.1 n.0.0 n.1 in
     let ranked = priority_sound n.0.1 prio.0.1 prio.0.0 prio.1 in
     let spelt = pattern_sound prio.0.1 p.0.1 p.0.0 p.1 in
     let side = right_side_sound p.0.1 s.0.1 s.0.0 s.1 in
@@ -230,7 +205,7 @@ rule_complete r all rest h =
     let left = left_read r.name r.prio r.pattern all h.behind_name h.behind_prio h.behind_pattern h.pattern_is_no_head h.name h.prio h.pattern in
     let side = right_side_of r all rest h in
     let goes : Goes h.behind_pattern = begins_goes h.behind_pattern (right_side_begins (r.iflets, r.expr) h.behind_pattern rest side).0 in
-    rw (rule_name_complete r.name all h.behind_name left.0, priority_complete r.prio h.behind_name h.behind_prio left.1, pattern_complete r.pattern h.behind_prio h.behind_pattern goes h.pattern, right_side_complete (r.iflets, r.expr) h.behind_pattern rest side, position_of h.position) refl
+    rw (optional_name_complete r.name all h.behind_name left.0, priority_complete r.prio h.behind_name h.behind_prio left.1, pattern_complete r.pattern h.behind_prio h.behind_pattern goes h.pattern, right_side_complete (r.iflets, r.expr) h.behind_pattern rest side, position_of h.position) refl
 
 pub rule_shorter : (r : RuleDefinition) (all rest : List Placed) → SpellsRule r all rest → length rest ≤ length all
 rule_shorter r all rest h =

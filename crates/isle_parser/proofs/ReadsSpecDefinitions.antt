@@ -9,16 +9,17 @@ use Rattle.isle_spec.specs.Words.{SpellsAll, InParentheses, BehindWord, SpellsNa
 use Rattle.isle_ast.specs.SpecDefinitionGrammar.{SpecClause, provide_clause, require_clause, match_clause, modifies_clause, SpellsClause, provided, required, matched, modified, SpellsSpecDefinition, SpellsSpecMacro, SpellsState}
 use Rattle.isle_ast.specs.SpecGrammar.{SpellsSpec}
 use Rattle.isle_parser.specs.Reading.{Reader, ◌>>=◌, is_ahead, is_rparen, closes, pos_ahead, text, in_parentheses, many}
-use Rattle.isle_parser.specs.ReadNames.{name}
+use Rattle.isle_parser.specs.ReadNames.{name, optional_name}
 use Rattle.isle_parser.specs.ReadRules.{head_inside}
 use Rattle.isle_parser.specs.ReadSpecs.{spec_expression}
-use Rattle.isle_parser.specs.ReadSpecDefinitions.{condition_name, modified_state, behind_clause_word, clause_inside, clause, spec_definition, spec_macro_definition, default_inside, state_definition}
+use Rattle.isle_parser.specs.ReadSpecDefinitions.{modified_state, behind_clause_word, clause_inside, clause, spec_definition, spec_macro_definition, default_inside, state_definition}
 use Rattle.isle_parser.proofs.Choices.{bound, both, nothing, made_of, word_is, word_read, word_shorter, flag_read, choice, CompleteClosed, row_sound, row_complete, enclosed_complete, position_of, name_at, opened_at}
 use Rattle.isle_parser.proofs.Names.{name_sound, name_read, name_begins}
+use Rattle.isle_parser.proofs.OptionalNames.{optional_name_sound, optional_name_complete, name_spelt}
 use Rattle.isle_parser.proofs.ReadsForms.{tagged_type_sound, tagged_type_complete, tagged_type_begins}
 use Rattle.isle_parser.proofs.ReadsRules.{SpellsHead, head_sound, head_complete, head_begins}
 use Rattle.isle_parser.proofs.ReadsSpecs.{spec_expression_sound, spec_expression_complete}
-use Rattle.isle_parser.proofs.Readers.{Spelling, Sound, Complete, Begins, bind_some, chosen, done_is, moved, row_shorter, parentheses_sound, parentheses_begin}
+use Rattle.isle_parser.proofs.Readers.{Spelling, Sound, Complete, Begins, bind_some, chosen, moved, row_shorter, parentheses_sound, parentheses_begin}
 use Rattle.isle_parser.proofs.SpecBegins.{spec_begins}
 
 specs_complete : CompleteClosed (SpellsAll SpellsSpec) (many closes spec_expression)
@@ -29,15 +30,8 @@ specs_sound = row_sound SpellsSpec spec_expression spec_expression_sound
 
 -- ---- states that change
 
-condition_sound : Sound (SpellsOptional SpellsName) condition_name
-unfolding condition_name
-condition_sound all rest n e =
-    elim (chosen (is_ahead is_symbol all) (name all >>= λ n. Some (Some n.0, n.1)) (Some (None, all)) (Some (n, rest)) e) [
-      | inl h ↦
-          let m = made_of (λ (m : Name). Some m) h.1 in
-          subst (λ (n : Option Name). SpellsOptional SpellsName n all rest) m.2 (name_sound all rest m.0 m.1)
-      | inr h ↦ moved (SpellsOptional SpellsName) None n all all rest (done_is None n all rest h.1) refl
-    ]
+condition_sound : Sound (SpellsOptional SpellsName) optional_name
+condition_sound all rest n e = name_spelt n all rest (optional_name_sound all rest n e)
 
 closing : (t : Tok) → is_rparen t ≡ true → is_symbol t ≡ false
 closing lparen e = refl
@@ -50,12 +44,9 @@ no_symbol : (all : List Placed) → closes all ≡ true → is_ahead is_symbol a
 no_symbol [] e = refl
 no_symbol (x ∷ xs) e = closing x.token e
 
-condition_complete : CompleteClosed (SpellsOptional SpellsName) condition_name
-unfolding condition_name
-condition_complete None all rest closed h = rw (h, no_symbol rest closed) refl
-condition_complete (Some n) all rest closed h =
-    let here : is_ahead is_symbol all ≡ true = rw h.1 refl in
-    rw (here, name_read n all rest h) refl
+condition_complete : CompleteClosed (SpellsOptional SpellsName) optional_name
+condition_complete None all rest closed h = optional_name_complete None all rest (h, rw h (no_symbol rest closed))
+condition_complete (Some n) all rest closed h = optional_name_complete (Some n) all rest h
 
 condition_shorter : (n : Option Name) (all rest : List Placed) → SpellsOptional SpellsName n all rest → length rest ≤ length all
 condition_shorter None all rest h = rw h (omega arith)

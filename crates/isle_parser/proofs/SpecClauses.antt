@@ -12,8 +12,8 @@ use Rattle.isle_parser.specs.declared.parser.Stop.{Stop}
 use Rattle.isle_parser.specs.declared.parser.Stop.TheVariants as stops
 use Rattle.isle_parser.specs.Answers.{Source, Stops}
 use Rattle.isle_parser.specs.Reading.{Reader, ◌>>=◌, closes, is_ahead, many, text}
-use Rattle.isle_parser.specs.ReadNames.{name}
-use Rattle.isle_parser.specs.ReadSpecDefinitions.{Joined, behind_clause_word, clause, clause_inside, condition_name, joined, joined_clauses, modified_state}
+use Rattle.isle_parser.specs.ReadNames.{name, optional_name}
+use Rattle.isle_parser.specs.ReadSpecDefinitions.{Joined, behind_clause_word, clause, clause_inside, joined, joined_clauses, modified_state}
 use Rattle.isle_parser.specs.ReadSpecs.{spec_expression}
 use Rattle.isle_parser.proofs.Choices.{bound}
 use Rattle.isle_parser.proofs.Names.{name_shrinks}
@@ -22,9 +22,9 @@ use Rattle.isle_parser.proofs.SpecShrinks.{Keeps, keeps, enclosed_shrinks, made_
 
 -- ---- a clause leaves fewer tokens
 
-condition_keeps : Keeps condition_name
-unfolding condition_name
-condition_keeps all rest x e =
+optional_name_keeps : Keeps optional_name
+unfolding optional_name
+optional_name_keeps all rest x e =
     elim (chosen (is_ahead is_symbol all) (name all >>= λ n. Some (Some n.0, n.1)) (Some (None, all)) (Some (x, rest)) e) [
       | inl h ↦
           let a = bound h.1 in
@@ -37,7 +37,7 @@ unfolding modified_state
 modified_keeps all rest x e =
     let a = bound e in
     let b = bound a.2 in
-    omega (arith, name_shrinks all a.0.1 a.0.0 a.1, condition_keeps a.0.1 b.0.1 b.0.0 b.1, made_here b.2)
+    omega (arith, name_shrinks all a.0.1 a.0.0 a.1, optional_name_keeps a.0.1 b.0.1 b.0.0 b.1, made_here b.2)
 
 -- expressions up to `)`, and a clause made of them
 abbrev row : (List SpecNode → SpecClause) → Reader SpecClause

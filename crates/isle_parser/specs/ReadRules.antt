@@ -2,11 +2,11 @@
 use Rattle.std.specs.Prelude.{ℕ, zero, suc, ℤ, List, [], ◌∷◌, length, Option, Some, None, if◌then◌else◌, codes}
 use Rattle.isle_base.specs.declared.lexer.Pos.{Pos}
 use Rattle.isle_base.specs.Place.{Placed}
-use Rattle.isle_base.specs.Token.{is_int, is_symbol}
+use Rattle.isle_base.specs.Token.{is_int}
 use Rattle.isle_spec.specs.Tree.{Name, wildcard_pattern, Expression, Condition, RuleDefinition, ExtractorDefinition}
 use Rattle.isle_parser.specs.Reading.{Reader, ◌>>=◌, is_lparen, is_ahead, flag, pos_ahead, closes, in_parentheses, many}
 use Rattle.isle_parser.specs.ReadExpressions.{expression, expression_inside}
-use Rattle.isle_parser.specs.ReadNames.{name}
+use Rattle.isle_parser.specs.ReadNames.{name, optional_name}
 use Rattle.isle_parser.specs.ReadNumbers.{signed}
 use Rattle.isle_parser.specs.ReadPatterns.{pattern}
 
@@ -69,17 +69,13 @@ right_side_within (suc n) all = condition_or_expression all >>= λ x. behind_par
 unfoldable pub right_side : Reader RightSide
 right_side all = right_side_within (suc (length all)) all
 
--- a name where a symbol is ahead
-unfoldable pub rule_name : Reader (Option Name)
-rule_name all = if is_ahead is_symbol all then (name all >>= λ n. Some (Some n.0, n.1)) else Some (None, all)
-
 -- a priority where an integer is ahead
 unfoldable pub priority : Reader (Option ℤ)
 priority all = if is_ahead is_int all then (signed 63 all >>= λ n. Some (Some n.0, n.1)) else Some (None, all)
 
 unfoldable pub rule_definition : Reader RuleDefinition
 rule_definition all = do
-  n ← rule_name all
+  n ← optional_name all
   prio ← priority n.1
   p ← pattern prio.1
   r ← right_side p.1

@@ -1,25 +1,20 @@
 -- Reading of the definitions that are made of spec expressions: what stands behind the keywords `spec`,
 -- `macro`, `state` and `model`.
-use Rattle.std.specs.Prelude.{ℕ, List, Option, Some, None, if◌then◌else◌, codes}
+use Rattle.std.specs.Prelude.{ℕ, List, Some, None, if◌then◌else◌, codes}
 use Rattle.std.specs.Str.{bytes_eq}
-use Rattle.isle_base.specs.Token.{is_symbol}
 use Rattle.isle_spec.specs.Tree.{Name, SpecNode, ModelContent, type_model, const_model, ModelDefinition, ModifiedState, SpecDefinition, SpecMacroDefinition, StateDefinition}
 use Rattle.isle_ast.specs.SpecDefinitionGrammar.{SpecClause, provide_clause, require_clause, match_clause, modifies_clause, provided, required, matched, modified}
-use Rattle.isle_parser.specs.Reading.{Reader, ◌>>=◌, is_ahead, text, flag, pos_ahead, closes, in_parentheses, many}
+use Rattle.isle_parser.specs.Reading.{Reader, ◌>>=◌, text, flag, pos_ahead, closes, in_parentheses, many}
 use Rattle.isle_parser.specs.ReadModels.{model_type, tagged_type}
-use Rattle.isle_parser.specs.ReadNames.{name}
+use Rattle.isle_parser.specs.ReadNames.{name, optional_name}
 use Rattle.isle_parser.specs.ReadRules.{head_inside}
 use Rattle.isle_parser.specs.ReadSpecs.{spec_expression}
-
--- a name where a symbol is ahead
-unfoldable pub condition_name : Reader (Option Name)
-condition_name all = if is_ahead is_symbol all then (name all >>= λ n. Some (Some n.0, n.1)) else Some (None, all)
 
 -- a state, and the name of a condition where there is one
 unfoldable pub modified_state : Reader ModifiedState
 modified_state all = do
   state ← name all
-  cond ← condition_name state.1
+  cond ← optional_name state.1
   Some (record { state = state.0; cond = cond.0 }, cond.1)
 
 -- what stands behind the word of a clause

@@ -3,6 +3,7 @@ pub mod IdentifierBytes
 pub mod Copies
 pub mod NameOrders
 pub mod ErasedSpecs
+pub mod Texts
 pub mod SameRows
 pub mod SameModelLists
 pub mod SameSpecLists

@@ -159,6 +159,19 @@ fn prints_rules(rt: HostRuntime) -> Result<(), Fail> {
 }
 
 #[test]
+fn prints_a_condition(rt: HostRuntime) -> Result<(), Fail> {
+    let alloc = rt.alloc();
+    let wildcard = Pattern::Wildcard {
+        pos: Pos::default(),
+    };
+    let condition = condition(alloc, wildcard)?;
+    let text = print_node(alloc, &condition, 78)?;
+    drop(condition);
+    assert_eq!(rt; text.as_str(), "(if-let _ (B x))");
+    Ok(())
+}
+
+#[test]
 fn prints_expressions(rt: HostRuntime) -> Result<(), Fail> {
     let alloc = rt.alloc();
     let expr = let_expression(alloc)?;

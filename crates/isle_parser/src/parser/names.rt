@@ -2,10 +2,11 @@
 
 ghost use Rattle.std.specs.Prelude.{◌≡◌};
 ghost use Rattle.isle_spec.specs.Identifier.{is_identifier};
-ghost use Rattle.isle_ast.specs.TreeView.{name_of, names_of};
+ghost use Rattle.isle_ast.specs.TreeView.{name_of, names_of, optional_name_of};
 ghost use Rattle.isle_parser.specs.Answers.{Gives, IsPlace, Judges, source, tokens};
-ghost use Rattle.isle_parser.specs.ReadNames.{name, names};
-ghost use Rattle.isle_parser.specs.Reading.{closes, many};
+ghost use Rattle.isle_parser.specs.ReadNames.{name, names, optional_name};
+ghost use Rattle.isle_parser.specs.ReadRules.{head_inside};
+ghost use Rattle.isle_parser.specs.Reading.{closes, in_parentheses, many};
 
 use crate::parser::{Parser, Stop, refuse};
 use isle_ast::ast::Ident;
@@ -37,6 +38,30 @@ impl<'src> Parser<'src> {
         Ok(Ident(text, pos))
     }
 
+    // An identifier where a symbol is ahead. A symbol that isn't one is refused at this place, as an invalid `what`.
+    #[tactic(auto, unfolding(crate::specs::ReadNames::optional_name, crate::specs::ReadNames::name))]
+    pub(super) fn parse_optional_ident(
+        &mut self,
+        alloc: Global,
+        place: Pos,
+        what: &str,
+    ) -> Result<Option<Ident>, Stop>
+        requires { IsPlace (source self.old) place }
+        ensures same { source self.new ≡ source self.old }
+        ensures gives { Gives optional_name_of (optional_name (tokens self.old)) result self.new }
+    {
+        if !self.is_sym() {
+            return Ok(None);
+        }
+        let pos = self.pos();
+        let text = self.expect_symbol(alloc)?;
+        if is_identifier(&text) {
+            return Ok(Some(Ident(text, pos)));
+        }
+        let message = identifier_message(alloc, &text)?;
+        Err(self.refuse_at(place, format!(in alloc; "Invalid {what}: {message}")))
+    }
+
     // Identifiers, up to the closing parenthesis.
     pub(super) fn parse_ident_list(&mut self, alloc: Global) -> Result<Vec<Ident>, Stop>
         ensures same { source self.new ≡ source self.old }
@@ -59,10 +84,22 @@ impl<'src> Parser<'src> {
         let idents = self.parse_ident_list(alloc)?;
         self.close(alloc, idents)
     }
+
+    // A name and names behind it, in parentheses.
+    #[tactic(auto, unfolding(crate::specs::ReadRules::head_inside, crate::specs::Reading::in_parentheses))]
+    pub(super) fn parse_headed(&mut self, alloc: Global) -> Result<(Ident, Vec<Ident>), Stop>
+        ensures same { source self.new ≡ source self.old }
+        ensures gives { Gives (λ h. (name_of h.0, names_of h.1.items)) (in_parentheses head_inside (tokens self.old)) result self.new }
+    {
+        self.expect_lparen(alloc)?;
+        let name = self.parse_ident(alloc)?;
+        let names = self.parse_ident_list(alloc)?;
+        self.close(alloc, (name, names))
+    }
 }
 
 // The message about a text that isn't an identifier.
-pub(super) fn identifier_message(alloc: Global, text: &str) -> Result<String, AllocError> {
+fn identifier_message(alloc: Global, text: &str) -> Result<String, AllocError> {
     match text.chars().next() {
         None => String::from_str(alloc, "empty symbol"),
         Some(first) if !begins_identifier(first) => {

@@ -1,17 +1,15 @@
 //! Rules and extractors.
 
 ghost use Rattle.std.specs.Prelude.{◌≡◌, option_map};
-ghost use Rattle.isle_ast.specs.TreeView.{condition_of, conditions_of, expression_of, extractor_of, name_of, optional_name_of, rule_of};
+ghost use Rattle.isle_ast.specs.TreeView.{condition_of, conditions_of, expression_of, extractor_of, rule_of};
 ghost use Rattle.isle_parser.specs.Answers.{Gives, IsPlace, source, tokens};
-ghost use Rattle.isle_parser.specs.ReadRules.{condition_match, condition_or_expression, condition_test, extractor_definition, match_or_expression, priority, right_side, rule_definition, rule_name};
+ghost use Rattle.isle_parser.specs.ReadRules.{condition_match, condition_or_expression, condition_test, extractor_definition, match_or_expression, priority, right_side, rule_definition};
 ghost use Rattle.isle_parser.specs.RuleParts.{part_of};
 
-use crate::parser::names::identifier_message;
 use crate::parser::{Parser, Stop};
-use isle_ast::ast::identifier::is_identifier;
-use isle_ast::ast::{Expr, Extractor, Ident, IfLet, Pattern, Rule};
+use isle_ast::ast::{Expr, Extractor, IfLet, Pattern, Rule};
 use isle_base::lexer::Pos;
-use std::alloc::{AllocError, Global};
+use std::alloc::Global;
 
 /// A part of a rule's right side.
 #[derive(Debug, Drop)]
@@ -23,16 +21,13 @@ enum IfLetOrExpr {
 }
 
 impl<'src> Parser<'src> {
-    #[tactic(auto, unfolding(crate::specs::ReadRules::extractor_definition, crate::specs::ReadRules::head_inside, crate::specs::Reading::in_parentheses))]
+    #[tactic(auto, unfolding(crate::specs::ReadRules::extractor_definition))]
     pub(super) fn parse_etor(&mut self, alloc: Global) -> Result<Extractor, Stop>
         ensures same { source self.new ≡ source self.old }
         ensures gives { Gives extractor_of (extractor_definition (tokens self.old)) result self.new }
     {
         let pos = self.pos();
-        self.expect_lparen(alloc)?;
-        let term = self.parse_ident(alloc)?;
-        let args = self.parse_ident_list(alloc)?;
-        self.expect_rparen(alloc)?;
+        let (term, args) = self.parse_headed(alloc)?;
         let template = self.parse_pattern(alloc)?;
         Ok(Extractor {
             term,
@@ -49,7 +44,7 @@ impl<'src> Parser<'src> {
     {
         let place = self.place();
         let pos = self.pos();
-        let name = self.parse_rule_name(alloc)?;
+        let name = self.parse_optional_ident(alloc, place, "rule name")?;
         let prio = self.parse_priority(alloc, place)?;
         let pattern = self.parse_pattern(alloc)?;
         let (iflets, expr) = self.parse_iflets_and_expr(alloc)?;
@@ -61,24 +56,6 @@ impl<'src> Parser<'src> {
             prio,
             name,
         })
-    }
-
-    // The name of a rule, where a symbol is ahead.
-    #[tactic(auto, unfolding(crate::specs::ReadRules::rule_name, crate::specs::ReadNames::name))]
-    fn parse_rule_name(&mut self, alloc: Global) -> Result<Option<Ident>, Stop>
-        ensures same { source self.new ≡ source self.old }
-        ensures gives { Gives optional_name_of (rule_name (tokens self.old)) result self.new }
-    {
-        if !self.is_sym() {
-            return Ok(None);
-        }
-        let place = self.place();
-        let pos = self.pos();
-        let text = self.expect_symbol(alloc)?;
-        if is_identifier(&text) {
-            return Ok(Some(Ident(text, pos)));
-        }
-        Err(self.refuse_at(place, rule_name_message(alloc, &text)))
     }
 
     // The priority of a rule, where an integer is ahead. What stands behind the keyword stood at this place.
@@ -174,10 +151,4 @@ impl<'src> Parser<'src> {
             pos,
         })
     }
-}
-
-// The message about a rule's name that isn't an identifier.
-fn rule_name_message(alloc: Global, text: &str) -> Result<String, AllocError> {
-    let message = identifier_message(alloc, text)?;
-    format!(in alloc; "Invalid rule name: {message}")
 }

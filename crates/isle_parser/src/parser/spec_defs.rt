@@ -2,19 +2,15 @@
 
 ghost use Rattle.std.specs.Prelude.{◌≡◌};
 ghost use Rattle.isle_spec.specs.SpecView.{modified_of, spec_definition_of, spec_macro_of, spec_of, state_of};
-ghost use Rattle.isle_ast.specs.TreeView.{name_of, names_of, optional_name_of};
 ghost use Rattle.isle_parser.specs.Answers.{Gives, IsPlace, source, tokens};
-ghost use Rattle.isle_parser.specs.ReadRules.{head_inside};
-ghost use Rattle.isle_parser.specs.ReadSpecDefinitions.{behind_clause_word, clause, condition_name, default_inside, joined_clauses, modified_state, spec_definition, spec_macro_definition, state_definition};
+ghost use Rattle.isle_parser.specs.ReadSpecDefinitions.{behind_clause_word, clause, default_inside, joined_clauses, modified_state, spec_definition, spec_macro_definition, state_definition};
 ghost use Rattle.isle_parser.specs.Reading.{in_parentheses};
 ghost use Rattle.isle_parser.specs.SpecParts.{clause_of, joined_of};
 
-use crate::parser::names::identifier_message;
 use crate::parser::{Parser, Stop};
-use isle_ast::ast::identifier::is_identifier;
-use isle_ast::ast::{Ident, Modifies, Spec, SpecExpr, SpecMacro, State};
+use isle_ast::ast::{Modifies, Spec, SpecExpr, SpecMacro, State};
 use isle_base::lexer::Pos;
-use std::alloc::{AllocError, Global};
+use std::alloc::Global;
 
 /// A clause of a spec.
 #[derive(Debug, Drop)]
@@ -43,18 +39,6 @@ struct Clauses {
 }
 
 impl<'src> Parser<'src> {
-    // A name and names behind it, in parentheses.
-    #[tactic(auto, unfolding(crate::specs::ReadRules::head_inside, crate::specs::Reading::in_parentheses))]
-    pub(super) fn parse_headed(&mut self, alloc: Global) -> Result<(Ident, Vec<Ident>), Stop>
-        ensures same { source self.new ≡ source self.old }
-        ensures gives { Gives (λ h. (name_of h.0, names_of h.1.items)) (in_parentheses head_inside (tokens self.old)) result self.new }
-    {
-        self.expect_lparen(alloc)?;
-        let name = self.parse_ident(alloc)?;
-        let names = self.parse_ident_list(alloc)?;
-        self.close(alloc, (name, names))
-    }
-
     #[tactic(auto, unfolding(crate::specs::ReadSpecDefinitions::spec_definition))]
     pub(super) fn parse_spec(&mut self, alloc: Global) -> Result<Spec, Stop>
         ensures same { source self.new ≡ source self.old }
@@ -148,26 +132,8 @@ impl<'src> Parser<'src> {
         ensures gives { Gives modified_of (modified_state (tokens self.old)) result self.new }
     {
         let state = self.parse_ident(alloc)?;
-        let cond = self.parse_condition_name(alloc, place)?;
+        let cond = self.parse_optional_ident(alloc, place, "modifies condition")?;
         Ok(Modifies { state, cond })
-    }
-
-    // The name of a condition, where a symbol is ahead.
-    #[tactic(auto, unfolding(crate::specs::ReadSpecDefinitions::condition_name, crate::specs::ReadNames::name))]
-    fn parse_condition_name(&mut self, alloc: Global, place: Pos) -> Result<Option<Ident>, Stop>
-        requires { IsPlace (source self.old) place }
-        ensures same { source self.new ≡ source self.old }
-        ensures gives { Gives optional_name_of (condition_name (tokens self.old)) result self.new }
-    {
-        if !self.is_sym() {
-            return Ok(None);
-        }
-        let pos = self.pos();
-        let text = self.expect_symbol(alloc)?;
-        if is_identifier(&text) {
-            return Ok(Some(Ident(text, pos)));
-        }
-        Err(self.refuse_at(place, condition_message(alloc, &text)))
     }
 
     #[tactic(auto, unfolding(crate::specs::ReadSpecDefinitions::spec_macro_definition))]
@@ -220,10 +186,4 @@ impl<'src> Parser<'src> {
         let default = self.parse_spec_expr(alloc)?;
         self.close(alloc, default)
     }
-}
-
-// The message about a condition's name that isn't an identifier.
-fn condition_message(alloc: Global, text: &str) -> Result<String, AllocError> {
-    let message = identifier_message(alloc, text)?;
-    format!(in alloc; "Invalid modifies condition: {message}")
 }

@@ -2,13 +2,14 @@
 
 ghost use Rattle.std.specs.Prelude.{◌≡◌, IfErr, map};
 ghost use Rattle.isle_ast.specs.TreeView.{attribute_of, extern_of, kind_of, name_of};
-ghost use Rattle.isle_parser.specs.Answers.{Gives, Stops, source, tokens};
+ghost use Rattle.isle_parser.specs.Answers.{Gives, IsPlace, Stops, source, tokens};
 ghost use Rattle.isle_parser.specs.ReadDefinitions.{pragma};
-ghost use Rattle.isle_parser.specs.ReadTerms.{attribute, constant, extern_definition, kind, kind_inside, veri_kind};
+ghost use Rattle.isle_parser.specs.ReadTerms.{attribute, constant, extern_constant, extern_definition, extern_etor, kind, kind_inside, veri_kind};
 ghost use Rattle.isle_parser.specs.Reading.{closes, many};
 
 use crate::parser::{Parser, Stop};
 use isle_ast::ast::{Attr, AttrKind, AttrTarget, Extern, Ident, Pragma};
+use isle_base::lexer::Pos;
 use std::alloc::Global;
 
 impl<'src> Parser<'src> {
@@ -110,7 +111,7 @@ impl<'src> Parser<'src> {
         }
     }
 
-    #[tactic(auto, unfolding(crate::specs::ReadTerms::extern_definition, crate::specs::ReadTerms::extern_etor, crate::specs::ReadTerms::extern_constant))]
+    #[tactic(auto, unfolding(crate::specs::ReadTerms::extern_definition))]
     pub(super) fn parse_extern(&mut self, alloc: Global) -> Result<Extern, Stop>
         ensures same { source self.new ≡ source self.old }
         ensures gives { Gives extern_of (extern_definition (tokens self.old)) result self.new }
@@ -122,6 +123,21 @@ impl<'src> Parser<'src> {
             let func = self.parse_ident(alloc)?;
             return Ok(Extern::Constructor { term, func, pos });
         }
+        self.parse_extern_extractor(alloc, place, pos)
+    }
+
+    // An external extractor at this position, or else a constant. What stands behind `extern` stood at `place`.
+    #[tactic(auto, unfolding(crate::specs::ReadTerms::extern_etor))]
+    fn parse_extern_extractor(
+        &mut self,
+        alloc: Global,
+        place: Pos,
+        pos: Pos,
+    ) -> Result<Extern, Stop>
+        requires { IsPlace (source self.old) place }
+        ensures same { source self.new ≡ source self.old }
+        ensures gives { Gives extern_of (extern_etor pos (tokens self.old)) result self.new }
+    {
         if self.eat_sym_str(alloc, "extractor")? {
             let infallible = self.eat_sym_str(alloc, "infallible")?;
             let term = self.parse_ident(alloc)?;
@@ -133,6 +149,16 @@ impl<'src> Parser<'src> {
                 infallible,
             });
         }
+        self.parse_extern_const(alloc, place)
+    }
+
+    // An external constant. What stands behind `extern` stood at `place`.
+    #[tactic(auto, unfolding(crate::specs::ReadTerms::extern_constant))]
+    fn parse_extern_const(&mut self, alloc: Global, place: Pos) -> Result<Extern, Stop>
+        requires { IsPlace (source self.old) place }
+        ensures same { source self.new ≡ source self.old }
+        ensures gives { Gives extern_of (extern_constant (tokens self.old)) result self.new }
+    {
         if self.eat_sym_str(alloc, "const")? {
             let pos = self.pos();
             let name = self.parse_const(alloc)?;

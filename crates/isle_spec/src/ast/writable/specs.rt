@@ -167,42 +167,45 @@ fn has_dot(name: &Ident) -> bool
     name.0.as_bytes().contains(&b'.')
 }
 
+// What the operators of floats are named behind `fp.`.
+const FLOAT_NAMES: [&str; 30] = [
+    "eq",
+    "ne",
+    "lt",
+    "gt",
+    "le",
+    "ge",
+    "+oo",
+    "-oo",
+    "+zero",
+    "-zero",
+    "NaN",
+    "add",
+    "sub",
+    "mul",
+    "div",
+    "min",
+    "max",
+    "neg",
+    "ceil",
+    "floor",
+    "sqrt",
+    "trunc",
+    "nearest",
+    "isZero",
+    "isInfinite",
+    "isNaN",
+    "isNegative",
+    "isPositive",
+    "to_ubv",
+    "to_sbv",
+];
+
 /// Tells whether an operator has this name behind `fp.`.
 fn is_float_name(name: &str) -> bool
     ensures { result ≡ is_float_name name.now }
 {
-    matches!(
-        name,
-        "eq" | "ne"
-            | "lt"
-            | "gt"
-            | "le"
-            | "ge"
-            | "+oo"
-            | "-oo"
-            | "+zero"
-            | "-zero"
-            | "NaN"
-            | "add"
-            | "sub"
-            | "mul"
-            | "div"
-            | "min"
-            | "max"
-            | "neg"
-            | "ceil"
-            | "floor"
-            | "sqrt"
-            | "trunc"
-            | "nearest"
-            | "isZero"
-            | "isInfinite"
-            | "isNaN"
-            | "isNegative"
-            | "isPositive"
-            | "to_ubv"
-            | "to_sbv"
-    )
+    FLOAT_NAMES.contains(&name)
 }
 
 /// Tells whether what holds of a term is writable.
