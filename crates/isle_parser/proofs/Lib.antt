@@ -45,5 +45,6 @@ pub mod ModelPositions
 pub mod SpecPositions
 pub mod SpecMarks
 pub mod SpecOperators
+pub mod Tables
 pub mod SpecHeadsAhead
 pub mod Expected

@@ -1,18 +1,17 @@
 -- The operators and their texts: an operator is found by its text, and by no other.
 use Rattle.std.proofs.Common.{◌≡◌, ℕ, Bool, true, false, List, [], ◌∷◌, Option, Some, None, refl, sym, ap, subst, ◌∙◌, ⊎_elim}
-use Rattle.std.specs.Prelude.{codes}
+use Rattle.std.specs.Prelude.{codes, filter}
 use Rattle.std.specs.List.{list_all, list_any}
-use Rattle.std.specs.Option.{option_or}
 use Rattle.std.specs.Str.{bytes_eq}
 use Rattle.std.proofs.lemmas.Slice.Eq.{bytes_eq-Decides}
 use Rattle.isle_spec.specs.declared.ast.specs.SpecOp.{SpecOp}
 use Rattle.isle_spec.specs.declared.ast.specs.SpecOp.TheVariants as op
 use Rattle.isle_spec.specs.Operators.{is_operator_text, operator_text, operators}
 use Rattle.isle_ast.specs.SpecGrammar.{is_plain_operator}
-use Rattle.isle_parser.specs.SpecWords.{bit_vector_operators, bit_vector_tests, first_named, float_operators, discriminator_or_other, expansion_or_other, float_tests, head_of, keyword_head, operator_head, operator_of, operator_or_name, other_head, sign_operators, word_operators}
+use Rattle.isle_parser.specs.SpecWords.{first_named, discriminator_or_other, expansion_or_other, head_of, keyword_head, operator_head, operator_of, operator_or_name, other_head}
 use Rattle.isle_parser.proofs.Keywords.{other_bytes}
 use Rattle.isle_parser.proofs.Readers.{chosen}
-use Rattle.isle_parser.proofs.SpecTexts.{both_true, or_is, some_is}
+use Rattle.isle_parser.proofs.SpecTexts.{both_true, some_is}
 
 -- a plain operator and its text
 abbrev pub IsNamed : List ℕ → SpecOp → Type 0
@@ -27,20 +26,10 @@ named_is (p ∷ os) text o plain e =
     (λ later. named_is os text o each.1 later.1)
     (chosen (bytes_eq text (operator_text p)) (Some p) (first_named os text) (Some o) e)
 
-in_group : (os : List SpecOp) (text : List ℕ) (o : SpecOp) (others : Option SpecOp) → list_all is_plain_operator os ≡ true → (others ≡ Some o → IsNamed text o) → option_or (first_named os text) others ≡ Some o → IsNamed text o
-in_group os text o others plain next e =
-    ⊎_elim (λ found. named_is os text o plain found) (λ later. next later.1) (or_is (first_named os text) others o e)
-
 -- what is found has this text
 pub operator_is : (text : List ℕ) (o : SpecOp) → operator_of text ≡ Some o → IsNamed text o
 unfolding operator_of
-operator_is text o e =
-    in_group sign_operators text o _ refl
-    (in_group bit_vector_operators text o _ refl
-    (in_group bit_vector_tests text o _ refl
-    (in_group word_operators text o _ refl
-    (in_group float_operators text o _ refl
-    (named_is float_tests text o refl))))) e
+operator_is text o e = named_is (filter is_plain_operator operators) text o refl e
 
 -- each plain operator is found by its text
 operator_found : (o : SpecOp) → is_plain_operator o ≡ true → operator_of (operator_text o) ≡ Some o

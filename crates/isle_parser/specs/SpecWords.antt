@@ -1,5 +1,5 @@
 -- What a symbol says where a spec expression begins: as the head behind a `(`, or by itself.
-use Rattle.std.specs.Prelude.{◌≡◌, ℕ, ◌*◌, ◌^◌, List, [], ◌++◌, ◌∷◌, length, Bool, true, false, ◌&&◌, ◌||◌, ◌==◌, Option, Some, None, option_map, nat_lt, not, if◌then◌else◌, codes}
+use Rattle.std.specs.Prelude.{◌≡◌, ℕ, ◌*◌, ◌^◌, List, [], ◌++◌, ◌∷◌, length, Bool, true, false, ◌&&◌, ◌||◌, ◌==◌, Option, Some, None, option_map, nat_lt, not, if◌then◌else◌, filter, codes}
 use Rattle.std.specs.Char.{digit_value}
 use Rattle.std.specs.List.{list_all}
 use Rattle.std.specs.Option.{is_some, option_or}
@@ -7,9 +7,8 @@ use Rattle.std.specs.Str.{bytes_eq}
 use Rattle.std.specs.Str.Parse.{digits_value, without_leading_plus}
 use Rattle.isle_base.specs.declared.lexer.Pos.{Pos}
 use Rattle.isle_spec.specs.declared.ast.specs.SpecOp.{SpecOp}
-use Rattle.isle_spec.specs.declared.ast.specs.SpecOp.TheVariants as op
 use Rattle.isle_spec.specs.Identifier.{is_identifier}
-use Rattle.isle_spec.specs.Operators.{operator_text, is_operator_text}
+use Rattle.isle_spec.specs.Operators.{operator_text, is_operator_text, operators}
 use Rattle.isle_spec.specs.Tree.{SpecNode, bit_vector_spec, bool_spec, var_spec}
 use Rattle.isle_ast.specs.SpecGrammar.{field_mark, discriminator_mark, expansion_mark, is_dot, is_plain_operator}
 use Rattle.isle_parser.specs.Reading.{Reader, ◌>>=◌, text as text_ahead}
@@ -72,49 +71,14 @@ first_named [] text = None
 first_named (operator ∷ operators) text =
     if bytes_eq text (operator_text operator) then Some operator else first_named operators text
 
--- of truth, of order and of numbers
-abbrev pub sign_operators : List SpecOp
-sign_operators =
-    op.Eq ∷ op.And ∷ op.Or ∷ op.Not ∷ op.Imp ∷ op.Add ∷ op.Mul ∷ op.Lt ∷ op.Lte ∷ op.Gt ∷ op.Gte ∷ []
-
--- from bit vectors to bit vectors
-abbrev pub bit_vector_operators : List SpecOp
-bit_vector_operators =
-    op.BVNot ∷ op.BVAnd ∷ op.BVOr ∷ op.BVXor ∷ op.BVNeg ∷ op.BVAdd ∷ op.BVSub ∷ op.BVMul ∷ op.BVUdiv ∷ op.BVUrem ∷
-    op.BVSdiv ∷ op.BVSrem ∷ op.BVShl ∷ op.BVLshr ∷ op.BVAshr ∷ []
-
--- from bit vectors to truth and to numbers
-abbrev pub bit_vector_tests : List SpecOp
-bit_vector_tests =
-    op.BVUle ∷ op.BVUlt ∷ op.BVUgt ∷ op.BVUge ∷ op.BVSlt ∷ op.BVSle ∷ op.BVSgt ∷ op.BVSge ∷ op.BVSaddo ∷ op.BV2Nat ∷ []
-
--- those that are words
-abbrev pub word_operators : List SpecOp
-word_operators =
-    op.Rotr ∷ op.Rotl ∷ op.Extract ∷ op.ZeroExt ∷ op.SignExt ∷ op.Concat ∷ op.Replicate ∷ op.Popcnt ∷ op.Clz ∷ op.Cls ∷
-    op.Rev ∷ op.ConvTo ∷ op.Int2BV ∷ op.ToFP ∷ op.ToFPUnsigned ∷ op.ToFPFromFP ∷ op.WidthOf ∷ op.If ∷ []
-
--- the order of floats, and their arithmetic
-abbrev pub float_operators : List SpecOp
-float_operators =
-    op.FPEq ∷ op.FPNe ∷ op.FPLt ∷ op.FPGt ∷ op.FPLe ∷ op.FPGe ∷ op.FPAdd ∷ op.FPSub ∷ op.FPMul ∷ op.FPDiv ∷ op.FPMin ∷
-    op.FPMax ∷ op.FPNeg ∷ op.FPCeil ∷ op.FPFloor ∷ op.FPSqrt ∷ op.FPTrunc ∷ op.FPNearest ∷ []
-
--- the constants of floats, their conversions, and tests of one float
-abbrev pub float_tests : List SpecOp
-float_tests =
-    op.FPPositiveInfinity ∷ op.FPNegativeInfinity ∷ op.FPPositiveZero ∷ op.FPNegativeZero ∷ op.FPNaN ∷ op.FPIsZero ∷
-    op.FPIsInfinite ∷ op.FPIsNaN ∷ op.FPIsNegative ∷ op.FPIsPositive ∷ op.FPToUBV ∷ op.FPToSBV ∷ []
+-- the operator in the first row with this text
+abbrev pub in_table : List (List ℕ × SpecOp) → List ℕ → Option SpecOp
+in_table [] text = None
+in_table (row ∷ rows) text = if bytes_eq text row.0 then Some row.1 else in_table rows text
 
 -- The operator of this text. It is neither `-`, which no symbol is, nor `switch`, which is a head of its own.
 unfoldable pub operator_of : List ℕ → Option SpecOp
-operator_of text =
-    option_or (first_named sign_operators text)
-    (option_or (first_named bit_vector_operators text)
-    (option_or (first_named bit_vector_tests text)
-    (option_or (first_named word_operators text)
-    (option_or (first_named float_operators text)
-    (first_named float_tests text)))))
+operator_of = first_named (filter is_plain_operator operators)
 
 -- the head that one of these words is
 unfoldable pub keyword_head : List ℕ → Option SpecHead

@@ -110,7 +110,7 @@ impl<'src> Clone for Parser<'src> {
 }
 
 /// Why a parsing call gives no answer.
-#[derive(Debug, Drop)]
+#[derive(Drop)]
 enum Stop {
     /// The parser refuses the tokens.
     Parser(Error),

@@ -158,7 +158,9 @@ fn copies_and_compares_spec_expressions(rt: HostRuntime) -> Result<(), AllocErro
     assert!(rt; arm.clone()? == arm && field.clone()? == field);
     field.pos = Pos::new(0, 10);
     assert!(rt; field.clone()? != self::field(alloc)?);
-    assert!(rt; SpecOp::Sub.clone()? == SpecOp::Sub && SpecOp::Sub != SpecOp::Switch);
+    let operator = SpecOp::Sub;
+    let copy = operator;
+    assert!(rt; copy == operator && operator.clone()? == SpecOp::Sub && copy != SpecOp::Switch);
     Ok(())
 }
 

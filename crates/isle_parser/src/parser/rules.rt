@@ -12,7 +12,7 @@ use isle_base::lexer::Pos;
 use std::alloc::Global;
 
 /// A part of a rule's right side.
-#[derive(Debug, Drop)]
+#[derive(Drop)]
 enum IfLetOrExpr {
     /// A condition.
     IfLet(IfLet),

@@ -13,7 +13,7 @@ use isle_base::lexer::Pos;
 use std::alloc::Global;
 
 /// A clause of a spec.
-#[derive(Debug, Drop)]
+#[derive(Drop)]
 enum Clause {
     /// What the term provides.
     Provide(Vec<SpecExpr>),
@@ -26,7 +26,7 @@ enum Clause {
 }
 
 /// The clauses of a spec, joined by kind.
-#[derive(Debug, Drop)]
+#[derive(Drop)]
 struct Clauses {
     /// What the term provides.
     provides: Vec<SpecExpr>,

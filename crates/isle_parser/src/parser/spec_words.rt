@@ -15,7 +15,7 @@ use isle_base::lexer::Pos;
 use std::alloc::Global;
 
 /// The first word in parentheses, with the names in it.
-#[derive(Debug, Drop)]
+#[derive(Drop)]
 pub(super) enum Head {
     /// `switch`
     Switch,

@@ -149,7 +149,7 @@ pub enum SpecExpr {
 }
 
 /// An operator of spec expressions. The names are symbols of a tree; nothing is computed with them.
-#[derive(Clone, Debug, PartialEq, Eq, Drop)]
+#[derive(Clone, Copy, Debug, PartialEq, Eq)]
 pub enum SpecOp {
     /// `=`
     Eq,

@@ -11,12 +11,12 @@ impl Clone for Rule {
 
     fn clone(&self) -> Result<Rule, AllocError> {
         Ok(Rule {
-            pattern: self.pattern.clone()?,
+            name: self.name.clone()?,
             iflets: self.iflets.clone()?,
+            pattern: self.pattern.clone()?,
             expr: self.expr.clone()?,
             pos: self.pos,
             prio: self.prio,
-            name: self.name.clone()?,
         })
     }
 }

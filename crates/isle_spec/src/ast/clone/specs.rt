@@ -209,7 +209,7 @@ fn copy_operation(op: &SpecOp, args: &Vec<SpecExpr>, pos: Pos) -> Result<SpecExp
     ensures { IfOk result (λ copy. spec_of copy ≡ op_spec op.now (spec_row_of (specs_of args.now.items)) pos) }
 {
     Ok(SpecExpr::Op {
-        op: op.clone()?,
+        op: *op,
         args: copy_specs(args)?,
         pos,
     })
