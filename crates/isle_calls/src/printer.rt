@@ -228,37 +228,62 @@ fn signature(alloc: Global, ret: ModelType) -> Signature {
     }
 }
 
+/// The text of a model of types at 78.
+fn model_text(alloc: Global, ty: ModelType) -> Result<String, PrintFault> {
+    let text = print_node(alloc, &ty, 78);
+    drop(ty);
+    text
+}
+
+/// A field of this model.
+fn model_field(alloc: Global, name: &str, ty: ModelType) -> Result<ModelField, AllocError> {
+    let name = ident(alloc, name);
+    Ok(ModelField { name: name?, ty })
+}
+
 #[test]
-fn prints_models(rt: HostRuntime) -> Result<(), Fail> {
+fn prints_models_of_types(rt: HostRuntime) -> Result<(), Fail> {
     let alloc = rt.alloc();
-    let field = ModelField {
-        name: ident(alloc, "x")?,
-        ty: ModelType::BitVec(Some(32)),
-    };
-    assert_eq!(rt; print_node(alloc, &field, 78)?.as_str(), "(x (bv 32))");
     assert_eq!(rt;
-        print_node(alloc, &ModelType::BitVec(None), 78)?.as_str(),
+        model_text(alloc, ModelType::BitVec(None))?.as_str(),
         "(bv)"
     );
     let mut fields = Vec::new(alloc);
-    fields.push(field)?;
-    fields.push(ModelField {
-        name: ident(alloc, "y")?,
-        ty: ModelType::Named(ident(alloc, "N")?),
-    })?;
+    fields.push(model_field(alloc, "x", ModelType::BitVec(Some(32)))?)?;
+    fields.push(model_field(alloc, "y", ModelType::Named(ident(alloc, "N")?))?)?;
+    assert_eq!(rt; print_node(alloc, &fields[0], 78)?.as_str(), "(x (bv 32))");
+    let text = "(struct (x (bv 32)) (y (named N)))";
+    assert_eq!(rt;
+        model_text(alloc, ModelType::Struct(fields))?.as_str(),
+        text
+    );
+    Ok(())
+}
+
+#[test]
+fn prints_models(rt: HostRuntime) -> Result<(), Fail> {
+    let alloc = rt.alloc();
     let model = Model {
         name: ident(alloc, "M")?,
-        val: ModelValue::TypeValue(ModelType::Struct(fields)),
+        val: ModelValue::TypeValue(ModelType::Int),
     };
-    let value = "(type (struct (x (bv 32)) (y (named N))))";
-    assert_eq!(rt; print_node(alloc, &model.val, 78)?.as_str(), value);
-    let text = "(model M (type (struct (x (bv 32)) (y (named N)))))";
-    assert_eq!(rt; print_node(alloc, &model, 78)?.as_str(), text);
+    let value = print_node(alloc, &model.val, 78);
+    let text = print_node(alloc, &model, 78);
+    drop(model);
+    assert_eq!(rt; value?.as_str(), "(type Int)");
+    assert_eq!(rt; text?.as_str(), "(model M (type Int))");
+    Ok(())
+}
+
+#[test]
+fn prints_signatures(rt: HostRuntime) -> Result<(), Fail> {
+    let alloc = rt.alloc();
     let mut signature = signature(alloc, ModelType::Unit);
     signature.args.push(ModelType::Unspecified)?;
     signature.args.push(ModelType::Auto)?;
-    let text = "((args ! _) (ret Unit))";
-    assert_eq!(rt; print_node(alloc, &signature, 78)?.as_str(), text);
+    let text = print_node(alloc, &signature, 78);
+    drop(signature);
+    assert_eq!(rt; text?.as_str(), "((args ! _) (ret Unit))");
     Ok(())
 }
 

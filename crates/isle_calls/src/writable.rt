@@ -38,14 +38,20 @@ fn converter(alloc: Global, term: &str) -> Result<Def, AllocError> {
     }))
 }
 
+fn converters(alloc: Global, terms: &[&str]) -> Result<Vec<Def>, AllocError> {
+    let mut defs = Vec::new(alloc);
+    for term in terms {
+        defs.push(converter(alloc, term)?)?;
+    }
+    Ok(defs)
+}
+
 #[test]
 fn each_definition_is(rt: HostRuntime) -> Result<(), AllocError> {
     let alloc = rt.alloc();
     assert!(rt; writable(&[]));
-    let both = vec![in alloc; converter(alloc, "a")?, converter(alloc, "b")?]?;
-    assert!(rt; writable(&both));
-    let one = vec![in alloc; converter(alloc, "a")?, converter(alloc, "1")?]?;
-    assert!(rt; !writable(&one));
+    assert!(rt; writable(&converters(alloc, &["a", "b"])?));
+    assert!(rt; !writable(&converters(alloc, &["a", "1"])?));
     Ok(())
 }
 
@@ -60,8 +66,8 @@ fn names_are_identifiers(rt: HostRuntime) -> Result<(), AllocError> {
         ("a-b", false),
         ("a b", false),
     ] {
-        let def = converter(rt.alloc(), term)?;
-        assert_eq!(rt; def.is_writable(), want, "at {term}");
+        let answer = is_writable(converter(rt.alloc(), term)?);
+        assert_eq!(rt; answer, want, "at {term}");
     }
     Ok(())
 }
