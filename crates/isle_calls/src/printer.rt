@@ -71,6 +71,13 @@ fn atoms(alloc: Global, texts: &[&str]) -> Result<SExpr, AllocError> {
     Ok(SExpr::List(items))
 }
 
+/// The text of a node at this width. The node ends here.
+fn shown<N: ToSExpr + Drop>(alloc: Global, node: N, width: usize) -> Result<String, PrintFault> {
+    let text = print_node(alloc, &node, width);
+    drop(node);
+    text
+}
+
 #[test]
 fn prints_definitions(rt: HostRuntime) -> Result<(), Fail> {
     let alloc = rt.alloc();
@@ -194,15 +201,9 @@ fn tuple_field(alloc: Global) -> Result<TupleField, AllocError> {
 fn prints_types(rt: HostRuntime) -> Result<(), Fail> {
     let alloc = rt.alloc();
     let primitive = TypeValue::Primitive(ident(alloc, "u")?, Pos::default());
-    assert_eq!(rt;
-        print_node(alloc, &primitive, 78)?.as_str(),
-        "(primitive u)"
-    );
-    assert_eq!(rt;
-        print_node(alloc, &struct_field(alloc)?, 78)?.as_str(),
-        "(x X)"
-    );
-    assert_eq!(rt; print_node(alloc, &tuple_field(alloc)?, 78)?.as_str(), "Y");
+    assert_eq!(rt; shown(alloc, primitive, 78)?.as_str(), "(primitive u)");
+    assert_eq!(rt; shown(alloc, struct_field(alloc)?, 78)?.as_str(), "(x X)");
+    assert_eq!(rt; shown(alloc, tuple_field(alloc)?, 78)?.as_str(), "Y");
     let variants = variants(alloc)?;
     for (variant, text) in variants.iter().zip(["(A)", "(B (x X))", "(C Y)"]) {
         assert_eq!(rt; print_node(alloc, variant, 78)?.as_str(), text);
@@ -215,7 +216,7 @@ fn prints_types(rt: HostRuntime) -> Result<(), Fail> {
         pos: Pos::default(),
     };
     let text = "(type T extern nodebug (enum (A) (B (x X)) (C Y)))";
-    assert_eq!(rt; print_node(alloc, &ty, 78)?.as_str(), text);
+    assert_eq!(rt; shown(alloc, ty, 78)?.as_str(), text);
     Ok(())
 }
 
@@ -228,13 +229,6 @@ fn signature(alloc: Global, ret: ModelType) -> Signature {
     }
 }
 
-/// The text of a model of types at 78.
-fn model_text(alloc: Global, ty: ModelType) -> Result<String, PrintFault> {
-    let text = print_node(alloc, &ty, 78);
-    drop(ty);
-    text
-}
-
 /// A field of this model.
 fn model_field(alloc: Global, name: &str, ty: ModelType) -> Result<ModelField, AllocError> {
     let name = ident(alloc, name);
@@ -244,19 +238,13 @@ fn model_field(alloc: Global, name: &str, ty: ModelType) -> Result<ModelField, A
 #[test]
 fn prints_models_of_types(rt: HostRuntime) -> Result<(), Fail> {
     let alloc = rt.alloc();
-    assert_eq!(rt;
-        model_text(alloc, ModelType::BitVec(None))?.as_str(),
-        "(bv)"
-    );
+    assert_eq!(rt; shown(alloc, ModelType::BitVec(None), 78)?.as_str(), "(bv)");
     let mut fields = Vec::new(alloc);
     fields.push(model_field(alloc, "x", ModelType::BitVec(Some(32)))?)?;
     fields.push(model_field(alloc, "y", ModelType::Named(ident(alloc, "N")?))?)?;
     assert_eq!(rt; print_node(alloc, &fields[0], 78)?.as_str(), "(x (bv 32))");
     let text = "(struct (x (bv 32)) (y (named N)))";
-    assert_eq!(rt;
-        model_text(alloc, ModelType::Struct(fields))?.as_str(),
-        text
-    );
+    assert_eq!(rt; shown(alloc, ModelType::Struct(fields), 78)?.as_str(), text);
     Ok(())
 }
 
@@ -281,9 +269,8 @@ fn prints_signatures(rt: HostRuntime) -> Result<(), Fail> {
     let mut signature = signature(alloc, ModelType::Unit);
     signature.args.push(ModelType::Unspecified)?;
     signature.args.push(ModelType::Auto)?;
-    let text = print_node(alloc, &signature, 78);
-    drop(signature);
-    assert_eq!(rt; text?.as_str(), "((args ! _) (ret Unit))");
+    let text = "((args ! _) (ret Unit))";
+    assert_eq!(rt; shown(alloc, signature, 78)?.as_str(), text);
     Ok(())
 }
 
@@ -297,7 +284,7 @@ fn prints_forms(rt: HostRuntime) -> Result<(), Fail> {
     };
     form.signatures.push(signature(alloc, ModelType::Bool))?;
     let text = "(form f ((args) (ret Bool)))";
-    assert_eq!(rt; print_node(alloc, &form, 78)?.as_str(), text);
+    assert_eq!(rt; shown(alloc, form, 78)?.as_str(), text);
     let mut instantiation = Instantiation {
         term: ident(alloc, "t")?,
         form: Some(ident(alloc, "f")?),
@@ -307,7 +294,7 @@ fn prints_forms(rt: HostRuntime) -> Result<(), Fail> {
     };
     instantiation.tags.push(ident(alloc, "g")?)?;
     let text = "(instantiate t f (tag g))";
-    assert_eq!(rt; print_node(alloc, &instantiation, 78)?.as_str(), text);
+    assert_eq!(rt; shown(alloc, instantiation, 78)?.as_str(), text);
     Ok(())
 }
 
@@ -319,14 +306,8 @@ fn prints_externs_and_attributes(rt: HostRuntime) -> Result<(), Fail> {
         ty: ident(alloc, "T")?,
         pos: Pos::default(),
     };
-    assert_eq!(rt;
-        print_node(alloc, &constant, 78)?.as_str(),
-        "(extern const $c T)"
-    );
-    assert_eq!(rt;
-        print_node(alloc, &AttrKind::Chain, 78)?.as_str(),
-        "(veri chain)"
-    );
+    assert_eq!(rt; shown(alloc, constant, 78)?.as_str(), "(extern const $c T)");
+    assert_eq!(rt; shown(alloc, AttrKind::Chain, 78)?.as_str(), "(veri chain)");
     let mut attr = Attr {
         target: AttrTarget::Rule(ident(alloc, "r")?),
         kinds: Vec::new(alloc),
@@ -335,6 +316,6 @@ fn prints_externs_and_attributes(rt: HostRuntime) -> Result<(), Fail> {
     attr.kinds.push(AttrKind::Priority)?;
     attr.kinds.push(AttrKind::Tag(ident(alloc, "g")?))?;
     let text = "(attr rule r (veri priority) (tag g))";
-    assert_eq!(rt; print_node(alloc, &attr, 78)?.as_str(), text);
+    assert_eq!(rt; shown(alloc, attr, 78)?.as_str(), text);
     Ok(())
 }

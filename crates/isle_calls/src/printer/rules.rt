@@ -1,6 +1,6 @@
 //! Worked examples of patterns, expressions, rules and extractors.
 
-use super::ident;
+use super::{ident, shown};
 use isle_ast::ast::{Def, Expr, Extractor, IfLet, LetDef, Pattern, Rule};
 use isle_base::lexer::Pos;
 use isle_printer::printer::{PrintFault, ToSExpr, print, print_node};
@@ -165,9 +165,7 @@ fn prints_a_condition(rt: HostRuntime) -> Result<(), Fail> {
         pos: Pos::default(),
     };
     let condition = condition(alloc, wildcard)?;
-    let text = print_node(alloc, &condition, 78)?;
-    drop(condition);
-    assert_eq!(rt; text.as_str(), "(if-let _ (B x))");
+    assert_eq!(rt; shown(alloc, condition, 78)?.as_str(), "(if-let _ (B x))");
     Ok(())
 }
 
@@ -175,12 +173,12 @@ fn prints_a_condition(rt: HostRuntime) -> Result<(), Fail> {
 fn prints_expressions(rt: HostRuntime) -> Result<(), Fail> {
     let alloc = rt.alloc();
     let expr = let_expression(alloc)?;
-    assert_eq!(rt; print_node(alloc, &expr, 78)?.as_str(), "(let ((z T 1)) z)");
+    assert_eq!(rt; shown(alloc, expr, 78)?.as_str(), "(let ((z T 1)) z)");
     let constant = Expr::ConstPrim {
         val: ident(alloc, "")?,
         pos: Pos::default(),
     };
-    assert_eq!(rt; print_node(alloc, &constant, 78)?.as_str(), "$");
+    assert_eq!(rt; shown(alloc, constant, 78)?.as_str(), "$");
     let def = LetDef {
         var: ident(alloc, "x")?,
         ty: ident(alloc, "T")?,
@@ -193,31 +191,31 @@ fn prints_expressions(rt: HostRuntime) -> Result<(), Fail> {
         )?,
         pos: Pos::default(),
     };
-    assert_eq!(rt; print_node(alloc, &def, 78)?.as_str(), "(x T false)");
+    assert_eq!(rt; shown(alloc, def, 78)?.as_str(), "(x T false)");
     Ok(())
 }
 
 #[test]
 fn writes_the_least_integer_as_it_is_read(rt: HostRuntime) -> Result<(), Fail> {
     let alloc = rt.alloc();
-    let mut least = Pattern::ConstInt {
+    let least = Pattern::ConstInt {
         val: i128::MIN,
         pos: Pos::default(),
     };
     let text = "170141183460469231731687303715884105728";
-    assert_eq!(rt; print_node(alloc, &least, 78)?.as_str(), text);
-    least = Pattern::ConstInt {
+    assert_eq!(rt; shown(alloc, least, 78)?.as_str(), text);
+    let next = Pattern::ConstInt {
         val: i128::MIN + 1,
         pos: Pos::default(),
     };
     let text = "-170141183460469231731687303715884105727";
-    assert_eq!(rt; print_node(alloc, &least, 78)?.as_str(), text);
+    assert_eq!(rt; shown(alloc, next, 78)?.as_str(), text);
     let expr = Expr::ConstInt {
         val: i128::MIN,
         pos: Pos::default(),
     };
     let text = "170141183460469231731687303715884105728";
-    assert_eq!(rt; print_node(alloc, &expr, 78)?.as_str(), text);
+    assert_eq!(rt; shown(alloc, expr, 78)?.as_str(), text);
     Ok(())
 }
 

@@ -1,6 +1,6 @@
 //! Worked examples of specs: the text of each operator, and trees that no text gives.
 
-use super::{atom, ident};
+use super::{atom, ident, shown};
 use isle_ast::ast::{
     Arm, Def, FieldInit, Model, ModelType, ModelValue, Modifies, Spec, SpecExpr, SpecMacro, SpecOp,
     State,
@@ -142,12 +142,9 @@ fn prints_bit_vectors(rt: HostRuntime) -> Result<(), Fail> {
         (u128::MAX, 128, "#xffffffffffffffffffffffffffffffff"),
         (u128::MAX, 132, "#x0ffffffffffffffffffffffffffffffff"),
     ] {
-        assert_eq!(rt;
-            print_node(alloc, &bit_vector(val, width), 78)?.as_str(),
-            want
-        );
+        assert_eq!(rt; shown(alloc, bit_vector(val, width), 78)?.as_str(), want);
     }
-    let wide = print_node(alloc, &bit_vector(1, 8001), 78)?;
+    let wide = shown(alloc, bit_vector(1, 8001), 78)?;
     assert_eq!(rt; wide.len(), 8003);
     assert!(rt; wide.as_str().starts_with("#b0000") && wide.as_str().ends_with("0001"));
     Ok(())
@@ -190,19 +187,16 @@ fn variant(alloc: Global, name: &str, variant: &str) -> Result<SpecExpr, AllocEr
 fn prints_trees_that_no_text_gives(rt: HostRuntime) -> Result<(), Fail> {
     let alloc = rt.alloc();
     let (switch, pair) = cases(alloc)?;
-    assert_eq!(rt;
-        print_node(alloc, &switch, 78)?.as_str(),
-        "(switch x (y z))"
-    );
-    assert_eq!(rt; print_node(alloc, &pair, 78)?.as_str(), "(l r)");
+    assert_eq!(rt; shown(alloc, switch, 78)?.as_str(), "(switch x (y z))");
+    assert_eq!(rt; shown(alloc, pair, 78)?.as_str(), "(l r)");
     let operator = variant(alloc, "fp", "eq")?;
-    assert_eq!(rt; print_node(alloc, &operator, 78)?.as_str(), "(fp.eq)");
+    assert_eq!(rt; shown(alloc, operator, 78)?.as_str(), "(fp.eq)");
     let minus = SpecExpr::Op {
         op: SpecOp::Sub,
         args: vec![in alloc; variable(alloc, "a")?, variable(alloc, "b")?]?,
         pos: Pos::default(),
     };
-    assert_eq!(rt; print_node(alloc, &minus, 78)?.as_str(), "(- a b)");
+    assert_eq!(rt; shown(alloc, minus, 78)?.as_str(), "(- a b)");
     Ok(())
 }
 
@@ -216,24 +210,20 @@ fn prints_parts_of_specs(rt: HostRuntime) -> Result<(), Fail> {
         body: variable(alloc, "z")?,
         pos,
     };
-    assert_eq!(rt; print_node(alloc, &arm, 78)?.as_str(), "((A x y) z)");
-    drop(arm);
+    assert_eq!(rt; shown(alloc, arm, 78)?.as_str(), "((A x y) z)");
     let field = FieldInit {
         name: ident(alloc, "a")?,
         value: boxed(alloc, "x")?,
         pos,
     };
-    assert_eq!(rt; print_node(alloc, &field, 78)?.as_str(), "(a x)");
-    drop(field);
+    assert_eq!(rt; shown(alloc, field, 78)?.as_str(), "(a x)");
     let always = Modifies {
         state: ident(alloc, "s")?,
         cond: None,
     };
-    assert_eq!(rt; print_node(alloc, &always, 78)?.as_str(), "(modifies s)");
-    drop(always);
+    assert_eq!(rt; shown(alloc, always, 78)?.as_str(), "(modifies s)");
     let value = ModelValue::ConstValue(bit_vector(1, 1));
-    assert_eq!(rt; print_node(alloc, &value, 78)?.as_str(), "(const #b1)");
-    drop(value);
+    assert_eq!(rt; shown(alloc, value, 78)?.as_str(), "(const #b1)");
     Ok(())
 }
 
@@ -274,7 +264,7 @@ fn prints_definitions_made_of_specs(rt: HostRuntime) -> Result<(), Fail> {
         val: ModelValue::ConstValue(variable(alloc, "c")?),
     };
     let want = "(spec (f x) (provide p) (require r) (match m) (modifies s c))";
-    assert_eq!(rt; print_node(alloc, &spec(alloc)?, 78)?.as_str(), want);
+    assert_eq!(rt; shown(alloc, spec(alloc)?, 78)?.as_str(), want);
     assert_eq!(rt; print_node(alloc, &named, 78)?.as_str(), "(macro (m x) x)");
     assert_eq!(rt;
         print_node(alloc, &state, 78)?.as_str(),
