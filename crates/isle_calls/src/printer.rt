@@ -235,16 +235,22 @@ fn model_field(alloc: Global, name: &str, ty: ModelType) -> Result<ModelField, A
     Ok(ModelField { name: name?, ty })
 }
 
-#[test]
-fn prints_models_of_types(rt: HostRuntime) -> Result<(), Fail> {
-    let alloc = rt.alloc();
-    assert_eq!(rt; shown(alloc, ModelType::BitVec(None), 78)?.as_str(), "(bv)");
+/// `(struct (x (bv 32)) (y (named N)))`
+fn struct_model(alloc: Global) -> Result<ModelType, AllocError> {
     let mut fields = Vec::new(alloc);
     fields.push(model_field(alloc, "x", ModelType::BitVec(Some(32)))?)?;
     fields.push(model_field(alloc, "y", ModelType::Named(ident(alloc, "N")?))?)?;
-    assert_eq!(rt; print_node(alloc, &fields[0], 78)?.as_str(), "(x (bv 32))");
+    Ok(ModelType::Struct(fields))
+}
+
+#[test]
+fn prints_models_of_types(rt: HostRuntime) -> Result<(), Fail> {
+    let alloc = rt.alloc();
+    let field = model_field(alloc, "x", ModelType::BitVec(Some(32)))?;
+    assert_eq!(rt; shown(alloc, field, 78)?.as_str(), "(x (bv 32))");
+    assert_eq!(rt; shown(alloc, ModelType::BitVec(None), 78)?.as_str(), "(bv)");
     let text = "(struct (x (bv 32)) (y (named N)))";
-    assert_eq!(rt; shown(alloc, ModelType::Struct(fields), 78)?.as_str(), text);
+    assert_eq!(rt; shown(alloc, struct_model(alloc)?, 78)?.as_str(), text);
     Ok(())
 }
 
@@ -253,13 +259,15 @@ fn prints_models(rt: HostRuntime) -> Result<(), Fail> {
     let alloc = rt.alloc();
     let model = Model {
         name: ident(alloc, "M")?,
-        val: ModelValue::TypeValue(ModelType::Int),
+        val: ModelValue::TypeValue(struct_model(alloc)?),
     };
     let value = print_node(alloc, &model.val, 78);
     let text = print_node(alloc, &model, 78);
     drop(model);
-    assert_eq!(rt; value?.as_str(), "(type Int)");
-    assert_eq!(rt; text?.as_str(), "(model M (type Int))");
+    let want = "(type (struct (x (bv 32)) (y (named N))))";
+    assert_eq!(rt; value?.as_str(), want);
+    let want = "(model M (type (struct (x (bv 32)) (y (named N)))))";
+    assert_eq!(rt; text?.as_str(), want);
     Ok(())
 }
 
