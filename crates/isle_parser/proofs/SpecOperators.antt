@@ -1,6 +1,6 @@
 -- The operators and their texts: an operator is found by its text, and by no other.
 use Rattle.std.proofs.Common.{◌≡◌, ℕ, Bool, true, false, List, [], ◌∷◌, Option, Some, None, refl, sym, ap, subst, ◌∙◌, ⊎_elim}
-use Rattle.std.specs.Prelude.{codes, filter}
+use Rattle.std.specs.Prelude.{codes, filter, map}
 use Rattle.std.specs.List.{list_all, list_any}
 use Rattle.std.specs.Str.{bytes_eq}
 use Rattle.std.proofs.lemmas.Slice.Eq.{bytes_eq-Decides}
@@ -8,7 +8,7 @@ use Rattle.isle_spec.specs.declared.ast.specs.SpecOp.{SpecOp}
 use Rattle.isle_spec.specs.declared.ast.specs.SpecOp.TheVariants as op
 use Rattle.isle_spec.specs.Operators.{is_operator_text, operator_text, operators}
 use Rattle.isle_ast.specs.SpecGrammar.{is_plain_operator}
-use Rattle.isle_parser.specs.SpecWords.{first_named, discriminator_or_other, expansion_or_other, head_of, keyword_head, operator_head, operator_of, operator_or_name, other_head}
+use Rattle.isle_parser.specs.SpecWords.{in_table, named_row, discriminator_or_other, expansion_or_other, head_of, keyword_head, operator_head, operator_of, operator_or_name, other_head}
 use Rattle.isle_parser.proofs.Keywords.{other_bytes}
 use Rattle.isle_parser.proofs.Readers.{chosen}
 use Rattle.isle_parser.proofs.SpecTexts.{both_true, some_is}
@@ -17,14 +17,14 @@ use Rattle.isle_parser.proofs.SpecTexts.{both_true, some_is}
 abbrev pub IsNamed : List ℕ → SpecOp → Type 0
 IsNamed text o = (is_plain_operator o ≡ true) × (text ≡ operator_text o)
 
-named_is : (os : List SpecOp) (text : List ℕ) (o : SpecOp) → list_all is_plain_operator os ≡ true → first_named os text ≡ Some o → IsNamed text o
+named_is : (os : List SpecOp) (text : List ℕ) (o : SpecOp) → list_all is_plain_operator os ≡ true → in_table (map named_row os) text ≡ Some o → IsNamed text o
 named_is [] text o plain e = absurd cc
 named_is (p ∷ os) text o plain e =
     let each = both_true (is_plain_operator p) (list_all is_plain_operator os) plain in
     ⊎_elim
     (λ found. subst (λ (q : SpecOp). IsNamed text q) (some_is p o found.1) (each.0, (bytes_eq-Decides text (operator_text p)).0 found.0))
     (λ later. named_is os text o each.1 later.1)
-    (chosen (bytes_eq text (operator_text p)) (Some p) (first_named os text) (Some o) e)
+    (chosen (bytes_eq text (operator_text p)) (Some p) (in_table (map named_row os) text) (Some o) e)
 
 -- what is found has this text
 pub operator_is : (text : List ℕ) (o : SpecOp) → operator_of text ≡ Some o → IsNamed text o

@@ -1,5 +1,5 @@
 -- What a symbol says where a spec expression begins: as the head behind a `(`, or by itself.
-use Rattle.std.specs.Prelude.{◌≡◌, ℕ, ◌*◌, ◌^◌, List, [], ◌++◌, ◌∷◌, length, Bool, true, false, ◌&&◌, ◌||◌, ◌==◌, Option, Some, None, option_map, nat_lt, not, if◌then◌else◌, filter, codes}
+use Rattle.std.specs.Prelude.{◌≡◌, ℕ, ◌*◌, ◌^◌, List, [], ◌++◌, ◌∷◌, length, Bool, true, false, ◌&&◌, ◌||◌, ◌==◌, Option, Some, None, option_map, map, nat_lt, not, if◌then◌else◌, filter, codes}
 use Rattle.std.specs.Char.{digit_value}
 use Rattle.std.specs.List.{list_all}
 use Rattle.std.specs.Option.{is_some, option_or}
@@ -65,11 +65,9 @@ around byte [] = None
 around byte (x ∷ text) =
     if x == byte then Some ([], text) else option_map (λ parts. (x ∷ parts.0, parts.1)) (around byte text)
 
--- the first of these operators that has this text
-abbrev pub first_named : List SpecOp → List ℕ → Option SpecOp
-first_named [] text = None
-first_named (operator ∷ operators) text =
-    if bytes_eq text (operator_text operator) then Some operator else first_named operators text
+-- an operator behind its text
+abbrev pub named_row : SpecOp → List ℕ × SpecOp
+named_row operator = (operator_text operator, operator)
 
 -- the operator in the first row with this text
 abbrev pub in_table : List (List ℕ × SpecOp) → List ℕ → Option SpecOp
@@ -78,7 +76,7 @@ in_table (row ∷ rows) text = if bytes_eq text row.0 then Some row.1 else in_ta
 
 -- The operator of this text. It is neither `-`, which no symbol is, nor `switch`, which is a head of its own.
 unfoldable pub operator_of : List ℕ → Option SpecOp
-operator_of = first_named (filter is_plain_operator operators)
+operator_of = in_table (map named_row (filter is_plain_operator operators))
 
 -- the head that one of these words is
 unfoldable pub keyword_head : List ℕ → Option SpecHead
