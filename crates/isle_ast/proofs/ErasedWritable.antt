@@ -1,11 +1,17 @@
 -- Positions play no part in which definitions are writable.
 use Rattle.std.proofs.Common.{◌≡◌, ℕ, ◌+◌, List, [], ◌∷◌, map, Option, None, Some, refl, ◌↔◌}
-use Rattle.isle_spec.specs.Tree.{Name, Declaration, IndexedField, FieldList, unit_fields, struct_fields, tuple_fields, EnumVariant, TypeContent, primitive_type, enum_type, struct_type, AttributeTarget, term_target, rule_target, AttributeKind, chain_kind, priority_kind, tag_kind, TermSignature, ModelContent, type_model, const_model, ExternDefinition, extern_extractor, extern_constructor, extern_const, Definition, type_def, rule, extractor, decl, attr, spec, spec_macro, model, state, form, instantiation, external, converter}
-use Rattle.isle_spec.specs.Words.{IsNonEmpty}
-use Rattle.isle_spec.proofs.ErasedWritableSpecs.{unchanged, each-erased, names-erased, model-erased, spec-erased, spec_definition-erased, spec_macro-erased, state-erased}
-use Rattle.isle_ast.specs.Erased.{erase_name, erase_names, erase_optional, erase_declaration, erase_named_field, erase_indexed_field, erase_fields, erase_variant, erase_type_content, erase_target, erase_kind, erase_signature, erase_model, erase_model_content, erase_extern, erase_definition, erase}
-use Rattle.isle_ast.specs.Writable.{Each, IsWritableModel, IsWritableDeclaration, IsWritableNamedField, AreWritableIndexedFields, AreWritableFields, IsWritableVariant, IsWritableTypeContent, IsWritableTarget, IsWritableKind, IsWritableSignature, AreWritableInstances, IsWritableModelContent, IsWritableExtern, IsWritable, AreWritable}
-use Rattle.isle_ast.proofs.ErasedWritableRules.{rule-erased, extractor-erased}
+use Rattle.isle_ast_names.specs.Tree.{Name}
+use Rattle.isle_ast.specs.Tree.{Declaration, IndexedField, FieldList, unit_fields, struct_fields, tuple_fields, EnumVariant, TypeContent, primitive_type, enum_type, struct_type, AttributeTarget, term_target, rule_target, AttributeKind, chain_kind, priority_kind, tag_kind, TermSignature, ModelContent, type_model, const_model, ExternDefinition, extern_extractor, extern_constructor, extern_const, Definition, type_def, rule, extractor, decl, attr, spec, spec_macro, model, state, form, instantiation, external, converter}
+use Rattle.isle_ast_names.specs.Words.{IsNonEmpty}
+use Rattle.isle_ast_names.proofs.ErasedWritableNames.{unchanged, each-erased, names-erased}
+use Rattle.isle_ast_specs.proofs.ErasedWritableSpecs.{model-erased, spec-erased, spec_definition-erased, spec_macro-erased, state-erased}
+use Rattle.isle_ast_names.specs.Erased.{erase_name, erase_names, erase_optional}
+use Rattle.isle_ast.specs.Erased.{erase_declaration, erase_named_field, erase_indexed_field, erase_fields, erase_variant, erase_type_content, erase_target, erase_kind, erase_signature, erase_model_content, erase_extern, erase_definition, erase}
+use Rattle.isle_ast_specs.specs.Erased.{erase_model}
+use Rattle.isle_ast_names.specs.Writable.{Each}
+use Rattle.isle_ast_specs.specs.Writable.{IsWritableModel}
+use Rattle.isle_ast.specs.Writable.{IsWritableDeclaration, IsWritableNamedField, AreWritableIndexedFields, AreWritableFields, IsWritableVariant, IsWritableTypeContent, IsWritableTarget, IsWritableKind, IsWritableSignature, AreWritableInstances, IsWritableModelContent, IsWritableExtern, IsWritable, AreWritable}
+use Rattle.isle_ast_rules.proofs.ErasedWritableRules.{rule-erased, extractor-erased}
 
 -- there is an element of a list exactly if there is an erased one
 non_empty-erased : {A : Type 0} (erased : A → A) (xs : List A) → IsNonEmpty (map erased xs) ↔ IsNonEmpty xs

@@ -4,9 +4,10 @@ use Rattle.std.proofs.Common.{◌≡◌, ℕ, List, [], ◌∷◌, refl, sym, ap
 use Rattle.isle_base.specs.declared.lexer.Pos.{Pos}
 use Rattle.isle_base.specs.Place.{Placed, nowhere, placed, placed_at}
 use Rattle.isle_base.specs.Token.{Lexeme, Feed}
-use Rattle.isle_spec.specs.Tree.{Definition}
-use Rattle.isle_spec.specs.Words.{SpellsAll}
-use Rattle.isle_ast.specs.Erased.{erase, erase_tokens}
+use Rattle.isle_ast.specs.Tree.{Definition}
+use Rattle.isle_ast_names.specs.Words.{SpellsAll}
+use Rattle.isle_ast.specs.Erased.{erase}
+use Rattle.isle_ast_names.specs.Erased.{erase_tokens}
 use Rattle.isle_ast.specs.Grammar.{SpellsDefinition, SpellsDefinitions}
 use Rattle.isle_ast.specs.Spelt.{Spells}
 use Rattle.isle_ast.proofs.LawfulDefinitions.{definitions_lawful}

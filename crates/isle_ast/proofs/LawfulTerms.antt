@@ -4,11 +4,13 @@ use Rattle.std.specs.Str.{bytes_eq}
 use Rattle.isle_base.specs.declared.lexer.Pos.{Pos}
 use Rattle.isle_base.specs.Place.{Placed, unknown}
 use Rattle.isle_base.specs.Token.{symbol}
-use Rattle.isle_spec.specs.Tree.{Name, Declaration, Conversion, Attribute, AttributeTarget, term_target, rule_target, AttributeKind, chain_kind, priority_kind, tag_kind, ExternDefinition, extern_extractor, extern_constructor, extern_const}
-use Rattle.isle_spec.specs.Words.{SpellsWord, SpellsAll, InParentheses, BehindWord, SpellsName, SpellsFlag}
-use Rattle.isle_ast.specs.Erased.{erase_name, erase_names, erase_declaration, erase_conversion, erase_target, erase_kind, erase_attribute, erase_extern}
-use Rattle.isle_ast.specs.TermGrammar.{demands, term_is_no_flag, SpellsDeclaration, SpellsConversion, SpellsAttributeKind, SpellsAttributeTarget, SpellsAttribute, SpellsConstant, SpellsExtern}
-use Rattle.isle_ast.proofs.Lawful.{Lawful, Begins, Then, At, word_plain, flag_plain, then_plain, parentheses_plain, plain_lawful, value_lawful, name_lawful, constant_lawful, Pair, erase_pair, pair_of_names, pair_lawful, all_lawful, at_lawful, where_lawful, settled_lawful, made_lawful, parentheses_lawful, word_lawful, token_begins, name_begins}
+use Rattle.isle_ast_names.specs.Tree.{Name}
+use Rattle.isle_ast.specs.Tree.{Declaration, Conversion, Attribute, AttributeTarget, term_target, rule_target, AttributeKind, chain_kind, priority_kind, tag_kind, ExternDefinition, extern_extractor, extern_constructor, extern_const}
+use Rattle.isle_ast_names.specs.Words.{SpellsWord, SpellsAll, InParentheses, BehindWord, SpellsName, SpellsFlag, demands, SpellsConstant}
+use Rattle.isle_ast_names.specs.Erased.{erase_name, erase_names}
+use Rattle.isle_ast.specs.Erased.{erase_declaration, erase_conversion, erase_target, erase_kind, erase_attribute, erase_extern}
+use Rattle.isle_ast.specs.TermGrammar.{term_is_no_flag, SpellsDeclaration, SpellsConversion, SpellsAttributeKind, SpellsAttributeTarget, SpellsAttribute, SpellsExtern}
+use Rattle.isle_ast_names.proofs.Lawful.{Lawful, Begins, Then, At, word_plain, flag_plain, then_plain, parentheses_plain, plain_lawful, value_lawful, name_lawful, constant_lawful, Pair, erase_pair, pair_of_names, pair_lawful, all_lawful, at_lawful, where_lawful, settled_lawful, made_lawful, parentheses_lawful, word_lawful, token_begins, name_begins}
 
 names_lawful : (ns : List Name) → Lawful (SpellsAll SpellsName) erase_names ns
 names_lawful ns = all_lawful SpellsName erase_name name_lawful ns

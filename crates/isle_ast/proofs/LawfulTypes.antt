@@ -3,11 +3,13 @@ use Rattle.std.proofs.Common.{◌≡◌, ℕ, ◌+◌, List, [], ◌∷◌, Bool
 use Rattle.isle_base.specs.declared.lexer.Pos.{Pos}
 use Rattle.isle_base.specs.Place.{Placed, unknown}
 use Rattle.isle_base.specs.Token.{lparen, symbol}
-use Rattle.isle_spec.specs.Tree.{Name, NamedField, IndexedField, FieldList, unit_fields, struct_fields, tuple_fields, EnumVariant, TypeContent, primitive_type, enum_type, struct_type, TypeDefinition}
-use Rattle.isle_spec.specs.Words.{SpellsToken, SpellsWord, SpellsAll, InParentheses, BehindWord, SpellsName, IsNonEmpty}
-use Rattle.isle_ast.specs.Erased.{erase_name, erase_named_field, erase_indexed_field, erase_fields, erase_variant, erase_type_content, erase_type, erase_tokens}
+use Rattle.isle_ast_names.specs.Tree.{Name}
+use Rattle.isle_ast.specs.Tree.{NamedField, IndexedField, FieldList, unit_fields, struct_fields, tuple_fields, EnumVariant, TypeContent, primitive_type, enum_type, struct_type, TypeDefinition}
+use Rattle.isle_ast_names.specs.Words.{SpellsToken, SpellsWord, SpellsAll, InParentheses, BehindWord, SpellsName, IsNonEmpty}
+use Rattle.isle_ast_names.specs.Erased.{erase_name, erase_tokens}
+use Rattle.isle_ast.specs.Erased.{erase_named_field, erase_indexed_field, erase_fields, erase_variant, erase_type_content, erase_type}
 use Rattle.isle_ast.specs.TypeGrammar.{SpellsNamedField, SpellsIndexedFields, SpellsFields, SpellsVariant, SpellsTypeContent, SpellsModifiers, SpellsTypeDefinition}
-use Rattle.isle_ast.proofs.Lawful.{Cuts, Erases, Places, Plain, Lawful, Begins, Then, At, agree_from, then_cuts, word_plain, nothing_plain, then_plain, plain_lawful, name_lawful, Pair, erase_pair, pair_of_names, pair_lawful, all_lawful, at_lawful, non_empty_lawful, settled_lawful, either_lawful, made_lawful, parentheses_lawful, word_lawful, name_begins, parentheses_begin}
+use Rattle.isle_ast_names.proofs.Lawful.{Cuts, Erases, Places, Plain, Lawful, Begins, Then, At, agree_from, then_cuts, word_plain, nothing_plain, then_plain, plain_lawful, name_lawful, Pair, erase_pair, pair_of_names, pair_lawful, all_lawful, at_lawful, non_empty_lawful, settled_lawful, either_lawful, made_lawful, parentheses_lawful, word_lawful, name_begins, parentheses_begin}
 
 -- fields
 

@@ -1,33 +1,22 @@
--- Each relation of the grammar is by parts.
-use Rattle.std.proofs.Common.{◌↔◌, List, [], ◌∷◌, map, sym, subst}
+-- Each relation of definitions is by parts, and their laws together.
+use Rattle.std.proofs.Common.{[], ◌↔◌, List, ◌∷◌, map, sym, subst}
 use Rattle.isle_base.specs.Place.{Placed}
-use Rattle.isle_spec.specs.Tree.{Name, Declaration, Conversion, TypeModel, TypeDefinition, Attribute, SpecNode, SpecDefinition, SpecMacroDefinition, StateDefinition, FormDefinition, TermInstantiation, ModelDefinition, PatternNode, Expression, Condition, RuleDefinition, ExtractorDefinition, ExternDefinition, Definition}
-use Rattle.isle_spec.specs.Words.{SpellsAll, SpellsName}
-use Rattle.isle_ast.specs.Erased.{erase_name}
-use Rattle.isle_ast.specs.ExpressionGrammar.{SpellsExpression}
+use Rattle.isle_ast_names.specs.Tree.{Name}
+use Rattle.isle_ast.specs.Tree.{Declaration, Conversion, TypeDefinition, Attribute, FormDefinition, TermInstantiation, ModelDefinition, ExternDefinition, Definition}
+use Rattle.isle_ast_names.specs.Words.{SpellsAll, SpellsName}
+use Rattle.isle_ast_names.specs.Erased.{erase_name}
 use Rattle.isle_ast.specs.Grammar.{SpellsDefinition, SpellsDefinitions}
-use Rattle.isle_ast.specs.ModelGrammar.{SpellsTypeModel, SpellsForm, SpellsInstantiation, SpellsModel}
-use Rattle.isle_ast.specs.Parts.{IsByParts, AreParts}
-use Rattle.isle_ast.specs.PatternGrammar.{SpellsPattern}
-use Rattle.isle_ast.specs.RuleGrammar.{SpellsCondition, SpellsRule, SpellsExtractor}
-use Rattle.isle_ast.specs.SpecDefinitionGrammar.{SpellsSpecDefinition, SpellsSpecMacro, SpellsState}
-use Rattle.isle_ast.specs.SpecGrammar.{SpellsSpec}
+use Rattle.isle_ast.specs.ModelGrammar.{SpellsForm, SpellsInstantiation, SpellsModel}
+use Rattle.isle_ast_names.specs.Parts.{IsByParts, AreParts}
 use Rattle.isle_ast.specs.TermGrammar.{SpellsDeclaration, SpellsAttribute, SpellsExtern, SpellsConversion}
 use Rattle.isle_ast.specs.TypeGrammar.{SpellsTypeDefinition}
-use Rattle.isle_ast.proofs.Lawful.{Lawful, name_lawful, all_lawful}
+use Rattle.isle_ast_names.proofs.Lawful.{name_lawful, all_lawful}
 use Rattle.isle_ast.proofs.LawfulDefinitions.{definition_lawful}
-use Rattle.isle_ast.proofs.LawfulExpressions.{expression_lawful}
 use Rattle.isle_ast.proofs.LawfulModelContents.{model_definition_lawful}
-use Rattle.isle_ast.proofs.LawfulModels.{model_lawful, form_lawful, instantiation_lawful}
-use Rattle.isle_ast.proofs.LawfulPatterns.{pattern_lawful}
-use Rattle.isle_ast.proofs.LawfulRules.{condition_lawful, rule_lawful, extractor_lawful}
-use Rattle.isle_ast.proofs.LawfulSpecDefinitions.{spec_definition_cuts, spec_macro_lawful, state_lawful}
-use Rattle.isle_ast.proofs.LawfulSpecs.{spec_lawful}
+use Rattle.isle_ast.proofs.LawfulForms.{form_lawful, instantiation_lawful}
 use Rattle.isle_ast.proofs.LawfulTerms.{declaration_lawful, attribute_lawful, extern_lawful, conversion_lawful}
 use Rattle.isle_ast.proofs.LawfulTypes.{type_lawful}
-
-by_parts : {A : Type 0} (Spells : A → List Placed → List Placed → Type 0) (erase : A → A) (x : A) → Lawful Spells erase x → IsByParts (Spells x)
-by_parts Spells erase x lawful all rest = (lawful.cuts all rest, λ h. subst (λ xs. Spells x xs rest) (sym h.1) (h.2 rest))
+use Rattle.isle_ast_names.proofs.Parts.{by_parts}
 
 pub names_by_parts : (n : Name) → IsByParts (SpellsName n)
 names_by_parts n = by_parts SpellsName erase_name n (name_lawful n)
@@ -44,9 +33,6 @@ declarations_by_parts d = by_parts SpellsDeclaration _ d (declaration_lawful d)
 pub attributes_by_parts : (a : Attribute) → IsByParts (SpellsAttribute a)
 attributes_by_parts a = by_parts SpellsAttribute _ a (attribute_lawful a)
 
-pub type_models_by_parts : (t : TypeModel) → IsByParts (SpellsTypeModel t)
-type_models_by_parts t = by_parts SpellsTypeModel _ t (model_lawful t)
-
 pub models_by_parts : (m : ModelDefinition) → IsByParts (SpellsModel m)
 models_by_parts m = by_parts SpellsModel _ m (model_definition_lawful m)
 
@@ -55,34 +41,6 @@ forms_by_parts f = by_parts SpellsForm _ f (form_lawful f)
 
 pub instantiations_by_parts : (i : TermInstantiation) → IsByParts (SpellsInstantiation i)
 instantiations_by_parts i = by_parts SpellsInstantiation _ i (instantiation_lawful i)
-
-pub patterns_by_parts : (p : PatternNode) → IsByParts (SpellsPattern p)
-patterns_by_parts p = by_parts SpellsPattern _ p (pattern_lawful p)
-
-pub expressions_by_parts : (x : Expression) → IsByParts (SpellsExpression x)
-expressions_by_parts x = by_parts SpellsExpression _ x (expression_lawful x)
-
-pub conditions_by_parts : (c : Condition) → IsByParts (SpellsCondition c)
-conditions_by_parts c = by_parts SpellsCondition _ c (condition_lawful c)
-
-pub rules_by_parts : (r : RuleDefinition) → IsByParts (SpellsRule r)
-rules_by_parts r = by_parts SpellsRule _ r (rule_lawful r)
-
-pub extractors_by_parts : (e : ExtractorDefinition) → IsByParts (SpellsExtractor e)
-extractors_by_parts e = by_parts SpellsExtractor _ e (extractor_lawful e)
-
-pub specs_by_parts : (x : SpecNode) → IsByParts (SpellsSpec x)
-specs_by_parts x = by_parts SpellsSpec _ x (spec_lawful x)
-
-pub spec_definitions_by_parts : (s : SpecDefinition) → IsByParts (SpellsSpecDefinition s)
-spec_definitions_by_parts s all rest =
-    (spec_definition_cuts s all rest, λ h. subst (λ xs. SpellsSpecDefinition s xs rest) (sym h.1) (h.2 rest))
-
-pub spec_macros_by_parts : (m : SpecMacroDefinition) → IsByParts (SpellsSpecMacro m)
-spec_macros_by_parts m = by_parts SpellsSpecMacro _ m (spec_macro_lawful m)
-
-pub states_by_parts : (s : StateDefinition) → IsByParts (SpellsState s)
-states_by_parts s = by_parts SpellsState _ s (state_lawful s)
 
 pub externs_by_parts : (e : ExternDefinition) → IsByParts (SpellsExtern e)
 externs_by_parts e = by_parts SpellsExtern _ e (extern_lawful e)

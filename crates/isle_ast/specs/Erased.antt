@@ -1,9 +1,10 @@
--- A tree erased: each position is the default one, which stands for an unknown place.
+-- Definitions erased: each position is the default one, which stands for an unknown place.
 use Rattle.std.specs.Prelude.{List, map}
-use Rattle.isle_base.specs.Place.{Placed, unknown}
-use Rattle.isle_spec.specs.SpecErased.{erase_spec, erase_spec_definition, erase_spec_macro, erase_state}
-use Rattle.isle_spec.specs.Tree.{Declaration, Conversion, NamedField, IndexedField, FieldList, unit_fields, struct_fields, tuple_fields, EnumVariant, TypeContent, primitive_type, enum_type, struct_type, TypeDefinition, AttributeTarget, term_target, rule_target, AttributeKind, chain_kind, priority_kind, tag_kind, Attribute, TermSignature, FormDefinition, TermInstantiation, ModelContent, type_model, const_model, ModelDefinition, PatternNode, var_pattern, bind_pattern, bool_pattern, int_pattern, constant_pattern, term_pattern, wildcard_pattern, and_pattern, macro_arg_pattern, PatternRow, no_pattern, more_pattern, Expression, term_expression, var_expression, bool_expression, int_expression, constant_expression, let_expression, ExpressionRow, no_expression, more_expression, LetRow, no_let, more_let, Condition, RuleDefinition, ExtractorDefinition, ExternDefinition, extern_extractor, extern_constructor, extern_const, Definition, type_def, rule, extractor, decl, attr, spec, spec_macro, model, state, form, instantiation, external, converter}
-pub use Rattle.isle_spec.specs.ErasedModel.{erase_name, erase_names, erase_optional, erase_model, erase_model_fields}
+use Rattle.isle_base.specs.Place.{unknown}
+use Rattle.isle_ast_specs.specs.Erased.{erase_spec, erase_spec_definition, erase_spec_macro, erase_state, erase_model}
+use Rattle.isle_ast.specs.Tree.{Declaration, Conversion, NamedField, IndexedField, FieldList, unit_fields, struct_fields, tuple_fields, EnumVariant, TypeContent, primitive_type, enum_type, struct_type, TypeDefinition, AttributeTarget, term_target, rule_target, AttributeKind, chain_kind, priority_kind, tag_kind, Attribute, TermSignature, FormDefinition, TermInstantiation, ModelContent, type_model, const_model, ModelDefinition, ExternDefinition, extern_extractor, extern_constructor, extern_const, Definition, type_def, rule, extractor, decl, attr, spec, spec_macro, model, state, form, instantiation, external, converter}
+use Rattle.isle_ast_names.specs.Erased.{erase_name, erase_names, erase_optional}
+use Rattle.isle_ast_rules.specs.Erased.{erase_rule, erase_extractor}
 
 abbrev pub erase_declaration : Declaration → Declaration
 erase_declaration d =
@@ -81,63 +82,6 @@ erase_model_content (const_model value) = const_model (erase_spec value)
 abbrev pub erase_model_definition : ModelDefinition → ModelDefinition
 erase_model_definition m = record { name = erase_name m.name; val = erase_model_content m.val }
 
-abbrev mutual
-  pub erase_pattern : PatternNode → PatternNode
-  erase_pattern (var_pattern var _) = var_pattern (erase_name var) unknown
-  erase_pattern (bind_pattern var subpat _) = bind_pattern (erase_name var) (erase_pattern subpat) unknown
-  erase_pattern (bool_pattern val _) = bool_pattern val unknown
-  erase_pattern (int_pattern val _) = int_pattern val unknown
-  erase_pattern (constant_pattern val _) = constant_pattern (erase_name val) unknown
-  erase_pattern (term_pattern sym args _) = term_pattern (erase_name sym) (erase_patterns args) unknown
-  erase_pattern (wildcard_pattern _) = wildcard_pattern unknown
-  erase_pattern (and_pattern subpats _) = and_pattern (erase_patterns subpats) unknown
-  erase_pattern (macro_arg_pattern index _) = macro_arg_pattern index unknown
-
-  pub erase_patterns : PatternRow → PatternRow
-  erase_patterns no_pattern = no_pattern
-  erase_patterns (more_pattern p ps) = more_pattern (erase_pattern p) (erase_patterns ps)
-
-abbrev mutual
-  pub erase_expression : Expression → Expression
-  erase_expression (term_expression sym args _) = term_expression (erase_name sym) (erase_expressions args) unknown
-  erase_expression (var_expression name _) = var_expression (erase_name name) unknown
-  erase_expression (bool_expression val _) = bool_expression val unknown
-  erase_expression (int_expression val _) = int_expression val unknown
-  erase_expression (constant_expression val _) = constant_expression (erase_name val) unknown
-  erase_expression (let_expression defs body _) = let_expression (erase_lets defs) (erase_expression body) unknown
-
-  pub erase_expressions : ExpressionRow → ExpressionRow
-  erase_expressions no_expression = no_expression
-  erase_expressions (more_expression x xs) = more_expression (erase_expression x) (erase_expressions xs)
-
-  pub erase_lets : LetRow → LetRow
-  erase_lets no_let = no_let
-  erase_lets (more_let var ty val _ lets) =
-      more_let (erase_name var) (erase_name ty) (erase_expression val) unknown (erase_lets lets)
-
-abbrev pub erase_condition : Condition → Condition
-erase_condition c = record { pattern = erase_pattern c.pattern; expr = erase_expression c.expr; pos = unknown }
-
-abbrev pub erase_rule : RuleDefinition → RuleDefinition
-erase_rule r =
-    record {
-      pattern = erase_pattern r.pattern;
-      iflets = map erase_condition r.iflets;
-      expr = erase_expression r.expr;
-      pos = unknown;
-      prio = r.prio;
-      name = erase_optional r.name;
-    }
-
-abbrev pub erase_extractor : ExtractorDefinition → ExtractorDefinition
-erase_extractor e =
-    record {
-      term = erase_name e.term;
-      args = erase_names e.args;
-      template = erase_pattern e.template;
-      pos = unknown;
-    }
-
 abbrev pub erase_extern : ExternDefinition → ExternDefinition
 erase_extern (extern_extractor term func _ infallible) =
     extern_extractor (erase_name term) (erase_name func) unknown infallible
@@ -161,10 +105,3 @@ erase_definition (converter c) = converter (erase_conversion c)
 
 abbrev pub erase : List Definition → List Definition
 erase ds = map erase_definition ds
-
--- tokens erased in the same way
-abbrev pub erase_token : Placed → Placed
-erase_token x = record x { pos = unknown }
-
-abbrev pub erase_tokens : List Placed → List Placed
-erase_tokens xs = map erase_token xs

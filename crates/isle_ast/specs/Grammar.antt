@@ -1,19 +1,15 @@
 -- The grammar of ISLE: which tokens spell which definition. Each relation goes from the tokens to come,
 -- `all`, to the tokens behind the spelling, `rest`: it says that `all` begins with a spelling of
 -- the node and that `rest` follows it. Several lists of tokens may spell one node.
-use Rattle.std.specs.Prelude.{ℕ, List, [], codes}
+use Rattle.std.specs.Prelude.{[], List, codes}
 use Rattle.isle_base.specs.Place.{Placed}
-use Rattle.isle_spec.specs.Tree.{Definition, type_def, rule, extractor, decl, attr, spec, spec_macro, model, state, form, instantiation, external, converter}
-use Rattle.isle_spec.specs.Words.{SpellsAll, InParentheses, BehindWord}
+use Rattle.isle_ast.specs.Tree.{Definition, type_def, rule, extractor, decl, attr, spec, spec_macro, model, state, form, instantiation, external, converter}
+use Rattle.isle_ast_names.specs.Words.{SpellsAll, InForm}
 use Rattle.isle_ast.specs.ModelGrammar.{SpellsForm, SpellsInstantiation, SpellsModel}
-use Rattle.isle_ast.specs.RuleGrammar.{SpellsRule, SpellsExtractor}
-use Rattle.isle_ast.specs.SpecDefinitionGrammar.{SpellsSpecDefinition, SpellsSpecMacro, SpellsState}
+use Rattle.isle_ast_rules.specs.RuleGrammar.{SpellsRule, SpellsExtractor}
+use Rattle.isle_ast_specs.specs.SpecDefinitionGrammar.{SpellsSpecDefinition, SpellsSpecMacro, SpellsState}
 use Rattle.isle_ast.specs.TermGrammar.{SpellsDeclaration, SpellsAttribute, SpellsExtern, SpellsConversion}
 use Rattle.isle_ast.specs.TypeGrammar.{SpellsTypeDefinition}
-
--- a keyword and what stands behind it, in parentheses
-abbrev pub InForm : List ℕ → (List Placed → List Placed → Type 0) → List Placed → List Placed → Type 0
-InForm word Spells = InParentheses (BehindWord word Spells)
 
 -- Each kind by its keyword. No pragma is spelt.
 abbrev pub SpellsDefinition : Definition → List Placed → List Placed → Type 0

@@ -1,10 +1,11 @@
 -- The definitions that are made of models of types: `model`, `form` and `instantiate`.
 use Rattle.std.specs.Prelude.{◌≡◌, List, [], Option, None, Some, codes}
 use Rattle.isle_base.specs.Place.{Placed}
-use Rattle.isle_spec.specs.Tree.{Name, TermSignature, FormDefinition, TermInstantiation, ModelContent, type_model, const_model, ModelDefinition}
-use Rattle.isle_spec.specs.Words.{BeginsAt, SpellsAll, InParentheses, BehindWord, SpellsName, IsNonEmpty}
-use Rattle.isle_ast.specs.SpecGrammar.{SpellsSpec}
-pub use Rattle.isle_ast.specs.TypeModelGrammar.{SpellsTypeModel, SpellsModelFields}
+use Rattle.isle_ast_names.specs.Tree.{Name}
+use Rattle.isle_ast.specs.Tree.{TermSignature, FormDefinition, TermInstantiation, ModelContent, type_model, const_model, ModelDefinition}
+use Rattle.isle_ast_names.specs.Words.{BeginsAt, SpellsAll, InParentheses, BehindWord, SpellsName, IsNonEmpty}
+use Rattle.isle_ast_specs.specs.SpecGrammar.{SpellsSpec}
+use Rattle.isle_ast_specs.specs.TypeModelGrammar.{SpellsTypeModel}
 
 -- `((args MODEL..) (ret MODEL))`, at the position of the token behind its `(`
 abbrev pub SpellsSignature : TermSignature → List Placed → List Placed → Type 0

@@ -5,7 +5,7 @@ use Rattle.isle_base.specs.Lexing.{lexes}
 use Rattle.isle_base.specs.Token.{Feed, Lexeme, end}
 use Rattle.isle_ast.specs.Grammar.{SpellsDefinitions}
 use Rattle.isle_base.specs.Place.{placed}
-use Rattle.isle_spec.specs.Tree.{Definition}
+use Rattle.isle_ast.specs.Tree.{Definition}
 
 -- What a lexer has still to give ends with the text, and its tokens spell these definitions, where
 -- a token stands at the position that `place` gives to its offset.

@@ -1,15 +1,10 @@
 -- The definitions of terms: `decl`, `attr`, `extern` and `convert`.
-use Rattle.std.specs.Prelude.{◌≡◌, ℕ, List, ◌∷◌, Bool, true, false, ◌&&◌, ◌||◌, not, codes}
+use Rattle.std.specs.Prelude.{◌≡◌, List, Bool, true, false, ◌&&◌, ◌||◌, codes}
 use Rattle.std.specs.Str.{bytes_eq}
 use Rattle.isle_base.specs.Place.{Placed}
-use Rattle.isle_base.specs.Token.{symbol}
-use Rattle.isle_spec.specs.Identifier.{is_identifier}
-use Rattle.isle_spec.specs.Tree.{Name, Declaration, Conversion, Attribute, AttributeTarget, term_target, rule_target, AttributeKind, chain_kind, priority_kind, tag_kind, ExternDefinition, extern_extractor, extern_constructor, extern_const}
-use Rattle.isle_spec.specs.Words.{SpellsWord, BeginsAt, SpellsAll, InParentheses, BehindWord, SpellsName, SpellsFlag}
-
--- what this text demands of a flag, where it is this word
-abbrev pub demands : List ℕ → List ℕ → Bool → Bool
-demands text word flag = not (bytes_eq text word) || flag
+use Rattle.isle_ast_names.specs.Tree.{Name}
+use Rattle.isle_ast.specs.Tree.{Declaration, Conversion, Attribute, AttributeTarget, term_target, rule_target, AttributeKind, chain_kind, priority_kind, tag_kind, ExternDefinition, extern_extractor, extern_constructor, extern_const}
+use Rattle.isle_ast_names.specs.Words.{SpellsWord, BeginsAt, SpellsAll, InParentheses, BehindWord, SpellsName, SpellsFlag, demands, SpellsConstant}
 
 -- A term that is the word of a flag is read as that flag where no later flag is set. So such a term
 -- wants its own flag or a later one.
@@ -65,11 +60,6 @@ pub record SpellsAttribute (a : Attribute) (all rest : List Placed) : Type 0 whe
   pub behind_target : List Placed
   pub target : SpellsAttributeTarget a.target all behind_target
   pub kinds : SpellsAll SpellsAttributeKind a.kinds behind_target rest
-
--- a constant: `$` and its name, which together are an identifier. The name may be empty.
-abbrev pub SpellsConstant : Name → List Placed → List Placed → Type 0
-SpellsConstant name all rest =
-    (is_identifier (36 ∷ name.text) ≡ true) × (all ≡ record { pos = name.pos; token = symbol (36 ∷ name.text) } ∷ rest)
 
 -- two names
 abbrev pub SpellsPair : Name → Name → List Placed → List Placed → Type 0

@@ -1,15 +1,12 @@
--- The tree of the code, as pure values.
-use Rattle.isle_base.specs.declared.lexer.Pos.{Pos}
-use Rattle.std.specs.Prelude.{List, [], ◌∷◌, map}
-use Rattle.isle_spec.specs.SpecView.{spec_of, spec_definition_of, spec_macro_of, state_of}
-use Rattle.isle_spec.specs.Tree.{Name, Declaration, Conversion, NamedField, IndexedField, FieldList, unit_fields, struct_fields, tuple_fields, EnumVariant, TypeContent, primitive_type, enum_type, struct_type, TypeDefinition, AttributeTarget, term_target, rule_target, AttributeKind, chain_kind, priority_kind, tag_kind, Attribute, TermSignature, FormDefinition, TermInstantiation, ModelContent, type_model, const_model, ModelDefinition, PatternNode, var_pattern, bind_pattern, bool_pattern, int_pattern, constant_pattern, term_pattern, wildcard_pattern, and_pattern, macro_arg_pattern, PatternRow, no_pattern, more_pattern, Expression, term_expression, var_expression, bool_expression, int_expression, constant_expression, let_expression, ExpressionRow, no_expression, more_expression, LetRow, no_let, more_let, Condition, RuleDefinition, ExtractorDefinition, ExternDefinition, extern_extractor, extern_constructor, extern_const, Definition, type_def, rule, extractor, decl, attr, spec, spec_macro, model, state, form, instantiation, external, converter}
-pub use Rattle.isle_spec.specs.ModelView.{name_of, names_of, optional_name_of, SingleModelField, model_row_of, model_type_step, model_field_step, type_model_of, single_model_field_of, single_model_fields_of}
+-- The definitions of the code, as pure values.
+use Rattle.std.specs.Prelude.{List, map}
+use Rattle.isle_ast_specs.specs.TreeView.{spec_of, spec_definition_of, spec_macro_of, state_of, type_model_of}
+use Rattle.isle_ast.specs.Tree.{Declaration, Conversion, NamedField, IndexedField, FieldList, unit_fields, struct_fields, tuple_fields, EnumVariant, TypeContent, primitive_type, enum_type, struct_type, TypeDefinition, AttributeTarget, term_target, rule_target, AttributeKind, chain_kind, priority_kind, tag_kind, Attribute, TermSignature, FormDefinition, TermInstantiation, ModelContent, type_model, const_model, ModelDefinition, ExternDefinition, extern_extractor, extern_constructor, extern_const, Definition, type_def, rule, extractor, decl, attr, spec, spec_macro, model, state, form, instantiation, external, converter}
+use Rattle.isle_ast_names.specs.TreeView.{name_of, names_of, optional_name_of}
 use Rattle.isle_ast.specs.declared.ast.TypeDef.{TypeDef}
 use Rattle.isle_ast.specs.declared.ast.TypeValue.{TypeValue}
-use Rattle.isle_ast.specs.declared.ast.TypeValue.TheVariants as type_values
 use Rattle.isle_ast.specs.declared.ast.Variant.{Variant}
 use Rattle.isle_ast.specs.declared.ast.Fields.{Fields}
-use Rattle.isle_ast.specs.declared.ast.Fields.TheVariants as fields
 use Rattle.isle_ast.specs.declared.ast.StructFields.{StructFields}
 use Rattle.isle_ast.specs.declared.ast.StructField.{StructField}
 use Rattle.isle_ast.specs.declared.ast.TupleFields.{TupleFields}
@@ -18,28 +15,23 @@ use Rattle.isle_ast.specs.declared.ast.Decl.{Decl}
 use Rattle.isle_ast.specs.declared.ast.Instantiation.{Instantiation}
 use Rattle.isle_ast.specs.declared.ast.Attr.{Attr}
 use Rattle.isle_ast.specs.declared.ast.AttrTarget.{AttrTarget}
-use Rattle.isle_ast.specs.declared.ast.AttrTarget.TheVariants as targets
 use Rattle.isle_ast.specs.declared.ast.AttrKind.{AttrKind}
-use Rattle.isle_ast.specs.declared.ast.AttrKind.TheVariants as kinds
 use Rattle.isle_ast.specs.declared.ast.ModelValue.{ModelValue}
-use Rattle.isle_ast.specs.declared.ast.ModelValue.TheVariants as model_values
 use Rattle.isle_ast.specs.declared.ast.Model.{Model}
 use Rattle.isle_ast.specs.declared.ast.Signature.{Signature}
 use Rattle.isle_ast.specs.declared.ast.Form.{Form}
-use Rattle.isle_ast.specs.declared.ast.Rule.{Rule}
-use Rattle.isle_ast.specs.declared.ast.IfLet.{IfLet}
-use Rattle.isle_ast.specs.declared.ast.Extractor.{Extractor}
-use Rattle.isle_ast.specs.declared.ast.Pattern.{Pattern}
-use Rattle.isle_ast.specs.declared.ast.Pattern.TheOpen.{Pattern-F}
-use Rattle.isle_ast.specs.declared.ast.Pattern.TheFolds.{fold-Pattern}
-use Rattle.isle_ast.specs.declared.ast.Expr.{Expr}
-use Rattle.isle_ast.specs.declared.ast.Expr.TheOpen.{Expr-F, LetDef-F}
-use Rattle.isle_ast.specs.declared.ast.Expr.TheFolds.{fold-Expr, fold-LetDef}
-use Rattle.isle_ast.specs.declared.ast.LetDef.{LetDef}
+use Rattle.isle_ast_rules.specs.declared.ast.Rule.{Rule}
+use Rattle.isle_ast_rules.specs.declared.ast.Extractor.{Extractor}
 use Rattle.isle_ast.specs.declared.ast.Extern.{Extern}
-use Rattle.isle_ast.specs.declared.ast.Extern.TheVariants as externs
 use Rattle.isle_ast.specs.declared.ast.Converter.{Converter}
 use Rattle.isle_ast.specs.declared.ast.Def.{Def}
+use Rattle.isle_ast_rules.specs.TreeView.{rule_of, extractor_of}
+use Rattle.isle_ast.specs.declared.ast.TypeValue.TheVariants as type_values
+use Rattle.isle_ast.specs.declared.ast.Fields.TheVariants as fields
+use Rattle.isle_ast.specs.declared.ast.AttrTarget.TheVariants as targets
+use Rattle.isle_ast.specs.declared.ast.AttrKind.TheVariants as kinds
+use Rattle.isle_ast.specs.declared.ast.ModelValue.TheVariants as model_values
+use Rattle.isle_ast.specs.declared.ast.Extern.TheVariants as externs
 use Rattle.isle_ast.specs.declared.ast.Def.TheVariants as variants
 
 abbrev pub declaration_of : Decl → Declaration
@@ -135,92 +127,6 @@ instantiation_of i =
       signatures = signatures_of i.signatures.items;
       tags = names_of i.tags.items;
       pos = i.pos;
-    }
-
-abbrev pub pattern_row_of : List PatternNode → PatternRow
-pattern_row_of [] = no_pattern
-pattern_row_of (p ∷ ps) = more_pattern p (pattern_row_of ps)
-
--- one node, with the pure value of each part in its place
-abbrev pub pattern_step : Pattern-F PatternNode → PatternNode
-pattern_step (Pattern-F.Var var place) = var_pattern (name_of var) place
-pattern_step (Pattern-F.BindPattern var subpat place) = bind_pattern (name_of var) subpat.value place
-pattern_step (Pattern-F.ConstBool val place) = bool_pattern val place
-pattern_step (Pattern-F.ConstInt val place) = int_pattern val place
-pattern_step (Pattern-F.ConstPrim val place) = constant_pattern (name_of val) place
-pattern_step (Pattern-F.Term sym args place) = term_pattern (name_of sym) (pattern_row_of args.items) place
-pattern_step (Pattern-F.Wildcard place) = wildcard_pattern place
-pattern_step (Pattern-F.And subpats place) = and_pattern (pattern_row_of subpats.items) place
-pattern_step (Pattern-F.MacroArg index place) = macro_arg_pattern index place
-
-abbrev pub pattern_of : Pattern → PatternNode
-pattern_of = fold-Pattern PatternNode pattern_step
-
-abbrev pub patterns_of : List Pattern → List PatternNode
-patterns_of ps = map pattern_of ps
-
--- a definition of a `let`, by itself
-pub record SingleLet : Type 0 where
-  pub var : Name
-  pub ty : Name
-  pub val : Expression
-  pub pos : Pos
-
-abbrev pub expression_row_of : List Expression → ExpressionRow
-expression_row_of [] = no_expression
-expression_row_of (x ∷ xs) = more_expression x (expression_row_of xs)
-
-abbrev pub let_row_of : List SingleLet → LetRow
-let_row_of [] = no_let
-let_row_of (d ∷ ds) = more_let d.var d.ty d.val d.pos (let_row_of ds)
-
-abbrev pub expression_step : Expr-F Expression SingleLet → Expression
-expression_step (Expr-F.Term sym args place) = term_expression (name_of sym) (expression_row_of args.items) place
-expression_step (Expr-F.Var name place) = var_expression (name_of name) place
-expression_step (Expr-F.ConstBool val place) = bool_expression val place
-expression_step (Expr-F.ConstInt val place) = int_expression val place
-expression_step (Expr-F.ConstPrim val place) = constant_expression (name_of val) place
-expression_step (Expr-F.Let defs body place) = let_expression (let_row_of defs.items) body.value place
-
-abbrev pub let_step : LetDef-F Expression SingleLet → SingleLet
-let_step d = record { var = name_of d.var; ty = name_of d.ty; val = d.val.value; pos = d.pos }
-
-abbrev pub expression_of : Expr → Expression
-expression_of = fold-Expr Expression SingleLet expression_step let_step
-
-abbrev pub single_let_of : LetDef → SingleLet
-single_let_of = fold-LetDef Expression SingleLet expression_step let_step
-
-abbrev pub expressions_of : List Expr → List Expression
-expressions_of xs = map expression_of xs
-
-abbrev pub single_lets_of : List LetDef → List SingleLet
-single_lets_of ds = map single_let_of ds
-
-abbrev pub condition_of : IfLet → Condition
-condition_of c = record { pattern = pattern_of c.pattern; expr = expression_of c.expr; pos = c.pos }
-
-abbrev pub conditions_of : List IfLet → List Condition
-conditions_of cs = map condition_of cs
-
-abbrev pub rule_of : Rule → RuleDefinition
-rule_of r =
-    record {
-      pattern = pattern_of r.pattern;
-      iflets = conditions_of r.iflets.items;
-      expr = expression_of r.expr;
-      pos = r.pos;
-      prio = r.prio;
-      name = optional_name_of r.name;
-    }
-
-abbrev pub extractor_of : Extractor → ExtractorDefinition
-extractor_of e =
-    record {
-      term = name_of e.term;
-      args = names_of e.args.items;
-      template = pattern_of e.template;
-      pos = e.pos;
     }
 
 abbrev pub extern_of : Extern → ExternDefinition

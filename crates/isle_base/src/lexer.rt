@@ -1,14 +1,12 @@
 //! Lexer for the ISLE language.
 
-ghost use Rattle.std.specs.Prelude.{◌≡◌, ◌↔◌, ℕ, List, IsTrue, Some, option_map};
-ghost use Rattle.std.specs.declared.cmp.Ordering.TheVariants.{Equal};
-ghost use Rattle.isle_base.specs.Lexing.{HasOneLexing};
-ghost use Rattle.isle_base.specs.PositionOrder.{IsInRange, position_cmp, position_hash};
+ghost use Rattle.std.specs.Prelude.{◌≡◌, ◌↔◌, IsTrue, Some, option_map};
 ghost use Rattle.isle_base.specs.Steps.{Gives, IsWithin, Rises, Starts, current_pos, is_at_end, lookahead, placed_of};
 ghost use Rattle.isle_base.specs.Token.{is_int, is_symbol};
 ghost use Rattle.isle_base.specs.TokenView.{token_of};
 ghost use Rattle.isle_base.specs.declared.lexer.Fault.TheVariants.{Memory};
 
+pub mod laws;
 mod literal;
 mod read;
 mod scan;
@@ -17,7 +15,6 @@ use crate::error::Error;
 use crate::files::Files;
 use read::{Found, error, read};
 use std::alloc::{AllocError, AllocFailed, Global};
-use std::hash::Hash;
 use std::marker::Model;
 
 /// Why a lexer, a parser or the formatter gives no answer.
@@ -95,17 +92,6 @@ impl Pos {
     }
 }
 
-/// A law, which runs no code: positions are ordered by file, then by offset, and their order, their
-/// equality and their hash agree. Two compare as equal exactly if they are the same position.
-pub fn positions_are_ordered()
-    ensures order { (a b : Pos) → ⟦<Pos as Ord>⟧.cmp a b ≡ position_cmp a b }
-    ensures partial_order { (a b : Pos) → ⟦<Pos as PartialOrd>⟧.partial_cmp a b ≡ Some (position_cmp a b) }
-    ensures equality { (a b : Pos) → IsTrue (⟦<Pos as PartialEq>⟧.eq a b) ↔ (a ≡ b) }
-    ensures equal_in_order { (a b : Pos) → (position_cmp a b ≡ Equal) ↔ (a ≡ b) }
-    ensures hash { (a : Pos) → ⟦<Pos as Hash>⟧.hash_input a ≡ position_hash a }
-    ensures equal_in_hash { (a b : Pos) → IsInRange a → IsInRange b → (position_hash a ≡ position_hash b) ↔ (a ≡ b) }
-{}
-
 /// A token of ISLE source.
 #[derive(Debug, PartialEq, Eq, Drop)]
 pub enum Token {
@@ -150,11 +136,6 @@ impl Clone for Token {
         })
     }
 }
-
-/// States that each text has tokens and an ending, and just one of each. It does nothing.
-pub fn one_lexing()
-    ensures { (text : List ℕ) → HasOneLexing text }
-{}
 
 /// The lexer.
 ///

@@ -1,8 +1,8 @@
-//! Tests of what is written, and of the calls that take memory.
+//! What is written up to a refused write, errors that no text gives, and the builder.
 
-use isle_base::error::*;
-use isle_base::files::Files;
-use isle_base::lexer::Pos;
+use isle_syntax::error::{Error, Errors, ErrorsBuilder, Span};
+use isle_syntax::files::Files;
+use isle_syntax::lexer::Pos;
 use std::alloc::{AllocError, Global};
 use std::fmt::{self, Write};
 use std::ops::Range;
@@ -59,6 +59,62 @@ fn one_error_takes_the_place_of_others(rt: HostRuntime) -> Result<(), Fail> {
     let builder = two_errors(alloc)?.error(alloc, error)?;
     assert!(rt; builder.is_buildable());
     assert_eq!(rt; builder.build().errors().len(), 1);
+    Ok(())
+}
+
+/// A parse error at an offset of the first file.
+fn parse_error(alloc: Global, offset: usize) -> Result<Error, AllocError> {
+    Ok(Error::ParseError {
+        msg: "m".to_string(alloc)?,
+        span: Span::new_single(Pos::new(0, offset.min(9))),
+    })
+}
+
+#[test]
+fn builders_hold_what_was_last_given(rt: HostRuntime) -> Result<(), Fail> {
+    let alloc = rt.alloc();
+    let one = two_errors(alloc)?.error(alloc, parse_error(alloc, 4)?)?;
+    assert!(rt; one.is_buildable());
+    let built = one.build();
+    assert_eq!(rt; built.errors().len(), 1);
+    assert_eq!(rt;
+        built.to_string(alloc)?.as_str(),
+        "parse error: m\na.isle:2:1: (B)\n\n"
+    );
+    let others = vec![in alloc; parse_error(alloc, 1)?, parse_error(alloc, 2)?]?;
+    let two = two_errors(alloc)?
+        .error(alloc, parse_error(alloc, 4)?)?
+        .errors(others);
+    assert!(rt; two.is_buildable());
+    assert_eq!(rt;
+        two.build().to_string(alloc)?.as_str(),
+        "parse error: m\na.isle:1:2: (A)\n\nparse error: m\na.isle:1:3: (A)\n\nfound 2 errors\n"
+    );
+    Ok(())
+}
+
+/// Whether a parse error at this place can be shown with two files.
+fn is_accepted(alloc: Global, span: Span) -> Result<bool, AllocError> {
+    let msg = "m".to_string(alloc)?;
+    let errors = vec![in alloc; Error::ParseError { msg, span }]?;
+    let name = "a.isle".to_string(alloc)?;
+    let pairs = vec![in alloc; (name, "(A)".to_string(alloc)?)]?;
+    let files = Files::from_names_and_contents(alloc, pairs)?;
+    Ok(Errors::accepts(errors.as_slice(), &files))
+}
+
+#[test]
+fn accepted_errors(rt: HostRuntime) -> Result<(), Fail> {
+    let alloc = rt.alloc();
+    let greatest = Pos::new(0, usize::MAX);
+    let past = Span {
+        from: greatest,
+        to: greatest,
+    };
+    assert!(rt; Errors::accepts(&[], &Files::default(alloc)));
+    assert!(rt; is_accepted(alloc, Span::new_single(Pos::new(0, 100)))?);
+    assert!(rt; !is_accepted(alloc, Span::new_single(Pos::new(1, 0)))?);
+    assert!(rt; !is_accepted(alloc, past)?);
     Ok(())
 }
 

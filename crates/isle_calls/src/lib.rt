@@ -1,8 +1,8 @@
-//! The public calls of the syntax layer's crates, each where it succeeds: tests alone.
+//! The public calls of the lexer, the parser, the printer and diagnostics, each where it succeeds, and trees, streams and
+//! closures that no text gives: tests alone. Rows that are texts stand in `isle_conformance`; the calls of the tree have
+//! crates of their own, by kinds of node.
 #![tactic(auto)]
 
-#[cfg(test)]
-mod ast;
 #[cfg(test)]
 mod error;
 #[cfg(test)]
@@ -15,9 +15,3 @@ mod looks;
 mod parser;
 #[cfg(test)]
 mod printer;
-#[cfg(test)]
-mod templates;
-#[cfg(test)]
-mod walks;
-#[cfg(test)]
-mod writable;

@@ -3,10 +3,10 @@
 //! Running code can't read how many looks there were, so clauses of the functions here say it.
 
 ghost use Rattle.std.specs.Prelude.{◌≡◌, ◌≤◌, ◌+◌, [], ◌∷◌, replicate, codes, true, false, IfOk, OnOk};
-ghost use Rattle.isle_printer.specs.Sexp.{atom, row_of};
-ghost use Rattle.isle_printer.specs.SexpView.{sexp_of};
+ghost use Rattle.isle_printer_layout.specs.Sexp.{atom, row_of};
+ghost use Rattle.isle_printer_layout.specs.SexpView.{sexp_of};
 
-use isle_printer::printer::{Looks, SExpr, fits};
+use isle_syntax::printer::{Looks, SExpr, fits};
 use std::alloc::{AllocError, Global};
 use std::test::Fail;
 

@@ -8,7 +8,7 @@ use Rattle.std.specs.Io.KnownBytes.{Appends, Consumes}
 use Rattle.isle_base.specs.declared.error.Error.{Error}
 use Rattle.isle_base.specs.declared.lexer.Fault.{Fault}
 use Rattle.isle_base.specs.declared.lexer.Fault.TheVariants as faults
-use Rattle.isle_parser.specs.Parsed.{RefusesIn}
+use Rattle.isle_parser_cursor.specs.Answers.{RefusesIn}
 use Rattle.isle_syntax.specs.Format.{IsRefused, Formats}
 use Rattle.isle_fmt.specs.declared.program.Failure.{Failure}
 use Rattle.isle_fmt.specs.declared.program.Failure.TheVariants as failures

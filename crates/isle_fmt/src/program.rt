@@ -5,7 +5,7 @@ ghost use Rattle.std.specs.Option.{SomeIff};
 ghost use Rattle.std.specs.Io.{StartsWith, appended_bytes};
 ghost use Rattle.std.specs.Io.KnownBytes.{Appends, Consumes, IsAtEnd, Keeps};
 ghost use Rattle.std.specs.Str.Parse.{digits_value};
-ghost use Rattle.isle_parser.specs.Parsed.{RefusesIn};
+ghost use Rattle.isle_parser_cursor.specs.Answers.{RefusesIn};
 ghost use Rattle.isle_syntax.specs.Format.{IsFormatted, IsRefused};
 ghost use Rattle.isle_fmt.specs.Failure.{Explains, IsDiagnostic, IsFormatFailure, IsReadFailure, IsRefusal, IsWordsFailure, refusal_text, status_of, text_of};
 ghost use Rattle.isle_fmt.specs.Streams.{AppendsBeginning, ReadsText, Writes, WritesBeginning};

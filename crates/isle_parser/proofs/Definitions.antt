@@ -4,32 +4,35 @@ use Rattle.std.specs.Prelude.{codes}
 use Rattle.std.specs.Str.{bytes_eq}
 use Rattle.isle_base.specs.Place.{Placed}
 use Rattle.isle_base.specs.Token.{symbol}
-use Rattle.isle_spec.specs.Words.{BeginsAt, SpellsName, SpellsAll, InParentheses, BehindWord}
-use Rattle.isle_spec.specs.Tree.{Name, Declaration, Conversion, Definition, type_def, rule, extractor, decl, attr, spec, spec_macro, model, state, form, instantiation, external, converter}
+use Rattle.isle_ast_names.specs.Words.{BeginsAt, SpellsName, SpellsAll, InParentheses, BehindWord}
+use Rattle.isle_ast_names.specs.Tree.{Name}
+use Rattle.isle_ast.specs.Tree.{Declaration, Conversion, Definition, type_def, rule, extractor, decl, attr, spec, spec_macro, model, state, form, instantiation, external, converter}
 use Rattle.isle_ast.specs.Grammar.{SpellsDefinition, SpellsDefinitions}
 use Rattle.isle_ast.specs.ModelGrammar.{SpellsForm, SpellsInstantiation, SpellsModel}
-use Rattle.isle_ast.specs.RuleGrammar.{SpellsRule, SpellsExtractor}
-use Rattle.isle_ast.specs.SpecDefinitionGrammar.{SpellsSpecDefinition, SpellsSpecMacro, SpellsState}
+use Rattle.isle_ast_rules.specs.RuleGrammar.{SpellsRule, SpellsExtractor}
+use Rattle.isle_ast_specs.specs.SpecDefinitionGrammar.{SpellsSpecDefinition, SpellsSpecMacro, SpellsState}
 use Rattle.isle_ast.specs.TermGrammar.{SpellsDeclaration, SpellsAttribute, SpellsExtern, SpellsConversion}
 use Rattle.isle_ast.specs.TypeGrammar.{SpellsTypeDefinition}
-use Rattle.isle_parser.specs.Reading.{Reader, ◌>>=◌, is_ahead, ends, pos_ahead, text, flag}
-use Rattle.isle_parser.specs.ReadNames.{name, names}
+use Rattle.isle_parser_cursor.specs.Reading.{Reader, ◌>>=◌, is_ahead, ends, pos_ahead, text, flag}
+use Rattle.isle_parser_cursor.specs.ReadNames.{name, names}
 use Rattle.isle_parser.specs.ReadDefinitions.{declaration, conversion, behind, keyword_form, definition, definitions}
-use Rattle.isle_parser.specs.ReadModels.{form_definition, instantiation_of_term}
-use Rattle.isle_parser.specs.ReadRules.{rule_definition, extractor_definition}
-use Rattle.isle_parser.specs.ReadSpecDefinitions.{spec_definition, spec_macro_definition, model_definition, state_definition}
+use Rattle.isle_parser.specs.ReadForms.{form_definition, instantiation_of_term}
+use Rattle.isle_parser.specs.ReadModels.{model_definition}
+use Rattle.isle_parser_rules.specs.ReadRules.{rule_definition, extractor_definition}
+use Rattle.isle_parser_specs.specs.ReadSpecDefinitions.{spec_definition, spec_macro_definition, state_definition}
 use Rattle.isle_parser.specs.ReadTerms.{attribute, extern_definition}
 use Rattle.isle_parser.specs.ReadTypes.{type_definition}
-use Rattle.isle_parser.proofs.Choices.{nothing, made_of, word_is, word_read, word_shorter, CompleteClosed, enclosed_complete}
-use Rattle.isle_parser.proofs.Flags.{Front, flag_sound, flag_complete, flag_shorter, front_sound, front_unset}
-use Rattle.isle_parser.proofs.Names.{SpellsNames, name_sound, name_complete, name_begins, names_sound, names_complete}
+use Rattle.isle_parser_cursor.proofs.Choices.{nothing, made_of, word_is, word_read, word_shorter, CompleteClosed, enclosed_complete}
+use Rattle.isle_parser.proofs.Flags.{Front, flag_shorter, front_sound, front_unset}
+use Rattle.isle_parser_cursor.proofs.Flags.{flag_sound, flag_complete}
+use Rattle.isle_parser_cursor.proofs.Names.{SpellsNames, name_sound, name_complete, name_begins, names_sound, names_complete}
 use Rattle.isle_parser.proofs.ReadsForms.{form_definition_sound, form_definition_complete, form_definition_shorter, instantiation_sound, instantiation_complete, instantiation_shorter}
-use Rattle.isle_parser.proofs.ReadsModelContents.{model_definition_sound, model_definition_complete, model_definition_shorter}
-use Rattle.isle_parser.proofs.ReadsRules.{rule_sound, rule_complete, rule_shorter, extractor_sound, extractor_complete, extractor_shorter}
-use Rattle.isle_parser.proofs.ReadsSpecDefinitions.{spec_definition_sound, spec_definition_complete, spec_definition_shorter, spec_macro_sound, spec_macro_complete, spec_macro_shorter, state_sound, state_complete, state_shorter}
+use Rattle.isle_parser.proofs.ReadsModels.{model_definition_sound, model_definition_complete, model_definition_shorter}
+use Rattle.isle_parser_rules.proofs.ReadsRules.{rule_sound, rule_complete, rule_shorter, extractor_sound, extractor_complete, extractor_shorter}
+use Rattle.isle_parser_specs.proofs.ReadsSpecDefinitions.{spec_definition_sound, spec_definition_complete, spec_definition_shorter, spec_macro_sound, spec_macro_complete, spec_macro_shorter, state_sound, state_complete, state_shorter}
 use Rattle.isle_parser.proofs.ReadsTerms.{attribute_sound, attribute_complete, attribute_shorter, extern_sound, extern_complete, extern_shorter}
 use Rattle.isle_parser.proofs.ReadsTypes.{type_definition_sound, type_definition_complete, type_definition_shorter}
-use Rattle.isle_parser.proofs.Readers.{Spelling, Sound, Complete, Begins, Shrinks, Goes, begins_node, bind_some, chosen, done, done_is, shrinks, many_sound, many_complete, stopping_closes, stopping_ends, row_shorter, moved, parentheses_sound, parentheses_begin}
+use Rattle.isle_parser_cursor.proofs.Readers.{Spelling, Sound, Complete, Begins, Shrinks, Goes, begins_node, bind_some, chosen, done, done_is, shrinks, many_sound, many_complete, stopping_closes, stopping_ends, row_shorter, moved, parentheses_sound, parentheses_begin}
 
 -- ---- what does not go on
 

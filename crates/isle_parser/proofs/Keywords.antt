@@ -1,23 +1,13 @@
 -- A keyword that begins no definition is refused.
-use Rattle.std.proofs.Common.{◌≡◌, ℕ, Bool, true, false, List, None, refl}
+use Rattle.std.proofs.Common.{◌≡◌, ℕ, false, List, None, refl}
 use Rattle.std.specs.Prelude.{codes}
 use Rattle.std.specs.Str.{bytes_eq}
-use Rattle.std.proofs.lemmas.Slice.Eq.{bytes_eq-Decides}
 use Rattle.isle_base.specs.Place.{Placed}
-use Rattle.isle_parser.specs.declared.parser.Stop.{Stop}
-use Rattle.isle_parser.specs.Answers.{IsRefusal, Source, Stops}
+use Rattle.isle_parser_cursor.specs.declared.cursor.Stop.{Stop}
+use Rattle.isle_parser_cursor.specs.Answers.{IsRefusal, Source, Stops}
 use Rattle.isle_parser.specs.ReadDefinitions.{behind}
-use Rattle.isle_parser.proofs.Ahead.{stopped}
-
-pub is_false : (b : Bool) → (b ≡ true → ⊥) → b ≡ false
-is_false true h = absurd (h refl)
-is_false false h = refl
-
-pub other_bytes : (xs ys : List ℕ) → (xs ≡ ys → ⊥) → bytes_eq xs ys ≡ false
-other_bytes xs ys h = is_false (bytes_eq xs ys) (λ e. h ((bytes_eq-Decides xs ys).0 e))
-
-pub same_bytes : (xs : List ℕ) → bytes_eq xs xs ≡ true
-same_bytes xs = (bytes_eq-Decides xs xs).1 refl
+use Rattle.isle_parser_cursor.proofs.Ahead.{stopped}
+use Rattle.isle_parser_cursor.proofs.SameBytes.{other_bytes}
 
 no_keyword : (word : List ℕ) (all : List Placed) → bytes_eq word (codes "type") ≡ false → bytes_eq word (codes "decl") ≡ false → bytes_eq word (codes "attr") ≡ false → bytes_eq word (codes "spec") ≡ false → bytes_eq word (codes "macro") ≡ false → bytes_eq word (codes "model") ≡ false → bytes_eq word (codes "state") ≡ false → bytes_eq word (codes "form") ≡ false → bytes_eq word (codes "instantiate") ≡ false → bytes_eq word (codes "rule") ≡ false → bytes_eq word (codes "extractor") ≡ false → bytes_eq word (codes "extern") ≡ false → bytes_eq word (codes "convert") ≡ false → behind word all ≡ None
 unfolding behind

@@ -1,5 +1,5 @@
 -- Each position in a tree that is spelt is that of a token behind the first.
-use Rattle.std.proofs.Common.{◌≡◌, inl, inr, ℕ, List, [], ◌∷◌, Result, Ok, Err, Option, None, Some, ap, arith, ◌+◌, ◌≤◌}
+use Rattle.std.proofs.Common.{[], ◌≡◌, inl, inr, ℕ, List, ◌∷◌, Result, Ok, Err, Option, None, Some, ap, arith, ◌+◌, ◌≤◌}
 use Rattle.std.specs.Global.{Vec}
 use Rattle.std.specs.Prelude.{codes, IfOk}
 use Rattle.std.specs.List.{AllByRecursion}
@@ -8,25 +8,30 @@ use Rattle.isle_base.specs.declared.lexer.Pos.{Pos}
 use Rattle.isle_base.specs.Place.{Placed, in_file, placed, unknown}
 use Rattle.isle_base.specs.Steps.{Rises}
 use Rattle.isle_base.specs.Token.{Tok, Lexeme, Feed}
-use Rattle.isle_spec.specs.Tree.{Name, unit_fields, struct_fields, tuple_fields, EnumVariant, primitive_type, enum_type, struct_type, term_target, rule_target, chain_kind, priority_kind, tag_kind, TermSignature, type_model, const_model, extern_extractor, extern_constructor, extern_const, Definition, type_def, rule, extractor, decl, attr, spec, spec_macro, model, state, form, instantiation, external, converter}
-use Rattle.isle_spec.specs.Words.{SpellsToken, SpellsWord, BeginsAt, SpellsAll, InParentheses, SpellsName}
+use Rattle.isle_ast_names.specs.Tree.{Name}
+use Rattle.isle_ast.specs.Tree.{unit_fields, struct_fields, tuple_fields, EnumVariant, primitive_type, enum_type, struct_type, term_target, rule_target, chain_kind, priority_kind, tag_kind, TermSignature, type_model, const_model, extern_extractor, extern_constructor, extern_const, Definition, type_def, rule, extractor, decl, attr, spec, spec_macro, model, state, form, instantiation, external, converter}
+use Rattle.isle_ast_names.specs.Words.{SpellsToken, SpellsWord, BeginsAt, SpellsAll, InParentheses, SpellsName}
 use Rattle.isle_ast.specs.declared.ast.Def.{Def}
 use Rattle.isle_ast.specs.Grammar.{SpellsDefinition}
-use Rattle.isle_ast.specs.ModelGrammar.{SpellsTypeModel, SpellsSignature, SpellsForm, SpellsTag, SpellsInstances, SpellsInstantiation, SpellsModelContent, SpellsModel}
-use Rattle.isle_ast.specs.RuleGrammar.{SpellsRule, SpellsExtractor}
-use Rattle.isle_ast.specs.SpecDefinitionGrammar.{SpellsSpecDefinition, SpellsSpecMacro, SpellsState}
-use Rattle.isle_ast.specs.SpecGrammar.{SpellsSpec}
+use Rattle.isle_ast_specs.specs.TypeModelGrammar.{SpellsTypeModel}
+use Rattle.isle_ast.specs.ModelGrammar.{SpellsSignature, SpellsForm, SpellsTag, SpellsInstances, SpellsInstantiation, SpellsModelContent, SpellsModel}
+use Rattle.isle_ast_rules.specs.RuleGrammar.{SpellsRule, SpellsExtractor}
+use Rattle.isle_ast_specs.specs.SpecDefinitionGrammar.{SpellsSpecDefinition, SpellsSpecMacro, SpellsState}
+use Rattle.isle_ast_specs.specs.SpecGrammar.{SpellsSpec}
 use Rattle.isle_ast.specs.Spelt.{Spells}
 use Rattle.isle_ast.specs.TermGrammar.{SpellsDeclaration, SpellsConversion, SpellsAttributeKind, SpellsAttributeTarget, SpellsAttribute, SpellsExtern}
 use Rattle.isle_ast.specs.TreeView.{definitions_of}
 use Rattle.isle_ast.specs.TypeGrammar.{SpellsNamedField, SpellsIndexedFields, SpellsFields, SpellsVariant, SpellsTypeContent, SpellsTypeDefinition}
 use Rattle.isle_parser.specs.Parsed.{Parses}
-use Rattle.isle_parser.specs.Positions.{OfName, OfNames, OfModel, OfNamedField, OfIndexedField, OfFields, OfVariant, OfTypeContent, OfTarget, OfKind, OfSignature, OfOptionalName, OfSpec, OfModelContent, OfSpecDefinition, OfSpecMacro, OfState, OfRule, OfExtractor, OfExtern, BeginsToken, EachPosition, HasKnownPositions, HasPositions, behind_first}
+use Rattle.isle_parser_cursor.specs.Positions.{OfName, OfNames, OfOptionalName}
+use Rattle.isle_parser_specs.specs.Positions.{OfModel, OfSpec, OfSpecDefinition, OfSpecMacro, OfState}
+use Rattle.isle_parser.specs.Positions.{OfNamedField, OfIndexedField, OfFields, OfVariant, OfTypeContent, OfTarget, OfKind, OfSignature, OfModelContent, OfExtern, BeginsToken, EachPosition, HasKnownPositions, HasPositions, behind_first}
+use Rattle.isle_parser_rules.specs.Positions.{OfRule, OfExtractor}
 use Rattle.isle_parser.proofs.Definitions.{SpellsKeyword, to_keyword}
-use Rattle.isle_parser.proofs.ModelPositions.{type_model_stands}
-use Rattle.isle_parser.proofs.RulePositions.{rule_stands, extractor_stands}
-use Rattle.isle_parser.proofs.SpecPositions.{spec_stands, spec_definition_stands, spec_macro_stands, state_stands}
-use Rattle.isle_parser.proofs.Stands.{Among, Into, Stands, token_stands, begins_stands, same_stands, flag_stands, name_stands, constant_stands, row_stands, enclosed_stands, behind_stands, tagged_stands}
+use Rattle.isle_parser_specs.proofs.ModelPositions.{type_model_stands, models_stand}
+use Rattle.isle_parser_rules.proofs.RulePositions.{rule_stands, extractor_stands}
+use Rattle.isle_parser_specs.proofs.SpecPositions.{spec_stands, spec_definition_stands, spec_macro_stands, state_stands}
+use Rattle.isle_parser_cursor.proofs.Stands.{Among, Into, Stands, token_stands, begins_stands, same_stands, flag_stands, name_stands, constant_stands, row_stands, enclosed_stands, behind_stands, tagged_stands}
 
 -- two names
 abbrev Pair : (first second : Name) → List Placed → List Placed → Type 0
@@ -155,11 +160,6 @@ extern_stands (extern_const n ty pos) all rest h P into =
     let t = name_stands ty body.0 rest body.2 P c.1 in
     let place : P pos = rw h.0 c.0 in
     ((place, c.0, t.0), t.1)
-
--- ---- models
-
-models_stand : Stands (SpellsAll SpellsTypeModel) (λ P ms. AllByRecursion (OfModel P) ms)
-models_stand = row_stands SpellsTypeModel OfModel type_model_stands
 
 signature_stands : Stands SpellsSignature OfSignature
 signature_stands s all rest h P into =

@@ -1,67 +1,21 @@
 -- Forms and instantiations are read as the grammar spells them.
-use Rattle.std.proofs.Common.{◌≡◌, inl, inr, ℕ, ◌≤◌, ◌<◌, true, false, cond, List, [], ◌∷◌, length, Option, Some, None, refl, sym, subst, arith}
+use Rattle.std.proofs.Common.{[], ◌≡◌, inl, inr, ◌≤◌, true, false, cond, List, ◌∷◌, length, Option, Some, None, refl, sym, subst, arith}
 use Rattle.std.specs.Prelude.{codes}
 use Rattle.std.specs.Str.{bytes_eq}
 use Rattle.isle_base.specs.declared.lexer.Pos.{Pos}
 use Rattle.isle_base.specs.Place.{Placed}
-use Rattle.isle_spec.specs.Tree.{Name, TypeModel, TermSignature, FormDefinition, TermInstantiation}
-use Rattle.isle_spec.specs.Words.{BeginsAt, SpellsAll, InParentheses, BehindWord, SpellsName, IsNonEmpty}
-use Rattle.isle_ast.specs.ModelGrammar.{SpellsTypeModel, SpellsSignature, SpellsForm, SpellsTag, SpellsInstances, SpellsInstantiation}
-use Rattle.isle_parser.specs.Reading.{◌>>=◌, is_ahead, is_lparen, closes, pos_ahead, text, many}
-use Rattle.isle_parser.specs.ReadNames.{name}
-use Rattle.isle_parser.specs.ReadModels.{model_type, tagged_inside, tagged_types, tagged_one_inside, tagged_type, signature_inside, signature, signatures, form_definition, tag_inside, tag, instantiation_of_term}
-use Rattle.isle_parser.proofs.Choices.{nothing, made_of, word_is, word_read, word_shorter, flag_read, choice, CompleteClosed, row_sound, row_complete, enclosed_complete, position_of, name_at, opened_at, opens, opens_not_closes, row_nonempty}
-use Rattle.isle_parser.proofs.Names.{name_sound, name_read, name_begins}
-use Rattle.isle_parser.proofs.Readers.{Sound, Complete, Begins, Shrinks, bind_some, chosen, done_is, moved, shrinks, many_sound, row_shorter, parentheses_sound, parentheses_begin}
-use Rattle.isle_parser.proofs.ReadsModels.{model_type_sound, model_type_complete, model_type_begins}
-
-model_complete : Complete SpellsTypeModel model_type
-model_complete m all rest goes h = model_type_complete m all rest h
-
--- ---- signatures
-
-abbrev SpellsTagged : List ℕ → List TypeModel → List Placed → List Placed → Type 0
-SpellsTagged word ms = BehindWord word (SpellsAll SpellsTypeModel ms)
-
-abbrev SpellsTaggedOne : List ℕ → TypeModel → List Placed → List Placed → Type 0
-SpellsTaggedOne word m = BehindWord word (SpellsTypeModel m)
-
-tagged_inside_sound : (word : List ℕ) → Sound (SpellsTagged word) (tagged_inside word)
-unfolding tagged_inside
-tagged_inside_sound word all rest ms e =
-    elim (choice word (many closes model_type) (λ i. None) all e) [
-      | inl h ↦ (h.0, h.1, row_sound SpellsTypeModel model_type model_type_sound h.0 rest ms h.2)
-      | inr h ↦ absurd (nothing h.1)
-    ]
-
-tagged_inside_complete : (word : List ℕ) → CompleteClosed (SpellsTagged word) (tagged_inside word)
-unfolding tagged_inside
-tagged_inside_complete word ms all rest closed h =
-    rw (flag_read word all h.0 h.1) (row_complete SpellsTypeModel model_type model_complete model_type_begins ms h.0 rest closed h.2)
-
-tagged_one_sound : (word : List ℕ) → Sound (SpellsTaggedOne word) (tagged_one_inside word)
-unfolding tagged_one_inside
-tagged_one_sound word all rest m e =
-    elim (choice word model_type (λ i. None) all e) [
-      | inl h ↦ (h.0, h.1, model_type_sound h.0 rest m h.2)
-      | inr h ↦ absurd (nothing h.1)
-    ]
-
-tagged_one_complete : (word : List ℕ) → CompleteClosed (SpellsTaggedOne word) (tagged_one_inside word)
-unfolding tagged_one_inside
-tagged_one_complete word m all rest closed h = rw (flag_read word all h.0 h.1) (model_type_complete m h.0 rest h.2)
-
-pub tagged_type_sound : (word : List ℕ) → Sound (λ m. InParentheses (SpellsTaggedOne word m)) (tagged_type word)
-unfolding tagged_type
-tagged_type_sound word = parentheses_sound (SpellsTaggedOne word) (tagged_one_inside word) (tagged_one_sound word)
-
-pub tagged_type_complete : (word : List ℕ) (m : TypeModel) (all rest : List Placed) → InParentheses (SpellsTaggedOne word m) all rest → tagged_type word all ≡ Some (m, rest)
-unfolding tagged_type
-tagged_type_complete word m all rest h = enclosed_complete (SpellsTaggedOne word) (tagged_one_inside word) (tagged_one_complete word) m all rest h
-
-pub tagged_type_begins : (word : List ℕ) → Begins (λ m. InParentheses (SpellsTaggedOne word m))
-tagged_type_begins word m all rest h =
-    parentheses_begin (SpellsTaggedOne word m) (λ i j b. omega (arith, word_shorter word i b.0 b.1, (model_type_begins m b.0 j b.2).1)) all rest h
+use Rattle.isle_ast_names.specs.Tree.{Name}
+use Rattle.isle_ast.specs.Tree.{TermSignature, FormDefinition, TermInstantiation}
+use Rattle.isle_ast_names.specs.Words.{BeginsAt, SpellsAll, InParentheses, BehindWord, SpellsName, IsNonEmpty}
+use Rattle.isle_ast.specs.ModelGrammar.{SpellsSignature, SpellsForm, SpellsTag, SpellsInstances, SpellsInstantiation}
+use Rattle.isle_parser_cursor.specs.Reading.{◌>>=◌, is_ahead, is_lparen, closes, pos_ahead, text, many}
+use Rattle.isle_parser_cursor.specs.ReadNames.{name}
+use Rattle.isle_parser_specs.specs.ReadModels.{tagged_inside, tagged_types, tagged_one_inside, tagged_type}
+use Rattle.isle_parser.specs.ReadForms.{tag_inside, tag, signature_inside, signature, signatures, form_definition, instantiation_of_term}
+use Rattle.isle_parser_cursor.proofs.Choices.{nothing, made_of, word_is, word_read, word_shorter, CompleteClosed, row_sound, row_complete, enclosed_complete, position_of, name_at, opened_at, opens, opens_not_closes, row_nonempty}
+use Rattle.isle_parser_cursor.proofs.Names.{name_sound, name_read, name_begins}
+use Rattle.isle_parser_cursor.proofs.Readers.{Sound, Complete, Begins, Shrinks, bind_some, chosen, done_is, moved, shrinks, many_sound, row_shorter, parentheses_sound, parentheses_begin}
+use Rattle.isle_parser_specs.proofs.ReadsTaggedModels.{SpellsTagged, SpellsTaggedOne, tagged_inside_sound, tagged_one_sound, tagged_inside_complete, tagged_one_complete, args_begin, ret_begins}
 
 abbrev SpellsSignatureInside : TermSignature → List Placed → List Placed → Type 0
 SpellsSignatureInside s inner close =
@@ -95,14 +49,6 @@ signature_sound all rest s e = parentheses_sound SpellsSignatureInside signature
 pub signature_complete : Complete SpellsSignature signature
 unfolding signature
 signature_complete s all rest goes h = enclosed_complete SpellsSignatureInside signature_inside signature_inside_complete s all rest h
-
-args_begin : (ms : List TypeModel) (all rest : List Placed) → InParentheses (SpellsTagged (codes "args") ms) all rest → length rest < length all
-args_begin ms all rest h =
-    (parentheses_begin (SpellsTagged (codes "args") ms) (λ i j b. omega (arith, word_shorter (codes "args") i b.0 b.1, row_shorter SpellsTypeModel model_type_begins ms b.0 j b.2)) all rest h).1
-
-ret_begins : (m : TypeModel) (all rest : List Placed) → InParentheses (SpellsTaggedOne (codes "ret") m) all rest → length rest < length all
-ret_begins m all rest h =
-    (parentheses_begin (SpellsTaggedOne (codes "ret") m) (λ i j b. omega (arith, word_shorter (codes "ret") i b.0 b.1, (model_type_begins m b.0 j b.2).1)) all rest h).1
 
 pub signature_begins : Begins SpellsSignature
 signature_begins s all rest h = parentheses_begin (SpellsSignatureInside s) (λ i j b. omega (arith, args_begin s.args i b.1 b.2, ret_begins s.ret b.1 j b.3)) all rest h

@@ -1,20 +1,23 @@
 -- Attributes of terms and rules, and what is defined outside, are read as the grammar spells them.
-use Rattle.std.proofs.Common.{◌≡◌, inl, inr, ℕ, ◌≤◌, ◌<◌, Bool, true, false, cond, List, [], ◌∷◌, length, Option, Some, None, refl, sym, ap, subst, ◌∙◌, arith}
-use Rattle.std.specs.Prelude.{codes, ◌==◌}
+use Rattle.std.proofs.Common.{◌≡◌, inl, inr, ℕ, ◌≤◌, ◌<◌, Bool, true, false, cond, List, length, Option, Some, None, refl, sym, subst, ◌∙◌, arith}
+use Rattle.std.specs.Prelude.{codes}
 use Rattle.std.specs.Str.{bytes_eq}
-use Rattle.std.proofs.lemmas.Bool.Decides.{Decides-eqb}
 use Rattle.isle_base.specs.declared.lexer.Pos.{Pos}
 use Rattle.isle_base.specs.Place.{Placed}
-use Rattle.isle_spec.specs.Tree.{Name, AttributeTarget, term_target, rule_target, AttributeKind, chain_kind, priority_kind, tag_kind, Attribute, ExternDefinition, extern_extractor, extern_constructor, extern_const}
-use Rattle.isle_spec.specs.Words.{SpellsWord, BeginsAt, SpellsAll, InParentheses, BehindWord, SpellsName}
-use Rattle.isle_ast.specs.TermGrammar.{demands, SpellsAttributeKind, SpellsAttributeTarget, SpellsAttribute, SpellsConstant, SpellsPair, SpellsExtern}
-use Rattle.isle_parser.specs.Reading.{◌>>=◌, is_ahead, is_word, closes, flag, pos_ahead, text, many}
-use Rattle.isle_parser.specs.ReadNames.{name}
-use Rattle.isle_parser.specs.ReadTerms.{veri_kind, kind_inside, kind, attribute, behind_dollar, constant, extern_constant, extern_etor, extern_definition}
-use Rattle.isle_parser.proofs.Choices.{nothing, made_of, word_is, word_read, word_ahead, word_at, word_shorter, flag_read, flag_absent, choice, CompleteClosed, row_sound, row_complete, enclosed_complete, position_of, name_at}
-use Rattle.isle_parser.proofs.Flags.{ReadsFlag, flag_sound, flag_complete, flag_shorter, name_ahead, demand_met, demand_unset}
-use Rattle.isle_parser.proofs.Names.{name_sound, name_read, name_begins}
-use Rattle.isle_parser.proofs.Readers.{Sound, Complete, Begins, Shrinks, bind_some, chosen, chosen_some, done, done_is, moved, shrinks, row_shorter, parentheses_sound, parentheses_begin}
+use Rattle.isle_ast_names.specs.Tree.{Name}
+use Rattle.isle_ast.specs.Tree.{AttributeTarget, term_target, rule_target, AttributeKind, chain_kind, priority_kind, tag_kind, Attribute, ExternDefinition, extern_extractor, extern_constructor, extern_const}
+use Rattle.isle_ast_names.specs.Words.{SpellsWord, BeginsAt, SpellsAll, InParentheses, BehindWord, SpellsName, demands, SpellsConstant}
+use Rattle.isle_ast.specs.TermGrammar.{SpellsAttributeKind, SpellsAttributeTarget, SpellsAttribute, SpellsPair, SpellsExtern}
+use Rattle.isle_parser_cursor.specs.Reading.{◌>>=◌, is_ahead, is_word, closes, flag, pos_ahead, text, many}
+use Rattle.isle_parser_cursor.specs.ReadNames.{name}
+use Rattle.isle_parser.specs.ReadTerms.{veri_kind, kind_inside, kind, attribute, extern_constant, extern_etor, extern_definition}
+use Rattle.isle_parser_rules.specs.ReadConstants.{constant}
+use Rattle.isle_parser_cursor.proofs.Choices.{nothing, made_of, word_is, word_read, word_ahead, word_at, word_shorter, flag_read, flag_absent, choice, CompleteClosed, row_sound, row_complete, enclosed_complete, position_of, name_at}
+use Rattle.isle_parser_cursor.proofs.Flags.{ReadsFlag, flag_sound, flag_complete, name_ahead}
+use Rattle.isle_parser.proofs.Flags.{flag_shorter, demand_met, demand_unset}
+use Rattle.isle_parser_cursor.proofs.Names.{name_sound, name_read, name_begins}
+use Rattle.isle_parser_cursor.proofs.Readers.{Sound, Complete, Begins, Shrinks, bind_some, chosen, chosen_some, done_is, moved, shrinks, row_shorter, parentheses_sound, parentheses_begin}
+use Rattle.isle_parser_rules.proofs.ReadsConstants.{constant_sound, constant_complete}
 
 -- ---- kinds of attributes
 
@@ -145,33 +148,6 @@ target_shorter (rule_target n) all rest h = omega (arith, word_shorter (codes "r
 
 pub attribute_shorter : (a : Attribute) (all rest : List Placed) → SpellsAttribute a all rest → length rest ≤ length all
 attribute_shorter a all rest h = omega (arith, target_shorter a.target all h.behind_target h.target, row_shorter SpellsAttributeKind kind_begins a.kinds h.behind_target rest h.kinds)
-
--- ---- constants
-
-some_same : {x y : Name} → done x ≡ done y → x ≡ y
-some_same e = cc
-
-dollar : (t : List ℕ) (place : Pos) (n : Name) → behind_dollar (record { text = t; pos = place }) ≡ Some n → ◌≡◌ {A = Name} (record { text = t; pos = place }) (record { text = 36 ∷ n.text; pos = n.pos })
-dollar [] place n e = absurd cc
-dollar (b ∷ bs) place n e =
-    let c = chosen_some (b == 36) (record { text = bs; pos = place }) n e in
-    let m : Name = record { text = bs; pos = place } in
-    let is : m ≡ n = some_same c.1 in
-    ap (λ (x : ℕ). record { text = x ∷ bs; pos = place }) ((Decides-eqb b 36).0 c.0) ∙ ap (λ (m : Name). record { text = 36 ∷ m.text; pos = m.pos }) is
-
-pub constant_sound : Sound SpellsConstant constant
-unfolding constant
-constant_sound all rest n e =
-    let w = bind_some (name all) (λ w. behind_dollar w.0 >>= λ n. Some (n, w.1)) (n, rest) e in
-    let m = bind_some (behind_dollar w.0.0) (λ n. Some (n, w.0.1)) (n, rest) w.2 in
-    let is = done_is m.0 n w.0.1 rest m.2 in
-    let whole = dollar w.0.0.text w.0.0.pos m.0 m.1 in
-    let spelt : SpellsConstant m.0 all w.0.1 = subst (λ (x : Name). SpellsName x all w.0.1) whole (name_sound all w.0.1 w.0.0 w.1) in
-    moved SpellsConstant m.0 n all w.0.1 rest is spelt
-
-pub constant_complete : (n : Name) (all rest : List Placed) → SpellsConstant n all rest → constant all ≡ Some (n, rest)
-unfolding constant
-constant_complete n all rest h = rw (name_read (record { text = 36 ∷ n.text; pos = n.pos }) all rest h) refl
 
 constant_pos : (n : Name) (all rest : List Placed) → SpellsConstant n all rest → pos_ahead all ≡ n.pos
 constant_pos n all rest h = rw h.1 refl

@@ -5,15 +5,16 @@ use Rattle.std.specs.List.{list_all, list_any}
 use Rattle.isle_base.specs.declared.lexer.Pos.{Pos}
 use Rattle.isle_base.specs.Place.{Placed}
 use Rattle.isle_base.specs.Token.{symbol, is_symbol}
-use Rattle.isle_spec.specs.Tree.{Name, NamedField, IndexedField, FieldList, unit_fields, struct_fields, tuple_fields, EnumVariant, TypeContent, primitive_type, enum_type, struct_type, TypeDefinition}
-use Rattle.isle_spec.specs.Words.{SpellsWord, BeginsAt, SpellsAll, InParentheses, BehindWord, SpellsName, IsNonEmpty}
+use Rattle.isle_ast_names.specs.Tree.{Name}
+use Rattle.isle_ast.specs.Tree.{NamedField, IndexedField, FieldList, unit_fields, struct_fields, tuple_fields, EnumVariant, TypeContent, primitive_type, enum_type, struct_type, TypeDefinition}
+use Rattle.isle_ast_names.specs.Words.{SpellsWord, BeginsAt, SpellsAll, InParentheses, BehindWord, SpellsName, IsNonEmpty}
 use Rattle.isle_ast.specs.TypeGrammar.{SpellsNamedField, SpellsIndexedFields, SpellsFields, SpellsVariant, SpellsTypeContent, is_extern_word, is_nodebug_word, SpellsTypeDefinition}
-use Rattle.isle_parser.specs.Reading.{◌>>=◌, is_ahead, is_lparen, closes, pos_ahead, text, in_parentheses, many, many_within}
-use Rattle.isle_parser.specs.ReadNames.{name}
+use Rattle.isle_parser_cursor.specs.Reading.{◌>>=◌, is_ahead, is_lparen, closes, pos_ahead, text, in_parentheses, many, many_within}
+use Rattle.isle_parser_cursor.specs.ReadNames.{name}
 use Rattle.isle_parser.specs.ReadTypes.{field_inside, named_field, numbered, fields, variant_inside, variant, struct_content, enum_content, content_inside, type_content, modifier, no_symbol, modifiers, type_definition}
-use Rattle.isle_parser.proofs.Choices.{nothing, made_of, word_read, word_ahead, word_shorter, flag_read, flag_absent, choice, CompleteClosed, row_sound, row_complete, enclosed_complete, position_of, name_at, opens, opens_not_closes, row_nonempty, row_at, at_place, from_place}
-use Rattle.isle_parser.proofs.Names.{text_sound, name_sound, name_read, name_complete, name_begins}
-use Rattle.isle_parser.proofs.Readers.{Sound, Complete, Begins, Shrinks, bind_some, chosen, chosen_some, done_is, moved, shrinks, many_sound, row_shorter, parentheses_sound, parentheses_begin}
+use Rattle.isle_parser_cursor.proofs.Choices.{nothing, made_of, word_read, word_ahead, word_shorter, flag_read, flag_absent, choice, CompleteClosed, row_sound, row_complete, enclosed_complete, position_of, name_at, opens, opens_not_closes, row_nonempty, row_at, at_place, from_place}
+use Rattle.isle_parser_cursor.proofs.Names.{text_sound, name_sound, name_read, name_complete, name_begins}
+use Rattle.isle_parser_cursor.proofs.Readers.{Sound, Complete, Begins, Shrinks, bind_some, chosen, chosen_some, done_is, moved, shrinks, many_sound, row_shorter, parentheses_sound, parentheses_begin}
 
 -- ---- fields with names
 

@@ -2,16 +2,18 @@
 use Rattle.std.proofs.Common.{◌≡◌, ℕ, suc, ◌+◌, Bool, true, false, not, ◌||◌, Some, List, [], ◌∷◌, ◌++◌, length, map, refl, ap, ◌∙◌, arith}
 use Rattle.std.specs.List.{list_any}
 use Rattle.std.proofs.lemmas.List.{map_push}
-use Rattle.isle_spec.specs.Tree.{Name, IndexedField}
+use Rattle.isle_ast_names.specs.Tree.{Name}
+use Rattle.isle_ast.specs.Tree.{IndexedField}
 use Rattle.isle_ast.specs.declared.ast.TupleField.{TupleField}
-use Rattle.isle_ast.specs.TreeView.{indexed_field_of, name_of}
+use Rattle.isle_ast.specs.TreeView.{indexed_field_of}
+use Rattle.isle_ast_names.specs.TreeView.{name_of}
 use Rattle.isle_ast.specs.TypeGrammar.{is_extern_word, is_nodebug_word}
 use Rattle.isle_base.specs.Place.{Placed}
-use Rattle.isle_parser.specs.declared.parser.Stop.{Stop}
-use Rattle.isle_parser.specs.Answers.{Source, Stops}
-use Rattle.isle_parser.specs.Reading.{many}
+use Rattle.isle_parser_cursor.specs.declared.cursor.Stop.{Stop}
+use Rattle.isle_parser_cursor.specs.Answers.{Source, Stops}
+use Rattle.isle_parser_cursor.specs.Reading.{many}
 use Rattle.isle_parser.specs.ReadTypes.{indexed, modifier, modifier_flags, modifiers, no_symbol, numbered}
-use Rattle.isle_parser.proofs.Loops.{behind_front, loop_begin, loop_end, loop_push, loop_stops, made_end, made_stops}
+use Rattle.isle_parser_cursor.proofs.Loops.{behind_front, loop_begin, loop_end, loop_push, loop_stops, made_end, made_stops}
 use Rattle.isle_parser.proofs.ReadsTypes.{modifier_shrinks}
 
 -- words that were read, and the flags that they have set

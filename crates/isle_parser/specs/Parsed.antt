@@ -1,21 +1,16 @@
 -- What the parsers answer, by what a lexer has still to give.
-use Rattle.std.specs.Prelude.{◌≡◌, ℕ, ◌≤◌, List, Result, Ok, Err, true, false}
+use Rattle.std.specs.Prelude.{◌≡◌, ℕ, List, Result, Ok, Err, true, false}
 use Rattle.std.specs.Global.{Vec}
-use Rattle.isle_base.specs.declared.error.Error.{Error}
 use Rattle.isle_base.specs.declared.lexer.Fault.{Fault}
-use Rattle.isle_base.specs.declared.lexer.Fault.TheVariants as faults
 use Rattle.isle_base.specs.declared.lexer.Pos.{Pos}
-use Rattle.isle_base.specs.Place.{in_file}
-use Rattle.isle_base.specs.Steps.{RefusesAt, is_failed}
+use Rattle.isle_base.specs.Steps.{is_failed}
 use Rattle.isle_base.specs.Token.{Feed}
-use Rattle.isle_spec.specs.Tree.{Definition}
+use Rattle.isle_ast.specs.Tree.{Definition}
 use Rattle.isle_ast.specs.declared.ast.Def.{Def}
 use Rattle.isle_ast.specs.Spelt.{Spells}
 use Rattle.isle_ast.specs.TreeView.{definitions_of}
-
--- a parse error whose span is one byte of the file, or the one behind the text's end
-abbrev pub RefusesIn : ℕ → ℕ → Error → Type 0
-RefusesIn file size e = (offset : ℕ) × (offset ≤ size) × RefusesAt (in_file file offset) e
+use Rattle.isle_parser_cursor.specs.Answers.{RefusesIn}
+use Rattle.isle_base.specs.declared.lexer.Fault.TheVariants as faults
 
 -- this list of definitions is spelt, and no other is
 pub record SpellsOnly (place : ℕ → Pos) (feed : Feed) (ds : List Definition) : Type 0 where

@@ -1,12 +1,13 @@
 -- Reading of definitions.
 use Rattle.std.specs.Prelude.{ℕ, List, Some, None, if◌then◌else◌, codes}
 use Rattle.std.specs.Str.{bytes_eq}
-use Rattle.isle_spec.specs.Tree.{Declaration, Conversion, Definition, type_def, rule, extractor, decl, attr, spec, spec_macro, model, state, form, instantiation, external, converter}
-use Rattle.isle_parser.specs.Reading.{Reader, ◌>>=◌, text, flag, pos_ahead, ends, in_parentheses, many}
-use Rattle.isle_parser.specs.ReadNames.{name, names}
-use Rattle.isle_parser.specs.ReadModels.{form_definition, instantiation_of_term}
-use Rattle.isle_parser.specs.ReadRules.{rule_definition, extractor_definition}
-use Rattle.isle_parser.specs.ReadSpecDefinitions.{model_definition, spec_definition, spec_macro_definition, state_definition}
+use Rattle.isle_ast.specs.Tree.{Declaration, Conversion, Definition, type_def, rule, extractor, decl, attr, spec, spec_macro, model, state, form, instantiation, external, converter}
+use Rattle.isle_parser_cursor.specs.Reading.{Reader, ◌>>=◌, text, flag, pos_ahead, ends, in_parentheses, many}
+use Rattle.isle_parser_cursor.specs.ReadNames.{name, names}
+use Rattle.isle_parser.specs.ReadForms.{form_definition, instantiation_of_term}
+use Rattle.isle_parser.specs.ReadModels.{model_definition}
+use Rattle.isle_parser_rules.specs.ReadRules.{rule_definition, extractor_definition}
+use Rattle.isle_parser_specs.specs.ReadSpecDefinitions.{spec_definition, spec_macro_definition, state_definition}
 use Rattle.isle_parser.specs.ReadTerms.{attribute, extern_definition}
 use Rattle.isle_parser.specs.ReadTypes.{type_definition}
 

@@ -1,10 +1,11 @@
 -- Reading of what is said of terms: what stands behind the keywords `attr` and `extern`.
-use Rattle.std.specs.Prelude.{ℕ, List, [], ◌∷◌, ◌==◌, Option, Some, None, if◌then◌else◌, codes}
+use Rattle.std.specs.Prelude.{Some, None, if◌then◌else◌, codes}
 use Rattle.std.specs.Str.{bytes_eq}
 use Rattle.isle_base.specs.declared.lexer.Pos.{Pos}
-use Rattle.isle_spec.specs.Tree.{Name, term_target, rule_target, AttributeKind, chain_kind, priority_kind, tag_kind, Attribute, ExternDefinition, extern_extractor, extern_constructor, extern_const}
-use Rattle.isle_parser.specs.Reading.{Reader, ◌>>=◌, text, flag, pos_ahead, closes, in_parentheses, many}
-use Rattle.isle_parser.specs.ReadNames.{name}
+use Rattle.isle_ast.specs.Tree.{term_target, rule_target, AttributeKind, chain_kind, priority_kind, tag_kind, Attribute, ExternDefinition, extern_extractor, extern_constructor, extern_const}
+use Rattle.isle_parser_cursor.specs.Reading.{Reader, ◌>>=◌, text, flag, pos_ahead, closes, in_parentheses, many}
+use Rattle.isle_parser_cursor.specs.ReadNames.{name}
+use Rattle.isle_parser_rules.specs.ReadConstants.{constant}
 
 unfoldable pub veri_kind : Reader AttributeKind
 veri_kind all = do
@@ -34,20 +35,6 @@ attribute all = do
     },
     kinds.1,
   )
-
--- the name of a constant, behind its `$`
-abbrev pub behind_dollar : Name → Option Name
-behind_dollar n = without_dollar n.text
-  where
-    without_dollar : List ℕ → Option Name
-    without_dollar [] = None
-    without_dollar (b ∷ bs) = if b == 36 then Some (record { text = bs; pos = n.pos }) else None
-
-unfoldable pub constant : Reader Name
-constant all = do
-  whole ← name all
-  n ← behind_dollar whole.0
-  Some (n, whole.1)
 
 unfoldable pub extern_constant : Reader ExternDefinition
 extern_constant all = do

@@ -4,10 +4,11 @@ use Rattle.std.specs.List.{list_any}
 use Rattle.isle_base.specs.declared.lexer.Pos.{Pos}
 use Rattle.isle_base.specs.Place.{Placed}
 use Rattle.isle_base.specs.Token.{is_symbol}
-use Rattle.isle_spec.specs.Tree.{Name, NamedField, IndexedField, FieldList, unit_fields, struct_fields, tuple_fields, EnumVariant, TypeContent, primitive_type, enum_type, struct_type, TypeDefinition}
+use Rattle.isle_ast_names.specs.Tree.{Name}
+use Rattle.isle_ast.specs.Tree.{NamedField, IndexedField, FieldList, unit_fields, struct_fields, tuple_fields, EnumVariant, TypeContent, primitive_type, enum_type, struct_type, TypeDefinition}
 use Rattle.isle_ast.specs.TypeGrammar.{is_extern_word, is_nodebug_word}
-use Rattle.isle_parser.specs.Reading.{Reader, ◌>>=◌, is_lparen, is_ahead, text, flag, pos_ahead, closes, in_parentheses, many}
-use Rattle.isle_parser.specs.ReadNames.{name}
+use Rattle.isle_parser_cursor.specs.Reading.{Reader, ◌>>=◌, is_lparen, is_ahead, text, flag, pos_ahead, closes, in_parentheses, many}
+use Rattle.isle_parser_cursor.specs.ReadNames.{name}
 
 -- the name and the type of a field, at this position
 unfoldable pub field_inside : Pos → Reader NamedField

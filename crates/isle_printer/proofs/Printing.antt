@@ -1,17 +1,16 @@
 -- The printed text: the relation and the function are one, and a greater width has no more lines.
 use Rattle.std.proofs.Common.{◌≡◌, ℕ, ◌+◌, ◌≤◌, List, [], ◌∷◌, ◌++◌, Bool, true, false, ◌||◌, refl, sym, ap, ◌∙◌, subst, arith}
 use Rattle.std.proofs.lemmas.Bool.{false≢true}
-use Rattle.isle_spec.specs.Tree.{Definition}
+use Rattle.isle_ast.specs.Tree.{Definition}
 use Rattle.isle_ast.specs.MacroArgs.{definition_has_macro_arg, definitions_have_macro_arg}
-use Rattle.isle_printer.specs.Choices.{IsLayout}
-use Rattle.isle_printer.specs.Layout.{layout}
-use Rattle.isle_printer.specs.Lines.{line_ends, HasFewestLines, WiderHasNoMoreLines}
+use Rattle.isle_printer_layout.specs.Layout.{layout}
+use Rattle.isle_printer_layout.specs.Lines.{line_ends}
+use Rattle.isle_printer.specs.Lines.{WiderHasNoMoreLines}
 use Rattle.isle_printer.specs.Printed.{ArePrintedLines, IsPrintedBehind, IsPrinted, definition_text, behind_text, printed_text}
-use Rattle.isle_printer.specs.Sexp.{Sexp}
 use Rattle.isle_printer.specs.DefinitionShapes.{definition_shape}
-use Rattle.isle_printer.proofs.Greedy.{layout-IsLayout, greedy, greedy-IsLeast, layout_is_render}
-use Rattle.isle_printer.proofs.Least.{IsLayout-layout, IsLeast-line_ends, layout-line_ends}
-use Rattle.isle_printer.proofs.LineEnds.{line_ends-append}
+use Rattle.isle_printer_layout.proofs.Greedy.{layout-IsLayout}
+use Rattle.isle_printer_layout.proofs.Least.{IsLayout-layout, layout-line_ends}
+use Rattle.isle_printer_layout.proofs.LineEnds.{line_ends-append}
 
 -- where neither holds, both fail
 neither : (a b : Bool) → (a || b) ≡ false → (a ≡ false) × (b ≡ false)
@@ -89,12 +88,3 @@ printed_text-line_ends narrow wide (d ∷ ds) le =
 pub WiderHasNoMoreLines-from_text : (width : ℕ) (ds : List Definition) (text : List ℕ) → text ≡ printed_text width ds → WiderHasNoMoreLines width ds text
 WiderHasNoMoreLines-from_text width ds text e wide other le printed =
     omega (arith, printed_text-line_ends width wide ds le, ap line_ends e, ap line_ends (IsPrinted-text wide ds other printed))
-
--- the layout of an S-expression, from the recursion
-
-pub IsLayout-from_layout : (width : ℕ) (s : Sexp) (text : List ℕ) → text ≡ layout width s → IsLayout width s text
-IsLayout-from_layout width s text e = subst (λ t. IsLayout width s t) (sym e) (layout-IsLayout width s)
-
-pub HasFewestLines-from_layout : (width : ℕ) (s : Sexp) (text : List ℕ) → text ≡ layout width s → HasFewestLines width s text
-HasFewestLines-from_layout width s text e c fits =
-    omega (arith, IsLeast-line_ends width s (greedy width s 0) c (greedy-IsLeast width s) fits, ap line_ends (e ∙ layout_is_render width s))

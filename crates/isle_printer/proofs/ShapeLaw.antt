@@ -4,27 +4,32 @@ use Rattle.std.proofs.lemmas.Slice.Eq.{bytes_eq-Decides}
 use Rattle.std.specs.Str.{bytes_eq}
 use Rattle.isle_base.specs.Place.{Placed, unknown}
 use Rattle.isle_base.specs.Token.{Tok, rparen}
-use Rattle.isle_spec.specs.SpecErased.{erase_spec}
-use Rattle.isle_spec.specs.Tree.{Name, Declaration, Conversion, NamedField, IndexedField, FieldList, unit_fields, struct_fields, tuple_fields, EnumVariant, TypeContent, primitive_type, enum_type, struct_type, AttributeTarget, term_target, rule_target, AttributeKind, chain_kind, priority_kind, tag_kind, TermSignature, ModelContent, type_model, const_model, ExternDefinition, extern_extractor, extern_constructor, extern_const, Definition, type_def, rule, extractor, decl, attr, spec, spec_macro, model, state, form, instantiation, external, converter}
-use Rattle.isle_spec.specs.Words.{SpellsWord, BeginsAt, SpellsAll, InParentheses, BehindWord, SpellsName}
-use Rattle.isle_ast.specs.Erased.{erase_name, erase_names, erase_declaration, erase_conversion, erase_type, erase_attribute, erase_form, erase_instantiation, erase_model_definition, erase_optional, erase_model, erase_named_field, erase_indexed_field, erase_fields, erase_variant, erase_type_content, erase_target, erase_kind, erase_signature, erase_model_content, erase_extern, erase_definition}
+use Rattle.isle_ast_specs.specs.Erased.{erase_spec, erase_model}
+use Rattle.isle_ast_names.specs.Tree.{Name}
+use Rattle.isle_ast.specs.Tree.{Declaration, Conversion, NamedField, IndexedField, FieldList, unit_fields, struct_fields, tuple_fields, EnumVariant, TypeContent, primitive_type, enum_type, struct_type, AttributeTarget, term_target, rule_target, AttributeKind, chain_kind, priority_kind, tag_kind, TermSignature, ModelContent, type_model, const_model, ExternDefinition, extern_extractor, extern_constructor, extern_const, Definition, type_def, rule, extractor, decl, attr, spec, spec_macro, model, state, form, instantiation, external, converter}
+use Rattle.isle_ast_names.specs.Words.{SpellsWord, BeginsAt, SpellsAll, InParentheses, BehindWord, SpellsName, demands}
+use Rattle.isle_ast_names.specs.Erased.{erase_name, erase_names, erase_optional}
+use Rattle.isle_ast.specs.Erased.{erase_declaration, erase_conversion, erase_type, erase_attribute, erase_form, erase_instantiation, erase_model_definition, erase_named_field, erase_indexed_field, erase_fields, erase_variant, erase_type_content, erase_target, erase_kind, erase_signature, erase_model_content, erase_extern, erase_definition}
 use Rattle.isle_ast.specs.Grammar.{SpellsDefinition}
-use Rattle.isle_ast.specs.SpecGrammar.{SpellsSpec}
-use Rattle.isle_ast.specs.ModelGrammar.{SpellsTypeModel, SpellsSignature, SpellsTag, SpellsInstances, SpellsModelContent, SpellsModel, SpellsForm, SpellsInstantiation}
-use Rattle.isle_ast.specs.TermGrammar.{demands, SpellsDeclaration, SpellsConversion, SpellsAttributeKind, SpellsAttributeTarget, SpellsPair, SpellsExtern, SpellsAttribute}
+use Rattle.isle_ast_specs.specs.SpecGrammar.{SpellsSpec}
+use Rattle.isle_ast_specs.specs.TypeModelGrammar.{SpellsTypeModel}
+use Rattle.isle_ast.specs.ModelGrammar.{SpellsSignature, SpellsTag, SpellsInstances, SpellsModelContent, SpellsModel, SpellsForm, SpellsInstantiation}
+use Rattle.isle_ast.specs.TermGrammar.{SpellsDeclaration, SpellsConversion, SpellsAttributeKind, SpellsAttributeTarget, SpellsPair, SpellsExtern, SpellsAttribute}
 use Rattle.isle_ast.specs.TypeGrammar.{SpellsNamedField, SpellsIndexedFields, SpellsFields, SpellsVariant, SpellsTypeContent, SpellsModifiers, SpellsTypeDefinition}
-use Rattle.isle_ast.specs.Writable.{IsName, Each, Wants, IsWritableDeclaration, IsWritableConversion, IsWritableModel, IsWritableNamedField, AreWritableIndexedFields, AreWritableFields, IsWritableVariant, IsWritableTypeContent, IsWritableTarget, IsWritableKind, IsWritableSignature, AreWritableInstances, IsWritableModelContent, IsWritableExtern, IsWritable}
-use Rattle.isle_printer.specs.DefinitionShapes.{definition_shape}
-use Rattle.isle_printer.specs.Sexp.{atom}
-use Rattle.isle_printer.specs.Shapes.{name_shape, name_shapes, flag_shape, form_shape, model_shape, named_field_shape, indexed_field_shape, field_shapes, variant_shape, type_content_shape, target_shape, tag_shape, kind_shape, signature_shape, instance_shapes, constant_shape, extern_shape}
-use Rattle.isle_printer.specs.SpecShapes.{spec_shape, model_content_shape}
-use Rattle.isle_printer.specs.ReadBack.{unplaced}
-use Rattle.isle_printer.proofs.ModelShapeLaw.{spell-model}
-use Rattle.isle_printer.proofs.SpecDefinitionShapeLaw.{spell-spec_definition, spell-spec_macro, spell-state}
-use Rattle.isle_printer.proofs.SpecShapeLaw.{spell-spec}
-use Rattle.isle_printer.proofs.RuleShapeLaw.{spell-rule, spell-extractor_definition}
-use Rattle.isle_printer.proofs.Spellings.{ItemTokens, ◌then◌, IsAhead, item-ahead, items-ahead, Spelling, spell-nothing, spell-word, spell-flag, spell-name, spell-all, spell-names, spell-row, spell-behind, spell-form, InTurn, spell-turn, all_true, differs-test, regrouped, spell-constant}
-use Rattle.isle_printer.proofs.WordSymbols.{word-decl, word-convert, word-pure, word-multi, word-partial, word-rec, word-type, word-extern, word-nodebug, word-primitive, word-enum, word-struct, word-attr, word-rule, word-veri, word-chain, word-priority, word-tag, word-model, word-form, word-instantiate, word-args, word-ret, word-extractor, word-infallible, word-constructor, word-const}
+use Rattle.isle_ast_names.specs.Writable.{IsName, Each, Wants}
+use Rattle.isle_ast.specs.Writable.{IsWritableDeclaration, IsWritableConversion, IsWritableNamedField, AreWritableIndexedFields, AreWritableFields, IsWritableVariant, IsWritableTypeContent, IsWritableTarget, IsWritableKind, IsWritableSignature, AreWritableInstances, IsWritableModelContent, IsWritableExtern, IsWritable}
+use Rattle.isle_ast_specs.specs.Writable.{IsWritableModel}
+use Rattle.isle_printer.specs.DefinitionShapes.{definition_shape, named_field_shape, indexed_field_shape, field_shapes, variant_shape, type_content_shape, target_shape, tag_shape, kind_shape, signature_shape, instance_shapes, extern_shape, model_content_shape}
+use Rattle.isle_printer_layout.specs.Sexp.{atom}
+use Rattle.isle_printer_layout.specs.NameShapes.{name_shape, name_shapes, flag_shape, form_shape, constant_shape}
+use Rattle.isle_printer_specs.specs.SpecShapes.{model_shape, spec_shape}
+use Rattle.isle_printer_layout.specs.ReadBack.{unplaced}
+use Rattle.isle_printer_specs.proofs.ModelShapeLaw.{spell-model}
+use Rattle.isle_printer_specs.proofs.SpecDefinitionShapeLaw.{spell-spec_definition, spell-spec_macro, spell-state}
+use Rattle.isle_printer_specs.proofs.SpecShapeLaw.{spell-spec}
+use Rattle.isle_printer_rules.proofs.RuleShapeLaw.{spell-rule, spell-extractor_definition}
+use Rattle.isle_printer_layout.proofs.Spellings.{ItemTokens, ◌then◌, IsAhead, item-ahead, items-ahead, Spelling, spell-nothing, spell-word, spell-flag, spell-name, spell-all, spell-names, spell-row, spell-behind, spell-form, InTurn, spell-turn, all_true, differs-test, regrouped, spell-constant}
+use Rattle.isle_printer_layout.proofs.WordSymbols.{word-decl, word-convert, word-pure, word-multi, word-partial, word-rec, word-type, word-extern, word-nodebug, word-primitive, word-enum, word-struct, word-attr, word-rule, word-veri, word-chain, word-priority, word-tag, word-model, word-form, word-instantiate, word-args, word-ret, word-extractor, word-infallible, word-constructor, word-const}
 
 -- what a wish says of a text, as a test
 wanted : (text word : List ℕ) (set b : Bool) → bytes_eq text word ≡ b → (text ≡ word → set ≡ true) → (not b || set) ≡ true

@@ -1,19 +1,23 @@
--- The shape of a writable definition is tidy, and so the print of writable definitions has short lines.
+-- The shape of a writable definition is tidy, and so the print of writable definitions has short
+-- lines.
 use Rattle.std.proofs.Common.{ℕ, ◌+◌, ◌≤◌, List, [], ◌∷◌, ◌++◌, map, codes, Option, None, Some, refl, sym, subst}
 use Rattle.std.proofs.lemmas.List.{append_assoc}
-use Rattle.isle_spec.specs.Tree.{Name, Declaration, NamedField, IndexedField, FieldList, unit_fields, struct_fields, tuple_fields, EnumVariant, TypeContent, primitive_type, enum_type, struct_type, AttributeTarget, term_target, rule_target, AttributeKind, chain_kind, priority_kind, tag_kind, TermSignature, ModelContent, type_model, const_model, ExternDefinition, extern_extractor, extern_constructor, extern_const, Definition, type_def, rule, extractor, decl, attr, spec, spec_macro, model, state, form, instantiation, external, converter}
-use Rattle.isle_ast.specs.Writable.{IsName, Each, IsWritableModel, IsWritableNamedField, AreWritableIndexedFields, AreWritableFields, IsWritableVariant, IsWritableTypeContent, IsWritableTarget, IsWritableKind, IsWritableSignature, AreWritableInstances, IsWritableModelContent, IsWritableExtern, IsWritableDeclaration, IsWritable, AreWritable}
-use Rattle.isle_printer.specs.DefinitionShapes.{definition_shape}
-use Rattle.isle_printer.specs.Layout.{layout}
+use Rattle.isle_ast_names.specs.Tree.{Name}
+use Rattle.isle_ast.specs.Tree.{Declaration, NamedField, IndexedField, FieldList, unit_fields, struct_fields, tuple_fields, EnumVariant, TypeContent, primitive_type, enum_type, struct_type, AttributeTarget, term_target, rule_target, AttributeKind, chain_kind, priority_kind, tag_kind, TermSignature, ModelContent, type_model, const_model, ExternDefinition, extern_extractor, extern_constructor, extern_const, Definition, type_def, rule, extractor, decl, attr, spec, spec_macro, model, state, form, instantiation, external, converter}
+use Rattle.isle_ast_names.specs.Writable.{IsName, Each}
+use Rattle.isle_ast_specs.specs.Writable.{IsWritableModel}
+use Rattle.isle_ast.specs.Writable.{IsWritableNamedField, AreWritableIndexedFields, AreWritableFields, IsWritableVariant, IsWritableTypeContent, IsWritableTarget, IsWritableKind, IsWritableSignature, AreWritableInstances, IsWritableModelContent, IsWritableExtern, IsWritableDeclaration, IsWritable, AreWritable}
+use Rattle.isle_printer.specs.DefinitionShapes.{definition_shape, declaration_shape, named_field_shape, indexed_field_shape, field_shapes, variant_shape, type_content_shape, target_shape, tag_shape, kind_shape, signature_shape, instance_shapes, extern_shape, model_content_shape}
+use Rattle.isle_printer_layout.specs.Layout.{layout}
 use Rattle.isle_printer.specs.Printed.{IsPrinted, definition_text, behind_text, printed_text}
-use Rattle.isle_printer.specs.Shapes.{declaration_shape, model_shape, named_field_shape, indexed_field_shape, field_shapes, variant_shape, type_content_shape, target_shape, tag_shape, kind_shape, signature_shape, instance_shapes, constant_shape, extern_shape}
-use Rattle.isle_printer.specs.ShortLines.{HasShortLines}
-use Rattle.isle_printer.specs.SpecShapes.{model_content_shape}
+use Rattle.isle_printer_specs.specs.SpecShapes.{model_shape}
+use Rattle.isle_printer_layout.specs.NameShapes.{constant_shape}
+use Rattle.isle_printer_layout.specs.ShortLines.{HasShortLines}
 use Rattle.isle_printer.proofs.Printing.{IsPrinted-text}
-use Rattle.isle_printer.proofs.ShortLines.{IsTidy, layout-short, HasShortLines-empty}
-use Rattle.isle_printer.proofs.ShortLinesParts.{TidyItems, ◌then◌, tidy-nothing, tidy-item, tidy-word, tidy-flag, tidy-name, tidy-all, tidy-row, tidy-form, tidy-form_item, tidy-names_item}
-use Rattle.isle_printer.proofs.ShortLinesRules.{tidy-constant, tidy-rule, tidy-extractor}
-use Rattle.isle_printer.proofs.ShortLinesSpecs.{tidy-model, tidy-spec, tidy-spec_definition, tidy-spec_macro, tidy-state}
+use Rattle.isle_printer_layout.proofs.ShortLines.{IsTidy, layout-short, HasShortLines-empty}
+use Rattle.isle_printer_layout.proofs.ShortLinesParts.{TidyItems, ◌then◌, tidy-nothing, tidy-item, tidy-word, tidy-flag, tidy-name, tidy-all, tidy-row, tidy-form, tidy-form_item, tidy-names_item}
+use Rattle.isle_printer_rules.proofs.ShortLinesRules.{tidy-constant, tidy-rule, tidy-extractor}
+use Rattle.isle_printer_specs.proofs.ShortLinesSpecs.{tidy-model, tidy-spec, tidy-spec_definition, tidy-spec_macro, tidy-state}
 
 -- types
 

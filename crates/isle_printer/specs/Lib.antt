@@ -1,14 +1,4 @@
-pub mod Choices
 pub mod DefinitionShapes
-pub mod Flat
-pub mod Layout
-pub mod Lines
-pub mod Looks
 pub mod Printed
+pub mod Lines
 pub mod ReadBack
-pub mod RuleShapes
-pub mod Sexp
-pub mod SexpView
-pub mod Shapes
-pub mod ShortLines
-pub mod SpecShapes

@@ -1,16 +1,8 @@
--- How many lines a text ends, and what that says of layouts and printed texts.
-use Rattle.std.specs.Prelude.{ℕ, ◌≤◌, List, count_by, ◌==◌}
-use Rattle.isle_spec.specs.Tree.{Definition}
-use Rattle.isle_printer.specs.Choices.{Choice, Fits, render}
+-- What the number of lines says of printed texts.
+use Rattle.std.specs.Prelude.{ℕ, ◌≤◌, List}
+use Rattle.isle_ast.specs.Tree.{Definition}
 use Rattle.isle_printer.specs.Printed.{IsPrinted}
-use Rattle.isle_printer.specs.Sexp.{Sexp}
-
-abbrev pub line_ends : List ℕ → ℕ
-line_ends text = count_by (λ b. b == 10) text
-
--- no choice of broken lists that fits the width has fewer lines
-abbrev pub HasFewestLines : ℕ → Sexp → List ℕ → Type 0
-HasFewestLines width s text = (c : Choice s) → Fits width s c → line_ends text ≤ line_ends (render s c 0)
+use Rattle.isle_printer_layout.specs.Lines.{line_ends}
 
 -- at every greater width the printed text has no more lines
 abbrev pub WiderHasNoMoreLines : ℕ → List Definition → List ℕ → Type 0

@@ -1,10 +1,10 @@
 -- The printed text of definitions at a width: the layout of each one and a LF, with one more LF
 -- between two. What holds the argument of a macro has no print. As a relation, and as a function.
 use Rattle.std.specs.Prelude.{◌≡◌, ℕ, List, [], ◌∷◌, ◌++◌, false}
-use Rattle.isle_spec.specs.Tree.{Definition}
+use Rattle.isle_ast.specs.Tree.{Definition}
 use Rattle.isle_ast.specs.MacroArgs.{definition_has_macro_arg}
-use Rattle.isle_printer.specs.Choices.{IsLayout}
-use Rattle.isle_printer.specs.Layout.{layout}
+use Rattle.isle_printer_layout.specs.Choices.{IsLayout}
+use Rattle.isle_printer_layout.specs.Layout.{layout}
 use Rattle.isle_printer.specs.DefinitionShapes.{definition_shape}
 
 -- a definition's lines

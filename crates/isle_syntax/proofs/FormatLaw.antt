@@ -6,7 +6,7 @@ use Rattle.isle_base.specs.Place.{nowhere, placed}
 use Rattle.isle_base.specs.Token.{end, fault, Feed}
 use Rattle.isle_base.proofs.Complete.{Lexes-unique}
 use Rattle.isle_parser.proofs.Definitions.{one_list}
-use Rattle.isle_spec.specs.Tree.{Definition}
+use Rattle.isle_ast.specs.Tree.{Definition}
 use Rattle.isle_ast.specs.Erased.{erase}
 use Rattle.isle_ast.specs.Grammar.{SpellsDefinitions}
 use Rattle.isle_ast.specs.Spelt.{Spells, IsSpelt}
@@ -16,7 +16,8 @@ use Rattle.isle_ast.proofs.SpeltWritable.{spelt_is_writable}
 use Rattle.isle_printer.proofs.Printing.{IsPrinted-text, WiderHasNoMoreLines-from_text}
 use Rattle.isle_printer.proofs.PrintLaw.{IsPrinted-ReadsBack, IsPrinted-erased, IsPrinted-tokens}
 use Rattle.isle_printer.proofs.ShortLinesDefinitions.{IsPrinted-HasShortLines}
-use Rattle.isle_parser.specs.Parsed.{RefusesText, RefusesIn}
+use Rattle.isle_parser.specs.Parsed.{RefusesText}
+use Rattle.isle_parser_cursor.specs.Answers.{RefusesIn}
 use Rattle.isle_base.specs.declared.lexer.Fault.{Fault}
 use Rattle.isle_base.specs.declared.lexer.Fault.TheVariants as faults
 use Rattle.isle_base.specs.Steps.{Starts, is_failed}

@@ -6,14 +6,14 @@ use Rattle.isle_base.specs.declared.lexer.Fault.{Fault}
 use Rattle.isle_base.specs.declared.lexer.Fault.TheVariants as faults
 use Rattle.isle_base.specs.declared.lexer.Pos.{Pos}
 use Rattle.isle_base.specs.Place.{nowhere}
-use Rattle.isle_spec.specs.Tree.{Definition}
+use Rattle.isle_ast.specs.Tree.{Definition}
 use Rattle.isle_ast.specs.Erased.{erase}
 use Rattle.isle_ast.specs.Spelt.{IsSpelt}
-use Rattle.isle_parser.specs.Parsed.{RefusesIn}
+use Rattle.isle_parser_cursor.specs.Answers.{RefusesIn}
 use Rattle.isle_printer.specs.Lines.{WiderHasNoMoreLines}
 use Rattle.isle_printer.specs.Printed.{IsPrinted}
 use Rattle.isle_printer.specs.ReadBack.{HaveSameTokens}
-use Rattle.isle_printer.specs.ShortLines.{HasShortLines}
+use Rattle.isle_printer_layout.specs.ShortLines.{HasShortLines}
 
 -- The answer is the print, at this width, of the one tree that the text spells. Trees are compared
 -- erased; a text spells a tree whatever positions its tokens are given.

@@ -4,8 +4,6 @@
 ghost use Rattle.std.specs.Prelude.{◌≡◌, IfOk};
 ghost use Rattle.isle_ast.specs.TreeView.{attribute_of, conversion_of, declaration_of, definition_of, extern_of, fields_of, form_of, indexed_field_of, instantiation_of, kind_of, model_content_of, model_definition_of, named_field_of, signature_of, struct_fields_of, target_of, tuple_fields_of, type_content_of, type_definition_of, variant_of};
 
-mod rules;
-
 use crate::ast::{
     Attr, AttrKind, AttrTarget, Converter, Decl, Def, Extern, Fields, Form, Instantiation, Model,
     ModelValue, Signature, StructField, StructFields, TupleField, TupleFields, TypeDef, TypeValue,

@@ -1,9 +1,9 @@
 use Rattle.std.proofs.Common.{◌≡◌, IfSome, string_bytes, sym, subst, rules}
-use Rattle.isle_printer.specs.Choices.{IsLayout}
-use Rattle.isle_printer.specs.Layout.{layout}
-use Rattle.isle_printer.specs.Lines.{HasFewestLines}
-use Rattle.isle_printer.specs.SexpView.{sexp_of}
-use Rattle.isle_printer.proofs.Printing.{IsLayout-from_layout, HasFewestLines-from_layout}
+use Rattle.isle_printer_layout.specs.Choices.{IsLayout}
+use Rattle.isle_printer_layout.specs.Layout.{layout}
+use Rattle.isle_printer_layout.specs.Lines.{HasFewestLines}
+use Rattle.isle_printer_layout.specs.SexpView.{sexp_of}
+use Rattle.isle_printer_layout.proofs.Least.{IsLayout-from_layout, HasFewestLines-from_layout}
 use Rattle.isle_printer.proofs.printer.print_node.Goals as goal
 
 pub returns-clause-layout : goal.returns-clause-layout

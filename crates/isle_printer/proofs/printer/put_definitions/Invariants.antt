@@ -1,5 +1,5 @@
--- What is written, and then the definitions that are left, is what there was and the printed text. An
--- argument of a macro is in what is left, if there is one.
+-- What is written, and then the definitions that are left, is what there was and the printed text.
+-- An argument of a macro is in what is left, if there is one.
 use Rattle.std.proofs.Common.{◌≡◌, ◌++◌, drop, string_bytes}
 use Rattle.isle_ast.specs.MacroArgs.{definitions_have_macro_arg}
 use Rattle.isle_ast.specs.TreeView.{definitions_of}

@@ -1,4 +1,4 @@
-use Rattle.isle_spec.proofs.Copies.{copied_row}
+use Rattle.isle_ast_names.proofs.Copies.{copied_row}
 use Rattle.isle_ast.specs.TreeView.{kind_of}
 use Rattle.isle_ast.proofs.ast.clone.AttrClone.clone.Goals as goal
 

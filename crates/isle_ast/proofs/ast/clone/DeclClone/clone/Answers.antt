@@ -1,4 +1,4 @@
-use Rattle.isle_spec.proofs.Copies.{copied_name, copied_names}
+use Rattle.isle_ast_names.proofs.Copies.{copied_name, copied_names}
 use Rattle.isle_ast.specs.TreeView.{declaration_of}
 use Rattle.isle_ast.proofs.ast.clone.DeclClone.clone.Goals as goal
 

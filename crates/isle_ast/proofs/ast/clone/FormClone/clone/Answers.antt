@@ -1,4 +1,4 @@
-use Rattle.isle_spec.proofs.Copies.{copied_name, copied_row}
+use Rattle.isle_ast_names.proofs.Copies.{copied_name, copied_row}
 use Rattle.isle_ast.specs.TreeView.{signature_of}
 use Rattle.isle_ast.proofs.ast.clone.FormClone.clone.Goals as goal
 

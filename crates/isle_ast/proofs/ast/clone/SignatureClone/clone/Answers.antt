@@ -1,5 +1,5 @@
-use Rattle.isle_spec.proofs.Copies.{copied_row}
-use Rattle.isle_ast.specs.TreeView.{type_model_of}
+use Rattle.isle_ast_names.proofs.Copies.{copied_row}
+use Rattle.isle_ast_specs.specs.TreeView.{type_model_of}
 use Rattle.isle_ast.proofs.ast.clone.SignatureClone.clone.Goals as goal
 
 pub returns : goal.returns

@@ -1,5 +1,5 @@
-use Rattle.isle_spec.specs.Tree.{struct_fields}
-use Rattle.isle_spec.proofs.Copies.{copied_row}
+use Rattle.isle_ast.specs.Tree.{struct_fields}
+use Rattle.isle_ast_names.proofs.Copies.{copied_row}
 use Rattle.isle_ast.specs.TreeView.{named_field_of}
 use Rattle.isle_ast.proofs.ast.clone.StructFieldsClone.clone.Goals as goal
 

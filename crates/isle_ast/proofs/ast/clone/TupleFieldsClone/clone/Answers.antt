@@ -1,5 +1,5 @@
-use Rattle.isle_spec.specs.Tree.{tuple_fields}
-use Rattle.isle_spec.proofs.Copies.{copied_row}
+use Rattle.isle_ast.specs.Tree.{tuple_fields}
+use Rattle.isle_ast_names.proofs.Copies.{copied_row}
 use Rattle.isle_ast.specs.TreeView.{indexed_field_of}
 use Rattle.isle_ast.proofs.ast.clone.TupleFieldsClone.clone.Goals as goal
 

@@ -1,6 +1,6 @@
 use Rattle.std.proofs.Common.{ap, sym, ◌∙◌}
-use Rattle.isle_spec.specs.Tree.{enum_type}
-use Rattle.isle_spec.proofs.Copies.{copied_row}
+use Rattle.isle_ast.specs.Tree.{enum_type}
+use Rattle.isle_ast_names.proofs.Copies.{copied_row}
 use Rattle.isle_ast.specs.TreeView.{type_content_of, variant_of}
 use Rattle.isle_ast.proofs.ast.clone.TypeValueClone.clone.Goals as goal
 

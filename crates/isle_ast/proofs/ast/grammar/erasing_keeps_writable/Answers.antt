@@ -1,5 +1,0 @@
-use Rattle.isle_ast.proofs.ErasedWritable.{writable-erased}
-use Rattle.isle_ast.proofs.ast.grammar.erasing_keeps_writable.Goals as goal
-
-pub returns : goal.returns
-returns c = writable-erased

@@ -1,0 +1,81 @@
+//! Which models, forms and instantiations are written so that they read back.
+
+ghost use Rattle.std.specs.Prelude.{◌≡◌, map};
+ghost use Rattle.std.specs.List.{list_all};
+ghost use Rattle.isle_ast_specs.specs.WritableTests.{is_writable_model};
+ghost use Rattle.isle_ast.specs.TreeView.{form_of, instantiation_of, model_content_of, model_definition_of, signature_of, signatures_of};
+ghost use Rattle.isle_ast_specs.specs.TreeView.{type_model_of};
+ghost use Rattle.isle_ast.specs.WritableTests.{are_writable_instances, is_writable_form, is_writable_instantiation, is_writable_model_content, is_writable_model_definition, is_writable_signature};
+
+use crate::ast::{Form, Instantiation, Model, ModelType, ModelValue, Signature};
+use isle_ast_names::ast::writability::{are_names, is_name};
+use isle_ast_specs::ast::writability::models::is_writable_model;
+use isle_ast_specs::ast::writability::specs::is_writable_spec;
+
+/// Tells whether the model of a type is writable.
+pub(super) fn is_writable_definition(model: &Model) -> bool
+    ensures { result ≡ is_writable_model_definition (model_definition_of model.now) }
+{
+    is_name(&model.name) && is_writable_value(&model.val)
+}
+
+/// Tells whether what a model is given by is writable.
+fn is_writable_value(value: &ModelValue) -> bool
+    ensures { result ≡ is_writable_model_content (model_content_of value.now) }
+{
+    match value {
+        ModelValue::TypeValue(model) => is_writable_model(model),
+        ModelValue::ConstValue(expr) => is_writable_spec(expr),
+    }
+}
+
+/// Tells whether a form is writable.
+pub(super) fn is_writable_form(form: &Form) -> bool
+    ensures { result ≡ is_writable_form (form_of form.now) }
+{
+    is_name(&form.name) && are_writable_signatures(&form.signatures)
+}
+
+/// Tells whether each signature is writable.
+fn are_writable_signatures(signatures: &[Signature]) -> bool
+    ensures { result ≡ list_all is_writable_signature (signatures_of signatures.now) }
+{
+    signatures.iter().all(is_writable_signature)
+}
+
+/// Tells whether a signature is writable.
+fn is_writable_signature(signature: &Signature) -> bool
+    ensures { result ≡ is_writable_signature (signature_of signature.now) }
+{
+    are_writable_models(&signature.args) && is_writable_model(&signature.ret)
+}
+
+/// Tells whether each model is writable.
+fn are_writable_models(models: &[ModelType]) -> bool
+    ensures { result ≡ list_all is_writable_model (map type_model_of models.now) }
+{
+    models.iter().all(is_writable_model)
+}
+
+/// Tells whether the signatures of a term are writable.
+pub(super) fn is_writable_instantiation(instantiation: &Instantiation) -> bool
+    ensures { result ≡ is_writable_instantiation (instantiation_of instantiation.now) }
+{
+    is_name(&instantiation.term) && are_writable_instances(instantiation)
+}
+
+/// Tells whether a term has the signatures of a form, under tags, or at least one of its own.
+fn are_writable_instances(instantiation: &Instantiation) -> bool
+    ensures { result ≡ are_writable_instances (instantiation_of instantiation.now).form (instantiation_of instantiation.now).signatures (instantiation_of instantiation.now).tags }
+{
+    let Instantiation {
+        form,
+        signatures,
+        tags,
+        ..
+    } = instantiation;
+    match form {
+        Some(form) => is_name(form) && signatures.is_empty() && are_names(tags),
+        None => !signatures.is_empty() && are_writable_signatures(signatures) && tags.is_empty(),
+    }
+}

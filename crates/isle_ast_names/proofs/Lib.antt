@@ -1,0 +1,12 @@
+pub mod Copies
+pub mod DecidedNames
+pub mod ErasedWritableNames
+pub mod IdentifierBytes
+pub mod Identifiers
+pub mod Lawful
+pub mod LawfulWords
+pub mod NameOrders
+pub mod Parts
+pub mod SameRows
+pub mod SpeltWords
+pub mod WritableNames

@@ -1,0 +1,11 @@
+pub mod Tree
+pub mod Erased
+pub mod Identifier
+pub mod NameOrder
+pub mod Words
+pub mod Numbers
+pub mod Parts
+pub mod SameParts
+pub mod TreeView
+pub mod Writable
+pub mod WritableTests

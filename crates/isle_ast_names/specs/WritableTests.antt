@@ -1,0 +1,37 @@
+-- The conditions on the names and the numbers of a writable tree, as tests.
+use Rattle.std.specs.Prelude.{[], ℕ, ◌^◌, nat_lt, ℤ, pos, negsuc, List, ◌∷◌, Bool, true, false, ◌||◌, ◌==◌, Option, None, Some, codes}
+use Rattle.std.specs.List.{list_all}
+use Rattle.std.specs.Str.{bytes_eq}
+use Rattle.isle_ast_names.specs.Identifier.{is_identifier}
+use Rattle.isle_ast_names.specs.Tree.{Name}
+
+abbrev pub is_name : Name → Bool
+is_name n = is_identifier n.text
+
+abbrev pub are_names : List Name → Bool
+are_names ns = list_all is_name ns
+
+-- there is no name, or it is an identifier
+abbrev pub is_optional_name : Option Name → Bool
+is_optional_name None = true
+is_optional_name (Some n) = is_name n
+
+-- the name is this word
+abbrev pub is_word : List ℕ → Name → Bool
+is_word word n = bytes_eq n.text word
+
+abbrev pub is_bool_name : Name → Bool
+is_bool_name n = is_word (codes "true") n || is_word (codes "false") n
+
+abbrev pub begins_with_dollar : List ℕ → Bool
+begins_with_dollar [] = false
+begins_with_dollar (b ∷ _) = b == 36
+
+-- written behind a `$`, the name is an identifier
+abbrev pub is_constant_name : Name → Bool
+is_constant_name n = is_identifier (36 ∷ n.text)
+
+-- a sign and this many bits hold the number
+abbrev pub is_signed : ℕ → ℤ → Bool
+is_signed bits (pos n) = nat_lt n (2 ^ bits)
+is_signed bits (negsuc n) = nat_lt n (2 ^ bits)

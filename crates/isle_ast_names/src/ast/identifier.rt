@@ -1,0 +1,82 @@
+//! Which texts are identifiers.
+//!
+//! An identifier is a text that isn't empty, whose first character is a letter, `_` or `$`, and whose
+//! other characters are letters, digits, `_`, `.` or `$`. Among the ASCII characters the letters are
+//! `A` to `Z` and `a` to `z` and the digits `0` to `9`. Past ASCII a letter is an Alphabetic character
+//! of Unicode 18.0, and a digit one of its categories Nd, Nl and No. That is the rule of upstream's
+//! parser, which asks Rust for letters and numbers, with the tables of the crate `unicode`.
+
+ghost use Rattle.std.specs.Prelude.{◌≡◌, drop, slice_get};
+ghost use Rattle.std.specs.List.{list_all};
+ghost use Rattle.std.specs.Str.{chars};
+ghost use Rattle.isle_ast_names.specs.Identifier.{begins_identifier, continues_identifier, is_digit, is_identifier, is_letter, is_number};
+
+use unicode::properties::{GeneralCategory, is_alphabetic};
+
+/// Tells whether a text is an identifier, as the head of this module says.
+pub fn is_identifier(text: &str) -> bool
+    ensures { result ≡ is_identifier text.now }
+{
+    match first_char(text) {
+        Some(first) => begins_identifier(first) && others_continue(text),
+        None => false,
+    }
+}
+
+/// Tells whether a character may be the first of an identifier: a letter, `_` or `$`.
+pub fn begins_identifier(c: char) -> bool
+    ensures { result ≡ begins_identifier c }
+{
+    is_letter(c) || c == '_' || c == '$'
+}
+
+/// Tells whether a character may stand in an identifier behind the first one: a letter, a digit, `_`,
+/// `.` or `$`.
+pub fn continues_identifier(c: char) -> bool
+    ensures { result ≡ continues_identifier c }
+{
+    is_letter(c) || is_digit(c) || c == '_' || c == '.' || c == '$'
+}
+
+fn is_letter(c: char) -> bool
+    ensures { result ≡ is_letter c }
+{
+    if c.is_ascii() {
+        c.is_ascii_alphabetic()
+    } else {
+        is_alphabetic(c)
+    }
+}
+
+fn is_digit(c: char) -> bool
+    ensures { result ≡ is_digit c }
+{
+    if c.is_ascii() {
+        c.is_ascii_digit()
+    } else {
+        is_number(GeneralCategory::for_char(c))
+    }
+}
+
+fn is_number(category: GeneralCategory) -> bool
+    ensures { result ≡ is_number category }
+{
+    match category {
+        GeneralCategory::DecimalNumber
+        | GeneralCategory::LetterNumber
+        | GeneralCategory::OtherNumber => true,
+        _ => false,
+    }
+}
+
+fn first_char(text: &str) -> Option<char>
+    ensures { result ≡ slice_get (chars text.now) 0 }
+{
+    text.chars().next()
+}
+
+fn others_continue(text: &str) -> bool
+    ensures { result ≡ list_all continues_identifier (drop 1 (chars text.now)) }
+{
+    text.chars().skip(1).all(continues_identifier)
+}

@@ -1,0 +1,12 @@
+pub mod Calls
+pub mod DecidedRules
+pub mod ErasedWritableRules
+pub mod LawfulPatterns
+pub mod LawfulExpressions
+pub mod LawfulRules
+pub mod LetHeads
+pub mod SpeltWritableRules
+pub mod NoMacroArgs
+pub mod Parts
+pub mod SameLists
+pub mod Templates

@@ -1,0 +1,14 @@
+pub mod Tree
+pub mod Erased
+pub mod ExpressionGrammar
+pub mod Heads
+pub mod MacroArgs
+pub mod PatternGrammar
+pub mod Roots
+pub mod RuleGrammar
+pub mod TreeView
+pub mod SameExpression
+pub mod SamePattern
+pub mod Templates
+pub mod Writable
+pub mod WritableTests

@@ -1,0 +1,64 @@
+-- Patterns, expressions and rules as pure values. The fields are those of the types of the code.
+use Rattle.std.specs.Prelude.{ℕ, ℤ, List, Bool, Option}
+use Rattle.isle_base.specs.declared.lexer.Pos.{Pos}
+use Rattle.isle_ast_names.specs.Tree.{Name}
+
+-- what a rule, a condition or an extractor matches
+mutual
+  pub data PatternNode : Type 0 where
+    var_pattern : (var : Name) → Pos → PatternNode
+    bind_pattern : (var : Name) → (subpat : PatternNode) → Pos → PatternNode
+    bool_pattern : (val : Bool) → Pos → PatternNode
+    int_pattern : (val : ℤ) → Pos → PatternNode
+    constant_pattern : (val : Name) → Pos → PatternNode
+    term_pattern : (sym : Name) → (args : PatternRow) → Pos → PatternNode
+    wildcard_pattern : Pos → PatternNode
+    and_pattern : (subpats : PatternRow) → Pos → PatternNode
+    macro_arg_pattern : (index : ℕ) → Pos → PatternNode
+
+  -- patterns in order
+  pub data PatternRow : Type 0 where
+    no_pattern : PatternRow
+    more_pattern : PatternNode → PatternRow → PatternRow
+
+-- what a rule or a condition computes
+mutual
+  pub data Expression : Type 0 where
+    term_expression : (sym : Name) → (args : ExpressionRow) → Pos → Expression
+    var_expression : (name : Name) → Pos → Expression
+    bool_expression : (val : Bool) → Pos → Expression
+    int_expression : (val : ℤ) → Pos → Expression
+    constant_expression : (val : Name) → Pos → Expression
+    let_expression : (defs : LetRow) → (body : Expression) → Pos → Expression
+
+  -- expressions in order
+  pub data ExpressionRow : Type 0 where
+    no_expression : ExpressionRow
+    more_expression : Expression → ExpressionRow → ExpressionRow
+
+  -- the definitions of a `let`, each a variable, its type, its value and a position
+  pub data LetRow : Type 0 where
+    no_let : LetRow
+    more_let : (var ty : Name) → (val : Expression) → Pos → LetRow → LetRow
+
+-- a condition: what the expression gives matches the pattern
+pub record Condition : Type 0 where
+  pub pattern : PatternNode
+  pub expr : Expression
+  pub pos : Pos
+
+-- a rule that rewrites
+pub record RuleDefinition : Type 0 where
+  pub pattern : PatternNode
+  pub iflets : List Condition
+  pub expr : Expression
+  pub pos : Pos
+  pub prio : Option ℤ
+  pub name : Option Name
+
+-- a pattern under a name, with parameters
+pub record ExtractorDefinition : Type 0 where
+  pub term : Name
+  pub args : List Name
+  pub template : PatternNode
+  pub pos : Pos

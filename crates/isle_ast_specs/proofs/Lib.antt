@@ -1,0 +1,13 @@
+pub mod DecidedSpecs
+pub mod Equalities
+pub mod ErasedSpecs
+pub mod ErasedWritableSpecs
+pub mod LawfulModels
+pub mod LawfulSpecs
+pub mod LawfulSpecDefinitions
+pub mod Parts
+pub mod SameModelLists
+pub mod SameSpecLists
+pub mod SpecLets
+pub mod SpeltWritableSpecs
+pub mod Texts

@@ -1,0 +1,15 @@
+use Rattle.std.proofs.Common.{◌≡◌, drop}
+use Rattle.isle_ast_specs.proofs.SameSpecLists.{spec_rows, arm_rows, spec_let_rows, field_init_rows}
+use Rattle.isle_ast_specs.proofs.ast.compare.specs.+same.Given as goal
+
+abbrev pub invariant-same_specs-loop-i : goal.invariant-same_specs-loop-i
+invariant-same_specs-loop-i l = spec_rows (drop l.i l.exprs.items) (drop l.i l.others.items) ≡ spec_rows l.exprs.items l.others.items
+
+abbrev pub invariant-same_arms-loop-i : goal.invariant-same_arms-loop-i
+invariant-same_arms-loop-i l = arm_rows (drop l.i l.arms.items) (drop l.i l.others.items) ≡ arm_rows l.arms.items l.others.items
+
+abbrev pub invariant-same_spec_lets-loop-i : goal.invariant-same_spec_lets-loop-i
+invariant-same_spec_lets-loop-i l = spec_let_rows (drop l.i l.defs.items) (drop l.i l.others.items) ≡ spec_let_rows l.defs.items l.others.items
+
+abbrev pub invariant-same_field_inits-loop-i : goal.invariant-same_field_inits-loop-i
+invariant-same_field_inits-loop-i l = field_init_rows (drop l.i l.fields.items) (drop l.i l.others.items) ≡ field_init_rows l.fields.items l.others.items

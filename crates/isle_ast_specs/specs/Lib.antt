@@ -1,0 +1,13 @@
+pub mod BitVectors
+pub mod Tree
+pub mod Erased
+pub mod Operators
+pub mod Roots
+pub mod TreeView
+pub mod SameModel
+pub mod SameSpec
+pub mod TypeModelGrammar
+pub mod SpecGrammar
+pub mod SpecDefinitionGrammar
+pub mod Writable
+pub mod WritableTests

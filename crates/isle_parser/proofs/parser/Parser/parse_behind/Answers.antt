@@ -1,8 +1,0 @@
-use Rattle.isle_parser.specs.Answers.{source, tokens}
-use Rattle.isle_parser.proofs.Keywords.{keyword_refused}
-use Rattle.isle_parser.proofs.parser.Parser.parse_behind.Goals as goal
-
-pub returns-in_default-clause-gives : goal.returns-in_default-clause-gives
-returns-in_default-clause-gives c =
-    let d = c.in_default in
-    keyword_refused c.args.word.now (tokens c.args.self.now) (source c.args.self.now) c.refuse_at.result d.not-type d.not-decl d.not-attr d.not-spec d.not-macro d.not-model d.not-state d.not-form d.not-instantiate d.not-rule d.not-extractor d.not-extern d.not-convert c.refuse_at.ensures

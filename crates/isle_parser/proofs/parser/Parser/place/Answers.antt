@@ -1,8 +1,0 @@
-use Rattle.std.proofs.Common.{refl}
-use Rattle.isle_base.specs.Steps.{placed_of}
-use Rattle.isle_parser.specs.Answers.{source}
-use Rattle.isle_parser.proofs.Ahead.{place_ahead}
-use Rattle.isle_parser.proofs.parser.Parser.place.Goals as goal
-
-pub returns-in-Some-clause-place : goal.returns-in-Some-clause-place
-returns-in-Some-clause-place c = place_ahead c.args.self.now.lexer (source c.args.self.now) (placed_of c.in-Some.field-0.now) c.in-Some.ensures.value c.peek.ensures.within refl refl

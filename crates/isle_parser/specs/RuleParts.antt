@@ -1,9 +1,0 @@
--- The parts of a rule's right side, as the code has them.
-use Rattle.isle_ast.specs.TreeView.{condition_of, expression_of}
-use Rattle.isle_parser.specs.declared.parser.rules.IfLetOrExpr.{IfLetOrExpr}
-use Rattle.isle_parser.specs.ReadRules.{RulePart, condition_part, expression_part}
-use Rattle.isle_parser.specs.declared.parser.rules.IfLetOrExpr.TheVariants as parts
-
-abbrev pub part_of : IfLetOrExpr → RulePart
-part_of (parts.IfLet c) = condition_part (condition_of c)
-part_of (parts.Expr x) = expression_part (expression_of x)

@@ -1,0 +1,113 @@
+//! Forms and instantiations.
+
+ghost use Rattle.std.specs.Prelude.{◌≡◌};
+ghost use Rattle.isle_ast.specs.TreeView.{form_of, instantiation_of, signature_of, signatures_of};
+ghost use Rattle.isle_ast_names.specs.TreeView.{name_of, names_of};
+ghost use Rattle.isle_parser.specs.ReadForms.{form_definition, instantiation_of_term, signature, signatures, tag};
+ghost use Rattle.isle_parser_cursor.specs.Answers.{Gives, source, tokens};
+ghost use Rattle.isle_parser_cursor.specs.Reading.{closes, many};
+
+use isle_ast::ast::{Form, Instantiation, Signature};
+use isle_ast_names::ast::Ident;
+use isle_parser_cursor::cursor::{Cursor, Stop};
+use isle_parser_specs::parser::models::{parse_tagged_type, parse_tagged_types};
+use std::alloc::Global;
+
+#[tactic(auto, unfolding(crate::specs::ReadForms::form_definition))]
+pub(super) fn parse_form(cursor: &mut Cursor, alloc: Global) -> Result<Form, Stop>
+    ensures same { source cursor.new ≡ source cursor.old }
+    ensures gives { Gives form_of (form_definition (tokens cursor.old)) result cursor.new }
+{
+    let pos = cursor.pos();
+    let name = cursor.parse_ident(alloc)?;
+    let signatures = parse_signatures(cursor, alloc)?;
+    Ok(Form {
+        name,
+        signatures,
+        pos,
+    })
+}
+
+// Signatures, up to the closing parenthesis.
+#[tactic(auto, unfolding(crate::specs::ReadForms::signatures))]
+fn parse_signatures(cursor: &mut Cursor, alloc: Global) -> Result<Vec<Signature>, Stop>
+    ensures same { source cursor.new ≡ source cursor.old }
+    ensures gives { Gives (λ ss. signatures_of ss.items) (signatures (tokens cursor.old)) result cursor.new }
+{
+    let mut signatures = Vec::new(alloc);
+    while !cursor.is_rparen() {
+        signatures.push(parse_signature(cursor, alloc)?)?;
+    }
+    Ok(signatures)
+}
+
+#[tactic(auto, unfolding(crate::specs::ReadForms::signature, crate::specs::ReadForms::signature_inside, isle_parser_cursor::specs::Reading::in_parentheses))]
+fn parse_signature(cursor: &mut Cursor, alloc: Global) -> Result<Signature, Stop>
+    ensures same { source cursor.new ≡ source cursor.old }
+    ensures gives { Gives signature_of (signature (tokens cursor.old)) result cursor.new }
+{
+    cursor.expect_lparen(alloc)?;
+    let pos = cursor.pos();
+    let args = parse_tagged_types(cursor, alloc, "args")?;
+    let ret = parse_tagged_type(cursor, alloc, "ret")?;
+    cursor.close(alloc, Signature { args, ret, pos })
+}
+
+// A term's own signatures where `(` is ahead, else a form and tags.
+#[tactic(auto, unfolding(crate::specs::ReadForms::instantiation_of_term))]
+pub(super) fn parse_instantiation(cursor: &mut Cursor, alloc: Global) -> Result<Instantiation, Stop>
+    ensures same { source cursor.new ≡ source cursor.old }
+    ensures gives { Gives instantiation_of (instantiation_of_term (tokens cursor.old)) result cursor.new }
+{
+    let pos = cursor.pos();
+    let term = cursor.parse_ident(alloc)?;
+    if cursor.is_lparen() {
+        let signatures = parse_signatures(cursor, alloc)?;
+        return Ok(Instantiation {
+            term,
+            form: None,
+            signatures,
+            tags: Vec::new(alloc),
+            pos,
+        });
+    }
+    let form = cursor.parse_ident(alloc)?;
+    let tags = parse_tags(cursor, alloc)?;
+    Ok(Instantiation {
+        term,
+        form: Some(form),
+        signatures: Vec::new(alloc),
+        tags,
+        pos,
+    })
+}
+
+// Tags, up to the closing parenthesis.
+fn parse_tags(cursor: &mut Cursor, alloc: Global) -> Result<Vec<Ident>, Stop>
+    ensures same { source cursor.new ≡ source cursor.old }
+    ensures gives { Gives (λ is. names_of is.items) (many closes tag (tokens cursor.old)) result cursor.new }
+{
+    let mut tags = Vec::new(alloc);
+    while !cursor.is_rparen() {
+        tags.push(parse_tag(cursor, alloc)?)?;
+    }
+    Ok(tags)
+}
+
+#[tactic(auto, unfolding(crate::specs::ReadForms::tag, crate::specs::ReadForms::tag_inside, isle_parser_cursor::specs::Reading::in_parentheses))]
+fn parse_tag(cursor: &mut Cursor, alloc: Global) -> Result<Ident, Stop>
+    ensures same { source cursor.new ≡ source cursor.old }
+    ensures gives { Gives name_of (tag (tokens cursor.old)) result cursor.new }
+{
+    cursor.expect_lparen(alloc)?;
+    let place = cursor.place();
+    let word = cursor.expect_symbol(alloc)?;
+    if word.as_str() != "tag" {
+        return Err(cursor.refuse_at(
+            place,
+            format!(in alloc; "Not a valid instantiate attribute: {word}"),
+        ));
+    }
+    let tag = cursor.parse_ident(alloc)?;
+    cursor.close(alloc, tag)
+}

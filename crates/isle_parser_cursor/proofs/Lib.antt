@@ -1,0 +1,13 @@
+pub mod Ahead
+pub mod SameBytes
+pub mod Readers
+pub mod Flags
+pub mod Names
+pub mod Choices
+pub mod Expected
+pub mod Lengths
+pub mod Loops
+pub mod OptionalNames
+pub mod ReadsHeads
+pub mod ReadsNumbers
+pub mod Stands

@@ -1,0 +1,30 @@
+use Rattle.std.proofs.Common.{◌≡◌, [], ◌∷◌, ◌++◌, sym, ◌∙◌}
+use Rattle.std.proofs.lemmas.Result.{err_from_is_err_and}
+use Rattle.std.proofs.lemmas.List.{map_push}
+use Rattle.isle_ast_names.specs.TreeView.{name_of, names_of}
+use Rattle.isle_parser_cursor.specs.Answers.{source, tokens}
+use Rattle.isle_parser_cursor.specs.ReadNames.{name}
+use Rattle.isle_parser_cursor.specs.Reading.{closes, many}
+use Rattle.isle_parser_cursor.proofs.Loops.{loop_push, loop_stops, loop_end}
+use Rattle.isle_parser_cursor.proofs.Names.{name_shrinks}
+use Rattle.isle_parser_cursor.proofs.cursor.Cursor.parse_ident_list.Goals as goal
+
+pub returns-in_err-parse_ident-clause-gives : goal.returns-in_err-parse_ident-clause-gives
+returns-in_err-parse_ident-clause-gives c =
+    let p = err_from_is_err_and c.from_residual.result c.from_residual.ensures.1 in
+    rw (p.1, p.2) (loop_stops name closes name_shrinks (names_of c.loop-alloc.idents.items) (tokens c.loop-alloc.self) (many closes name (tokens c.args.self.now)) (source c.parse_ident.new.self) c.in_err-parse_ident.field-0.0 (sym c.loop-alloc-test.ensures) c.in_err-parse_ident.ensures.gives c.loop-alloc.invariant.so_far)
+
+pub loop-alloc-smaller : goal.loop-alloc-smaller
+loop-alloc-smaller c = name_shrinks (tokens c.loop-alloc.self) (tokens c.parse_ident.new.self) (name_of c.in_ok-parse_ident.field-0) c.in_ok-parse_ident.ensures.gives
+
+pub loop-alloc-preserved : goal.loop-alloc-preserved
+loop-alloc-preserved c =
+    let x = c.in_ok-parse_ident.field-0 in
+    let e : names_of c.push.new.self.items ≡ names_of c.loop-alloc.idents.items ++ name_of x ∷ [] = rw c.in_ok-push.ensures.items (map_push _ c.loop-alloc.idents.items x) in
+    record {
+      same = c.in_ok-parse_ident.ensures.same ∙ c.loop-alloc.invariant.same;
+      so_far = rw e (loop_push name closes name_shrinks (names_of c.loop-alloc.idents.items) (tokens c.loop-alloc.self) (tokens c.parse_ident.new.self) (name_of x) (many closes name (tokens c.args.self.now)) (sym c.loop-alloc-test.ensures) c.in_ok-parse_ident.ensures.gives c.loop-alloc.invariant.so_far);
+    }
+
+pub returns-clause-gives : goal.returns-clause-gives
+returns-clause-gives c = loop_end name closes name_shrinks (names_of c.loop-alloc.idents.items) (tokens c.loop-alloc.self) (many closes name (tokens c.args.self.now)) (sym c.loop-alloc-test.ensures) c.loop-alloc.invariant.so_far

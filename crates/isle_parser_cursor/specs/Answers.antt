@@ -1,0 +1,73 @@
+-- What a call that reads answers, by the tokens that its lexer has still to give.
+use Rattle.std.specs.Prelude.{◌≡◌, ℕ, ◌+◌, ◌≤◌, ◌<◌, ◌^◌, List, Bool, true, false, Option, Some, None, Result, Ok, Err}
+use Rattle.isle_base.specs.declared.lexer.Pos.{Pos}
+use Rattle.isle_base.specs.Place.{Placed, in_file, nowhere, placed}
+use Rattle.isle_base.specs.Steps.{RefusesAt}
+use Rattle.isle_base.specs.Token.{Ending, end, fault}
+use Rattle.isle_parser_cursor.specs.declared.cursor.Cursor.{Cursor}
+use Rattle.isle_parser_cursor.specs.declared.cursor.Stop.{Stop}
+use Rattle.isle_base.specs.declared.error.Error.{Error}
+use Rattle.isle_parser_cursor.specs.declared.cursor.Stop.TheVariants as stops
+
+-- the position of an offset: the unknown place, where positions are not kept
+abbrev pub place : Bool → ℕ → ℕ → Pos
+place true file = nowhere
+place false file = in_file file
+
+-- the tokens to come, each at its position
+abbrev pub tokens : Cursor → List Placed
+tokens p = placed (place p.disable_pos p.lexer.file) p.lexer.coming
+
+-- what no call changes
+pub record Source : Type 0 where
+  pub file : ℕ
+  pub ending : Ending
+  pub size : ℕ
+  pub disable_pos : Bool
+
+abbrev pub source : Cursor → Source
+source p = record { file = p.lexer.file; ending = p.lexer.ending; size = p.lexer.size; disable_pos = p.disable_pos }
+
+abbrev pub is_fault : Ending → Bool
+is_fault end = false
+is_fault (fault _) = true
+
+-- a byte of the text, or its end, and a number is left past that
+pub record IsPlace (s : Source) (pos : Pos) : Type 0 where
+  pub file : pos.file ≡ s.file
+  pub offset : pos.offset ≤ s.size
+  pub short : s.size + 1 < 2 ^ 64
+
+-- the parser refuses the byte at this position
+abbrev pub IsRefusalAt : Pos → Stop → Type 0
+IsRefusalAt pos (stops.Parser e) = RefusesAt pos e
+IsRefusalAt pos (stops.Lexer e) = ⊥
+IsRefusalAt pos stops.Memory = Unit {0}
+
+-- a parse error whose span is one byte of the file, or the one behind the text's end
+abbrev pub RefusesIn : ℕ → ℕ → Error → Type 0
+RefusesIn file size e = (offset : ℕ) × (offset ≤ size) × RefusesAt (in_file file offset) e
+
+-- a refusal of the parser at some byte of the file, or at the text's end
+abbrev pub IsRefusal : Source → Stop → Type 0
+IsRefusal s (stops.Parser e) = RefusesIn s.file s.size e
+IsRefusal s (stops.Lexer e) = ⊥
+IsRefusal s stops.Memory = Unit {0}
+
+-- Where the parser refuses, reading gives nothing, and where the lexer does, a fault stands behind the tokens.
+abbrev pub Stops : {Y : Type 0} → Option (Y × List Placed) → Source → Stop → Type 0
+Stops read s (stops.Parser e) = (read ≡ None) × RefusesIn s.file s.size e
+Stops read s (stops.Lexer e) = (is_fault s.ending ≡ true) × RefusesIn s.file s.size e
+Stops read s stops.Memory = Unit {0}
+
+-- What a call answered, seen by view, is what reading gives of the tokens that were to come.
+abbrev pub Gives : {X Y : Type 0} → (X → Y) → Option (Y × List Placed) → Result X Stop → Cursor → Type 0
+Gives view read (Ok x) new = read ≡ Some (view x, tokens new)
+Gives view read (Err e) new = Stops read (source new) e
+
+-- A test of what stands at a place is passed, or the parser refuses there.
+abbrev pub Judges : {X : Type 0} → Bool → Source → Result X Stop → Type 0
+Judges passed s (Ok _) = passed ≡ true
+Judges passed s (Err (stops.Parser e)) = (passed ≡ false) × RefusesIn s.file s.size e
+Judges passed s (Err (stops.Lexer e)) = ⊥
+Judges passed s (Err stops.Memory) = Unit {0}

@@ -1,0 +1,333 @@
+//! What is taken off the tokens of a text, one after another.
+
+ghost use Rattle.std.specs.Prelude.{◌≡◌, ◌+◌, ◌<◌, ◌^◌, IfOk, OnOk, option_map, string_bytes, false};
+ghost use Rattle.isle_ast_names.specs.Words.{is_constant};
+ghost use Rattle.isle_base.specs.Steps.{IsWithin, Rises, is_at_end, is_failed};
+ghost use Rattle.isle_base.specs.Token.{integer, is_int, is_symbol, rparen};
+ghost use Rattle.isle_base.specs.TokenView.{token_of};
+ghost use Rattle.isle_parser_cursor.specs.Answers.{Gives, IsPlace, IsRefusal, IsRefusalAt, place, source, tokens};
+ghost use Rattle.isle_parser_cursor.specs.ReadNumbers.{signed};
+ghost use Rattle.isle_parser_cursor.specs.Reading.{is_const, ends, expect, flag, is_ahead, is_at, is_lparen, is_rparen, is_word, pos_ahead, take, take_if, text, token_ahead};
+ghost use Rattle.isle_parser_cursor.specs.declared.cursor.Stop.TheVariants.{Memory};
+
+mod names;
+
+use isle_base::error::{Error, Span};
+use isle_base::lexer::{Fault, Lexer, Pos, Token};
+use std::alloc::{AllocError, AllocFailed, Global};
+
+/// The tokens that a lexer has still to give.
+///
+/// It says why it refuses a token, and where; what the tokens mean is for those who read them.
+#[derive(Debug, Drop)]
+pub struct Cursor<'src> {
+    /// What gives the tokens.
+    pub lexer: Lexer<'src>,
+    /// Whether the default position is put in place of each.
+    pub disable_pos: bool,
+}
+
+impl<'src> Clone for Cursor<'src> {
+    ghost is_clone = { λ cursor copy. copy ≡ cursor };
+
+    fn clone(&self) -> Result<Cursor<'src>, AllocError> {
+        Ok(Cursor {
+            lexer: self.lexer.clone()?,
+            disable_pos: self.disable_pos,
+        })
+    }
+}
+
+/// Why reading gives no answer.
+#[derive(Drop)]
+pub enum Stop {
+    /// The parser refuses the tokens.
+    Parser(Error),
+    /// The lexer refuses its text.
+    Lexer(Error),
+    /// A growth of memory was refused.
+    Memory,
+}
+
+impl From<AllocError> for Stop {
+    ghost from_gives = { λ _ e. e ≡ Memory };
+
+    fn from(_error: AllocError) -> Stop {
+        Stop::Memory
+    }
+}
+
+impl<T: Drop> From<AllocFailed<T>> for Stop {
+    ghost from_gives = { λ _ e. e ≡ Memory };
+
+    fn from(_error: AllocFailed<T>) -> Stop {
+        Stop::Memory
+    }
+}
+
+impl<'src> Cursor<'src> {
+    /// Tells whether the lexer had refused its text before this call.
+    pub fn is_failed(&self) -> bool
+        ensures failed { result ≡ is_failed self.now.lexer }
+        ensures rising { Rises 0 self.now.lexer.coming }
+    {
+        self.lexer.peek().is_none() && !self.lexer.eof()
+    }
+
+    /// Tells whether no token is ahead, and no fault.
+    pub fn is_at_end(&self) -> bool
+        requires { is_failed self.now.lexer ≡ false }
+        ensures ends { result ≡ ends (tokens self.now) }
+        ensures lexer { result ≡ is_at_end self.now.lexer }
+    {
+        self.lexer.eof()
+    }
+
+    /// The token ahead.
+    pub fn ahead(&self) -> Option<&Token>
+        ensures { option_map (λ t. token_of t.now) result ≡ token_ahead (tokens self.now) }
+    {
+        self.lexer.peek().map(|(_, token)| token)
+    }
+
+    /// Tells whether `(` is ahead.
+    pub fn is_lparen(&self) -> bool
+        ensures { result ≡ is_ahead is_lparen (tokens self.now) }
+    {
+        matches!(self.ahead(), Some(Token::LParen))
+    }
+
+    /// Tells whether `)` is ahead.
+    pub fn is_rparen(&self) -> bool
+        ensures { result ≡ is_ahead is_rparen (tokens self.now) }
+    {
+        matches!(self.ahead(), Some(Token::RParen))
+    }
+
+    /// Tells whether this word is ahead, as a symbol.
+    pub fn is_word(&self, word: &str) -> bool
+        ensures { result ≡ is_ahead (is_word word.now) (tokens self.now) }
+    {
+        match self.ahead() {
+            Some(Token::Symbol(text)) => text.as_str() == word,
+            _ => false,
+        }
+    }
+
+    /// Tells whether a symbol is ahead.
+    pub fn is_sym(&self) -> bool
+        ensures { result ≡ is_ahead is_symbol (tokens self.now) }
+    {
+        matches!(self.ahead(), Some(Token::Symbol(_)))
+    }
+
+    /// Tells whether an integer is ahead.
+    pub fn is_int(&self) -> bool
+        ensures { result ≡ is_ahead is_int (tokens self.now) }
+    {
+        matches!(self.ahead(), Some(Token::Int(_)))
+    }
+
+    /// Tells whether `@` is ahead.
+    pub fn is_at(&self) -> bool
+        ensures { result ≡ is_ahead is_at (tokens self.now) }
+    {
+        matches!(self.ahead(), Some(Token::At))
+    }
+
+    /// Tells whether a constant is ahead: a symbol that begins with `$`.
+    pub fn is_const(&self) -> bool
+        ensures { result ≡ is_ahead is_const (tokens self.now) }
+    {
+        match self.ahead() {
+            Some(Token::Symbol(text)) => begins_constant(text),
+            _ => false,
+        }
+    }
+
+    /// The position of the token ahead, as the tree has it.
+    pub fn pos(&self) -> Pos
+        ensures { result ≡ pos_ahead (tokens self.now) }
+    {
+        if self.disable_pos {
+            return Pos::default();
+        }
+        self.lexer.peek().map_or(Pos::default(), |(pos, _)| *pos)
+    }
+
+    /// The position of the token ahead in the text. Where none is, that of the text's end or of the
+    /// fault.
+    pub fn place(&self) -> Pos
+        ensures place { IsPlace (source self.now) result }
+        ensures within { IsWithin self.now.lexer }
+    {
+        match self.lexer.peek() {
+            Some((pos, _)) => *pos,
+            None => self.lexer.pos(),
+        }
+    }
+
+    /// Refuses the byte at this place, where there was memory for the message.
+    pub fn refuse_at(&self, place: Pos, message: Result<String, AllocError>) -> Stop
+        requires { IsPlace (source self.now) place }
+        ensures { IsRefusal (source self.now) result }
+    {
+        refuse(place, message)
+    }
+
+    /// Refuses the token ahead, or the end.
+    pub fn unexpected(&self, alloc: Global) -> Stop
+        ensures { IsRefusal (source self.now) result }
+    {
+        refuse(self.place(), unexpected_message(alloc, self.ahead()))
+    }
+
+    /// Takes off the token ahead.
+    pub fn take(&mut self, alloc: Global) -> Result<Token, Stop>
+        ensures same { source self.new ≡ source self.old }
+        ensures gives { Gives token_of (take (tokens self.old)) result self.new }
+        ensures goes_on { OnOk result (is_failed self.new.lexer ≡ false) }
+    {
+        let place = self.place();
+        match self.lexer.next(alloc) {
+            Ok(Some((_, token))) => Ok(token),
+            Ok(None) => Err(refuse(place, unexpected_message(alloc, None))),
+            Err(Fault::Error(error)) => Err(Stop::Lexer(error)),
+            Err(Fault::Failed) => Err(refuse(place, unexpected_message(alloc, None))),
+            Err(Fault::Memory) => Err(Stop::Memory),
+        }
+    }
+
+    /// Takes off the token ahead where it is wanted, and refuses it otherwise.
+    pub fn take_if(&mut self, alloc: Global, is_wanted: bool) -> Result<Token, Stop>
+        ensures same { source self.new ≡ source self.old }
+        ensures gives { Gives token_of (take_if is_wanted (tokens self.old)) result self.new }
+        ensures goes_on { OnOk result (is_failed self.new.lexer ≡ false) }
+    {
+        if !is_wanted {
+            return Err(self.unexpected(alloc));
+        }
+        self.take(alloc)
+    }
+
+    /// Takes off `(`.
+    pub fn expect_lparen(&mut self, alloc: Global) -> Result<Token, Stop>
+        ensures same { source self.new ≡ source self.old }
+        ensures gives { Gives token_of (expect is_lparen (tokens self.old)) result self.new }
+    {
+        let is_wanted = self.is_lparen();
+        self.take_if(alloc, is_wanted)
+    }
+
+    /// Takes off `)`.
+    pub fn expect_rparen(&mut self, alloc: Global) -> Result<Token, Stop>
+        ensures same { source self.new ≡ source self.old }
+        ensures gives { Gives token_of (expect is_rparen (tokens self.old)) result self.new }
+        ensures goes_on { OnOk result (is_failed self.new.lexer ≡ false) }
+    {
+        let is_wanted = self.is_rparen();
+        self.take_if(alloc, is_wanted)
+    }
+
+    /// Takes off the closing parenthesis behind a node, and gives the node.
+    #[tactic(auto, using(crate::proofs::Expected::expected_rparen))]
+    pub fn close<T: Drop>(&mut self, alloc: Global, node: T) -> Result<T, Stop>
+        ensures same { source self.new ≡ source self.old }
+        ensures kept { IfOk result (λ n. n ≡ node) }
+        ensures gives { Gives (λ _. rparen) (expect is_rparen (tokens self.old)) result self.new }
+        ensures goes_on { OnOk result (is_failed self.new.lexer ≡ false) }
+    {
+        self.expect_rparen(alloc)?;
+        Ok(node)
+    }
+
+    /// Takes off `@`.
+    pub fn expect_at(&mut self, alloc: Global) -> Result<Token, Stop>
+        ensures same { source self.new ≡ source self.old }
+        ensures gives { Gives token_of (expect is_at (tokens self.old)) result self.new }
+    {
+        let is_wanted = self.is_at();
+        self.take_if(alloc, is_wanted)
+    }
+
+    /// Takes off a symbol, and gives its text.
+    #[tactic(auto, unfolding(crate::specs::Reading::text))]
+    pub fn expect_symbol(&mut self, alloc: Global) -> Result<String, Stop>
+        ensures same { source self.new ≡ source self.old }
+        ensures gives { Gives string_bytes (text (tokens self.old)) result self.new }
+    {
+        let is_wanted = self.is_sym();
+        match self.take_if(alloc, is_wanted)? {
+            Token::Symbol(text) => Ok(text),
+            _ => unreachable!(),
+        }
+    }
+
+    /// Takes off an integer.
+    pub fn expect_int(&mut self, alloc: Global) -> Result<i128, Stop>
+        ensures same { source self.new ≡ source self.old }
+        ensures gives { Gives (λ value. integer value) (expect is_int (tokens self.old)) result self.new }
+    {
+        let is_wanted = self.is_int();
+        match self.take_if(alloc, is_wanted)? {
+            Token::Int(value) => Ok(value),
+            _ => unreachable!(),
+        }
+    }
+
+    /// An integer, which is always within an `i128`.
+    #[tactic(auto, unfolding(crate::specs::ReadNumbers::signed))]
+    pub fn parse_int(&mut self, alloc: Global) -> Result<i128, Stop>
+        ensures same { source self.new ≡ source self.old }
+        ensures gives { Gives (λ value. value) (signed 127 (tokens self.old)) result self.new }
+    {
+        let value = self.expect_int(alloc)?;
+        Ok(value)
+    }
+
+    /// Takes off this word where it is ahead, and tells whether it was.
+    #[tactic(auto, unfolding(crate::specs::Reading::flag))]
+    pub fn eat_sym_str(&mut self, alloc: Global, word: &str) -> Result<bool, Stop>
+        ensures same { source self.new ≡ source self.old }
+        ensures gives { Gives (λ eaten. eaten) (flag word.now (tokens self.old)) result self.new }
+    {
+        let is_eaten = self.is_word(word);
+        if is_eaten {
+            self.take(alloc)?;
+        }
+        Ok(is_eaten)
+    }
+}
+
+// Tells whether the text begins with `$`.
+fn begins_constant(text: &str) -> bool
+    ensures { result ≡ is_constant text.now }
+{
+    text.starts_with('$')
+}
+
+// The message about a token that is not expected, or about the end.
+fn unexpected_message(alloc: Global, token: Option<&Token>) -> Result<String, AllocError> {
+    match token {
+        None => String::from_str(alloc, "Unexpected EOF"),
+        Some(Token::LParen) => String::from_str(alloc, "Unexpected token LParen"),
+        Some(Token::RParen) => String::from_str(alloc, "Unexpected token RParen"),
+        Some(Token::At) => String::from_str(alloc, "Unexpected token At"),
+        Some(Token::Int(value)) => format!(in alloc; "Unexpected token Int({value})"),
+        Some(Token::Symbol(text)) => format!(in alloc; "Unexpected token Symbol(\"{text}\")"),
+    }
+}
+
+// Refuses the byte at this place, where there was memory for the message.
+fn refuse(place: Pos, message: Result<String, AllocError>) -> Stop
+    requires { place.offset + 1 < 2 ^ 64 }
+    ensures { IsRefusalAt place result }
+{
+    match message {
+        Ok(msg) => Stop::Parser(Error::ParseError {
+            msg,
+            span: Span::new_single(place),
+        }),
+        Err(error) => Stop::from(error),
+    }
+}

@@ -1,0 +1,32 @@
+-- A constant is read with its `$`.
+use Rattle.std.proofs.Common.{◌≡◌, ℕ, false, ◌==◌, List, [], ◌∷◌, Some, None, refl, ap}
+use Rattle.std.proofs.lemmas.Bool.{eqb-true}
+use Rattle.isle_ast_names.specs.Tree.{Name}
+use Rattle.isle_base.specs.declared.lexer.Pos.{Pos}
+use Rattle.isle_base.specs.Place.{Placed}
+use Rattle.isle_parser_cursor.specs.declared.cursor.Stop.{Stop}
+use Rattle.isle_parser_cursor.specs.Answers.{IsRefusal, Source, Stops}
+use Rattle.isle_parser_cursor.specs.ReadNames.{name}
+use Rattle.isle_parser_rules.specs.ReadConstants.{behind_dollar, constant}
+use Rattle.isle_parser_cursor.proofs.Ahead.{stopped}
+use Rattle.isle_parser_cursor.proofs.SameBytes.{is_false}
+
+-- a name that does not begin with `$`
+nothing_behind : (text : List ℕ) (place : Pos) → ((rest : List ℕ) → text ≡ 36 ∷ rest → ⊥) → behind_dollar (record { text = text; pos = place }) ≡ None
+nothing_behind [] place h = refl
+nothing_behind (b ∷ bs) place h =
+    let other : (b == 36) ≡ false = is_false (b == 36) (λ e. h bs (ap (λ (n : ℕ). n ∷ bs) (eqb-true b 36 e))) in
+    rw other refl
+
+-- a name that begins with `$`
+some_behind : (text rest : List ℕ) (place : Pos) → text ≡ 36 ∷ rest → behind_dollar (record { text = text; pos = place }) ≡ Some (record { text = rest; pos = place })
+some_behind text rest place e = rw e refl
+
+pub dollar_taken : (all : List Placed) (n : Name) (rest : List Placed) (bytes : List ℕ) → name all ≡ Some (n, rest) → n.text ≡ 36 ∷ bytes → constant all ≡ Some (record { text = bytes; pos = n.pos }, rest)
+unfolding constant
+dollar_taken all n rest bytes read e = rw (read, some_behind n.text bytes n.pos e) refl
+
+pub no_dollar : (all : List Placed) (n : Name) (rest : List Placed) (s : Source) (e : Stop) → name all ≡ Some (n, rest) → ((bytes : List ℕ) → n.text ≡ 36 ∷ bytes → ⊥) → IsRefusal s e → Stops (constant all) s e
+unfolding constant
+no_dollar all n rest s e read h refused =
+    stopped (constant all) s e (rw (read, nothing_behind n.text n.pos h) refl) refused

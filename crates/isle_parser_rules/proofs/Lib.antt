@@ -1,0 +1,11 @@
+pub mod ReadsConstants
+pub mod ReadsPatterns
+pub mod ReadsExpressions
+pub mod ExpressionParts
+pub mod PatternParts
+pub mod ReadOnce
+pub mod ReadsConditions
+pub mod ReadsRules
+pub mod RightSides
+pub mod RulePositions
+pub mod Constants

@@ -1,0 +1,82 @@
+use mir.Syntax.{w128}
+use Rattle.std.proofs.Common.{◌≡◌, rules, [], ◌∷◌, ◌++◌, sym, ◌∙◌, arith}
+use Rattle.std.specs.Prelude.{codes}
+use Rattle.std.proofs.lemmas.Int.{to_z-of_z}
+use Rattle.std.proofs.lemmas.Result.{err_from_is_err_and}
+use Rattle.std.proofs.lemmas.List.{map_push}
+use Rattle.isle_ast_rules.specs.TreeView.{expression_of, expressions_of, single_let_of, single_lets_of}
+use Rattle.isle_ast_names.specs.TreeView.{name_of}
+use Rattle.isle_base.specs.TokenView.{token_of}
+use Rattle.isle_parser_cursor.specs.Answers.{source, tokens}
+use Rattle.isle_parser_rules.specs.ReadExpressions.{expression, let_definition}
+use Rattle.isle_parser_cursor.specs.Reading.{closes, is_lparen, many}
+use Rattle.isle_parser_cursor.proofs.Lengths.{expect_shorter, flag_shorter}
+use Rattle.isle_parser_cursor.proofs.Loops.{loop_push, loop_stops, loop_end}
+use Rattle.isle_parser_cursor.proofs.Names.{name_shrinks}
+use Rattle.isle_parser_rules.proofs.ExpressionParts.{int_taken}
+use Rattle.isle_parser_rules.proofs.ReadsExpressions.{expression_shrinks, let_definition_shrinks, let_definitions_shrink}
+use Rattle.isle_parser_rules.proofs.parser.expressions.+expression.Goals as goal
+
+pub parse_expr-returns-then-is_int-clause-gives : goal.parse_expr-returns-then-is_int-clause-gives
+parse_expr-returns-then-is_int-clause-gives t c =
+    int_taken (tokens c.args.cursor.now) (tokens c.parse_int.new.self) c.in_ok-val.val _ c.pos-pos.result (to_z-of_z w128 c.in_ok-val.val (search rules)) c.if-is_lparen.ensures c.if-is_sym.ensures c.if-is_int.ensures c.pos-pos.ensures c.in_ok-val.ensures.gives
+
+pub parse_expr_inner_parens-parse_letdefs-requires : goal.parse_expr_inner_parens-parse_letdefs-requires
+parse_expr_inner_parens-parse_letdefs-requires t c =
+    (omega (arith, flag_shorter (codes "let") (tokens c.args.cursor.now) (tokens c.eat_sym_str.new.self) c.in_ok-eat_sym_str.field-0 c.in_ok-eat_sym_str.ensures.gives), tt)
+
+pub parse_expr_inner_parens-parse_expr-requires : goal.parse_expr_inner_parens-parse_expr-requires
+parse_expr_inner_parens-parse_expr-requires t c =
+    (omega (arith, flag_shorter (codes "let") (tokens c.args.cursor.now) (tokens c.eat_sym_str.new.self) c.in_ok-eat_sym_str.field-0 c.in_ok-eat_sym_str.ensures.gives, let_definitions_shrink (tokens c.eat_sym_str.new.self) (tokens c.parse_letdefs.new.cursor) (single_lets_of c.in_ok-defs.defs.items) c.in_ok-defs.ensures.gives), tt)
+
+pub parse_expr_inner_parens-parse_exprs-requires : goal.parse_expr_inner_parens-parse_exprs-requires
+parse_expr_inner_parens-parse_exprs-requires t c =
+    (omega (arith, flag_shorter (codes "let") (tokens c.args.cursor.now) (tokens c.eat_sym_str.new.self) c.in_ok-eat_sym_str.field-0 c.in_ok-eat_sym_str.ensures.gives, name_shrinks (tokens c.eat_sym_str.new.self) (tokens c.parse_ident.new.self) (name_of c.in_ok-sym.sym) c.in_ok-sym.ensures.gives), tt)
+
+pub parse_letdef-parse_expr-requires : goal.parse_letdef-parse_expr-requires
+parse_letdef-parse_expr-requires t c =
+    (omega (arith, expect_shorter is_lparen (tokens c.args.cursor.now) (tokens c.expect_lparen.new.self) (token_of c.in_ok-expect_lparen.field-0) c.in_ok-expect_lparen.ensures.gives, name_shrinks (tokens c.expect_lparen.new.self) (tokens c.parse_ident.new.self) (name_of c.in_ok-var.var) c.in_ok-var.ensures.gives, name_shrinks (tokens c.parse_ident.new.self) (tokens c.parse_ident-2.new.self) (name_of c.in_ok-ty.ty) c.in_ok-ty.ensures.gives), tt)
+
+pub parse_exprs-returns-in_err-parse_expr-clause-gives : goal.parse_exprs-returns-in_err-parse_expr-clause-gives
+parse_exprs-returns-in_err-parse_expr-clause-gives t c =
+    let p = err_from_is_err_and c.from_residual.result c.from_residual.ensures.1 in
+    rw (p.1, p.2) (loop_stops expression closes expression_shrinks (expressions_of c.loop-alloc.exprs.items) (tokens c.loop-alloc.cursor) (many closes expression (tokens c.args.cursor.now)) (source c.parse_expr.new.cursor) c.in_err-parse_expr.field-0.0 (sym c.loop-alloc-test.ensures) c.in_err-parse_expr.ensures.gives c.loop-alloc.invariant.so_far)
+
+pub parse_exprs-loop-alloc-smaller : goal.parse_exprs-loop-alloc-smaller
+parse_exprs-loop-alloc-smaller t c = expression_shrinks (tokens c.loop-alloc.cursor) (tokens c.parse_expr.new.cursor) (expression_of c.in_ok-parse_expr.field-0) c.in_ok-parse_expr.ensures.gives
+
+pub parse_exprs-loop-alloc-preserved : goal.parse_exprs-loop-alloc-preserved
+parse_exprs-loop-alloc-preserved t c =
+    let x = c.in_ok-parse_expr.field-0 in
+    let e : expressions_of c.push.new.self.items ≡ expressions_of c.loop-alloc.exprs.items ++ expression_of x ∷ [] = rw c.in_ok-push.ensures.items (map_push _ c.loop-alloc.exprs.items x) in
+    let less = expression_shrinks (tokens c.loop-alloc.cursor) (tokens c.parse_expr.new.cursor) (expression_of x) c.in_ok-parse_expr.ensures.gives in
+    record {
+      same = c.in_ok-parse_expr.ensures.same ∙ c.loop-alloc.invariant.same;
+      so_far = rw e (loop_push expression closes expression_shrinks (expressions_of c.loop-alloc.exprs.items) (tokens c.loop-alloc.cursor) (tokens c.parse_expr.new.cursor) (expression_of x) (many closes expression (tokens c.args.cursor.now)) (sym c.loop-alloc-test.ensures) c.in_ok-parse_expr.ensures.gives c.loop-alloc.invariant.so_far);
+      shorter = omega (arith, less, c.loop-alloc.invariant.shorter);
+    }
+
+pub parse_exprs-returns-clause-gives : goal.parse_exprs-returns-clause-gives
+parse_exprs-returns-clause-gives t c = loop_end expression closes expression_shrinks (expressions_of c.loop-alloc.exprs.items) (tokens c.loop-alloc.cursor) (many closes expression (tokens c.args.cursor.now)) (sym c.loop-alloc-test.ensures) c.loop-alloc.invariant.so_far
+
+pub parse_letdef_list-returns-in_err-parse_letdef-clause-gives : goal.parse_letdef_list-returns-in_err-parse_letdef-clause-gives
+parse_letdef_list-returns-in_err-parse_letdef-clause-gives t c =
+    let p = err_from_is_err_and c.from_residual.result c.from_residual.ensures.1 in
+    rw (p.1, p.2) (loop_stops (let_definition expression) closes let_definition_shrinks (single_lets_of c.loop-alloc.defs.items) (tokens c.loop-alloc.cursor) (many closes (let_definition expression) (tokens c.args.cursor.now)) (source c.parse_letdef.new.cursor) c.in_err-parse_letdef.field-0.0 (sym c.loop-alloc-test.ensures) c.in_err-parse_letdef.ensures.gives c.loop-alloc.invariant.so_far)
+
+pub parse_letdef_list-loop-alloc-smaller : goal.parse_letdef_list-loop-alloc-smaller
+parse_letdef_list-loop-alloc-smaller t c = let_definition_shrinks (tokens c.loop-alloc.cursor) (tokens c.parse_letdef.new.cursor) (single_let_of c.in_ok-parse_letdef.field-0) c.in_ok-parse_letdef.ensures.gives
+
+pub parse_letdef_list-loop-alloc-preserved : goal.parse_letdef_list-loop-alloc-preserved
+parse_letdef_list-loop-alloc-preserved t c =
+    let x = c.in_ok-parse_letdef.field-0 in
+    let e : single_lets_of c.push.new.self.items ≡ single_lets_of c.loop-alloc.defs.items ++ single_let_of x ∷ [] = rw c.in_ok-push.ensures.items (map_push _ c.loop-alloc.defs.items x) in
+    let less = let_definition_shrinks (tokens c.loop-alloc.cursor) (tokens c.parse_letdef.new.cursor) (single_let_of x) c.in_ok-parse_letdef.ensures.gives in
+    record {
+      same = c.in_ok-parse_letdef.ensures.same ∙ c.loop-alloc.invariant.same;
+      so_far = rw e (loop_push (let_definition expression) closes let_definition_shrinks (single_lets_of c.loop-alloc.defs.items) (tokens c.loop-alloc.cursor) (tokens c.parse_letdef.new.cursor) (single_let_of x) (many closes (let_definition expression) (tokens c.args.cursor.now)) (sym c.loop-alloc-test.ensures) c.in_ok-parse_letdef.ensures.gives c.loop-alloc.invariant.so_far);
+      shorter = omega (arith, less, c.loop-alloc.invariant.shorter);
+    }
+
+pub parse_letdef_list-returns-clause-gives : goal.parse_letdef_list-returns-clause-gives
+parse_letdef_list-returns-clause-gives t c = loop_end (let_definition expression) closes let_definition_shrinks (single_lets_of c.loop-alloc.defs.items) (tokens c.loop-alloc.cursor) (many closes (let_definition expression) (tokens c.args.cursor.now)) (sym c.loop-alloc-test.ensures) c.loop-alloc.invariant.so_far

@@ -1,0 +1,157 @@
+//! Rules and extractors.
+
+ghost use Rattle.std.specs.Prelude.{◌≡◌};
+ghost use Rattle.isle_ast_rules.specs.TreeView.{condition_of, conditions_of, expression_of, extractor_of, rule_of};
+ghost use Rattle.isle_parser_cursor.specs.Answers.{Gives, IsPlace, source, tokens};
+ghost use Rattle.isle_parser_rules.specs.ReadRules.{condition_match, condition_or_expression, condition_test, extractor_definition, match_or_expression, priority, right_side, rule_definition};
+ghost use Rattle.isle_parser_rules.specs.RuleParts.{part_of};
+
+use crate::parser::expressions::{parse_expr, parse_expr_inner_parens};
+use crate::parser::patterns::parse_pattern;
+use isle_ast_rules::ast::{Expr, Extractor, IfLet, Pattern, Rule};
+use isle_base::lexer::Pos;
+use isle_parser_cursor::cursor::{Cursor, Stop};
+use std::alloc::Global;
+
+/// A part of a rule's right side.
+#[derive(Drop)]
+enum IfLetOrExpr {
+    /// A condition.
+    IfLet(IfLet),
+    /// The expression, which stands last.
+    Expr(Expr),
+}
+
+/// What stands behind the keyword `extractor`.
+#[tactic(auto, unfolding(crate::specs::ReadRules::extractor_definition))]
+pub fn parse_etor(cursor: &mut Cursor, alloc: Global) -> Result<Extractor, Stop>
+    ensures same { source cursor.new ≡ source cursor.old }
+    ensures gives { Gives extractor_of (extractor_definition (tokens cursor.old)) result cursor.new }
+{
+    let pos = cursor.pos();
+    let (term, args) = cursor.parse_headed(alloc)?;
+    let template = parse_pattern(cursor, alloc)?;
+    Ok(Extractor {
+        term,
+        args,
+        template,
+        pos,
+    })
+}
+
+/// What stands behind the keyword `rule`.
+#[tactic(auto, unfolding(crate::specs::ReadRules::rule_definition))]
+pub fn parse_rule(cursor: &mut Cursor, alloc: Global) -> Result<Rule, Stop>
+    ensures same { source cursor.new ≡ source cursor.old }
+    ensures gives { Gives rule_of (rule_definition (tokens cursor.old)) result cursor.new }
+{
+    let place = cursor.place();
+    let pos = cursor.pos();
+    let name = cursor.parse_optional_ident(alloc, place, "rule name")?;
+    let prio = parse_priority(cursor, alloc, place)?;
+    let pattern = parse_pattern(cursor, alloc)?;
+    let (iflets, expr) = parse_iflets_and_expr(cursor, alloc)?;
+    Ok(Rule {
+        pattern,
+        iflets,
+        expr,
+        pos,
+        prio,
+        name,
+    })
+}
+
+// The priority of a rule, where an integer is ahead. What stands behind the keyword stood at this
+// place.
+#[tactic(auto, unfolding(crate::specs::ReadRules::priority, isle_parser_cursor::specs::ReadNumbers::signed))]
+fn parse_priority(cursor: &mut Cursor, alloc: Global, place: Pos) -> Result<Option<i64>, Stop>
+    requires { IsPlace (source cursor.old) place }
+    ensures same { source cursor.new ≡ source cursor.old }
+    ensures gives { Gives (λ n. n) (priority (tokens cursor.old)) result cursor.new }
+{
+    if !cursor.is_int() {
+        return Ok(None);
+    }
+    let value = cursor.expect_int(alloc)?;
+    match i64::try_from(value) {
+        Ok(prio) => Ok(Some(prio)),
+        Err(error) => Err(cursor.refuse_at(
+            place,
+            format!(in alloc; "Invalid rule priority: {error}"),
+        )),
+    }
+}
+
+// The conditions of a rule, and the expression behind them.
+fn parse_iflets_and_expr(cursor: &mut Cursor, alloc: Global) -> Result<(Vec<IfLet>, Expr), Stop>
+    ensures same { source cursor.new ≡ source cursor.old }
+    ensures gives { Gives (λ r. (conditions_of r.0.items, expression_of r.1)) (right_side (tokens cursor.old)) result cursor.new }
+{
+    let mut iflets = Vec::new(alloc);
+    loop {
+        match parse_iflet_or_expr(cursor, alloc)? {
+            IfLetOrExpr::IfLet(iflet) => iflets.push(iflet)?,
+            IfLetOrExpr::Expr(expr) => return Ok((iflets, expr)),
+        }
+    }
+}
+
+#[tactic(auto, unfolding(crate::specs::ReadRules::condition_or_expression, isle_parser_cursor::specs::Reading::in_parentheses))]
+fn parse_iflet_or_expr(cursor: &mut Cursor, alloc: Global) -> Result<IfLetOrExpr, Stop>
+    ensures same { source cursor.new ≡ source cursor.old }
+    ensures gives { Gives part_of (condition_or_expression (tokens cursor.old)) result cursor.new }
+{
+    let pos = cursor.pos();
+    if !cursor.is_lparen() {
+        return Ok(IfLetOrExpr::Expr(parse_expr(cursor, alloc)?));
+    }
+    cursor.expect_lparen(alloc)?;
+    let part = parse_iflet_or_expr_inner_parens(cursor, alloc, pos)?;
+    cursor.close(alloc, part)
+}
+
+// What a condition or an expression has in its parentheses. The `(` stood at this position.
+#[tactic(auto, unfolding(crate::specs::ReadRules::match_or_expression, crate::specs::ReadRules::test_or_expression))]
+fn parse_iflet_or_expr_inner_parens(
+    cursor: &mut Cursor,
+    alloc: Global,
+    pos: Pos,
+) -> Result<IfLetOrExpr, Stop>
+    ensures same { source cursor.new ≡ source cursor.old }
+    ensures gives { Gives part_of (match_or_expression pos (tokens cursor.old)) result cursor.new }
+{
+    if cursor.eat_sym_str(alloc, "if-let")? {
+        return Ok(IfLetOrExpr::IfLet(parse_iflet(cursor, alloc)?));
+    }
+    if cursor.eat_sym_str(alloc, "if")? {
+        return Ok(IfLetOrExpr::IfLet(parse_iflet_if(cursor, alloc)?));
+    }
+    let expr = parse_expr_inner_parens(cursor, alloc, pos)?;
+    Ok(IfLetOrExpr::Expr(expr))
+}
+
+#[tactic(auto, unfolding(crate::specs::ReadRules::condition_match))]
+fn parse_iflet(cursor: &mut Cursor, alloc: Global) -> Result<IfLet, Stop>
+    ensures same { source cursor.new ≡ source cursor.old }
+    ensures gives { Gives condition_of (condition_match (tokens cursor.old)) result cursor.new }
+{
+    let pos = cursor.pos();
+    let pattern = parse_pattern(cursor, alloc)?;
+    let expr = parse_expr(cursor, alloc)?;
+    Ok(IfLet { pattern, expr, pos })
+}
+
+// A condition that is an expression alone: its pattern is a wildcard, at the expression's position.
+#[tactic(auto, unfolding(crate::specs::ReadRules::condition_test))]
+fn parse_iflet_if(cursor: &mut Cursor, alloc: Global) -> Result<IfLet, Stop>
+    ensures same { source cursor.new ≡ source cursor.old }
+    ensures gives { Gives condition_of (condition_test (tokens cursor.old)) result cursor.new }
+{
+    let pos = cursor.pos();
+    let expr = parse_expr(cursor, alloc)?;
+    Ok(IfLet {
+        pattern: Pattern::Wildcard { pos },
+        expr,
+        pos,
+    })
+}

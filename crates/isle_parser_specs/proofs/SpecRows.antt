@@ -1,0 +1,165 @@
+-- Rows of the parts of spec expressions, as lists of them: pairs, arms, values of a `let` and fields.
+use Rattle.std.proofs.Common.{◌≡◌, List, [], ◌∷◌, refl, ap}
+use Rattle.isle_base.specs.Place.{Placed}
+use Rattle.isle_ast_specs.specs.TreeView.{SingleArm, SingleFieldInit, spec_row_of, arm_row_of, field_init_row_of, spec_let_row_of}
+use Rattle.isle_ast_names.specs.Tree.{Name}
+use Rattle.isle_ast_specs.specs.Tree.{SpecNode, int_spec, bit_vector_spec, bool_spec, var_spec, as_spec, field_spec, discriminator_spec, op_spec, match_spec, let_spec, with_spec, macro_spec, expand_spec, pair_spec, enum_spec, struct_spec, SpecRow, no_spec, more_spec, ArmRow, no_arm, more_arm, SpecLetRow, no_spec_let, more_spec_let, FieldInitRow, no_field_init, more_field_init}
+use Rattle.isle_ast_names.specs.Words.{BeginsAt, SpellsAll, InParentheses, SpellsName}
+use Rattle.isle_ast_specs.specs.SpecGrammar.{SpellsHeaded, SpellsSpec, SpellsSpecs, SpellsPairs, SpellsArms, SpellsSpecLets, SpellsFieldInits}
+
+-- ---- expressions
+
+abbrev pub listed : SpecRow → List SpecNode
+listed no_spec = []
+listed (more_spec x xs) = x ∷ listed xs
+
+pub row_listed : (xs : SpecRow) → spec_row_of (listed xs) ≡ xs
+row_listed no_spec = refl
+row_listed (more_spec x xs) = ap (more_spec x) (row_listed xs)
+
+pub specs_spelt : (xs : List SpecNode) (all rest : List Placed) → SpellsAll SpellsSpec xs all rest → SpellsSpecs (spec_row_of xs) all rest
+specs_spelt [] all rest h = h
+specs_spelt (x ∷ xs) all rest h = (h.0, h.1, specs_spelt xs h.0 rest h.2)
+
+pub specs_listed : (xs : SpecRow) (all rest : List Placed) → SpellsSpecs xs all rest → SpellsAll SpellsSpec (listed xs) all rest
+specs_listed no_spec all rest h = h
+specs_listed (more_spec x xs) all rest h = (h.0, h.1, specs_listed xs h.0 rest h.2)
+
+-- ---- cases of a `switch`
+
+-- what stands in the parentheses of a case
+abbrev pub SpellsPairInside : SpecNode → List Placed → List Placed → Type 0
+SpellsPairInside (pair_spec l r pos) inner close =
+    BeginsAt pos inner × (behind : List Placed) × SpellsSpec l inner behind × SpellsSpec r behind close
+SpellsPairInside (int_spec _ _) inner close = ⊥
+SpellsPairInside (bit_vector_spec _ _ _) inner close = ⊥
+SpellsPairInside (bool_spec _ _) inner close = ⊥
+SpellsPairInside (var_spec _ _) inner close = ⊥
+SpellsPairInside (as_spec _ _ _) inner close = ⊥
+SpellsPairInside (field_spec _ _ _) inner close = ⊥
+SpellsPairInside (discriminator_spec _ _ _) inner close = ⊥
+SpellsPairInside (op_spec _ _ _) inner close = ⊥
+SpellsPairInside (match_spec _ _ _) inner close = ⊥
+SpellsPairInside (let_spec _ _ _) inner close = ⊥
+SpellsPairInside (with_spec _ _ _) inner close = ⊥
+SpellsPairInside (macro_spec _ _ _) inner close = ⊥
+SpellsPairInside (expand_spec _ _ _) inner close = ⊥
+SpellsPairInside (enum_spec _ _ _ _) inner close = ⊥
+SpellsPairInside (struct_spec _ _) inner close = ⊥
+
+abbrev pub SpellsPair : SpecNode → List Placed → List Placed → Type 0
+SpellsPair x = InParentheses (SpellsPairInside x)
+
+pub pairs_spelt : (xs : List SpecNode) (all rest : List Placed) → SpellsAll SpellsPair xs all rest → SpellsPairs (spec_row_of xs) all rest
+pairs_spelt [] all rest h = h
+pairs_spelt (pair_spec l r pos ∷ xs) all rest h = (h.0, h.1, pairs_spelt xs h.0 rest h.2)
+pairs_spelt (int_spec _ _ ∷ xs) all rest h = absurd h.1.3
+pairs_spelt (bit_vector_spec _ _ _ ∷ xs) all rest h = absurd h.1.3
+pairs_spelt (bool_spec _ _ ∷ xs) all rest h = absurd h.1.3
+pairs_spelt (var_spec _ _ ∷ xs) all rest h = absurd h.1.3
+pairs_spelt (as_spec _ _ _ ∷ xs) all rest h = absurd h.1.3
+pairs_spelt (field_spec _ _ _ ∷ xs) all rest h = absurd h.1.3
+pairs_spelt (discriminator_spec _ _ _ ∷ xs) all rest h = absurd h.1.3
+pairs_spelt (op_spec _ _ _ ∷ xs) all rest h = absurd h.1.3
+pairs_spelt (match_spec _ _ _ ∷ xs) all rest h = absurd h.1.3
+pairs_spelt (let_spec _ _ _ ∷ xs) all rest h = absurd h.1.3
+pairs_spelt (with_spec _ _ _ ∷ xs) all rest h = absurd h.1.3
+pairs_spelt (macro_spec _ _ _ ∷ xs) all rest h = absurd h.1.3
+pairs_spelt (expand_spec _ _ _ ∷ xs) all rest h = absurd h.1.3
+pairs_spelt (enum_spec _ _ _ _ ∷ xs) all rest h = absurd h.1.3
+pairs_spelt (struct_spec _ _ ∷ xs) all rest h = absurd h.1.3
+
+pub pairs_listed : (xs : SpecRow) (all rest : List Placed) → SpellsPairs xs all rest → SpellsAll SpellsPair (listed xs) all rest
+pairs_listed no_spec all rest h = h
+pairs_listed (more_spec (pair_spec l r pos) xs) all rest h = (h.0, h.1, pairs_listed xs h.0 rest h.2)
+pairs_listed (more_spec (int_spec _ _) xs) all rest h = absurd h
+pairs_listed (more_spec (bit_vector_spec _ _ _) xs) all rest h = absurd h
+pairs_listed (more_spec (bool_spec _ _) xs) all rest h = absurd h
+pairs_listed (more_spec (var_spec _ _) xs) all rest h = absurd h
+pairs_listed (more_spec (as_spec _ _ _) xs) all rest h = absurd h
+pairs_listed (more_spec (field_spec _ _ _) xs) all rest h = absurd h
+pairs_listed (more_spec (discriminator_spec _ _ _) xs) all rest h = absurd h
+pairs_listed (more_spec (op_spec _ _ _) xs) all rest h = absurd h
+pairs_listed (more_spec (match_spec _ _ _) xs) all rest h = absurd h
+pairs_listed (more_spec (let_spec _ _ _) xs) all rest h = absurd h
+pairs_listed (more_spec (with_spec _ _ _) xs) all rest h = absurd h
+pairs_listed (more_spec (macro_spec _ _ _) xs) all rest h = absurd h
+pairs_listed (more_spec (expand_spec _ _ _) xs) all rest h = absurd h
+pairs_listed (more_spec (enum_spec _ _ _ _) xs) all rest h = absurd h
+pairs_listed (more_spec (struct_spec _ _) xs) all rest h = absurd h
+
+-- ---- arms of a `match`
+
+abbrev pub SpellsArmInside : SingleArm → List Placed → List Placed → Type 0
+SpellsArmInside a inner close =
+    BeginsAt a.pos inner × (behind : List Placed) × SpellsHeaded a.variant a.args inner behind × SpellsSpec a.body behind close
+
+abbrev pub SpellsArm : SingleArm → List Placed → List Placed → Type 0
+SpellsArm a = InParentheses (SpellsArmInside a)
+
+abbrev pub listed_arms : ArmRow → List SingleArm
+listed_arms no_arm = []
+listed_arms (more_arm variant args body pos arms) =
+    record { variant = variant; args = args; body = body; pos = pos } ∷ listed_arms arms
+
+pub arms_row : (arms : ArmRow) → arm_row_of (listed_arms arms) ≡ arms
+arms_row no_arm = refl
+arms_row (more_arm variant args body pos arms) = ap (more_arm variant args body pos) (arms_row arms)
+
+pub arms_spelt : (arms : List SingleArm) (all rest : List Placed) → SpellsAll SpellsArm arms all rest → SpellsArms (arm_row_of arms) all rest
+arms_spelt [] all rest h = h
+arms_spelt (a ∷ arms) all rest h = (h.0, h.1, arms_spelt arms h.0 rest h.2)
+
+pub arms_listed : (arms : ArmRow) (all rest : List Placed) → SpellsArms arms all rest → SpellsAll SpellsArm (listed_arms arms) all rest
+arms_listed no_arm all rest h = h
+arms_listed (more_arm variant args body pos arms) all rest h = (h.0, h.1, arms_listed arms h.0 rest h.2)
+
+-- ---- values of a `let`
+
+abbrev pub SpellsSpecLetInside : Name × SpecNode → List Placed → List Placed → Type 0
+SpellsSpecLetInside d inner close = (behind : List Placed) × SpellsName d.0 inner behind × SpellsSpec d.1 behind close
+
+abbrev pub SpellsSpecLet : Name × SpecNode → List Placed → List Placed → Type 0
+SpellsSpecLet d = InParentheses (SpellsSpecLetInside d)
+
+abbrev pub listed_lets : SpecLetRow → List (Name × SpecNode)
+listed_lets no_spec_let = []
+listed_lets (more_spec_let n x ds) = (n, x) ∷ listed_lets ds
+
+pub lets_row : (ds : SpecLetRow) → spec_let_row_of (listed_lets ds) ≡ ds
+lets_row no_spec_let = refl
+lets_row (more_spec_let n x ds) = ap (more_spec_let n x) (lets_row ds)
+
+pub lets_spelt : (ds : List (Name × SpecNode)) (all rest : List Placed) → SpellsAll SpellsSpecLet ds all rest → SpellsSpecLets (spec_let_row_of ds) all rest
+lets_spelt [] all rest h = h
+lets_spelt (d ∷ ds) all rest h = (h.0, h.1, lets_spelt ds h.0 rest h.2)
+
+pub lets_listed : (ds : SpecLetRow) (all rest : List Placed) → SpellsSpecLets ds all rest → SpellsAll SpellsSpecLet (listed_lets ds) all rest
+lets_listed no_spec_let all rest h = h
+lets_listed (more_spec_let n x ds) all rest h = (h.0, h.1, lets_listed ds h.0 rest h.2)
+
+-- ---- fields of a `struct`
+
+abbrev pub SpellsFieldInitInside : SingleFieldInit → List Placed → List Placed → Type 0
+SpellsFieldInitInside f inner close =
+    BeginsAt f.pos inner × (behind : List Placed) × SpellsName f.name inner behind × SpellsSpec f.value behind close
+
+abbrev pub SpellsFieldInit : SingleFieldInit → List Placed → List Placed → Type 0
+SpellsFieldInit f = InParentheses (SpellsFieldInitInside f)
+
+abbrev pub listed_fields : FieldInitRow → List SingleFieldInit
+listed_fields no_field_init = []
+listed_fields (more_field_init name value pos fields) =
+    record { name = name; value = value; pos = pos } ∷ listed_fields fields
+
+pub fields_row : (fields : FieldInitRow) → field_init_row_of (listed_fields fields) ≡ fields
+fields_row no_field_init = refl
+fields_row (more_field_init name value pos fields) = ap (more_field_init name value pos) (fields_row fields)
+
+pub fields_spelt : (fs : List SingleFieldInit) (all rest : List Placed) → SpellsAll SpellsFieldInit fs all rest → SpellsFieldInits (field_init_row_of fs) all rest
+fields_spelt [] all rest h = h
+fields_spelt (f ∷ fs) all rest h = (h.0, h.1, fields_spelt fs h.0 rest h.2)
+
+pub fields_listed : (fs : FieldInitRow) (all rest : List Placed) → SpellsFieldInits fs all rest → SpellsAll SpellsFieldInit (listed_fields fs) all rest
+fields_listed no_field_init all rest h = h
+fields_listed (more_field_init name value pos fs) all rest h = (h.0, h.1, fields_listed fs h.0 rest h.2)

@@ -1,0 +1,22 @@
+use Rattle.std.proofs.Common.{sym}
+use Rattle.std.proofs.lemmas.Result.{err_from_is_err_and}
+use Rattle.isle_ast_specs.specs.TreeView.{type_model_of}
+use Rattle.isle_base.specs.TokenView.{token_of}
+use Rattle.isle_parser_cursor.specs.Answers.{source, tokens}
+use Rattle.isle_parser_specs.specs.ReadModels.{model_word}
+use Rattle.isle_parser_cursor.proofs.Ahead.{stopped}
+use Rattle.isle_parser_specs.proofs.ModelWords.{other_word, word_stops, word_taken}
+use Rattle.isle_parser_specs.proofs.parser.models.parse_model_word.Goals as goal
+
+pub returns-in_err-take-in-Some-clause-gives : goal.returns-in_err-take-in-Some-clause-gives
+returns-in_err-take-in-Some-clause-gives c =
+    let p = err_from_is_err_and c.from_residual.result c.from_residual.ensures.1 in
+    rw (p.1, p.2) (word_stops (tokens c.args.cursor.now) (source c.take.new.self) c.in_err-take-in-Some.field-0.0 c.in_err-take-in-Some.ensures.gives)
+
+pub returns-in_ok-take-in-Some-clause-gives : goal.returns-in_ok-take-in-Some-clause-gives
+returns-in_ok-take-in-Some-clause-gives c =
+    word_taken (tokens c.args.cursor.now) (tokens c.take.new.self) (type_model_of c.in-Some.ty) (token_of c.in_ok-take-in-Some.field-0) (sym c.in-Some.ensures) c.in_ok-take-in-Some.ensures.gives
+
+pub returns-in-None-clause-gives : goal.returns-in-None-clause-gives
+returns-in-None-clause-gives c =
+    stopped (model_word (tokens c.args.cursor.now)) (source c.args.cursor.now) c.refuse_at.result (other_word (tokens c.args.cursor.now) (sym c.in-None.ensures)) c.refuse_at.ensures

@@ -1,0 +1,347 @@
+//! Single symbols of spec expressions: the heads behind a `(`, and the words that are expressions
+//! by themselves.
+
+ghost use Rattle.std.specs.Prelude.{◌≡◌, ◌≤◌, option_map, string_bytes, Some, None, if◌then◌else◌, codes};
+ghost use Rattle.isle_ast_names.specs.Identifier.{is_identifier};
+ghost use Rattle.isle_ast_specs.specs.TreeView.{spec_of};
+ghost use Rattle.isle_parser_cursor.specs.Answers.{Gives, IsPlace, IsRefusal, source, tokens};
+ghost use Rattle.isle_parser_specs.specs.ReadSpecs.{spec_word};
+ghost use Rattle.isle_parser_specs.specs.SpecHeads.{Finds, head_view};
+ghost use Rattle.isle_parser_specs.specs.SpecWords.{around, before_last, begins_bit_vector, behind_mark, bit_vector_of, expansion_or_other, field_or_variant, head_of, hexadecimal_or_plain, keyword_head, operator_of, operator_or_name, other_head, plain_word, spec_head, variant_of, word_of};
+
+use crate::parser::operators::operator_of;
+use isle_ast_names::ast::Ident;
+use isle_ast_specs::ast::{SpecExpr, SpecOp};
+use isle_base::lexer::Pos;
+use isle_parser_cursor::cursor::{Cursor, Stop};
+use std::alloc::Global;
+
+/// The first word in parentheses, with the names in it.
+#[derive(Drop)]
+pub(super) enum Head {
+    /// `switch`
+    Switch,
+    /// `let`
+    Let,
+    /// `with`
+    With,
+    /// `match`
+    Match,
+    /// `struct`
+    Struct,
+    /// `macro`
+    Macro,
+    /// `as`
+    As,
+    /// `variant?`, without its `?`
+    Discriminator(String),
+    /// `name!`, without its `!`
+    Expansion(String),
+    /// An operator.
+    Operator(SpecOp),
+    /// `:field`, without its `:`
+    Field(String),
+    /// `name.variant`, parted at its first dot
+    Variant(String, String),
+}
+
+// The head that the symbol ahead is. The `(` before it stood at `start`.
+pub(super) fn parse_spec_head(cursor: &mut Cursor, alloc: Global, start: Pos) -> Result<Head, Stop>
+    requires { IsPlace (source cursor.old) start }
+    ensures same { source cursor.new ≡ source cursor.old }
+    ensures gives { Gives head_view (spec_head (tokens cursor.old)) result cursor.new }
+{
+    if !cursor.is_sym() {
+        return Err(unexpected_spec(cursor, alloc, start));
+    }
+    let place = cursor.place();
+    let word = cursor.expect_symbol(alloc)?;
+    spec_head(cursor, alloc, start, place, &word)
+}
+
+// The head that this word is, which stood at `place`.
+#[tactic(auto, unfolding(crate::specs::SpecWords::head_of))]
+fn spec_head(
+    cursor: &Cursor,
+    alloc: Global,
+    start: Pos,
+    place: Pos,
+    word: &str,
+) -> Result<Head, Stop>
+    requires start { IsPlace (source cursor.now) start }
+    requires place { IsPlace (source cursor.now) place }
+    ensures { Finds head_view (head_of word.now) (source cursor.now) result }
+{
+    match keyword_head(word) {
+        Some(head) => Ok(head),
+        None => other_head(cursor, alloc, start, place, word),
+    }
+}
+
+// The head that this word is, which is none of the fixed ones.
+#[tactic(auto, unfolding(crate::specs::SpecWords::other_head, crate::specs::SpecWords::discriminator_or_other, crate::specs::SpecWords::named_head))]
+fn other_head(
+    cursor: &Cursor,
+    alloc: Global,
+    start: Pos,
+    place: Pos,
+    word: &str,
+) -> Result<Head, Stop>
+    requires start { IsPlace (source cursor.now) start }
+    requires place { IsPlace (source cursor.now) place }
+    ensures { Finds head_view (other_head word.now) (source cursor.now) result }
+{
+    if begins_bit_vector(word) {
+        return Err(unexpected_spec(cursor, alloc, start));
+    }
+    match before_question_mark(word) {
+        Some(variant) => Ok(Head::Discriminator(identifier(cursor, alloc, place, variant)?)),
+        None => expansion_or_other(cursor, alloc, start, place, word),
+    }
+}
+
+// The same of a word that does not end with `?`.
+#[tactic(auto, unfolding(crate::specs::SpecWords::expansion_or_other, crate::specs::SpecWords::named_head))]
+fn expansion_or_other(
+    cursor: &Cursor,
+    alloc: Global,
+    start: Pos,
+    place: Pos,
+    word: &str,
+) -> Result<Head, Stop>
+    requires start { IsPlace (source cursor.now) start }
+    requires place { IsPlace (source cursor.now) place }
+    ensures { Finds head_view (expansion_or_other word.now (before_last 33 word.now)) (source cursor.now) result }
+{
+    match before_exclamation_mark(word) {
+        Some(name) => Ok(Head::Expansion(identifier(cursor, alloc, place, name)?)),
+        None => operator_or_name(cursor, alloc, start, place, word),
+    }
+}
+
+// The same of a word that does not end with `!` either.
+#[tactic(auto, unfolding(crate::specs::SpecWords::operator_or_name))]
+fn operator_or_name(
+    cursor: &Cursor,
+    alloc: Global,
+    start: Pos,
+    place: Pos,
+    word: &str,
+) -> Result<Head, Stop>
+    requires start { IsPlace (source cursor.now) start }
+    requires place { IsPlace (source cursor.now) place }
+    ensures { Finds head_view (operator_or_name word.now (operator_of word.now)) (source cursor.now) result }
+{
+    match operator_of(word) {
+        Some(op) => Ok(Head::Operator(op)),
+        None => field_or_variant(cursor, alloc, start, place, word),
+    }
+}
+
+// The same of a word that is no operator either.
+#[tactic(auto, unfolding(crate::specs::SpecWords::field_or_variant, crate::specs::SpecWords::named_head))]
+fn field_or_variant(
+    cursor: &Cursor,
+    alloc: Global,
+    start: Pos,
+    place: Pos,
+    word: &str,
+) -> Result<Head, Stop>
+    requires start { IsPlace (source cursor.now) start }
+    requires place { IsPlace (source cursor.now) place }
+    ensures { Finds head_view (field_or_variant word.now (behind_mark (codes ":") word.now)) (source cursor.now) result }
+{
+    match behind_colon(word) {
+        Some(field) => Ok(Head::Field(identifier(cursor, alloc, place, field)?)),
+        None => variant(cursor, alloc, start, word),
+    }
+}
+
+// The variant that this word is. Its names stand at the `(`.
+#[tactic(auto, unfolding(crate::specs::SpecWords::variant_of, crate::specs::SpecWords::named_head))]
+fn variant(cursor: &Cursor, alloc: Global, start: Pos, word: &str) -> Result<Head, Stop>
+    requires { IsPlace (source cursor.now) start }
+    ensures { Finds head_view (variant_of (around 46 word.now)) (source cursor.now) result }
+{
+    match around_dot(word) {
+        Some((name, variant)) => {
+            let name = identifier(cursor, alloc, start, name)?;
+            let variant = identifier(cursor, alloc, start, variant)?;
+            Ok(Head::Variant(name, variant))
+        }
+        None => Err(unexpected_spec(cursor, alloc, start)),
+    }
+}
+
+// This text, which stood at this place, where it is an identifier.
+fn identifier(cursor: &Cursor, alloc: Global, place: Pos, text: &str) -> Result<String, Stop>
+    requires { IsPlace (source cursor.now) place }
+    ensures { Finds string_bytes (if is_identifier text.now then Some text.now else None) (source cursor.now) result }
+{
+    cursor.check_identifier(alloc, place, text)?;
+    Ok(String::from_str(alloc, text)?)
+}
+
+// Refuses the spec expression that begins at this place.
+fn unexpected_spec(cursor: &Cursor, alloc: Global, place: Pos) -> Stop
+    requires { IsPlace (source cursor.now) place }
+    ensures { IsRefusal (source cursor.now) result }
+{
+    cursor.refuse_at(place, String::from_str(alloc, "Unexpected spec expression"))
+}
+
+// A symbol that is an expression by itself.
+#[tactic(auto, unfolding(crate::specs::ReadSpecs::spec_word))]
+pub(super) fn parse_spec_word(cursor: &mut Cursor, alloc: Global) -> Result<SpecExpr, Stop>
+    ensures same { source cursor.new ≡ source cursor.old }
+    ensures gives { Gives spec_of (spec_word (tokens cursor.old)) result cursor.new }
+{
+    let place = cursor.place();
+    let pos = cursor.pos();
+    let word = cursor.expect_symbol(alloc)?;
+    spec_word(cursor, alloc, place, pos, word)
+}
+
+// The expression that this word is, which stood at `place`. Its position is `pos`.
+#[tactic(auto, unfolding(crate::specs::SpecWords::word_of, crate::specs::SpecWords::binary_or_other, crate::specs::SpecWords::bit_vector_at))]
+fn spec_word(
+    cursor: &Cursor,
+    alloc: Global,
+    place: Pos,
+    pos: Pos,
+    word: String,
+) -> Result<SpecExpr, Stop>
+    requires { IsPlace (source cursor.now) place }
+    ensures { Finds spec_of (word_of pos (string_bytes word)) (source cursor.now) result }
+{
+    match binary_digits(&word) {
+        Some(digits) => match bit_vector(digits, 2, 1) {
+            Some((val, width)) => Ok(SpecExpr::ConstBitVec { val, width, pos }),
+            None => Err(cursor.refuse_at(
+                place,
+                String::from_str(alloc, "Not a constant binary bit vector"),
+            )),
+        },
+        None => hexadecimal_or_plain(cursor, alloc, place, pos, word),
+    }
+}
+
+// The same of a word that does not begin with `#b`.
+#[tactic(auto, unfolding(crate::specs::SpecWords::hexadecimal_or_plain, crate::specs::SpecWords::bit_vector_at))]
+fn hexadecimal_or_plain(
+    cursor: &Cursor,
+    alloc: Global,
+    place: Pos,
+    pos: Pos,
+    word: String,
+) -> Result<SpecExpr, Stop>
+    requires { IsPlace (source cursor.now) place }
+    ensures { Finds spec_of (hexadecimal_or_plain pos (string_bytes word) (behind_mark (codes "#x") (string_bytes word))) (source cursor.now) result }
+{
+    match hexadecimal_digits(&word) {
+        Some(digits) => match bit_vector(digits, 16, 4) {
+            Some((val, width)) => Ok(SpecExpr::ConstBitVec { val, width, pos }),
+            None => Err(cursor.refuse_at(
+                place,
+                String::from_str(alloc, "Not a constant hex bit vector"),
+            )),
+        },
+        None => plain_word(cursor, alloc, place, pos, word),
+    }
+}
+
+// `true`, `false` or a variable.
+#[tactic(auto, unfolding(crate::specs::SpecWords::plain_word))]
+fn plain_word(
+    cursor: &Cursor,
+    alloc: Global,
+    place: Pos,
+    pos: Pos,
+    word: String,
+) -> Result<SpecExpr, Stop>
+    requires { IsPlace (source cursor.now) place }
+    ensures { Finds spec_of (plain_word pos (string_bytes word)) (source cursor.now) result }
+{
+    match word.as_str() {
+        "true" => Ok(SpecExpr::ConstBool { val: true, pos }),
+        "false" => Ok(SpecExpr::ConstBool { val: false, pos }),
+        _ => {
+            cursor.check_identifier(alloc, place, &word)?;
+            let var = Ident(word, pos);
+            Ok(SpecExpr::Var { var, pos })
+        }
+    }
+}
+
+// The head that is one of the fixed words.
+#[tactic(auto, unfolding(crate::specs::SpecWords::keyword_head))]
+fn keyword_head(word: &str) -> Option<Head>
+    ensures { option_map head_view result ≡ keyword_head word.now }
+{
+    match word {
+        "switch" => Some(Head::Switch),
+        "let" => Some(Head::Let),
+        "with" => Some(Head::With),
+        "match" => Some(Head::Match),
+        "struct" => Some(Head::Struct),
+        "macro" => Some(Head::Macro),
+        "as" => Some(Head::As),
+        _ => None,
+    }
+}
+
+fn before_question_mark(word: &str) -> Option<&str>
+    ensures { option_map (λ front. front.now) result ≡ before_last 63 word.now }
+{
+    word.strip_suffix('?')
+}
+
+fn before_exclamation_mark(word: &str) -> Option<&str>
+    ensures { option_map (λ front. front.now) result ≡ before_last 33 word.now }
+{
+    word.strip_suffix('!')
+}
+
+fn behind_colon(word: &str) -> Option<&str>
+    ensures { option_map (λ rest. rest.now) result ≡ behind_mark (codes ":") word.now }
+{
+    word.strip_prefix(':')
+}
+
+// The texts before and behind the first dot.
+fn around_dot(word: &str) -> Option<(&str, &str)>
+    ensures { option_map (λ parts. (parts.0.now, parts.1.now)) result ≡ around 46 word.now }
+{
+    word.split_once('.')
+}
+
+fn binary_digits(word: &str) -> Option<&str>
+    ensures { option_map (λ digits. digits.now) result ≡ behind_mark (codes "#b") word.now }
+{
+    word.strip_prefix("#b")
+}
+
+fn hexadecimal_digits(word: &str) -> Option<&str>
+    ensures { option_map (λ digits. digits.now) result ≡ behind_mark (codes "#x") word.now }
+{
+    word.strip_prefix("#x")
+}
+
+// Tells whether a word begins as a bit vector does.
+fn begins_bit_vector(word: &str) -> bool
+    ensures { result ≡ begins_bit_vector word.now }
+{
+    binary_digits(word).is_some() || hexadecimal_digits(word).is_some()
+}
+
+// The value and the width of these digits, each of which stands for so many bits.
+#[tactic(auto, unfolding(crate::specs::SpecWords::bit_vector_of))]
+fn bit_vector(digits: &str, radix: u32, bits: usize) -> Option<(u128, usize)>
+    requires lower_bound { 2 ≤ radix }
+    requires upper_bound { radix ≤ 36 }
+    ensures { result ≡ bit_vector_of radix bits digits.now }
+{
+    let val = u128::from_str_radix(digits, radix).ok()?;
+    let width = digits.len().checked_mul(bits)?;
+    Some((val, width))
+}

@@ -1,5 +1,0 @@
-use Rattle.isle_printer.proofs.ShortLinesDefinitions.{IsPrinted-HasShortLines}
-use Rattle.isle_printer.proofs.printer.prints_have_short_lines.Goals as goal
-
-pub returns : goal.returns
-returns c = IsPrinted-HasShortLines

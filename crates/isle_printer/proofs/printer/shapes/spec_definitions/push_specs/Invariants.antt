@@ -1,9 +1,0 @@
-use Rattle.std.proofs.Common.{◌≡◌, ◌++◌, map, take}
-use Rattle.isle_spec.specs.SpecView.{specs_of}
-use Rattle.isle_printer.specs.SexpView.{sexps_of}
-use Rattle.isle_printer.specs.SpecShapes.{spec_shape}
-use Rattle.isle_printer.proofs.printer.shapes.spec_definitions.push_specs.Given as goal
-
-abbrev pub invariant-loop-each : goal.invariant-loop-each
-invariant-loop-each l =
-    sexps_of l.items.items ≡ sexps_of l.fn.items.items ++ map spec_shape (specs_of (take l.each-index l.specs))

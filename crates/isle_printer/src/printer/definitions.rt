@@ -1,0 +1,53 @@
+//! The S-expressions of definitions.
+
+ghost use Rattle.std.specs.Prelude.{◌≡◌, IfOk};
+ghost use Rattle.isle_ast.specs.TreeView.{definition_of};
+ghost use Rattle.isle_printer.specs.DefinitionShapes.{definition_shape};
+ghost use Rattle.isle_printer_layout.specs.SexpView.{sexp_of};
+
+use super::to_sexpr::ToSExpr;
+use super::{models, terms, types};
+use isle_ast::ast::Def;
+use isle_printer_layout::printer::{PrintFault, SExpr};
+use isle_printer_rules::printer::rules;
+use isle_printer_specs::printer::definitions as specs;
+use std::alloc::{AllocError, Global};
+
+impl ToSExpr for Def {
+    ghost use Rattle.isle_ast.specs.MacroArgs.{definition_has_macro_arg};
+    ghost use Rattle.isle_ast.specs.TreeView.{definition_of};
+    ghost use Rattle.isle_printer.specs.DefinitionShapes.{definition_shape};
+    ghost use Rattle.isle_printer_layout.specs.Sexp.{unless};
+
+    ghost meaning = { λ d. unless
+        (definition_has_macro_arg (definition_of d)) (definition_shape (definition_of d)) };
+
+    fn to_sexpr(&self, alloc: Global) -> Result<SExpr, PrintFault> {
+        if self.has_macro_arg() {
+            return Err(PrintFault::MacroArg);
+        }
+        Ok(definition(alloc, self)?)
+    }
+}
+
+/// The S-expression of a definition.
+fn definition(alloc: Global, def: &Def) -> Result<SExpr, AllocError>
+    ensures { IfOk result (λ s. sexp_of s ≡ definition_shape (definition_of def.now)) }
+{
+    match def {
+        Def::Pragma(pragma) => match *pragma {},
+        Def::TypeDef(ty) => types::type_definition(alloc, ty),
+        Def::Rule(rule) => rules::rule(alloc, rule),
+        Def::Extractor(extractor) => rules::extractor(alloc, extractor),
+        Def::Decl(decl) => terms::declaration(alloc, decl),
+        Def::Attr(attr) => terms::attribute(alloc, attr),
+        Def::Spec(spec) => specs::spec_definition(alloc, spec),
+        Def::SpecMacro(definition) => specs::spec_macro(alloc, definition),
+        Def::Model(model) => models::model(alloc, model),
+        Def::State(state) => specs::state(alloc, state),
+        Def::Form(form) => terms::form(alloc, form),
+        Def::Instantiation(instantiation) => terms::instantiation(alloc, instantiation),
+        Def::Extern(external) => terms::external(alloc, external),
+        Def::Converter(converter) => terms::conversion(alloc, converter),
+    }
+}

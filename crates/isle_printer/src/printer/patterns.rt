@@ -1,0 +1,23 @@
+//! The S-expressions of patterns.
+
+use super::to_sexpr::ToSExpr;
+use isle_ast::ast::Pattern;
+use isle_printer_layout::printer::{PrintFault, SExpr};
+use isle_printer_rules::printer::patterns::pattern;
+use std::alloc::Global;
+
+impl ToSExpr for Pattern {
+    ghost use Rattle.isle_ast_rules.specs.MacroArgs.{has_macro_arg};
+    ghost use Rattle.isle_ast_rules.specs.TreeView.{pattern_of};
+    ghost use Rattle.isle_printer_rules.specs.RuleShapes.{pattern_shape};
+    ghost use Rattle.isle_printer_layout.specs.Sexp.{unless};
+
+    ghost meaning = { λ p. unless (has_macro_arg (pattern_of p)) (pattern_shape (pattern_of p)) };
+
+    fn to_sexpr(&self, alloc: Global) -> Result<SExpr, PrintFault> {
+        if self.has_macro_arg() {
+            return Err(PrintFault::MacroArg);
+        }
+        Ok(pattern(self, alloc)?)
+    }
+}

@@ -1,0 +1,11 @@
+pub mod Greedy
+pub mod Indentation
+pub mod Least
+pub mod LineEnds
+pub mod NamesErased
+pub mod NumberAtoms
+pub mod ReadBackLaw
+pub mod ShortLines
+pub mod ShortLinesParts
+pub mod Spellings
+pub mod WordSymbols

@@ -1,0 +1,78 @@
+-- Which lists of an S-expression are broken, and the choice that a layout makes: the least one that
+-- fits the width.
+use Rattle.std.specs.Prelude.{◌≡◌, ℕ, ◌+◌, ◌≤◌, List, ◌++◌, length, codes, Option, None, Some}
+use Rattle.isle_printer_layout.specs.Sexp.{Sexp, Sexps, atom, binding, row, none, more}
+use Rattle.isle_printer_layout.specs.Flat.{flat, counted}
+use Rattle.isle_printer_layout.specs.Layout.{new_line}
+
+-- A choice of broken lists. A nonempty list is kept whole, `None`, or broken, and then there is
+-- a choice for each item: so the lists around a broken list are all broken.
+abbrev mutual
+  pub Choice : Sexp → Type 0
+  Choice (atom _) = Unit {0}
+  Choice (binding _ s) = Choice s
+  Choice (row none) = Unit {0}
+  Choice (row (more s ss)) = Option (Choice s × Choices ss)
+
+  pub Choices : Sexps → Type 0
+  Choices none = Unit {0}
+  Choices (more s ss) = Choice s × Choices ss
+
+-- The text of a choice: a list that is kept whole is on one line. A broken one is `(`, its first
+-- item at the same level, each other item on a new line at one level more, and `)` on a new line.
+abbrev mutual
+  pub render : (s : Sexp) → Choice s → (level : ℕ) → List ℕ
+  render (atom text) _ level = text
+  render (binding name s) c level = name ++ codes " @ " ++ render s c level
+  render (row none) _ level = codes "()"
+  render (row (more s ss)) None level = flat (row (more s ss))
+  render (row (more s ss)) (Some c) level = codes "(" ++ render s c.0 level ++ render_behind ss c.1 level
+
+  pub render_behind : (ss : Sexps) → Choices ss → (level : ℕ) → List ℕ
+  render_behind none _ level = new_line level ++ codes ")"
+  render_behind (more s ss) c level =
+      new_line (level + 1) ++ render s c.0 (level + 1) ++ render_behind ss c.1 level
+
+-- A choice fits a width where each nonempty list that is kept whole, in lists that are all broken,
+-- ends within it: its column and its counted length are at most the width. The first item of a list
+-- stands one column behind the list, each other item at column 0, and what a binding binds stands
+-- behind the name and ` @ `. The spaces before a line don't count.
+abbrev mutual
+  pub FitsAt : (width : ℕ) (s : Sexp) (column : ℕ) → Choice s → Type 0
+  FitsAt width (atom _) column _ = Unit {0}
+  FitsAt width (binding name s) column c = FitsAt width s (column + length name + 3) c
+  FitsAt width (row none) column _ = Unit {0}
+  FitsAt width (row (more s ss)) column None = column + counted (row (more s ss)) ≤ width
+  FitsAt width (row (more s ss)) column (Some c) = FitsAt width s (column + 1) c.0 × FitsBehind width ss c.1
+
+  pub FitsBehind : (width : ℕ) (ss : Sexps) → Choices ss → Type 0
+  FitsBehind width none _ = Unit {0}
+  FitsBehind width (more s ss) c = FitsAt width s 0 c.0 × FitsBehind width ss c.1
+
+abbrev pub Fits : (width : ℕ) (s : Sexp) → Choice s → Type 0
+Fits width s c = FitsAt width s 0 c
+
+-- each list that the one choice breaks, the other breaks too
+abbrev mutual
+  pub IsWithin : (s : Sexp) → Choice s → Choice s → Type 0
+  IsWithin (atom _) _ _ = Unit {0}
+  IsWithin (binding _ s) c d = IsWithin s c d
+  IsWithin (row none) _ _ = Unit {0}
+  IsWithin (row (more s ss)) None _ = Unit {0}
+  IsWithin (row (more s ss)) (Some c) None = ⊥
+  IsWithin (row (more s ss)) (Some c) (Some d) = IsWithin s c.0 d.0 × AreWithin ss c.1 d.1
+
+  pub AreWithin : (ss : Sexps) → Choices ss → Choices ss → Type 0
+  AreWithin none _ _ = Unit {0}
+  AreWithin (more s ss) c d = IsWithin s c.0 d.0 × AreWithin ss c.1 d.1
+
+-- the least choice that fits: it lies within every choice that fits
+pub record IsLeast (width : ℕ) (s : Sexp) (choice : Choice s) : Type 0 where
+  pub fits : Fits width s choice
+  pub least : (other : Choice s) → Fits width s other → IsWithin s choice other
+
+-- The layout of an S-expression at a width: the text of the least choice that fits.
+pub record IsLayout (width : ℕ) (s : Sexp) (text : List ℕ) : Type 0 where
+  pub choice : Choice s
+  pub least : IsLeast width s choice
+  pub bytes : text ≡ render s choice 0

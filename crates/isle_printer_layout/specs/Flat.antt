@@ -1,0 +1,30 @@
+-- An S-expression on one line, and its counted length.
+use Rattle.std.specs.Prelude.{ℕ, ◌+◌, List, ◌++◌, length, codes}
+use Rattle.isle_printer_layout.specs.Sexp.{Sexp, Sexps, atom, binding, row, none, more}
+
+-- Everything on one line: `(`, the items with one space between, `)`. A binding is its name,
+-- ` @ ` and what it binds.
+abbrev mutual
+  pub flat : Sexp → List ℕ
+  flat (atom text) = text
+  flat (binding name s) = name ++ codes " @ " ++ flat s
+  flat (row none) = codes "()"
+  flat (row (more s ss)) = codes "(" ++ flat s ++ flat_behind ss
+
+  -- the items behind the first one, and the end of the list
+  pub flat_behind : Sexps → List ℕ
+  flat_behind none = codes ")"
+  flat_behind (more s ss) = codes " " ++ flat s ++ flat_behind ss
+
+-- The counted length, which decides whether a list is broken: an atom counts its bytes, a binding
+-- the bytes of its name, 3 and what it binds, a list 1 and for each item 1 more than the item. So
+-- it is the number of bytes on one line, but that an empty list counts 1 and has two bytes.
+abbrev mutual
+  pub counted : Sexp → ℕ
+  counted (atom text) = length text
+  counted (binding name s) = length name + 3 + counted s
+  counted (row items) = 1 + counted_items items
+
+  pub counted_items : Sexps → ℕ
+  counted_items none = 0
+  counted_items (more s ss) = 1 + counted s + counted_items ss

@@ -1,0 +1,38 @@
+-- The layout of an S-expression at a width, as a recursion. Columns count the bytes written on the
+-- line, the indentation apart. `room` is what the width leaves of the line: the width less the
+-- column, and 0 past the width. A list has a counted length of at least 1, so it ends within the
+-- width exactly if it counts no more than the room.
+use Rattle.std.specs.Prelude.{ℕ, ◌+◌, ◌-◌, ◌*◌, List, ◌∷◌, ◌++◌, length, replicate, codes, nat_le, if◌then◌else◌}
+use Rattle.isle_printer_layout.specs.Sexp.{Sexp, Sexps, atom, binding, row, none, more}
+use Rattle.isle_printer_layout.specs.Flat.{flat, counted}
+
+-- a new line: LF, and four spaces for each level
+abbrev pub new_line : ℕ → List ℕ
+new_line level = 10 ∷ replicate (4 * level) 32
+
+-- An atom is written. A binding is its name, ` @ ` and what it binds. A list whose counted length
+-- is within the room is written on this line, any other list is broken.
+abbrev mutual
+  pub layout_in : (width : ℕ) → Sexp → (room level : ℕ) → List ℕ
+  layout_in width (atom text) room level = text
+  layout_in width (binding name s) room level = name ++ codes " @ " ++ layout_in width s (room - length name - 3) level
+  layout_in width (row items) room level =
+      if nat_le (counted (row items)) room then flat (row items) else layout_broken width items room level
+
+  -- A broken list: `(`, the first item at the same level, each other item on a new line at one
+  -- level more, where it has the whole width, and `)` on a new line at the list's level. An empty
+  -- list has nothing to break: it is `()` also where it doesn't fit.
+  pub layout_broken : (width : ℕ) → Sexps → (room level : ℕ) → List ℕ
+  layout_broken width none room level = codes "()"
+  layout_broken width (more s ss) room level =
+      codes "(" ++ layout_in width s (room - 1) level ++ layout_behind width ss level
+
+  -- the items behind the first one of a broken list, and the end of the list
+  pub layout_behind : (width : ℕ) → Sexps → (level : ℕ) → List ℕ
+  layout_behind width none level = new_line level ++ codes ")"
+  layout_behind width (more s ss) level =
+      new_line (level + 1) ++ layout_in width s width (level + 1) ++ layout_behind width ss level
+
+-- the layout at a width, from the start of a line and at level 0
+abbrev pub layout : ℕ → Sexp → List ℕ
+layout width s = layout_in width s width 0

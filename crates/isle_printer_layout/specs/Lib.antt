@@ -1,0 +1,10 @@
+pub mod Sexp
+pub mod Flat
+pub mod Layout
+pub mod Choices
+pub mod Lines
+pub mod Looks
+pub mod NameShapes
+pub mod ReadBack
+pub mod SexpView
+pub mod ShortLines

@@ -1,0 +1,31 @@
+//! The laws of S-expressions and their layouts.
+
+ghost use Rattle.std.specs.Prelude.{◌≡◌, ◌≤◌, ◌↔◌, ℕ, List, []};
+ghost use Rattle.isle_base.specs.Lexing.{lexes};
+ghost use Rattle.isle_base.specs.Place.{nowhere, placed};
+ghost use Rattle.isle_base.specs.Token.{Tok, Lexeme, end};
+ghost use Rattle.isle_printer_layout.specs.Choices.{Choice, IsWithin, IsLeast, IsLayout, render};
+ghost use Rattle.isle_printer_layout.specs.Layout.{layout};
+ghost use Rattle.isle_printer_layout.specs.ReadBack.{TokensOf, unplaced};
+ghost use Rattle.isle_printer_layout.specs.Sexp.{Sexp};
+
+/// A law, which runs no code: a list that is broken at one width is broken at every smaller one.
+pub fn narrower_breaks_more()
+    ensures { (s : Sexp) (narrow wide : ℕ) (c d : Choice s) → narrow ≤ wide
+        → IsLeast wide s c → IsLeast narrow s d → IsWithin s c d }
+{}
+
+/// A law, which runs no code: the layout by rules, list by list, is the text of the least choice of
+/// broken lists that fits, and each S-expression has one layout at a width.
+pub fn rules_give_least_choice()
+    ensures { (width : ℕ) (s : Sexp) (text : List ℕ)
+        → IsLayout width s text ↔ (text ≡ layout width s) }
+{}
+
+/// A law, which runs no code: the text of an S-expression whose atoms are the texts of tokens lexes
+/// to just these tokens, for every choice of broken lists, and so at every width.
+pub fn rendered_text_lexes()
+    ensures { (s : Sexp) (c : Choice s) (level : ℕ) (tokens : List Tok) → TokensOf s tokens []
+        → (l : List Lexeme) × lexes (render s c level) l end
+        × (placed nowhere l ≡ unplaced tokens) }
+{}

@@ -1,0 +1,3 @@
+pub mod RuleErased
+pub mod RuleShapeLaw
+pub mod ShortLinesRules

@@ -1,0 +1,92 @@
+//! The S-expressions of rules, their conditions, and extractors.
+
+ghost use Rattle.std.specs.Prelude.{◌≡◌, ◌++◌, map, IfOk, OnOk};
+ghost use Rattle.isle_ast_rules.specs.TreeView.{condition_of, conditions_of, extractor_of, rule_of};
+ghost use Rattle.isle_ast_names.specs.TreeView.{optional_name_of};
+ghost use Rattle.isle_printer_rules.specs.RuleShapes.{condition_shape, extractor_shape, priority_shape, rule_name_shape, rule_shape};
+ghost use Rattle.isle_printer_layout.specs.SexpView.{sexp_of, sexps_of};
+
+use super::expressions::expression;
+use super::patterns::pattern;
+use isle_ast_names::ast::Ident;
+use isle_ast_rules::ast::{Extractor, IfLet, Rule};
+use isle_printer_layout::printer::SExpr;
+use isle_printer_layout::printer::names::{begun, list, push_name, push_names};
+use std::alloc::{AllocError, Global};
+
+/// The S-expression of a condition: `if-let` also where it was spelt `if`.
+pub fn condition(alloc: Global, condition: &IfLet) -> Result<SExpr, AllocError>
+    ensures { IfOk result (λ s. sexp_of s ≡ condition_shape (condition_of condition.now)) }
+{
+    let mut items = begun(alloc, "if-let")?;
+    items.push(pattern(&condition.pattern, alloc)?)?;
+    items.push(expression(&condition.expr, alloc)?)?;
+    Ok(list(items))
+}
+
+/// The S-expression of a rule.
+pub fn rule(alloc: Global, rule: &Rule) -> Result<SExpr, AllocError>
+    ensures { IfOk result (λ s. sexp_of s ≡ rule_shape (rule_of rule.now)) }
+{
+    let mut items = begun(alloc, "rule")?;
+    push_rule_name(&mut items, alloc, &rule.name)?;
+    push_priority(&mut items, alloc, rule.prio)?;
+    items.push(pattern(&rule.pattern, alloc)?)?;
+    push_conditions(&mut items, alloc, &rule.iflets)?;
+    items.push(expression(&rule.expr, alloc)?)?;
+    Ok(list(items))
+}
+
+/// Appends the name of a rule, if it has one.
+fn push_rule_name(
+    items: &mut Vec<SExpr>,
+    alloc: Global,
+    name: &Option<Ident>,
+) -> Result<(), AllocError>
+    ensures { OnOk result (sexps_of items.new.items
+        ≡ sexps_of items.old.items ++ rule_name_shape (optional_name_of name.now)) }
+{
+    match name {
+        Some(name) => push_name(items, alloc, name),
+        None => Ok(()),
+    }
+}
+
+/// Appends a priority, if there is one.
+fn push_priority(items: &mut Vec<SExpr>, alloc: Global, prio: Option<i64>) -> Result<(), AllocError>
+    ensures { OnOk result (sexps_of items.new.items
+        ≡ sexps_of items.old.items ++ priority_shape prio) }
+{
+    if let Some(prio) = prio {
+        items.push(SExpr::Atom(prio.to_string(alloc)?))?;
+    }
+    Ok(())
+}
+
+/// Appends conditions.
+fn push_conditions(
+    items: &mut Vec<SExpr>,
+    alloc: Global,
+    conditions: &[IfLet],
+) -> Result<(), AllocError>
+    ensures { OnOk result (sexps_of items.new.items
+        ≡ sexps_of items.old.items ++ map condition_shape (conditions_of conditions.now)) }
+{
+    for each in conditions {
+        items.push(condition(alloc, each)?)?;
+    }
+    Ok(())
+}
+
+/// The S-expression of an extractor.
+pub fn extractor(alloc: Global, extractor: &Extractor) -> Result<SExpr, AllocError>
+    ensures { IfOk result (λ s. sexp_of s ≡ extractor_shape (extractor_of extractor.now)) }
+{
+    let mut head = Vec::new(alloc);
+    push_name(&mut head, alloc, &extractor.term)?;
+    push_names(&mut head, alloc, &extractor.args)?;
+    let mut items = begun(alloc, "extractor")?;
+    items.push(list(head))?;
+    items.push(pattern(&extractor.template, alloc)?)?;
+    Ok(list(items))
+}

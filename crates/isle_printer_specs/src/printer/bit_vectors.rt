@@ -1,0 +1,77 @@
+//! The atoms of bit vectors: digits in a radix, behind zeros up to the width.
+
+ghost use Rattle.std.specs.Prelude.{◌≡◌, ◌≤◌, ◌<◌, [], ◌∷◌, ◌++◌, replicate, string_bytes, IfOk, OnOk};
+ghost use Rattle.std.specs.Char.{digit_char};
+ghost use Rattle.isle_printer_layout.specs.Sexp.{atom};
+ghost use Rattle.isle_printer_layout.specs.SexpView.{sexp_of};
+ghost use Rattle.isle_printer_specs.specs.SpecShapes.{bit_vector_text, radix_text, zero_padded};
+
+use isle_printer_layout::printer::SExpr;
+use std::alloc::{AllocError, Global};
+
+/// The atom of a bit vector of this value and width: in hexadecimal where four divides the width,
+/// else in binary.
+pub fn bit_vector(alloc: Global, val: u128, width: usize) -> Result<SExpr, AllocError>
+    ensures { IfOk result (λ s. sexp_of s ≡ atom (bit_vector_text val width)) }
+{
+    if width % 4 == 0 {
+        marked_digits(alloc, "#x", 16, val, width / 4)
+    } else {
+        marked_digits(alloc, "#b", 2, val, width)
+    }
+}
+
+/// The atom of a mark and the digits of a number behind it, so many at least.
+fn marked_digits(
+    alloc: Global,
+    mark: &str,
+    radix: u32,
+    val: u128,
+    least: usize,
+) -> Result<SExpr, AllocError>
+    requires low { 2 ≤ radix }
+    requires high { radix ≤ 16 }
+    ensures { IfOk result (λ s. sexp_of s
+        ≡ atom (mark.now ++ zero_padded least (radix_text radix val))) }
+{
+    let mut digits = String::new(alloc);
+    push_digits(&mut digits, radix, val)?;
+    let mut text = String::from_str(alloc, mark)?;
+    push_zeros(&mut text, least.saturating_sub(digits.len()))?;
+    text.push_str(&digits)?;
+    Ok(SExpr::Atom(text))
+}
+
+/// Appends so many zeros.
+fn push_zeros(out: &mut String, count: usize) -> Result<(), AllocError>
+    ensures { OnOk result (string_bytes out.new ≡ string_bytes out.old ++ replicate count 48) }
+{
+    for _ in 0..count {
+        out.push('0')?;
+    }
+    Ok(())
+}
+
+/// Appends the digits of a number in a radix, the highest first.
+fn push_digits(out: &mut String, radix: u32, val: u128) -> Result<(), AllocError>
+    requires low { 2 ≤ radix }
+    requires high { radix ≤ 16 }
+    ensures { OnOk result (string_bytes out.new ≡ string_bytes out.old ++ radix_text radix val) }
+{
+    let base = u128::from(radix);
+    if val >= base {
+        push_digits(out, radix, val / base)?;
+    }
+    push_digit(out, (val % base) as u32)?;
+    Ok(())
+}
+
+/// Appends a digit, `a` to `f` for those from ten on.
+fn push_digit(out: &mut String, digit: u32) -> Result<(), AllocError>
+    requires { digit < 16 }
+    ensures { OnOk result (string_bytes out.new ≡ string_bytes out.old ++ digit_char digit ∷ []) }
+{
+    let written = char::from_digit(digit, 16).unwrap();
+    out.push(written)?;
+    Ok(())
+}

@@ -1,0 +1,105 @@
+//! The S-expressions of specs, of their macros and of states.
+
+ghost use Rattle.std.specs.Prelude.{◌≡◌, ◌++◌, map, IfOk, OnOk};
+ghost use Rattle.isle_ast_specs.specs.TreeView.{modified_of, spec_definition_of, spec_macro_of, specs_of, state_of};
+ghost use Rattle.isle_printer_layout.specs.SexpView.{sexp_of, sexps_of};
+ghost use Rattle.isle_printer_specs.specs.SpecShapes.{clause_shape, modifies_shape, spec_definition_shape, spec_macro_shape, spec_shape, state_shape};
+
+use super::models::model_type;
+use super::specs::spec;
+use isle_ast_specs::ast::{Modifies, Spec, SpecExpr, SpecMacro, State};
+use isle_printer_layout::printer::SExpr;
+use isle_printer_layout::printer::names::{begun, headed, headed_names, list, push_name};
+use std::alloc::{AllocError, Global};
+
+/// The S-expression of a spec: a clause for each kind that says something, and one for each state
+/// that is changed.
+pub fn spec_definition(alloc: Global, spec: &Spec) -> Result<SExpr, AllocError>
+    ensures { IfOk result (λ s. sexp_of s ≡ spec_definition_shape (spec_definition_of spec.now)) }
+{
+    let mut items = begun(alloc, "spec")?;
+    items.push(headed_names(alloc, &spec.term, &spec.args)?)?;
+    push_clause(&mut items, alloc, "provide", &spec.provides)?;
+    push_clause(&mut items, alloc, "require", &spec.requires_)?;
+    push_clause(&mut items, alloc, "match", &spec.matches)?;
+    push_modifies(&mut items, alloc, &spec.modifies)?;
+    Ok(list(items))
+}
+
+/// Appends a clause where there are spec expressions for it.
+fn push_clause(
+    items: &mut Vec<SExpr>,
+    alloc: Global,
+    word: &str,
+    specs: &[SpecExpr],
+) -> Result<(), AllocError>
+    ensures { OnOk result (sexps_of items.new.items
+        ≡ sexps_of items.old.items ++ clause_shape word.now (specs_of specs.now)) }
+{
+    if specs.is_empty() {
+        return Ok(());
+    }
+    let mut clause = begun(alloc, word)?;
+    push_specs(&mut clause, alloc, specs)?;
+    items.push(list(clause))?;
+    Ok(())
+}
+
+/// Appends spec expressions.
+fn push_specs(items: &mut Vec<SExpr>, alloc: Global, specs: &[SpecExpr]) -> Result<(), AllocError>
+    ensures { OnOk result (sexps_of items.new.items
+        ≡ sexps_of items.old.items ++ map spec_shape (specs_of specs.now)) }
+{
+    for each in specs {
+        items.push(spec(each, alloc)?)?;
+    }
+    Ok(())
+}
+
+/// Appends what a term changes.
+fn push_modifies(
+    items: &mut Vec<SExpr>,
+    alloc: Global,
+    states: &[Modifies],
+) -> Result<(), AllocError>
+    ensures { OnOk result (sexps_of items.new.items
+        ≡ sexps_of items.old.items ++ map modifies_shape (map modified_of states.now)) }
+{
+    for each in states {
+        items.push(modifies(alloc, each)?)?;
+    }
+    Ok(())
+}
+
+/// The S-expression of a state that is changed, and of the condition if there is one.
+pub fn modifies(alloc: Global, modifies: &Modifies) -> Result<SExpr, AllocError>
+    ensures { IfOk result (λ s. sexp_of s ≡ modifies_shape (modified_of modifies.now)) }
+{
+    let mut items = begun(alloc, "modifies")?;
+    push_name(&mut items, alloc, &modifies.state)?;
+    if let Some(cond) = &modifies.cond {
+        push_name(&mut items, alloc, cond)?;
+    }
+    Ok(list(items))
+}
+
+/// The S-expression of a macro of spec expressions.
+pub fn spec_macro(alloc: Global, definition: &SpecMacro) -> Result<SExpr, AllocError>
+    ensures { IfOk result (λ s. sexp_of s ≡ spec_macro_shape (spec_macro_of definition.now)) }
+{
+    let mut items = begun(alloc, "macro")?;
+    items.push(headed_names(alloc, &definition.name, &definition.params)?)?;
+    items.push(spec(&definition.body, alloc)?)?;
+    Ok(list(items))
+}
+
+/// The S-expression of a state.
+pub fn state(alloc: Global, state: &State) -> Result<SExpr, AllocError>
+    ensures { IfOk result (λ s. sexp_of s ≡ state_shape (state_of state.now)) }
+{
+    let mut items = begun(alloc, "state")?;
+    push_name(&mut items, alloc, &state.name)?;
+    items.push(headed(alloc, "type", model_type(&state.ty, alloc)?)?)?;
+    items.push(headed(alloc, "default", spec(&state.default, alloc)?)?)?;
+    Ok(list(items))
+}
