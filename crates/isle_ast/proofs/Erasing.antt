@@ -10,7 +10,7 @@ use Rattle.isle_ast.specs.Erased.{erase}
 use Rattle.isle_ast_names.specs.Erased.{erase_tokens}
 use Rattle.isle_ast.specs.Grammar.{SpellsDefinition, SpellsDefinitions}
 use Rattle.isle_ast.specs.Spelt.{Spells}
-use Rattle.isle_ast.proofs.LawfulDefinitions.{definitions_lawful}
+use Rattle.isle_ast.proofs.Lawful.Definitions.{definitions_lawful}
 
 -- the tokens of a text at the default position are those at any positions, erased
 pub placed_nowhere : (place : ℕ → Pos) (xs : List Lexeme) → erase_tokens (placed place xs) ≡ placed nowhere xs

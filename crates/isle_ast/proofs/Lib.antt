@@ -1,11 +1,5 @@
-pub mod DecidedDefinitions
-pub mod ErasedWritable
-pub mod LawfulForms
-pub mod LawfulModelContents
-pub mod LawfulTerms
-pub mod LawfulTypes
-pub mod LawfulDefinitions
+pub mod Lawful
 pub mod Erasing
-pub mod SpeltWritable
+pub mod Writable
 pub mod NoMacroArgs
 pub mod Parts

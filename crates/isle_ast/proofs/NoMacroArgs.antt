@@ -5,7 +5,7 @@ use Rattle.isle_ast.specs.Tree.{Definition, type_def, rule, extractor, decl, att
 use Rattle.isle_ast.specs.Grammar.{SpellsDefinition, SpellsDefinitions}
 use Rattle.isle_ast.specs.MacroArgs.{definition_has_macro_arg, definitions_have_macro_arg}
 use Rattle.isle_ast.specs.Writable.{IsWritable, AreWritable}
-use Rattle.isle_ast.proofs.SpeltWritable.{definition-spelt, spelt_is_writable}
+use Rattle.isle_ast.proofs.Writable.Spelt.{definition-spelt, spelt_is_writable}
 use Rattle.isle_ast_rules.proofs.NoMacroArgs.{writable_rule_has_no_macro_arg, writable_extractor_has_no_macro_arg, none_of}
 
 pub writable_has_no_macro_arg : (d : Definition) → IsWritable d → definition_has_macro_arg d ≡ false

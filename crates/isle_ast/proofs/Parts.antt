@@ -11,11 +11,11 @@ use Rattle.isle_ast_names.specs.Parts.{IsByParts, AreParts}
 use Rattle.isle_ast.specs.TermGrammar.{SpellsDeclaration, SpellsAttribute, SpellsExtern, SpellsConversion}
 use Rattle.isle_ast.specs.TypeGrammar.{SpellsTypeDefinition}
 use Rattle.isle_ast_names.proofs.Lawful.{name_lawful, all_lawful}
-use Rattle.isle_ast.proofs.LawfulDefinitions.{definition_lawful}
-use Rattle.isle_ast.proofs.LawfulModelContents.{model_definition_lawful}
-use Rattle.isle_ast.proofs.LawfulForms.{form_lawful, instantiation_lawful}
-use Rattle.isle_ast.proofs.LawfulTerms.{declaration_lawful, attribute_lawful, extern_lawful, conversion_lawful}
-use Rattle.isle_ast.proofs.LawfulTypes.{type_lawful}
+use Rattle.isle_ast.proofs.Lawful.Definitions.{definition_lawful}
+use Rattle.isle_ast.proofs.Lawful.ModelContents.{model_definition_lawful}
+use Rattle.isle_ast.proofs.Lawful.Forms.{form_lawful, instantiation_lawful}
+use Rattle.isle_ast.proofs.Lawful.Terms.{declaration_lawful, attribute_lawful, extern_lawful, conversion_lawful}
+use Rattle.isle_ast.proofs.Lawful.Types.{type_lawful}
 use Rattle.isle_ast_names.proofs.Parts.{by_parts}
 
 pub names_by_parts : (n : Name) → IsByParts (SpellsName n)

@@ -9,4 +9,4 @@ pub mod Roots
 pub mod Spelt
 pub mod TreeView
 pub mod Writable
-pub mod WritableTests
+pub mod WritableDeciders

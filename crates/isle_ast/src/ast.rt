@@ -47,7 +47,8 @@ pub enum Def {
     Converter(Converter),
 }
 
-/// A pragma. None is defined, so there are no values of the type. Upstream has an empty enum of its own for it.
+/// A pragma. None is defined, so there are no values of the type. Upstream has an empty enum of its
+/// own for it.
 pub type Pragma = Infallible;
 
 /// A type definition. Upstream calls it `Type`, a word that contracts reserve.

@@ -1,6 +1,4 @@
 pub mod Copies
-pub mod DecidedNames
-pub mod ErasedWritableNames
 pub mod IdentifierBytes
 pub mod Identifiers
 pub mod Lawful
@@ -9,4 +7,4 @@ pub mod NameOrders
 pub mod Parts
 pub mod SameRows
 pub mod SpeltWords
-pub mod WritableNames
+pub mod Writable

@@ -8,4 +8,4 @@ pub mod Parts
 pub mod SameParts
 pub mod TreeView
 pub mod Writable
-pub mod WritableTests
+pub mod WritableDeciders

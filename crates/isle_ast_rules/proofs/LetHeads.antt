@@ -6,7 +6,7 @@ use Rattle.isle_base.specs.declared.lexer.Pos.{Pos}
 use Rattle.isle_ast_rules.specs.declared.ast.Expr.{Expr, the_lemmas}
 use Rattle.isle_ast_rules.specs.declared.ast.Expr.TheVariants.{Let}
 use Rattle.isle_ast_rules.specs.declared.ast.LetDef.{LetDef}
-use Rattle.isle_ast_rules.specs.Heads.{expression_heads, let_row_heads}
+use Rattle.isle_ast_rules.specs.TermHeads.{expression_heads, let_row_heads}
 use Rattle.isle_ast_rules.specs.TreeView.{expression_of, let_row_of, single_lets_of}
 
 -- those of the values, and then those of the body

@@ -1,11 +1,7 @@
 pub mod Calls
-pub mod DecidedRules
-pub mod ErasedWritableRules
-pub mod LawfulPatterns
-pub mod LawfulExpressions
-pub mod LawfulRules
+pub mod Lawful
 pub mod LetHeads
-pub mod SpeltWritableRules
+pub mod Writable
 pub mod NoMacroArgs
 pub mod Parts
 pub mod SameLists

@@ -8,7 +8,7 @@ use Rattle.isle_ast_rules.specs.PatternGrammar.{SpellsPattern}
 use Rattle.isle_ast_rules.specs.RuleGrammar.{SpellsCondition, SpellsRule, SpellsExtractor}
 use Rattle.isle_ast_names.specs.Writable.{Each}
 use Rattle.isle_ast_rules.specs.Writable.{IsWritablePattern, AreWritablePatterns, IsWritableCondition, IsWritableRule, IsWritableExtractor}
-use Rattle.isle_ast_rules.proofs.SpeltWritableRules.{pattern-spelt, condition-spelt, rule-spelt, extractor-spelt}
+use Rattle.isle_ast_rules.proofs.Writable.Spelt.{pattern-spelt, condition-spelt, rule-spelt, extractor-spelt}
 
 neither : (a b : Bool) → a ≡ false → b ≡ false → (a || b) ≡ false
 neither a b first second = (λ i. first i || second i)

@@ -4,9 +4,9 @@ use Rattle.isle_ast_rules.specs.ExpressionGrammar.{SpellsExpression}
 use Rattle.isle_ast_names.specs.Parts.{IsByParts}
 use Rattle.isle_ast_rules.specs.PatternGrammar.{SpellsPattern}
 use Rattle.isle_ast_rules.specs.RuleGrammar.{SpellsCondition, SpellsRule, SpellsExtractor}
-use Rattle.isle_ast_rules.proofs.LawfulExpressions.{expression_lawful}
-use Rattle.isle_ast_rules.proofs.LawfulPatterns.{pattern_lawful}
-use Rattle.isle_ast_rules.proofs.LawfulRules.{condition_lawful, rule_lawful, extractor_lawful}
+use Rattle.isle_ast_rules.proofs.Lawful.Expressions.{expression_lawful}
+use Rattle.isle_ast_rules.proofs.Lawful.Patterns.{pattern_lawful}
+use Rattle.isle_ast_rules.proofs.Lawful.Rules.{condition_lawful, rule_lawful, extractor_lawful}
 use Rattle.isle_ast_names.proofs.Parts.{by_parts}
 
 pub patterns_by_parts : (p : PatternNode) → IsByParts (SpellsPattern p)

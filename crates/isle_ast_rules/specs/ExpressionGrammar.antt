@@ -10,12 +10,12 @@ use Rattle.isle_ast_rules.specs.Tree.{Expression, term_expression, var_expressio
 use Rattle.isle_ast_names.specs.Words.{SpellsWord, BeginsAt, InParentheses, BehindWord, SpellsName, is_constant, bool_word, is_bool_word, SpellsConstant}
 
 -- a variable of an expression: an identifier that isn't `true` or `false` and doesn't begin with `$`
-abbrev pub is_expression_variable : List ℕ → Bool
-is_expression_variable text = is_identifier text && not (is_constant text) && not (is_bool_word text)
+abbrev pub is_variable_of_expressions : List ℕ → Bool
+is_variable_of_expressions text = is_identifier text && not (is_constant text) && not (is_bool_word text)
 
 abbrev pub SpellsExpressionVariable : Name → List Placed → List Placed → Type 0
 SpellsExpressionVariable name all rest =
-    (is_expression_variable name.text ≡ true) × (all ≡ record { pos = name.pos; token = symbol name.text } ∷ rest)
+    (is_variable_of_expressions name.text ≡ true) × (all ≡ record { pos = name.pos; token = symbol name.text } ∷ rest)
 
 -- `(I X..)` with an I that isn't `let`, a variable, `true` or `false`, an integer, a constant,
 -- `(let ((I I X)..) X)`

@@ -1,7 +1,7 @@
 pub mod Tree
 pub mod Erased
 pub mod ExpressionGrammar
-pub mod Heads
+pub mod TermHeads
 pub mod MacroArgs
 pub mod PatternGrammar
 pub mod Roots
@@ -11,4 +11,4 @@ pub mod SameExpression
 pub mod SamePattern
 pub mod Templates
 pub mod Writable
-pub mod WritableTests
+pub mod WritableDeciders

@@ -10,13 +10,13 @@ use Rattle.isle_ast_rules.specs.Tree.{PatternNode, var_pattern, bind_pattern, bo
 use Rattle.isle_ast_names.specs.Words.{SpellsToken, SpellsWord, BeginsAt, InParentheses, BehindWord, SpellsName, SpellsConstant, is_constant, is_bool_word, bool_word}
 
 -- a variable of a pattern: an identifier that isn't `_`, `true` or `false` and doesn't begin with `$`
-abbrev pub is_variable : List ℕ → Bool
-is_variable text =
+abbrev pub is_variable_of_patterns : List ℕ → Bool
+is_variable_of_patterns text =
     is_identifier text && not (is_constant text) && not (bytes_eq text (codes "_")) && not (is_bool_word text)
 
 abbrev pub SpellsVariable : Name → List Placed → List Placed → Type 0
 SpellsVariable name all rest =
-    (is_variable name.text ≡ true) × (all ≡ record { pos = name.pos; token = symbol name.text } ∷ rest)
+    (is_variable_of_patterns name.text ≡ true) × (all ≡ record { pos = name.pos; token = symbol name.text } ∷ rest)
 
 -- `V`, `V @ P`, `true` or `false`, an integer, a constant, `(I P..)` with an I that isn't `and`, `_`,
 -- `(and P..)`. Nothing spells the argument of a macro. A V alone is spelt in front of `@` too; nothing that

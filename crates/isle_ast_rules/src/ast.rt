@@ -50,7 +50,8 @@ pub struct Extractor {
     pub pos: Pos,
 }
 
-/// A pattern: what a rule, a condition or an extractor matches. Each position is that of the pattern's first token.
+/// A pattern: what a rule, a condition or an extractor matches. Each position is that of the
+/// pattern's first token.
 #[cycle(pattern)]
 #[derive(Debug, Drop)]
 pub enum Pattern {
@@ -121,7 +122,8 @@ pub enum Pattern {
     },
 }
 
-/// An expression: what a rule or a condition computes. Each position is that of the expression's first token.
+/// An expression: what a rule or a condition computes. Each position is that of the expression's
+/// first token.
 #[cycle(expression)]
 #[derive(Debug, Drop)]
 pub enum Expr {

@@ -1,13 +1,8 @@
-pub mod DecidedSpecs
 pub mod Equalities
 pub mod ErasedSpecs
-pub mod ErasedWritableSpecs
-pub mod LawfulModels
-pub mod LawfulSpecs
-pub mod LawfulSpecDefinitions
+pub mod Lawful
 pub mod Parts
-pub mod SameModelLists
-pub mod SameSpecLists
+pub mod Same
 pub mod SpecLets
-pub mod SpeltWritableSpecs
 pub mod Texts
+pub mod Writable

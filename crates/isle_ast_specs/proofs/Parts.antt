@@ -5,9 +5,9 @@ use Rattle.isle_ast_specs.specs.TypeModelGrammar.{SpellsTypeModel}
 use Rattle.isle_ast_names.specs.Parts.{IsByParts}
 use Rattle.isle_ast_specs.specs.SpecDefinitionGrammar.{SpellsSpecDefinition, SpellsSpecMacro, SpellsState}
 use Rattle.isle_ast_specs.specs.SpecGrammar.{SpellsSpec}
-use Rattle.isle_ast_specs.proofs.LawfulModels.{model_lawful}
-use Rattle.isle_ast_specs.proofs.LawfulSpecDefinitions.{spec_definition_cuts, spec_macro_lawful, state_lawful}
-use Rattle.isle_ast_specs.proofs.LawfulSpecs.{spec_lawful}
+use Rattle.isle_ast_specs.proofs.Lawful.Models.{model_lawful}
+use Rattle.isle_ast_specs.proofs.Lawful.SpecDefinitions.{spec_definition_cuts, spec_macro_lawful, state_lawful}
+use Rattle.isle_ast_specs.proofs.Lawful.Specs.{spec_lawful}
 use Rattle.isle_ast_names.proofs.Parts.{by_parts}
 
 pub type_models_by_parts : (t : TypeModel) → IsByParts (SpellsTypeModel t)

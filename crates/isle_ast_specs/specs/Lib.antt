@@ -10,4 +10,4 @@ pub mod TypeModelGrammar
 pub mod SpecGrammar
 pub mod SpecDefinitionGrammar
 pub mod Writable
-pub mod WritableTests
+pub mod WritableDeciders

@@ -1,15 +1,15 @@
 pub mod Bytes
 pub mod Comments
+pub mod Runs
 pub mod Complete
 pub mod Exists
+pub mod Utf8
 pub mod Found
 pub mod LabelLemmas
 pub mod LineLemmas
 pub mod Numbers
 pub mod Places
 pub mod PositionOrders
-pub mod Runs
 pub mod SourceLemmas
 pub mod Stepping
-pub mod Utf8
 pub mod Values

@@ -1,5 +1,5 @@
 -- What the calls of a lexer do to what it has still to give.
-use Rattle.std.proofs.Common.{◌≡◌, ℕ, zero, suc, ◌-◌, ◌≤◌, List, [], ◌∷◌, Bool, true, false, Option, Some, None, is_some, Ok, length, drop, refl, sym, ap, subst, arith, length-drop}
+use Rattle.std.proofs.Common.{◌≡◌, ℕ, zero, suc, ◌-◌, ◌≤◌, List, [], ◌∷◌, Bool, true, false, Option, Some, None, IfSome, is_some, length, drop, refl, sym, ap, subst, arith, length-drop}
 use Rattle.isle_base.specs.declared.error.Error.{Error}
 use Rattle.isle_base.specs.declared.lexer.Lexer.TheInside.{Inside}
 use Rattle.isle_base.specs.declared.lexer.Pos.{Pos}
@@ -8,10 +8,10 @@ use Rattle.isle_base.specs.declared.lexer.read.Found.TheVariants as founds
 use Rattle.isle_base.specs.declared.lexer.read.Reason.{Reason}
 use Rattle.isle_base.specs.Computed.{First, ended, refused, found, first, Computed, computed_by, computed}
 use Rattle.isle_base.specs.LexerView.{computed_from, coming_of, ending_of, feed_of, IsAhead, IsLexer}
-use Rattle.isle_base.specs.Lexing.{Lexes}
+use Rattle.isle_base.specs.Lexing.{Lexes, lexes}
 use Rattle.isle_base.specs.Place.{in_file, placed_at}
 use Rattle.isle_base.specs.Reads.{Finds}
-use Rattle.isle_base.specs.Steps.{Gives, Refuses, RefusesAt, Starts, placed_of, is_failed, is_at_end, AreWithin, EndsWithin, IsWithin, Rises}
+use Rattle.isle_base.specs.Steps.{Refuses, RefusesAt, Takes, placed_of, is_failed, is_at_end, AreWithin, EndsWithin, IsWithin, Rises}
 use Rattle.isle_base.specs.Token.{Lexeme, Ending, end, fault, Feed}
 use Rattle.isle_base.specs.TokenView.{token_of}
 use Rattle.isle_base.proofs.Complete.{Lexes-unique, Skip-le, Piece-shorter}
@@ -85,17 +85,17 @@ computed_as : (text : List ℕ) (from : ℕ) (xs : List Lexeme) (ending : Ending
 computed_as text from xs ending l =
     Lexes-unique (length text) (drop from text) (computed_from text from).tokens xs (computed_from text from).ending ending (computed_sound (length text) (length text) (drop from text) (omega (arith, length-drop from text))) l
 
-pub starts_token : (file : ℕ) (text : List ℕ) (pos ahead : Pos) (start after : ℕ) (token : Token) → pos ≡ in_file file after → ahead ≡ in_file file start → Finds text 0 (founds.Token start token after) → Starts file text (Ok (feed_parts text pos (Some (ahead, token)) false))
+pub starts_token : (file : ℕ) (text : List ℕ) (pos ahead : Pos) (start after : ℕ) (token : Token) → pos ≡ in_file file after → ahead ≡ in_file file start → Finds text 0 (founds.Token start token after) → lexes text (feed_parts text pos (Some (ahead, token)) false).coming (feed_parts text pos (Some (ahead, token)) false).ending
 starts_token file text pos ahead start after token is is_ahead f =
-    subst (λ p. Starts file text (Ok (feed_parts text p (Some (ahead, token)) false))) (sym is)
-    (subst (λ p. Starts file text (Ok (feed_parts text (in_file file after) (Some (p, token)) false))) (sym is_ahead)
-    (refl, refl, refl, found_token text 0 start after token f))
+    subst (λ p. lexes text (feed_parts text p (Some (ahead, token)) false).coming (feed_parts text p (Some (ahead, token)) false).ending) (sym is)
+    (subst (λ p. lexes text (feed_parts text (in_file file after) (Some (p, token)) false).coming (feed_parts text (in_file file after) (Some (p, token)) false).ending) (sym is_ahead)
+    (found_token text 0 start after token f))
 
 first_shown : (pos : Pos) (x : Pos × Token) → x.0.file ≡ pos.file → placed_of x ≡ placed_at (in_file pos.file) (record { offset = x.0.offset; token = token_of x.1; after = pos.offset })
 first_shown pos x same = ap (λ f. record { pos = record { file = f; offset = x.0.offset }; token = token_of x.1 }) same
 
 -- the token ahead is taken, and another one is found
-pub next_token : (text : List ℕ) (pos : Pos) (o : Option (Pos × Token)) (start after : ℕ) (token : Token) → is_some o ≡ true → IsAhead text pos o false → Finds text pos.offset (founds.Token start token after) → Gives (feed_parts text pos o false) (Ok o) (feed_parts text (in_file pos.file after) (Some (in_file pos.file start, token)) false)
+pub next_token : (text : List ℕ) (pos : Pos) (o : Option (Pos × Token)) (start after : ℕ) (token : Token) → is_some o ≡ true → IsAhead text pos o false → Finds text pos.offset (founds.Token start token after) → IfSome o (λ x. Takes (feed_parts text pos o false) (placed_of x) (feed_parts text (in_file pos.file after) (Some (in_file pos.file start, token)) false))
 next_token text pos None start after token some ahead f = cc
 next_token text pos (Some x) start after token some ahead f =
     let same = computed_as text pos.offset (record { offset = start; token = token_of token; after = after } ∷ (computed_from text after).tokens) (computed_from text after).ending (found_token text pos.offset start after token f) in
@@ -108,7 +108,7 @@ next_token text pos (Some x) start after token some ahead f =
     }
 
 -- the token ahead is the last
-pub next_end : (text : List ℕ) (pos : Pos) (o : Option (Pos × Token)) → is_some o ≡ true → IsAhead text pos o false → Finds text pos.offset founds.End → Gives (feed_parts text pos o false) (Ok o) (feed_parts text (in_file pos.file (length text)) None false)
+pub next_end : (text : List ℕ) (pos : Pos) (o : Option (Pos × Token)) → is_some o ≡ true → IsAhead text pos o false → Finds text pos.offset founds.End → IfSome o (λ x. Takes (feed_parts text pos o false) (placed_of x) (feed_parts text (in_file pos.file (length text)) None false))
 next_end text pos None some ahead f = cc
 next_end text pos (Some x) some ahead f =
     let same = computed_as text pos.offset [] end f in
@@ -134,9 +134,10 @@ next_fault text pos (Some x) at reason e some f refuses =
       failed = ap (λ e. record { file = pos.file; coming = []; ending = e; size = length text }) (sym same.1);
     }
 
-pub gives_along : {old other new further : Feed} {o p : Option (Pos × Token)} → old ≡ other → o ≡ p → new ≡ further → Gives old (Ok o) new → Gives other (Ok p) further
-gives_along {old = old} {other = other} {new = new} {further = further} {o = o} {p = p} e f g h =
-    subst (λ x. Gives x (Ok p) further) e (subst (λ x. Gives old (Ok x) further) f (subst (λ x. Gives old (Ok o) x) g h))
+pub takes_along : {old other new further : Feed} {o p : Option (Pos × Token)} → old ≡ other → o ≡ p → new ≡ further → IfSome o (λ x. Takes old (placed_of x) new) → IfSome p (λ x. Takes other (placed_of x) further)
+takes_along {old = old} {other = other} {new = new} {further = further} {o = o} {p = p} e f g h =
+    subst (λ f. IfSome p (λ x. Takes f (placed_of x) further)) e
+    (subst (λ q. IfSome q (λ x. Takes old (placed_of x) further)) f (subst (λ f. IfSome o (λ x. Takes old (placed_of x) f)) g h))
 
 pub refuses_along : {old other new further : Feed} {error : Error} → old ≡ other → new ≡ further → Refuses old error new → Refuses other error further
 refuses_along {old = old} {other = other} {new = new} {further = further} {error = error} e g h =

@@ -1,6 +1,6 @@
 -- What the calls of a lexer answer, by what it has still to give. A lexer is failed where no token is
 -- to come and a fault is: its text was refused by an earlier call.
-use Rattle.std.specs.Prelude.{◌≡◌, ◌≤◌, ◌<◌, ◌^◌, ℕ, ◌+◌, length, Bool, true, false, List, [], ◌∷◌, Option, Some, None, Result, Ok, Err}
+use Rattle.std.specs.Prelude.{◌≡◌, ◌≤◌, ◌<◌, ◌^◌, ℕ, ◌+◌, Bool, true, false, List, [], ◌∷◌, Option, Some, None}
 use Rattle.isle_base.specs.declared.error.Error.{Error}
 use Rattle.isle_base.specs.declared.error.Error.TheVariants.{ParseError}
 use Rattle.isle_base.specs.declared.lexer.Fault.{Fault}
@@ -73,20 +73,15 @@ pub record Refuses (old : Feed) (e : Error) (new : Feed) : Type 0 where
   pub error : RefusesAt (in_file old.file offset) e
   pub failed : new ≡ record old { coming = [] }
 
--- a call of `next`: what the lexer had to give, the answer, and what it has to give afterwards
-abbrev pub Gives : Feed → Result (Option (Pos × Token)) Fault → Feed → Type 0
-Gives old (Ok None) new = (is_at_end old ≡ true) × (new ≡ old)
-Gives old (Ok (Some x)) new = Takes old (placed_of x) new
-Gives old (Err (faults.Error e)) new = Refuses old e new
-Gives old (Err faults.Failed) new = (is_failed old ≡ true) × (new ≡ old)
-Gives old (Err faults.Memory) new = (is_failed old ≡ false) × (is_at_end old ≡ false) × (new ≡ old)
+-- what holds of the error, where the fault is one
+abbrev pub IfError : (Error → Type 0) → Fault → Type 0
+IfError P (faults.Error e) = P e
+IfError P faults.Failed = Unit {0}
+IfError P faults.Memory = Unit {0}
 
--- a new lexer, of this file, for this text
-abbrev pub Starts : ℕ → List ℕ → Result Feed Fault → Type 0
-Starts file text (Ok feed) = (feed.file ≡ file) × (feed.size ≡ length text) × (is_failed feed ≡ false) × lexes text feed.coming feed.ending
-Starts file text (Err (faults.Error e)) = (offset : ℕ) × lexes text [] (fault offset) × RefusesAt (in_file file offset) e
-Starts file text (Err faults.Failed) = ⊥
-Starts file text (Err faults.Memory) = Unit {0}
+-- The text of this file begins, after blanks and comments, with a fault, and the error stands there.
+abbrev pub RefusesStart : ℕ → List ℕ → Error → Type 0
+RefusesStart file text e = (offset : ℕ) × lexes text [] (fault offset) × RefusesAt (in_file file offset) e
 
 -- every offset of a token is one of the text's, its end included
 abbrev pub AreWithin : ℕ → List Lexeme → Type 0

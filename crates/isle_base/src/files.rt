@@ -3,7 +3,8 @@
 //! Names and behaviour are those of the module `files` of the Rust crate `cranelift-isle`. Offsets
 //! count bytes from 0, and lines are counted from 0.
 
-ghost use Rattle.std.specs.Prelude.{◌≡◌, ℕ, ◌+◌, ◌^◌, ◌<◌, List, [], Some, length, map, count_by, nat_eq, nat_le, slice_get, IfOk};
+ghost use Rattle.std.specs.Prelude.{◌≡◌, ℕ, ◌+◌, ◌^◌, ◌<◌, List, [], Some, length, map, count_by};
+ghost use Rattle.std.specs.Prelude.{nat_eq, nat_le, slice_get, IfOk};
 ghost use Rattle.std.specs.Cmp.{partial_equiv_from_equiv};
 ghost use Rattle.std.specs.Cmp.Lexicographic.{lists_equiv, lists_per, nat_list_eq_equiv, pointwise};
 ghost use Rattle.std.specs.Option.{option_copied, option_map};
@@ -93,7 +94,7 @@ impl PartialEq for SourceFile {
 
     ghost laws = { partial_equiv_from_equiv is_same_source_equiv };
 
-    // A line map is that of its text, so it is not compared.
+    /// A line map is that of its text, so it is not compared.
     fn eq(&self, other: &SourceFile) -> bool {
         self.name == other.name && self.text == other.text
     }
@@ -241,14 +242,16 @@ impl Files {
 
     /// Gives the name of a file, or `None` where no file has this number.
     pub fn file_name(&self, file: usize) -> Option<&str>
-        ensures { option_copied result ≡ option_map (λ source. source.name) (slice_get self.now file) }
+        ensures { option_copied result ≡ option_map
+            (λ source. source.name) (slice_get self.now file) }
     {
         self.sources.get(file).map(|source| source.name.as_str())
     }
 
     /// Gives the text of a file, or `None` where no file has this number.
     pub fn file_text(&self, file: usize) -> Option<&str>
-        ensures { option_copied result ≡ option_map (λ source. source.text) (slice_get self.now file) }
+        ensures { option_copied result ≡ option_map
+            (λ source. source.text) (slice_get self.now file) }
     {
         self.sources.get(file).map(|source| source.text.as_str())
     }

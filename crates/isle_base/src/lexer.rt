@@ -1,10 +1,13 @@
 //! Lexer for the ISLE language.
 
-ghost use Rattle.std.specs.Prelude.{◌≡◌, ◌↔◌, IsTrue, Some, option_map};
-ghost use Rattle.isle_base.specs.Steps.{Gives, IsWithin, Rises, Starts, current_pos, is_at_end, lookahead, placed_of};
+ghost use Rattle.std.specs.Prelude.{◌≡◌, ◌≢◌, ◌↔◌, Err, IfErr, IfOk, IfSome, IsTrue, None, Ok};
+ghost use Rattle.std.specs.Prelude.{Some, false, length, option_map, true};
+ghost use Rattle.isle_base.specs.Lexing.{lexes};
+ghost use Rattle.isle_base.specs.Steps.{IfError, IsWithin, Refuses, RefusesStart, Rises, Takes};
+ghost use Rattle.isle_base.specs.Steps.{current_pos, is_at_end, is_failed, lookahead, placed_of};
 ghost use Rattle.isle_base.specs.Token.{is_int, is_symbol};
 ghost use Rattle.isle_base.specs.TokenView.{token_of};
-ghost use Rattle.isle_base.specs.declared.lexer.Fault.TheVariants.{Memory};
+ghost use Rattle.isle_base.specs.declared.lexer.Fault.TheVariants.{Failed, Memory};
 
 pub mod laws;
 mod literal;
@@ -46,8 +49,8 @@ impl<T: Drop> From<AllocFailed<T>> for Fault {
 
 /// A source position.
 ///
-/// The default position, file 0 at offset 0, stands for an unknown place. Positions are ordered by file,
-/// then by offset.
+/// The default position, file 0 at offset 0, stands for an unknown place. Positions are ordered by
+/// file, then by offset.
 #[derive(Clone, Copy, Debug, Default, PartialEq, Eq, PartialOrd, Ord, Hash)]
 pub struct Pos {
     /// The number of the file, from 0.
@@ -144,12 +147,12 @@ impl Clone for Token {
 ///
 /// A text is refused at a fault: at a block comment without an end, at a form feed outside of
 /// comments, and at an integer literal that writes no number or one that doesn't fit. A lexer whose
-/// text was refused by `next` is failed, and stays so. In a contract a lexer is what it has still to
-/// give: the number of its file, the tokens to come, how they end, and the length of its text.
+/// text was refused by `next` is failed, and stays so. In a contract a lexer is what it has still
+/// to give: the number of its file, the tokens to come, how they end, and the length of its text.
 #[derive(Debug, Drop)]
 pub struct Lexer<'src> {
     src: &'src str,
-    // Behind the token ahead; without one, the end of the text, or the fault's first byte.
+    /// Behind the token ahead; without one, the end of the text, or the fault's first byte.
     pos: Pos,
     lookahead: Option<(Pos, Token)>,
     failed: bool,
@@ -181,13 +184,22 @@ impl<'src> Clone for Lexer<'src> {
 }
 
 impl<'src> Lexer<'src> {
-    /// Makes the lexer of a text, which is the file of this number, and reads the first token ahead.
+    /// Makes the lexer of a text, which is the file of this number, and reads the first token
+    /// ahead.
     ///
-    /// It answers `Error` exactly where the text begins, after blanks and comments, with a fault: the
-    /// error's span is the one byte at which the fault begins. `Memory` comes where a growth was refused. It never answers
-    /// `Failed`.
+    /// It answers `Error` exactly where the text begins, after blanks and comments, with a fault:
+    /// the error's span is the one byte at which the fault begins. `Memory` comes where a growth
+    /// was refused. It never answers `Failed`.
     pub fn new(alloc: Global, file: usize, src: &'src str) -> Result<Lexer<'src>, Fault>
-        ensures { Starts file src.now result }
+        // What `Ok` holds.
+        ensures file { IfOk result (λ lexer. lexer.file ≡ file) }
+        ensures size { IfOk result (λ lexer. lexer.size ≡ length src.now) }
+        ensures live { IfOk result (λ lexer. is_failed lexer ≡ false) }
+        ensures tokens { IfOk result (λ lexer. lexes src.now lexer.coming lexer.ending) }
+
+        // When each error comes.
+        ensures refused { IfErr result (IfError (RefusesStart file src.now)) }
+        ensures never_failed { result ≢ Err Failed }
     {
         match read(alloc, src, 0)? {
             Found::Token(start, token, end) => Ok(Lexer {
@@ -223,11 +235,20 @@ impl<'src> Lexer<'src> {
     /// Hands out the token ahead with the position of its first byte, and reads one token further.
     ///
     /// At the end of the text it answers `None`. It answers `Error` where a fault follows the token
-    /// ahead, after blanks and comments: the error's span is the one byte at which the fault begins,
-    /// the token ahead is lost, and the lexer is failed from then on. It answers `Failed` exactly of
-    /// a failed lexer. After `Memory` the lexer is as it was.
+    /// ahead, after blanks and comments: the error's span is the one byte at which the fault
+    /// begins, the token ahead is lost, and the lexer is failed from then on. It answers `Failed`
+    /// exactly of a failed lexer. After `Memory` the lexer is as it was.
     pub fn next(&mut self, alloc: Global) -> Result<Option<(Pos, Token)>, Fault>
-        ensures { Gives self.old result self.new }
+        // What `Ok` holds.
+        ensures token { IfOk result
+            (λ ahead. IfSome ahead (λ x. Takes self.old (placed_of x) self.new)) }
+        ensures end { result ≡ Ok None → (is_at_end self.old ≡ true) × (self.new ≡ self.old) }
+
+        // When each error comes, and what is left after it.
+        ensures refused { IfErr result (IfError (λ e. Refuses self.old e self.new)) }
+        ensures failed { result ≡ Err Failed → (is_failed self.old ≡ true) × (self.new ≡ self.old) }
+        ensures memory { result ≡ Err Memory
+            → (is_failed self.old ≡ false) × (is_at_end self.old ≡ false) × (self.new ≡ self.old) }
     {
         if self.failed {
             return Err(Fault::Failed);

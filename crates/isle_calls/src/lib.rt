@@ -1,6 +1,6 @@
-//! The public calls of the lexer, the parser, the printer and diagnostics, each where it succeeds, and trees, streams and
-//! closures that no text gives: tests alone. Rows that are texts stand in `isle_conformance`; the calls of the tree have
-//! crates of their own, by kinds of node.
+//! The public calls of the lexer, the parser, the printer and diagnostics, each where it succeeds,
+//! and trees, streams and closures that no text gives: tests alone. Rows that are texts stand in
+//! `isle_conformance`; the calls of the tree have crates of their own, by kinds of node.
 #![tactic(auto)]
 
 #[cfg(test)]

@@ -2,7 +2,8 @@
 //!
 //! Running code can't read how many looks there were, so clauses of the functions here say it.
 
-ghost use Rattle.std.specs.Prelude.{◌≡◌, ◌≤◌, ◌+◌, [], ◌∷◌, replicate, codes, true, false, IfOk, OnOk};
+ghost use Rattle.std.specs.Prelude.{◌≡◌, ◌≤◌, ◌+◌, [], ◌∷◌, replicate, codes, true, false, IfOk};
+ghost use Rattle.std.specs.Prelude.{OnOk};
 ghost use Rattle.isle_printer_layout.specs.Sexp.{atom, row_of};
 ghost use Rattle.isle_printer_layout.specs.SexpView.{sexp_of};
 

@@ -121,7 +121,8 @@ fn copies_and_compares_spec_expressions(rt: HostRuntime) -> Result<(), Fail> {
     Ok(())
 }
 
-/// Whether the argument of a macro is found in a pattern, in the condition of the other pattern, and in a rule of both.
+/// Whether the argument of a macro is found in a pattern, in the condition of the other pattern,
+/// and in a rule of both.
 fn found(alloc: Global, pattern: Pattern, other: Pattern) -> Result<[bool; 3], AllocError> {
     let iflet = condition(other);
     let found = [pattern.has_macro_arg(), iflet.has_macro_arg()];

@@ -1,4 +1,5 @@
-//! Trees by hand, and what their prints spell: `writable` is true exactly of those that their print spells again.
+//! Trees by hand, and what their prints spell: `writable` is true exactly of those that their print
+//! spells again.
 
 use isle_calls_nodes::{extractor, ident, macro_arg, pos, read, wildcard};
 use isle_syntax::ast::{Def, Expr, Model, ModelValue, Pattern, Rule, SpecExpr, SpecOp, writable};
@@ -14,8 +15,8 @@ fn spells(alloc: Global, text: &str, defs: &Vec<Def>) -> bool {
     answer
 }
 
-/// The text of definitions at 78, and whether they are writable, which has to be whether their text, at this width and at
-/// others, spells them.
+/// The text of definitions at 78, and whether they are writable, which has to be whether their
+/// text, at this width and at others, spells them.
 fn told(alloc: Global, defs: &Vec<Def>) -> Result<(String, bool), Fail> {
     let answer = writable(defs);
     for width in [0, 5, 78, usize::MAX] {

@@ -1,5 +1,5 @@
-//! Which trees built by hand are written so that they read back: for each condition a tree that breaks it, and one near
-//! it that does not.
+//! Which trees built by hand are written so that they read back: for each condition a tree that
+//! breaks it, and one near it that does not.
 
 use isle_calls_nodes::{ident, is_writable, pos};
 use isle_syntax::ast::{

@@ -2,7 +2,7 @@
 
 ghost use Rattle.std.specs.Prelude.{◌≡◌};
 ghost use Rattle.std.specs.List.{list_any};
-ghost use Rattle.isle_ast_rules.specs.Heads.{expression_heads, heads};
+ghost use Rattle.isle_ast_rules.specs.TermHeads.{expression_heads, heads};
 ghost use Rattle.isle_ast_rules.specs.TreeView.{expression_of, pattern_of};
 ghost use Rattle.isle_calls_rules.specs.Walks.{is_of_symbol, last_pos};
 
@@ -25,7 +25,8 @@ fn last_term(pattern: &Pattern) -> Option<Pos>
 
 /// Tells whether an expression has a term of this symbol.
 fn mentions(expr: &Expr, symbol: &str) -> bool
-    ensures { result ≡ list_any (is_of_symbol symbol.now) (expression_heads (expression_of expr.now)) }
+    ensures { result
+        ≡ list_any (is_of_symbol symbol.now) (expression_heads (expression_of expr.now)) }
 {
     let mut found = false;
     let mut look = |_pos: Pos, sym: &Ident| found |= sym.0.as_str() == symbol;
@@ -33,8 +34,8 @@ fn mentions(expr: &Expr, symbol: &str) -> bool
     found
 }
 
-/// What is told of the one rule: the position of the last term of its pattern, and whether its expression mentions `H`
-/// and `x`.
+/// What is told of the one rule: the position of the last term of its pattern, and whether its
+/// expression mentions `H` and `x`.
 fn told(defs: &[Def]) -> Option<(Option<Pos>, bool, bool)> {
     match defs {
         [Def::Rule(rule)] => Some((

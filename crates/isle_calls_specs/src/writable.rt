@@ -155,7 +155,8 @@ fn names_of_enums_have_no_dot_and_make_no_operator(rt: HostRuntime) -> Result<()
     Ok(())
 }
 
-/// The forms that name something by one word: `(as x NAME)`, `(:NAME x)`, `(NAME? x)` and `(NAME! x)`.
+/// The forms that name something by one word: `(as x NAME)`, `(:NAME x)`, `(NAME? x)` and `(NAME!
+/// x)`.
 fn words(alloc: Global, name: &str, x: &str) -> Result<Vec<SpecExpr>, AllocError> {
     let exprs = vec![in alloc;
         SpecExpr::As {
@@ -182,7 +183,8 @@ fn words(alloc: Global, name: &str, x: &str) -> Result<Vec<SpecExpr>, AllocError
     Ok(exprs)
 }
 
-/// The forms with names of their own: `(let ((NAME x)) y)`, `(with (NAME) x)` and `(macro (NAME) x)`.
+/// The forms with names of their own: `(let ((NAME x)) y)`, `(with (NAME) x)` and `(macro (NAME)
+/// x)`.
 fn binders(alloc: Global, name: &str, x: &str) -> Result<Vec<SpecExpr>, AllocError> {
     let mut exprs = Vec::new(alloc);
     exprs.push(SpecExpr::Let {

@@ -58,7 +58,8 @@ pub fn answer(alloc: Global, case: &Case) -> Result<String, AllocError> {
     }
 }
 
-/// A lexer of the first text, in the file of the first number, after as many calls of `next` as the second says.
+/// A lexer of the first text, in the file of the first number, after as many calls of `next` as the
+/// second says.
 fn lexer<'a>(alloc: Global, case: &'a Case) -> Result<Lexer<'a>, Fault> {
     let mut lexer = Lexer::new(alloc, case.number(0), case.text(0))?;
     for _ in 0..case.number(1) {
@@ -76,7 +77,8 @@ fn parsed_without_pos(alloc: Global, case: &Case) -> Result<Vec<Def>, Fault> {
     parse_without_pos(alloc, lexer(alloc, case)?)
 }
 
-/// What the lexer tells before a call of `next`, in brackets: its position, and whether it has failed or is at its end.
+/// What the lexer tells before a call of `next`, in brackets: its position, and whether it has
+/// failed or is at its end.
 fn state(alloc: Global, lexer: &Lexer) -> Result<String, AllocError> {
     let pos = lexer.pos();
     let state = match (lexer.peek().is_some(), lexer.eof()) {
@@ -101,7 +103,8 @@ fn step(alloc: Global, next: Result<Option<(Pos, Token)>, Fault>) -> Result<Stri
     }
 }
 
-/// Each call of `next` up to the second that comes when nothing is ahead, with the lexer's state in front of each.
+/// Each call of `next` up to the second that comes when nothing is ahead, with the lexer's state in
+/// front of each.
 fn tokens(alloc: Global, case: &Case) -> Result<String, AllocError> {
     let mut lexer = match lexer(alloc, case) {
         Ok(lexer) => lexer,

@@ -25,7 +25,8 @@ fn display(
     }
 }
 
-/// What is shown of the error for which the text is refused, in a file named as the program names its input.
+/// What is shown of the error for which the text is refused, in a file named as the program names
+/// its input.
 pub fn refusal(alloc: Global, case: &Case) -> Result<String, AllocError> {
     match parsed(alloc, case) {
         Ok(_) => "accepted".to_string(alloc),

@@ -1,11 +1,13 @@
 //! Answers calls of the syntax layer, one a line, so that the rows of its tests are data.
 //!
-//! Line by line, standard output answers standard input. A line that is empty or begins with `#` stands for itself. Any
-//! other is a case: the call, then the numbers and the texts that it takes. A text stands in quotes and is written as
-//! Debug writes it: behind a `\` stand `n`, `r`, `t`, `0`, a quote, a `\`, or `u{..}` with the number of a character.
+//! Line by line, standard output answers standard input. A line that is empty or begins with `#`
+//! stands for itself. Any other is a case: the call, then the numbers and the texts that it takes.
+//! A text stands in quotes and is written as Debug writes it: behind a `\` stand `n`, `r`, `t`,
+//! `0`, a quote, a `\`, or `u{..}` with the number of a character.
 //!
-//! The answer of a case is what Debug shows of the call's, with each position as `FILE:OFFSET`. A lexer is of the text, in
-//! the file FILE, after READ calls of `next`. A number that is left out is 0.
+//! The answer of a case is what Debug shows of the call's, with each position as `FILE:OFFSET`. A
+//! lexer is of the text, in the file FILE, after READ calls of `next`. A number that is left out is
+//! 0.
 //!
 //! | Case | The answer |
 //! |---|---|

@@ -1,15 +1,11 @@
 -- Several reads and several writes, taken together.
-use Rattle.std.proofs.Common.{◌≡◌, ℕ, ◌+◌, ◌-◌, List, length, take, drop, Option, string_bytes, Err, refl, subst, sym, ◌∙◌, arith, length-drop}
+use Rattle.std.proofs.Common.{◌≡◌, ℕ, ◌+◌, ◌-◌, List, length, take, drop, Option, string_bytes, refl, subst, sym, ◌∙◌, arith, length-drop}
 use Rattle.std.proofs.KnownBytes.{Appends-trans, Consumes-trans, starts_with_rest}
 use Rattle.std.proofs.Math.Seq.{take-add}
 use Rattle.std.proofs.lemmas.List.{take_all}
 use Rattle.std.specs.Io.{StartsWith, appended_bytes}
 use Rattle.std.specs.Io.KnownBytes.{Appends, Consumes}
-use Rattle.isle_base.specs.declared.error.Error.{Error}
-use Rattle.isle_base.specs.declared.lexer.Fault.{Fault}
-use Rattle.isle_base.specs.declared.lexer.Fault.TheVariants as faults
-use Rattle.isle_parser_cursor.specs.Answers.{RefusesIn}
-use Rattle.isle_syntax.specs.Format.{IsRefused, Formats}
+use Rattle.isle_syntax.specs.Format.{IsRefused}
 use Rattle.isle_fmt.specs.declared.program.Failure.{Failure}
 use Rattle.isle_fmt.specs.declared.program.Failure.TheVariants as failures
 use Rattle.isle_fmt.specs.Failure.{status_of, text_of, IsDiagnostic, IsRefusal, Explains}
@@ -65,7 +61,3 @@ module _ (words : List (List ℕ)) (input input' output output' faults faults' :
   pub told-text : (status : ℕ) (failure : Failure) → Explains failure words input input' output output' → AppendsBeginning faults faults' (text_of failure) → status ≡ status_of failure → WritesBeginning faults faults' (IsDiagnostic status)
   told-text status failure why told is =
       (text_of failure, subst (λ s. IsDiagnostic s (text_of failure)) (sym is) (diagnostic_of failure why), told)
-
--- what `format` says of the error that it answers
-pub Formats-error : (width : ℕ) (text : List ℕ) (f : Fault) (e : Error) → Formats width text (Err f) → f ≡ faults.Error e → IsRefused text × RefusesIn 0 (length text) e
-Formats-error width text f e said is = subst (λ g. Formats width text (Err g)) is said

@@ -4,7 +4,7 @@ use Rattle.std.specs.Prelude.{◌≡◌, ℕ, List, [], ◌∷◌, length, Optio
 use Rattle.std.specs.Io.KnownBytes.{Keeps}
 use Rattle.isle_base.specs.declared.error.Error.{Error}
 use Rattle.isle_base.specs.Diagnostic.{report_text}
-use Rattle.isle_parser_cursor.specs.Answers.{RefusesIn}
+use Rattle.isle_parser_cursor.specs.Outcomes.{RefusesIn}
 use Rattle.isle_syntax.specs.Format.{IsFormatted, IsRefused}
 use Rattle.isle_fmt.specs.declared.program.Failure.{Failure}
 use Rattle.isle_fmt.specs.declared.program.Failure.TheVariants as failures

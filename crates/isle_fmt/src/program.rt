@@ -1,13 +1,16 @@
 //! The program's work, over any reader and any two writers.
 
-ghost use Rattle.std.specs.Prelude.{◌≡◌, ◌≢◌, ◌<◌, ◌≤◌, length, map, string_bytes, IfOk, IfErr, OnOk, false};
+ghost use Rattle.std.specs.Prelude.{◌≡◌, ◌≢◌, ◌<◌, ◌≤◌, length, map, string_bytes, IfOk, IfErr};
+ghost use Rattle.std.specs.Prelude.{OnOk, false};
 ghost use Rattle.std.specs.Option.{SomeIff};
 ghost use Rattle.std.specs.Io.{StartsWith, appended_bytes};
 ghost use Rattle.std.specs.Io.KnownBytes.{Appends, Consumes, IsAtEnd, Keeps};
 ghost use Rattle.std.specs.Str.Parse.{digits_value};
-ghost use Rattle.isle_parser_cursor.specs.Answers.{RefusesIn};
+ghost use Rattle.isle_parser_cursor.specs.Outcomes.{RefusesIn};
 ghost use Rattle.isle_syntax.specs.Format.{IsFormatted, IsRefused};
-ghost use Rattle.isle_fmt.specs.Failure.{Explains, IsDiagnostic, IsFormatFailure, IsReadFailure, IsRefusal, IsWordsFailure, refusal_text, status_of, text_of};
+ghost use Rattle.isle_fmt.specs.Failure.{Explains, IsDiagnostic, IsFormatFailure, IsReadFailure};
+ghost use Rattle.isle_fmt.specs.Failure.{IsRefusal, IsWordsFailure, refusal_text, status_of};
+ghost use Rattle.isle_fmt.specs.Failure.{text_of};
 ghost use Rattle.isle_fmt.specs.Streams.{AppendsBeginning, ReadsText, Writes, WritesBeginning};
 ghost use Rattle.isle_fmt.specs.Words.{GiveWidth, IsWidth, given_width};
 ghost use Rattle.isle_fmt.specs.declared.program.Failure.TheVariants.{Memory};
@@ -21,7 +24,7 @@ use std::io::{ErrorKind, Read, Write};
 use std::rc::Rc;
 use std::{env, io};
 
-/// The width of the output where the command line gives none, in columns.
+/// The width of the output where the command line gives none, in bytes.
 const DEFAULT_WIDTH: usize = 78;
 
 /// How many bytes one read asks for at most.
@@ -101,7 +104,7 @@ impl Failure {
 /// | 4 | memory was refused | `isle-fmt: out of memory` |
 /// | 5 | the output failed, with a beginning of the formatted text in it | `isle-fmt: output failed` |
 ///
-/// A width is one ASCII digit or more, of a number of columns that fits `usize`; without a word it
+/// A width is one ASCII digit or more, of a number of bytes that fits `usize`; without a word it
 /// is 78. Where standard error refuses bytes, the status stays the same.
 pub fn run<R: Read, W: Write, E: Write>(
     alloc: Global,

@@ -4,8 +4,8 @@ use Rattle.std.specs.Prelude.{codes}
 use Rattle.std.specs.Str.{bytes_eq}
 use Rattle.isle_base.specs.Place.{Placed}
 use Rattle.isle_parser_cursor.specs.declared.cursor.Stop.{Stop}
-use Rattle.isle_parser_cursor.specs.Answers.{IsRefusal, Source, Stops}
-use Rattle.isle_parser.specs.ReadDefinitions.{behind}
+use Rattle.isle_parser_cursor.specs.Outcomes.{IsRefusal, Source, Stops}
+use Rattle.isle_parser.specs.DefinitionReaders.{behind}
 use Rattle.isle_parser_cursor.proofs.Ahead.{stopped}
 use Rattle.isle_parser_cursor.proofs.SameBytes.{other_bytes}
 

@@ -1,10 +1,6 @@
 pub mod Flags
-pub mod ReadsForms
-pub mod ReadsModels
-pub mod ReadsTerms
-pub mod ReadsTypes
-pub mod Definitions
 pub mod Keywords
+pub mod Reading
 pub mod Positions
 pub mod Rows
 pub mod Whole

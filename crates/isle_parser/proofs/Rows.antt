@@ -10,11 +10,11 @@ use Rattle.isle_ast_names.specs.TreeView.{name_of}
 use Rattle.isle_ast.specs.TypeGrammar.{is_extern_word, is_nodebug_word}
 use Rattle.isle_base.specs.Place.{Placed}
 use Rattle.isle_parser_cursor.specs.declared.cursor.Stop.{Stop}
-use Rattle.isle_parser_cursor.specs.Answers.{Source, Stops}
+use Rattle.isle_parser_cursor.specs.Outcomes.{Source, Stops}
 use Rattle.isle_parser_cursor.specs.Reading.{many}
-use Rattle.isle_parser.specs.ReadTypes.{indexed, modifier, modifier_flags, modifiers, no_symbol, numbered}
+use Rattle.isle_parser.specs.TypeReaders.{indexed, modifier, modifier_flags, modifiers, no_symbol, numbered}
 use Rattle.isle_parser_cursor.proofs.Loops.{behind_front, loop_begin, loop_end, loop_push, loop_stops, made_end, made_stops}
-use Rattle.isle_parser.proofs.ReadsTypes.{modifier_shrinks}
+use Rattle.isle_parser.proofs.Reading.Types.{modifier_shrinks}
 
 -- words that were read, and the flags that they have set
 pub record ModifiersSoFar (is_extern is_nodebug : Bool) (all rest : List Placed) : Type 0 where

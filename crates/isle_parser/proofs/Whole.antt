@@ -14,12 +14,12 @@ use Rattle.isle_ast.specs.Erased.{erase}
 use Rattle.isle_ast.specs.MacroArgs.{definitions_have_macro_arg}
 use Rattle.isle_ast.specs.TreeView.{definitions_of}
 use Rattle.isle_ast.specs.Spelt.{Spells}
-use Rattle.isle_parser_cursor.specs.Answers.{Source, is_fault, RefusesIn}
+use Rattle.isle_parser_cursor.specs.Outcomes.{Source, is_fault, RefusesIn}
 use Rattle.isle_parser.specs.Parsed.{Parses, RefusesText, SpellsOnly}
-use Rattle.isle_parser.specs.ReadDefinitions.{definitions}
+use Rattle.isle_parser.specs.DefinitionReaders.{definitions}
 use Rattle.isle_ast.proofs.Erasing.{text_erased, text_placed}
 use Rattle.isle_ast.proofs.NoMacroArgs.{spelt_has_no_macro_arg}
-use Rattle.isle_parser.proofs.Definitions.{definitions_sound, definitions_complete, one_list}
+use Rattle.isle_parser.proofs.Reading.Definitions.{definitions_sound, definitions_complete, one_list}
 use Rattle.isle_base.specs.declared.lexer.Fault.TheVariants as faults
 
 ended : (xs : List Lexeme) (ending : Ending) → ended_by xs ending ≡ true → ending ≡ end

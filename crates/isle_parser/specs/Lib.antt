@@ -1,9 +1,7 @@
 pub mod Parsed
 pub mod Positions
-pub mod ReadForms
-pub mod ReadModels
-pub mod ReadTerms
-pub mod ReadTypes
-pub mod ReadDefinitions
-pub use Rattle.isle_parser_cursor.specs.Answers
-pub use Rattle.isle_parser_cursor.specs.Reading
+pub mod FormReaders
+pub mod ModelReaders
+pub mod TermReaders
+pub mod TypeReaders
+pub mod DefinitionReaders

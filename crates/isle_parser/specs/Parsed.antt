@@ -9,7 +9,7 @@ use Rattle.isle_ast.specs.Tree.{Definition}
 use Rattle.isle_ast.specs.declared.ast.Def.{Def}
 use Rattle.isle_ast.specs.Spelt.{Spells}
 use Rattle.isle_ast.specs.TreeView.{definitions_of}
-use Rattle.isle_parser_cursor.specs.Answers.{RefusesIn}
+use Rattle.isle_parser_cursor.specs.Outcomes.{RefusesIn}
 use Rattle.isle_base.specs.declared.lexer.Fault.TheVariants as faults
 
 -- this list of definitions is spelt, and no other is

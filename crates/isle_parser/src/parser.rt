@@ -11,7 +11,7 @@ ghost use Rattle.isle_base.specs.Steps.{Rises, is_failed};
 ghost use Rattle.isle_base.specs.declared.lexer.Fault.TheVariants.{Failed};
 ghost use Rattle.isle_parser.specs.Parsed.{Parses, RefusesText};
 ghost use Rattle.isle_parser.specs.Positions.{HasKnownPositions, HasPositions};
-ghost use Rattle.isle_parser_cursor.specs.Answers.{place};
+ghost use Rattle.isle_parser_cursor.specs.Outcomes.{place};
 
 mod definitions;
 mod forms;
@@ -28,29 +28,38 @@ use std::alloc::{AllocError, Global};
 
 /// Parse the top-level ISLE definitions and return their AST.
 ///
-/// The promise: for every text and every width, want of memory aside, `parse` and `parse_without_pos` accept
-/// exactly the texts that the grammar of ISLE spells and give the one tree so spelt; two accepted texts spell
-/// the same tree, positions erased, exactly if their prints at that width are equal bytes, and such a print is
-/// accepted and prints as itself. The first half is in the clauses here, the second in those of `isle_syntax`'s
-/// `format`.
+/// The promise: for every text and every width, want of memory aside, `parse` and
+/// `parse_without_pos` accept exactly the texts that the grammar of ISLE spells and give the one
+/// tree so spelt; two accepted texts spell the same tree, positions erased, exactly if their prints
+/// at that width are equal bytes, and such a print is accepted and prints as itself. The first half
+/// is in the clauses here, the second in those of `isle_syntax`'s `format`.
 ///
-/// It reads what the lexer has still to give, its lookahead first. The grammar is the one of the ISLE
-/// language reference, for the definitions `type`, `rule`, `extractor`, `decl`, `attr`, `spec`, `macro`,
-/// `state`, `model`, `form`, `instantiate`, `extern` and `convert`. A pragma is refused, whatever its name. The list that it answers
-/// is the only one that the tokens spell. No pattern in it is or holds the argument of a macro. Each
-/// position in it is a byte offset in the lexer's text, with the number of the lexer's file: the first
-/// byte of a token, and never of the first one.
+/// It reads what the lexer has still to give, its lookahead first. The grammar is the one of the
+/// ISLE language reference, for the definitions `type`, `rule`, `extractor`, `decl`, `attr`,
+/// `spec`, `macro`, `state`, `model`, `form`, `instantiate`, `extern` and `convert`. A pragma is
+/// refused, whatever its name. The list that it answers is the only one that the tokens spell. No
+/// pattern in it is or holds the argument of a macro. Each position in it is a byte offset in the
+/// lexer's text, with the number of the lexer's file: the first byte of a token, and never of the
+/// first one.
 ///
-/// It answers an error exactly where the tokens spell no list of definitions, or where the lexer refuses
-/// its text. The error is a parse error at one byte of the text, or at its end. Of a lexer that had
-/// refused its text before this call it answers `Failed`. `Memory` comes where a growth was refused. The lexer is gone
-/// afterwards, whatever the answer.
+/// It answers an error exactly where the tokens spell no list of definitions, or where the lexer
+/// refuses its text. The error is a parse error at one byte of the text, or at its end. Of a lexer
+/// that had refused its text before this call it answers `Failed`. `Memory` comes where a growth
+/// was refused. The lexer is gone afterwards, whatever the answer.
 pub fn parse(alloc: Global, lexer: Lexer) -> Result<Vec<Def>, Fault>
-    ensures spelt { IfOk result (λ defs. Spells (in_file lexer.entry.file) lexer.entry (definitions_of defs.items)) }
-    ensures only { IfOk result (λ defs. (ds : List Definition) → Spells (in_file lexer.entry.file) lexer.entry ds → ds ≡ definitions_of defs.items) }
-    ensures positions { IfOk result (λ defs. HasPositions lexer.entry.file lexer.entry.coming (definitions_of defs.items)) }
+    // What `Ok` holds.
+    ensures spelt { IfOk result
+        (λ defs. Spells (in_file lexer.entry.file) lexer.entry (definitions_of defs.items)) }
+    ensures only { IfOk result
+        (λ defs. (ds : List Definition) → Spells (in_file lexer.entry.file) lexer.entry ds
+        → ds ≡ definitions_of defs.items) }
+    ensures positions { IfOk result
+        (λ defs. HasPositions lexer.entry.file lexer.entry.coming (definitions_of defs.items)) }
     ensures known { IfOk result (λ defs. HasKnownPositions (definitions_of defs.items)) }
-    ensures whole { IfOk result (λ defs. definitions_have_macro_arg (definitions_of defs.items) ≡ false) }
+    ensures no_macro_arg { IfOk result
+        (λ defs. definitions_have_macro_arg (definitions_of defs.items) ≡ false) }
+
+    // When each error comes.
     ensures refused { IfErr result (RefusesText (in_file lexer.entry.file) lexer.entry) }
     ensures failed { IsErrOf result Failed ↔ (is_failed lexer.entry ≡ true) }
 {
@@ -58,16 +67,24 @@ pub fn parse(alloc: Global, lexer: Lexer) -> Result<Vec<Def>, Fault>
     parser.parse_all(alloc)
 }
 
-/// Parse without positional information. Provided mainly to support testing, to enable equality testing
-/// on structure alone.
+/// Parse without positional information. Provided mainly to support testing, to enable equality
+/// testing on structure alone.
 ///
-/// It answers what `parse` does, with the default position in place of each, `Memory` and `Failed` too. Its errors stand
-/// where those of `parse` do.
+/// It answers what `parse` does, with the default position in place of each, `Memory` and `Failed`
+/// too. Its errors stand where those of `parse` do.
 pub fn parse_without_pos(alloc: Global, lexer: Lexer) -> Result<Vec<Def>, Fault>
+    // What `Ok` holds.
     ensures spelt { IfOk result (λ defs. Spells nowhere lexer.entry (definitions_of defs.items)) }
-    ensures only { IfOk result (λ defs. (ds : List Definition) → Spells nowhere lexer.entry ds → ds ≡ definitions_of defs.items) }
-    ensures erased { IfOk result (λ defs. (ds : List Definition) × Spells (in_file lexer.entry.file) lexer.entry ds × (definitions_of defs.items ≡ erase ds)) }
-    ensures whole { IfOk result (λ defs. definitions_have_macro_arg (definitions_of defs.items) ≡ false) }
+    ensures only { IfOk result
+        (λ defs. (ds : List Definition) → Spells nowhere lexer.entry ds
+        → ds ≡ definitions_of defs.items) }
+    ensures erased { IfOk result
+        (λ defs. (ds : List Definition) × Spells (in_file lexer.entry.file) lexer.entry ds
+        × (definitions_of defs.items ≡ erase ds)) }
+    ensures no_macro_arg { IfOk result
+        (λ defs. definitions_have_macro_arg (definitions_of defs.items) ≡ false) }
+
+    // When each error comes.
     ensures refused { IfErr result (RefusesText nowhere lexer.entry) }
     ensures refused_by_parse { IfErr result (RefusesText (in_file lexer.entry.file) lexer.entry) }
     ensures failed { IsErrOf result Failed ↔ (is_failed lexer.entry ≡ true) }
@@ -108,7 +125,7 @@ impl<'src> Parser<'src> {
         }
     }
 
-    // A parser that puts the default position in place of each.
+    /// A parser that puts the default position in place of each.
     fn new_without_pos_tracking(lexer: Lexer<'src>) -> Parser<'src>
         ensures lexer { result.cursor.lexer ≡ lexer.entry }
         ensures positions { result.cursor.disable_pos ≡ true }
@@ -121,9 +138,10 @@ impl<'src> Parser<'src> {
         }
     }
 
-    // Everything that the lexer has still to give.
+    /// Everything that the lexer has still to give.
     fn parse_all(&mut self, alloc: Global) -> Result<Vec<Def>, Fault>
-        ensures parses { Parses (place self.old.cursor.disable_pos self.old.cursor.lexer.file) self.old.cursor.lexer result }
+        ensures parses { Parses (place self.old.cursor.disable_pos self.old.cursor.lexer.file)
+            self.old.cursor.lexer result }
         ensures rising { Rises 0 self.old.cursor.lexer.coming }
     {
         if self.cursor.is_failed() {

@@ -6,7 +6,7 @@ use Rattle.isle_base.specs.Place.{Placed, in_file, unknown, nowhere, placed}
 use Rattle.isle_base.specs.Steps.{AreWithin, EndsWithin, IsWithin, Refuses, RefusesAt, ended_by, failed_by, first_placed, is_at_end, is_failed, lookahead}
 use Rattle.isle_base.specs.Token.{Lexeme, Ending, end, fault, Feed}
 use Rattle.isle_parser_cursor.specs.declared.cursor.Stop.{Stop}
-use Rattle.isle_parser_cursor.specs.Answers.{IsPlace, IsRefusal, IsRefusalAt, Judges, Source, Stops, is_fault, RefusesIn}
+use Rattle.isle_parser_cursor.specs.Outcomes.{IsPlace, IsRefusal, IsRefusalAt, Judges, Source, Stops, is_fault, RefusesIn}
 use Rattle.isle_parser_cursor.specs.Reading.{pos_ahead, take}
 use Rattle.isle_parser_cursor.specs.declared.cursor.Stop.TheVariants as stops
 

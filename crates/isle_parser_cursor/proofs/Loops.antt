@@ -3,7 +3,7 @@ use Rattle.std.proofs.Common.{◌≡◌, Bool, true, false, List, [], ◌∷◌,
 use Rattle.std.proofs.lemmas.List.{append-nil}
 use Rattle.isle_base.specs.Place.{Placed}
 use Rattle.isle_parser_cursor.specs.declared.cursor.Stop.{Stop}
-use Rattle.isle_parser_cursor.specs.Answers.{Source, Stops}
+use Rattle.isle_parser_cursor.specs.Outcomes.{Source, Stops}
 use Rattle.isle_parser_cursor.specs.Reading.{Reader, ◌>>=◌, many}
 use Rattle.isle_parser_cursor.proofs.Readers.{Shrinks, many_step}
 use Rattle.isle_parser_cursor.specs.declared.cursor.Stop.TheVariants as stops

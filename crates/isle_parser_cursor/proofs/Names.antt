@@ -7,7 +7,7 @@ use Rattle.isle_ast_names.specs.Words.{SpellsName, SpellsAll, InParentheses}
 use Rattle.isle_ast_names.specs.Identifier.{is_identifier}
 use Rattle.isle_ast_names.specs.Tree.{Name}
 use Rattle.isle_parser_cursor.specs.Reading.{◌>>=◌, closes, pos_ahead, expect, text, text_of, many}
-use Rattle.isle_parser_cursor.specs.ReadNames.{name, names}
+use Rattle.isle_parser_cursor.specs.NameReaders.{name, names}
 use Rattle.isle_parser_cursor.proofs.Readers.{Sound, Complete, Begins, Shrinks, bind_some, chosen_some, done_is, shrinks, moved, many_sound, many_complete, stopping_closes, parentheses_sound, parentheses_complete}
 
 -- a symbol, at its position

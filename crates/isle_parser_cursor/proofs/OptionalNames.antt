@@ -5,8 +5,8 @@ use Rattle.isle_base.specs.Token.{is_symbol}
 use Rattle.isle_ast_names.specs.Tree.{Name}
 use Rattle.isle_ast_names.specs.Words.{SpellsName, SpellsOptional}
 use Rattle.isle_parser_cursor.specs.Reading.{◌>>=◌, is_ahead}
-use Rattle.isle_parser_cursor.specs.ReadNames.{name, optional_name}
-use Rattle.isle_parser_cursor.proofs.Choices.{made_of}
+use Rattle.isle_parser_cursor.specs.NameReaders.{name, optional_name}
+use Rattle.isle_parser_cursor.proofs.ReaderSteps.{made_of}
 use Rattle.isle_parser_cursor.proofs.Names.{name_sound, name_read}
 use Rattle.isle_parser_cursor.proofs.Readers.{Sound, chosen, done_is, moved}
 

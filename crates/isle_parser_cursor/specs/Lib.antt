@@ -1,5 +1,5 @@
-pub mod Answers
+pub mod Outcomes
 pub mod Positions
 pub mod Reading
-pub mod ReadNames
-pub mod ReadNumbers
+pub mod NameReaders
+pub mod NumberReaders

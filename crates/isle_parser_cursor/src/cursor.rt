@@ -1,13 +1,17 @@
 //! What is taken off the tokens of a text, one after another.
 
-ghost use Rattle.std.specs.Prelude.{◌≡◌, ◌+◌, ◌<◌, ◌^◌, IfOk, OnOk, option_map, string_bytes, false};
+ghost use Rattle.std.specs.Prelude.{◌≡◌, ◌+◌, ◌<◌, ◌^◌, IfOk, OnOk, option_map, string_bytes};
+ghost use Rattle.std.specs.Prelude.{false};
 ghost use Rattle.isle_ast_names.specs.Words.{is_constant};
 ghost use Rattle.isle_base.specs.Steps.{IsWithin, Rises, is_at_end, is_failed};
 ghost use Rattle.isle_base.specs.Token.{integer, is_int, is_symbol, rparen};
 ghost use Rattle.isle_base.specs.TokenView.{token_of};
-ghost use Rattle.isle_parser_cursor.specs.Answers.{Gives, IsPlace, IsRefusal, IsRefusalAt, place, source, tokens};
-ghost use Rattle.isle_parser_cursor.specs.ReadNumbers.{signed};
-ghost use Rattle.isle_parser_cursor.specs.Reading.{is_const, ends, expect, flag, is_ahead, is_at, is_lparen, is_rparen, is_word, pos_ahead, take, take_if, text, token_ahead};
+ghost use Rattle.isle_parser_cursor.specs.Outcomes.{Gives, IsPlace, IsRefusal, IsRefusalAt, place};
+ghost use Rattle.isle_parser_cursor.specs.Outcomes.{source, tokens};
+ghost use Rattle.isle_parser_cursor.specs.NumberReaders.{signed};
+ghost use Rattle.isle_parser_cursor.specs.Reading.{is_const, ends, expect, flag, is_ahead, is_at};
+ghost use Rattle.isle_parser_cursor.specs.Reading.{is_lparen, is_rparen, is_word, pos_ahead, take};
+ghost use Rattle.isle_parser_cursor.specs.Reading.{take_if, text, token_ahead};
 ghost use Rattle.isle_parser_cursor.specs.declared.cursor.Stop.TheVariants.{Memory};
 
 mod names;
@@ -266,7 +270,8 @@ impl<'src> Cursor<'src> {
     /// Takes off an integer.
     pub fn expect_int(&mut self, alloc: Global) -> Result<i128, Stop>
         ensures same { source self.new ≡ source self.old }
-        ensures gives { Gives (λ value. integer value) (expect is_int (tokens self.old)) result self.new }
+        ensures gives { Gives
+            (λ value. integer value) (expect is_int (tokens self.old)) result self.new }
     {
         let is_wanted = self.is_int();
         match self.take_if(alloc, is_wanted)? {
@@ -276,7 +281,7 @@ impl<'src> Cursor<'src> {
     }
 
     /// An integer, which is always within an `i128`.
-    #[tactic(auto, unfolding(crate::specs::ReadNumbers::signed))]
+    #[tactic(auto, unfolding(crate::specs::NumberReaders::signed))]
     pub fn parse_int(&mut self, alloc: Global) -> Result<i128, Stop>
         ensures same { source self.new ≡ source self.old }
         ensures gives { Gives (λ value. value) (signed 127 (tokens self.old)) result self.new }
@@ -299,14 +304,14 @@ impl<'src> Cursor<'src> {
     }
 }
 
-// Tells whether the text begins with `$`.
+/// Tells whether the text begins with `$`.
 fn begins_constant(text: &str) -> bool
     ensures { result ≡ is_constant text.now }
 {
     text.starts_with('$')
 }
 
-// The message about a token that is not expected, or about the end.
+/// The message about a token that is not expected, or about the end.
 fn unexpected_message(alloc: Global, token: Option<&Token>) -> Result<String, AllocError> {
     match token {
         None => String::from_str(alloc, "Unexpected EOF"),
@@ -318,7 +323,7 @@ fn unexpected_message(alloc: Global, token: Option<&Token>) -> Result<String, Al
     }
 }
 
-// Refuses the byte at this place, where there was memory for the message.
+/// Refuses the byte at this place, where there was memory for the message.
 fn refuse(place: Pos, message: Result<String, AllocError>) -> Stop
     requires { place.offset + 1 < 2 ^ 64 }
     ensures { IsRefusalAt place result }

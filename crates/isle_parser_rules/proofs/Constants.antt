@@ -5,9 +5,9 @@ use Rattle.isle_ast_names.specs.Tree.{Name}
 use Rattle.isle_base.specs.declared.lexer.Pos.{Pos}
 use Rattle.isle_base.specs.Place.{Placed}
 use Rattle.isle_parser_cursor.specs.declared.cursor.Stop.{Stop}
-use Rattle.isle_parser_cursor.specs.Answers.{IsRefusal, Source, Stops}
-use Rattle.isle_parser_cursor.specs.ReadNames.{name}
-use Rattle.isle_parser_rules.specs.ReadConstants.{behind_dollar, constant}
+use Rattle.isle_parser_cursor.specs.Outcomes.{IsRefusal, Source, Stops}
+use Rattle.isle_parser_cursor.specs.NameReaders.{name}
+use Rattle.isle_parser_rules.specs.ConstantReaders.{behind_dollar, constant}
 use Rattle.isle_parser_cursor.proofs.Ahead.{stopped}
 use Rattle.isle_parser_cursor.proofs.SameBytes.{is_false}
 

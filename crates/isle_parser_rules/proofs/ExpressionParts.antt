@@ -9,9 +9,9 @@ use Rattle.isle_ast_rules.specs.declared.ast.Expr.{the_lemmas}
 use Rattle.isle_ast_rules.specs.declared.ast.Expr.TheVariants.{ConstInt}
 use Rattle.isle_ast_rules.specs.TreeView.{expression_of}
 use Rattle.isle_parser_cursor.specs.Reading.{is_ahead, is_lparen, pos_ahead}
-use Rattle.isle_parser_rules.specs.ReadExpressions.{expression, expression_step}
-use Rattle.isle_parser_cursor.specs.ReadNumbers.{signed}
-use Rattle.isle_parser_rules.proofs.ReadsExpressions.{int_read, expression-unfolds}
+use Rattle.isle_parser_rules.specs.ExpressionReaders.{expression, expression_step}
+use Rattle.isle_parser_cursor.specs.NumberReaders.{signed}
+use Rattle.isle_parser_rules.proofs.Reading.Expressions.{int_read, expression-unfolds}
 
 -- an expression is its own step
 pub expression_is : (all : List Placed) → expression all ≡ expression_step expression all

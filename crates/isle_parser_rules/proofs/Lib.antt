@@ -1,11 +1,7 @@
-pub mod ReadsConstants
-pub mod ReadsPatterns
-pub mod ReadsExpressions
+pub mod Constants
+pub mod Reading
 pub mod ExpressionParts
 pub mod PatternParts
+pub mod Positions
 pub mod ReadOnce
-pub mod ReadsConditions
-pub mod ReadsRules
 pub mod RightSides
-pub mod RulePositions
-pub mod Constants

@@ -9,9 +9,9 @@ use Rattle.isle_ast_rules.specs.declared.ast.Pattern.{the_lemmas}
 use Rattle.isle_ast_rules.specs.declared.ast.Pattern.TheVariants.{ConstInt}
 use Rattle.isle_ast_rules.specs.TreeView.{pattern_of}
 use Rattle.isle_parser_cursor.specs.Reading.{is_ahead, pos_ahead}
-use Rattle.isle_parser_cursor.specs.ReadNumbers.{signed}
-use Rattle.isle_parser_rules.specs.ReadPatterns.{pattern, pattern_step}
-use Rattle.isle_parser_rules.proofs.ReadsPatterns.{int_read, pattern-unfolds}
+use Rattle.isle_parser_cursor.specs.NumberReaders.{signed}
+use Rattle.isle_parser_rules.specs.PatternReaders.{pattern, pattern_step}
+use Rattle.isle_parser_rules.proofs.Reading.Patterns.{int_read, pattern-unfolds}
 
 -- a pattern is its own step
 pub pattern_is : (all : List Placed) → pattern all ≡ pattern_step pattern all

@@ -4,8 +4,8 @@ use Rattle.isle_base.specs.Place.{Placed}
 use Rattle.isle_ast_rules.specs.Tree.{PatternNode, Expression}
 use Rattle.isle_ast_rules.specs.ExpressionGrammar.{SpellsExpression}
 use Rattle.isle_ast_rules.specs.PatternGrammar.{SpellsPattern}
-use Rattle.isle_parser_rules.proofs.ReadsExpressions.{expression_complete}
-use Rattle.isle_parser_rules.proofs.ReadsPatterns.{pattern_complete}
+use Rattle.isle_parser_rules.proofs.Reading.Expressions.{expression_complete}
+use Rattle.isle_parser_rules.proofs.Reading.Patterns.{pattern_complete}
 use Rattle.isle_parser_cursor.proofs.Readers.{Goes, done_is}
 
 pub one_pattern : (p q : PatternNode) (all i j : List Placed) → Goes i → Goes j → SpellsPattern p all i → SpellsPattern q all j → (p ≡ q) × (i ≡ j)

@@ -5,10 +5,10 @@ use Rattle.std.proofs.lemmas.List.{append-nil}
 use Rattle.isle_base.specs.Place.{Placed}
 use Rattle.isle_ast_rules.specs.Tree.{Condition, Expression}
 use Rattle.isle_parser_cursor.specs.declared.cursor.Stop.{Stop}
-use Rattle.isle_parser_cursor.specs.Answers.{Source, Stops}
+use Rattle.isle_parser_cursor.specs.Outcomes.{Source, Stops}
 use Rattle.isle_parser_cursor.specs.Reading.{◌>>=◌}
-use Rattle.isle_parser_rules.specs.ReadRules.{condition_part, expression_part, condition_or_expression, RightSide, behind_condition, right_side}
-use Rattle.isle_parser_rules.proofs.ReadsConditions.{right_side_step}
+use Rattle.isle_parser_rules.specs.RuleReaders.{condition_part, expression_part, condition_or_expression, RightSide, behind_condition, right_side}
+use Rattle.isle_parser_rules.proofs.Reading.Conditions.{right_side_step}
 use Rattle.isle_parser_cursor.specs.declared.cursor.Stop.TheVariants as stops
 
 -- a right side with these conditions before its own

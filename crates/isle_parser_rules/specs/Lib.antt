@@ -1,6 +1,6 @@
 pub mod Positions
-pub mod ReadConstants
-pub mod ReadExpressions
-pub mod ReadPatterns
-pub mod ReadRules
+pub mod ConstantReaders
+pub mod ExpressionReaders
+pub mod PatternReaders
+pub mod RuleReaders
 pub mod RuleParts

@@ -1,7 +1,7 @@
 pub mod Positions
-pub mod ReadModels
+pub mod ModelReaders
 pub mod SpecWords
-pub mod ReadSpecs
-pub mod ReadSpecDefinitions
-pub mod SpecHeads
+pub mod SpecReaders
+pub mod SpecDefinitionReaders
+pub mod SpecFormHeads
 pub mod SpecParts

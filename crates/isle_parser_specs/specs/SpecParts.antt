@@ -6,8 +6,8 @@ use Rattle.isle_ast_specs.specs.SpecDefinitionGrammar.{SpecClause, provide_claus
 use Rattle.isle_parser_specs.specs.declared.parser.spec_definitions.Clause.{Clause}
 use Rattle.isle_parser_specs.specs.declared.parser.spec_definitions.Clauses.{Clauses}
 use Rattle.isle_parser_cursor.specs.Reading.{Reader, ◌>>=◌, closes, many}
-use Rattle.isle_parser_specs.specs.ReadSpecDefinitions.{Joined}
-use Rattle.isle_parser_specs.specs.ReadSpecs.{spec_expression, spec_pair}
+use Rattle.isle_parser_specs.specs.SpecDefinitionReaders.{Joined}
+use Rattle.isle_parser_specs.specs.SpecReaders.{spec_expression, spec_pair}
 use Rattle.isle_parser_specs.specs.declared.parser.spec_definitions.Clause.TheVariants as clauses
 
 -- the cases of a `switch`, behind what it looks at

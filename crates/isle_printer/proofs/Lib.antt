@@ -1,5 +1,5 @@
-pub mod DefinitionErased
+pub mod Erased
 pub mod Printing
-pub mod PrintLaw
 pub mod ShapeLaw
-pub mod ShortLinesDefinitions
+pub mod PrintLaw
+pub mod ShortLines

@@ -7,9 +7,9 @@ use Rattle.isle_base.specs.Place.{nowhere, placed}
 use Rattle.isle_base.specs.Skips.{nothing}
 use Rattle.isle_base.specs.Token.{Tok}
 use Rattle.isle_ast.specs.Tree.{Definition}
-use Rattle.isle_ast.proofs.ErasedWritable.{writable-erased}
+use Rattle.isle_ast.proofs.Writable.Erased.{writable-erased}
 use Rattle.isle_ast.proofs.NoMacroArgs.{writable_trees_have_no_macro_arg}
-use Rattle.isle_ast.proofs.SpeltWritable.{spelt_is_writable}
+use Rattle.isle_ast.proofs.Writable.Spelt.{spelt_is_writable}
 use Rattle.isle_ast.specs.Erased.{erase_definition, erase}
 use Rattle.isle_ast.specs.Grammar.{SpellsDefinitions}
 use Rattle.isle_ast.specs.MacroArgs.{definitions_have_macro_arg}
@@ -22,9 +22,9 @@ use Rattle.isle_printer_layout.specs.ReadBack.{TokensOf, Reads, unplaced}
 use Rattle.isle_printer.specs.ReadBack.{ReadsBack, ReadsBackIfWritable, HaveSameTokens}
 use Rattle.isle_printer_layout.proofs.Greedy.{greedy, layout_is_render}
 use Rattle.isle_printer.proofs.Printing.{IsPrinted-from_text, IsPrinted-text, IsPrinted-plain}
-use Rattle.isle_printer.proofs.DefinitionErased.{definition_shape-erased, macro_args-erased}
+use Rattle.isle_printer.proofs.Erased.Definitions.{definition_shape-erased, macro_args-erased}
 use Rattle.isle_printer_layout.proofs.ReadBackLaw.{Lexes-from_reads, render-reads, Reads-blank, is_blank-10, in_symbol-10}
-use Rattle.isle_printer.proofs.ShapeLaw.{spell-definition}
+use Rattle.isle_printer.proofs.ShapeLaw.Definitions.{spell-definition}
 
 -- A text for each width, which reads at every width as the same tokens, and these spell the
 -- definitions, erased.

@@ -4,13 +4,13 @@ use Rattle.std.proofs.lemmas.Bool.{false≢true}
 use Rattle.isle_ast.specs.Tree.{Definition}
 use Rattle.isle_ast.specs.MacroArgs.{definition_has_macro_arg, definitions_have_macro_arg}
 use Rattle.isle_printer_layout.specs.Layout.{layout}
-use Rattle.isle_printer_layout.specs.Lines.{line_ends}
+use Rattle.isle_printer_layout.specs.Lines.{line_end_count}
 use Rattle.isle_printer.specs.Lines.{WiderHasNoMoreLines}
 use Rattle.isle_printer.specs.Printed.{ArePrintedLines, IsPrintedBehind, IsPrinted, definition_text, behind_text, printed_text}
 use Rattle.isle_printer.specs.DefinitionShapes.{definition_shape}
 use Rattle.isle_printer_layout.proofs.Greedy.{layout-IsLayout}
-use Rattle.isle_printer_layout.proofs.Least.{IsLayout-layout, layout-line_ends}
-use Rattle.isle_printer_layout.proofs.LineEnds.{line_ends-append}
+use Rattle.isle_printer_layout.proofs.Least.{IsLayout-layout, layout-line_end_count}
+use Rattle.isle_printer_layout.proofs.LineEnds.{line_end_count-append}
 
 -- where neither holds, both fail
 neither : (a b : Bool) → (a || b) ≡ false → (a ≡ false) × (b ≡ false)
@@ -67,24 +67,24 @@ IsPrinted-text width (d ∷ ds) text (lines, behind, first, rest, e) =
     ∙ ap (λ l. l ++ behind) (ArePrintedLines-text width d lines first)
     ∙ ap (λ l. definition_text width d ++ l) (IsPrintedBehind-text width ds behind rest)
 
-definition_text-line_ends : (narrow wide : ℕ) (d : Definition) → narrow ≤ wide → line_ends (definition_text wide d) ≤ line_ends (definition_text narrow d)
-definition_text-line_ends narrow wide d le =
+definition_text-line_end_count : (narrow wide : ℕ) (d : Definition) → narrow ≤ wide → line_end_count (definition_text wide d) ≤ line_end_count (definition_text narrow d)
+definition_text-line_end_count narrow wide d le =
     let s = definition_shape d in
-    omega (arith, layout-line_ends narrow wide s le, line_ends-append (layout wide s) (10 ∷ []), line_ends-append (layout narrow s) (10 ∷ []))
+    omega (arith, layout-line_end_count narrow wide s le, line_end_count-append (layout wide s) (10 ∷ []), line_end_count-append (layout narrow s) (10 ∷ []))
 
-line_ends-more : (text : List ℕ) → line_ends (10 ∷ text) ≡ 1 + line_ends text
-line_ends-more text = line_ends-append (10 ∷ []) text
+line_end_count-more : (text : List ℕ) → line_end_count (10 ∷ text) ≡ 1 + line_end_count text
+line_end_count-more text = line_end_count-append (10 ∷ []) text
 
-behind_text-line_ends : (narrow wide : ℕ) (ds : List Definition) → narrow ≤ wide → line_ends (behind_text wide ds) ≤ line_ends (behind_text narrow ds)
-behind_text-line_ends narrow wide [] le = omega arith
-behind_text-line_ends narrow wide (d ∷ ds) le =
-    omega (arith, definition_text-line_ends narrow wide d le, behind_text-line_ends narrow wide ds le, line_ends-append (10 ∷ definition_text wide d) (behind_text wide ds), line_ends-append (10 ∷ definition_text narrow d) (behind_text narrow ds), line_ends-more (definition_text wide d), line_ends-more (definition_text narrow d))
+behind_text-line_end_count : (narrow wide : ℕ) (ds : List Definition) → narrow ≤ wide → line_end_count (behind_text wide ds) ≤ line_end_count (behind_text narrow ds)
+behind_text-line_end_count narrow wide [] le = omega arith
+behind_text-line_end_count narrow wide (d ∷ ds) le =
+    omega (arith, definition_text-line_end_count narrow wide d le, behind_text-line_end_count narrow wide ds le, line_end_count-append (10 ∷ definition_text wide d) (behind_text wide ds), line_end_count-append (10 ∷ definition_text narrow d) (behind_text narrow ds), line_end_count-more (definition_text wide d), line_end_count-more (definition_text narrow d))
 
-printed_text-line_ends : (narrow wide : ℕ) (ds : List Definition) → narrow ≤ wide → line_ends (printed_text wide ds) ≤ line_ends (printed_text narrow ds)
-printed_text-line_ends narrow wide [] le = omega arith
-printed_text-line_ends narrow wide (d ∷ ds) le =
-    omega (arith, definition_text-line_ends narrow wide d le, behind_text-line_ends narrow wide ds le, line_ends-append (definition_text wide d) (behind_text wide ds), line_ends-append (definition_text narrow d) (behind_text narrow ds))
+printed_text-line_end_count : (narrow wide : ℕ) (ds : List Definition) → narrow ≤ wide → line_end_count (printed_text wide ds) ≤ line_end_count (printed_text narrow ds)
+printed_text-line_end_count narrow wide [] le = omega arith
+printed_text-line_end_count narrow wide (d ∷ ds) le =
+    omega (arith, definition_text-line_end_count narrow wide d le, behind_text-line_end_count narrow wide ds le, line_end_count-append (definition_text wide d) (behind_text wide ds), line_end_count-append (definition_text narrow d) (behind_text narrow ds))
 
 pub WiderHasNoMoreLines-from_text : (width : ℕ) (ds : List Definition) (text : List ℕ) → text ≡ printed_text width ds → WiderHasNoMoreLines width ds text
 WiderHasNoMoreLines-from_text width ds text e wide other le printed =
-    omega (arith, printed_text-line_ends width wide ds le, ap line_ends e, ap line_ends (IsPrinted-text wide ds other printed))
+    omega (arith, printed_text-line_end_count width wide ds le, ap line_end_count e, ap line_end_count (IsPrinted-text wide ds other printed))

@@ -16,7 +16,8 @@ mod terms;
 mod to_sexpr;
 mod types;
 
-ghost use Rattle.std.specs.Prelude.{◌≡◌, ◌++◌, IfOk, OnOk, IfSome, IsSome, IsErrOf, None, true, false, string_bytes};
+ghost use Rattle.std.specs.Prelude.{◌≡◌, ◌++◌, IfOk, OnOk, IfSome, IsSome, IsErrOf, None, true};
+ghost use Rattle.std.specs.Prelude.{false, string_bytes};
 ghost use Rattle.isle_ast.specs.MacroArgs.{definition_has_macro_arg, definitions_have_macro_arg};
 ghost use Rattle.isle_ast.specs.TreeView.{definition_of, definitions_of};
 ghost use Rattle.isle_ast.specs.Writable.{AreWritable};
@@ -46,16 +47,19 @@ pub use to_sexpr::ToSExpr;
 /// writable, or `Memory`, where a growth was refused. The text begun is dropped then, and nothing
 /// is left of it.
 pub fn print(alloc: Global, defs: &[Def], width: usize) -> Result<String, PrintFault>
+    // What `Ok` holds.
     ensures printed { IfOk result
         (λ text. IsPrinted width (definitions_of defs.now) (string_bytes text)) }
     ensures lines { IfOk result
         (λ text. WiderHasNoMoreLines width (definitions_of defs.now) (string_bytes text)) }
     ensures reads_back { IfOk result
         (λ text. ReadsBack (definitions_of defs.now) (string_bytes text)) }
-    ensures refused { IsErrOf result MacroArg
-        → definitions_have_macro_arg (definitions_of defs.now) ≡ true }
     ensures writable { IfOk result
         (λ text. ReadsBackIfWritable (definitions_of defs.now) (string_bytes text)) }
+
+    // When `MacroArg` comes.
+    ensures refused { IsErrOf result MacroArg
+        → definitions_have_macro_arg (definitions_of defs.now) ≡ true }
     ensures unwritable { IsErrOf result MacroArg → AreWritable (definitions_of defs.now) → ⊥ }
 {
     let mut looks = Looks::new();
@@ -73,11 +77,14 @@ pub fn print(alloc: Global, defs: &[Def], width: usize) -> Result<String, PrintF
 /// where it is, or holds, the argument of a macro. It is `Memory` where a growth was refused. The
 /// text begun is dropped then, and nothing is left of it.
 pub fn print_node<N: ToSExpr>(alloc: Global, node: &N, width: usize) -> Result<String, PrintFault>
+    // What `Ok` holds.
     ensures meant { IfOk result (λ text. IsSome (N.meaning node.now)) }
     ensures layout { IfOk result
         (λ text. IfSome (N.meaning node.now) (λ s. IsLayout width s (string_bytes text))) }
     ensures lines { IfOk result
         (λ text. IfSome (N.meaning node.now) (λ s. HasFewestLines width s (string_bytes text))) }
+
+    // When `MacroArg` comes.
     ensures refused { IsErrOf result MacroArg → N.meaning node.now ≡ None }
 {
     let sexpr = node.to_sexpr(alloc)?;

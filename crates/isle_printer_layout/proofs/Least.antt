@@ -3,10 +3,10 @@
 use Rattle.std.proofs.Common.{◌≡◌, ℕ, ◌+◌, ◌≤◌, List, length, None, Some, refl, sym, ap, ◌∙◌, subst, arith}
 use Rattle.isle_printer_layout.specs.Sexp.{Sexp, Sexps, atom, binding, row, none, more}
 use Rattle.isle_printer_layout.specs.Layout.{layout}
-use Rattle.isle_printer_layout.specs.Lines.{line_ends, HasFewestLines}
+use Rattle.isle_printer_layout.specs.Lines.{line_end_count, HasFewestLines}
 use Rattle.isle_printer_layout.specs.Choices.{Choice, Choices, render, FitsAt, FitsBehind, Fits, IsWithin, AreWithin, IsLeast, IsLayout}
 use Rattle.isle_printer_layout.proofs.Greedy.{greedy, greedy-IsLeast, layout_is_render, layout-IsLayout}
-use Rattle.isle_printer_layout.proofs.LineEnds.{IsWithin-line_ends}
+use Rattle.isle_printer_layout.proofs.LineEnds.{IsWithin-line_end_count}
 
 mutual
   IsWithin-antisym : (s : Sexp) (c d : Choice s) → IsWithin s c d → IsWithin s d c → c ≡ d
@@ -34,8 +34,8 @@ IsLayout-layout width s text is =
     ∙ ap (λ c. render s c 0) (IsLeast-unique width s is.choice (greedy width s 0) is.least (greedy-IsLeast width s))
     ∙ sym (layout_is_render width s)
 
-pub IsLeast-line_ends : (width : ℕ) (s : Sexp) (c d : Choice s) → IsLeast width s c → Fits width s d → line_ends (render s c 0) ≤ line_ends (render s d 0)
-IsLeast-line_ends width s c d least fits = IsWithin-line_ends s c d 0 (least.least d fits)
+pub IsLeast-line_end_count : (width : ℕ) (s : Sexp) (c d : Choice s) → IsLeast width s c → Fits width s d → line_end_count (render s c 0) ≤ line_end_count (render s d 0)
+IsLeast-line_end_count width s c d least fits = IsWithin-line_end_count s c d 0 (least.least d fits)
 
 mutual
   FitsAt-wider : (narrow wide : ℕ) (s : Sexp) (column : ℕ) (c : Choice s) → narrow ≤ wide → FitsAt narrow s column c → FitsAt wide s column c
@@ -54,10 +54,10 @@ mutual
 pub IsLeast-wider : (narrow wide : ℕ) (s : Sexp) (c d : Choice s) → narrow ≤ wide → IsLeast wide s c → IsLeast narrow s d → IsWithin s c d
 IsLeast-wider narrow wide s c d le p q = p.least d (FitsAt-wider narrow wide s 0 d le q.fits)
 
-pub layout-line_ends : (narrow wide : ℕ) (s : Sexp) → narrow ≤ wide → line_ends (layout wide s) ≤ line_ends (layout narrow s)
-layout-line_ends narrow wide s le =
-    let fewer = IsWithin-line_ends s (greedy wide s 0) (greedy narrow s 0) 0 (IsLeast-wider narrow wide s _ _ le (greedy-IsLeast wide s) (greedy-IsLeast narrow s)) in
-    omega (arith, fewer, ap line_ends (layout_is_render wide s), ap line_ends (layout_is_render narrow s))
+pub layout-line_end_count : (narrow wide : ℕ) (s : Sexp) → narrow ≤ wide → line_end_count (layout wide s) ≤ line_end_count (layout narrow s)
+layout-line_end_count narrow wide s le =
+    let fewer = IsWithin-line_end_count s (greedy wide s 0) (greedy narrow s 0) 0 (IsLeast-wider narrow wide s _ _ le (greedy-IsLeast wide s) (greedy-IsLeast narrow s)) in
+    omega (arith, fewer, ap line_end_count (layout_is_render wide s), ap line_end_count (layout_is_render narrow s))
 
 -- the layout of an S-expression, from the recursion
 
@@ -66,4 +66,4 @@ IsLayout-from_layout width s text e = subst (λ t. IsLayout width s t) (sym e) (
 
 pub HasFewestLines-from_layout : (width : ℕ) (s : Sexp) (text : List ℕ) → text ≡ layout width s → HasFewestLines width s text
 HasFewestLines-from_layout width s text e c fits =
-    omega (arith, IsLeast-line_ends width s (greedy width s 0) c (greedy-IsLeast width s) fits, ap line_ends (e ∙ layout_is_render width s))
+    omega (arith, IsLeast-line_end_count width s (greedy width s 0) c (greedy-IsLeast width s) fits, ap line_end_count (e ∙ layout_is_render width s))

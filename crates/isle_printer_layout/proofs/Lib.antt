@@ -1,11 +1,10 @@
+pub mod Erased
 pub mod Greedy
 pub mod Indentation
-pub mod Least
 pub mod LineEnds
-pub mod NamesErased
+pub mod Least
 pub mod NumberAtoms
 pub mod ReadBackLaw
 pub mod ShortLines
-pub mod ShortLinesParts
-pub mod Spellings
 pub mod WordSymbols
+pub mod Spellings

@@ -3,9 +3,9 @@ use Rattle.std.specs.Prelude.{ℕ, ◌≤◌, List, count_by, ◌==◌}
 use Rattle.isle_printer_layout.specs.Choices.{Choice, Fits, render}
 use Rattle.isle_printer_layout.specs.Sexp.{Sexp}
 
-abbrev pub line_ends : List ℕ → ℕ
-line_ends text = count_by (λ b. b == 10) text
+abbrev pub line_end_count : List ℕ → ℕ
+line_end_count text = count_by (λ b. b == 10) text
 
 -- no choice of broken lists that fits the width has fewer lines
 abbrev pub HasFewestLines : ℕ → Sexp → List ℕ → Type 0
-HasFewestLines width s text = (c : Choice s) → Fits width s c → line_ends text ≤ line_ends (render s c 0)
+HasFewestLines width s text = (c : Choice s) → Fits width s c → line_end_count text ≤ line_end_count (render s c 0)

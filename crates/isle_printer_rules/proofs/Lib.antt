@@ -1,3 +1,3 @@
-pub mod RuleErased
-pub mod RuleShapeLaw
-pub mod ShortLinesRules
+pub mod Erased
+pub mod ShapeLaw
+pub mod ShortLines

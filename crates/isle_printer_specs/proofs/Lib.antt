@@ -1,8 +1,6 @@
 pub mod BitVectorAtoms
-pub mod ModelShapeLaw
+pub mod Erased
 pub mod OperatorSymbols
 pub mod RadixTexts
-pub mod ShortLinesSpecs
-pub mod SpecShapeLaw
-pub mod SpecDefinitionShapeLaw
-pub mod SpecErased
+pub mod ShapeLaw
+pub mod ShortLines

@@ -1,28 +1,27 @@
 -- The print of the one tree that a text spells, from what lexer, parser and printer promise.
-use Rattle.std.proofs.Common.{◌≡◌, ℕ, ◌≤◌, length, List, [], Ok, Err, true, refl, sym, ◌∙◌, subst, arith}
+use Rattle.std.proofs.Common.{◌≡◌, ℕ, ◌≤◌, length, List, [], refl, sym, subst, arith}
 use Rattle.isle_base.specs.declared.lexer.Pos.{Pos}
 use Rattle.isle_base.specs.Lexing.{lexes}
 use Rattle.isle_base.specs.Place.{nowhere, placed}
 use Rattle.isle_base.specs.Token.{end, fault, Feed}
 use Rattle.isle_base.proofs.Complete.{Lexes-unique}
-use Rattle.isle_parser.proofs.Definitions.{one_list}
+use Rattle.isle_parser.proofs.Reading.Definitions.{one_list}
 use Rattle.isle_ast.specs.Tree.{Definition}
 use Rattle.isle_ast.specs.Erased.{erase}
 use Rattle.isle_ast.specs.Grammar.{SpellsDefinitions}
 use Rattle.isle_ast.specs.Spelt.{Spells, IsSpelt}
 use Rattle.isle_ast.proofs.Erasing.{text_erased}
 use Rattle.isle_printer.specs.Printed.{IsPrinted}
-use Rattle.isle_ast.proofs.SpeltWritable.{spelt_is_writable}
+use Rattle.isle_ast.proofs.Writable.Spelt.{spelt_is_writable}
 use Rattle.isle_printer.proofs.Printing.{IsPrinted-text, WiderHasNoMoreLines-from_text}
 use Rattle.isle_printer.proofs.PrintLaw.{IsPrinted-ReadsBack, IsPrinted-erased, IsPrinted-tokens}
-use Rattle.isle_printer.proofs.ShortLinesDefinitions.{IsPrinted-HasShortLines}
+use Rattle.isle_printer.proofs.ShortLines.Definitions.{IsPrinted-HasShortLines}
 use Rattle.isle_parser.specs.Parsed.{RefusesText}
-use Rattle.isle_parser_cursor.specs.Answers.{RefusesIn}
+use Rattle.isle_parser_cursor.specs.Outcomes.{RefusesIn}
 use Rattle.isle_base.specs.declared.lexer.Fault.{Fault}
 use Rattle.isle_base.specs.declared.lexer.Fault.TheVariants as faults
-use Rattle.isle_base.specs.Steps.{Starts, is_failed}
-use Rattle.std.proofs.lemmas.Bool.{false≢true}
-use Rattle.isle_syntax.specs.Format.{IsFormatted, IsRefused, Formats}
+use Rattle.isle_base.specs.Steps.{IfError, RefusesStart}
+use Rattle.isle_syntax.specs.Format.{IsFormatted, IsRefused, OfItsTree}
 
 -- what is spelt in some places is spelt erased
 IsSpelt-erased : (place : ℕ → Pos) (text : List ℕ) (ds : List Definition) → IsSpelt place text ds → IsSpelt nowhere text (erase ds)
@@ -87,23 +86,33 @@ IsSpelt-Spells text feed ds l s =
     let same = Lexes-unique (length text) text s.0 feed.coming end feed.ending s.1 l in
     (sym same.1, subst (λ tokens. SpellsDefinitions ds (placed nowhere tokens)) same.0 s.2)
 
--- why there is no lexer of the text, as an answer of `format`
-pub Formats-no_lexer : (width : ℕ) (text : List ℕ) (f : Fault) → Starts 0 text (Err f) → Formats width text (Err f)
-Formats-no_lexer width text (faults.Error e) s =
+-- A text that begins with a fault is refused there.
+pub refused_start : (text : List ℕ) (f : Fault) → IfError (RefusesStart 0 text) f
+    → IfError (λ e. IsRefused text × RefusesIn 0 (length text) e) f
+refused_start text (faults.Error e) s =
     (IsRefused-from text (fault_spells_nothing text s.0 s.1), (s.0, fault_within text s.0 s.1, s.2))
-Formats-no_lexer width text faults.Failed s = s
-Formats-no_lexer width text faults.Memory s = tt
+refused_start text faults.Failed s = tt
+refused_start text faults.Memory s = tt
 
--- why there is no tree of the text
-pub Formats-no_tree : (width : ℕ) (text : List ℕ) (feed : Feed) (f : Fault) → Starts 0 text (Ok feed) → RefusesText nowhere feed f → (f ≡ faults.Failed → is_failed feed ≡ true) → Formats width text (Err f)
-Formats-no_tree width text feed (faults.Error e) s refused failed = (
-  IsRefused-from text (λ ds spelt. refused.0 ds (IsSpelt-Spells text feed ds s.3 spelt)),
-  subst (λ size. RefusesIn 0 size e) s.1 (subst (λ file. RefusesIn file feed.size e) s.0 refused.1),
+-- A text of whose lexer the parser makes no tree is refused where the parser refuses it.
+pub refused_tree : (text : List ℕ) (feed : Feed) (f : Fault) → feed.file ≡ 0 → feed.size ≡ length text
+    → lexes text feed.coming feed.ending → RefusesText nowhere feed f
+    → IfError (λ e. IsRefused text × RefusesIn 0 (length text) e) f
+refused_tree text feed (faults.Error e) file size l refused = (
+  IsRefused-from text (λ ds spelt. refused.0 ds (IsSpelt-Spells text feed ds l spelt)),
+  subst (λ size. RefusesIn 0 size e) size (subst (λ file. RefusesIn file feed.size e) file refused.1),
 )
-Formats-no_tree width text feed faults.Failed s refused failed = false≢true (sym s.2 ∙ failed refl)
-Formats-no_tree width text feed faults.Memory s refused failed = tt
+refused_tree text feed faults.Failed file size l refused = tt
+refused_tree text feed faults.Memory file size l refused = tt
+
+-- what holds of the one tree of a text holds of each tree that it spells
+pub of_its_tree : (P : List Definition → Type 0) (text : List ℕ) (tree : List Definition)
+    → IsSpelt nowhere text tree → P tree → OfItsTree text P
+of_its_tree P text tree s p other t = subst P (IsSpelt-one text tree other s t) p
 
 -- the print of the tree
-pub Formats-print : (width : ℕ) (text answer : List ℕ) (feed : Feed) (tree : List Definition) → Starts 0 text (Ok feed) → Spells nowhere feed tree → IsPrinted width tree answer → IsFormatted width text answer
-Formats-print width text answer feed tree s spelt is =
-    IsFormatted-from width text answer tree (Spells-IsSpelt text feed tree s.3 spelt) is
+pub formatted : (width : ℕ) (text answer : List ℕ) (feed : Feed) (tree : List Definition)
+    → lexes text feed.coming feed.ending → Spells nowhere feed tree → IsPrinted width tree answer
+    → IsFormatted width text answer
+formatted width text answer feed tree l spelt is =
+    IsFormatted-from width text answer tree (Spells-IsSpelt text feed tree l spelt) is

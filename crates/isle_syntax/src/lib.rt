@@ -4,7 +4,17 @@
 //! `cranelift-isle`, whose behaviour they follow.
 #![tactic(auto)]
 
-ghost use Rattle.isle_syntax.specs.Format.{Formats};
+ghost use Rattle.std.specs.Prelude.{◌≢◌, ◌≤◌, Err, IfErr, IfOk, length, string_bytes};
+ghost use Rattle.isle_ast.specs.Spelt.{IsSpelt};
+ghost use Rattle.isle_base.specs.Place.{nowhere};
+ghost use Rattle.isle_base.specs.Steps.{IfError};
+ghost use Rattle.isle_base.specs.declared.lexer.Fault.TheVariants.{Failed};
+ghost use Rattle.isle_parser_cursor.specs.Outcomes.{RefusesIn};
+ghost use Rattle.isle_printer.specs.Lines.{WiderHasNoMoreLines};
+ghost use Rattle.isle_printer.specs.Printed.{IsPrinted};
+ghost use Rattle.isle_printer_layout.specs.ShortLines.{HasShortLines};
+ghost use Rattle.isle_syntax.specs.Format.{HasPrintOfItsOwn, IsOnlyTree, IsRefused, OfItsTree};
+ghost use Rattle.isle_syntax.specs.Format.{ReadsBackAtOtherWidths, SpellsTree};
 
 pub use isle_ast::ast;
 use isle_base::lexer::{Fault, Lexer};
@@ -17,21 +27,44 @@ use std::alloc::Global;
 
 /// Formats a text of ISLE: the print, at this width in bytes, of the one tree that the text spells.
 ///
-/// The promise: for every text and every width, want of memory aside, `parse` and `parse_without_pos` accept
-/// exactly the texts that the grammar of ISLE spells and give the one tree so spelt; two accepted texts spell
-/// the same tree, positions erased, exactly if their prints at that width are equal bytes, and such a print is
-/// accepted and prints as itself.
+/// The promise: for every text and every width, want of memory aside, `parse` and
+/// `parse_without_pos` accept exactly the texts that the grammar of ISLE spells and give the one
+/// tree so spelt; two accepted texts spell the same tree, positions erased, exactly if their prints
+/// at that width are equal bytes, and such a print is accepted and prints as itself.
 ///
-/// Comments and blank lines are no part of the tree, so they go. The answer is accepted and formats to
-/// itself at this width; another text has the same answer exactly if it spells the same tree,
-/// positions aside. From width 1 on, a line of the answer on which a list stands whole has at most the width, its
-/// indentation and one byte for each empty list on it; at a greater width the answer has no more lines. At
-/// every other width the print of the tree is spelt by it too, and has the same tokens, offsets aside.
+/// Comments and blank lines are no part of the tree, so they go. The answer is accepted and formats
+/// to itself at this width; another text has the same answer exactly if it spells the same tree,
+/// positions aside. From width 1 on, a line of the answer on which a list stands whole has at most
+/// the width, its indentation and one byte for each empty list on it; at a greater width the answer
+/// has no more lines. At every other width the print of the tree is spelt by it too, and has the
+/// same tokens, offsets aside.
 ///
-/// `Error` comes where no tree is spelt by the text: it is a parse error whose span begins in file 0, at
-/// a byte of the text or at its end. `Memory` comes where a growth was refused. `Failed` never comes.
+/// `Error` comes where no tree is spelt by the text: it is a parse error whose span begins in file
+/// 0, at a byte of the text or at its end. `Memory` comes where a growth was refused. `Failed`
+/// never comes.
 pub fn format(alloc: Global, text: &str, width: usize) -> Result<String, Fault>
-    ensures { Formats width text.now result }
+    // What `Ok` holds: the text spells one tree, positions erased.
+    ensures spelt { IfOk result (λ _. SpellsTree text.now) }
+    ensures only { IfOk result (λ _. OfItsTree text.now (IsOnlyTree text.now)) }
+    // The answer is its print, which is accepted and prints as itself.
+    ensures printed { IfOk result (λ answer. OfItsTree text.now
+        (λ tree. IsPrinted width tree (string_bytes answer))) }
+    ensures read_back { IfOk result (λ answer. OfItsTree text.now
+        (IsSpelt nowhere (string_bytes answer))) }
+    ensures equal_prints { IfOk result (λ answer. OfItsTree text.now
+        (HasPrintOfItsOwn width (string_bytes answer))) }
+    // How long its lines are, and what other widths give.
+    ensures short_lines { IfOk result (λ answer. 1 ≤ width
+        → HasShortLines width (string_bytes answer)) }
+    ensures fewer_lines { IfOk result (λ answer. OfItsTree text.now
+        (λ tree. WiderHasNoMoreLines width tree (string_bytes answer))) }
+    ensures other_widths { IfOk result (λ answer. OfItsTree text.now
+        (ReadsBackAtOtherWidths (string_bytes answer))) }
+
+    // When each error comes.
+    ensures refused { IfErr result (IfError (λ e.
+        IsRefused text.now × RefusesIn 0 (length text.now) e)) }
+    ensures never_failed { result ≢ Err Failed }
 {
     let lexer = Lexer::new(alloc, 0, text)?;
     let defs = parse_without_pos(alloc, lexer)?;

@@ -1,8 +1,14 @@
-//! Copies of definitions and of their parts. A copy is the same tree, its positions included. The error
-//! of each `clone` is want of memory.
+//! Copies of definitions and of their parts. A copy is the same tree, its positions included. The
+//! error of each `clone` is want of memory.
 
 ghost use Rattle.std.specs.Prelude.{◌≡◌, IfOk};
-ghost use Rattle.isle_ast.specs.TreeView.{attribute_of, conversion_of, declaration_of, definition_of, extern_of, fields_of, form_of, indexed_field_of, instantiation_of, kind_of, model_content_of, model_definition_of, named_field_of, signature_of, struct_fields_of, target_of, tuple_fields_of, type_content_of, type_definition_of, variant_of};
+ghost use Rattle.isle_ast.specs.TreeView.{attribute_of, conversion_of, declaration_of};
+ghost use Rattle.isle_ast.specs.TreeView.{definition_of, extern_of, fields_of, form_of};
+ghost use Rattle.isle_ast.specs.TreeView.{indexed_field_of, instantiation_of, kind_of};
+ghost use Rattle.isle_ast.specs.TreeView.{model_content_of, model_definition_of, named_field_of};
+ghost use Rattle.isle_ast.specs.TreeView.{signature_of, struct_fields_of, target_of};
+ghost use Rattle.isle_ast.specs.TreeView.{tuple_fields_of, type_content_of, type_definition_of};
+ghost use Rattle.isle_ast.specs.TreeView.{variant_of};
 
 use crate::ast::{
     Attr, AttrKind, AttrTarget, Converter, Decl, Def, Extern, Fields, Form, Instantiation, Model,

@@ -3,10 +3,11 @@
 //! The grammar says which tokens spell which definition, as the ISLE reference describes them:
 //!
 //! - `(type I MOD.. VALUE)`, the modifiers `extern` and `nodebug` in any order and repeated;
-//! - `(rule I N P CONDITION.. X)`, where the name I and the priority N may each be absent, and a condition
-//!   is `(if-let P X)` or `(if X)`, which matches a wildcard;
+//! - `(rule I N P CONDITION.. X)`, where the name I and the priority N may each be absent, and a
+//!   condition is `(if-let P X)` or `(if X)`, which matches a wildcard;
 //! - `(extractor (I I..) P)`: the term with its parameters, and the pattern that it stands for;
-//! - `(decl I (I..) I)` with the flags `pure`, `multi`, `partial` and `rec` in this order behind `decl`;
+//! - `(decl I (I..) I)` with the flags `pure`, `multi`, `partial` and `rec` in this order behind
+//!   `decl`;
 //! - `(attr I KIND..)` of a term, `(attr rule I KIND..)` of a rule;
 //! - `(spec (I I..) CLAUSE..)`, the clauses `(provide E..)`, `(require E..)`, `(match E..)` and
 //!   `(modifies I [I])` in any order and repeated;
@@ -19,24 +20,25 @@
 //! - `(convert I I I)`: the inner type, the outer type, the term.
 //!
 //! A pattern P is a variable, `I @ P`, `true` or `false`, an integer, a constant, `(I P..)`, `_` or
-//! `(and P..)`. An expression X is `(I X..)`, a variable, `true` or `false`, an integer, a constant or
-//! `(let ((I I X)..) X)`, where each variable has a type and a value. A constant is a `$` and its name,
-//! which may be empty. An integer is one of 128 bits, and a priority one of 64, both with a sign. The
-//! argument of a macro is spelt by nothing.
+//! `(and P..)`. An expression X is `(I X..)`, a variable, `true` or `false`, an integer, a constant
+//! or `(let ((I I X)..) X)`, where each variable has a type and a value. A constant is a `$` and
+//! its name, which may be empty. An integer is one of 128 bits, and a priority one of 64, both with
+//! a sign. The argument of a macro is spelt by nothing.
 //!
-//! A spec expression E is an integer, a bit vector, `true` or `false`, a variable, `(as E MODEL)`, `(:I E)`,
-//! `(I? E)`, `(OPERATOR E..)`, `(switch E (E E)..)`, `(match E ((I I..) E)..)`, `(let ((I E)..) E)`,
-//! `(with (I..) E)`, `(macro (I..) E)`, `(I! E..)`, `(I.I E..)` or `(struct (I E)..)`. A bit vector is `#b` and
-//! binary digits, or `#x` and hexadecimal ones, below 2^128. No text has the operator `-`, which begins a
-//! number. In `(I.I E..)` the first name holds no dot, and both together are no operator.
+//! A spec expression E is an integer, a bit vector, `true` or `false`, a variable, `(as E MODEL)`,
+//! `(:I E)`, `(I? E)`, `(OPERATOR E..)`, `(switch E (E E)..)`, `(match E ((I I..) E)..)`, `(let ((I
+//! E)..) E)`, `(with (I..) E)`, `(macro (I..) E)`, `(I! E..)`, `(I.I E..)` or `(struct (I E)..)`. A
+//! bit vector is `#b` and binary digits, or `#x` and hexadecimal ones, below 2^128. No text has the
+//! operator `-`, which begins a number. In `(I.I E..)` the first name holds no dot, and both
+//! together are no operator.
 //!
-//! A name that would be read as a word of its definition wants what is read: a term of a declaration
-//! that is the word of a flag wants that flag, or a later one, to be set; a term of an attribute isn't
-//! named `rule`; an extracted term named `infallible` wants that flag. A variable isn't `true` or `false` and
-//! doesn't begin with `$`, and in a pattern it isn't `_`; the term of a pattern isn't named `and`, and that
-//! of an expression isn't named `let`. A rule without a name and a priority has a term or an `and` for its
-//! pattern, a rule without a priority has no integer for it, and the expression of a rule is no term named
-//! `if`.
+//! A name that would be read as a word of its definition wants what is read: a term of a
+//! declaration that is the word of a flag wants that flag, or a later one, to be set; a term of an
+//! attribute isn't named `rule`; an extracted term named `infallible` wants that flag. A variable
+//! isn't `true` or `false` and doesn't begin with `$`, and in a pattern it isn't `_`; the term of a
+//! pattern isn't named `and`, and that of an expression isn't named `let`. A rule without a name
+//! and a priority has a term or an `and` for its pattern, a rule without a priority has no integer
+//! for it, and the expression of a rule is no term named `if`.
 
 ghost use Rattle.std.specs.Prelude.{◌≡◌, ◌↔◌, ℕ, List, IsTrue, false};
 ghost use Rattle.isle_base.specs.declared.lexer.Pos.{Pos};
@@ -45,24 +47,39 @@ ghost use Rattle.isle_base.specs.Token.{Feed};
 ghost use Rattle.isle_ast_names.specs.Parts.{AreParts, IsByParts};
 ghost use Rattle.isle_ast_names.specs.Tree.{Name};
 ghost use Rattle.isle_ast_names.specs.Words.{SpellsAll, SpellsName};
-ghost use Rattle.isle_ast_specs.specs.SpecDefinitionGrammar.{SpellsSpecDefinition, SpellsSpecMacro, SpellsState};
+ghost use Rattle.isle_ast_specs.specs.SpecDefinitionGrammar.{SpellsSpecDefinition, SpellsSpecMacro};
+ghost use Rattle.isle_ast_specs.specs.SpecDefinitionGrammar.{SpellsState};
 ghost use Rattle.isle_ast_specs.specs.SpecGrammar.{SpellsSpec};
-ghost use Rattle.isle_ast_specs.specs.Tree.{SpecDefinition, SpecMacroDefinition, SpecNode, StateDefinition, TypeModel};
-ghost use Rattle.isle_ast_specs.specs.TreeView.{modified_of, single_arm_of, single_field_init_of, single_model_field_of, spec_definition_of, spec_macro_of, spec_of, state_of, type_model_of};
+ghost use Rattle.isle_ast_specs.specs.Tree.{SpecDefinition, SpecMacroDefinition, SpecNode};
+ghost use Rattle.isle_ast_specs.specs.Tree.{StateDefinition, TypeModel};
+ghost use Rattle.isle_ast_specs.specs.TreeView.{modified_of, single_arm_of, single_field_init_of};
+ghost use Rattle.isle_ast_specs.specs.TreeView.{single_model_field_of, spec_definition_of};
+ghost use Rattle.isle_ast_specs.specs.TreeView.{spec_macro_of, spec_of, state_of, type_model_of};
 ghost use Rattle.isle_ast_specs.specs.TypeModelGrammar.{SpellsTypeModel};
 ghost use Rattle.isle_ast_rules.specs.ExpressionGrammar.{SpellsExpression};
 ghost use Rattle.isle_ast_rules.specs.PatternGrammar.{SpellsPattern};
 ghost use Rattle.isle_ast_rules.specs.RuleGrammar.{SpellsCondition, SpellsExtractor, SpellsRule};
-ghost use Rattle.isle_ast_rules.specs.Tree.{Condition, Expression, ExtractorDefinition, PatternNode, RuleDefinition};
-ghost use Rattle.isle_ast_rules.specs.TreeView.{condition_of, expression_of, extractor_of, pattern_of, rule_of, single_let_of};
+ghost use Rattle.isle_ast_rules.specs.Tree.{Condition, Expression, ExtractorDefinition};
+ghost use Rattle.isle_ast_rules.specs.Tree.{PatternNode, RuleDefinition};
+ghost use Rattle.isle_ast_rules.specs.TreeView.{condition_of, expression_of, extractor_of};
+ghost use Rattle.isle_ast_rules.specs.TreeView.{pattern_of, rule_of, single_let_of};
 ghost use Rattle.isle_ast.specs.Erased.{erase};
 ghost use Rattle.isle_ast.specs.Grammar.{SpellsDefinition, SpellsDefinitions};
 ghost use Rattle.isle_ast.specs.MacroArgs.{definitions_have_macro_arg};
 ghost use Rattle.isle_ast.specs.ModelGrammar.{SpellsForm, SpellsInstantiation, SpellsModel};
 ghost use Rattle.isle_ast.specs.Spelt.{Spells};
-ghost use Rattle.isle_ast.specs.TermGrammar.{SpellsAttribute, SpellsConversion, SpellsDeclaration, SpellsExtern};
-ghost use Rattle.isle_ast.specs.Tree.{Attribute, Conversion, Declaration, Definition, ExternDefinition, FormDefinition, ModelDefinition, TermInstantiation, TypeDefinition};
-ghost use Rattle.isle_ast.specs.TreeView.{attribute_of, conversion_of, declaration_of, definition_of, extern_of, fields_of, form_of, indexed_field_of, instantiation_of, kind_of, model_content_of, model_definition_of, named_field_of, signature_of, struct_fields_of, target_of, tuple_fields_of, type_content_of, type_definition_of, variant_of};
+ghost use Rattle.isle_ast.specs.TermGrammar.{SpellsAttribute, SpellsConversion, SpellsDeclaration};
+ghost use Rattle.isle_ast.specs.TermGrammar.{SpellsExtern};
+ghost use Rattle.isle_ast.specs.Tree.{Attribute, Conversion, Declaration, Definition};
+ghost use Rattle.isle_ast.specs.Tree.{ExternDefinition, FormDefinition, ModelDefinition};
+ghost use Rattle.isle_ast.specs.Tree.{TermInstantiation, TypeDefinition};
+ghost use Rattle.isle_ast.specs.TreeView.{attribute_of, conversion_of, declaration_of};
+ghost use Rattle.isle_ast.specs.TreeView.{definition_of, extern_of, fields_of, form_of};
+ghost use Rattle.isle_ast.specs.TreeView.{indexed_field_of, instantiation_of, kind_of};
+ghost use Rattle.isle_ast.specs.TreeView.{model_content_of, model_definition_of, named_field_of};
+ghost use Rattle.isle_ast.specs.TreeView.{signature_of, struct_fields_of, target_of};
+ghost use Rattle.isle_ast.specs.TreeView.{tuple_fields_of, type_content_of, type_definition_of};
+ghost use Rattle.isle_ast.specs.TreeView.{variant_of};
 ghost use Rattle.isle_ast.specs.TypeGrammar.{SpellsTypeDefinition};
 ghost use Rattle.isle_ast.specs.Writable.{AreWritable};
 
@@ -74,9 +91,9 @@ use crate::ast::{
 };
 pub use isle_ast_names::ast::laws::{identifiers_are_ordered, identifiers_are_symbols};
 
-/// A law, which runs no code: what spells a node in front of some tokens is a part of the list, and it spells the node in
-/// front of any others too. So the tokens that spell a list of definitions are cut into as many parts
-/// as there are definitions, and each part spells its own.
+/// A law, which runs no code: what spells a node in front of some tokens is a part of the list, and
+/// it spells the node in front of any others too. So the tokens that spell a list of definitions
+/// are cut into as many parts as there are definitions, and each part spells its own.
 pub fn spellings_are_parts()
     ensures names { (name : Name) → IsByParts (SpellsName name) }
     ensures rows_of_names { (names : List Name) → IsByParts (SpellsAll SpellsName names) }
@@ -103,9 +120,10 @@ pub fn spellings_are_parts()
         → SpellsDefinitions ds all ↔ AreParts SpellsDefinition ds all }
 {}
 
-/// A law, which runs no code: a text spells a tree with positions exactly where it spells the erased tree, with the default
-/// position in place of every other. So reading a text without positions accepts what reading it with
-/// positions accepts, and gives the same tree, erased; and the tokens settle the positions.
+/// A law, which runs no code: a text spells a tree with positions exactly where it spells the
+/// erased tree, with the default position in place of every other. So reading a text without
+/// positions accepts what reading it with positions accepts, and gives the same tree, erased; and
+/// the tokens settle the positions.
 pub fn spellings_are_erased()
     ensures erased { (place : ℕ → Pos) (text : Feed) (ds : List Definition)
         → Spells place text ds → Spells nowhere text (erase ds) }
@@ -115,8 +133,9 @@ pub fn spellings_are_erased()
         → Spells place text ds → Spells place text es → erase ds ≡ erase es → ds ≡ es }
 {}
 
-/// A law, which runs no code: a tree that some tokens spell is writable, that is, it meets the conditions on each node under
-/// which a tree is written so that it reads back; and it holds no argument of a macro.
+/// A law, which runs no code: a tree that some tokens spell is writable, that is, it meets the
+/// conditions on each node under which a tree is written so that it reads back; and it holds no
+/// argument of a macro.
 pub fn spelt_trees_are_writable()
     ensures writable { (ds : List Definition) (all : List Placed)
         → SpellsDefinitions ds all → AreWritable ds }
@@ -124,7 +143,8 @@ pub fn spelt_trees_are_writable()
         → SpellsDefinitions ds all → definitions_have_macro_arg ds ≡ false }
 {}
 
-/// A law, which runs no code: positions play no part in what is writable. A tree is writable exactly if it is once erased.
+/// A law, which runs no code: positions play no part in what is writable. A tree is writable
+/// exactly if it is once erased.
 pub fn erasing_keeps_writable()
     ensures { (ds : List Definition) → AreWritable (erase ds) ↔ AreWritable ds }
 {}

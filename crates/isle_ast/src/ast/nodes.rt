@@ -1,5 +1,5 @@
-//! What is said of one definition: whether it holds the argument of a macro. No text spells one, so a tree
-//! that holds one isn't written. Beside it stands the full name of a variant.
+//! What is said of one definition: whether it holds the argument of a macro. No text spells one, so
+//! a tree that holds one isn't written. Beside it stands the full name of a variant.
 
 ghost use Rattle.std.specs.Prelude.{◌≡◌, IfOk};
 ghost use Rattle.isle_ast_names.specs.TreeView.{name_of};
@@ -36,8 +36,8 @@ impl Def {
 }
 
 impl Variant {
-    /// Gives the full name of a variant of an enum type: the enum's name, a dot and the variant's name, at the
-    /// position of the variant's name.
+    /// Gives the full name of a variant of an enum type: the enum's name, a dot and the variant's
+    /// name, at the position of the variant's name.
     ///
     /// The error is want of memory.
     pub fn full_name(
@@ -45,7 +45,8 @@ impl Variant {
         enum_name: &Ident,
         variant_name: &Ident,
     ) -> Result<Ident, AllocError>
-        ensures { IfOk result (λ name. name_of name ≡ full_name (name_of enum_name.now) (name_of variant_name.now)) }
+        ensures { IfOk result
+            (λ name. name_of name ≡ full_name (name_of enum_name.now) (name_of variant_name.now)) }
     {
         let text = format!(in alloc; "{}.{}", enum_name.0, variant_name.0)?;
         Ok(Ident(text, variant_name.1))

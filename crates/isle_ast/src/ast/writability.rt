@@ -1,10 +1,10 @@
-//! Which trees are written so that they read back: the conditions on each node, tested node by node. Positions
-//! play no part, and nothing is printed. No call takes memory.
+//! Which trees are written so that they read back: the conditions on each node, tested node by
+//! node. Positions play no part, and nothing is printed. No call takes memory.
 
 ghost use Rattle.std.specs.Prelude.{◌≡◌, ◌↔◌, IsTrue};
 ghost use Rattle.isle_ast.specs.TreeView.{definition_of, definitions_of};
 ghost use Rattle.isle_ast.specs.Writable.{AreWritable, IsWritable};
-ghost use Rattle.isle_ast.specs.WritableTests.{are_writable, is_writable};
+ghost use Rattle.isle_ast.specs.WritableDeciders.{are_writable, is_writable};
 
 mod models;
 mod terms;

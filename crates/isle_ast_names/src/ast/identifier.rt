@@ -1,15 +1,17 @@
 //! Which texts are identifiers.
 //!
-//! An identifier is a text that isn't empty, whose first character is a letter, `_` or `$`, and whose
-//! other characters are letters, digits, `_`, `.` or `$`. Among the ASCII characters the letters are
-//! `A` to `Z` and `a` to `z` and the digits `0` to `9`. Past ASCII a letter is an Alphabetic character
-//! of Unicode 18.0, and a digit one of its categories Nd, Nl and No. That is the rule of upstream's
-//! parser, which asks Rust for letters and numbers, with the tables of the crate `unicode`.
+//! An identifier is a text that isn't empty, whose first character is a letter, `_` or `$`, and
+//! whose other characters are letters, digits, `_`, `.` or `$`. Among the ASCII characters the
+//! letters are `A` to `Z` and `a` to `z` and the digits `0` to `9`. Past ASCII a letter is an
+//! Alphabetic character of Unicode 18.0, and a digit one of its categories Nd, Nl and No. That is
+//! the rule of upstream's parser, which asks Rust for letters and numbers, with the tables of the
+//! crate `unicode`.
 
 ghost use Rattle.std.specs.Prelude.{◌≡◌, drop, slice_get};
 ghost use Rattle.std.specs.List.{list_all};
 ghost use Rattle.std.specs.Str.{chars};
-ghost use Rattle.isle_ast_names.specs.Identifier.{begins_identifier, continues_identifier, is_digit, is_identifier, is_letter, is_number};
+ghost use Rattle.isle_ast_names.specs.Identifier.{begins_identifier, continues_identifier};
+ghost use Rattle.isle_ast_names.specs.Identifier.{is_digit, is_identifier, is_letter, is_number};
 
 use unicode::properties::{GeneralCategory, is_alphabetic};
 
@@ -30,8 +32,8 @@ pub fn begins_identifier(c: char) -> bool
     is_letter(c) || c == '_' || c == '$'
 }
 
-/// Tells whether a character may stand in an identifier behind the first one: a letter, a digit, `_`,
-/// `.` or `$`.
+/// Tells whether a character may stand in an identifier behind the first one: a letter, a digit,
+/// `_`, `.` or `$`.
 pub fn continues_identifier(c: char) -> bool
     ensures { result ≡ continues_identifier c }
 {

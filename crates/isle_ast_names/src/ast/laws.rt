@@ -13,8 +13,8 @@ ghost use Rattle.isle_ast_names.specs.TreeView.{name_of};
 use crate::ast::Ident;
 use std::hash::Hash;
 
-/// A law, which runs no code: the order, the equality and the hash of identifiers are of their texts
-/// and positions alone, and agree.
+/// A law, which runs no code: the order, the equality and the hash of identifiers are of their
+/// texts and positions alone, and agree.
 pub fn identifiers_are_ordered()
     ensures order { (a b : Ident) → ⟦<Ident as Ord>⟧.cmp a b ≡ name_cmp (name_of a) (name_of b) }
     ensures partial_order { (a b : Ident)
@@ -27,12 +27,14 @@ pub fn identifiers_are_ordered()
         → ⟦<Ident as Hash>⟧.hash_input a ≡ ⟦<Ident as Hash>⟧.hash_input b }
 {}
 
-/// A law, which runs no code: no byte of an identifier ends a symbol, and its first byte begins one. So
-/// where a byte that ends symbols follows an identifier, or the end of the text, it is read as one
-/// symbol.
+/// A law, which runs no code: no byte of an identifier ends a symbol, and its first byte begins
+/// one. So where a byte that ends symbols follows an identifier, or the end of the text, it is read
+/// as one symbol.
 pub fn identifiers_are_symbols()
-    ensures begins { (text : List ℕ) → is_identifier text ≡ true → begins_with begins_symbol text ≡ true }
-    ensures none_ends { (text : List ℕ) → is_identifier text ≡ true → list_all in_symbol text ≡ true }
+    ensures begins { (text : List ℕ) → is_identifier text ≡ true → begins_with begins_symbol text
+        ≡ true }
+    ensures none_ends { (text : List ℕ) → is_identifier text ≡ true → list_all in_symbol text
+        ≡ true }
     ensures one_symbol { (text rest : List ℕ) → is_identifier text ≡ true
         → begins_with in_symbol rest ≡ false → Piece (text ++ rest) (symbol text) rest }
 {}

@@ -5,7 +5,9 @@ ghost use Rattle.std.specs.List.{list_all};
 ghost use Rattle.std.specs.Str.{chars};
 ghost use Rattle.isle_ast_names.specs.Identifier.{continues_identifier, is_identifier};
 ghost use Rattle.isle_ast_names.specs.TreeView.{name_of, names_of, optional_name_of};
-ghost use Rattle.isle_ast_names.specs.WritableTests.{are_names, begins_with_dollar, is_bool_name, is_constant_name, is_name, is_optional_name, is_signed};
+ghost use Rattle.isle_ast_names.specs.WritableDeciders.{are_names, begins_with_dollar};
+ghost use Rattle.isle_ast_names.specs.WritableDeciders.{is_bool_name, is_constant_name, is_name};
+ghost use Rattle.isle_ast_names.specs.WritableDeciders.{is_optional_name, is_signed};
 
 use crate::ast::Ident;
 use crate::ast::identifier::{continues_identifier, is_identifier};
@@ -55,8 +57,8 @@ pub fn is_constant_name(name: &Ident) -> bool
     is_constant(&name.0)
 }
 
-/// Tells whether a text is an identifier where it is written behind a `$`, that is, whether each of its
-/// characters may stand behind the first one.
+/// Tells whether a text is an identifier where it is written behind a `$`, that is, whether each of
+/// its characters may stand behind the first one.
 fn is_constant(text: &str) -> bool
     ensures { result ≡ is_identifier (36 ∷ text.now) }
 {

@@ -1,7 +1,9 @@
 //! Copies of rules and extractors, and of the patterns and expressions that they are made of.
 
 ghost use Rattle.std.specs.Prelude.{◌≡◌, IfOk};
-ghost use Rattle.isle_ast_rules.specs.TreeView.{condition_of, expression_of, expressions_of, extractor_of, pattern_of, patterns_of, rule_of, single_let_of, single_lets_of};
+ghost use Rattle.isle_ast_rules.specs.TreeView.{condition_of, expression_of, expressions_of};
+ghost use Rattle.isle_ast_rules.specs.TreeView.{extractor_of, pattern_of, patterns_of, rule_of};
+ghost use Rattle.isle_ast_rules.specs.TreeView.{single_let_of, single_lets_of};
 
 use crate::ast::{Expr, Extractor, IfLet, LetDef, Pattern, Rule};
 use std::alloc::AllocError;

@@ -3,8 +3,10 @@
 //! expressions, and what is said of one node. No walk takes memory.
 
 ghost use Rattle.std.specs.Prelude.{◌≡◌};
-ghost use Rattle.isle_ast_rules.specs.MacroArgs.{condition_has_macro_arg, extractor_has_macro_arg, has_macro_arg, have_macro_arg, rule_has_macro_arg};
-ghost use Rattle.isle_ast_rules.specs.TreeView.{condition_of, extractor_of, pattern_of, pattern_row_of, patterns_of, rule_of};
+ghost use Rattle.isle_ast_rules.specs.MacroArgs.{condition_has_macro_arg, extractor_has_macro_arg};
+ghost use Rattle.isle_ast_rules.specs.MacroArgs.{has_macro_arg, have_macro_arg, rule_has_macro_arg};
+ghost use Rattle.isle_ast_rules.specs.TreeView.{condition_of, extractor_of, pattern_of};
+ghost use Rattle.isle_ast_rules.specs.TreeView.{pattern_row_of, patterns_of, rule_of};
 
 mod nodes;
 mod terms;

@@ -1,8 +1,9 @@
-//! Copies of models of types, and below it of specs. A copy is the same tree, its positions included. The error
-//! of each `clone` is want of memory.
+//! Copies of models of types, and below it of specs. A copy is the same tree, its positions
+//! included. The error of each `clone` is want of memory.
 
 ghost use Rattle.std.specs.Prelude.{◌≡◌, IfOk};
-ghost use Rattle.isle_ast_specs.specs.TreeView.{single_model_field_of, single_model_fields_of, type_model_of};
+ghost use Rattle.isle_ast_specs.specs.TreeView.{single_model_field_of, single_model_fields_of};
+ghost use Rattle.isle_ast_specs.specs.TreeView.{type_model_of};
 
 mod specs;
 
@@ -45,7 +46,8 @@ fn copy_model_type(ty: &ModelType) -> Result<ModelType, AllocError>
 /// Copies the fields of a struct model.
 #[cycle(copy)]
 fn copy_model_fields(fields: &Vec<ModelField>) -> Result<Vec<ModelField>, AllocError>
-    ensures { IfOk result (λ copies. single_model_fields_of copies.items ≡ single_model_fields_of fields.now.items) }
+    ensures { IfOk result
+        (λ copies. single_model_fields_of copies.items ≡ single_model_fields_of fields.now.items) }
 {
     let mut copies = Vec::with_capacity(*fields.allocator(), fields.len())?;
     for field in fields {

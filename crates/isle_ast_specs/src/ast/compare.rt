@@ -1,5 +1,5 @@
-//! The comparison of models of types, and below it of spec expressions. Two are equal exactly where they are
-//! the same, their positions included.
+//! The comparison of models of types, and below it of spec expressions. Two are equal exactly where
+//! they are the same, their positions included.
 //!
 //! The comparisons are written out, since a proof learns nothing of the derived ones where a type
 //! contains itself.
@@ -7,8 +7,10 @@
 ghost use Rattle.std.specs.Prelude.{◌≡◌, ◌&&◌};
 ghost use Rattle.std.specs.Cmp.{partial_equiv_from_equiv};
 ghost use Rattle.std.specs.Ordering.{on};
-ghost use Rattle.isle_ast_specs.specs.SameModel.{model_fields_equiv, model_types_equiv, same_model, same_model_fields, same_single};
-ghost use Rattle.isle_ast_specs.specs.TreeView.{model_row_of, single_model_field_of, single_model_fields_of, type_model_of};
+ghost use Rattle.isle_ast_specs.specs.SameModel.{model_fields_equiv, model_types_equiv, same_model};
+ghost use Rattle.isle_ast_specs.specs.SameModel.{same_model_fields, same_single};
+ghost use Rattle.isle_ast_specs.specs.TreeView.{model_row_of, single_model_field_of};
+ghost use Rattle.isle_ast_specs.specs.TreeView.{single_model_fields_of, type_model_of};
 
 mod specs;
 
@@ -63,7 +65,9 @@ fn same_types(a: &ModelType, b: &ModelType) -> bool
 /// Tells whether two lists of fields are equal.
 #[cycle(same)]
 fn same_fields(fields: &Vec<ModelField>, others: &Vec<ModelField>) -> bool
-    ensures { result ≡ same_model_fields (model_row_of (single_model_fields_of fields.now.items)) (model_row_of (single_model_fields_of others.now.items)) }
+    ensures { result
+        ≡ same_model_fields (model_row_of (single_model_fields_of fields.now.items))
+        (model_row_of (single_model_fields_of others.now.items)) }
 {
     if fields.len() != others.len() {
         return false;
@@ -79,7 +83,8 @@ fn same_fields(fields: &Vec<ModelField>, others: &Vec<ModelField>) -> bool
 /// Tells whether two fields are equal.
 #[cycle(same)]
 fn same_field(field: &ModelField, other: &ModelField) -> bool
-    ensures { result ≡ same_single (single_model_field_of field.now) (single_model_field_of other.now) }
+    ensures { result
+        ≡ same_single (single_model_field_of field.now) (single_model_field_of other.now) }
 {
     field.name == other.name && same_types(&field.ty, &other.ty)
 }

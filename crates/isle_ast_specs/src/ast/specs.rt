@@ -4,8 +4,8 @@ use super::ModelType;
 use isle_ast_names::ast::Ident;
 use isle_base::lexer::Pos;
 
-/// A spec expression. Each position is that of the expression's first token, but a `Pair` stands at the token
-/// behind its `(`.
+/// A spec expression. Each position is that of the expression's first token, but a `Pair` stands at
+/// the token behind its `(`.
 #[cycle(spec)]
 #[derive(Debug, Drop)]
 pub enum SpecExpr {
@@ -383,7 +383,8 @@ pub struct Spec {
     pub args: Vec<Ident>,
     /// What it provides, of all `provide` clauses in order.
     pub provides: Vec<SpecExpr>,
-    /// What it requires, of all `require` clauses in order. Upstream's name, `requires`, is a keyword here.
+    /// What it requires, of all `require` clauses in order. Upstream's name, `requires`, is a
+    /// keyword here.
     pub requires_: Vec<SpecExpr>,
     /// Where it matches, of all `match` clauses in order.
     pub matches: Vec<SpecExpr>,

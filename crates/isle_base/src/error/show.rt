@@ -1,5 +1,6 @@
 //! What `Display` writes of an error.
-ghost use Rattle.std.specs.Prelude.{◌≡◌, ◌+◌, ◌^◌, ◌<◌, ◌≤◌, ◌-◌, ◌==◌, if◌then◌else◌, true, ◌++◌, codes, length, slice_index};
+ghost use Rattle.std.specs.Prelude.{◌≡◌, ◌+◌, ◌^◌, ◌<◌, ◌≤◌, ◌-◌, ◌==◌, if◌then◌else◌, true, ◌++◌};
+ghost use Rattle.std.specs.Prelude.{codes, length, slice_index};
 ghost use Rattle.std.specs.Fmt.{WritesOnOk, decimal};
 ghost use Rattle.std.specs.List.{flat_map, list_all};
 ghost use Rattle.isle_base.specs.Diagnostic.{error_text, label_text, message};

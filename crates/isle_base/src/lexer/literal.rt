@@ -2,7 +2,9 @@
 
 ghost use Rattle.std.specs.Prelude.{◌≡◌, ◌+◌, ◌<◌, ◌≤◌, true, drop, length};
 ghost use Rattle.std.specs.List.{prefix_len};
-ghost use Rattle.isle_base.specs.Literals.{begins_literal, behind_minus, behind_prefix, digits_of, has_minus, in_literal, prefix_radix, radix_at, radix_of as letter_radix};
+ghost use Rattle.isle_base.specs.Literals.{begins_literal, behind_minus, behind_prefix, digits_of};
+ghost use Rattle.isle_base.specs.Literals.{has_minus, in_literal, prefix_radix, radix_at};
+ghost use Rattle.isle_base.specs.Literals.{radix_of as letter_radix};
 ghost use Rattle.isle_base.specs.Reads.{HasSign, IsRadix, ReadsLiteral, WritesNumber};
 ghost use Rattle.isle_base.specs.Skips.{begins_with};
 

@@ -98,8 +98,8 @@ fn block_comment_end(bytes: &[u8], from: usize) -> Option<usize>
     Some(at)
 }
 
-/// Finds the first byte from an offset on that belongs to no blank and no comment, or the end of the
-/// text. The error is the offset of a block comment without an end.
+/// Finds the first byte from an offset on that belongs to no blank and no comment, or the end of
+/// the text. The error is the offset of a block comment without an end.
 pub(crate) fn skip_end(bytes: &[u8], from: usize) -> Result<usize, usize>
     requires { from ≤ length bytes.now }
     ensures { EndsSkip bytes.now from result }

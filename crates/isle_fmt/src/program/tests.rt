@@ -160,7 +160,7 @@ fn formats_at_the_width(rt: HostRuntime) -> Result<(), Fail> {
     assert_formats(&rt, alloc, &["18446744073709551615"], DECL, DECL)?;
     assert_formats(&rt, alloc, &[], "", "")?;
 
-    // Without a word, 78 columns fit and 79 don't.
+    // Without a word, 78 bytes fit and 79 don't.
     let name = "a".repeat(alloc, 64)?;
     let line = format!(in alloc; "(convert {name} B c)\n")?;
     assert_formats(&rt, alloc, &[], &line, &line)?;

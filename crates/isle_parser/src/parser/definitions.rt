@@ -3,8 +3,9 @@
 ghost use Rattle.std.specs.Prelude.{◌≡◌, OnOk, true, false};
 ghost use Rattle.isle_ast.specs.TreeView.{definition_of, definitions_of};
 ghost use Rattle.isle_base.specs.Steps.{is_at_end, is_failed};
-ghost use Rattle.isle_parser.specs.ReadDefinitions.{behind, definition, definitions, keyword_form};
-ghost use Rattle.isle_parser_cursor.specs.Answers.{Gives, IsPlace, source, tokens};
+ghost use Rattle.isle_parser.specs.DefinitionReaders.{behind, definition, definitions};
+ghost use Rattle.isle_parser.specs.DefinitionReaders.{keyword_form};
+ghost use Rattle.isle_parser_cursor.specs.Outcomes.{Gives, IsPlace, source, tokens};
 
 use crate::parser::forms::{parse_form, parse_instantiation};
 use crate::parser::models::parse_model;
@@ -17,11 +18,12 @@ use isle_parser_rules::parser::rules::{parse_etor, parse_rule};
 use isle_parser_specs::parser::spec_definitions::{parse_spec, parse_spec_macro, parse_state};
 use std::alloc::Global;
 
-#[tactic(auto, unfolding(crate::specs::ReadDefinitions::definitions))]
+#[tactic(auto, unfolding(crate::specs::DefinitionReaders::definitions))]
 pub(super) fn parse_defs(cursor: &mut Cursor, alloc: Global) -> Result<Vec<Def>, Stop>
     requires { is_failed cursor.old.lexer ≡ false }
     ensures same { source cursor.new ≡ source cursor.old }
-    ensures gives { Gives (λ ds. definitions_of ds.items) (definitions (tokens cursor.old)) result cursor.new }
+    ensures gives { Gives
+        (λ ds. definitions_of ds.items) (definitions (tokens cursor.old)) result cursor.new }
     ensures at_end { OnOk result (is_at_end cursor.new.lexer ≡ true) }
 {
     let mut defs = Vec::new(alloc);
@@ -31,7 +33,7 @@ pub(super) fn parse_defs(cursor: &mut Cursor, alloc: Global) -> Result<Vec<Def>,
     Ok(defs)
 }
 
-#[tactic(auto, unfolding(crate::specs::ReadDefinitions::definition, isle_parser_cursor::specs::Reading::in_parentheses))]
+#[tactic(auto, unfolding(crate::specs::DefinitionReaders::definition, isle_parser_cursor::specs::Reading::in_parentheses))]
 fn parse_def(cursor: &mut Cursor, alloc: Global) -> Result<Def, Stop>
     ensures same { source cursor.new ≡ source cursor.old }
     ensures gives { Gives definition_of (definition (tokens cursor.old)) result cursor.new }
@@ -42,8 +44,8 @@ fn parse_def(cursor: &mut Cursor, alloc: Global) -> Result<Def, Stop>
     cursor.close(alloc, def)
 }
 
-// A keyword, and what stands behind it.
-#[tactic(auto, unfolding(crate::specs::ReadDefinitions::keyword_form))]
+/// A keyword, and what stands behind it.
+#[tactic(auto, unfolding(crate::specs::DefinitionReaders::keyword_form))]
 fn parse_keyword_form(cursor: &mut Cursor, alloc: Global) -> Result<Def, Stop>
     ensures same { source cursor.new ≡ source cursor.old }
     ensures gives { Gives definition_of (keyword_form (tokens cursor.old)) result cursor.new }
@@ -53,8 +55,8 @@ fn parse_keyword_form(cursor: &mut Cursor, alloc: Global) -> Result<Def, Stop>
     parse_behind(cursor, alloc, place, &word)
 }
 
-// What stands behind this keyword, which stood at this place.
-#[tactic(auto, unfolding(crate::specs::ReadDefinitions::behind))]
+/// What stands behind this keyword, which stood at this place.
+#[tactic(auto, unfolding(crate::specs::DefinitionReaders::behind))]
 fn parse_behind(cursor: &mut Cursor, alloc: Global, place: Pos, word: &str) -> Result<Def, Stop>
     requires { IsPlace (source cursor.old) place }
     ensures same { source cursor.new ≡ source cursor.old }

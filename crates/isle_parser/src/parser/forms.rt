@@ -3,8 +3,9 @@
 ghost use Rattle.std.specs.Prelude.{◌≡◌};
 ghost use Rattle.isle_ast.specs.TreeView.{form_of, instantiation_of, signature_of, signatures_of};
 ghost use Rattle.isle_ast_names.specs.TreeView.{name_of, names_of};
-ghost use Rattle.isle_parser.specs.ReadForms.{form_definition, instantiation_of_term, signature, signatures, tag};
-ghost use Rattle.isle_parser_cursor.specs.Answers.{Gives, source, tokens};
+ghost use Rattle.isle_parser.specs.FormReaders.{form_definition, instantiation_of_term, signature};
+ghost use Rattle.isle_parser.specs.FormReaders.{signatures, tag};
+ghost use Rattle.isle_parser_cursor.specs.Outcomes.{Gives, source, tokens};
 ghost use Rattle.isle_parser_cursor.specs.Reading.{closes, many};
 
 use isle_ast::ast::{Form, Instantiation, Signature};
@@ -13,7 +14,7 @@ use isle_parser_cursor::cursor::{Cursor, Stop};
 use isle_parser_specs::parser::models::{parse_tagged_type, parse_tagged_types};
 use std::alloc::Global;
 
-#[tactic(auto, unfolding(crate::specs::ReadForms::form_definition))]
+#[tactic(auto, unfolding(crate::specs::FormReaders::form_definition))]
 pub(super) fn parse_form(cursor: &mut Cursor, alloc: Global) -> Result<Form, Stop>
     ensures same { source cursor.new ≡ source cursor.old }
     ensures gives { Gives form_of (form_definition (tokens cursor.old)) result cursor.new }
@@ -28,11 +29,12 @@ pub(super) fn parse_form(cursor: &mut Cursor, alloc: Global) -> Result<Form, Sto
     })
 }
 
-// Signatures, up to the closing parenthesis.
-#[tactic(auto, unfolding(crate::specs::ReadForms::signatures))]
+/// Signatures, up to the closing parenthesis.
+#[tactic(auto, unfolding(crate::specs::FormReaders::signatures))]
 fn parse_signatures(cursor: &mut Cursor, alloc: Global) -> Result<Vec<Signature>, Stop>
     ensures same { source cursor.new ≡ source cursor.old }
-    ensures gives { Gives (λ ss. signatures_of ss.items) (signatures (tokens cursor.old)) result cursor.new }
+    ensures gives { Gives
+        (λ ss. signatures_of ss.items) (signatures (tokens cursor.old)) result cursor.new }
 {
     let mut signatures = Vec::new(alloc);
     while !cursor.is_rparen() {
@@ -41,7 +43,7 @@ fn parse_signatures(cursor: &mut Cursor, alloc: Global) -> Result<Vec<Signature>
     Ok(signatures)
 }
 
-#[tactic(auto, unfolding(crate::specs::ReadForms::signature, crate::specs::ReadForms::signature_inside, isle_parser_cursor::specs::Reading::in_parentheses))]
+#[tactic(auto, unfolding(crate::specs::FormReaders::signature, crate::specs::FormReaders::signature_inside, isle_parser_cursor::specs::Reading::in_parentheses))]
 fn parse_signature(cursor: &mut Cursor, alloc: Global) -> Result<Signature, Stop>
     ensures same { source cursor.new ≡ source cursor.old }
     ensures gives { Gives signature_of (signature (tokens cursor.old)) result cursor.new }
@@ -53,11 +55,12 @@ fn parse_signature(cursor: &mut Cursor, alloc: Global) -> Result<Signature, Stop
     cursor.close(alloc, Signature { args, ret, pos })
 }
 
-// A term's own signatures where `(` is ahead, else a form and tags.
-#[tactic(auto, unfolding(crate::specs::ReadForms::instantiation_of_term))]
+/// A term's own signatures where `(` is ahead, else a form and tags.
+#[tactic(auto, unfolding(crate::specs::FormReaders::instantiation_of_term))]
 pub(super) fn parse_instantiation(cursor: &mut Cursor, alloc: Global) -> Result<Instantiation, Stop>
     ensures same { source cursor.new ≡ source cursor.old }
-    ensures gives { Gives instantiation_of (instantiation_of_term (tokens cursor.old)) result cursor.new }
+    ensures gives { Gives instantiation_of (instantiation_of_term (tokens cursor.old)) result
+        cursor.new }
 {
     let pos = cursor.pos();
     let term = cursor.parse_ident(alloc)?;
@@ -82,10 +85,11 @@ pub(super) fn parse_instantiation(cursor: &mut Cursor, alloc: Global) -> Result<
     })
 }
 
-// Tags, up to the closing parenthesis.
+/// Tags, up to the closing parenthesis.
 fn parse_tags(cursor: &mut Cursor, alloc: Global) -> Result<Vec<Ident>, Stop>
     ensures same { source cursor.new ≡ source cursor.old }
-    ensures gives { Gives (λ is. names_of is.items) (many closes tag (tokens cursor.old)) result cursor.new }
+    ensures gives { Gives
+        (λ is. names_of is.items) (many closes tag (tokens cursor.old)) result cursor.new }
 {
     let mut tags = Vec::new(alloc);
     while !cursor.is_rparen() {
@@ -94,7 +98,7 @@ fn parse_tags(cursor: &mut Cursor, alloc: Global) -> Result<Vec<Ident>, Stop>
     Ok(tags)
 }
 
-#[tactic(auto, unfolding(crate::specs::ReadForms::tag, crate::specs::ReadForms::tag_inside, isle_parser_cursor::specs::Reading::in_parentheses))]
+#[tactic(auto, unfolding(crate::specs::FormReaders::tag, crate::specs::FormReaders::tag_inside, isle_parser_cursor::specs::Reading::in_parentheses))]
 fn parse_tag(cursor: &mut Cursor, alloc: Global) -> Result<Ident, Stop>
     ensures same { source cursor.new ≡ source cursor.old }
     ensures gives { Gives name_of (tag (tokens cursor.old)) result cursor.new }

@@ -12,6 +12,9 @@ ghost use Rattle.isle_parser_cursor.specs.Reading.{is_ahead, is_at};
 /// the tokens `x @ y` spell `x` at their front, and `x @ y` as well. Two expressions are the same
 /// whatever stands behind them.
 pub fn patterns_and_expressions_are_read_once()
-    ensures patterns { (p q : PatternNode) (all i j : List Placed) → is_ahead is_at i ≡ false → is_ahead is_at j ≡ false → SpellsPattern p all i → SpellsPattern q all j → (p ≡ q) × (i ≡ j) }
-    ensures expressions { (x y : Expression) (all i j : List Placed) → SpellsExpression x all i → SpellsExpression y all j → (x ≡ y) × (i ≡ j) }
+    ensures patterns { (p q : PatternNode) (all i j : List Placed) → is_ahead is_at i ≡ false
+        → is_ahead is_at j ≡ false → SpellsPattern p all i → SpellsPattern q all j → (p ≡ q)
+        × (i ≡ j) }
+    ensures expressions { (x y : Expression) (all i j : List Placed) → SpellsExpression x all i
+        → SpellsExpression y all j → (x ≡ y) × (i ≡ j) }
 {}

@@ -1,10 +1,12 @@
 //! What is said of terms: declarations, attributes, externals and conversions; and pragmas.
 
 ghost use Rattle.std.specs.Prelude.{◌≡◌, IfErr, map};
-ghost use Rattle.isle_ast.specs.TreeView.{conversion_of, declaration_of, attribute_of, extern_of, kind_of};
-ghost use Rattle.isle_parser.specs.ReadDefinitions.{conversion, declaration, pragma};
-ghost use Rattle.isle_parser.specs.ReadTerms.{attribute, extern_constant, extern_definition, extern_etor, kind, kind_inside, veri_kind};
-ghost use Rattle.isle_parser_cursor.specs.Answers.{Gives, IsPlace, source, tokens, Stops};
+ghost use Rattle.isle_ast.specs.TreeView.{conversion_of, declaration_of, attribute_of, extern_of};
+ghost use Rattle.isle_ast.specs.TreeView.{kind_of};
+ghost use Rattle.isle_parser.specs.DefinitionReaders.{conversion, declaration, pragma};
+ghost use Rattle.isle_parser.specs.TermReaders.{attribute, extern_constant, extern_definition};
+ghost use Rattle.isle_parser.specs.TermReaders.{extern_etor, kind, kind_inside, veri_kind};
+ghost use Rattle.isle_parser_cursor.specs.Outcomes.{Gives, IsPlace, source, tokens, Stops};
 ghost use Rattle.isle_parser_cursor.specs.Reading.{closes, many};
 
 use isle_ast::ast::{Attr, AttrKind, AttrTarget, Converter, Decl, Extern, Pragma};
@@ -13,7 +15,7 @@ use isle_parser_cursor::cursor::{Cursor, Stop};
 use isle_parser_rules::parser::names::parse_const;
 use std::alloc::Global;
 
-#[tactic(auto, unfolding(crate::specs::ReadDefinitions::declaration))]
+#[tactic(auto, unfolding(crate::specs::DefinitionReaders::declaration))]
 pub(super) fn parse_decl(cursor: &mut Cursor, alloc: Global) -> Result<Decl, Stop>
     ensures same { source cursor.new ≡ source cursor.old }
     ensures gives { Gives declaration_of (declaration (tokens cursor.old)) result cursor.new }
@@ -41,7 +43,7 @@ pub(super) fn parse_decl(cursor: &mut Cursor, alloc: Global) -> Result<Decl, Sto
     })
 }
 
-#[tactic(auto, unfolding(crate::specs::ReadDefinitions::conversion))]
+#[tactic(auto, unfolding(crate::specs::DefinitionReaders::conversion))]
 pub(super) fn parse_converter(cursor: &mut Cursor, alloc: Global) -> Result<Converter, Stop>
     ensures same { source cursor.new ≡ source cursor.old }
     ensures gives { Gives conversion_of (conversion (tokens cursor.old)) result cursor.new }
@@ -58,7 +60,7 @@ pub(super) fn parse_converter(cursor: &mut Cursor, alloc: Global) -> Result<Conv
     })
 }
 
-// There are no pragmas yet: each is refused.
+/// There are no pragmas yet: each is refused.
 pub(super) fn parse_pragma(cursor: &mut Cursor, alloc: Global) -> Result<Pragma, Stop>
     ensures same { source cursor.new ≡ source cursor.old }
     ensures refused { IfErr result (Stops (pragma (tokens cursor.old)) (source cursor.new)) }
@@ -69,7 +71,7 @@ pub(super) fn parse_pragma(cursor: &mut Cursor, alloc: Global) -> Result<Pragma,
     Err(cursor.refuse_at(place, format!(in alloc; "Unknown pragma '{pragma}'")))
 }
 
-#[tactic(auto, unfolding(crate::specs::ReadTerms::attribute))]
+#[tactic(auto, unfolding(crate::specs::TermReaders::attribute))]
 pub(super) fn parse_attr(cursor: &mut Cursor, alloc: Global) -> Result<Attr, Stop>
     ensures same { source cursor.new ≡ source cursor.old }
     ensures gives { Gives attribute_of (attribute (tokens cursor.old)) result cursor.new }
@@ -86,10 +88,11 @@ pub(super) fn parse_attr(cursor: &mut Cursor, alloc: Global) -> Result<Attr, Sto
     Ok(Attr { target, kinds, pos })
 }
 
-// What attributes say, up to the closing parenthesis.
+/// What attributes say, up to the closing parenthesis.
 fn parse_attr_kinds(cursor: &mut Cursor, alloc: Global) -> Result<Vec<AttrKind>, Stop>
     ensures same { source cursor.new ≡ source cursor.old }
-    ensures gives { Gives (λ ks. map kind_of ks.items) (many closes kind (tokens cursor.old)) result cursor.new }
+    ensures gives { Gives
+        (λ ks. map kind_of ks.items) (many closes kind (tokens cursor.old)) result cursor.new }
 {
     let mut kinds = Vec::new(alloc);
     while !cursor.is_rparen() {
@@ -98,7 +101,7 @@ fn parse_attr_kinds(cursor: &mut Cursor, alloc: Global) -> Result<Vec<AttrKind>,
     Ok(kinds)
 }
 
-#[tactic(auto, unfolding(crate::specs::ReadTerms::kind, isle_parser_cursor::specs::Reading::in_parentheses))]
+#[tactic(auto, unfolding(crate::specs::TermReaders::kind, isle_parser_cursor::specs::Reading::in_parentheses))]
 fn parse_attr_kind(cursor: &mut Cursor, alloc: Global) -> Result<AttrKind, Stop>
     ensures same { source cursor.new ≡ source cursor.old }
     ensures gives { Gives kind_of (kind (tokens cursor.old)) result cursor.new }
@@ -108,7 +111,7 @@ fn parse_attr_kind(cursor: &mut Cursor, alloc: Global) -> Result<AttrKind, Stop>
     cursor.close(alloc, kind)
 }
 
-#[tactic(auto, unfolding(crate::specs::ReadTerms::kind_inside))]
+#[tactic(auto, unfolding(crate::specs::TermReaders::kind_inside))]
 fn parse_attr_kind_inside(cursor: &mut Cursor, alloc: Global) -> Result<AttrKind, Stop>
     ensures same { source cursor.new ≡ source cursor.old }
     ensures gives { Gives kind_of (kind_inside (tokens cursor.old)) result cursor.new }
@@ -122,7 +125,7 @@ fn parse_attr_kind_inside(cursor: &mut Cursor, alloc: Global) -> Result<AttrKind
     }
 }
 
-#[tactic(auto, unfolding(crate::specs::ReadTerms::veri_kind))]
+#[tactic(auto, unfolding(crate::specs::TermReaders::veri_kind))]
 fn parse_attr_kind_veri(cursor: &mut Cursor, alloc: Global) -> Result<AttrKind, Stop>
     ensures same { source cursor.new ≡ source cursor.old }
     ensures gives { Gives kind_of (veri_kind (tokens cursor.old)) result cursor.new }
@@ -139,7 +142,7 @@ fn parse_attr_kind_veri(cursor: &mut Cursor, alloc: Global) -> Result<AttrKind, 
     }
 }
 
-#[tactic(auto, unfolding(crate::specs::ReadTerms::extern_definition))]
+#[tactic(auto, unfolding(crate::specs::TermReaders::extern_definition))]
 pub(super) fn parse_extern(cursor: &mut Cursor, alloc: Global) -> Result<Extern, Stop>
     ensures same { source cursor.new ≡ source cursor.old }
     ensures gives { Gives extern_of (extern_definition (tokens cursor.old)) result cursor.new }
@@ -154,9 +157,9 @@ pub(super) fn parse_extern(cursor: &mut Cursor, alloc: Global) -> Result<Extern,
     parse_extern_extractor(cursor, alloc, place, pos)
 }
 
-// An external extractor at this position, or else a constant. What stands behind `extern` stood at
-// `place`.
-#[tactic(auto, unfolding(crate::specs::ReadTerms::extern_etor))]
+/// An external extractor at this position, or else a constant. What stands behind `extern` stood at
+/// `place`.
+#[tactic(auto, unfolding(crate::specs::TermReaders::extern_etor))]
 fn parse_extern_extractor(
     cursor: &mut Cursor,
     alloc: Global,
@@ -181,8 +184,8 @@ fn parse_extern_extractor(
     parse_extern_const(cursor, alloc, place)
 }
 
-// An external constant. What stands behind `extern` stood at `place`.
-#[tactic(auto, unfolding(crate::specs::ReadTerms::extern_constant))]
+/// An external constant. What stands behind `extern` stood at `place`.
+#[tactic(auto, unfolding(crate::specs::TermReaders::extern_constant))]
 fn parse_extern_const(cursor: &mut Cursor, alloc: Global, place: Pos) -> Result<Extern, Stop>
     requires { IsPlace (source cursor.old) place }
     ensures same { source cursor.new ≡ source cursor.old }

@@ -1,11 +1,16 @@
 //! Definitions of types.
 
 ghost use Rattle.std.specs.Prelude.{◌≡◌, IfOk, map, string_bytes};
-ghost use Rattle.isle_ast.specs.TreeView.{fields_of, indexed_field_of, named_field_of, struct_fields_of, tuple_fields_of, type_content_of, type_definition_of, variant_of};
+ghost use Rattle.isle_ast.specs.TreeView.{fields_of, indexed_field_of, named_field_of};
+ghost use Rattle.isle_ast.specs.TreeView.{struct_fields_of, tuple_fields_of, type_content_of};
+ghost use Rattle.isle_ast.specs.TreeView.{type_definition_of, variant_of};
 ghost use Rattle.isle_ast_names.specs.TreeView.{name_of};
-ghost use Rattle.isle_parser.specs.ReadTypes.{content_inside, fields, indexed, indexed_fields, modifier, modifier_flags, named_field, named_fields, type_content, type_definition, variant};
-ghost use Rattle.isle_parser_cursor.specs.Answers.{Gives, IsPlace, source, tokens};
-ghost use Rattle.isle_parser_cursor.specs.ReadNames.{name};
+ghost use Rattle.isle_parser.specs.TypeReaders.{content_inside, fields, indexed, indexed_fields};
+ghost use Rattle.isle_parser.specs.TypeReaders.{modifier, modifier_flags, named_field};
+ghost use Rattle.isle_parser.specs.TypeReaders.{named_fields, type_content, type_definition};
+ghost use Rattle.isle_parser.specs.TypeReaders.{variant};
+ghost use Rattle.isle_parser_cursor.specs.Outcomes.{Gives, IsPlace, source, tokens};
+ghost use Rattle.isle_parser_cursor.specs.NameReaders.{name};
 ghost use Rattle.isle_parser_cursor.specs.Reading.{closes, many};
 
 use isle_ast::ast::{
@@ -15,10 +20,11 @@ use isle_base::lexer::Pos;
 use isle_parser_cursor::cursor::{Cursor, Stop};
 use std::alloc::Global;
 
-#[tactic(auto, unfolding(crate::specs::ReadTypes::type_definition))]
+#[tactic(auto, unfolding(crate::specs::TypeReaders::type_definition))]
 pub(super) fn parse_type(cursor: &mut Cursor, alloc: Global) -> Result<TypeDef, Stop>
     ensures same { source cursor.new ≡ source cursor.old }
-    ensures gives { Gives type_definition_of (type_definition (tokens cursor.old)) result cursor.new }
+    ensures gives { Gives type_definition_of (type_definition (tokens cursor.old)) result
+        cursor.new }
 {
     let pos = cursor.pos();
     let name = cursor.parse_ident(alloc)?;
@@ -33,7 +39,7 @@ pub(super) fn parse_type(cursor: &mut Cursor, alloc: Global) -> Result<TypeDef, 
     })
 }
 
-// The modifiers of a type: whether `extern` is among them, and `nodebug`.
+/// The modifiers of a type: whether `extern` is among them, and `nodebug`.
 fn parse_modifiers(cursor: &mut Cursor, alloc: Global) -> Result<(bool, bool), Stop>
     ensures same { source cursor.new ≡ source cursor.old }
     ensures gives { Gives (λ set. set) (modifier_flags (tokens cursor.old)) result cursor.new }
@@ -48,7 +54,7 @@ fn parse_modifiers(cursor: &mut Cursor, alloc: Global) -> Result<(bool, bool), S
     Ok((is_extern, is_nodebug))
 }
 
-#[tactic(auto, unfolding(crate::specs::ReadTypes::modifier))]
+#[tactic(auto, unfolding(crate::specs::TypeReaders::modifier))]
 fn parse_modifier(cursor: &mut Cursor, alloc: Global) -> Result<String, Stop>
     ensures same { source cursor.new ≡ source cursor.old }
     ensures gives { Gives string_bytes (modifier (tokens cursor.old)) result cursor.new }
@@ -63,7 +69,7 @@ fn parse_modifier(cursor: &mut Cursor, alloc: Global) -> Result<String, Stop>
     ))
 }
 
-#[tactic(auto, unfolding(crate::specs::ReadTypes::type_content, isle_parser_cursor::specs::Reading::in_parentheses))]
+#[tactic(auto, unfolding(crate::specs::TypeReaders::type_content, isle_parser_cursor::specs::Reading::in_parentheses))]
 fn parse_typevalue(cursor: &mut Cursor, alloc: Global) -> Result<TypeValue, Stop>
     ensures same { source cursor.new ≡ source cursor.old }
     ensures gives { Gives type_content_of (type_content (tokens cursor.old)) result cursor.new }
@@ -75,8 +81,8 @@ fn parse_typevalue(cursor: &mut Cursor, alloc: Global) -> Result<TypeValue, Stop
     cursor.close(alloc, ty)
 }
 
-// `primitive`, `enum` or `struct`, and what stands behind the word. The `(` stood at this place.
-#[tactic(auto, unfolding(crate::specs::ReadTypes::content_inside, crate::specs::ReadTypes::enum_content, crate::specs::ReadTypes::struct_content))]
+/// `primitive`, `enum` or `struct`, and what stands behind the word. The `(` stood at this place.
+#[tactic(auto, unfolding(crate::specs::TypeReaders::content_inside, crate::specs::TypeReaders::enum_content, crate::specs::TypeReaders::struct_content))]
 fn parse_typevalue_inside(
     cursor: &mut Cursor,
     alloc: Global,
@@ -85,7 +91,8 @@ fn parse_typevalue_inside(
 ) -> Result<TypeValue, Stop>
     requires { IsPlace (source cursor.old) place }
     ensures same { source cursor.new ≡ source cursor.old }
-    ensures gives { Gives type_content_of (content_inside pos (tokens cursor.old)) result cursor.new }
+    ensures gives { Gives type_content_of (content_inside pos (tokens cursor.old)) result
+        cursor.new }
 {
     if cursor.eat_sym_str(alloc, "primitive")? {
         return Ok(TypeValue::Primitive(cursor.parse_ident(alloc)?, pos));
@@ -99,10 +106,12 @@ fn parse_typevalue_inside(
     Err(cursor.refuse_at(place, String::from_str(alloc, "Unknown type definition")))
 }
 
-// Variants, up to the closing parenthesis.
+/// Variants, up to the closing parenthesis.
 fn parse_type_variants(cursor: &mut Cursor, alloc: Global) -> Result<Vec<Variant>, Stop>
     ensures same { source cursor.new ≡ source cursor.old }
-    ensures gives { Gives (λ vs. map variant_of vs.items) (many closes variant (tokens cursor.old)) result cursor.new }
+    ensures gives { Gives
+        (λ vs. map variant_of vs.items) (many closes variant (tokens cursor.old)) result
+        cursor.new }
 {
     let mut variants = Vec::new(alloc);
     while !cursor.is_rparen() {
@@ -111,7 +120,7 @@ fn parse_type_variants(cursor: &mut Cursor, alloc: Global) -> Result<Vec<Variant
     Ok(variants)
 }
 
-#[tactic(auto, unfolding(crate::specs::ReadTypes::variant, crate::specs::ReadTypes::variant_inside, isle_parser_cursor::specs::Reading::in_parentheses))]
+#[tactic(auto, unfolding(crate::specs::TypeReaders::variant, crate::specs::TypeReaders::variant_inside, isle_parser_cursor::specs::Reading::in_parentheses))]
 fn parse_type_variant(cursor: &mut Cursor, alloc: Global) -> Result<Variant, Stop>
     ensures same { source cursor.new ≡ source cursor.old }
     ensures gives { Gives variant_of (variant (tokens cursor.old)) result cursor.new }
@@ -130,7 +139,7 @@ fn parse_type_variant(cursor: &mut Cursor, alloc: Global) -> Result<Variant, Sto
     cursor.close(alloc, Variant { name, fields, pos })
 }
 
-#[tactic(auto, unfolding(crate::specs::ReadTypes::fields))]
+#[tactic(auto, unfolding(crate::specs::TypeReaders::fields))]
 fn parse_fields(cursor: &mut Cursor, alloc: Global) -> Result<Fields, Stop>
     ensures same { source cursor.new ≡ source cursor.old }
     ensures gives { Gives fields_of (fields (tokens cursor.old)) result cursor.new }
@@ -156,7 +165,7 @@ fn parse_struct_fields(cursor: &mut Cursor, alloc: Global) -> Result<StructField
     Ok(StructFields { fields, pos })
 }
 
-#[tactic(auto, unfolding(crate::specs::ReadTypes::named_field, crate::specs::ReadTypes::field_inside, isle_parser_cursor::specs::Reading::in_parentheses))]
+#[tactic(auto, unfolding(crate::specs::TypeReaders::named_field, crate::specs::TypeReaders::field_inside, isle_parser_cursor::specs::Reading::in_parentheses))]
 fn parse_struct_field(cursor: &mut Cursor, alloc: Global) -> Result<StructField, Stop>
     ensures same { source cursor.new ≡ source cursor.old }
     ensures gives { Gives named_field_of (named_field (tokens cursor.old)) result cursor.new }
@@ -181,8 +190,8 @@ fn parse_tuple_fields(cursor: &mut Cursor, alloc: Global) -> Result<TupleFields,
     Ok(TupleFields { fields, pos })
 }
 
-// A field that is known by its place, counted from 0.
-#[tactic(auto, unfolding(isle_parser_cursor::specs::ReadNames::name))]
+/// A field that is known by its place, counted from 0.
+#[tactic(auto, unfolding(isle_parser_cursor::specs::NameReaders::name))]
 fn parse_tuple_field(cursor: &mut Cursor, alloc: Global, index: usize) -> Result<TupleField, Stop>
     ensures same { source cursor.new ≡ source cursor.old }
     ensures gives { Gives (λ f. name_of f.ty) (name (tokens cursor.old)) result cursor.new }

@@ -3,8 +3,8 @@
 ghost use Rattle.std.specs.Prelude.{◌≡◌};
 ghost use Rattle.isle_ast_names.specs.Identifier.{is_identifier};
 ghost use Rattle.isle_ast_names.specs.TreeView.{name_of, names_of, optional_name_of};
-ghost use Rattle.isle_parser_cursor.specs.Answers.{Gives, IsPlace, Judges, source, tokens};
-ghost use Rattle.isle_parser_cursor.specs.ReadNames.{name, names, optional_name, head_inside};
+ghost use Rattle.isle_parser_cursor.specs.Outcomes.{Gives, IsPlace, Judges, source, tokens};
+ghost use Rattle.isle_parser_cursor.specs.NameReaders.{name, names, optional_name, head_inside};
 ghost use Rattle.isle_parser_cursor.specs.Reading.{closes, in_parentheses, many};
 
 use crate::cursor::{Cursor, Stop, refuse};
@@ -26,7 +26,7 @@ impl<'src> Cursor<'src> {
     }
 
     /// An identifier, at its position.
-    #[tactic(auto, unfolding(crate::specs::ReadNames::name))]
+    #[tactic(auto, unfolding(crate::specs::NameReaders::name))]
     pub fn parse_ident(&mut self, alloc: Global) -> Result<Ident, Stop>
         ensures same { source self.new ≡ source self.old }
         ensures gives { Gives name_of (name (tokens self.old)) result self.new }
@@ -40,7 +40,7 @@ impl<'src> Cursor<'src> {
 
     /// An identifier where a symbol is ahead. A symbol that isn't one is refused at this place, as
     /// an invalid `what`.
-    #[tactic(auto, unfolding(crate::specs::ReadNames::optional_name, crate::specs::ReadNames::name))]
+    #[tactic(auto, unfolding(crate::specs::NameReaders::optional_name, crate::specs::NameReaders::name))]
     pub fn parse_optional_ident(
         &mut self,
         alloc: Global,
@@ -66,7 +66,8 @@ impl<'src> Cursor<'src> {
     /// Identifiers, up to the closing parenthesis.
     pub fn parse_ident_list(&mut self, alloc: Global) -> Result<Vec<Ident>, Stop>
         ensures same { source self.new ≡ source self.old }
-        ensures gives { Gives (λ is. names_of is.items) (many closes name (tokens self.old)) result self.new }
+        ensures gives { Gives
+            (λ is. names_of is.items) (many closes name (tokens self.old)) result self.new }
     {
         let mut idents = Vec::new(alloc);
         while !self.is_rparen() {
@@ -76,7 +77,7 @@ impl<'src> Cursor<'src> {
     }
 
     /// Identifiers in parentheses.
-    #[tactic(auto, unfolding(crate::specs::ReadNames::names, crate::specs::Reading::in_parentheses))]
+    #[tactic(auto, unfolding(crate::specs::NameReaders::names, crate::specs::Reading::in_parentheses))]
     pub fn parse_idents(&mut self, alloc: Global) -> Result<Vec<Ident>, Stop>
         ensures same { source self.new ≡ source self.old }
         ensures gives { Gives (λ is. names_of is.items) (names (tokens self.old)) result self.new }
@@ -87,10 +88,12 @@ impl<'src> Cursor<'src> {
     }
 
     /// A name and names behind it, in parentheses.
-    #[tactic(auto, unfolding(crate::specs::ReadNames::head_inside, crate::specs::Reading::in_parentheses))]
+    #[tactic(auto, unfolding(crate::specs::NameReaders::head_inside, crate::specs::Reading::in_parentheses))]
     pub fn parse_headed(&mut self, alloc: Global) -> Result<(Ident, Vec<Ident>), Stop>
         ensures same { source self.new ≡ source self.old }
-        ensures gives { Gives (λ h. (name_of h.0, names_of h.1.items)) (in_parentheses head_inside (tokens self.old)) result self.new }
+        ensures gives { Gives
+            (λ h. (name_of h.0, names_of h.1.items)) (in_parentheses head_inside (tokens self.old))
+            result self.new }
     {
         self.expect_lparen(alloc)?;
         let name = self.parse_ident(alloc)?;
@@ -99,7 +102,7 @@ impl<'src> Cursor<'src> {
     }
 }
 
-// The message about a text that isn't an identifier.
+/// The message about a text that isn't an identifier.
 fn identifier_message(alloc: Global, text: &str) -> Result<String, AllocError> {
     match text.chars().next() {
         None => String::from_str(alloc, "empty symbol"),

@@ -2,15 +2,15 @@
 
 ghost use Rattle.std.specs.Prelude.{◌≡◌};
 ghost use Rattle.isle_ast_names.specs.TreeView.{name_of};
-ghost use Rattle.isle_parser_cursor.specs.Answers.{Gives, source, tokens};
-ghost use Rattle.isle_parser_rules.specs.ReadConstants.{constant};
+ghost use Rattle.isle_parser_cursor.specs.Outcomes.{Gives, source, tokens};
+ghost use Rattle.isle_parser_rules.specs.ConstantReaders.{constant};
 
 use isle_ast_names::ast::Ident;
 use isle_parser_cursor::cursor::{Cursor, Stop};
 use std::alloc::Global;
 
 /// The name of a constant, without its `$`.
-#[tactic(auto, unfolding(crate::specs::ReadConstants::constant))]
+#[tactic(auto, unfolding(crate::specs::ConstantReaders::constant))]
 pub fn parse_const(cursor: &mut Cursor, alloc: Global) -> Result<Ident, Stop>
     ensures same { source cursor.new ≡ source cursor.old }
     ensures gives { Gives name_of (constant (tokens cursor.old)) result cursor.new }

@@ -2,9 +2,10 @@
 
 ghost use Rattle.std.specs.Prelude.{◌≡◌};
 ghost use Rattle.isle_ast_rules.specs.TreeView.{pattern_of, patterns_of};
-ghost use Rattle.isle_parser_cursor.specs.Answers.{Gives, source, tokens};
+ghost use Rattle.isle_parser_cursor.specs.Outcomes.{Gives, source, tokens};
 ghost use Rattle.isle_parser_cursor.specs.Reading.{closes, many};
-ghost use Rattle.isle_parser_rules.specs.ReadPatterns.{pattern, pattern_inside, symbol_pattern, variable_pattern};
+ghost use Rattle.isle_parser_rules.specs.PatternReaders.{pattern, pattern_inside, symbol_pattern};
+ghost use Rattle.isle_parser_rules.specs.PatternReaders.{variable_pattern};
 
 use crate::parser::names::parse_const;
 use isle_ast_rules::ast::Pattern;
@@ -13,7 +14,7 @@ use isle_parser_cursor::cursor::{Cursor, Stop};
 use std::alloc::Global;
 
 #[cycle(pattern)]
-#[tactic(auto, using(crate::proofs::PatternParts::pattern_is), unfolding(crate::specs::ReadPatterns::pattern_step, isle_parser_cursor::specs::Reading::in_parentheses))]
+#[tactic(auto, using(crate::proofs::PatternParts::pattern_is), unfolding(crate::specs::PatternReaders::pattern_step, isle_parser_cursor::specs::Reading::in_parentheses))]
 pub(super) fn parse_pattern(cursor: &mut Cursor, alloc: Global) -> Result<Pattern, Stop>
     ensures same { source cursor.new ≡ source cursor.old }
     ensures gives { Gives pattern_of (pattern (tokens cursor.old)) result cursor.new }
@@ -37,12 +38,13 @@ pub(super) fn parse_pattern(cursor: &mut Cursor, alloc: Global) -> Result<Patter
     ))
 }
 
-// A pattern that begins with a symbol, at this position.
+/// A pattern that begins with a symbol, at this position.
 #[cycle(pattern)]
-#[tactic(auto, unfolding(crate::specs::ReadPatterns::symbol_pattern, crate::specs::ReadPatterns::word_pattern, crate::specs::ReadPatterns::true_pattern, crate::specs::ReadPatterns::false_pattern))]
+#[tactic(auto, unfolding(crate::specs::PatternReaders::symbol_pattern, crate::specs::PatternReaders::word_pattern, crate::specs::PatternReaders::true_pattern, crate::specs::PatternReaders::false_pattern))]
 fn parse_pattern_symbol(cursor: &mut Cursor, alloc: Global, pos: Pos) -> Result<Pattern, Stop>
     ensures same { source cursor.new ≡ source cursor.old }
-    ensures gives { Gives pattern_of (symbol_pattern pos pattern (tokens cursor.old)) result cursor.new }
+    ensures gives { Gives pattern_of (symbol_pattern pos pattern (tokens cursor.old)) result
+        cursor.new }
 {
     if cursor.is_const() {
         let val = parse_const(cursor, alloc)?;
@@ -60,12 +62,13 @@ fn parse_pattern_symbol(cursor: &mut Cursor, alloc: Global, pos: Pos) -> Result<
     parse_pattern_variable(cursor, alloc, pos)
 }
 
-// A variable, and behind `@` what it is bound to.
+/// A variable, and behind `@` what it is bound to.
 #[cycle(pattern)]
-#[tactic(auto, unfolding(crate::specs::ReadPatterns::variable_pattern))]
+#[tactic(auto, unfolding(crate::specs::PatternReaders::variable_pattern))]
 fn parse_pattern_variable(cursor: &mut Cursor, alloc: Global, pos: Pos) -> Result<Pattern, Stop>
     ensures same { source cursor.new ≡ source cursor.old }
-    ensures gives { Gives pattern_of (variable_pattern pos pattern (tokens cursor.old)) result cursor.new }
+    ensures gives { Gives pattern_of (variable_pattern pos pattern (tokens cursor.old)) result
+        cursor.new }
 {
     let var = cursor.parse_ident(alloc)?;
     if !cursor.is_at() {
@@ -76,12 +79,13 @@ fn parse_pattern_variable(cursor: &mut Cursor, alloc: Global, pos: Pos) -> Resul
     Ok(Pattern::BindPattern { var, subpat, pos })
 }
 
-// `and` or a term, and patterns. The `(` stood at this position.
+/// `and` or a term, and patterns. The `(` stood at this position.
 #[cycle(pattern)]
-#[tactic(auto, unfolding(crate::specs::ReadPatterns::pattern_inside))]
+#[tactic(auto, unfolding(crate::specs::PatternReaders::pattern_inside))]
 fn parse_pattern_inner_parens(cursor: &mut Cursor, alloc: Global, pos: Pos) -> Result<Pattern, Stop>
     ensures same { source cursor.new ≡ source cursor.old }
-    ensures gives { Gives pattern_of (pattern_inside pos pattern (tokens cursor.old)) result cursor.new }
+    ensures gives { Gives pattern_of (pattern_inside pos pattern (tokens cursor.old)) result
+        cursor.new }
 {
     if cursor.eat_sym_str(alloc, "and")? {
         let subpats = parse_patterns(cursor, alloc)?;
@@ -92,11 +96,12 @@ fn parse_pattern_inner_parens(cursor: &mut Cursor, alloc: Global, pos: Pos) -> R
     Ok(Pattern::Term { sym, args, pos })
 }
 
-// Patterns, up to the closing parenthesis.
+/// Patterns, up to the closing parenthesis.
 #[cycle(pattern)]
 fn parse_patterns(cursor: &mut Cursor, alloc: Global) -> Result<Vec<Pattern>, Stop>
     ensures same { source cursor.new ≡ source cursor.old }
-    ensures gives { Gives (λ ps. patterns_of ps.items) (many closes pattern (tokens cursor.old)) result cursor.new }
+    ensures gives { Gives
+        (λ ps. patterns_of ps.items) (many closes pattern (tokens cursor.old)) result cursor.new }
 {
     let mut patterns = Vec::new(alloc);
     while !cursor.is_rparen() {

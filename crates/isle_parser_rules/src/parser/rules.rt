@@ -1,9 +1,13 @@
 //! Rules and extractors.
 
 ghost use Rattle.std.specs.Prelude.{◌≡◌};
-ghost use Rattle.isle_ast_rules.specs.TreeView.{condition_of, conditions_of, expression_of, extractor_of, rule_of};
-ghost use Rattle.isle_parser_cursor.specs.Answers.{Gives, IsPlace, source, tokens};
-ghost use Rattle.isle_parser_rules.specs.ReadRules.{condition_match, condition_or_expression, condition_test, extractor_definition, match_or_expression, priority, right_side, rule_definition};
+ghost use Rattle.isle_ast_rules.specs.TreeView.{condition_of, conditions_of, expression_of};
+ghost use Rattle.isle_ast_rules.specs.TreeView.{extractor_of, rule_of};
+ghost use Rattle.isle_parser_cursor.specs.Outcomes.{Gives, IsPlace, source, tokens};
+ghost use Rattle.isle_parser_rules.specs.RuleReaders.{condition_match, condition_or_expression};
+ghost use Rattle.isle_parser_rules.specs.RuleReaders.{condition_test, extractor_definition};
+ghost use Rattle.isle_parser_rules.specs.RuleReaders.{match_or_expression, priority, right_side};
+ghost use Rattle.isle_parser_rules.specs.RuleReaders.{rule_definition};
 ghost use Rattle.isle_parser_rules.specs.RuleParts.{part_of};
 
 use crate::parser::expressions::{parse_expr, parse_expr_inner_parens};
@@ -23,10 +27,11 @@ enum IfLetOrExpr {
 }
 
 /// What stands behind the keyword `extractor`.
-#[tactic(auto, unfolding(crate::specs::ReadRules::extractor_definition))]
+#[tactic(auto, unfolding(crate::specs::RuleReaders::extractor_definition))]
 pub fn parse_etor(cursor: &mut Cursor, alloc: Global) -> Result<Extractor, Stop>
     ensures same { source cursor.new ≡ source cursor.old }
-    ensures gives { Gives extractor_of (extractor_definition (tokens cursor.old)) result cursor.new }
+    ensures gives { Gives extractor_of (extractor_definition (tokens cursor.old)) result
+        cursor.new }
 {
     let pos = cursor.pos();
     let (term, args) = cursor.parse_headed(alloc)?;
@@ -40,7 +45,7 @@ pub fn parse_etor(cursor: &mut Cursor, alloc: Global) -> Result<Extractor, Stop>
 }
 
 /// What stands behind the keyword `rule`.
-#[tactic(auto, unfolding(crate::specs::ReadRules::rule_definition))]
+#[tactic(auto, unfolding(crate::specs::RuleReaders::rule_definition))]
 pub fn parse_rule(cursor: &mut Cursor, alloc: Global) -> Result<Rule, Stop>
     ensures same { source cursor.new ≡ source cursor.old }
     ensures gives { Gives rule_of (rule_definition (tokens cursor.old)) result cursor.new }
@@ -61,9 +66,9 @@ pub fn parse_rule(cursor: &mut Cursor, alloc: Global) -> Result<Rule, Stop>
     })
 }
 
-// The priority of a rule, where an integer is ahead. What stands behind the keyword stood at this
-// place.
-#[tactic(auto, unfolding(crate::specs::ReadRules::priority, isle_parser_cursor::specs::ReadNumbers::signed))]
+/// The priority of a rule, where an integer is ahead. What stands behind the keyword stood at this
+/// place.
+#[tactic(auto, unfolding(crate::specs::RuleReaders::priority, isle_parser_cursor::specs::NumberReaders::signed))]
 fn parse_priority(cursor: &mut Cursor, alloc: Global, place: Pos) -> Result<Option<i64>, Stop>
     requires { IsPlace (source cursor.old) place }
     ensures same { source cursor.new ≡ source cursor.old }
@@ -82,10 +87,12 @@ fn parse_priority(cursor: &mut Cursor, alloc: Global, place: Pos) -> Result<Opti
     }
 }
 
-// The conditions of a rule, and the expression behind them.
+/// The conditions of a rule, and the expression behind them.
 fn parse_iflets_and_expr(cursor: &mut Cursor, alloc: Global) -> Result<(Vec<IfLet>, Expr), Stop>
     ensures same { source cursor.new ≡ source cursor.old }
-    ensures gives { Gives (λ r. (conditions_of r.0.items, expression_of r.1)) (right_side (tokens cursor.old)) result cursor.new }
+    ensures gives { Gives
+        (λ r. (conditions_of r.0.items, expression_of r.1)) (right_side (tokens cursor.old)) result
+        cursor.new }
 {
     let mut iflets = Vec::new(alloc);
     loop {
@@ -96,7 +103,7 @@ fn parse_iflets_and_expr(cursor: &mut Cursor, alloc: Global) -> Result<(Vec<IfLe
     }
 }
 
-#[tactic(auto, unfolding(crate::specs::ReadRules::condition_or_expression, isle_parser_cursor::specs::Reading::in_parentheses))]
+#[tactic(auto, unfolding(crate::specs::RuleReaders::condition_or_expression, isle_parser_cursor::specs::Reading::in_parentheses))]
 fn parse_iflet_or_expr(cursor: &mut Cursor, alloc: Global) -> Result<IfLetOrExpr, Stop>
     ensures same { source cursor.new ≡ source cursor.old }
     ensures gives { Gives part_of (condition_or_expression (tokens cursor.old)) result cursor.new }
@@ -110,8 +117,8 @@ fn parse_iflet_or_expr(cursor: &mut Cursor, alloc: Global) -> Result<IfLetOrExpr
     cursor.close(alloc, part)
 }
 
-// What a condition or an expression has in its parentheses. The `(` stood at this position.
-#[tactic(auto, unfolding(crate::specs::ReadRules::match_or_expression, crate::specs::ReadRules::test_or_expression))]
+/// What a condition or an expression has in its parentheses. The `(` stood at this position.
+#[tactic(auto, unfolding(crate::specs::RuleReaders::match_or_expression, crate::specs::RuleReaders::test_or_expression))]
 fn parse_iflet_or_expr_inner_parens(
     cursor: &mut Cursor,
     alloc: Global,
@@ -130,7 +137,7 @@ fn parse_iflet_or_expr_inner_parens(
     Ok(IfLetOrExpr::Expr(expr))
 }
 
-#[tactic(auto, unfolding(crate::specs::ReadRules::condition_match))]
+#[tactic(auto, unfolding(crate::specs::RuleReaders::condition_match))]
 fn parse_iflet(cursor: &mut Cursor, alloc: Global) -> Result<IfLet, Stop>
     ensures same { source cursor.new ≡ source cursor.old }
     ensures gives { Gives condition_of (condition_match (tokens cursor.old)) result cursor.new }
@@ -141,8 +148,8 @@ fn parse_iflet(cursor: &mut Cursor, alloc: Global) -> Result<IfLet, Stop>
     Ok(IfLet { pattern, expr, pos })
 }
 
-// A condition that is an expression alone: its pattern is a wildcard, at the expression's position.
-#[tactic(auto, unfolding(crate::specs::ReadRules::condition_test))]
+/// A condition that is an expression alone: its pattern is a wildcard, at the expression's position.
+#[tactic(auto, unfolding(crate::specs::RuleReaders::condition_test))]
 fn parse_iflet_if(cursor: &mut Cursor, alloc: Global) -> Result<IfLet, Stop>
     ensures same { source cursor.new ≡ source cursor.old }
     ensures gives { Gives condition_of (condition_test (tokens cursor.old)) result cursor.new }

@@ -3,9 +3,11 @@
 ghost use Rattle.std.specs.Prelude.{◌≡◌, map, option_map};
 ghost use Rattle.isle_ast_names.specs.TreeView.{name_of};
 ghost use Rattle.isle_ast_specs.specs.TreeView.{type_model_of};
-ghost use Rattle.isle_parser_cursor.specs.Answers.{Gives, IsPlace, source, tokens};
+ghost use Rattle.isle_parser_cursor.specs.Outcomes.{Gives, IsPlace, source, tokens};
 ghost use Rattle.isle_parser_cursor.specs.Reading.{closes, in_parentheses, many};
-ghost use Rattle.isle_parser_specs.specs.ReadModels.{model_field_inside, model_ahead, model_inside, model_type, model_word, tagged_type, tagged_types, width};
+ghost use Rattle.isle_parser_specs.specs.ModelReaders.{model_field_inside, model_ahead};
+ghost use Rattle.isle_parser_specs.specs.ModelReaders.{model_inside, model_type, model_word};
+ghost use Rattle.isle_parser_specs.specs.ModelReaders.{tagged_type, tagged_types, width};
 
 use isle_ast_specs::ast::{ModelField, ModelType};
 use isle_base::lexer::{Pos, Token};
@@ -14,7 +16,7 @@ use std::alloc::Global;
 
 /// A model of a type.
 #[cycle(model_type)]
-#[tactic(auto, using(crate::proofs::ModelWords::model_type_is), unfolding(crate::specs::ReadModels::model_step, isle_parser_cursor::specs::Reading::in_parentheses))]
+#[tactic(auto, using(crate::proofs::Words::Models::model_type_is), unfolding(crate::specs::ModelReaders::model_step, isle_parser_cursor::specs::Reading::in_parentheses))]
 pub fn parse_model_type(cursor: &mut Cursor, alloc: Global) -> Result<ModelType, Stop>
     ensures same { source cursor.new ≡ source cursor.old }
     ensures gives { Gives type_model_of (model_type (tokens cursor.old)) result cursor.new }
@@ -28,7 +30,7 @@ pub fn parse_model_type(cursor: &mut Cursor, alloc: Global) -> Result<ModelType,
     cursor.close(alloc, ty)
 }
 
-// The model that the word ahead stands for.
+/// The model that the word ahead stands for.
 fn model_ahead(cursor: &Cursor) -> Option<ModelType>
     ensures { option_map type_model_of result ≡ model_ahead (tokens cursor.now) }
 {
@@ -45,7 +47,7 @@ fn model_ahead(cursor: &Cursor) -> Option<ModelType>
     }
 }
 
-// A model that is one word.
+/// A model that is one word.
 fn parse_model_word(cursor: &mut Cursor, alloc: Global) -> Result<ModelType, Stop>
     ensures same { source cursor.new ≡ source cursor.old }
     ensures gives { Gives type_model_of (model_word (tokens cursor.old)) result cursor.new }
@@ -66,13 +68,14 @@ fn parse_model_word(cursor: &mut Cursor, alloc: Global) -> Result<ModelType, Sto
     }
 }
 
-// `bv`, `struct` or `named`, and what stands behind the word. The `(` stood at this place.
+/// `bv`, `struct` or `named`, and what stands behind the word. The `(` stood at this place.
 #[cycle(model_type)]
-#[tactic(auto, unfolding(crate::specs::ReadModels::model_inside, crate::specs::ReadModels::struct_inside, crate::specs::ReadModels::named_inside))]
+#[tactic(auto, unfolding(crate::specs::ModelReaders::model_inside, crate::specs::ModelReaders::struct_inside, crate::specs::ModelReaders::named_inside))]
 fn parse_model_inside(cursor: &mut Cursor, alloc: Global, place: Pos) -> Result<ModelType, Stop>
     requires { IsPlace (source cursor.old) place }
     ensures same { source cursor.new ≡ source cursor.old }
-    ensures gives { Gives type_model_of (model_inside model_type (tokens cursor.old)) result cursor.new }
+    ensures gives { Gives type_model_of (model_inside model_type (tokens cursor.old)) result
+        cursor.new }
 {
     if cursor.eat_sym_str(alloc, "bv")? {
         return Ok(ModelType::BitVec(parse_width(cursor, alloc, place)?));
@@ -92,8 +95,8 @@ fn parse_model_inside(cursor: &mut Cursor, alloc: Global, place: Pos) -> Result<
     ))
 }
 
-// The number of bits of a bit vector, if it is known. The model's `(` stood at this place.
-#[tactic(auto, unfolding(crate::specs::ReadModels::width, crate::specs::ReadModels::number))]
+/// The number of bits of a bit vector, if it is known. The model's `(` stood at this place.
+#[tactic(auto, unfolding(crate::specs::ModelReaders::width, crate::specs::ModelReaders::number))]
 fn parse_width(cursor: &mut Cursor, alloc: Global, place: Pos) -> Result<Option<usize>, Stop>
     requires { IsPlace (source cursor.old) place }
     ensures same { source cursor.new ≡ source cursor.old }
@@ -118,11 +121,15 @@ fn parse_width(cursor: &mut Cursor, alloc: Global, place: Pos) -> Result<Option<
     }
 }
 
-// The fields of a struct, up to the closing parenthesis.
+/// The fields of a struct, up to the closing parenthesis.
 #[cycle(model_type)]
 fn parse_model_fields(cursor: &mut Cursor, alloc: Global) -> Result<Vec<ModelField>, Stop>
     ensures same { source cursor.new ≡ source cursor.old }
-    ensures gives { Gives (λ fs. map (λ f. (name_of f.name, type_model_of f.ty)) fs.items) (many closes (in_parentheses (model_field_inside model_type)) (tokens cursor.old)) result cursor.new }
+    ensures gives { Gives
+        (λ fs. map
+        (λ f. (name_of f.name, type_model_of f.ty)) fs.items)
+        (many closes (in_parentheses (model_field_inside model_type)) (tokens cursor.old)) result
+        cursor.new }
 {
     let mut fields = Vec::new(alloc);
     while !cursor.is_rparen() {
@@ -132,10 +139,12 @@ fn parse_model_fields(cursor: &mut Cursor, alloc: Global) -> Result<Vec<ModelFie
 }
 
 #[cycle(model_type)]
-#[tactic(auto, unfolding(crate::specs::ReadModels::model_field_inside, isle_parser_cursor::specs::Reading::in_parentheses))]
+#[tactic(auto, unfolding(crate::specs::ModelReaders::model_field_inside, isle_parser_cursor::specs::Reading::in_parentheses))]
 fn parse_model_field(cursor: &mut Cursor, alloc: Global) -> Result<ModelField, Stop>
     ensures same { source cursor.new ≡ source cursor.old }
-    ensures gives { Gives (λ f. (name_of f.name, type_model_of f.ty)) (in_parentheses (model_field_inside model_type) (tokens cursor.old)) result cursor.new }
+    ensures gives { Gives
+        (λ f. (name_of f.name, type_model_of f.ty))
+        (in_parentheses (model_field_inside model_type) (tokens cursor.old)) result cursor.new }
 {
     cursor.expect_lparen(alloc)?;
     let name = cursor.parse_ident(alloc)?;
@@ -144,14 +153,16 @@ fn parse_model_field(cursor: &mut Cursor, alloc: Global) -> Result<ModelField, S
 }
 
 /// Models behind this word, in parentheses.
-#[tactic(auto, unfolding(crate::specs::ReadModels::tagged_types, crate::specs::ReadModels::tagged_inside, isle_parser_cursor::specs::Reading::in_parentheses))]
+#[tactic(auto, unfolding(crate::specs::ModelReaders::tagged_types, crate::specs::ModelReaders::tagged_inside, isle_parser_cursor::specs::Reading::in_parentheses))]
 pub fn parse_tagged_types(
     cursor: &mut Cursor,
     alloc: Global,
     tag: &str,
 ) -> Result<Vec<ModelType>, Stop>
     ensures same { source cursor.new ≡ source cursor.old }
-    ensures gives { Gives (λ tys. map type_model_of tys.items) (tagged_types tag.now (tokens cursor.old)) result cursor.new }
+    ensures gives { Gives
+        (λ tys. map type_model_of tys.items) (tagged_types tag.now (tokens cursor.old)) result
+        cursor.new }
 {
     cursor.expect_lparen(alloc)?;
     let place = cursor.place();
@@ -165,10 +176,12 @@ pub fn parse_tagged_types(
     cursor.close(alloc, params)
 }
 
-// Models, up to the closing parenthesis.
+/// Models, up to the closing parenthesis.
 fn parse_model_types(cursor: &mut Cursor, alloc: Global) -> Result<Vec<ModelType>, Stop>
     ensures same { source cursor.new ≡ source cursor.old }
-    ensures gives { Gives (λ tys. map type_model_of tys.items) (many closes model_type (tokens cursor.old)) result cursor.new }
+    ensures gives { Gives
+        (λ tys. map type_model_of tys.items) (many closes model_type (tokens cursor.old)) result
+        cursor.new }
 {
     let mut params = Vec::new(alloc);
     while !cursor.is_rparen() {
@@ -178,10 +191,11 @@ fn parse_model_types(cursor: &mut Cursor, alloc: Global) -> Result<Vec<ModelType
 }
 
 /// A model behind this word, in parentheses.
-#[tactic(auto, unfolding(crate::specs::ReadModels::tagged_type, crate::specs::ReadModels::tagged_one_inside, isle_parser_cursor::specs::Reading::in_parentheses))]
+#[tactic(auto, unfolding(crate::specs::ModelReaders::tagged_type, crate::specs::ModelReaders::tagged_one_inside, isle_parser_cursor::specs::Reading::in_parentheses))]
 pub fn parse_tagged_type(cursor: &mut Cursor, alloc: Global, tag: &str) -> Result<ModelType, Stop>
     ensures same { source cursor.new ≡ source cursor.old }
-    ensures gives { Gives type_model_of (tagged_type tag.now (tokens cursor.old)) result cursor.new }
+    ensures gives { Gives type_model_of (tagged_type tag.now (tokens cursor.old)) result
+        cursor.new }
 {
     cursor.expect_lparen(alloc)?;
     let place = cursor.place();

@@ -5,8 +5,8 @@ ghost use Rattle.isle_parser_specs.specs.SpecWords.{in_table, operator_of};
 
 use isle_ast_specs::ast::SpecOp;
 
-// The operators by their texts, but for `-`, which no symbol is, and `switch`, which is a head of
-// its own.
+/// The operators by their texts, but for `-`, which no symbol is, and `switch`, which is a head of
+/// its own.
 const OPERATORS: [(&str, SpecOp); 84] = [
     ("=", SpecOp::Eq),
     ("and", SpecOp::And),
@@ -94,7 +94,7 @@ const OPERATORS: [(&str, SpecOp); 84] = [
     ("if", SpecOp::If),
 ];
 
-// The operator of this text.
+/// The operator of this text.
 #[tactic(auto, unfolding(crate::specs::SpecWords::operator_of))]
 pub(super) fn operator_of(text: &str) -> Option<SpecOp>
     ensures { result ≡ operator_of text.now }
@@ -102,7 +102,7 @@ pub(super) fn operator_of(text: &str) -> Option<SpecOp>
     in_table(&OPERATORS, text)
 }
 
-// The operator in the first row with this text.
+/// The operator in the first row with this text.
 fn in_table(rows: &[(&str, SpecOp)], text: &str) -> Option<SpecOp>
     ensures { result ≡ in_table (map (λ row. (row.0.now, row.1)) rows.now) text.now }
 {

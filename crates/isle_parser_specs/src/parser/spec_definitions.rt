@@ -1,10 +1,15 @@
 //! What is said for verification: specs of terms, macros of spec expressions, and states.
 
 ghost use Rattle.std.specs.Prelude.{◌≡◌};
-ghost use Rattle.isle_ast_specs.specs.TreeView.{modified_of, spec_definition_of, spec_macro_of, spec_of, state_of};
-ghost use Rattle.isle_parser_cursor.specs.Answers.{Gives, IsPlace, source, tokens};
+ghost use Rattle.isle_ast_specs.specs.TreeView.{modified_of, spec_definition_of, spec_macro_of};
+ghost use Rattle.isle_ast_specs.specs.TreeView.{spec_of, state_of};
+ghost use Rattle.isle_parser_cursor.specs.Outcomes.{Gives, IsPlace, source, tokens};
 ghost use Rattle.isle_parser_cursor.specs.Reading.{in_parentheses};
-ghost use Rattle.isle_parser_specs.specs.ReadSpecDefinitions.{behind_clause_word, clause, default_inside, joined_clauses, modified_state, spec_definition, spec_macro_definition, state_definition};
+ghost use Rattle.isle_parser_specs.specs.SpecDefinitionReaders.{behind_clause_word, clause};
+ghost use Rattle.isle_parser_specs.specs.SpecDefinitionReaders.{default_inside, joined_clauses};
+ghost use Rattle.isle_parser_specs.specs.SpecDefinitionReaders.{modified_state, spec_definition};
+ghost use Rattle.isle_parser_specs.specs.SpecDefinitionReaders.{spec_macro_definition};
+ghost use Rattle.isle_parser_specs.specs.SpecDefinitionReaders.{state_definition};
 ghost use Rattle.isle_parser_specs.specs.SpecParts.{clause_of, joined_of};
 
 use crate::parser::models::parse_tagged_type;
@@ -41,10 +46,11 @@ struct Clauses {
 }
 
 /// What stands behind the keyword `spec`.
-#[tactic(auto, unfolding(crate::specs::ReadSpecDefinitions::spec_definition))]
+#[tactic(auto, unfolding(crate::specs::SpecDefinitionReaders::spec_definition))]
 pub fn parse_spec(cursor: &mut Cursor, alloc: Global) -> Result<Spec, Stop>
     ensures same { source cursor.new ≡ source cursor.old }
-    ensures gives { Gives spec_definition_of (spec_definition (tokens cursor.old)) result cursor.new }
+    ensures gives { Gives spec_definition_of (spec_definition (tokens cursor.old)) result
+        cursor.new }
 {
     let place = cursor.place();
     let pos = cursor.pos();
@@ -61,7 +67,7 @@ pub fn parse_spec(cursor: &mut Cursor, alloc: Global) -> Result<Spec, Stop>
     })
 }
 
-// Clauses, up to the closing parenthesis. What stands behind the keyword stood at this place.
+/// Clauses, up to the closing parenthesis. What stands behind the keyword stood at this place.
 fn parse_clauses(cursor: &mut Cursor, alloc: Global, place: Pos) -> Result<Clauses, Stop>
     requires { IsPlace (source cursor.old) place }
     ensures same { source cursor.new ≡ source cursor.old }
@@ -87,8 +93,8 @@ fn parse_clauses(cursor: &mut Cursor, alloc: Global, place: Pos) -> Result<Claus
     })
 }
 
-// A clause. What stands behind the keyword of its spec stood at this place.
-#[tactic(auto, unfolding(crate::specs::ReadSpecDefinitions::clause, crate::specs::ReadSpecDefinitions::clause_inside, isle_parser_cursor::specs::Reading::in_parentheses))]
+/// A clause. What stands behind the keyword of its spec stood at this place.
+#[tactic(auto, unfolding(crate::specs::SpecDefinitionReaders::clause, crate::specs::SpecDefinitionReaders::clause_inside, isle_parser_cursor::specs::Reading::in_parentheses))]
 fn parse_clause(cursor: &mut Cursor, alloc: Global, place: Pos) -> Result<Clause, Stop>
     requires { IsPlace (source cursor.old) place }
     ensures same { source cursor.new ≡ source cursor.old }
@@ -100,9 +106,9 @@ fn parse_clause(cursor: &mut Cursor, alloc: Global, place: Pos) -> Result<Clause
     cursor.close(alloc, clause)
 }
 
-// What stands behind the word of a clause. What stands behind the keyword of its spec stood at this
-// place.
-#[tactic(auto, unfolding(crate::specs::ReadSpecDefinitions::behind_clause_word))]
+/// What stands behind the word of a clause. What stands behind the keyword of its spec stood at this
+/// place.
+#[tactic(auto, unfolding(crate::specs::SpecDefinitionReaders::behind_clause_word))]
 fn parse_behind_clause_word(
     cursor: &mut Cursor,
     alloc: Global,
@@ -111,7 +117,8 @@ fn parse_behind_clause_word(
 ) -> Result<Clause, Stop>
     requires { IsPlace (source cursor.old) place }
     ensures same { source cursor.new ≡ source cursor.old }
-    ensures gives { Gives clause_of (behind_clause_word word.now (tokens cursor.old)) result cursor.new }
+    ensures gives { Gives clause_of (behind_clause_word word.now (tokens cursor.old)) result
+        cursor.new }
 {
     match word {
         "provide" => Ok(Clause::Provide(parse_spec_exprs(cursor, alloc)?)),
@@ -127,8 +134,8 @@ fn parse_behind_clause_word(
     }
 }
 
-// A state, and the name of a condition where there is one.
-#[tactic(auto, unfolding(crate::specs::ReadSpecDefinitions::modified_state))]
+/// A state, and the name of a condition where there is one.
+#[tactic(auto, unfolding(crate::specs::SpecDefinitionReaders::modified_state))]
 fn parse_modifies(cursor: &mut Cursor, alloc: Global, place: Pos) -> Result<Modifies, Stop>
     requires { IsPlace (source cursor.old) place }
     ensures same { source cursor.new ≡ source cursor.old }
@@ -140,10 +147,11 @@ fn parse_modifies(cursor: &mut Cursor, alloc: Global, place: Pos) -> Result<Modi
 }
 
 /// What stands behind the keyword `macro`.
-#[tactic(auto, unfolding(crate::specs::ReadSpecDefinitions::spec_macro_definition))]
+#[tactic(auto, unfolding(crate::specs::SpecDefinitionReaders::spec_macro_definition))]
 pub fn parse_spec_macro(cursor: &mut Cursor, alloc: Global) -> Result<SpecMacro, Stop>
     ensures same { source cursor.new ≡ source cursor.old }
-    ensures gives { Gives spec_macro_of (spec_macro_definition (tokens cursor.old)) result cursor.new }
+    ensures gives { Gives spec_macro_of (spec_macro_definition (tokens cursor.old)) result
+        cursor.new }
 {
     let pos = cursor.pos();
     let (name, params) = cursor.parse_headed(alloc)?;
@@ -157,7 +165,7 @@ pub fn parse_spec_macro(cursor: &mut Cursor, alloc: Global) -> Result<SpecMacro,
 }
 
 /// What stands behind the keyword `state`.
-#[tactic(auto, unfolding(crate::specs::ReadSpecDefinitions::state_definition))]
+#[tactic(auto, unfolding(crate::specs::SpecDefinitionReaders::state_definition))]
 pub fn parse_state(cursor: &mut Cursor, alloc: Global) -> Result<State, Stop>
     ensures same { source cursor.new ≡ source cursor.old }
     ensures gives { Gives state_of (state_definition (tokens cursor.old)) result cursor.new }
@@ -174,11 +182,12 @@ pub fn parse_state(cursor: &mut Cursor, alloc: Global) -> Result<State, Stop>
     })
 }
 
-// The value of a state where nothing changes it, in parentheses.
-#[tactic(auto, unfolding(crate::specs::ReadSpecDefinitions::default_inside, isle_parser_cursor::specs::Reading::in_parentheses))]
+/// The value of a state where nothing changes it, in parentheses.
+#[tactic(auto, unfolding(crate::specs::SpecDefinitionReaders::default_inside, isle_parser_cursor::specs::Reading::in_parentheses))]
 fn parse_default(cursor: &mut Cursor, alloc: Global) -> Result<SpecExpr, Stop>
     ensures same { source cursor.new ≡ source cursor.old }
-    ensures gives { Gives spec_of (in_parentheses default_inside (tokens cursor.old)) result cursor.new }
+    ensures gives { Gives spec_of (in_parentheses default_inside (tokens cursor.old)) result
+        cursor.new }
 {
     cursor.expect_lparen(alloc)?;
     let place = cursor.place();

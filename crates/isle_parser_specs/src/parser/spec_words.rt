@@ -1,13 +1,19 @@
 //! Single symbols of spec expressions: the heads behind a `(`, and the words that are expressions
 //! by themselves.
 
-ghost use Rattle.std.specs.Prelude.{◌≡◌, ◌≤◌, option_map, string_bytes, Some, None, if◌then◌else◌, codes};
+ghost use Rattle.std.specs.Prelude.{◌≡◌, ◌≤◌, option_map, string_bytes, Some, None, if◌then◌else◌};
+ghost use Rattle.std.specs.Prelude.{codes};
 ghost use Rattle.isle_ast_names.specs.Identifier.{is_identifier};
 ghost use Rattle.isle_ast_specs.specs.TreeView.{spec_of};
-ghost use Rattle.isle_parser_cursor.specs.Answers.{Gives, IsPlace, IsRefusal, source, tokens};
-ghost use Rattle.isle_parser_specs.specs.ReadSpecs.{spec_word};
-ghost use Rattle.isle_parser_specs.specs.SpecHeads.{Finds, head_view};
-ghost use Rattle.isle_parser_specs.specs.SpecWords.{around, before_last, begins_bit_vector, behind_mark, bit_vector_of, expansion_or_other, field_or_variant, head_of, hexadecimal_or_plain, keyword_head, operator_of, operator_or_name, other_head, plain_word, spec_head, variant_of, word_of};
+ghost use Rattle.isle_parser_cursor.specs.Outcomes.{Gives, IsPlace, IsRefusal, source, tokens};
+ghost use Rattle.isle_parser_specs.specs.SpecReaders.{spec_word};
+ghost use Rattle.isle_parser_specs.specs.SpecFormHeads.{Finds, head_view};
+ghost use Rattle.isle_parser_specs.specs.SpecWords.{around, before_last, begins_bit_vector};
+ghost use Rattle.isle_parser_specs.specs.SpecWords.{behind_mark, bit_vector_of, expansion_or_other};
+ghost use Rattle.isle_parser_specs.specs.SpecWords.{field_or_variant, head_of};
+ghost use Rattle.isle_parser_specs.specs.SpecWords.{hexadecimal_or_plain, keyword_head};
+ghost use Rattle.isle_parser_specs.specs.SpecWords.{operator_of, operator_or_name, other_head};
+ghost use Rattle.isle_parser_specs.specs.SpecWords.{plain_word, spec_head, variant_of, word_of};
 
 use crate::parser::operators::operator_of;
 use isle_ast_names::ast::Ident;
@@ -45,7 +51,7 @@ pub(super) enum Head {
     Variant(String, String),
 }
 
-// The head that the symbol ahead is. The `(` before it stood at `start`.
+/// The head that the symbol ahead is. The `(` before it stood at `start`.
 pub(super) fn parse_spec_head(cursor: &mut Cursor, alloc: Global, start: Pos) -> Result<Head, Stop>
     requires { IsPlace (source cursor.old) start }
     ensures same { source cursor.new ≡ source cursor.old }
@@ -59,7 +65,7 @@ pub(super) fn parse_spec_head(cursor: &mut Cursor, alloc: Global, start: Pos) ->
     spec_head(cursor, alloc, start, place, &word)
 }
 
-// The head that this word is, which stood at `place`.
+/// The head that this word is, which stood at `place`.
 #[tactic(auto, unfolding(crate::specs::SpecWords::head_of))]
 fn spec_head(
     cursor: &Cursor,
@@ -78,7 +84,7 @@ fn spec_head(
     }
 }
 
-// The head that this word is, which is none of the fixed ones.
+/// The head that this word is, which is none of the fixed ones.
 #[tactic(auto, unfolding(crate::specs::SpecWords::other_head, crate::specs::SpecWords::discriminator_or_other, crate::specs::SpecWords::named_head))]
 fn other_head(
     cursor: &Cursor,
@@ -100,7 +106,7 @@ fn other_head(
     }
 }
 
-// The same of a word that does not end with `?`.
+/// The same of a word that does not end with `?`.
 #[tactic(auto, unfolding(crate::specs::SpecWords::expansion_or_other, crate::specs::SpecWords::named_head))]
 fn expansion_or_other(
     cursor: &Cursor,
@@ -111,7 +117,8 @@ fn expansion_or_other(
 ) -> Result<Head, Stop>
     requires start { IsPlace (source cursor.now) start }
     requires place { IsPlace (source cursor.now) place }
-    ensures { Finds head_view (expansion_or_other word.now (before_last 33 word.now)) (source cursor.now) result }
+    ensures { Finds head_view (expansion_or_other word.now (before_last 33 word.now))
+        (source cursor.now) result }
 {
     match before_exclamation_mark(word) {
         Some(name) => Ok(Head::Expansion(identifier(cursor, alloc, place, name)?)),
@@ -119,7 +126,7 @@ fn expansion_or_other(
     }
 }
 
-// The same of a word that does not end with `!` either.
+/// The same of a word that does not end with `!` either.
 #[tactic(auto, unfolding(crate::specs::SpecWords::operator_or_name))]
 fn operator_or_name(
     cursor: &Cursor,
@@ -130,7 +137,8 @@ fn operator_or_name(
 ) -> Result<Head, Stop>
     requires start { IsPlace (source cursor.now) start }
     requires place { IsPlace (source cursor.now) place }
-    ensures { Finds head_view (operator_or_name word.now (operator_of word.now)) (source cursor.now) result }
+    ensures { Finds head_view (operator_or_name word.now (operator_of word.now))
+        (source cursor.now) result }
 {
     match operator_of(word) {
         Some(op) => Ok(Head::Operator(op)),
@@ -138,7 +146,7 @@ fn operator_or_name(
     }
 }
 
-// The same of a word that is no operator either.
+/// The same of a word that is no operator either.
 #[tactic(auto, unfolding(crate::specs::SpecWords::field_or_variant, crate::specs::SpecWords::named_head))]
 fn field_or_variant(
     cursor: &Cursor,
@@ -149,7 +157,8 @@ fn field_or_variant(
 ) -> Result<Head, Stop>
     requires start { IsPlace (source cursor.now) start }
     requires place { IsPlace (source cursor.now) place }
-    ensures { Finds head_view (field_or_variant word.now (behind_mark (codes ":") word.now)) (source cursor.now) result }
+    ensures { Finds head_view (field_or_variant word.now (behind_mark (codes ":") word.now))
+        (source cursor.now) result }
 {
     match behind_colon(word) {
         Some(field) => Ok(Head::Field(identifier(cursor, alloc, place, field)?)),
@@ -157,7 +166,7 @@ fn field_or_variant(
     }
 }
 
-// The variant that this word is. Its names stand at the `(`.
+/// The variant that this word is. Its names stand at the `(`.
 #[tactic(auto, unfolding(crate::specs::SpecWords::variant_of, crate::specs::SpecWords::named_head))]
 fn variant(cursor: &Cursor, alloc: Global, start: Pos, word: &str) -> Result<Head, Stop>
     requires { IsPlace (source cursor.now) start }
@@ -173,16 +182,17 @@ fn variant(cursor: &Cursor, alloc: Global, start: Pos, word: &str) -> Result<Hea
     }
 }
 
-// This text, which stood at this place, where it is an identifier.
+/// This text, which stood at this place, where it is an identifier.
 fn identifier(cursor: &Cursor, alloc: Global, place: Pos, text: &str) -> Result<String, Stop>
     requires { IsPlace (source cursor.now) place }
-    ensures { Finds string_bytes (if is_identifier text.now then Some text.now else None) (source cursor.now) result }
+    ensures { Finds string_bytes (if is_identifier text.now then Some text.now else None)
+        (source cursor.now) result }
 {
     cursor.check_identifier(alloc, place, text)?;
     Ok(String::from_str(alloc, text)?)
 }
 
-// Refuses the spec expression that begins at this place.
+/// Refuses the spec expression that begins at this place.
 fn unexpected_spec(cursor: &Cursor, alloc: Global, place: Pos) -> Stop
     requires { IsPlace (source cursor.now) place }
     ensures { IsRefusal (source cursor.now) result }
@@ -190,8 +200,8 @@ fn unexpected_spec(cursor: &Cursor, alloc: Global, place: Pos) -> Stop
     cursor.refuse_at(place, String::from_str(alloc, "Unexpected spec expression"))
 }
 
-// A symbol that is an expression by itself.
-#[tactic(auto, unfolding(crate::specs::ReadSpecs::spec_word))]
+/// A symbol that is an expression by itself.
+#[tactic(auto, unfolding(crate::specs::SpecReaders::spec_word))]
 pub(super) fn parse_spec_word(cursor: &mut Cursor, alloc: Global) -> Result<SpecExpr, Stop>
     ensures same { source cursor.new ≡ source cursor.old }
     ensures gives { Gives spec_of (spec_word (tokens cursor.old)) result cursor.new }
@@ -202,7 +212,7 @@ pub(super) fn parse_spec_word(cursor: &mut Cursor, alloc: Global) -> Result<Spec
     spec_word(cursor, alloc, place, pos, word)
 }
 
-// The expression that this word is, which stood at `place`. Its position is `pos`.
+/// The expression that this word is, which stood at `place`. Its position is `pos`.
 #[tactic(auto, unfolding(crate::specs::SpecWords::word_of, crate::specs::SpecWords::binary_or_other, crate::specs::SpecWords::bit_vector_at))]
 fn spec_word(
     cursor: &Cursor,
@@ -215,7 +225,7 @@ fn spec_word(
     ensures { Finds spec_of (word_of pos (string_bytes word)) (source cursor.now) result }
 {
     match binary_digits(&word) {
-        Some(digits) => match bit_vector(digits, 2, 1) {
+        Some(digits) => match bit_vector_of(digits, 2, 1) {
             Some((val, width)) => Ok(SpecExpr::ConstBitVec { val, width, pos }),
             None => Err(cursor.refuse_at(
                 place,
@@ -226,7 +236,7 @@ fn spec_word(
     }
 }
 
-// The same of a word that does not begin with `#b`.
+/// The same of a word that does not begin with `#b`.
 #[tactic(auto, unfolding(crate::specs::SpecWords::hexadecimal_or_plain, crate::specs::SpecWords::bit_vector_at))]
 fn hexadecimal_or_plain(
     cursor: &Cursor,
@@ -236,10 +246,12 @@ fn hexadecimal_or_plain(
     word: String,
 ) -> Result<SpecExpr, Stop>
     requires { IsPlace (source cursor.now) place }
-    ensures { Finds spec_of (hexadecimal_or_plain pos (string_bytes word) (behind_mark (codes "#x") (string_bytes word))) (source cursor.now) result }
+    ensures { Finds spec_of
+        (hexadecimal_or_plain pos (string_bytes word)
+        (behind_mark (codes "#x") (string_bytes word))) (source cursor.now) result }
 {
     match hexadecimal_digits(&word) {
-        Some(digits) => match bit_vector(digits, 16, 4) {
+        Some(digits) => match bit_vector_of(digits, 16, 4) {
             Some((val, width)) => Ok(SpecExpr::ConstBitVec { val, width, pos }),
             None => Err(cursor.refuse_at(
                 place,
@@ -250,7 +262,7 @@ fn hexadecimal_or_plain(
     }
 }
 
-// `true`, `false` or a variable.
+/// `true`, `false` or a variable.
 #[tactic(auto, unfolding(crate::specs::SpecWords::plain_word))]
 fn plain_word(
     cursor: &Cursor,
@@ -273,7 +285,7 @@ fn plain_word(
     }
 }
 
-// The head that is one of the fixed words.
+/// The head that is one of the fixed words.
 #[tactic(auto, unfolding(crate::specs::SpecWords::keyword_head))]
 fn keyword_head(word: &str) -> Option<Head>
     ensures { option_map head_view result ≡ keyword_head word.now }
@@ -308,7 +320,7 @@ fn behind_colon(word: &str) -> Option<&str>
     word.strip_prefix(':')
 }
 
-// The texts before and behind the first dot.
+/// The texts before and behind the first dot.
 fn around_dot(word: &str) -> Option<(&str, &str)>
     ensures { option_map (λ parts. (parts.0.now, parts.1.now)) result ≡ around 46 word.now }
 {
@@ -327,16 +339,16 @@ fn hexadecimal_digits(word: &str) -> Option<&str>
     word.strip_prefix("#x")
 }
 
-// Tells whether a word begins as a bit vector does.
+/// Tells whether a word begins as a bit vector does.
 fn begins_bit_vector(word: &str) -> bool
     ensures { result ≡ begins_bit_vector word.now }
 {
     binary_digits(word).is_some() || hexadecimal_digits(word).is_some()
 }
 
-// The value and the width of these digits, each of which stands for so many bits.
+/// The value and the width of these digits, each of which stands for so many bits.
 #[tactic(auto, unfolding(crate::specs::SpecWords::bit_vector_of))]
-fn bit_vector(digits: &str, radix: u32, bits: usize) -> Option<(u128, usize)>
+fn bit_vector_of(digits: &str, radix: u32, bits: usize) -> Option<(u128, usize)>
     requires lower_bound { 2 ≤ radix }
     requires upper_bound { radix ≤ 36 }
     ensures { result ≡ bit_vector_of radix bits digits.now }

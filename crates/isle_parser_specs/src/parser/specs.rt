@@ -1,13 +1,21 @@
 //! Spec expressions: what specs, macros, states and models say.
 
 ghost use Rattle.std.specs.Prelude.{◌≡◌, string_bytes};
-ghost use Rattle.isle_ast_specs.specs.TreeView.{single_arm_of, single_arms_of, single_field_init_of, single_field_inits_of, single_spec_let_of, single_spec_lets_of, spec_of, specs_of};
-ghost use Rattle.isle_parser_cursor.specs.Answers.{Gives, IsPlace, source, tokens};
+ghost use Rattle.isle_ast_specs.specs.TreeView.{single_arm_of, single_arms_of};
+ghost use Rattle.isle_ast_specs.specs.TreeView.{single_field_init_of, single_field_inits_of};
+ghost use Rattle.isle_ast_specs.specs.TreeView.{single_spec_let_of, single_spec_lets_of, spec_of};
+ghost use Rattle.isle_ast_specs.specs.TreeView.{specs_of};
+ghost use Rattle.isle_parser_cursor.specs.Outcomes.{Gives, IsPlace, source, tokens};
 ghost use Rattle.isle_parser_cursor.specs.Reading.{closes, many};
-ghost use Rattle.isle_parser_specs.specs.ReadSpecs.{arm, behind_spec_head, field_init, spec_expression, spec_inside, spec_let, spec_lets, spec_pair};
-ghost use Rattle.isle_parser_specs.specs.SpecHeads.{head_view};
+ghost use Rattle.isle_parser_specs.specs.SpecReaders.{arm, behind_spec_head, field_init};
+ghost use Rattle.isle_parser_specs.specs.SpecReaders.{spec_expression, spec_inside, spec_let};
+ghost use Rattle.isle_parser_specs.specs.SpecReaders.{spec_lets, spec_pair};
+ghost use Rattle.isle_parser_specs.specs.SpecFormHeads.{head_view};
 ghost use Rattle.isle_parser_specs.specs.SpecParts.{cases_behind};
-ghost use Rattle.isle_parser_specs.specs.SpecWords.{as_head, discriminator_head, expansion_head, field_head, let_head, macro_head, match_head, operator_head, struct_head, switch_head, variant_head, with_head};
+ghost use Rattle.isle_parser_specs.specs.SpecWords.{as_head, discriminator_head, expansion_head};
+ghost use Rattle.isle_parser_specs.specs.SpecWords.{field_head, let_head, macro_head, match_head};
+ghost use Rattle.isle_parser_specs.specs.SpecWords.{operator_head, struct_head, switch_head};
+ghost use Rattle.isle_parser_specs.specs.SpecWords.{variant_head, with_head};
 
 use crate::parser::models::parse_model_type;
 use crate::parser::spec_words::{Head, parse_spec_head, parse_spec_word};
@@ -19,7 +27,7 @@ use std::alloc::Global;
 
 /// A spec expression.
 #[cycle(spec)]
-#[tactic(auto, using(crate::proofs::SpecParts::spec_is), unfolding(crate::specs::ReadSpecs::spec_step, isle_parser_cursor::specs::Reading::in_parentheses))]
+#[tactic(auto, using(crate::proofs::Reading::Parts::spec_is), unfolding(crate::specs::SpecReaders::spec_step, isle_parser_cursor::specs::Reading::in_parentheses))]
 pub fn parse_spec_expr(cursor: &mut Cursor, alloc: Global) -> Result<SpecExpr, Stop>
     ensures same { source cursor.new ≡ source cursor.old }
     ensures gives { Gives spec_of (spec_expression (tokens cursor.old)) result cursor.new }
@@ -41,10 +49,10 @@ pub fn parse_spec_expr(cursor: &mut Cursor, alloc: Global) -> Result<SpecExpr, S
     Err(cursor.refuse_at(place, String::from_str(alloc, "Unexpected spec expression")))
 }
 
-// A head, and what stands behind it. The `(` stood at this place, whose position in the tree is
-// `start`.
+/// A head, and what stands behind it. The `(` stood at this place, whose position in the tree is
+/// `start`.
 #[cycle(spec)]
-#[tactic(auto, using(crate::proofs::SpecParts::inside_by_head))]
+#[tactic(auto, using(crate::proofs::Reading::Parts::inside_by_head))]
 fn parse_spec_inside(
     cursor: &mut Cursor,
     alloc: Global,
@@ -53,16 +61,17 @@ fn parse_spec_inside(
 ) -> Result<SpecExpr, Stop>
     requires { IsPlace (source cursor.old) place }
     ensures same { source cursor.new ≡ source cursor.old }
-    ensures gives { Gives spec_of (spec_inside start spec_expression (tokens cursor.old)) result cursor.new }
+    ensures gives { Gives spec_of (spec_inside start spec_expression (tokens cursor.old)) result
+        cursor.new }
 {
     let pos = cursor.pos();
     let head = parse_spec_head(cursor, alloc, place)?;
     parse_behind_spec_head(cursor, alloc, start, pos, head)
 }
 
-// What stands behind this head, whose position is `pos`. That of the `(` before it is `start`.
+/// What stands behind this head, whose position is `pos`. That of the `(` before it is `start`.
 #[cycle(spec)]
-#[tactic(auto, unfolding(crate::specs::ReadSpecs::behind_spec_head))]
+#[tactic(auto, unfolding(crate::specs::SpecReaders::behind_spec_head))]
 fn parse_behind_spec_head(
     cursor: &mut Cursor,
     alloc: Global,
@@ -71,7 +80,9 @@ fn parse_behind_spec_head(
     head: Head,
 ) -> Result<SpecExpr, Stop>
     ensures same { source cursor.new ≡ source cursor.old }
-    ensures gives { Gives spec_of (behind_spec_head spec_expression start pos (head_view head) (tokens cursor.old)) result cursor.new }
+    ensures gives { Gives spec_of
+        (behind_spec_head spec_expression start pos (head_view head) (tokens cursor.old)) result
+        cursor.new }
 {
     match head {
         Head::Switch => parse_switch(cursor, alloc, start),
@@ -90,10 +101,12 @@ fn parse_behind_spec_head(
 }
 
 #[cycle(spec)]
-#[tactic(auto, unfolding(crate::specs::ReadSpecs::behind_spec_head))]
+#[tactic(auto, unfolding(crate::specs::SpecReaders::behind_spec_head))]
 fn parse_switch(cursor: &mut Cursor, alloc: Global, start: Pos) -> Result<SpecExpr, Stop>
     ensures same { source cursor.new ≡ source cursor.old }
-    ensures gives { Gives spec_of (behind_spec_head spec_expression start start switch_head (tokens cursor.old)) result cursor.new }
+    ensures gives { Gives spec_of
+        (behind_spec_head spec_expression start start switch_head (tokens cursor.old)) result
+        cursor.new }
 {
     let subject = parse_spec_expr(cursor, alloc)?;
     let args = parse_cases(cursor, alloc, subject)?;
@@ -104,11 +117,13 @@ fn parse_switch(cursor: &mut Cursor, alloc: Global, start: Pos) -> Result<SpecEx
     })
 }
 
-// The cases of a `switch`, up to the closing parenthesis, behind what it looks at.
+/// The cases of a `switch`, up to the closing parenthesis, behind what it looks at.
 #[cycle(spec)]
 fn parse_cases(cursor: &mut Cursor, alloc: Global, subject: SpecExpr) -> Result<Vec<SpecExpr>, Stop>
     ensures same { source cursor.new ≡ source cursor.old }
-    ensures gives { Gives (λ xs. specs_of xs.items) (cases_behind (spec_of subject) (tokens cursor.old)) result cursor.new }
+    ensures gives { Gives
+        (λ xs. specs_of xs.items) (cases_behind (spec_of subject) (tokens cursor.old)) result
+        cursor.new }
 {
     let mut args = Vec::new(alloc);
     args.push(subject)?;
@@ -119,10 +134,11 @@ fn parse_cases(cursor: &mut Cursor, alloc: Global, subject: SpecExpr) -> Result<
 }
 
 #[cycle(spec)]
-#[tactic(auto, unfolding(crate::specs::ReadSpecs::spec_pair, crate::specs::ReadSpecs::spec_pair_inside, isle_parser_cursor::specs::Reading::in_parentheses))]
+#[tactic(auto, unfolding(crate::specs::SpecReaders::spec_pair, crate::specs::SpecReaders::spec_pair_inside, isle_parser_cursor::specs::Reading::in_parentheses))]
 fn parse_case(cursor: &mut Cursor, alloc: Global) -> Result<SpecExpr, Stop>
     ensures same { source cursor.new ≡ source cursor.old }
-    ensures gives { Gives spec_of (spec_pair spec_expression (tokens cursor.old)) result cursor.new }
+    ensures gives { Gives spec_of (spec_pair spec_expression (tokens cursor.old)) result
+        cursor.new }
 {
     cursor.expect_lparen(alloc)?;
     let pos = cursor.pos();
@@ -132,10 +148,12 @@ fn parse_case(cursor: &mut Cursor, alloc: Global) -> Result<SpecExpr, Stop>
 }
 
 #[cycle(spec)]
-#[tactic(auto, unfolding(crate::specs::ReadSpecs::behind_spec_head))]
+#[tactic(auto, unfolding(crate::specs::SpecReaders::behind_spec_head))]
 fn parse_spec_let(cursor: &mut Cursor, alloc: Global, start: Pos) -> Result<SpecExpr, Stop>
     ensures same { source cursor.new ≡ source cursor.old }
-    ensures gives { Gives spec_of (behind_spec_head spec_expression start start let_head (tokens cursor.old)) result cursor.new }
+    ensures gives { Gives spec_of
+        (behind_spec_head spec_expression start start let_head (tokens cursor.old)) result
+        cursor.new }
 {
     let defs = parse_spec_letdefs(cursor, alloc)?;
     let body = Box::new(alloc, parse_spec_expr(cursor, alloc)?)?;
@@ -146,26 +164,30 @@ fn parse_spec_let(cursor: &mut Cursor, alloc: Global, start: Pos) -> Result<Spec
     })
 }
 
-// The definitions of a `let`, in parentheses.
+/// The definitions of a `let`, in parentheses.
 #[cycle(spec)]
-#[tactic(auto, unfolding(crate::specs::ReadSpecs::spec_lets, isle_parser_cursor::specs::Reading::in_parentheses))]
+#[tactic(auto, unfolding(crate::specs::SpecReaders::spec_lets, isle_parser_cursor::specs::Reading::in_parentheses))]
 fn parse_spec_letdefs(cursor: &mut Cursor, alloc: Global) -> Result<Vec<(Ident, SpecExpr)>, Stop>
     ensures same { source cursor.new ≡ source cursor.old }
-    ensures gives { Gives (λ ds. single_spec_lets_of ds.items) (spec_lets spec_expression (tokens cursor.old)) result cursor.new }
+    ensures gives { Gives
+        (λ ds. single_spec_lets_of ds.items) (spec_lets spec_expression (tokens cursor.old)) result
+        cursor.new }
 {
     cursor.expect_lparen(alloc)?;
     let defs = parse_spec_letdef_list(cursor, alloc)?;
     cursor.close(alloc, defs)
 }
 
-// Definitions, up to the closing parenthesis.
+/// Definitions, up to the closing parenthesis.
 #[cycle(spec)]
 fn parse_spec_letdef_list(
     cursor: &mut Cursor,
     alloc: Global,
 ) -> Result<Vec<(Ident, SpecExpr)>, Stop>
     ensures same { source cursor.new ≡ source cursor.old }
-    ensures gives { Gives (λ ds. single_spec_lets_of ds.items) (many closes (spec_let spec_expression) (tokens cursor.old)) result cursor.new }
+    ensures gives { Gives
+        (λ ds. single_spec_lets_of ds.items)
+        (many closes (spec_let spec_expression) (tokens cursor.old)) result cursor.new }
 {
     let mut defs = Vec::new(alloc);
     while !cursor.is_rparen() {
@@ -175,10 +197,11 @@ fn parse_spec_letdef_list(
 }
 
 #[cycle(spec)]
-#[tactic(auto, unfolding(crate::specs::ReadSpecs::spec_let, crate::specs::ReadSpecs::spec_let_inside, isle_parser_cursor::specs::Reading::in_parentheses))]
+#[tactic(auto, unfolding(crate::specs::SpecReaders::spec_let, crate::specs::SpecReaders::spec_let_inside, isle_parser_cursor::specs::Reading::in_parentheses))]
 fn parse_spec_letdef(cursor: &mut Cursor, alloc: Global) -> Result<(Ident, SpecExpr), Stop>
     ensures same { source cursor.new ≡ source cursor.old }
-    ensures gives { Gives single_spec_let_of (spec_let spec_expression (tokens cursor.old)) result cursor.new }
+    ensures gives { Gives single_spec_let_of (spec_let spec_expression (tokens cursor.old)) result
+        cursor.new }
 {
     cursor.expect_lparen(alloc)?;
     let name = cursor.parse_ident(alloc)?;
@@ -187,10 +210,12 @@ fn parse_spec_letdef(cursor: &mut Cursor, alloc: Global) -> Result<(Ident, SpecE
 }
 
 #[cycle(spec)]
-#[tactic(auto, unfolding(crate::specs::ReadSpecs::behind_spec_head))]
+#[tactic(auto, unfolding(crate::specs::SpecReaders::behind_spec_head))]
 fn parse_with(cursor: &mut Cursor, alloc: Global, start: Pos) -> Result<SpecExpr, Stop>
     ensures same { source cursor.new ≡ source cursor.old }
-    ensures gives { Gives spec_of (behind_spec_head spec_expression start start with_head (tokens cursor.old)) result cursor.new }
+    ensures gives { Gives spec_of
+        (behind_spec_head spec_expression start start with_head (tokens cursor.old)) result
+        cursor.new }
 {
     let decls = cursor.parse_idents(alloc)?;
     let body = Box::new(alloc, parse_spec_expr(cursor, alloc)?)?;
@@ -202,10 +227,12 @@ fn parse_with(cursor: &mut Cursor, alloc: Global, start: Pos) -> Result<SpecExpr
 }
 
 #[cycle(spec)]
-#[tactic(auto, unfolding(crate::specs::ReadSpecs::behind_spec_head))]
+#[tactic(auto, unfolding(crate::specs::SpecReaders::behind_spec_head))]
 fn parse_match(cursor: &mut Cursor, alloc: Global, start: Pos) -> Result<SpecExpr, Stop>
     ensures same { source cursor.new ≡ source cursor.old }
-    ensures gives { Gives spec_of (behind_spec_head spec_expression start start match_head (tokens cursor.old)) result cursor.new }
+    ensures gives { Gives spec_of
+        (behind_spec_head spec_expression start start match_head (tokens cursor.old)) result
+        cursor.new }
 {
     let x = Box::new(alloc, parse_spec_expr(cursor, alloc)?)?;
     let arms = parse_arms(cursor, alloc)?;
@@ -216,11 +243,13 @@ fn parse_match(cursor: &mut Cursor, alloc: Global, start: Pos) -> Result<SpecExp
     })
 }
 
-// The arms of a `match`, up to the closing parenthesis.
+/// The arms of a `match`, up to the closing parenthesis.
 #[cycle(spec)]
 fn parse_arms(cursor: &mut Cursor, alloc: Global) -> Result<Vec<Arm>, Stop>
     ensures same { source cursor.new ≡ source cursor.old }
-    ensures gives { Gives (λ arms. single_arms_of arms.items) (many closes (arm spec_expression) (tokens cursor.old)) result cursor.new }
+    ensures gives { Gives
+        (λ arms. single_arms_of arms.items) (many closes (arm spec_expression) (tokens cursor.old))
+        result cursor.new }
 {
     let mut arms = Vec::new(alloc);
     while !cursor.is_rparen() {
@@ -230,10 +259,11 @@ fn parse_arms(cursor: &mut Cursor, alloc: Global) -> Result<Vec<Arm>, Stop>
 }
 
 #[cycle(spec)]
-#[tactic(auto, unfolding(crate::specs::ReadSpecs::arm, crate::specs::ReadSpecs::arm_inside, isle_parser_cursor::specs::ReadNames::head_inside, isle_parser_cursor::specs::Reading::in_parentheses))]
+#[tactic(auto, unfolding(crate::specs::SpecReaders::arm, crate::specs::SpecReaders::arm_inside, isle_parser_cursor::specs::NameReaders::head_inside, isle_parser_cursor::specs::Reading::in_parentheses))]
 fn parse_arm(cursor: &mut Cursor, alloc: Global) -> Result<Arm, Stop>
     ensures same { source cursor.new ≡ source cursor.old }
-    ensures gives { Gives single_arm_of (arm spec_expression (tokens cursor.old)) result cursor.new }
+    ensures gives { Gives single_arm_of (arm spec_expression (tokens cursor.old)) result
+        cursor.new }
 {
     cursor.expect_lparen(alloc)?;
     let pos = cursor.pos();
@@ -251,20 +281,24 @@ fn parse_arm(cursor: &mut Cursor, alloc: Global) -> Result<Arm, Stop>
 }
 
 #[cycle(spec)]
-#[tactic(auto, unfolding(crate::specs::ReadSpecs::behind_spec_head))]
+#[tactic(auto, unfolding(crate::specs::SpecReaders::behind_spec_head))]
 fn parse_spec_struct(cursor: &mut Cursor, alloc: Global, start: Pos) -> Result<SpecExpr, Stop>
     ensures same { source cursor.new ≡ source cursor.old }
-    ensures gives { Gives spec_of (behind_spec_head spec_expression start start struct_head (tokens cursor.old)) result cursor.new }
+    ensures gives { Gives spec_of
+        (behind_spec_head spec_expression start start struct_head (tokens cursor.old)) result
+        cursor.new }
 {
     let fields = parse_field_inits(cursor, alloc)?;
     Ok(SpecExpr::Struct { fields, pos: start })
 }
 
-// The fields of a `struct`, up to the closing parenthesis.
+/// The fields of a `struct`, up to the closing parenthesis.
 #[cycle(spec)]
 fn parse_field_inits(cursor: &mut Cursor, alloc: Global) -> Result<Vec<FieldInit>, Stop>
     ensures same { source cursor.new ≡ source cursor.old }
-    ensures gives { Gives (λ fs. single_field_inits_of fs.items) (many closes (field_init spec_expression) (tokens cursor.old)) result cursor.new }
+    ensures gives { Gives
+        (λ fs. single_field_inits_of fs.items)
+        (many closes (field_init spec_expression) (tokens cursor.old)) result cursor.new }
 {
     let mut fields = Vec::new(alloc);
     while !cursor.is_rparen() {
@@ -274,10 +308,11 @@ fn parse_field_inits(cursor: &mut Cursor, alloc: Global) -> Result<Vec<FieldInit
 }
 
 #[cycle(spec)]
-#[tactic(auto, unfolding(crate::specs::ReadSpecs::field_init, crate::specs::ReadSpecs::field_init_inside, isle_parser_cursor::specs::Reading::in_parentheses))]
+#[tactic(auto, unfolding(crate::specs::SpecReaders::field_init, crate::specs::SpecReaders::field_init_inside, isle_parser_cursor::specs::Reading::in_parentheses))]
 fn parse_field_init(cursor: &mut Cursor, alloc: Global) -> Result<FieldInit, Stop>
     ensures same { source cursor.new ≡ source cursor.old }
-    ensures gives { Gives single_field_init_of (field_init spec_expression (tokens cursor.old)) result cursor.new }
+    ensures gives { Gives single_field_init_of (field_init spec_expression (tokens cursor.old))
+        result cursor.new }
 {
     cursor.expect_lparen(alloc)?;
     let pos = cursor.pos();
@@ -287,10 +322,12 @@ fn parse_field_init(cursor: &mut Cursor, alloc: Global) -> Result<FieldInit, Sto
 }
 
 #[cycle(spec)]
-#[tactic(auto, unfolding(crate::specs::ReadSpecs::behind_spec_head))]
+#[tactic(auto, unfolding(crate::specs::SpecReaders::behind_spec_head))]
 fn parse_macro(cursor: &mut Cursor, alloc: Global, start: Pos) -> Result<SpecExpr, Stop>
     ensures same { source cursor.new ≡ source cursor.old }
-    ensures gives { Gives spec_of (behind_spec_head spec_expression start start macro_head (tokens cursor.old)) result cursor.new }
+    ensures gives { Gives spec_of
+        (behind_spec_head spec_expression start start macro_head (tokens cursor.old)) result
+        cursor.new }
 {
     let params = cursor.parse_idents(alloc)?;
     let body = Box::new(alloc, parse_spec_expr(cursor, alloc)?)?;
@@ -302,10 +339,12 @@ fn parse_macro(cursor: &mut Cursor, alloc: Global, start: Pos) -> Result<SpecExp
 }
 
 #[cycle(spec)]
-#[tactic(auto, unfolding(crate::specs::ReadSpecs::behind_spec_head))]
+#[tactic(auto, unfolding(crate::specs::SpecReaders::behind_spec_head))]
 fn parse_as(cursor: &mut Cursor, alloc: Global, start: Pos) -> Result<SpecExpr, Stop>
     ensures same { source cursor.new ≡ source cursor.old }
-    ensures gives { Gives spec_of (behind_spec_head spec_expression start start as_head (tokens cursor.old)) result cursor.new }
+    ensures gives { Gives spec_of
+        (behind_spec_head spec_expression start start as_head (tokens cursor.old)) result
+        cursor.new }
 {
     let x = Box::new(alloc, parse_spec_expr(cursor, alloc)?)?;
     let ty = parse_model_type(cursor, alloc)?;
@@ -313,7 +352,7 @@ fn parse_as(cursor: &mut Cursor, alloc: Global, start: Pos) -> Result<SpecExpr, 
 }
 
 #[cycle(spec)]
-#[tactic(auto, unfolding(crate::specs::ReadSpecs::behind_spec_head))]
+#[tactic(auto, unfolding(crate::specs::SpecReaders::behind_spec_head))]
 fn parse_discriminator(
     cursor: &mut Cursor,
     alloc: Global,
@@ -322,7 +361,9 @@ fn parse_discriminator(
     variant: String,
 ) -> Result<SpecExpr, Stop>
     ensures same { source cursor.new ≡ source cursor.old }
-    ensures gives { Gives spec_of (behind_spec_head spec_expression start pos (discriminator_head (string_bytes variant)) (tokens cursor.old)) result cursor.new }
+    ensures gives { Gives spec_of
+        (behind_spec_head spec_expression start pos (discriminator_head (string_bytes variant))
+        (tokens cursor.old)) result cursor.new }
 {
     let x = Box::new(alloc, parse_spec_expr(cursor, alloc)?)?;
     Ok(SpecExpr::Discriminator {
@@ -333,7 +374,7 @@ fn parse_discriminator(
 }
 
 #[cycle(spec)]
-#[tactic(auto, unfolding(crate::specs::ReadSpecs::behind_spec_head))]
+#[tactic(auto, unfolding(crate::specs::SpecReaders::behind_spec_head))]
 fn parse_expansion(
     cursor: &mut Cursor,
     alloc: Global,
@@ -342,7 +383,9 @@ fn parse_expansion(
     name: String,
 ) -> Result<SpecExpr, Stop>
     ensures same { source cursor.new ≡ source cursor.old }
-    ensures gives { Gives spec_of (behind_spec_head spec_expression start pos (expansion_head (string_bytes name)) (tokens cursor.old)) result cursor.new }
+    ensures gives { Gives spec_of
+        (behind_spec_head spec_expression start pos (expansion_head (string_bytes name))
+        (tokens cursor.old)) result cursor.new }
 {
     let args = parse_spec_exprs(cursor, alloc)?;
     Ok(SpecExpr::Expand {
@@ -353,7 +396,7 @@ fn parse_expansion(
 }
 
 #[cycle(spec)]
-#[tactic(auto, unfolding(crate::specs::ReadSpecs::behind_spec_head))]
+#[tactic(auto, unfolding(crate::specs::SpecReaders::behind_spec_head))]
 fn parse_operation(
     cursor: &mut Cursor,
     alloc: Global,
@@ -361,7 +404,9 @@ fn parse_operation(
     op: SpecOp,
 ) -> Result<SpecExpr, Stop>
     ensures same { source cursor.new ≡ source cursor.old }
-    ensures gives { Gives spec_of (behind_spec_head spec_expression start start (operator_head op) (tokens cursor.old)) result cursor.new }
+    ensures gives { Gives spec_of
+        (behind_spec_head spec_expression start start (operator_head op) (tokens cursor.old))
+        result cursor.new }
 {
     let args = parse_spec_exprs(cursor, alloc)?;
     Ok(SpecExpr::Op {
@@ -372,7 +417,7 @@ fn parse_operation(
 }
 
 #[cycle(spec)]
-#[tactic(auto, unfolding(crate::specs::ReadSpecs::behind_spec_head))]
+#[tactic(auto, unfolding(crate::specs::SpecReaders::behind_spec_head))]
 fn parse_field(
     cursor: &mut Cursor,
     alloc: Global,
@@ -381,7 +426,9 @@ fn parse_field(
     field: String,
 ) -> Result<SpecExpr, Stop>
     ensures same { source cursor.new ≡ source cursor.old }
-    ensures gives { Gives spec_of (behind_spec_head spec_expression start pos (field_head (string_bytes field)) (tokens cursor.old)) result cursor.new }
+    ensures gives { Gives spec_of
+        (behind_spec_head spec_expression start pos (field_head (string_bytes field))
+        (tokens cursor.old)) result cursor.new }
 {
     let x = Box::new(alloc, parse_spec_expr(cursor, alloc)?)?;
     Ok(SpecExpr::Field {
@@ -392,7 +439,7 @@ fn parse_field(
 }
 
 #[cycle(spec)]
-#[tactic(auto, unfolding(crate::specs::ReadSpecs::behind_spec_head))]
+#[tactic(auto, unfolding(crate::specs::SpecReaders::behind_spec_head))]
 fn parse_variant(
     cursor: &mut Cursor,
     alloc: Global,
@@ -401,7 +448,10 @@ fn parse_variant(
     variant: String,
 ) -> Result<SpecExpr, Stop>
     ensures same { source cursor.new ≡ source cursor.old }
-    ensures gives { Gives spec_of (behind_spec_head spec_expression start start (variant_head (string_bytes name) (string_bytes variant)) (tokens cursor.old)) result cursor.new }
+    ensures gives { Gives spec_of
+        (behind_spec_head spec_expression start start
+        (variant_head (string_bytes name) (string_bytes variant)) (tokens cursor.old)) result
+        cursor.new }
 {
     let args = parse_spec_exprs(cursor, alloc)?;
     Ok(SpecExpr::Enum {
@@ -412,11 +462,13 @@ fn parse_variant(
     })
 }
 
-// Spec expressions, up to the closing parenthesis.
+/// Spec expressions, up to the closing parenthesis.
 #[cycle(spec)]
 pub(super) fn parse_spec_exprs(cursor: &mut Cursor, alloc: Global) -> Result<Vec<SpecExpr>, Stop>
     ensures same { source cursor.new ≡ source cursor.old }
-    ensures gives { Gives (λ xs. specs_of xs.items) (many closes spec_expression (tokens cursor.old)) result cursor.new }
+    ensures gives { Gives
+        (λ xs. specs_of xs.items) (many closes spec_expression (tokens cursor.old)) result
+        cursor.new }
 {
     let mut exprs = Vec::new(alloc);
     while !cursor.is_rparen() {

@@ -1,8 +1,10 @@
 //! The S-expressions of models of types, of what holds them, and of their definitions.
 
 ghost use Rattle.std.specs.Prelude.{◌≡◌, ◌++◌, map, IfOk, OnOk};
-ghost use Rattle.isle_ast.specs.TreeView.{model_content_of, model_definition_of, signature_of, signatures_of};
-ghost use Rattle.isle_printer.specs.DefinitionShapes.{model_content_shape, model_definition_shape, signature_shape};
+ghost use Rattle.isle_ast.specs.TreeView.{model_content_of, model_definition_of, signature_of};
+ghost use Rattle.isle_ast.specs.TreeView.{signatures_of};
+ghost use Rattle.isle_printer.specs.DefinitionShapes.{model_content_shape, model_definition_shape};
+ghost use Rattle.isle_printer.specs.DefinitionShapes.{signature_shape};
 ghost use Rattle.isle_printer_layout.specs.SexpView.{sexp_of, sexps_of};
 
 use super::to_sexpr::ToSExpr;

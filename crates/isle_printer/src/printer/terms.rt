@@ -1,10 +1,16 @@
 //! The S-expressions of the definitions that speak of terms.
 
 ghost use Rattle.std.specs.Prelude.{◌≡◌, ◌++◌, map, IfOk, OnOk};
-ghost use Rattle.isle_ast.specs.TreeView.{attribute_of, conversion_of, declaration_of, extern_of, form_of, instantiation_of, kind_of, signatures_of, target_of};
+ghost use Rattle.isle_ast.specs.TreeView.{attribute_of, conversion_of, declaration_of, extern_of};
+ghost use Rattle.isle_ast.specs.TreeView.{form_of, instantiation_of, kind_of, signatures_of};
+ghost use Rattle.isle_ast.specs.TreeView.{target_of};
 ghost use Rattle.isle_ast_names.specs.TreeView.{name_of, names_of, optional_name_of};
 ghost use Rattle.isle_printer_layout.specs.SexpView.{sexp_of, sexps_of};
-ghost use Rattle.isle_printer.specs.DefinitionShapes.{attribute_shape, conversion_shape, declaration_shape, extern_shape, form_definition_shape, instance_shapes, instantiation_shape, kind_shape, tag_shape, target_shape};
+ghost use Rattle.isle_printer.specs.DefinitionShapes.{attribute_shape, conversion_shape};
+ghost use Rattle.isle_printer.specs.DefinitionShapes.{declaration_shape, extern_shape};
+ghost use Rattle.isle_printer.specs.DefinitionShapes.{form_definition_shape, instance_shapes};
+ghost use Rattle.isle_printer.specs.DefinitionShapes.{instantiation_shape, kind_shape, tag_shape};
+ghost use Rattle.isle_printer.specs.DefinitionShapes.{target_shape};
 
 use super::models::push_signatures;
 use super::to_sexpr::ToSExpr;

@@ -1,9 +1,12 @@
 //! The S-expressions of type definitions and their parts.
 
 ghost use Rattle.std.specs.Prelude.{◌≡◌, ◌++◌, map, IfOk, OnOk};
-ghost use Rattle.isle_ast.specs.TreeView.{fields_of, indexed_field_of, named_field_of, type_content_of, type_definition_of, variant_of};
+ghost use Rattle.isle_ast.specs.TreeView.{fields_of, indexed_field_of, named_field_of};
+ghost use Rattle.isle_ast.specs.TreeView.{type_content_of, type_definition_of, variant_of};
 ghost use Rattle.isle_printer_layout.specs.SexpView.{sexp_of, sexps_of};
-ghost use Rattle.isle_printer.specs.DefinitionShapes.{field_shapes, indexed_field_shape, named_field_shape, type_content_shape, type_shape, variant_shape};
+ghost use Rattle.isle_printer.specs.DefinitionShapes.{field_shapes, indexed_field_shape};
+ghost use Rattle.isle_printer.specs.DefinitionShapes.{named_field_shape, type_content_shape};
+ghost use Rattle.isle_printer.specs.DefinitionShapes.{type_shape, variant_shape};
 
 use super::to_sexpr::ToSExpr;
 use isle_ast::ast::{Fields, StructField, TupleField, TypeDef, TypeValue, Variant};

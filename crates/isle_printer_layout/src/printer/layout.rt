@@ -3,7 +3,8 @@
 //! Columns count the bytes written on a line, its indentation apart. The functions are given the
 //! room that the width leaves of the line, and the level of indentation.
 
-ghost use Rattle.std.specs.Prelude.{◌≡◌, ◌≤◌, ◌<◌, ◌+◌, ◌++◌, ◌↔◌, IsTrue, OnOk, IfSome, MatchOption, string_bytes, string_len};
+ghost use Rattle.std.specs.Prelude.{◌≡◌, ◌≤◌, ◌<◌, ◌+◌, ◌++◌, ◌↔◌, IsTrue, OnOk, IfSome};
+ghost use Rattle.std.specs.Prelude.{MatchOption, string_bytes, string_len};
 ghost use Rattle.isle_printer_layout.specs.Flat.{flat, counted};
 ghost use Rattle.isle_printer_layout.specs.Layout.{layout_in, layout_broken, new_line};
 ghost use Rattle.isle_printer_layout.specs.Looks.{nodes};

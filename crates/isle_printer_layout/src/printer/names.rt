@@ -3,7 +3,9 @@
 ghost use Rattle.std.specs.Prelude.{◌≡◌, ◌++◌, [], ◌∷◌, IfOk, OnOk};
 ghost use Rattle.isle_ast_names.specs.TreeView.{name_of, names_of};
 ghost use Rattle.isle_ast_names.specs.Words.{bool_word};
-ghost use Rattle.isle_printer_layout.specs.NameShapes.{constant_shape, flag_shape, form_shape, headed_shape, integer_shape, name_shape, name_shapes, number_shape};
+ghost use Rattle.isle_printer_layout.specs.NameShapes.{constant_shape, flag_shape, form_shape};
+ghost use Rattle.isle_printer_layout.specs.NameShapes.{headed_shape, integer_shape, name_shape};
+ghost use Rattle.isle_printer_layout.specs.NameShapes.{name_shapes, number_shape};
 ghost use Rattle.isle_printer_layout.specs.Sexp.{atom, row_of};
 ghost use Rattle.isle_printer_layout.specs.SexpView.{sexp_of, sexps_of};
 

@@ -1,8 +1,10 @@
 //! The S-expressions of expressions and of the definitions of a `let`.
 
 ghost use Rattle.std.specs.Prelude.{◌≡◌, ◌∷◌, [], ◌++◌, IfOk, OnOk};
-ghost use Rattle.isle_ast_rules.specs.TreeView.{expression_of, expression_row_of, expressions_of, let_row_of, single_let_of, single_lets_of};
-ghost use Rattle.isle_printer_rules.specs.RuleShapes.{expression_shape, expression_shapes, let_shape, let_shapes};
+ghost use Rattle.isle_ast_rules.specs.TreeView.{expression_of, expression_row_of, expressions_of};
+ghost use Rattle.isle_ast_rules.specs.TreeView.{let_row_of, single_let_of, single_lets_of};
+ghost use Rattle.isle_printer_rules.specs.RuleShapes.{expression_shape, expression_shapes};
+ghost use Rattle.isle_printer_rules.specs.RuleShapes.{let_shape, let_shapes};
 ghost use Rattle.isle_printer_layout.specs.Sexp.{row_of};
 ghost use Rattle.isle_printer_layout.specs.SexpView.{sexp_of, sexps_of};
 

@@ -3,7 +3,8 @@
 ghost use Rattle.std.specs.Prelude.{◌≡◌, ◌++◌, map, IfOk, OnOk};
 ghost use Rattle.isle_ast_rules.specs.TreeView.{condition_of, conditions_of, extractor_of, rule_of};
 ghost use Rattle.isle_ast_names.specs.TreeView.{optional_name_of};
-ghost use Rattle.isle_printer_rules.specs.RuleShapes.{condition_shape, extractor_shape, priority_shape, rule_name_shape, rule_shape};
+ghost use Rattle.isle_printer_rules.specs.RuleShapes.{condition_shape, extractor_shape};
+ghost use Rattle.isle_printer_rules.specs.RuleShapes.{priority_shape, rule_name_shape, rule_shape};
 ghost use Rattle.isle_printer_layout.specs.SexpView.{sexp_of, sexps_of};
 
 use super::expressions::expression;

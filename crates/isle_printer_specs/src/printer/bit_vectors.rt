@@ -1,6 +1,7 @@
 //! The atoms of bit vectors: digits in a radix, behind zeros up to the width.
 
-ghost use Rattle.std.specs.Prelude.{◌≡◌, ◌≤◌, ◌<◌, [], ◌∷◌, ◌++◌, replicate, string_bytes, IfOk, OnOk};
+ghost use Rattle.std.specs.Prelude.{◌≡◌, ◌≤◌, ◌<◌, [], ◌∷◌, ◌++◌, replicate, string_bytes, IfOk};
+ghost use Rattle.std.specs.Prelude.{OnOk};
 ghost use Rattle.std.specs.Char.{digit_char};
 ghost use Rattle.isle_printer_layout.specs.Sexp.{atom};
 ghost use Rattle.isle_printer_layout.specs.SexpView.{sexp_of};

@@ -1,9 +1,12 @@
 //! The S-expressions of specs, of their macros and of states.
 
 ghost use Rattle.std.specs.Prelude.{◌≡◌, ◌++◌, map, IfOk, OnOk};
-ghost use Rattle.isle_ast_specs.specs.TreeView.{modified_of, spec_definition_of, spec_macro_of, specs_of, state_of};
+ghost use Rattle.isle_ast_specs.specs.TreeView.{modified_of, spec_definition_of, spec_macro_of};
+ghost use Rattle.isle_ast_specs.specs.TreeView.{specs_of, state_of};
 ghost use Rattle.isle_printer_layout.specs.SexpView.{sexp_of, sexps_of};
-ghost use Rattle.isle_printer_specs.specs.SpecShapes.{clause_shape, modifies_shape, spec_definition_shape, spec_macro_shape, spec_shape, state_shape};
+ghost use Rattle.isle_printer_specs.specs.SpecShapes.{clause_shape, modifies_shape};
+ghost use Rattle.isle_printer_specs.specs.SpecShapes.{spec_definition_shape, spec_macro_shape};
+ghost use Rattle.isle_printer_specs.specs.SpecShapes.{spec_shape, state_shape};
 
 use super::models::model_type;
 use super::specs::spec;

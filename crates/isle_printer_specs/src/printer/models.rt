@@ -1,10 +1,12 @@
 //! The S-expressions of models of types.
 
 ghost use Rattle.std.specs.Prelude.{◌≡◌, ◌++◌, map, IfOk, OnOk, codes};
-ghost use Rattle.isle_ast_specs.specs.TreeView.{model_row_of, single_model_field_of, single_model_fields_of, type_model_of};
+ghost use Rattle.isle_ast_specs.specs.TreeView.{model_row_of, single_model_field_of};
+ghost use Rattle.isle_ast_specs.specs.TreeView.{single_model_fields_of, type_model_of};
 ghost use Rattle.isle_printer_layout.specs.NameShapes.{form_shape};
 ghost use Rattle.isle_printer_layout.specs.SexpView.{sexp_of, sexps_of};
-ghost use Rattle.isle_printer_specs.specs.SpecShapes.{model_field_shape, model_field_shapes, model_shape, width_shape};
+ghost use Rattle.isle_printer_specs.specs.SpecShapes.{model_field_shape, model_field_shapes};
+ghost use Rattle.isle_printer_specs.specs.SpecShapes.{model_shape, width_shape};
 
 use isle_ast_specs::ast::{ModelField, ModelType};
 use isle_printer_layout::printer::SExpr;
@@ -22,7 +24,7 @@ pub fn model_type(ty: &ModelType, alloc: Global) -> Result<SExpr, AllocError>
         ModelType::Int => atom(alloc, "Int"),
         ModelType::Bool => atom(alloc, "Bool"),
         ModelType::Unit => atom(alloc, "Unit"),
-        ModelType::BitVec(width) => bit_vector(alloc, *width),
+        ModelType::BitVec(width) => bit_vector_model(alloc, *width),
         ModelType::Struct(fields) => struct_model(fields, alloc),
         ModelType::Named(other) => headed(alloc, "named", name(alloc, other)?),
     }
@@ -55,7 +57,7 @@ pub fn model_field(field: &ModelField, alloc: Global) -> Result<SExpr, AllocErro
 }
 
 /// The S-expression of bit vectors of a number of bits, if it is known.
-fn bit_vector(alloc: Global, width: Option<usize>) -> Result<SExpr, AllocError>
+fn bit_vector_model(alloc: Global, width: Option<usize>) -> Result<SExpr, AllocError>
     ensures { IfOk result (λ s. sexp_of s ≡ form_shape (codes "bv") (width_shape width)) }
 {
     let mut items = begun(alloc, "bv")?;

@@ -1,13 +1,18 @@
 //! The S-expressions of spec expressions, and of the arms and the fields in them.
 
 ghost use Rattle.std.specs.Prelude.{◌≡◌, ◌∷◌, codes, IfOk};
-ghost use Rattle.isle_ast_specs.specs.TreeView.{arm_row_of, field_init_row_of, single_arm_of, single_arms_of, single_field_init_of, single_field_inits_of, single_spec_lets_of, spec_let_row_of, spec_of, spec_row_of, specs_of};
+ghost use Rattle.isle_ast_specs.specs.TreeView.{arm_row_of, field_init_row_of, single_arm_of};
+ghost use Rattle.isle_ast_specs.specs.TreeView.{single_arms_of, single_field_init_of};
+ghost use Rattle.isle_ast_specs.specs.TreeView.{single_field_inits_of, single_spec_lets_of};
+ghost use Rattle.isle_ast_specs.specs.TreeView.{spec_let_row_of, spec_of, spec_row_of, specs_of};
 ghost use Rattle.isle_ast_specs.specs.SpecGrammar.{dotted};
 ghost use Rattle.isle_ast_names.specs.TreeView.{name_of};
 ghost use Rattle.isle_printer_layout.specs.Sexp.{atom, row_of};
 ghost use Rattle.isle_printer_layout.specs.SexpView.{sexp_of};
 ghost use Rattle.isle_printer_layout.specs.NameShapes.{form_shape};
-ghost use Rattle.isle_printer_specs.specs.SpecShapes.{arm_shape, arm_shapes, field_init_shape, field_init_shapes, spec_let_shapes, spec_shape, spec_shapes};
+ghost use Rattle.isle_printer_specs.specs.SpecShapes.{arm_shape, arm_shapes, field_init_shape};
+ghost use Rattle.isle_printer_specs.specs.SpecShapes.{field_init_shapes, spec_let_shapes};
+ghost use Rattle.isle_printer_specs.specs.SpecShapes.{spec_shape, spec_shapes};
 
 use super::bit_vectors::bit_vector;
 use super::models::model_type;

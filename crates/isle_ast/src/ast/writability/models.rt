@@ -2,10 +2,15 @@
 
 ghost use Rattle.std.specs.Prelude.{◌≡◌, map};
 ghost use Rattle.std.specs.List.{list_all};
-ghost use Rattle.isle_ast_specs.specs.WritableTests.{is_writable_model};
-ghost use Rattle.isle_ast.specs.TreeView.{form_of, instantiation_of, model_content_of, model_definition_of, signature_of, signatures_of};
+ghost use Rattle.isle_ast_specs.specs.WritableDeciders.{is_writable_model};
+ghost use Rattle.isle_ast.specs.TreeView.{form_of, instantiation_of, model_content_of};
+ghost use Rattle.isle_ast.specs.TreeView.{model_definition_of, signature_of, signatures_of};
 ghost use Rattle.isle_ast_specs.specs.TreeView.{type_model_of};
-ghost use Rattle.isle_ast.specs.WritableTests.{are_writable_instances, is_writable_form, is_writable_instantiation, is_writable_model_content, is_writable_model_definition, is_writable_signature};
+ghost use Rattle.isle_ast.specs.WritableDeciders.{are_writable_instances, is_writable_form};
+ghost use Rattle.isle_ast.specs.WritableDeciders.{is_writable_instantiation};
+ghost use Rattle.isle_ast.specs.WritableDeciders.{is_writable_model_content};
+ghost use Rattle.isle_ast.specs.WritableDeciders.{is_writable_model_definition};
+ghost use Rattle.isle_ast.specs.WritableDeciders.{is_writable_signature};
 
 use crate::ast::{Form, Instantiation, Model, ModelType, ModelValue, Signature};
 use isle_ast_names::ast::writability::{are_names, is_name};
@@ -66,7 +71,9 @@ pub(super) fn is_writable_instantiation(instantiation: &Instantiation) -> bool
 
 /// Tells whether a term has the signatures of a form, under tags, or at least one of its own.
 fn are_writable_instances(instantiation: &Instantiation) -> bool
-    ensures { result ≡ are_writable_instances (instantiation_of instantiation.now).form (instantiation_of instantiation.now).signatures (instantiation_of instantiation.now).tags }
+    ensures { result
+        ≡ are_writable_instances (instantiation_of instantiation.now).form
+        (instantiation_of instantiation.now).signatures (instantiation_of instantiation.now).tags }
 {
     let Instantiation {
         form,

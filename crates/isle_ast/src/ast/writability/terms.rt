@@ -1,9 +1,14 @@
-//! Which declarations, attributes, outside terms and conversions are written so that they read back.
+//! Which declarations, attributes, outside terms and conversions are written so that they read
+//! back.
 
 ghost use Rattle.std.specs.Prelude.{◌≡◌, ◌||◌, codes, map};
 ghost use Rattle.std.specs.List.{list_all};
-ghost use Rattle.isle_ast.specs.TreeView.{attribute_of, conversion_of, declaration_of, extern_of, kind_of, target_of};
-ghost use Rattle.isle_ast.specs.WritableTests.{is_writable_attribute, is_writable_conversion, is_writable_declaration, is_writable_extern, is_writable_kind, is_writable_target, wants_flags};
+ghost use Rattle.isle_ast.specs.TreeView.{attribute_of, conversion_of, declaration_of, extern_of};
+ghost use Rattle.isle_ast.specs.TreeView.{kind_of, target_of};
+ghost use Rattle.isle_ast.specs.WritableDeciders.{is_writable_attribute, is_writable_conversion};
+ghost use Rattle.isle_ast.specs.WritableDeciders.{is_writable_declaration, is_writable_extern};
+ghost use Rattle.isle_ast.specs.WritableDeciders.{is_writable_kind, is_writable_target};
+ghost use Rattle.isle_ast.specs.WritableDeciders.{wants_flags};
 
 use crate::ast::{Attr, AttrKind, AttrTarget, Converter, Decl, Extern};
 use isle_ast_names::ast::writability::{are_names, is_constant_name, is_name};

@@ -2,8 +2,11 @@
 
 ghost use Rattle.std.specs.Prelude.{◌≡◌, map};
 ghost use Rattle.std.specs.List.{list_all};
-ghost use Rattle.isle_ast.specs.TreeView.{fields_of, indexed_field_of, named_field_of, type_content_of, type_definition_of, variant_of};
-ghost use Rattle.isle_ast.specs.WritableTests.{are_writable_fields, are_writable_indexed_fields, is_writable_named_field, is_writable_type, is_writable_type_content, is_writable_variant};
+ghost use Rattle.isle_ast.specs.TreeView.{fields_of, indexed_field_of, named_field_of};
+ghost use Rattle.isle_ast.specs.TreeView.{type_content_of, type_definition_of, variant_of};
+ghost use Rattle.isle_ast.specs.WritableDeciders.{are_writable_fields, are_writable_indexed_fields};
+ghost use Rattle.isle_ast.specs.WritableDeciders.{is_writable_named_field, is_writable_type};
+ghost use Rattle.isle_ast.specs.WritableDeciders.{is_writable_type_content, is_writable_variant};
 
 use crate::ast::{Fields, StructField, TupleField, TypeDef, TypeValue, Variant};
 use isle_ast_names::ast::writability::is_name;

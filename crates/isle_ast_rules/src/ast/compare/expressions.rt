@@ -3,8 +3,11 @@
 ghost use Rattle.std.specs.Prelude.{◌≡◌, ◌&&◌};
 ghost use Rattle.std.specs.Cmp.{partial_equiv_from_equiv};
 ghost use Rattle.std.specs.Ordering.{on};
-ghost use Rattle.isle_ast_rules.specs.SameExpression.{expressions_equiv, let_defs_equiv, same_expression, same_expressions, same_lets, same_single_let};
-ghost use Rattle.isle_ast_rules.specs.TreeView.{expression_of, expression_row_of, expressions_of, let_row_of, single_let_of, single_lets_of};
+ghost use Rattle.isle_ast_rules.specs.SameExpression.{expressions_equiv, let_defs_equiv};
+ghost use Rattle.isle_ast_rules.specs.SameExpression.{same_expression, same_expressions, same_lets};
+ghost use Rattle.isle_ast_rules.specs.SameExpression.{same_single_let};
+ghost use Rattle.isle_ast_rules.specs.TreeView.{expression_of, expression_row_of, expressions_of};
+ghost use Rattle.isle_ast_rules.specs.TreeView.{let_row_of, single_let_of, single_lets_of};
 
 use crate::ast::{Expr, LetDef};
 
@@ -93,7 +96,9 @@ fn same_expr(a: &Expr, b: &Expr) -> bool
 /// Tells whether two lists of expressions are equal.
 #[cycle(same)]
 fn same_exprs(exprs: &Vec<Expr>, others: &Vec<Expr>) -> bool
-    ensures { result ≡ same_expressions (expression_row_of (expressions_of exprs.now.items)) (expression_row_of (expressions_of others.now.items)) }
+    ensures { result
+        ≡ same_expressions (expression_row_of (expressions_of exprs.now.items))
+        (expression_row_of (expressions_of others.now.items)) }
 {
     if exprs.len() != others.len() {
         return false;
@@ -109,7 +114,9 @@ fn same_exprs(exprs: &Vec<Expr>, others: &Vec<Expr>) -> bool
 /// Tells whether two lists of definitions of a `let` are equal.
 #[cycle(same)]
 fn same_let_defs(defs: &Vec<LetDef>, others: &Vec<LetDef>) -> bool
-    ensures { result ≡ same_lets (let_row_of (single_lets_of defs.now.items)) (let_row_of (single_lets_of others.now.items)) }
+    ensures { result
+        ≡ same_lets (let_row_of (single_lets_of defs.now.items))
+        (let_row_of (single_lets_of others.now.items)) }
 {
     if defs.len() != others.len() {
         return false;

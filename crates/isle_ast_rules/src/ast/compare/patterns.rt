@@ -94,7 +94,9 @@ fn same_pattern(a: &Pattern, b: &Pattern) -> bool
 /// Tells whether two lists of patterns are equal.
 #[cycle(same)]
 fn same_patterns(patterns: &Vec<Pattern>, others: &Vec<Pattern>) -> bool
-    ensures { result ≡ same_patterns (pattern_row_of (patterns_of patterns.now.items)) (pattern_row_of (patterns_of others.now.items)) }
+    ensures { result
+        ≡ same_patterns (pattern_row_of (patterns_of patterns.now.items))
+        (pattern_row_of (patterns_of others.now.items)) }
 {
     if patterns.len() != others.len() {
         return false;

@@ -1,8 +1,13 @@
-//! The terms of patterns and of expressions, each at its position, in preorder. No walk takes memory.
+//! The terms of patterns and of expressions, each at its position, in preorder. No walk takes
+//! memory.
 
 ghost use Rattle.std.specs.List.{FoldsTo};
-ghost use Rattle.isle_ast_rules.specs.Heads.{CalledAtHead, expression_heads, expression_row_heads, heads, let_row_heads, row_heads};
-ghost use Rattle.isle_ast_rules.specs.TreeView.{expression_of, expression_row_of, expressions_of, let_row_of, pattern_of, pattern_row_of, patterns_of, single_let_of, single_lets_of};
+ghost use Rattle.isle_ast_rules.specs.TermHeads.{CalledAtHead, expression_heads};
+ghost use Rattle.isle_ast_rules.specs.TermHeads.{expression_row_heads, heads, let_row_heads};
+ghost use Rattle.isle_ast_rules.specs.TermHeads.{row_heads};
+ghost use Rattle.isle_ast_rules.specs.TreeView.{expression_of, expression_row_of, expressions_of};
+ghost use Rattle.isle_ast_rules.specs.TreeView.{let_row_of, pattern_of, pattern_row_of};
+ghost use Rattle.isle_ast_rules.specs.TreeView.{patterns_of, single_let_of, single_lets_of};
 ghost use Rattle.isle_ast_names.specs.TreeView.{name_of};
 
 use crate::ast::{Expr, LetDef, Pattern};
@@ -10,10 +15,11 @@ use isle_ast_names::ast::Ident;
 use isle_base::lexer::Pos;
 
 impl Pattern {
-    /// Calls `f` with the position and the symbol of each term of the pattern, in the order in which they are
-    /// written: a term comes before those of its arguments.
+    /// Calls `f` with the position and the symbol of each term of the pattern, in the order in
+    /// which they are written: a term comes before those of its arguments.
     ///
-    /// It asks that `f` may be called with anything, after each call again. It can't fail, and takes no memory.
+    /// It asks that `f` may be called with anything, after each call again. It can't fail, and
+    /// takes no memory.
     pub fn terms<F: FnMut(Pos, &Ident)>(&self, f: &mut F)
         requires { F.IsAlwaysCallable f.old }
         ensures called { FoldsTo (CalledAtHead F.FnMut) f.old (heads (pattern_of self.now)) f.new }
@@ -24,14 +30,16 @@ impl Pattern {
 }
 
 impl Expr {
-    /// Calls `f` with the position and the symbol of each term of the expression, in the order in which they are
-    /// written: a term comes before those of its arguments, and in a `let` those of the values, in order, come
-    /// before those of its body.
+    /// Calls `f` with the position and the symbol of each term of the expression, in the order in
+    /// which they are written: a term comes before those of its arguments, and in a `let` those of
+    /// the values, in order, come before those of its body.
     ///
-    /// It asks that `f` may be called with anything, after each call again. It can't fail, and takes no memory.
+    /// It asks that `f` may be called with anything, after each call again. It can't fail, and
+    /// takes no memory.
     pub fn terms<F: FnMut(Pos, &Ident)>(&self, f: &mut F)
         requires { F.IsAlwaysCallable f.old }
-        ensures called { FoldsTo (CalledAtHead F.FnMut) f.old (expression_heads (expression_of self.now)) f.new }
+        ensures called { FoldsTo (CalledAtHead F.FnMut) f.old
+            (expression_heads (expression_of self.now)) f.new }
         ensures callable { F.IsAlwaysCallable f.new }
     {
         expr_terms(self, f);
@@ -74,7 +82,8 @@ fn pattern_terms<F: FnMut(Pos, &Ident)>(pattern: &Pattern, f: &mut F)
 #[cycle(pattern_terms)]
 fn patterns_terms<F: FnMut(Pos, &Ident)>(patterns: &Vec<Pattern>, f: &mut F)
     requires { F.IsAlwaysCallable f.old }
-    ensures called { FoldsTo (CalledAtHead F.FnMut) f.old (row_heads (pattern_row_of (patterns_of patterns.now.items))) f.new }
+    ensures called { FoldsTo (CalledAtHead F.FnMut) f.old
+        (row_heads (pattern_row_of (patterns_of patterns.now.items))) f.new }
     ensures callable { F.IsAlwaysCallable f.new }
 {
     for pattern in patterns {
@@ -86,7 +95,8 @@ fn patterns_terms<F: FnMut(Pos, &Ident)>(patterns: &Vec<Pattern>, f: &mut F)
 #[cycle(expr_terms)]
 fn expr_terms<F: FnMut(Pos, &Ident)>(expr: &Expr, f: &mut F)
     requires { F.IsAlwaysCallable f.old }
-    ensures called { FoldsTo (CalledAtHead F.FnMut) f.old (expression_heads (expression_of expr.now)) f.new }
+    ensures called { FoldsTo (CalledAtHead F.FnMut) f.old
+        (expression_heads (expression_of expr.now)) f.new }
     ensures callable { F.IsAlwaysCallable f.new }
 {
     match expr {
@@ -109,7 +119,8 @@ fn expr_terms<F: FnMut(Pos, &Ident)>(expr: &Expr, f: &mut F)
 #[cycle(expr_terms)]
 fn exprs_terms<F: FnMut(Pos, &Ident)>(exprs: &Vec<Expr>, f: &mut F)
     requires { F.IsAlwaysCallable f.old }
-    ensures called { FoldsTo (CalledAtHead F.FnMut) f.old (expression_row_heads (expression_row_of (expressions_of exprs.now.items))) f.new }
+    ensures called { FoldsTo (CalledAtHead F.FnMut) f.old
+        (expression_row_heads (expression_row_of (expressions_of exprs.now.items))) f.new }
     ensures callable { F.IsAlwaysCallable f.new }
 {
     for expr in exprs {
@@ -121,7 +132,8 @@ fn exprs_terms<F: FnMut(Pos, &Ident)>(exprs: &Vec<Expr>, f: &mut F)
 #[cycle(expr_terms)]
 fn values_terms<F: FnMut(Pos, &Ident)>(defs: &Vec<LetDef>, f: &mut F)
     requires { F.IsAlwaysCallable f.old }
-    ensures called { FoldsTo (CalledAtHead F.FnMut) f.old (let_row_heads (let_row_of (single_lets_of defs.now.items))) f.new }
+    ensures called { FoldsTo (CalledAtHead F.FnMut) f.old
+        (let_row_heads (let_row_of (single_lets_of defs.now.items))) f.new }
     ensures callable { F.IsAlwaysCallable f.new }
 {
     for def in defs {
@@ -133,7 +145,8 @@ fn values_terms<F: FnMut(Pos, &Ident)>(defs: &Vec<LetDef>, f: &mut F)
 #[cycle(expr_terms)]
 fn value_terms<F: FnMut(Pos, &Ident)>(def: &LetDef, f: &mut F)
     requires { F.IsAlwaysCallable f.old }
-    ensures called { FoldsTo (CalledAtHead F.FnMut) f.old (expression_heads (single_let_of def.now).val) f.new }
+    ensures called { FoldsTo (CalledAtHead F.FnMut) f.old
+        (expression_heads (single_let_of def.now).val) f.new }
     ensures callable { F.IsAlwaysCallable f.new }
 {
     expr_terms(&def.val, f);

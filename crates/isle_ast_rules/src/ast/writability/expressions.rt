@@ -1,8 +1,11 @@
 //! Which expressions are written so that they read back.
 
 ghost use Rattle.std.specs.Prelude.{◌≡◌};
-ghost use Rattle.isle_ast_rules.specs.TreeView.{expression_of, expression_row_of, expressions_of, let_row_of, single_let_of, single_lets_of};
-ghost use Rattle.isle_ast_rules.specs.WritableTests.{are_writable_expressions, are_writable_lets, is_writable_expression, is_writable_single_let};
+ghost use Rattle.isle_ast_rules.specs.TreeView.{expression_of, expression_row_of, expressions_of};
+ghost use Rattle.isle_ast_rules.specs.TreeView.{let_row_of, single_let_of, single_lets_of};
+ghost use Rattle.isle_ast_rules.specs.WritableDeciders.{are_writable_expressions};
+ghost use Rattle.isle_ast_rules.specs.WritableDeciders.{are_writable_lets, is_writable_expression};
+ghost use Rattle.isle_ast_rules.specs.WritableDeciders.{is_writable_single_let};
 
 use crate::ast::writability::names::is_expression_variable;
 use crate::ast::{Expr, LetDef};
@@ -28,7 +31,8 @@ pub(super) fn is_writable_expr(expr: &Expr) -> bool
 /// Tells whether each expression is writable.
 #[cycle(writable)]
 fn are_writable_exprs(exprs: &Vec<Expr>) -> bool
-    ensures { result ≡ are_writable_expressions (expression_row_of (expressions_of exprs.now.items)) }
+    ensures { result
+        ≡ are_writable_expressions (expression_row_of (expressions_of exprs.now.items)) }
 {
     for expr in exprs {
         if !is_writable_expr(expr) {

@@ -2,9 +2,10 @@
 
 ghost use Rattle.std.specs.Prelude.{◌≡◌};
 ghost use Rattle.isle_ast_names.specs.TreeView.{name_of};
-ghost use Rattle.isle_ast_names.specs.WritableTests.{is_signed};
+ghost use Rattle.isle_ast_names.specs.WritableDeciders.{is_signed};
 ghost use Rattle.isle_ast_rules.specs.TreeView.{pattern_of, pattern_row_of, patterns_of};
-ghost use Rattle.isle_ast_rules.specs.WritableTests.{are_writable_patterns, is_pattern_variable, is_writable_pattern};
+ghost use Rattle.isle_ast_rules.specs.WritableDeciders.{are_writable_patterns, is_pattern_variable};
+ghost use Rattle.isle_ast_rules.specs.WritableDeciders.{is_writable_pattern};
 
 use crate::ast::Pattern;
 use crate::ast::writability::names::is_expression_variable;

@@ -3,8 +3,12 @@
 ghost use Rattle.std.specs.Prelude.{◌≡◌, map};
 ghost use Rattle.std.specs.List.{list_all};
 ghost use Rattle.isle_ast_names.specs.TreeView.{optional_name_of};
-ghost use Rattle.isle_ast_rules.specs.WritableTests.{is_optional_signed, is_if, is_writable_condition, is_writable_extractor, is_writable_rule, may_follow};
-ghost use Rattle.isle_ast_rules.specs.TreeView.{condition_of, expression_of, extractor_of, pattern_of, rule_of};
+ghost use Rattle.isle_ast_rules.specs.WritableDeciders.{is_optional_signed, is_if};
+ghost use Rattle.isle_ast_rules.specs.WritableDeciders.{is_writable_condition};
+ghost use Rattle.isle_ast_rules.specs.WritableDeciders.{is_writable_extractor, is_writable_rule};
+ghost use Rattle.isle_ast_rules.specs.WritableDeciders.{may_follow};
+ghost use Rattle.isle_ast_rules.specs.TreeView.{condition_of, expression_of, extractor_of};
+ghost use Rattle.isle_ast_rules.specs.TreeView.{pattern_of, rule_of};
 
 use crate::ast::writability::expressions::is_writable_expr;
 use crate::ast::writability::patterns::is_writable_pattern;
@@ -45,10 +49,11 @@ fn is_writable_condition(iflet: &IfLet) -> bool
     is_writable_pattern(&iflet.pattern) && is_writable_expr(&iflet.expr)
 }
 
-/// Tells whether the pattern isn't read as a name or a priority that the rule doesn't have: without a
-/// priority it isn't an integer, and without a name and a priority it is a term or an `and`.
+/// Tells whether the pattern isn't read as a name or a priority that the rule doesn't have: without
+/// a priority it isn't an integer, and without a name and a priority it is a term or an `and`.
 fn may_follow(rule: &Rule) -> bool
-    ensures { result ≡ may_follow (optional_name_of rule.now.name) rule.now.prio (pattern_of rule.now.pattern) }
+    ensures { result
+        ≡ may_follow (optional_name_of rule.now.name) rule.now.prio (pattern_of rule.now.pattern) }
 {
     if rule.prio.is_some() {
         true

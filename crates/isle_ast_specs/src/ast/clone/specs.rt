@@ -1,9 +1,15 @@
 //! Copies of specs, of their macros and states, and of the spec expressions that they are made of.
 
 ghost use Rattle.std.specs.Prelude.{◌≡◌, IfOk};
-ghost use Rattle.isle_ast_specs.specs.TreeView.{field_init_row_of, modified_of, single_arm_of, single_arms_of, single_field_init_of, single_field_inits_of, single_spec_lets_of, spec_definition_of, spec_macro_of, spec_of, spec_row_of, specs_of, state_of, type_model_of};
+ghost use Rattle.isle_ast_specs.specs.TreeView.{field_init_row_of, modified_of, single_arm_of};
+ghost use Rattle.isle_ast_specs.specs.TreeView.{single_arms_of, single_field_init_of};
+ghost use Rattle.isle_ast_specs.specs.TreeView.{single_field_inits_of, single_spec_lets_of};
+ghost use Rattle.isle_ast_specs.specs.TreeView.{spec_definition_of, spec_macro_of, spec_of};
+ghost use Rattle.isle_ast_specs.specs.TreeView.{spec_row_of, specs_of, state_of, type_model_of};
 ghost use Rattle.isle_ast_names.specs.TreeView.{name_of, names_of};
-ghost use Rattle.isle_ast_specs.specs.Tree.{as_spec, discriminator_spec, enum_spec, expand_spec, field_spec, macro_spec, op_spec, struct_spec, var_spec, with_spec};
+ghost use Rattle.isle_ast_specs.specs.Tree.{as_spec, discriminator_spec, enum_spec, expand_spec};
+ghost use Rattle.isle_ast_specs.specs.Tree.{field_spec, macro_spec, op_spec, struct_spec, var_spec};
+ghost use Rattle.isle_ast_specs.specs.Tree.{with_spec};
 
 use crate::ast::{Arm, FieldInit, ModelType, Modifies, Spec, SpecExpr, SpecMacro, SpecOp, State};
 use isle_ast_names::ast::Ident;
@@ -169,7 +175,8 @@ fn copy_var(var: &Ident, pos: Pos) -> Result<SpecExpr, AllocError>
 /// Copies a spec expression whose type is given.
 #[cycle(copy_spec)]
 fn copy_as(x: &Box<SpecExpr>, ty: &ModelType, pos: Pos) -> Result<SpecExpr, AllocError>
-    ensures { IfOk result (λ copy. spec_of copy ≡ as_spec (spec_of x.now.value) (type_model_of ty.now) pos) }
+    ensures { IfOk result
+        (λ copy. spec_of copy ≡ as_spec (spec_of x.now.value) (type_model_of ty.now) pos) }
 {
     Ok(SpecExpr::As {
         x: copy_boxed(x)?,
@@ -181,7 +188,8 @@ fn copy_as(x: &Box<SpecExpr>, ty: &ModelType, pos: Pos) -> Result<SpecExpr, Allo
 /// Copies a field of a spec expression.
 #[cycle(copy_spec)]
 fn copy_field(field: &Ident, x: &Box<SpecExpr>, pos: Pos) -> Result<SpecExpr, AllocError>
-    ensures { IfOk result (λ copy. spec_of copy ≡ field_spec (name_of field.now) (spec_of x.now.value) pos) }
+    ensures { IfOk result
+        (λ copy. spec_of copy ≡ field_spec (name_of field.now) (spec_of x.now.value) pos) }
 {
     Ok(SpecExpr::Field {
         field: field.clone()?,
@@ -193,7 +201,9 @@ fn copy_field(field: &Ident, x: &Box<SpecExpr>, pos: Pos) -> Result<SpecExpr, Al
 /// Copies the question whether a spec expression is of a variant.
 #[cycle(copy_spec)]
 fn copy_discriminator(variant: &Ident, x: &Box<SpecExpr>, pos: Pos) -> Result<SpecExpr, AllocError>
-    ensures { IfOk result (λ copy. spec_of copy ≡ discriminator_spec (name_of variant.now) (spec_of x.now.value) pos) }
+    ensures { IfOk result
+        (λ copy. spec_of copy
+        ≡ discriminator_spec (name_of variant.now) (spec_of x.now.value) pos) }
 {
     Ok(SpecExpr::Discriminator {
         variant: variant.clone()?,
@@ -205,7 +215,8 @@ fn copy_discriminator(variant: &Ident, x: &Box<SpecExpr>, pos: Pos) -> Result<Sp
 /// Copies an operation.
 #[cycle(copy_spec)]
 fn copy_operation(op: &SpecOp, args: &Vec<SpecExpr>, pos: Pos) -> Result<SpecExpr, AllocError>
-    ensures { IfOk result (λ copy. spec_of copy ≡ op_spec op.now (spec_row_of (specs_of args.now.items)) pos) }
+    ensures { IfOk result
+        (λ copy. spec_of copy ≡ op_spec op.now (spec_row_of (specs_of args.now.items)) pos) }
 {
     Ok(SpecExpr::Op {
         op: *op,
@@ -217,7 +228,8 @@ fn copy_operation(op: &SpecOp, args: &Vec<SpecExpr>, pos: Pos) -> Result<SpecExp
 /// Copies a `with`.
 #[cycle(copy_spec)]
 fn copy_with(decls: &Vec<Ident>, body: &Box<SpecExpr>, pos: Pos) -> Result<SpecExpr, AllocError>
-    ensures { IfOk result (λ copy. spec_of copy ≡ with_spec (names_of decls.now.items) (spec_of body.now.value) pos) }
+    ensures { IfOk result
+        (λ copy. spec_of copy ≡ with_spec (names_of decls.now.items) (spec_of body.now.value) pos) }
 {
     Ok(SpecExpr::With {
         decls: copy_names(decls)?,
@@ -229,7 +241,9 @@ fn copy_with(decls: &Vec<Ident>, body: &Box<SpecExpr>, pos: Pos) -> Result<SpecE
 /// Copies a macro within a spec expression.
 #[cycle(copy_spec)]
 fn copy_macro(params: &Vec<Ident>, body: &Box<SpecExpr>, pos: Pos) -> Result<SpecExpr, AllocError>
-    ensures { IfOk result (λ copy. spec_of copy ≡ macro_spec (names_of params.now.items) (spec_of body.now.value) pos) }
+    ensures { IfOk result
+        (λ copy. spec_of copy
+        ≡ macro_spec (names_of params.now.items) (spec_of body.now.value) pos) }
 {
     Ok(SpecExpr::Macro {
         params: copy_names(params)?,
@@ -241,7 +255,9 @@ fn copy_macro(params: &Vec<Ident>, body: &Box<SpecExpr>, pos: Pos) -> Result<Spe
 /// Copies the expansion of a macro.
 #[cycle(copy_spec)]
 fn copy_expansion(name: &Ident, args: &Vec<SpecExpr>, pos: Pos) -> Result<SpecExpr, AllocError>
-    ensures { IfOk result (λ copy. spec_of copy ≡ expand_spec (name_of name.now) (spec_row_of (specs_of args.now.items)) pos) }
+    ensures { IfOk result
+        (λ copy. spec_of copy
+        ≡ expand_spec (name_of name.now) (spec_row_of (specs_of args.now.items)) pos) }
 {
     Ok(SpecExpr::Expand {
         name: name.clone()?,
@@ -258,7 +274,10 @@ fn copy_enum(
     args: &Vec<SpecExpr>,
     pos: Pos,
 ) -> Result<SpecExpr, AllocError>
-    ensures { IfOk result (λ copy. spec_of copy ≡ enum_spec (name_of name.now) (name_of variant.now) (spec_row_of (specs_of args.now.items)) pos) }
+    ensures { IfOk result
+        (λ copy. spec_of copy
+        ≡ enum_spec (name_of name.now) (name_of variant.now)
+        (spec_row_of (specs_of args.now.items)) pos) }
 {
     Ok(SpecExpr::Enum {
         name: name.clone()?,
@@ -271,7 +290,9 @@ fn copy_enum(
 /// Copies a struct.
 #[cycle(copy_spec)]
 fn copy_struct(fields: &Vec<FieldInit>, pos: Pos) -> Result<SpecExpr, AllocError>
-    ensures { IfOk result (λ copy. spec_of copy ≡ struct_spec (field_init_row_of (single_field_inits_of fields.now.items)) pos) }
+    ensures { IfOk result
+        (λ copy. spec_of copy
+        ≡ struct_spec (field_init_row_of (single_field_inits_of fields.now.items)) pos) }
 {
     Ok(SpecExpr::Struct {
         fields: copy_field_inits(fields)?,
@@ -319,7 +340,8 @@ fn copy_arm(arm: &Arm) -> Result<Arm, AllocError>
 /// Copies the definitions of a `let`, in order.
 #[cycle(copy_spec)]
 fn copy_spec_lets(defs: &Vec<(Ident, SpecExpr)>) -> Result<Vec<(Ident, SpecExpr)>, AllocError>
-    ensures { IfOk result (λ copies. single_spec_lets_of copies.items ≡ single_spec_lets_of defs.now.items) }
+    ensures { IfOk result
+        (λ copies. single_spec_lets_of copies.items ≡ single_spec_lets_of defs.now.items) }
 {
     let mut copies = Vec::with_capacity(*defs.allocator(), defs.len())?;
     for def in defs {
@@ -331,7 +353,8 @@ fn copy_spec_lets(defs: &Vec<(Ident, SpecExpr)>) -> Result<Vec<(Ident, SpecExpr)
 /// Copies the fields of a struct, in order.
 #[cycle(copy_spec)]
 fn copy_field_inits(fields: &Vec<FieldInit>) -> Result<Vec<FieldInit>, AllocError>
-    ensures { IfOk result (λ copies. single_field_inits_of copies.items ≡ single_field_inits_of fields.now.items) }
+    ensures { IfOk result
+        (λ copies. single_field_inits_of copies.items ≡ single_field_inits_of fields.now.items) }
 {
     let mut copies = Vec::with_capacity(*fields.allocator(), fields.len())?;
     for field in fields {

@@ -3,8 +3,16 @@
 ghost use Rattle.std.specs.Prelude.{◌≡◌, ◌&&◌};
 ghost use Rattle.std.specs.Cmp.{partial_equiv_from_equiv};
 ghost use Rattle.std.specs.Ordering.{on};
-ghost use Rattle.isle_ast_specs.specs.SameSpec.{arms_equiv, field_inits_equiv, same_arms, same_field_inits, same_names, same_single_arm, same_single_field_init, same_single_spec_let, same_spec, same_spec_lets, same_specs, spec_exprs_equiv};
-ghost use Rattle.isle_ast_specs.specs.TreeView.{arm_row_of, field_init_row_of, single_arm_of, single_arms_of, single_field_init_of, single_field_inits_of, single_spec_let_of, single_spec_lets_of, spec_let_row_of, spec_of, spec_row_of, specs_of};
+ghost use Rattle.isle_ast_specs.specs.SameSpec.{arms_equiv, field_inits_equiv, same_arms};
+ghost use Rattle.isle_ast_specs.specs.SameSpec.{same_field_inits, same_names, same_single_arm};
+ghost use Rattle.isle_ast_specs.specs.SameSpec.{same_single_field_init, same_single_spec_let};
+ghost use Rattle.isle_ast_specs.specs.SameSpec.{same_spec, same_spec_lets, same_specs};
+ghost use Rattle.isle_ast_specs.specs.SameSpec.{spec_exprs_equiv};
+ghost use Rattle.isle_ast_specs.specs.TreeView.{arm_row_of, field_init_row_of, single_arm_of};
+ghost use Rattle.isle_ast_specs.specs.TreeView.{single_arms_of, single_field_init_of};
+ghost use Rattle.isle_ast_specs.specs.TreeView.{single_field_inits_of, single_spec_let_of};
+ghost use Rattle.isle_ast_specs.specs.TreeView.{single_spec_lets_of, spec_let_row_of, spec_of};
+ghost use Rattle.isle_ast_specs.specs.TreeView.{spec_row_of, specs_of};
 ghost use Rattle.isle_ast_names.specs.TreeView.{names_of};
 
 use crate::ast::{Arm, FieldInit, SpecExpr};
@@ -203,7 +211,9 @@ fn same_spec(a: &SpecExpr, b: &SpecExpr) -> bool
 /// Tells whether two lists of spec expressions are equal.
 #[cycle(same)]
 fn same_specs(exprs: &Vec<SpecExpr>, others: &Vec<SpecExpr>) -> bool
-    ensures { result ≡ same_specs (spec_row_of (specs_of exprs.now.items)) (spec_row_of (specs_of others.now.items)) }
+    ensures { result
+        ≡ same_specs (spec_row_of (specs_of exprs.now.items))
+        (spec_row_of (specs_of others.now.items)) }
 {
     if exprs.len() != others.len() {
         return false;
@@ -219,7 +229,9 @@ fn same_specs(exprs: &Vec<SpecExpr>, others: &Vec<SpecExpr>) -> bool
 /// Tells whether two lists of arms are equal.
 #[cycle(same)]
 fn same_arms(arms: &Vec<Arm>, others: &Vec<Arm>) -> bool
-    ensures { result ≡ same_arms (arm_row_of (single_arms_of arms.now.items)) (arm_row_of (single_arms_of others.now.items)) }
+    ensures { result
+        ≡ same_arms (arm_row_of (single_arms_of arms.now.items))
+        (arm_row_of (single_arms_of others.now.items)) }
 {
     if arms.len() != others.len() {
         return false;
@@ -246,7 +258,9 @@ fn same_arm(arm: &Arm, other: &Arm) -> bool
 /// Tells whether two lists of definitions of a `let` are equal.
 #[cycle(same)]
 fn same_spec_lets(defs: &Vec<(Ident, SpecExpr)>, others: &Vec<(Ident, SpecExpr)>) -> bool
-    ensures { result ≡ same_spec_lets (spec_let_row_of (single_spec_lets_of defs.now.items)) (spec_let_row_of (single_spec_lets_of others.now.items)) }
+    ensures { result
+        ≡ same_spec_lets (spec_let_row_of (single_spec_lets_of defs.now.items))
+        (spec_let_row_of (single_spec_lets_of others.now.items)) }
 {
     if defs.len() != others.len() {
         return false;
@@ -262,7 +276,8 @@ fn same_spec_lets(defs: &Vec<(Ident, SpecExpr)>, others: &Vec<(Ident, SpecExpr)>
 /// Tells whether two definitions of a `let` are equal.
 #[cycle(same)]
 fn same_spec_let(def: &(Ident, SpecExpr), other: &(Ident, SpecExpr)) -> bool
-    ensures { result ≡ same_single_spec_let (single_spec_let_of def.now) (single_spec_let_of other.now) }
+    ensures { result
+        ≡ same_single_spec_let (single_spec_let_of def.now) (single_spec_let_of other.now) }
 {
     def.0 == other.0 && same_spec(&def.1, &other.1)
 }
@@ -270,7 +285,9 @@ fn same_spec_let(def: &(Ident, SpecExpr), other: &(Ident, SpecExpr)) -> bool
 /// Tells whether two lists of fields of a struct are equal.
 #[cycle(same)]
 fn same_field_inits(fields: &Vec<FieldInit>, others: &Vec<FieldInit>) -> bool
-    ensures { result ≡ same_field_inits (field_init_row_of (single_field_inits_of fields.now.items)) (field_init_row_of (single_field_inits_of others.now.items)) }
+    ensures { result
+        ≡ same_field_inits (field_init_row_of (single_field_inits_of fields.now.items))
+        (field_init_row_of (single_field_inits_of others.now.items)) }
 {
     if fields.len() != others.len() {
         return false;
@@ -286,7 +303,8 @@ fn same_field_inits(fields: &Vec<FieldInit>, others: &Vec<FieldInit>) -> bool
 /// Tells whether two fields of a struct are equal.
 #[cycle(same)]
 fn same_field_init(field: &FieldInit, other: &FieldInit) -> bool
-    ensures { result ≡ same_single_field_init (single_field_init_of field.now) (single_field_init_of other.now) }
+    ensures { result
+        ≡ same_single_field_init (single_field_init_of field.now) (single_field_init_of other.now) }
 {
     field.name == other.name && same_spec(&field.value, &other.value) && field.pos == other.pos
 }

@@ -1,8 +1,11 @@
 //! Which models of types are written so that they read back.
 
 ghost use Rattle.std.specs.Prelude.{◌≡◌};
-ghost use Rattle.isle_ast_specs.specs.TreeView.{model_row_of, single_model_field_of, single_model_fields_of, type_model_of};
-ghost use Rattle.isle_ast_specs.specs.WritableTests.{are_writable_model_fields, is_optional_width, is_writable_model, is_writable_single_model_field};
+ghost use Rattle.isle_ast_specs.specs.TreeView.{model_row_of, single_model_field_of};
+ghost use Rattle.isle_ast_specs.specs.TreeView.{single_model_fields_of, type_model_of};
+ghost use Rattle.isle_ast_specs.specs.WritableDeciders.{are_writable_model_fields};
+ghost use Rattle.isle_ast_specs.specs.WritableDeciders.{is_optional_width, is_writable_model};
+ghost use Rattle.isle_ast_specs.specs.WritableDeciders.{is_writable_single_model_field};
 
 use crate::ast::{ModelField, ModelType};
 use isle_ast_names::ast::writability::is_name;
@@ -27,7 +30,8 @@ pub fn is_writable_model(model: &ModelType) -> bool
 /// Tells whether each field is writable.
 #[cycle(writable)]
 fn are_writable_fields(fields: &Vec<ModelField>) -> bool
-    ensures { result ≡ are_writable_model_fields (model_row_of (single_model_fields_of fields.now.items)) }
+    ensures { result
+        ≡ are_writable_model_fields (model_row_of (single_model_fields_of fields.now.items)) }
 {
     for field in fields {
         if !is_writable_field(field) {

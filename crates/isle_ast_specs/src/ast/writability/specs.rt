@@ -3,8 +3,24 @@
 ghost use Rattle.std.specs.Prelude.{◌≡◌, map, string_bytes};
 ghost use Rattle.std.specs.List.{list_all};
 ghost use Rattle.isle_ast_names.specs.TreeView.{name_of};
-ghost use Rattle.isle_ast_specs.specs.TreeView.{arm_row_of, field_init_row_of, modified_of, single_arm_of, single_arms_of, single_field_init_of, single_field_inits_of, single_spec_lets_of, spec_let_row_of, spec_definition_of, spec_macro_of, spec_of, spec_row_of, specs_of, state_of};
-ghost use Rattle.isle_ast_specs.specs.WritableTests.{are_writable_arms, are_writable_cases, are_writable_field_inits, are_writable_spec_lets, are_writable_specs, has_dot, is_float_name, is_writable_bit_vector, is_writable_modified, is_writable_pair, is_writable_single_arm, is_writable_single_field_init, is_writable_spec, is_writable_spec_definition, is_writable_spec_macro, is_writable_state, is_writable_variant_name};
+ghost use Rattle.isle_ast_specs.specs.TreeView.{arm_row_of, field_init_row_of, modified_of};
+ghost use Rattle.isle_ast_specs.specs.TreeView.{single_arm_of, single_arms_of};
+ghost use Rattle.isle_ast_specs.specs.TreeView.{single_field_init_of, single_field_inits_of};
+ghost use Rattle.isle_ast_specs.specs.TreeView.{single_spec_lets_of, spec_let_row_of};
+ghost use Rattle.isle_ast_specs.specs.TreeView.{spec_definition_of, spec_macro_of, spec_of};
+ghost use Rattle.isle_ast_specs.specs.TreeView.{spec_row_of, specs_of, state_of};
+ghost use Rattle.isle_ast_specs.specs.WritableDeciders.{are_writable_arms, are_writable_cases};
+ghost use Rattle.isle_ast_specs.specs.WritableDeciders.{are_writable_field_inits};
+ghost use Rattle.isle_ast_specs.specs.WritableDeciders.{are_writable_spec_lets, are_writable_specs};
+ghost use Rattle.isle_ast_specs.specs.WritableDeciders.{has_dot, is_float_name};
+ghost use Rattle.isle_ast_specs.specs.WritableDeciders.{is_writable_bit_vector};
+ghost use Rattle.isle_ast_specs.specs.WritableDeciders.{is_writable_modified, is_writable_pair};
+ghost use Rattle.isle_ast_specs.specs.WritableDeciders.{is_writable_single_arm};
+ghost use Rattle.isle_ast_specs.specs.WritableDeciders.{is_writable_single_field_init};
+ghost use Rattle.isle_ast_specs.specs.WritableDeciders.{is_writable_spec};
+ghost use Rattle.isle_ast_specs.specs.WritableDeciders.{is_writable_spec_definition};
+ghost use Rattle.isle_ast_specs.specs.WritableDeciders.{is_writable_spec_macro, is_writable_state};
+ghost use Rattle.isle_ast_specs.specs.WritableDeciders.{is_writable_variant_name};
 
 use crate::ast::writability::models::is_writable_model;
 use crate::ast::{Arm, FieldInit, Modifies, Spec, SpecExpr, SpecMacro, SpecOp, State};
@@ -61,7 +77,8 @@ pub(super) fn are_writable_specs(exprs: &Vec<SpecExpr>) -> bool
     true
 }
 
-/// Tells whether the arguments of a `switch` are writable: the first one, and each other one as a pair.
+/// Tells whether the arguments of a `switch` are writable: the first one, and each other one as a
+/// pair.
 #[cycle(writable)]
 fn are_writable_cases(exprs: &Vec<SpecExpr>) -> bool
     ensures { result ≡ are_writable_cases (spec_row_of (specs_of exprs.now.items)) }
@@ -112,7 +129,8 @@ fn is_writable_arm(arm: &Arm) -> bool
 /// Tells whether each name of a `let` and its value are writable.
 #[cycle(writable)]
 fn are_writable_lets(defs: &Vec<(Ident, SpecExpr)>) -> bool
-    ensures { result ≡ are_writable_spec_lets (spec_let_row_of (single_spec_lets_of defs.now.items)) }
+    ensures { result
+        ≡ are_writable_spec_lets (spec_let_row_of (single_spec_lets_of defs.now.items)) }
 {
     for def in defs {
         if !is_name(&def.0) || !is_writable_spec(&def.1) {
@@ -125,7 +143,8 @@ fn are_writable_lets(defs: &Vec<(Ident, SpecExpr)>) -> bool
 /// Tells whether each field of a `struct` is writable.
 #[cycle(writable)]
 fn are_writable_fields(fields: &Vec<FieldInit>) -> bool
-    ensures { result ≡ are_writable_field_inits (field_init_row_of (single_field_inits_of fields.now.items)) }
+    ensures { result
+        ≡ are_writable_field_inits (field_init_row_of (single_field_inits_of fields.now.items)) }
 {
     for field in fields {
         if !is_writable_field(field) {
@@ -150,8 +169,8 @@ fn is_bit_vector(val: u128, width: usize) -> bool
     width >= 1 && (width >= 128 || val < 1 << width)
 }
 
-/// Tells whether the names of an enum and its variant are writable: that of the enum holds no dot, and
-/// both together are no operator.
+/// Tells whether the names of an enum and its variant are writable: that of the enum holds no dot,
+/// and both together are no operator.
 fn is_variant_name(name: &Ident, variant: &Ident) -> bool
     ensures { result ≡ is_writable_variant_name (name_of name.now) (name_of variant.now) }
 {
@@ -168,7 +187,7 @@ fn has_dot(name: &Ident) -> bool
     name.0.as_bytes().contains(&b'.')
 }
 
-// What the operators of floats are named behind `fp.`.
+/// What the operators of floats are named behind `fp.`.
 const FLOAT_NAMES: [&str; 30] = [
     "eq",
     "ne",

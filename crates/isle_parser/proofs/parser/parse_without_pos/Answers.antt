@@ -13,7 +13,7 @@ returns-clause-refused_by_parse c =
     let parses : Parses nowhere c.args.lexer c.parse_all.result = rw (c.new_without_pos_tracking-parser.ensures.lexer, c.new_without_pos_tracking-parser.ensures.positions) at c.parse_all.ensures.parses in
     erased_refused c.args.lexer c.parse_all.result parses
 
-pub returns-clause-whole : goal.returns-clause-whole
-returns-clause-whole c =
+pub returns-clause-no_macro_arg : goal.returns-clause-no_macro_arg
+returns-clause-no_macro_arg c =
     let parses : Parses nowhere c.args.lexer c.parse_all.result = rw (c.new_without_pos_tracking-parser.ensures.lexer, c.new_without_pos_tracking-parser.ensures.positions) at c.parse_all.ensures.parses in
     whole_found nowhere c.args.lexer c.parse_all.result parses

@@ -1,7 +1,7 @@
 use Rattle.std.proofs.lemmas.Bool.Decides.{Decides-at}
 use Rattle.isle_ast.specs.TreeView.{definition_of}
-use Rattle.isle_ast.specs.WritableTests.{is_writable}
-use Rattle.isle_ast.proofs.DecidedDefinitions.{definition_decided}
+use Rattle.isle_ast.specs.WritableDeciders.{is_writable}
+use Rattle.isle_ast.proofs.Writable.Decided.{definition_decided}
 use Rattle.isle_ast.proofs.ast.Def.is_writable.Goals as goal
 
 pub returns : goal.returns

@@ -1,5 +1,5 @@
 use Rattle.isle_ast.proofs.NoMacroArgs.{spelt_has_no_macro_arg}
-use Rattle.isle_ast.proofs.SpeltWritable.{spelt_is_writable}
+use Rattle.isle_ast.proofs.Writable.Spelt.{spelt_is_writable}
 use Rattle.isle_ast.proofs.ast.laws.spelt_trees_are_writable.Goals as goal
 
 pub returns : goal.returns

@@ -1,7 +1,7 @@
 use Rattle.std.proofs.lemmas.Bool.Decides.{Decides-at}
 use Rattle.isle_ast.specs.TreeView.{definitions_of}
-use Rattle.isle_ast.specs.WritableTests.{are_writable}
-use Rattle.isle_ast.proofs.DecidedDefinitions.{definitions_decided}
+use Rattle.isle_ast.specs.WritableDeciders.{are_writable}
+use Rattle.isle_ast.proofs.Writable.Decided.{definitions_decided}
 use Rattle.isle_ast.proofs.ast.writability.writable.Goals as goal
 
 pub returns : goal.returns

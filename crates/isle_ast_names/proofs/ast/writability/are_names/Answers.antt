@@ -2,8 +2,8 @@ use Rattle.std.proofs.Common.{◌∙◌, rules, tests}
 use Rattle.std.proofs.lemmas.Iterator.{YieldsList-from_slice}
 use Rattle.std.proofs.lemmas.Iterator.Search.{all_from_yields_List}
 use Rattle.isle_ast_names.specs.TreeView.{name_of}
-use Rattle.isle_ast_names.specs.WritableTests.{is_name}
-use Rattle.isle_ast_names.proofs.WritableNames.{all_meant}
+use Rattle.isle_ast_names.specs.WritableDeciders.{is_name}
+use Rattle.isle_ast_names.proofs.Writable.Names.{all_meant}
 use Rattle.isle_ast_names.proofs.ast.writability.are_names.Goals as goal
 
 pub returns : goal.returns

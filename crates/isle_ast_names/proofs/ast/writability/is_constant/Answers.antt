@@ -1,5 +1,5 @@
 use Rattle.std.proofs.Common.{sym, ◌∙◌}
-use Rattle.isle_ast_names.proofs.WritableNames.{constant_is_identifier}
+use Rattle.isle_ast_names.proofs.Writable.Names.{constant_is_identifier}
 use Rattle.isle_ast_names.proofs.ast.writability.is_constant.Goals as goal
 
 pub returns : goal.returns

@@ -1,5 +1,5 @@
 use Rattle.std.proofs.Common.{true, false, ◌<◌, ◌≤◌, length, sym, subst, ◌∙◌}
-use Rattle.isle_ast_specs.proofs.SameModelLists.{fields_are_rows}
+use Rattle.isle_ast_specs.proofs.Same.ModelLists.{fields_are_rows}
 use Rattle.isle_ast_names.proofs.SameRows.{count, uneven_rows, rows_step, rows_end}
 use Rattle.isle_ast_specs.proofs.ast.compare.+same.Goals as goal
 

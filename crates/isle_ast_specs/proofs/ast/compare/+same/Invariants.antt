@@ -1,5 +1,5 @@
 use Rattle.std.proofs.Common.{◌≡◌, drop}
-use Rattle.isle_ast_specs.proofs.SameModelLists.{field_rows}
+use Rattle.isle_ast_specs.proofs.Same.ModelLists.{field_rows}
 use Rattle.isle_ast_specs.proofs.ast.compare.+same.Given as goal
 
 abbrev pub invariant-same_fields-loop-i : goal.invariant-same_fields-loop-i

@@ -1,7 +1,7 @@
 use Rattle.std.proofs.Common.{◌≡◌, sym, ◌∙◌}
 use Rattle.isle_base.specs.Token.{end}
 use Rattle.isle_ast.specs.TreeView.{definitions_of}
-use Rattle.isle_parser_cursor.specs.Answers.{place, source, tokens}
+use Rattle.isle_parser_cursor.specs.Outcomes.{place, source, tokens}
 use Rattle.isle_parser.proofs.Whole.{at_end_ends, not_parsed, parsed, same_ending, same_text}
 use Rattle.isle_parser.proofs.parser.Parser.parse_all.Goals as goal
 

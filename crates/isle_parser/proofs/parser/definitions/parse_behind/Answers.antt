@@ -1,4 +1,4 @@
-use Rattle.isle_parser_cursor.specs.Answers.{source, tokens}
+use Rattle.isle_parser_cursor.specs.Outcomes.{source, tokens}
 use Rattle.isle_parser.proofs.Keywords.{keyword_refused}
 use Rattle.isle_parser.proofs.parser.definitions.parse_behind.Goals as goal
 

@@ -2,11 +2,11 @@ use Rattle.std.proofs.Common.{◌≡◌, [], ◌∷◌, ◌++◌, sym, ◌∙◌
 use Rattle.std.proofs.lemmas.Result.{err_from_is_err_and}
 use Rattle.std.proofs.lemmas.List.{map_push}
 use Rattle.isle_ast.specs.TreeView.{definition_of, definitions_of}
-use Rattle.isle_parser_cursor.specs.Answers.{source, tokens}
-use Rattle.isle_parser.specs.ReadDefinitions.{definition, definitions}
+use Rattle.isle_parser_cursor.specs.Outcomes.{source, tokens}
+use Rattle.isle_parser.specs.DefinitionReaders.{definition, definitions}
 use Rattle.isle_parser_cursor.specs.Reading.{ends}
 use Rattle.isle_parser_cursor.proofs.Loops.{loop_push, loop_stops, loop_end}
-use Rattle.isle_parser.proofs.Definitions.{definition_shrinks}
+use Rattle.isle_parser.proofs.Reading.Definitions.{definition_shrinks}
 use Rattle.isle_parser.proofs.parser.definitions.parse_defs.Goals as goal
 
 pub returns-in_err-parse_def-clause-gives : goal.returns-in_err-parse_def-clause-gives

@@ -1,8 +1,8 @@
 use Rattle.std.proofs.Common.{◌≡◌, false, length}
 use Rattle.isle_ast.specs.TreeView.{definitions_of}
 use Rattle.isle_base.specs.Steps.{is_failed}
-use Rattle.isle_parser_cursor.specs.Answers.{source, tokens}
-use Rattle.isle_parser.specs.ReadDefinitions.{definition, definitions}
+use Rattle.isle_parser_cursor.specs.Outcomes.{source, tokens}
+use Rattle.isle_parser.specs.DefinitionReaders.{definition, definitions}
 use Rattle.isle_parser_cursor.specs.Reading.{ends, many}
 use Rattle.isle_parser_cursor.proofs.Loops.{behind_front}
 use Rattle.isle_parser.proofs.parser.definitions.parse_defs.Given as goal

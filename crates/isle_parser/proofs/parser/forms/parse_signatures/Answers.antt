@@ -2,11 +2,11 @@ use Rattle.std.proofs.Common.{◌≡◌, [], ◌∷◌, ◌++◌, sym, ◌∙◌
 use Rattle.std.proofs.lemmas.Result.{err_from_is_err_and}
 use Rattle.std.proofs.lemmas.List.{map_push}
 use Rattle.isle_ast.specs.TreeView.{signature_of, signatures_of}
-use Rattle.isle_parser_cursor.specs.Answers.{source, tokens}
-use Rattle.isle_parser.specs.ReadForms.{signature, signatures}
+use Rattle.isle_parser_cursor.specs.Outcomes.{source, tokens}
+use Rattle.isle_parser.specs.FormReaders.{signature, signatures}
 use Rattle.isle_parser_cursor.specs.Reading.{closes, many}
 use Rattle.isle_parser_cursor.proofs.Loops.{loop_push, loop_stops, loop_end}
-use Rattle.isle_parser.proofs.ReadsForms.{signature_shrinks}
+use Rattle.isle_parser.proofs.Reading.Forms.{signature_shrinks}
 use Rattle.isle_parser.proofs.parser.forms.parse_signatures.Goals as goal
 
 pub returns-in_err-parse_signature-clause-gives : goal.returns-in_err-parse_signature-clause-gives

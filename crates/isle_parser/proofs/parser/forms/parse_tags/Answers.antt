@@ -2,11 +2,11 @@ use Rattle.std.proofs.Common.{◌≡◌, [], ◌∷◌, ◌++◌, sym, ◌∙◌
 use Rattle.std.proofs.lemmas.Result.{err_from_is_err_and}
 use Rattle.std.proofs.lemmas.List.{map_push}
 use Rattle.isle_ast_names.specs.TreeView.{name_of, names_of}
-use Rattle.isle_parser_cursor.specs.Answers.{source, tokens}
-use Rattle.isle_parser.specs.ReadForms.{tag}
+use Rattle.isle_parser_cursor.specs.Outcomes.{source, tokens}
+use Rattle.isle_parser.specs.FormReaders.{tag}
 use Rattle.isle_parser_cursor.specs.Reading.{closes, many}
 use Rattle.isle_parser_cursor.proofs.Loops.{loop_push, loop_stops, loop_end}
-use Rattle.isle_parser.proofs.ReadsForms.{tag_shrinks}
+use Rattle.isle_parser.proofs.Reading.Forms.{tag_shrinks}
 use Rattle.isle_parser.proofs.parser.forms.parse_tags.Goals as goal
 
 pub returns-in_err-parse_tag-clause-gives : goal.returns-in_err-parse_tag-clause-gives

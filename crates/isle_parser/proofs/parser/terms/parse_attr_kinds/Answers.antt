@@ -3,11 +3,11 @@ use Rattle.std.specs.Prelude.{map}
 use Rattle.std.proofs.lemmas.Result.{err_from_is_err_and}
 use Rattle.std.proofs.lemmas.List.{map_push}
 use Rattle.isle_ast.specs.TreeView.{kind_of}
-use Rattle.isle_parser_cursor.specs.Answers.{source, tokens}
-use Rattle.isle_parser.specs.ReadTerms.{kind}
+use Rattle.isle_parser_cursor.specs.Outcomes.{source, tokens}
+use Rattle.isle_parser.specs.TermReaders.{kind}
 use Rattle.isle_parser_cursor.specs.Reading.{closes, many}
 use Rattle.isle_parser_cursor.proofs.Loops.{loop_push, loop_stops, loop_end}
-use Rattle.isle_parser.proofs.ReadsTerms.{kind_shrinks}
+use Rattle.isle_parser.proofs.Reading.Terms.{kind_shrinks}
 use Rattle.isle_parser.proofs.parser.terms.parse_attr_kinds.Goals as goal
 
 pub returns-in_err-parse_attr_kind-clause-gives : goal.returns-in_err-parse_attr_kind-clause-gives

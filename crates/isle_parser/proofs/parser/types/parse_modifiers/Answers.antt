@@ -1,8 +1,8 @@
 use Rattle.std.proofs.Common.{sym, ◌∙◌}
 use Rattle.std.specs.Prelude.{string_bytes}
 use Rattle.std.proofs.lemmas.Result.{err_from_is_err_and}
-use Rattle.isle_parser_cursor.specs.Answers.{source, tokens}
-use Rattle.isle_parser.proofs.ReadsTypes.{modifier_shrinks}
+use Rattle.isle_parser_cursor.specs.Outcomes.{source, tokens}
+use Rattle.isle_parser.proofs.Reading.Types.{modifier_shrinks}
 use Rattle.isle_parser.proofs.Rows.{modifiers_begin, modifiers_push, modifiers_stop, modifiers_end, no_symbol_false, no_symbol_true}
 use Rattle.isle_parser.proofs.parser.types.parse_modifiers.Goals as goal
 

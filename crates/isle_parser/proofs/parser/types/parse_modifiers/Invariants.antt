@@ -1,5 +1,5 @@
 use Rattle.std.proofs.Common.{◌≡◌, length}
-use Rattle.isle_parser_cursor.specs.Answers.{source, tokens}
+use Rattle.isle_parser_cursor.specs.Outcomes.{source, tokens}
 use Rattle.isle_parser.proofs.Rows.{ModifiersSoFar}
 use Rattle.isle_parser.proofs.parser.types.parse_modifiers.Given as goal
 

@@ -3,11 +3,11 @@ use Rattle.std.proofs.lemmas.Result.{err_from_is_err_and}
 use Rattle.std.proofs.lemmas.List.{map_push}
 use Rattle.isle_ast.specs.Tree.{struct_fields}
 use Rattle.isle_ast.specs.TreeView.{named_field_of}
-use Rattle.isle_parser_cursor.specs.Answers.{source, tokens}
-use Rattle.isle_parser.specs.ReadTypes.{named_field}
+use Rattle.isle_parser_cursor.specs.Outcomes.{source, tokens}
+use Rattle.isle_parser.specs.TypeReaders.{named_field}
 use Rattle.isle_parser_cursor.specs.Reading.{closes, many, pos_ahead}
 use Rattle.isle_parser_cursor.proofs.Loops.{loop_push, loop_stops, loop_end, made_stops, made_end}
-use Rattle.isle_parser.proofs.ReadsTypes.{named_field_shrinks}
+use Rattle.isle_parser.proofs.Reading.Types.{named_field_shrinks}
 use Rattle.isle_parser.proofs.parser.types.parse_struct_fields.Goals as goal
 
 pub returns-in_err-parse_struct_field-clause-gives : goal.returns-in_err-parse_struct_field-clause-gives

@@ -1,7 +1,7 @@
 use Rattle.std.proofs.Common.{◌≡◌, length, map}
 use Rattle.isle_ast.specs.TreeView.{named_field_of}
-use Rattle.isle_parser_cursor.specs.Answers.{source, tokens}
-use Rattle.isle_parser.specs.ReadTypes.{named_field}
+use Rattle.isle_parser_cursor.specs.Outcomes.{source, tokens}
+use Rattle.isle_parser.specs.TypeReaders.{named_field}
 use Rattle.isle_parser_cursor.specs.Reading.{closes, many}
 use Rattle.isle_parser_cursor.proofs.Loops.{behind_front}
 use Rattle.isle_parser.proofs.parser.types.parse_struct_fields.Given as goal

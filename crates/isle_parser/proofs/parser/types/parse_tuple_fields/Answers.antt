@@ -2,9 +2,9 @@ use Rattle.std.proofs.Common.{◌≡◌, [], ◌∷◌, ◌++◌, map, sym, ◌�
 use Rattle.std.proofs.lemmas.Result.{err_from_is_err_and}
 use Rattle.std.proofs.lemmas.List.{map_push}
 use Rattle.isle_ast.specs.Tree.{tuple_fields}
-use Rattle.isle_parser_cursor.specs.Answers.{source, tokens}
-use Rattle.isle_parser_cursor.specs.ReadNames.{name}
-use Rattle.isle_parser.specs.ReadTypes.{numbered}
+use Rattle.isle_parser_cursor.specs.Outcomes.{source, tokens}
+use Rattle.isle_parser_cursor.specs.NameReaders.{name}
+use Rattle.isle_parser.specs.TypeReaders.{numbered}
 use Rattle.isle_parser_cursor.specs.Reading.{closes, many, pos_ahead}
 use Rattle.isle_parser_cursor.proofs.Loops.{loop_push, loop_stops, loop_end, made_stops, made_end}
 use Rattle.isle_parser_cursor.proofs.Names.{name_shrinks}

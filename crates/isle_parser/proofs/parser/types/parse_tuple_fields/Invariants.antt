@@ -1,8 +1,8 @@
 use Rattle.std.proofs.Common.{◌≡◌, length, map}
 use Rattle.isle_ast.specs.TreeView.{indexed_field_of}
-use Rattle.isle_parser_cursor.specs.Answers.{source, tokens}
-use Rattle.isle_parser_cursor.specs.ReadNames.{name}
-use Rattle.isle_parser.specs.ReadTypes.{numbered}
+use Rattle.isle_parser_cursor.specs.Outcomes.{source, tokens}
+use Rattle.isle_parser_cursor.specs.NameReaders.{name}
+use Rattle.isle_parser.specs.TypeReaders.{numbered}
 use Rattle.isle_parser_cursor.specs.Reading.{closes, many}
 use Rattle.isle_parser_cursor.proofs.Loops.{behind_front}
 use Rattle.isle_parser.proofs.Rows.{type_name}

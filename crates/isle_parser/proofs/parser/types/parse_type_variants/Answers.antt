@@ -3,11 +3,11 @@ use Rattle.std.specs.Prelude.{map}
 use Rattle.std.proofs.lemmas.Result.{err_from_is_err_and}
 use Rattle.std.proofs.lemmas.List.{map_push}
 use Rattle.isle_ast.specs.TreeView.{variant_of}
-use Rattle.isle_parser_cursor.specs.Answers.{source, tokens}
-use Rattle.isle_parser.specs.ReadTypes.{variant}
+use Rattle.isle_parser_cursor.specs.Outcomes.{source, tokens}
+use Rattle.isle_parser.specs.TypeReaders.{variant}
 use Rattle.isle_parser_cursor.specs.Reading.{closes, many}
 use Rattle.isle_parser_cursor.proofs.Loops.{loop_push, loop_stops, loop_end}
-use Rattle.isle_parser.proofs.ReadsTypes.{variant_shrinks}
+use Rattle.isle_parser.proofs.Reading.Types.{variant_shrinks}
 use Rattle.isle_parser.proofs.parser.types.parse_type_variants.Goals as goal
 
 pub returns-in_err-parse_type_variant-clause-gives : goal.returns-in_err-parse_type_variant-clause-gives

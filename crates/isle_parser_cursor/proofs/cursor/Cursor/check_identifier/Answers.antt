@@ -1,5 +1,5 @@
 use Rattle.isle_ast_names.specs.Identifier.{is_identifier}
-use Rattle.isle_parser_cursor.specs.Answers.{source}
+use Rattle.isle_parser_cursor.specs.Outcomes.{source}
 use Rattle.isle_parser_cursor.proofs.Ahead.{judged}
 use Rattle.isle_parser_cursor.proofs.cursor.Cursor.check_identifier.Goals as goal
 

@@ -1,7 +1,7 @@
 use Rattle.std.proofs.Common.{◌≡◌, length}
 use Rattle.isle_ast_names.specs.TreeView.{names_of}
-use Rattle.isle_parser_cursor.specs.Answers.{source, tokens}
-use Rattle.isle_parser_cursor.specs.ReadNames.{name}
+use Rattle.isle_parser_cursor.specs.Outcomes.{source, tokens}
+use Rattle.isle_parser_cursor.specs.NameReaders.{name}
 use Rattle.isle_parser_cursor.specs.Reading.{closes, many}
 use Rattle.isle_parser_cursor.proofs.Loops.{behind_front}
 use Rattle.isle_parser_cursor.proofs.cursor.Cursor.parse_ident_list.Given as goal

@@ -1,6 +1,6 @@
 use Rattle.std.proofs.Common.{refl}
 use Rattle.isle_base.specs.Steps.{placed_of}
-use Rattle.isle_parser_cursor.specs.Answers.{source}
+use Rattle.isle_parser_cursor.specs.Outcomes.{source}
 use Rattle.isle_parser_cursor.proofs.Ahead.{place_ahead}
 use Rattle.isle_parser_cursor.proofs.cursor.Cursor.place.Goals as goal
 

@@ -1,4 +1,4 @@
-use Rattle.isle_parser_cursor.specs.Answers.{source}
+use Rattle.isle_parser_cursor.specs.Outcomes.{source}
 use Rattle.isle_parser_cursor.proofs.Ahead.{refusal_at}
 use Rattle.isle_parser_cursor.proofs.cursor.Cursor.refuse_at.Goals as goal
 

@@ -7,14 +7,14 @@ use Rattle.std.proofs.lemmas.List.{map_push}
 use Rattle.isle_ast_rules.specs.TreeView.{expression_of, expressions_of, single_let_of, single_lets_of}
 use Rattle.isle_ast_names.specs.TreeView.{name_of}
 use Rattle.isle_base.specs.TokenView.{token_of}
-use Rattle.isle_parser_cursor.specs.Answers.{source, tokens}
-use Rattle.isle_parser_rules.specs.ReadExpressions.{expression, let_definition}
+use Rattle.isle_parser_cursor.specs.Outcomes.{source, tokens}
+use Rattle.isle_parser_rules.specs.ExpressionReaders.{expression, let_definition}
 use Rattle.isle_parser_cursor.specs.Reading.{closes, is_lparen, many}
 use Rattle.isle_parser_cursor.proofs.Lengths.{expect_shorter, flag_shorter}
 use Rattle.isle_parser_cursor.proofs.Loops.{loop_push, loop_stops, loop_end}
 use Rattle.isle_parser_cursor.proofs.Names.{name_shrinks}
 use Rattle.isle_parser_rules.proofs.ExpressionParts.{int_taken}
-use Rattle.isle_parser_rules.proofs.ReadsExpressions.{expression_shrinks, let_definition_shrinks, let_definitions_shrink}
+use Rattle.isle_parser_rules.proofs.Reading.Expressions.{expression_shrinks, let_definition_shrinks, let_definitions_shrink}
 use Rattle.isle_parser_rules.proofs.parser.expressions.+expression.Goals as goal
 
 pub parse_expr-returns-then-is_int-clause-gives : goal.parse_expr-returns-then-is_int-clause-gives

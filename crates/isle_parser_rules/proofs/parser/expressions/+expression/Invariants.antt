@@ -1,7 +1,7 @@
 use Rattle.std.proofs.Common.{◌≡◌, ◌+◌, ◌*◌, ◌≤◌, length}
 use Rattle.isle_ast_rules.specs.TreeView.{expressions_of, single_lets_of}
-use Rattle.isle_parser_cursor.specs.Answers.{source, tokens}
-use Rattle.isle_parser_rules.specs.ReadExpressions.{expression, let_definition}
+use Rattle.isle_parser_cursor.specs.Outcomes.{source, tokens}
+use Rattle.isle_parser_rules.specs.ExpressionReaders.{expression, let_definition}
 use Rattle.isle_parser_cursor.specs.Reading.{closes, many}
 use Rattle.isle_parser_cursor.proofs.Loops.{behind_front}
 use Rattle.isle_parser_rules.proofs.parser.expressions.+expression.Given as goal

@@ -1,7 +1,7 @@
 use Rattle.std.proofs.Common.{◌∙◌, arith}
 use Rattle.std.proofs.lemmas.Str.Pattern.{strip_prefix_char}
 use Rattle.isle_ast_names.specs.TreeView.{name_of}
-use Rattle.isle_parser_cursor.specs.Answers.{source, tokens}
+use Rattle.isle_parser_cursor.specs.Outcomes.{source, tokens}
 use Rattle.isle_parser_rules.proofs.Constants.{no_dollar}
 use Rattle.isle_parser_rules.proofs.parser.names.parse_const.Goals as goal
 

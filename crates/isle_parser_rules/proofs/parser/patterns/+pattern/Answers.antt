@@ -7,14 +7,14 @@ use Rattle.std.proofs.lemmas.List.{map_push}
 use Rattle.isle_ast_names.specs.TreeView.{name_of}
 use Rattle.isle_ast_rules.specs.TreeView.{pattern_of, patterns_of}
 use Rattle.isle_base.specs.TokenView.{token_of}
-use Rattle.isle_parser_cursor.specs.Answers.{source, tokens}
-use Rattle.isle_parser_rules.specs.ReadPatterns.{pattern}
+use Rattle.isle_parser_cursor.specs.Outcomes.{source, tokens}
+use Rattle.isle_parser_rules.specs.PatternReaders.{pattern}
 use Rattle.isle_parser_cursor.specs.Reading.{closes, is_at, many}
 use Rattle.isle_parser_cursor.proofs.Lengths.{expect_shorter, flag_shorter}
 use Rattle.isle_parser_cursor.proofs.Loops.{loop_push, loop_stops, loop_end}
 use Rattle.isle_parser_cursor.proofs.Names.{name_shrinks}
 use Rattle.isle_parser_rules.proofs.PatternParts.{int_taken}
-use Rattle.isle_parser_rules.proofs.ReadsPatterns.{pattern_shrinks}
+use Rattle.isle_parser_rules.proofs.Reading.Patterns.{pattern_shrinks}
 use Rattle.isle_parser_rules.proofs.parser.patterns.+pattern.Goals as goal
 
 pub parse_pattern-returns-then-is_int-clause-gives : goal.parse_pattern-returns-then-is_int-clause-gives

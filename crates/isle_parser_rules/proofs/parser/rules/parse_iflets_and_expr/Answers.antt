@@ -2,10 +2,10 @@ use Rattle.std.proofs.Common.{◌≡◌, [], ◌∷◌, ◌++◌, ◌∙◌}
 use Rattle.std.proofs.lemmas.Result.{err_from_is_err_and}
 use Rattle.std.proofs.lemmas.List.{map_push}
 use Rattle.isle_ast_rules.specs.TreeView.{condition_of, conditions_of, expression_of}
-use Rattle.isle_parser_cursor.specs.Answers.{source, tokens}
-use Rattle.isle_parser_rules.specs.ReadRules.{right_side}
+use Rattle.isle_parser_cursor.specs.Outcomes.{source, tokens}
+use Rattle.isle_parser_rules.specs.RuleReaders.{right_side}
 use Rattle.isle_parser_rules.specs.RuleParts.{part_of}
-use Rattle.isle_parser_rules.proofs.ReadsConditions.{part_shrinks}
+use Rattle.isle_parser_rules.proofs.Reading.Conditions.{part_shrinks}
 use Rattle.isle_parser_rules.proofs.RightSides.{side_push, side_stops, side_end}
 use Rattle.isle_parser_rules.proofs.parser.rules.parse_iflets_and_expr.Goals as goal
 

@@ -1,7 +1,7 @@
 use Rattle.std.proofs.Common.{◌≡◌, length}
 use Rattle.isle_ast_rules.specs.TreeView.{conditions_of}
-use Rattle.isle_parser_cursor.specs.Answers.{source, tokens}
-use Rattle.isle_parser_rules.specs.ReadRules.{right_side}
+use Rattle.isle_parser_cursor.specs.Outcomes.{source, tokens}
+use Rattle.isle_parser_rules.specs.RuleReaders.{right_side}
 use Rattle.isle_parser_rules.proofs.RightSides.{behind_conditions}
 use Rattle.isle_parser_rules.proofs.parser.rules.parse_iflets_and_expr.Given as goal
 

@@ -4,14 +4,14 @@ use Rattle.std.proofs.lemmas.Result.{err_from_is_err_and}
 use Rattle.std.proofs.lemmas.List.{map_push}
 use Rattle.isle_ast_names.specs.TreeView.{name_of}
 use Rattle.isle_base.specs.TokenView.{token_of}
-use Rattle.isle_parser_cursor.specs.Answers.{source, tokens}
-use Rattle.isle_parser_specs.specs.ReadModels.{model_field_inside, model_type}
+use Rattle.isle_parser_cursor.specs.Outcomes.{source, tokens}
+use Rattle.isle_parser_specs.specs.ModelReaders.{model_field_inside, model_type}
 use Rattle.isle_parser_cursor.specs.Reading.{closes, in_parentheses, is_lparen, many}
 use Rattle.isle_parser_cursor.proofs.Lengths.{expect_shorter, flag_shorter}
 use Rattle.isle_parser_cursor.proofs.Loops.{loop_push, loop_stops, loop_end}
-use Rattle.isle_parser_specs.proofs.ModelWords.{field_pair, struct_read}
+use Rattle.isle_parser_specs.proofs.Words.Models.{field_pair, struct_read}
 use Rattle.isle_parser_cursor.proofs.Names.{name_shrinks}
-use Rattle.isle_parser_specs.proofs.ReadsModels.{model_field_shrinks}
+use Rattle.isle_parser_specs.proofs.Reading.Models.{model_field_shrinks}
 use Rattle.isle_parser_specs.proofs.parser.models.+model_type.Goals as goal
 
 pub parse_model_field-parse_model_type-requires : goal.parse_model_field-parse_model_type-requires

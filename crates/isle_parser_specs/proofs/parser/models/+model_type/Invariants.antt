@@ -1,8 +1,8 @@
 use Rattle.std.proofs.Common.{◌≡◌, ◌+◌, ◌*◌, ◌≤◌, length, map}
 use Rattle.isle_ast_names.specs.TreeView.{name_of}
 use Rattle.isle_ast_specs.specs.TreeView.{type_model_of}
-use Rattle.isle_parser_cursor.specs.Answers.{source, tokens}
-use Rattle.isle_parser_specs.specs.ReadModels.{model_field_inside, model_type}
+use Rattle.isle_parser_cursor.specs.Outcomes.{source, tokens}
+use Rattle.isle_parser_specs.specs.ModelReaders.{model_field_inside, model_type}
 use Rattle.isle_parser_cursor.specs.Reading.{closes, in_parentheses, many}
 use Rattle.isle_parser_cursor.proofs.Loops.{behind_front}
 use Rattle.isle_parser_specs.proofs.parser.models.+model_type.Given as goal

@@ -3,11 +3,11 @@ use Rattle.std.specs.Prelude.{map}
 use Rattle.std.proofs.lemmas.Result.{err_from_is_err_and}
 use Rattle.std.proofs.lemmas.List.{map_push}
 use Rattle.isle_ast_specs.specs.TreeView.{type_model_of}
-use Rattle.isle_parser_cursor.specs.Answers.{source, tokens}
-use Rattle.isle_parser_specs.specs.ReadModels.{model_type}
+use Rattle.isle_parser_cursor.specs.Outcomes.{source, tokens}
+use Rattle.isle_parser_specs.specs.ModelReaders.{model_type}
 use Rattle.isle_parser_cursor.specs.Reading.{closes, many}
 use Rattle.isle_parser_cursor.proofs.Loops.{loop_push, loop_stops, loop_end}
-use Rattle.isle_parser_specs.proofs.ReadsModels.{model_type_shrinks}
+use Rattle.isle_parser_specs.proofs.Reading.Models.{model_type_shrinks}
 use Rattle.isle_parser_specs.proofs.parser.models.parse_model_types.Goals as goal
 
 pub returns-in_err-parse_model_type-clause-gives : goal.returns-in_err-parse_model_type-clause-gives

@@ -2,10 +2,10 @@ use Rattle.std.proofs.Common.{sym}
 use Rattle.std.proofs.lemmas.Result.{err_from_is_err_and}
 use Rattle.isle_ast_specs.specs.TreeView.{type_model_of}
 use Rattle.isle_base.specs.TokenView.{token_of}
-use Rattle.isle_parser_cursor.specs.Answers.{source, tokens}
-use Rattle.isle_parser_specs.specs.ReadModels.{model_word}
+use Rattle.isle_parser_cursor.specs.Outcomes.{source, tokens}
+use Rattle.isle_parser_specs.specs.ModelReaders.{model_word}
 use Rattle.isle_parser_cursor.proofs.Ahead.{stopped}
-use Rattle.isle_parser_specs.proofs.ModelWords.{other_word, word_stops, word_taken}
+use Rattle.isle_parser_specs.proofs.Words.Models.{other_word, word_stops, word_taken}
 use Rattle.isle_parser_specs.proofs.parser.models.parse_model_word.Goals as goal
 
 pub returns-in_err-take-in-Some-clause-gives : goal.returns-in_err-take-in-Some-clause-gives

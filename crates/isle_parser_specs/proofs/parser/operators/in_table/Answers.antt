@@ -1,5 +1,5 @@
 use Rattle.std.proofs.Common.{refl, sym, ap, ◌∙◌, add-one}
-use Rattle.isle_parser_specs.proofs.Tables.{from_row, row_found, row_passed, rows_end}
+use Rattle.isle_parser_specs.proofs.Words.Tables.{from_row, row_found, row_passed, rows_end}
 use Rattle.isle_parser_specs.proofs.parser.operators.in_table.Goals as goal
 
 pub loop-name-init : goal.loop-name-init

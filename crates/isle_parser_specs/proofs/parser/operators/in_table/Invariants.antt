@@ -1,6 +1,6 @@
 use Rattle.std.proofs.Common.{◌≡◌, map}
 use Rattle.isle_parser_specs.specs.SpecWords.{in_table}
-use Rattle.isle_parser_specs.proofs.Tables.{from_row}
+use Rattle.isle_parser_specs.proofs.Words.Tables.{from_row}
 use Rattle.isle_parser_specs.proofs.parser.operators.in_table.Given as goal
 
 abbrev pub invariant-loop-name : goal.invariant-loop-name

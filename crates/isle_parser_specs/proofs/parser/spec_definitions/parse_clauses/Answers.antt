@@ -3,10 +3,10 @@ use Rattle.std.proofs.lemmas.Result.{err_from_is_err_and}
 use Rattle.std.proofs.lemmas.List.{map-append, map_push}
 use Rattle.isle_ast_specs.specs.TreeView.{modified_of, spec_of, specs_of}
 use Rattle.isle_ast_specs.specs.SpecDefinitionGrammar.{match_clause, modifies_clause, provide_clause, require_clause}
-use Rattle.isle_parser_cursor.specs.Answers.{source, tokens}
-use Rattle.isle_parser_specs.specs.ReadSpecDefinitions.{joined_clauses}
+use Rattle.isle_parser_cursor.specs.Outcomes.{source, tokens}
+use Rattle.isle_parser_specs.specs.SpecDefinitionReaders.{joined_clauses}
 use Rattle.isle_parser_specs.specs.SpecParts.{clause_of}
-use Rattle.isle_parser_specs.proofs.SpecClauses.{clause_shrinks, clauses_end, clauses_push, clauses_stop}
+use Rattle.isle_parser_specs.proofs.Reading.Clauses.{clause_shrinks, clauses_end, clauses_push, clauses_stop}
 use Rattle.isle_parser_specs.proofs.parser.spec_definitions.parse_clauses.Goals as goal
 
 pub returns-in_err-exprs-clause-gives : goal.returns-in_err-exprs-clause-gives

@@ -1,9 +1,9 @@
 use Rattle.std.proofs.Common.{◌≡◌, length, map}
 use Rattle.isle_ast_specs.specs.TreeView.{modified_of, specs_of}
-use Rattle.isle_parser_cursor.specs.Answers.{source, tokens}
-use Rattle.isle_parser_specs.specs.ReadSpecDefinitions.{clause, joined_clauses}
+use Rattle.isle_parser_cursor.specs.Outcomes.{source, tokens}
+use Rattle.isle_parser_specs.specs.SpecDefinitionReaders.{clause, joined_clauses}
 use Rattle.isle_parser_cursor.specs.Reading.{closes, many}
-use Rattle.isle_parser_specs.proofs.SpecClauses.{behind_joined}
+use Rattle.isle_parser_specs.proofs.Reading.Clauses.{behind_joined}
 use Rattle.isle_parser_specs.proofs.parser.spec_definitions.parse_clauses.Given as goal
 
 -- what was said, with what is still read, is what all clauses say

@@ -1,6 +1,6 @@
 use Rattle.std.proofs.Common.{arith}
 use Rattle.std.proofs.lemmas.Str.Pattern.{split_parts}
-use Rattle.isle_parser_specs.proofs.SpecTexts.{split_around}
+use Rattle.isle_parser_specs.proofs.Words.Texts.{split_around}
 use Rattle.isle_parser_specs.proofs.parser.spec_words.around_dot.Goals as goal
 
 pub returns : goal.returns

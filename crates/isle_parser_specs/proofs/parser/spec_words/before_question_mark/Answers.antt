@@ -1,6 +1,6 @@
 use Rattle.std.proofs.Common.{arith}
 use Rattle.std.proofs.lemmas.Str.Pattern.{strip_suffix_char}
-use Rattle.isle_parser_specs.proofs.SpecTexts.{stripped_last}
+use Rattle.isle_parser_specs.proofs.Words.Texts.{stripped_last}
 use Rattle.isle_parser_specs.proofs.parser.spec_words.before_question_mark.Goals as goal
 
 pub returns : goal.returns

@@ -1,6 +1,6 @@
 use Rattle.std.proofs.Common.{arith}
 use Rattle.std.proofs.lemmas.Str.Pattern.{strip_prefix_char}
-use Rattle.isle_parser_specs.proofs.SpecTexts.{stripped_first}
+use Rattle.isle_parser_specs.proofs.Words.Texts.{stripped_first}
 use Rattle.isle_parser_specs.proofs.parser.spec_words.behind_colon.Goals as goal
 
 pub returns : goal.returns

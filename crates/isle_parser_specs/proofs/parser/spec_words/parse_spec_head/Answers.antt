@@ -1,6 +1,6 @@
 use Rattle.std.proofs.Common.{sym}
-use Rattle.isle_parser_cursor.specs.Answers.{source, tokens}
-use Rattle.isle_parser_specs.proofs.SpecHeadsAhead.{head_refused}
+use Rattle.isle_parser_cursor.specs.Outcomes.{source, tokens}
+use Rattle.isle_parser_specs.proofs.Reading.HeadsAhead.{head_refused}
 use Rattle.isle_parser_specs.proofs.parser.spec_words.parse_spec_head.Goals as goal
 
 pub returns-then-not-is_sym-clause-gives : goal.returns-then-not-is_sym-clause-gives

@@ -4,14 +4,14 @@ use Rattle.std.proofs.lemmas.Int.{to_z-of_z}
 use Rattle.std.proofs.lemmas.Result.{err_from_is_err_and}
 use Rattle.std.proofs.lemmas.List.{map_push}
 use Rattle.isle_ast_specs.specs.TreeView.{single_arm_of, single_arms_of, single_field_init_of, single_field_inits_of, single_spec_let_of, single_spec_lets_of, spec_of, specs_of}
-use Rattle.isle_parser_cursor.specs.Answers.{source, tokens}
-use Rattle.isle_parser_specs.specs.ReadSpecs.{arm, field_init, spec_expression, spec_let, spec_pair}
+use Rattle.isle_parser_cursor.specs.Outcomes.{source, tokens}
+use Rattle.isle_parser_specs.specs.SpecReaders.{arm, field_init, spec_expression, spec_let, spec_pair}
 use Rattle.isle_parser_cursor.specs.Reading.{closes, is_lparen, many}
 use Rattle.isle_parser_cursor.proofs.Lengths.{expect_shorter}
 use Rattle.isle_parser_cursor.proofs.Loops.{behind_front, loop_push, loop_stops, loop_end}
 use Rattle.isle_parser_cursor.proofs.Names.{name_shrinks}
-use Rattle.isle_parser_specs.proofs.SpecParts.{int_taken, let_read, spec_head_shrinks}
-use Rattle.isle_parser_specs.proofs.SpecShrinks.{arm_shrinks, field_init_shrinks, headed_shrinks, names_keep, spec_let_shrinks, spec_lets_keep, spec_pair_shrinks, spec_shrinks}
+use Rattle.isle_parser_specs.proofs.Reading.Parts.{int_taken, let_read, spec_head_shrinks}
+use Rattle.isle_parser_specs.proofs.Reading.Shrinks.{arm_shrinks, field_init_shrinks, headed_shrinks, names_keep, spec_let_shrinks, spec_lets_keep, spec_pair_shrinks, spec_shrinks}
 use Rattle.isle_parser_specs.proofs.parser.specs.+spec.Goals as goal
 
 pub parse_spec_expr-returns-then-is_int-clause-gives : goal.parse_spec_expr-returns-then-is_int-clause-gives

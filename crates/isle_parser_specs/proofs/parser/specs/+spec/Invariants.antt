@@ -1,7 +1,7 @@
 use Rattle.std.proofs.Common.{◌≡◌, ◌+◌, ◌*◌, ◌≤◌, [], ◌∷◌, length}
 use Rattle.isle_ast_specs.specs.TreeView.{single_arms_of, single_field_inits_of, single_spec_lets_of, spec_of, specs_of}
-use Rattle.isle_parser_cursor.specs.Answers.{source, tokens}
-use Rattle.isle_parser_specs.specs.ReadSpecs.{arm, field_init, spec_expression, spec_let, spec_pair}
+use Rattle.isle_parser_cursor.specs.Outcomes.{source, tokens}
+use Rattle.isle_parser_specs.specs.SpecReaders.{arm, field_init, spec_expression, spec_let, spec_pair}
 use Rattle.isle_parser_cursor.specs.Reading.{closes, many}
 use Rattle.isle_parser_cursor.proofs.Loops.{behind_front}
 use Rattle.isle_parser_specs.proofs.parser.specs.+spec.Given as goal

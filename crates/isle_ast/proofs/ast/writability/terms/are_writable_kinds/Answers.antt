@@ -1,9 +1,9 @@
 use Rattle.std.proofs.Common.{◌∙◌, rules, tests}
 use Rattle.std.proofs.lemmas.Iterator.{YieldsList-from_slice}
 use Rattle.std.proofs.lemmas.Iterator.Search.{all_from_yields_List}
-use Rattle.isle_ast_names.proofs.WritableNames.{all_meant}
+use Rattle.isle_ast_names.proofs.Writable.Names.{all_meant}
 use Rattle.isle_ast.specs.TreeView.{kind_of}
-use Rattle.isle_ast.specs.WritableTests.{is_writable_kind}
+use Rattle.isle_ast.specs.WritableDeciders.{is_writable_kind}
 use Rattle.isle_ast.proofs.ast.writability.terms.are_writable_kinds.Goals as goal
 
 pub returns : goal.returns

@@ -1,6 +1,6 @@
 use Rattle.std.proofs.Common.{◌≡◌, drop, map}
 use Rattle.isle_ast.specs.TreeView.{indexed_field_of}
-use Rattle.isle_ast.specs.WritableTests.{are_writable_indexed_fields}
+use Rattle.isle_ast.specs.WritableDeciders.{are_writable_indexed_fields}
 use Rattle.isle_ast.proofs.ast.writability.types.are_at_their_places.Given as goal
 
 abbrev pub invariant-loop-place : goal.invariant-loop-place

@@ -1,6 +1,6 @@
 use Rattle.std.proofs.Common.{drop}
 use Rattle.std.specs.List.{FoldsTo}
-use Rattle.isle_ast_rules.specs.Heads.{CalledAtHead, expression_row_heads, let_row_heads}
+use Rattle.isle_ast_rules.specs.TermHeads.{CalledAtHead, expression_row_heads, let_row_heads}
 use Rattle.isle_ast_rules.specs.TreeView.{expression_row_of, expressions_of, let_row_of, single_lets_of}
 use Rattle.isle_ast_rules.proofs.ast.walks.terms.+expr_terms.Given as goal
 

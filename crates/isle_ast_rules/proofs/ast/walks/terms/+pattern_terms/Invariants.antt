@@ -1,6 +1,6 @@
 use Rattle.std.proofs.Common.{drop}
 use Rattle.std.specs.List.{FoldsTo}
-use Rattle.isle_ast_rules.specs.Heads.{CalledAtHead, row_heads}
+use Rattle.isle_ast_rules.specs.TermHeads.{CalledAtHead, row_heads}
 use Rattle.isle_ast_rules.specs.TreeView.{pattern_row_of, patterns_of}
 use Rattle.isle_ast_rules.proofs.ast.walks.terms.+pattern_terms.Given as goal
 

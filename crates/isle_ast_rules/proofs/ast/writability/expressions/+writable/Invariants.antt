@@ -1,6 +1,6 @@
 use Rattle.std.proofs.Common.{◌≡◌, drop}
 use Rattle.isle_ast_rules.specs.TreeView.{expression_row_of, expressions_of, let_row_of, single_lets_of}
-use Rattle.isle_ast_rules.specs.WritableTests.{are_writable_expressions, are_writable_lets}
+use Rattle.isle_ast_rules.specs.WritableDeciders.{are_writable_expressions, are_writable_lets}
 use Rattle.isle_ast_rules.proofs.ast.writability.expressions.+writable.Given as goal
 
 abbrev pub invariant-are_writable_exprs-loop-expr : goal.invariant-are_writable_exprs-loop-expr

@@ -1,6 +1,6 @@
 use Rattle.std.proofs.Common.{◌≡◌, drop}
 use Rattle.isle_ast_rules.specs.TreeView.{pattern_row_of, patterns_of}
-use Rattle.isle_ast_rules.specs.WritableTests.{are_writable_patterns}
+use Rattle.isle_ast_rules.specs.WritableDeciders.{are_writable_patterns}
 use Rattle.isle_ast_rules.proofs.ast.writability.patterns.+writable.Given as goal
 
 abbrev pub invariant-are_writable_patterns-loop-pattern : goal.invariant-are_writable_patterns-loop-pattern

@@ -1,5 +1,5 @@
 use Rattle.std.proofs.Common.{true, false, ◌<◌, ◌≤◌, length, sym, subst, ◌∙◌}
-use Rattle.isle_ast_specs.proofs.SameSpecLists.{specs_are_rows, arms_are_rows, spec_lets_are_rows, field_inits_are_rows}
+use Rattle.isle_ast_specs.proofs.Same.SpecLists.{specs_are_rows, arms_are_rows, spec_lets_are_rows, field_inits_are_rows}
 use Rattle.isle_ast_names.proofs.SameRows.{count, uneven_rows, rows_step, rows_end}
 use Rattle.isle_ast_specs.proofs.ast.compare.specs.+same.Goals as goal
 

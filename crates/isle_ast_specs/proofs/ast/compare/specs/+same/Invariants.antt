@@ -1,5 +1,5 @@
 use Rattle.std.proofs.Common.{◌≡◌, drop}
-use Rattle.isle_ast_specs.proofs.SameSpecLists.{spec_rows, arm_rows, spec_let_rows, field_init_rows}
+use Rattle.isle_ast_specs.proofs.Same.SpecLists.{spec_rows, arm_rows, spec_let_rows, field_init_rows}
 use Rattle.isle_ast_specs.proofs.ast.compare.specs.+same.Given as goal
 
 abbrev pub invariant-same_specs-loop-i : goal.invariant-same_specs-loop-i

@@ -1,5 +1,5 @@
 use Rattle.std.proofs.Common.{◌∙◌}
-use Rattle.isle_ast_specs.proofs.SameSpecLists.{names_compared}
+use Rattle.isle_ast_specs.proofs.Same.SpecLists.{names_compared}
 use Rattle.isle_ast_specs.proofs.ast.compare.specs.same_names.Goals as goal
 
 pub returns : goal.returns

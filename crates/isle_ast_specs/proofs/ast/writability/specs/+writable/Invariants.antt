@@ -1,6 +1,6 @@
 use Rattle.std.proofs.Common.{◌≡◌, drop}
 use Rattle.isle_ast_specs.specs.TreeView.{arm_row_of, field_init_row_of, single_arms_of, single_field_inits_of, single_spec_lets_of, spec_let_row_of, spec_row_of, specs_of}
-use Rattle.isle_ast_specs.specs.WritableTests.{are_writable_arms, are_writable_cases, are_writable_field_inits, are_writable_pairs, are_writable_spec_lets, are_writable_specs}
+use Rattle.isle_ast_specs.specs.WritableDeciders.{are_writable_arms, are_writable_cases, are_writable_field_inits, are_writable_pairs, are_writable_spec_lets, are_writable_specs}
 use Rattle.isle_ast_specs.proofs.ast.writability.specs.+writable.Given as goal
 
 abbrev pub invariant-are_writable_specs-loop-expr : goal.invariant-are_writable_specs-loop-expr

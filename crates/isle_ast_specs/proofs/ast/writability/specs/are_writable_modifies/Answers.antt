@@ -2,8 +2,8 @@ use Rattle.std.proofs.Common.{◌∙◌, rules, tests}
 use Rattle.std.proofs.lemmas.Iterator.{YieldsList-from_slice}
 use Rattle.std.proofs.lemmas.Iterator.Search.{all_from_yields_List}
 use Rattle.isle_ast_specs.specs.TreeView.{modified_of}
-use Rattle.isle_ast_specs.specs.WritableTests.{is_writable_modified}
-use Rattle.isle_ast_names.proofs.WritableNames.{all_meant}
+use Rattle.isle_ast_specs.specs.WritableDeciders.{is_writable_modified}
+use Rattle.isle_ast_names.proofs.Writable.Names.{all_meant}
 use Rattle.isle_ast_specs.proofs.ast.writability.specs.are_writable_modifies.Goals as goal
 
 pub returns : goal.returns

@@ -1,5 +1,5 @@
 use Rattle.std.proofs.Common.{◌∙◌}
-use Rattle.isle_ast_specs.specs.WritableTests.{float_names}
+use Rattle.isle_ast_specs.specs.WritableDeciders.{float_names}
 use Rattle.isle_ast_specs.proofs.Texts.{any_turned}
 use Rattle.isle_ast_specs.proofs.ast.writability.specs.is_float_name.Goals as goal
 

@@ -1,0 +1,5 @@
+pub mod Forms
+pub mod ModelContents
+pub mod Terms
+pub mod Types
+pub mod Definitions

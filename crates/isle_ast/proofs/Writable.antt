@@ -1,0 +1,3 @@
+pub mod Spelt
+pub mod Decided
+pub mod Erased

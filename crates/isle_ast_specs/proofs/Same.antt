@@ -1,0 +1,2 @@
+pub mod ModelLists
+pub mod SpecLists

@@ -1,0 +1,292 @@
+-- A symbol's text is the head or the word that the grammar says, and no other.
+use Rattle.std.proofs.Common.{◌≡◌, ℕ, ◌*◌, ◌^◌, ◌<◌, Bool, true, false, ◌||◌, cond, List, [], ◌∷◌, ◌++◌, length, Option, Some, None, refl, sym, ap, subst, ◌∙◌, inl, inr, ⊎_elim}
+use Rattle.std.specs.Prelude.{codes}
+use Rattle.std.specs.List.{list_all}
+use Rattle.std.specs.Str.{bytes_eq}
+use Rattle.std.proofs.lemmas.Slice.Eq.{bytes_eq-Decides}
+use Rattle.isle_base.specs.declared.lexer.Pos.{Pos}
+use Rattle.isle_base.specs.Place.{Placed}
+use Rattle.isle_base.specs.Token.{symbol}
+use Rattle.isle_ast_specs.specs.declared.ast.specs.SpecOp.{SpecOp}
+use Rattle.isle_ast_specs.specs.BitVectors.{IsBitVector, IsBitVectorIn}
+use Rattle.isle_ast_names.specs.Identifier.{is_identifier}
+use Rattle.isle_ast_specs.specs.Operators.{is_operator_text, operator_text}
+use Rattle.isle_ast_specs.specs.Tree.{SpecNode, bit_vector_spec, bool_spec, var_spec}
+use Rattle.isle_ast_names.specs.Words.{bool_word, is_bool_word}
+use Rattle.isle_ast_specs.specs.SpecGrammar.{SpellsSpec}
+use Rattle.isle_parser_specs.specs.SpecWords.{IsHead, SpecHead, around, as_head, before_last, begins_bit_vector, behind_mark, binary_or_other, bit_vector_at, bit_vector_of, discriminator_head, discriminator_or_other, expansion_head, expansion_or_other, field_head, field_or_variant, head_of, hexadecimal_or_plain, keyword_head, let_head, macro_head, match_head, named_head, operator_head, operator_of, operator_or_name, other_head, plain_word, struct_head, switch_head, variant_head, variant_of, with_head, word_of}
+use Rattle.isle_parser_cursor.proofs.SameBytes.{other_bytes}
+use Rattle.isle_parser_cursor.proofs.Readers.{bind_some, chosen, chosen_some}
+use Rattle.isle_parser_specs.proofs.Words.BitVectors.{IsMade, bit_vector_is, bit_vector_made}
+use Rattle.isle_parser_specs.proofs.Words.Marks.{PlainText, identifier_text, no_exclamation_mark, no_mark, no_question_mark}
+use Rattle.isle_parser_specs.proofs.Words.Operators.{no_operator_text, operator_head_found, operator_is, operator_none}
+use Rattle.isle_parser_specs.proofs.Words.Texts.{around_is, around_made, before_last_behind, before_last_is, before_last_made, before_last_other, behind_is, is_other, or_is, some_is}
+
+-- ---- what is found is a head
+
+keyword : (text word : List ℕ) (made : SpecHead) (others : Option SpecHead) (head : SpecHead) → (text ≡ word → IsHead made text) → (others ≡ Some head → IsHead head text) → cond (bytes_eq text word) (Some made) others ≡ Some head → IsHead head text
+keyword text word made others head is next e =
+    ⊎_elim
+    (λ found. subst (λ (h : SpecHead). IsHead h text) (some_is made head found.1) (is ((bytes_eq-Decides text word).0 found.0)))
+    (λ later. next later.1)
+    (chosen (bytes_eq text word) (Some made) others (Some head) e)
+
+keyword_is : (text : List ℕ) (head : SpecHead) → keyword_head text ≡ Some head → IsHead head text
+unfolding keyword_head
+keyword_is text head e =
+    keyword text (codes "switch") switch_head _ head (λ is. is)
+    (keyword text (codes "let") let_head _ head (λ is. is)
+    (keyword text (codes "with") with_head _ head (λ is. is)
+    (keyword text (codes "match") match_head _ head (λ is. is)
+    (keyword text (codes "struct") struct_head _ head (λ is. is)
+    (keyword text (codes "macro") macro_head _ head (λ is. is)
+    (keyword text (codes "as") as_head None head (λ is. is) (λ n. absurd cc))))))) e
+
+named_is : (make : List ℕ → SpecHead) (name : List ℕ) (head : SpecHead) → named_head make name ≡ Some head → (is_identifier name ≡ true) × (make name ≡ head)
+unfolding named_head
+named_is make name head e =
+    let c = chosen_some (is_identifier name) (make name) head e in (c.0, some_is (make name) head c.1)
+
+-- a text around a dot is neither `-` nor `switch`
+dotted_not : (text : List ℕ) (parts : List ℕ × List ℕ) (word : List ℕ) → around 46 text ≡ Some parts → around 46 word ≡ None → text ≡ word → ⊥
+dotted_not text parts word e none is =
+    let clash : None ≡ Some parts = sym none ∙ sym (ap (around 46) is) ∙ e in cc
+
+variant_is : (text : List ℕ) (o : Option (List ℕ × List ℕ)) (head : SpecHead) → around 46 text ≡ o → operator_of text ≡ None → variant_of o ≡ Some head → IsHead head text
+unfolding variant_of
+variant_is text None head a none e = absurd cc
+variant_is text (Some names) head a none e =
+    let first = chosen (is_identifier names.0) (named_head (λ case. variant_head names.0 case) names.1) None (Some head) e in
+    let parts = around_is 46 text names a in
+    let no = no_operator_text text none (dotted_not text names (codes "-") a refl) (dotted_not text names (codes "switch") a refl) in
+    ⊎_elim
+    (λ found. let n = named_is (λ case. variant_head names.0 case) names.1 head found.1 in
+    subst (λ (h : SpecHead). IsHead h text) n.1 (found.0, n.0, parts.1, no, parts.0))
+    (λ not. let clash : None ≡ Some head = not.1 in absurd cc)
+    first
+
+field_is : (text : List ℕ) (o : Option (List ℕ)) (head : SpecHead) → behind_mark (codes ":") text ≡ o → operator_of text ≡ None → field_or_variant text o ≡ Some head → IsHead head text
+unfolding field_or_variant
+field_is text None head b none e = variant_is text (around 46 text) head refl none e
+field_is text (Some field) head b none e =
+    let n = named_is field_head field head e in
+    subst (λ (h : SpecHead). IsHead h text) n.1 (n.0, behind_is (codes ":") text field b)
+
+operator_head_is : (text : List ℕ) (o : Option SpecOp) (head : SpecHead) → operator_of text ≡ o → operator_or_name text o ≡ Some head → IsHead head text
+unfolding operator_or_name
+operator_head_is text None head f e = field_is text (behind_mark (codes ":") text) head refl f e
+operator_head_is text (Some operator) head f e =
+    subst (λ (h : SpecHead). IsHead h text) (some_is (operator_head operator) head e) (operator_is text operator f)
+
+expansion_is : (text : List ℕ) (o : Option (List ℕ)) (head : SpecHead) → before_last 33 text ≡ o → expansion_or_other text o ≡ Some head → IsHead head text
+unfolding expansion_or_other
+expansion_is text None head b e = operator_head_is text (operator_of text) head refl e
+expansion_is text (Some macro) head b e =
+    let n = named_is expansion_head macro head e in
+    subst (λ (h : SpecHead). IsHead h text) n.1 (n.0, before_last_is 33 text macro b)
+
+discriminator_is : (text : List ℕ) (o : Option (List ℕ)) (head : SpecHead) → before_last 63 text ≡ o → discriminator_or_other text o ≡ Some head → IsHead head text
+unfolding discriminator_or_other
+discriminator_is text None head b e = expansion_is text (before_last 33 text) head refl e
+discriminator_is text (Some variant) head b e =
+    let n = named_is discriminator_head variant head e in
+    subst (λ (h : SpecHead). IsHead h text) n.1 (n.0, before_last_is 63 text variant b)
+
+other_head_is : (text : List ℕ) (head : SpecHead) → other_head text ≡ Some head → IsHead head text
+unfolding other_head
+other_head_is text head e =
+    ⊎_elim
+    (λ bits. let clash : None ≡ Some head = bits.1 in absurd cc)
+    (λ other. discriminator_is text (before_last 63 text) head refl other.1)
+    (chosen (begins_bit_vector text) None (discriminator_or_other text (before_last 63 text)) (Some head) e)
+
+pub head_is : (text : List ℕ) (head : SpecHead) → head_of text ≡ Some head → IsHead head text
+unfolding head_of
+head_is text head e =
+    ⊎_elim (keyword_is text head) (λ other. other_head_is text head other.1) (or_is (keyword_head text) (other_head text) head e)
+
+-- ---- a head is found
+
+keyword_none : (text : List ℕ) → (text ≡ codes "switch" → ⊥) → (text ≡ codes "let" → ⊥) → (text ≡ codes "with" → ⊥) → (text ≡ codes "match" → ⊥) → (text ≡ codes "struct" → ⊥) → (text ≡ codes "macro" → ⊥) → (text ≡ codes "as" → ⊥) → keyword_head text ≡ None
+unfolding keyword_head
+keyword_none text a b c d f g h =
+    rw (other_bytes text (codes "switch") a, other_bytes text (codes "let") b, other_bytes text (codes "with") c, other_bytes text (codes "match") d, other_bytes text (codes "struct") f, other_bytes text (codes "macro") g, other_bytes text (codes "as") h) refl
+
+-- what holds of a text and of no keyword
+no_keyword : {A : Type 0} (test : List ℕ → Option A) (text : List ℕ) (x : A) → test text ≡ Some x → test (codes "switch") ≡ None → test (codes "let") ≡ None → test (codes "with") ≡ None → test (codes "match") ≡ None → test (codes "struct") ≡ None → test (codes "macro") ≡ None → test (codes "as") ≡ None → keyword_head text ≡ None
+no_keyword {A} test text x e a b c d f g h =
+    let differs : (word : List ℕ) → test word ≡ None → text ≡ word → ⊥ = λ word none is.
+    let clash : None ≡ Some x = sym none ∙ sym (ap test is) ∙ e in cc in
+    keyword_none text (differs (codes "switch") a) (differs (codes "let") b) (differs (codes "with") c) (differs (codes "match") d) (differs (codes "struct") f) (differs (codes "macro") g) (differs (codes "as") h)
+
+named : (make : List ℕ → SpecHead) (name : List ℕ) → is_identifier name ≡ true → named_head make name ≡ Some (make name)
+unfolding named_head
+named make name e = rw e refl
+
+-- an identifier in front does not begin a bit vector
+not_bits : (name rest : List ℕ) → PlainText name → begins_bit_vector (name ++ rest) ≡ false
+not_bits name rest p =
+    let n = (no_mark p.first p.others p.plain).number in
+    subst (λ (t : List ℕ). begins_bit_vector (t ++ rest) ≡ false) (sym p.split) (rw n refl)
+
+discriminator_found : (name : List ℕ) → is_identifier name ≡ true → head_of (name ++ 63 ∷ []) ≡ Some (discriminator_head name)
+unfolding head_of other_head discriminator_or_other
+discriminator_found name e =
+    rw (no_keyword (before_last 63) (name ++ 63 ∷ []) name (before_last_made 63 name) refl refl refl refl refl refl refl, not_bits name (63 ∷ []) (identifier_text name e), before_last_made 63 name)
+    (named discriminator_head name e)
+
+expansion_found : (name : List ℕ) → is_identifier name ≡ true → head_of (name ++ 33 ∷ []) ≡ Some (expansion_head name)
+unfolding head_of other_head discriminator_or_other expansion_or_other
+expansion_found name e =
+    rw (no_keyword (before_last 33) (name ++ 33 ∷ []) name (before_last_made 33 name) refl refl refl refl refl refl refl, not_bits name (33 ∷ []) (identifier_text name e), before_last_other 63 33 name refl, before_last_made 33 name)
+    (named expansion_head name e)
+
+-- a plain text behind a byte ends with no mark
+question_behind : (byte : ℕ) (name : List ℕ) → PlainText name → before_last 63 (byte ∷ name) ≡ None
+question_behind byte name p =
+    subst (λ (t : List ℕ). before_last 63 (byte ∷ t) ≡ None) (sym p.split) (rw (no_question_mark (p.first ∷ p.others) p.plain) refl)
+
+exclamation_behind : (byte : ℕ) (name : List ℕ) → PlainText name → before_last 33 (byte ∷ name) ≡ None
+exclamation_behind byte name p =
+    subst (λ (t : List ℕ). before_last 33 (byte ∷ t) ≡ None) (sym p.split) (rw (no_exclamation_mark (p.first ∷ p.others) p.plain) refl)
+
+field_found : (name : List ℕ) → is_identifier name ≡ true → head_of (58 ∷ name) ≡ Some (field_head name)
+unfolding head_of keyword_head other_head discriminator_or_other expansion_or_other operator_or_name operator_of field_or_variant
+field_found name e =
+    let p = identifier_text name e in
+    rw (question_behind 58 name p, exclamation_behind 58 name p) (named field_head name e)
+
+-- an identifier in front does not begin a field
+not_field : (name rest : List ℕ) → PlainText name → behind_mark (codes ":") (name ++ rest) ≡ None
+not_field name rest p =
+    let n = (no_mark p.first p.others p.plain).colon in
+    subst (λ (t : List ℕ). behind_mark (codes ":") (t ++ rest) ≡ None) (sym p.split) (rw n refl)
+
+variant_named : (enum case : List ℕ) → is_identifier enum ≡ true → is_identifier case ≡ true → variant_of (Some (enum, case)) ≡ Some (variant_head enum case)
+unfolding variant_of
+variant_named enum case e f = rw e (named (λ c. variant_head enum c) case f)
+
+variant_found : (enum case : List ℕ) → is_identifier enum ≡ true → is_identifier case ≡ true → list_all (is_other 46) enum ≡ true → is_operator_text (enum ++ 46 ∷ case) ≡ false → head_of (enum ++ 46 ∷ case) ≡ Some (variant_head enum case)
+unfolding head_of other_head discriminator_or_other expansion_or_other operator_or_name field_or_variant
+variant_found enum case e f dots none =
+    let p = identifier_text enum e in
+    let q = identifier_text case f in
+    let parts = around_made 46 enum case dots in
+    rw (no_keyword (around 46) (enum ++ 46 ∷ case) (enum, case) parts refl refl refl refl refl refl refl, not_bits enum (46 ∷ case) p, before_last_behind 63 enum 46 case (question_behind 46 case q), before_last_behind 33 enum 46 case (exclamation_behind 46 case q), operator_none (enum ++ 46 ∷ case) none, not_field enum (46 ∷ case) p, parts)
+    (variant_named enum case e f)
+
+word_found : (text word : List ℕ) (head : SpecHead) → head_of word ≡ Some head → text ≡ word → head_of text ≡ Some head
+word_found text word head e is = ap head_of is ∙ e
+
+words_found : (head_of (codes "switch") ≡ Some switch_head) × (head_of (codes "let") ≡ Some let_head) × (head_of (codes "with") ≡ Some with_head) × (head_of (codes "match") ≡ Some match_head) × (head_of (codes "struct") ≡ Some struct_head) × (head_of (codes "macro") ≡ Some macro_head) × (head_of (codes "as") ≡ Some as_head)
+unfolding head_of keyword_head
+words_found = (refl, refl, refl, refl, refl, refl, refl)
+
+pub is_head : (text : List ℕ) (head : SpecHead) → IsHead head text → head_of text ≡ Some head
+is_head text switch_head h = word_found text (codes "switch") switch_head words_found.0 h
+is_head text let_head h = word_found text (codes "let") let_head words_found.1 h
+is_head text with_head h = word_found text (codes "with") with_head words_found.2 h
+is_head text match_head h = word_found text (codes "match") match_head words_found.3 h
+is_head text struct_head h = word_found text (codes "struct") struct_head words_found.4 h
+is_head text macro_head h = word_found text (codes "macro") macro_head words_found.5 h
+is_head text as_head h = word_found text (codes "as") as_head words_found.6 h
+is_head text (discriminator_head variant) h = word_found text (variant ++ 63 ∷ []) (discriminator_head variant) (discriminator_found variant h.0) h.1
+is_head text (expansion_head macro) h = word_found text (macro ++ 33 ∷ []) (expansion_head macro) (expansion_found macro h.0) h.1
+is_head text (operator_head operator) h = word_found text (operator_text operator) (operator_head operator) (operator_head_found operator h.0) h.1
+is_head text (field_head field) h = word_found text (58 ∷ field) (field_head field) (field_found field h.0) h.1
+is_head text (variant_head enum case) h =
+    word_found text (enum ++ 46 ∷ case) (variant_head enum case) (variant_found enum case h.0 h.1 h.2 (ap is_operator_text (sym h.4) ∙ h.3)) h.4
+
+-- ---- words by themselves
+
+abbrev Spelt : Pos → List ℕ → SpecNode → List Placed → Type 0
+Spelt place text x rest = SpellsSpec x (record { pos = place; token = symbol text } ∷ rest) rest
+
+in_radix : (radix bits : ℕ) (mark text digits : List ℕ) (v : ℕ × ℕ) → text ≡ mark ++ digits → IsMade radix bits digits v → IsBitVectorIn radix bits mark text v.0 v.1
+in_radix radix bits mark text digits v marked made =
+    record {
+      digits = digits;
+      marked = marked;
+      numeral = made.numeral;
+      value = made.value;
+      small = subst (λ (n : ℕ). n < 2 ^ 128) made.value made.small;
+      bytes = made.bytes;
+      fits = subst (λ (n : ℕ). n < 2 ^ 64) made.bytes made.fits;
+    }
+
+vector_is : (place : Pos) (radix bits : ℕ) (text digits : List ℕ) (x : SpecNode) (rest : List Placed) → ((v : ℕ × ℕ) → IsMade radix bits digits v → IsBitVector text v.0 v.1) → bit_vector_at place radix bits digits ≡ Some x → Spelt place text x rest
+unfolding bit_vector_at
+vector_is place radix bits text digits x rest h e =
+    let b = bind_some (bit_vector_of radix bits digits) (λ v. Some (bit_vector_spec v.0 v.1 place)) x e in
+    let is = some_is (bit_vector_spec b.0.0 b.0.1 place) x b.2 in
+    subst (λ (y : SpecNode). Spelt place text y rest) is ((symbol text, rest, refl), (text, h b.0 (bit_vector_is radix bits digits b.0 b.1), (place, refl)))
+
+truth_is : (place : Pos) (text : List ℕ) (val : Bool) (x : SpecNode) (rest : List Placed) → text ≡ bool_word val → Some (bool_spec val place) ≡ Some x → Spelt place text x rest
+truth_is place text val x rest is e =
+    subst (λ (y : SpecNode). Spelt place text y rest) (some_is (bool_spec val place) x e) ((symbol text, rest, refl), (place, ap (λ (t : List ℕ). record { pos = place; token = symbol t } ∷ rest) is))
+
+variable_is : (place : Pos) (text : List ℕ) (x : SpecNode) (rest : List Placed) → bytes_eq text (codes "true") ≡ false → bytes_eq text (codes "false") ≡ false → cond (is_identifier text) (Some (var_spec (record { text = text; pos = place }) place)) None ≡ Some x → Spelt place text x rest
+variable_is place text x rest untrue unfalse e =
+    let c = chosen_some (is_identifier text) (var_spec (record { text = text; pos = place }) place) x e in
+    let word : is_bool_word text ≡ false = rw (untrue, unfalse) refl in
+    subst (λ (y : SpecNode). Spelt place text y rest) (some_is (var_spec (record { text = text; pos = place }) place) x c.1) (word, (symbol text, rest, refl), (c.0, refl))
+
+plain_is : (place : Pos) (text : List ℕ) (x : SpecNode) (rest : List Placed) → plain_word place text ≡ Some x → Spelt place text x rest
+unfolding plain_word
+plain_is place text x rest e =
+    ⊎_elim
+    (λ found. truth_is place text true x rest ((bytes_eq-Decides text (codes "true")).0 found.0) found.1)
+    (λ later. ⊎_elim
+    (λ found. truth_is place text false x rest ((bytes_eq-Decides text (codes "false")).0 found.0) found.1)
+    (λ last. variable_is place text x rest later.0 last.0 last.1)
+    (chosen (bytes_eq text (codes "false")) (Some (bool_spec false place)) _ (Some x) later.1))
+    (chosen (bytes_eq text (codes "true")) (Some (bool_spec true place)) _ (Some x) e)
+
+hexadecimal_is : (place : Pos) (text : List ℕ) (o : Option (List ℕ)) (x : SpecNode) (rest : List Placed) → behind_mark (codes "#x") text ≡ o → hexadecimal_or_plain place text o ≡ Some x → Spelt place text x rest
+unfolding hexadecimal_or_plain
+hexadecimal_is place text None x rest b e = plain_is place text x rest e
+hexadecimal_is place text (Some digits) x rest b e =
+    vector_is place 16 4 text digits x rest (λ v made. inr (in_radix 16 4 (codes "#x") text digits v (behind_is (codes "#x") text digits b) made)) e
+
+binary_is : (place : Pos) (text : List ℕ) (o : Option (List ℕ)) (x : SpecNode) (rest : List Placed) → behind_mark (codes "#b") text ≡ o → binary_or_other place text o ≡ Some x → Spelt place text x rest
+unfolding binary_or_other
+binary_is place text None x rest b e = hexadecimal_is place text (behind_mark (codes "#x") text) x rest refl e
+binary_is place text (Some digits) x rest b e =
+    vector_is place 2 1 text digits x rest (λ v made. inl (in_radix 2 1 (codes "#b") text digits v (behind_is (codes "#b") text digits b) made)) e
+
+pub word_is : (place : Pos) (text : List ℕ) (x : SpecNode) (rest : List Placed) → word_of place text ≡ Some x → SpellsSpec x (record { pos = place; token = symbol text } ∷ rest) rest
+unfolding word_of
+word_is place text x rest e = binary_is place text (behind_mark (codes "#b") text) x rest refl e
+
+vector_found : (place : Pos) (radix bits : ℕ) (mark text : List ℕ) (val width : ℕ) → (h : IsBitVectorIn radix bits mark text val width) → bit_vector_at place radix bits h.digits ≡ Some (bit_vector_spec val width place)
+unfolding bit_vector_at
+vector_found place radix bits mark text val width h =
+    let made = bit_vector_made radix bits h.digits h.numeral (subst (λ (n : ℕ). n < 2 ^ 128) (sym h.value) h.small) (subst (λ (n : ℕ). n < 2 ^ 64) (sym h.bytes) h.fits) in
+    rw made (ap (λ (n : ℕ). Some (bit_vector_spec n (length h.digits * bits) place)) h.value ∙ ap (λ (n : ℕ). Some (bit_vector_spec val n place)) h.bytes)
+
+pub bit_vector_word : (place : Pos) (text : List ℕ) (val width : ℕ) → IsBitVector text val width → word_of place text ≡ Some (bit_vector_spec val width place)
+unfolding word_of binary_or_other hexadecimal_or_plain
+bit_vector_word place text val width (inl h) = ap (word_of place) h.marked ∙ vector_found place 2 1 (codes "#b") text val width h
+bit_vector_word place text val width (inr h) = ap (word_of place) h.marked ∙ vector_found place 16 4 (codes "#x") text val width h
+
+pub bool_word_is : (place : Pos) (b : Bool) → word_of place (bool_word b) ≡ Some (bool_spec b place)
+unfolding word_of binary_or_other hexadecimal_or_plain plain_word
+bool_word_is place true = refl
+bool_word_is place false = refl
+
+either_false : (a b : Bool) → (a || b) ≡ false → (a ≡ false) × (b ≡ false)
+either_false true b e = absurd cc
+either_false false b e = (refl, e)
+
+-- an identifier does not begin a bit vector
+no_bits : (kind : ℕ) (text : List ℕ) → PlainText text → behind_mark (35 ∷ kind ∷ []) text ≡ None
+no_bits kind text p =
+    let n = (no_mark p.first p.others p.plain).number in
+    subst (λ (t : List ℕ). behind_mark (35 ∷ kind ∷ []) t ≡ None) (sym p.split) (rw n refl)
+
+pub variable_word : (place : Pos) (text : List ℕ) → is_identifier text ≡ true → is_bool_word text ≡ false → word_of place text ≡ Some (var_spec (record { text = text; pos = place }) place)
+unfolding word_of binary_or_other hexadecimal_or_plain plain_word
+variable_word place text e other =
+    let p = identifier_text text e in
+    let words = either_false (bytes_eq text (codes "true")) (bytes_eq text (codes "false")) other in
+    rw (no_bits 98 text p, no_bits 120 text p, words.0, words.1, e) refl
