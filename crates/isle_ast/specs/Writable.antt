@@ -1,11 +1,12 @@
 -- Which trees are written so that they read back: the conditions on each node. They name no text and
 -- no width, and positions play no part.
-use Rattle.std.specs.Prelude.{[], ◌≡◌, ◌≢◌, ℕ, ◌+◌, List, ◌∷◌, ◌||◌, Option, None, Some, codes}
+use Rattle.std.specs.Prelude.{[], ◌≡◌, ◌≢◌, ℕ, ◌+◌, List, ◌∷◌, true, Option, None, Some, codes}
 use Rattle.isle_ast_specs.specs.Writable.{IsWritableSpec, IsWritableSpecDefinition, IsWritableSpecMacro, IsWritableState, IsWritableModel}
 use Rattle.isle_ast_names.specs.Tree.{Name}
 use Rattle.isle_ast.specs.Tree.{Declaration, Conversion, NamedField, IndexedField, FieldList, unit_fields, struct_fields, tuple_fields, EnumVariant, TypeContent, primitive_type, enum_type, struct_type, TypeDefinition, AttributeTarget, term_target, rule_target, AttributeKind, chain_kind, priority_kind, tag_kind, Attribute, TermSignature, FormDefinition, TermInstantiation, ModelContent, type_model, const_model, ModelDefinition, ExternDefinition, extern_extractor, extern_constructor, extern_const, Definition, type_def, rule, extractor, decl, attr, spec, spec_macro, model, state, form, instantiation, external, converter}
-use Rattle.isle_ast_names.specs.Words.{IsNonEmpty}
-use Rattle.isle_ast_names.specs.Writable.{IsName, Each, Wants}
+use Rattle.isle_ast_names.specs.Words.{IsNonEmpty, demands}
+use Rattle.isle_ast.specs.TermGrammar.{term_is_no_flag}
+use Rattle.isle_ast_names.specs.Writable.{IsName, Each}
 use Rattle.isle_ast_rules.specs.Writable.{IsConstantName, IsWritableRule, IsWritableExtractor}
 
 -- a term that is the word of a flag wants this flag or a later one
@@ -13,10 +14,7 @@ pub record IsWritableDeclaration (d : Declaration) : Type 0 where
   pub term : IsName d.term
   pub arg_tys : Each IsName d.arg_tys
   pub ret_ty : IsName d.ret_ty
-  pub not_pure : Wants d.term (codes "pure") (d.pure || d.multi || d.partial || d.rec)
-  pub not_multi : Wants d.term (codes "multi") (d.multi || d.partial || d.rec)
-  pub not_partial : Wants d.term (codes "partial") (d.partial || d.rec)
-  pub not_rec : Wants d.term (codes "rec") d.rec
+  pub term_is_no_flag : term_is_no_flag d ≡ true
 
 abbrev pub IsWritableConversion : Conversion → Type 0
 IsWritableConversion c = IsName c.term × IsName c.inner_ty × IsName c.outer_ty
@@ -84,7 +82,7 @@ IsWritableModelDefinition m = IsName m.name × IsWritableModelContent m.val
 -- both together are an identifier.
 abbrev pub IsWritableExtern : ExternDefinition → Type 0
 IsWritableExtern (extern_extractor term func _ infallible) =
-    IsName term × IsName func × Wants term (codes "infallible") infallible
+    IsName term × IsName func × (demands term.text (codes "infallible") infallible ≡ true)
 IsWritableExtern (extern_constructor term func _) = IsName term × IsName func
 IsWritableExtern (extern_const name ty _) = IsConstantName name × IsName ty
 

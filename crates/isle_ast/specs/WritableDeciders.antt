@@ -3,29 +3,19 @@ use Rattle.std.specs.Prelude.{[], ℕ, List, Bool, not, ◌||◌, ◌+◌, ◌�
 use Rattle.std.specs.List.{list_all}
 use Rattle.isle_ast_names.specs.Tree.{Name}
 use Rattle.isle_ast_names.specs.WritableDeciders.{is_word, is_name, are_names, is_constant_name}
+use Rattle.isle_ast_names.specs.Words.{demands}
+use Rattle.isle_ast.specs.TermGrammar.{term_is_no_flag}
 use Rattle.isle_ast.specs.Tree.{Declaration, Conversion, NamedField, IndexedField, FieldList, unit_fields, struct_fields, tuple_fields, EnumVariant, TypeContent, primitive_type, enum_type, struct_type, TypeDefinition, AttributeTarget, term_target, rule_target, AttributeKind, chain_kind, priority_kind, tag_kind, Attribute, TermSignature, FormDefinition, TermInstantiation, ModelContent, type_model, const_model, ModelDefinition, ExternDefinition, extern_extractor, extern_constructor, extern_const, Definition, type_def, rule, extractor, decl, attr, spec, spec_macro, model, state, form, instantiation, external, converter}
 use Rattle.isle_ast_specs.specs.WritableDeciders.{is_writable_model, is_writable_spec, is_writable_spec_definition, is_writable_spec_macro, is_writable_state}
 use Rattle.isle_ast_rules.specs.WritableDeciders.{is_writable_rule, is_writable_extractor}
-
--- a name that is this word wants this to be set
-abbrev pub is_wanted : Name → List ℕ → Bool → Bool
-is_wanted n word set = not (is_word word n) || set
 
 -- there is no element
 abbrev pub is_empty : {A : Type 0} → List A → Bool
 is_empty [] = true
 is_empty (_ ∷ _) = false
 
--- a term that is the word of a flag wants this flag or a later one
-abbrev pub wants_flags : Declaration → Bool
-wants_flags d =
-    is_wanted d.term (codes "pure") (d.pure || d.multi || d.partial || d.rec)
-    && is_wanted d.term (codes "multi") (d.multi || d.partial || d.rec)
-    && is_wanted d.term (codes "partial") (d.partial || d.rec)
-    && is_wanted d.term (codes "rec") d.rec
-
 abbrev pub is_writable_declaration : Declaration → Bool
-is_writable_declaration d = is_name d.term && are_names d.arg_tys && is_name d.ret_ty && wants_flags d
+is_writable_declaration d = is_name d.term && are_names d.arg_tys && is_name d.ret_ty && term_is_no_flag d
 
 abbrev pub is_writable_conversion : Conversion → Bool
 is_writable_conversion c = is_name c.term && is_name c.inner_ty && is_name c.outer_ty
@@ -92,7 +82,7 @@ is_writable_model_definition m = is_name m.name && is_writable_model_content m.v
 
 abbrev pub is_writable_extern : ExternDefinition → Bool
 is_writable_extern (extern_extractor term func _ infallible) =
-    is_name term && is_name func && is_wanted term (codes "infallible") infallible
+    is_name term && is_name func && demands term.text (codes "infallible") infallible
 is_writable_extern (extern_constructor term func _) = is_name term && is_name func
 is_writable_extern (extern_const name ty _) = is_constant_name name && is_name ty
 

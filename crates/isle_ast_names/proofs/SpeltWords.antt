@@ -1,24 +1,16 @@
 -- What the words of the grammar say of a spelt node, as the conditions of writable trees say it.
-use Rattle.std.proofs.Common.{◌≡◌, ◌≢◌, ℕ, List, [], ◌∷◌, Bool, true, false, ◌&&◌, ◌||◌, not, refl, sym, ◌∙◌, Option, None, Some, IfSome, codes}
+use Rattle.std.proofs.Common.{◌≡◌, ◌≢◌, ℕ, List, [], ◌∷◌, Bool, true, false, ◌&&◌, ◌||◌, refl, sym, ◌∙◌, Option, None, Some, IfSome, codes}
 use Rattle.std.proofs.lemmas.Bool.{false≢true, true≢false}
 use Rattle.std.proofs.lemmas.Slice.Eq.{bytes_eq-Decides}
 use Rattle.std.specs.Str.{bytes_eq}
 use Rattle.isle_base.specs.Place.{Placed}
 use Rattle.isle_ast_names.specs.Tree.{Name}
-use Rattle.isle_ast_names.specs.Words.{SpellsAll, SpellsName, demands, SpellsOptional, is_bool_word}
-use Rattle.isle_ast_names.specs.Writable.{IsName, Each, Wants, IsNot}
+use Rattle.isle_ast_names.specs.Words.{SpellsAll, SpellsName, SpellsOptional, is_bool_word}
+use Rattle.isle_ast_names.specs.Writable.{IsName, Each, IsNot}
 
 pub both_true : (a b : Bool) → (a && b) ≡ true → (a ≡ true) × (b ≡ true)
 both_true true b e = (refl, e)
 both_true false b e = absurd (false≢true e)
-
-either_set : (a b : Bool) → a ≡ true → (not a || b) ≡ true → b ≡ true
-either_set true b e h = h
-either_set false b e h = absurd (false≢true e)
-
--- what a text demands of a flag, as a fact
-pub demands-Wants : (n : Name) (word : List ℕ) (set : Bool) → demands n.text word set ≡ true → Wants n word set
-demands-Wants n word set h e = either_set (bytes_eq n.text word) set ((bytes_eq-Decides n.text word).1 e) h
 
 -- each element of a spelt row
 pub Each-spelt : {A : Type 0} → (P : A → Type 0) (Spells : A → List Placed → List Placed → Type 0) → ((x : A) (all rest : List Placed) → Spells x all rest → P x) → (xs : List A) (all rest : List Placed) → SpellsAll Spells xs all rest → Each P xs

@@ -1,5 +1,5 @@
 -- Which names are written so that they read back, and what other conditions are made of.
-use Rattle.std.specs.Prelude.{◌≡◌, ◌≢◌, ℕ, List, true, Bool}
+use Rattle.std.specs.Prelude.{◌≡◌, ◌≢◌, ℕ, List, true}
 use Rattle.std.specs.List.{AllByRecursion}
 use Rattle.isle_ast_names.specs.Identifier.{is_identifier}
 use Rattle.isle_ast_names.specs.Tree.{Name}
@@ -15,7 +15,3 @@ Each = AllByRecursion
 -- a name that isn't this word
 abbrev pub IsNot : Name → List ℕ → Type 0
 IsNot n word = n.text ≢ word
-
--- a name that is this word wants this to be set
-abbrev pub Wants : Name → List ℕ → Bool → Type 0
-Wants n word set = n.text ≡ word → set ≡ true

@@ -1,9 +1,10 @@
 -- Which patterns, expressions and rules are written so that they read back: the conditions on each node. They
 -- name no text and no width, and positions play no part.
-use Rattle.std.specs.Prelude.{◌≡◌, ◌≢◌, ℕ, List, ◌∷◌, true, None, IfSome, codes}
+use Rattle.std.specs.Prelude.{◌≡◌, ◌≢◌, ℕ, List, ◌∷◌, true, false, IfSome, codes}
 use Rattle.isle_ast_names.specs.Identifier.{is_identifier}
 use Rattle.isle_ast_names.specs.Numbers.{IsSigned}
 use Rattle.isle_ast_names.specs.Tree.{Name}
+use Rattle.isle_ast_rules.specs.RuleGrammar.{is_if_expression, pattern_is_no_head}
 use Rattle.isle_ast_rules.specs.Tree.{PatternNode, var_pattern, bind_pattern, bool_pattern, int_pattern, constant_pattern, term_pattern, wildcard_pattern, and_pattern, macro_arg_pattern, PatternRow, no_pattern, more_pattern, Expression, term_expression, var_expression, bool_expression, int_expression, constant_expression, let_expression, ExpressionRow, no_expression, more_expression, LetRow, no_let, more_let, Condition, RuleDefinition, ExtractorDefinition}
 use Rattle.isle_ast_names.specs.Writable.{IsName, Each, IsNot}
 
@@ -68,33 +69,16 @@ abbrev mutual
 abbrev pub IsWritableCondition : Condition → Type 0
 IsWritableCondition c = IsWritablePattern c.pattern × IsWritableExpression c.expr
 
--- a pattern that is a term or an `and`
-abbrev pub IsTermOrAnd : PatternNode → Type 0
-IsTermOrAnd (term_pattern _ _ _) = Unit {0}
-IsTermOrAnd (and_pattern _ _) = Unit {0}
-IsTermOrAnd _ = ⊥
-
--- a pattern that isn't an integer
-abbrev pub IsNoInteger : PatternNode → Type 0
-IsNoInteger (int_pattern _ _) = ⊥
-IsNoInteger _ = Unit {0}
-
--- an expression that isn't a term named `if`
-abbrev pub IsNoIf : Expression → Type 0
-IsNoIf (term_expression sym _ _) = IsNot sym (codes "if")
-IsNoIf _ = Unit {0}
-
--- Without a priority the pattern isn't an integer. Without a name and a priority it is a term or an `and`.
--- The expression isn't a term named `if`. A priority is a number of its type.
+-- A priority is a number of its type. The pattern isn't read as the name or the priority that the rule doesn't
+-- have, and the expression isn't read as one more condition.
 pub record IsWritableRule (r : RuleDefinition) : Type 0 where
   pub name : IfSome r.name IsName
   pub prio : IfSome r.prio (IsSigned 63)
   pub pattern : IsWritablePattern r.pattern
   pub iflets : Each IsWritableCondition r.iflets
   pub expr : IsWritableExpression r.expr
-  pub without_prio : r.prio ≡ None → IsNoInteger r.pattern
-  pub without_both : r.name ≡ None → r.prio ≡ None → IsTermOrAnd r.pattern
-  pub not_if : IsNoIf r.expr
+  pub pattern_is_no_head : pattern_is_no_head r.name r.prio r.pattern ≡ true
+  pub expr_is_no_condition : is_if_expression r.expr ≡ false
 
 abbrev pub IsWritableExtractor : ExtractorDefinition → Type 0
 IsWritableExtractor e = IsName e.term × Each IsName e.args × IsWritablePattern e.template

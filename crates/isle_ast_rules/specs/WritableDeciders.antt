@@ -3,6 +3,7 @@ use Rattle.std.specs.Prelude.{ℕ, ℤ, Bool, true, Option, None, Some, false, n
 use Rattle.std.specs.List.{list_all}
 use Rattle.isle_ast_names.specs.WritableDeciders.{is_signed, is_name, are_names, is_optional_name, is_word, is_bool_name, begins_with_dollar, is_constant_name}
 use Rattle.isle_ast_names.specs.Tree.{Name}
+use Rattle.isle_ast_rules.specs.RuleGrammar.{is_if_expression, pattern_is_no_head}
 use Rattle.isle_ast_rules.specs.Tree.{PatternNode, var_pattern, bind_pattern, bool_pattern, int_pattern, constant_pattern, term_pattern, wildcard_pattern, and_pattern, macro_arg_pattern, PatternRow, no_pattern, more_pattern, Expression, term_expression, var_expression, bool_expression, int_expression, constant_expression, let_expression, ExpressionRow, no_expression, more_expression, LetRow, no_let, more_let, Condition, RuleDefinition, ExtractorDefinition}
 use Rattle.isle_ast_rules.specs.TreeView.{SingleLet}
 
@@ -61,31 +62,11 @@ is_writable_single_let d = is_name d.var && is_name d.ty && is_writable_expressi
 abbrev pub is_writable_condition : Condition → Bool
 is_writable_condition c = is_writable_pattern c.pattern && is_writable_expression c.expr
 
-abbrev pub is_term_or_and : PatternNode → Bool
-is_term_or_and (term_pattern _ _ _) = true
-is_term_or_and (and_pattern _ _) = true
-is_term_or_and _ = false
-
-abbrev pub is_integer : PatternNode → Bool
-is_integer (int_pattern _ _) = true
-is_integer _ = false
-
--- a term named `if`
-abbrev pub is_if : Expression → Bool
-is_if (term_expression sym _ _) = is_word (codes "if") sym
-is_if _ = false
-
--- without a priority the pattern isn't an integer, and without a name and a priority it is a term or an `and`
-abbrev pub may_follow : Option Name → Option ℤ → PatternNode → Bool
-may_follow _ (Some _) pattern = true
-may_follow (Some _) None pattern = not (is_integer pattern)
-may_follow None None pattern = is_term_or_and pattern
-
 abbrev pub is_writable_rule : RuleDefinition → Bool
 is_writable_rule r =
     is_optional_name r.name && is_optional_signed 63 r.prio && is_writable_pattern r.pattern
     && list_all is_writable_condition r.iflets && is_writable_expression r.expr
-    && may_follow r.name r.prio r.pattern && not (is_if r.expr)
+    && pattern_is_no_head r.name r.prio r.pattern && not (is_if_expression r.expr)
 
 abbrev pub is_writable_extractor : ExtractorDefinition → Bool
 is_writable_extractor e = is_name e.term && are_names e.args && is_writable_pattern e.template

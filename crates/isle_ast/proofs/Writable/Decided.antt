@@ -5,23 +5,17 @@ use Rattle.std.specs.List.{list_all}
 use Rattle.std.proofs.lemmas.Bool.Decides.{Decides-and, Decides-eqb}
 use Rattle.isle_ast_names.specs.Tree.{Name}
 use Rattle.isle_ast_names.specs.WritableDeciders.{is_word, is_name, are_names, is_constant_name}
-use Rattle.isle_ast.specs.WritableDeciders.{is_wanted, is_empty, is_writable_declaration, is_writable_conversion, is_writable_named_field, are_writable_indexed_fields, are_writable_fields, is_writable_variant, is_writable_type_content, is_writable_type, is_writable_target, is_writable_kind, is_writable_attribute, is_writable_signature, is_writable_form, are_writable_instances, is_writable_instantiation, is_writable_model_content, is_writable_model_definition, is_writable_extern, is_writable, are_writable}
-use Rattle.isle_ast_names.proofs.Writable.Decided.{word_decided, always, never, three, each_decided, name_decided, names_decided}
+use Rattle.isle_ast.specs.WritableDeciders.{is_empty, is_writable_declaration, is_writable_conversion, is_writable_named_field, are_writable_indexed_fields, are_writable_fields, is_writable_variant, is_writable_type_content, is_writable_type, is_writable_target, is_writable_kind, is_writable_attribute, is_writable_signature, is_writable_form, are_writable_instances, is_writable_instantiation, is_writable_model_content, is_writable_model_definition, is_writable_extern, is_writable, are_writable}
+use Rattle.isle_ast_names.proofs.Writable.Decided.{word_decided, always, never, true_decided, three, each_decided, name_decided, names_decided}
 use Rattle.isle_ast.specs.Tree.{Declaration, Conversion, NamedField, IndexedField, FieldList, unit_fields, struct_fields, tuple_fields, EnumVariant, TypeContent, primitive_type, enum_type, struct_type, TypeDefinition, AttributeTarget, term_target, rule_target, AttributeKind, chain_kind, priority_kind, tag_kind, Attribute, TermSignature, FormDefinition, TermInstantiation, ModelContent, type_model, const_model, ModelDefinition, ExternDefinition, extern_extractor, extern_constructor, extern_const, Definition, type_def, rule, extractor, decl, attr, spec, spec_macro, model, state, form, instantiation, external, converter}
-use Rattle.isle_ast_names.specs.Words.{IsNonEmpty}
+use Rattle.isle_ast_names.specs.Words.{IsNonEmpty, demands}
+use Rattle.isle_ast.specs.TermGrammar.{term_is_no_flag}
 use Rattle.isle_ast_specs.specs.WritableDeciders.{is_writable_model}
 use Rattle.isle_ast_rules.proofs.Writable.Decided.{not_word_decided, constant_name_decided, rule_decided, extractor_decided}
 use Rattle.isle_ast_specs.proofs.Writable.Decided.{model_decided, spec_decided, spec_definition_decided, spec_macro_decided, state_decided}
 use Rattle.isle_ast_names.specs.Writable.{Each}
 use Rattle.isle_ast_specs.specs.Writable.{IsWritableModel}
 use Rattle.isle_ast.specs.Writable.{IsWritableDeclaration, IsWritableConversion, IsWritableNamedField, AreWritableIndexedFields, AreWritableFields, IsWritableVariant, IsWritableTypeContent, IsWritableType, IsWritableTarget, IsWritableKind, IsWritableAttribute, IsWritableSignature, IsWritableForm, AreWritableInstances, IsWritableInstantiation, IsWritableModelContent, IsWritableModelDefinition, IsWritableExtern, IsWritable, AreWritable}
-
-implied : {P : Type 0} (x y : Bool) → Decides x P → Decides (not x || y) (P → y ≡ true)
-implied true y d = (λ e _. e, λ h. h (d.0 refl))
-implied false y d = (λ _ p. absurd (false≢true (d.1 p)), λ _. refl)
-
-pub wanted_decided : (n : Name) (word : List ℕ) (set : Bool) → Decides (is_wanted n word set) (n.text ≡ word → set ≡ true)
-wanted_decided n word set = implied (is_word word n) set (word_decided word n)
 
 -- lists that have elements, and lists that have none
 
@@ -37,15 +31,11 @@ non_empty_decided (x ∷ xs) = always
 
 declaration_decided : (d : Declaration) → Decides (is_writable_declaration d) (IsWritableDeclaration d)
 declaration_decided d =
-    let flags = Decides-and _ _ (Decides-and _ _ (Decides-and _ _
-    (wanted_decided d.term (codes "pure") (d.pure || d.multi || d.partial || d.rec))
-    (wanted_decided d.term (codes "multi") (d.multi || d.partial || d.rec)))
-    (wanted_decided d.term (codes "partial") (d.partial || d.rec)))
-    (wanted_decided d.term (codes "rec") d.rec) in
-    let whole = Decides-and _ _ (Decides-and _ _ (Decides-and _ _ (name_decided d.term) (names_decided d.arg_tys)) (name_decided d.ret_ty)) flags in (
+    let whole = Decides-and _ _ (Decides-and _ _ (Decides-and _ _ (name_decided d.term) (names_decided d.arg_tys)) (name_decided d.ret_ty))
+    (true_decided (term_is_no_flag d)) in (
       λ e. let h = whole.0 e in
-          record { term = h.0.0.0; arg_tys = h.0.0.1; ret_ty = h.0.1; not_pure = h.1.0.0.0; not_multi = h.1.0.0.1; not_partial = h.1.0.1; not_rec = h.1.1 },
-      λ h. whole.1 (((h.term, h.arg_tys), h.ret_ty), (((h.not_pure, h.not_multi), h.not_partial), h.not_rec)),
+          record { term = h.0.0.0; arg_tys = h.0.0.1; ret_ty = h.0.1; term_is_no_flag = h.1 },
+      λ h. whole.1 (((h.term, h.arg_tys), h.ret_ty), h.term_is_no_flag),
     )
 
 conversion_decided : (c : Conversion) → Decides (is_writable_conversion c) (IsWritableConversion c)
@@ -136,8 +126,8 @@ model_definition_decided m =
 
 extern_decided : (e : ExternDefinition) → Decides (is_writable_extern e) (IsWritableExtern e)
 extern_decided (extern_extractor term func _ infallible) =
-    three (is_name term) (is_name func) (is_wanted term (codes "infallible") infallible)
-    (name_decided term) (name_decided func) (wanted_decided term (codes "infallible") infallible)
+    three (is_name term) (is_name func) (demands term.text (codes "infallible") infallible)
+    (name_decided term) (name_decided func) (true_decided (demands term.text (codes "infallible") infallible))
 extern_decided (extern_constructor term func _) = Decides-and (is_name term) (is_name func) (name_decided term) (name_decided func)
 extern_decided (extern_const name ty _) = Decides-and (is_constant_name name) (is_name ty) (constant_name_decided name) (name_decided ty)
 

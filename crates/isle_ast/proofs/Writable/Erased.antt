@@ -30,19 +30,13 @@ declaration-erased d =
         term = h.term;
         arg_tys = args.0 h.arg_tys;
         ret_ty = h.ret_ty;
-        not_pure = h.not_pure;
-        not_multi = h.not_multi;
-        not_partial = h.not_partial;
-        not_rec = h.not_rec;
+        term_is_no_flag = h.term_is_no_flag;
       },
       λ h. record {
         term = h.term;
         arg_tys = args.1 h.arg_tys;
         ret_ty = h.ret_ty;
-        not_pure = h.not_pure;
-        not_multi = h.not_multi;
-        not_partial = h.not_partial;
-        not_rec = h.not_rec;
+        term_is_no_flag = h.term_is_no_flag;
       },
     )
 

@@ -11,24 +11,17 @@ use Rattle.isle_ast.specs.TypeGrammar.{SpellsNamedField, SpellsIndexedFields, Sp
 use Rattle.isle_ast_names.specs.Writable.{IsName}
 use Rattle.isle_ast.specs.Writable.{IsWritableDeclaration, IsWritableNamedField, AreWritableIndexedFields, AreWritableFields, IsWritableVariant, IsWritableTypeContent, IsWritableTarget, IsWritableKind, IsWritableSignature, AreWritableInstances, IsWritableModelContent, IsWritableExtern, IsWritable, AreWritable}
 use Rattle.isle_ast_specs.specs.Writable.{IsWritableModel}
-use Rattle.isle_ast_names.proofs.SpeltWords.{both_true, demands-Wants, Each-spelt, names-spelt, differs}
+use Rattle.isle_ast_names.proofs.SpeltWords.{Each-spelt, names-spelt, differs}
 use Rattle.isle_ast_specs.proofs.Writable.Spelt.{model-spelt, spec-spelt, spec_definition-spelt, spec_macro-spelt, state-spelt}
 use Rattle.isle_ast_rules.proofs.Writable.Spelt.{rule-spelt, extractor-spelt}
 
 declaration-spelt : (d : Declaration) (all rest : List Placed) → SpellsDeclaration d all rest → IsWritableDeclaration d
-declaration-spelt d all rest s =
-    let first = both_true _ _ s.term_is_no_flag in
-    let second = both_true _ _ first.0 in
-    let third = both_true _ _ second.0 in
-    record {
-      term = s.term.0;
-      arg_tys = names-spelt d.arg_tys s.arg_tys.0 s.arg_tys.1 s.arg_tys.3;
-      ret_ty = s.ret_ty.0;
-      not_pure = demands-Wants d.term (codes "pure") _ third.0;
-      not_multi = demands-Wants d.term (codes "multi") _ third.1;
-      not_partial = demands-Wants d.term (codes "partial") _ second.1;
-      not_rec = demands-Wants d.term (codes "rec") d.rec first.1;
-    }
+declaration-spelt d all rest s = record {
+  term = s.term.0;
+  arg_tys = names-spelt d.arg_tys s.arg_tys.0 s.arg_tys.1 s.arg_tys.3;
+  ret_ty = s.ret_ty.0;
+  term_is_no_flag = s.term_is_no_flag;
+}
 
 indexed_fields-spelt : (place : ℕ) (fs : List IndexedField) (all rest : List Placed) → SpellsIndexedFields place fs all rest → AreWritableIndexedFields place fs
 indexed_fields-spelt place [] all rest s = tt
@@ -82,7 +75,7 @@ model_content-spelt (const_model value) all rest s = spec-spelt value s.3.0 s.1 
 
 extern-spelt : (e : ExternDefinition) (all rest : List Placed) → SpellsExtern e all rest → IsWritableExtern e
 extern-spelt (extern_extractor term func _ infallible) all rest s =
-    (s.2.2.2.1.0, s.2.2.2.2.0, demands-Wants term (codes "infallible") infallible s.0)
+    (s.2.2.2.1.0, s.2.2.2.2.0, s.0)
 extern-spelt (extern_constructor term func _) all rest s = (s.1.2.1.0, s.1.2.2.0)
 extern-spelt (extern_const name ty _) all rest s = (s.1.2.1.0, s.1.2.2.0)
 

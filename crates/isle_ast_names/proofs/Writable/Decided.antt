@@ -1,7 +1,7 @@
 -- The tests of names and of numbers tell which of them are writable.
-use Rattle.std.proofs.Common.{[], ◌≡◌, ℕ, ◌^◌, ℤ, pos, negsuc, List, ◌∷◌, Bool, true, false, not, ◌&&◌, ◌||◌, Option, None, Some, IfSome, Decides, codes, refl}
+use Rattle.std.proofs.Common.{[], ◌≡◌, ℕ, ◌^◌, ℤ, pos, negsuc, List, ◌∷◌, Bool, true, false, not, ◌&&◌, ◌||◌, Option, None, Some, IfSome, Decides, codes, refl, ap}
 use Rattle.std.specs.List.{list_all}
-use Rattle.std.proofs.lemmas.Bool.{false≢true}
+use Rattle.std.proofs.lemmas.Bool.{false≢true, not-true}
 use Rattle.std.proofs.lemmas.Bool.Decides.{Decides-and, Decides-ltb}
 use Rattle.std.proofs.lemmas.Slice.Eq.{bytes_eq-Decides}
 use Rattle.isle_ast_names.specs.Numbers.{IsSigned}
@@ -26,6 +26,13 @@ pub four : {P Q R S : Type 0} (x y z w : Bool) → Decides x P → Decides y Q �
 four x y z w p q r s =
     let both = Decides-and ((x && y) && z) w (Decides-and (x && y) z (Decides-and x y p q) r) s in
     (λ e. let h = both.0 e in (h.0.0.0, h.0.0.1, h.0.1, h.1), λ h. both.1 (((h.0, h.1), h.2), h.3))
+
+-- a test that is the condition itself, and one that is its contrary
+pub true_decided : (b : Bool) → Decides b (b ≡ true)
+true_decided b = (λ e. e, λ e. e)
+
+pub false_decided : (b : Bool) → Decides (not b) (b ≡ false)
+false_decided b = (not-true b, λ e. ap not e)
 
 -- each element of a list
 pub each_decided : {A : Type 0} (test : A → Bool) (P : A → Type 0) → ((x : A) → Decides (test x) (P x)) → (xs : List A) → Decides (list_all test xs) (Each P xs)

@@ -106,7 +106,7 @@ int_erased (wildcard_pattern _) = refl
 int_erased (and_pattern _ _) = refl
 int_erased (macro_arg_pattern _ _) = refl
 
-if_erased : (x : Expression) → is_if_expression (erase_expression x) ≡ is_if_expression x
+pub if_erased : (x : Expression) → is_if_expression (erase_expression x) ≡ is_if_expression x
 if_erased (term_expression _ _ _) = refl
 if_erased (var_expression _ _) = refl
 if_erased (bool_expression _ _) = refl
@@ -114,7 +114,7 @@ if_erased (int_expression _ _) = refl
 if_erased (constant_expression _ _) = refl
 if_erased (let_expression _ _ _) = refl
 
-no_head_erased : (name : Option Name) (prio : Option ℤ) (p : PatternNode) →
+pub no_head_erased : (name : Option Name) (prio : Option ℤ) (p : PatternNode) →
     pattern_is_no_head (erase_optional name) prio (erase_pattern p) ≡ pattern_is_no_head name prio p
 no_head_erased None None p = list_erased p
 no_head_erased (Some n) None p = λ i. not (int_erased p i)

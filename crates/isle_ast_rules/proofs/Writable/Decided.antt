@@ -5,10 +5,11 @@ use Rattle.isle_ast_names.specs.Numbers.{IsSigned}
 use Rattle.isle_ast_names.specs.Tree.{Name}
 use Rattle.isle_ast_names.specs.Writable.{IsNot}
 use Rattle.isle_ast_names.specs.WritableDeciders.{is_word, begins_with_dollar, is_name, are_names, is_bool_name, is_constant_name}
-use Rattle.isle_ast_rules.specs.WritableDeciders.{is_optional_signed, is_expression_variable, is_pattern_variable, is_writable_pattern, are_writable_patterns, is_writable_expression, are_writable_expressions, are_writable_lets, is_writable_condition, is_term_or_and, is_integer, is_if, may_follow, is_writable_rule, is_writable_extractor}
-use Rattle.isle_ast_names.proofs.Writable.Decided.{word_decided, always, signed_decided, never, three, four, each_decided, name_decided, names_decided, optional_name_decided, no_bool_decided}
+use Rattle.isle_ast_rules.specs.WritableDeciders.{is_optional_signed, is_expression_variable, is_pattern_variable, is_writable_pattern, are_writable_patterns, is_writable_expression, are_writable_expressions, are_writable_lets, is_writable_condition, is_writable_rule, is_writable_extractor}
+use Rattle.isle_ast_names.proofs.Writable.Decided.{word_decided, always, true_decided, false_decided, signed_decided, never, three, four, each_decided, name_decided, names_decided, optional_name_decided, no_bool_decided}
+use Rattle.isle_ast_rules.specs.RuleGrammar.{is_if_expression, pattern_is_no_head}
 use Rattle.isle_ast_rules.specs.Tree.{PatternNode, var_pattern, bind_pattern, bool_pattern, int_pattern, constant_pattern, term_pattern, wildcard_pattern, and_pattern, macro_arg_pattern, PatternRow, no_pattern, more_pattern, Expression, term_expression, var_expression, bool_expression, int_expression, constant_expression, let_expression, ExpressionRow, no_expression, more_expression, LetRow, no_let, more_let, Condition, RuleDefinition, ExtractorDefinition}
-use Rattle.isle_ast_rules.specs.Writable.{IsConstantName, IsPatternVariable, IsWritablePattern, AreWritablePatterns, IsExpressionVariable, IsWritableExpression, AreWritableExpressions, AreWritableLets, IsWritableCondition, IsTermOrAnd, IsNoInteger, IsNoIf, IsWritableRule, IsWritableExtractor}
+use Rattle.isle_ast_rules.specs.Writable.{IsConstantName, IsPatternVariable, IsWritablePattern, AreWritablePatterns, IsExpressionVariable, IsWritableExpression, AreWritableExpressions, AreWritableLets, IsWritableCondition, IsWritableRule, IsWritableExtractor}
 
 pub not_word_decided : (word : List ℕ) (n : Name) → Decides (not (is_word word n)) (IsNot n word)
 not_word_decided word n = Decides-not (is_word word n) (word_decided word n)
@@ -93,40 +94,12 @@ condition_decided : (c : Condition) → Decides (is_writable_condition c) (IsWri
 condition_decided c =
     Decides-and (is_writable_pattern c.pattern) (is_writable_expression c.expr) (pattern_decided c.pattern) (expression_decided c.expr)
 
-no_integer_decided : (p : PatternNode) → Decides (not (is_integer p)) (IsNoInteger p)
-no_integer_decided (int_pattern _ _) = never
-no_integer_decided _ = always
-
-term_or_and_decided : (p : PatternNode) → Decides (is_term_or_and p) (IsTermOrAnd p)
-term_or_and_decided (term_pattern _ _ _) = always
-term_or_and_decided (and_pattern _ _) = always
-term_or_and_decided _ = never
-
-no_if_decided : (x : Expression) → Decides (not (is_if x)) (IsNoIf x)
-no_if_decided (term_expression sym _ _) = not_word_decided (codes "if") sym
-no_if_decided _ = always
-
--- a term and an `and` are no integers
-no_integer_either : (p : PatternNode) → IsTermOrAnd p → IsNoInteger p
-no_integer_either (int_pattern _ _) h = absurd h
-no_integer_either _ h = tt
-
-follow_decided : (name : Option Name) (prio : Option ℤ) (p : PatternNode) →
-    Decides (may_follow name prio p) ((prio ≡ None → IsNoInteger p) × (name ≡ None → prio ≡ None → IsTermOrAnd p))
-follow_decided name (Some n) p = (λ _. (λ e. absurd cc, λ _ e. absurd cc), λ _. refl)
-follow_decided (Some n) None p =
-    let d = no_integer_decided p in
-    (λ e. (λ _. d.0 e, λ f _. absurd cc), λ h. d.1 (h.0 refl))
-follow_decided None None p =
-    let d = term_or_and_decided p in
-    (λ e. (λ _. no_integer_either p (d.0 e), λ _ _. d.0 e), λ h. d.1 (h.1 refl refl))
-
 pub rule_decided : (r : RuleDefinition) → Decides (is_writable_rule r) (IsWritableRule r)
 rule_decided r =
     let d = Decides-and _ _ (Decides-and _ _ (Decides-and _ _ (Decides-and _ _ (Decides-and _ _ (Decides-and _ _
     (optional_name_decided r.name) (optional_signed_decided 63 r.prio)) (pattern_decided r.pattern))
     (each_decided is_writable_condition IsWritableCondition condition_decided r.iflets)) (expression_decided r.expr))
-    (follow_decided r.name r.prio r.pattern)) (no_if_decided r.expr) in (
+    (true_decided (pattern_is_no_head r.name r.prio r.pattern))) (false_decided (is_if_expression r.expr)) in (
       λ e. let h = d.0 e in
           record {
             name = h.0.0.0.0.0.0;
@@ -134,11 +107,10 @@ rule_decided r =
             pattern = h.0.0.0.0.1;
             iflets = h.0.0.0.1;
             expr = h.0.0.1;
-            without_prio = h.0.1.0;
-            without_both = h.0.1.1;
-            not_if = h.1;
+            pattern_is_no_head = h.0.1;
+            expr_is_no_condition = h.1;
           },
-      λ h. d.1 ((((((h.name, h.prio), h.pattern), h.iflets), h.expr), (h.without_prio, h.without_both)), h.not_if),
+      λ h. d.1 ((((((h.name, h.prio), h.pattern), h.iflets), h.expr), h.pattern_is_no_head), h.expr_is_no_condition),
     )
 
 pub extractor_decided : (e : ExtractorDefinition) → Decides (is_writable_extractor e) (IsWritableExtractor e)

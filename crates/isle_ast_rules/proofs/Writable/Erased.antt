@@ -1,11 +1,12 @@
 -- Positions play no part in which patterns, expressions, conditions, rules and extractors are writable.
-use Rattle.std.proofs.Common.{◌≡◌, Option, None, Some, ◌↔◌}
+use Rattle.std.proofs.Common.{sym, ◌∙◌, ◌↔◌}
 use Rattle.isle_ast_names.specs.Tree.{Name}
 use Rattle.isle_ast_rules.specs.Tree.{PatternNode, var_pattern, bind_pattern, bool_pattern, int_pattern, constant_pattern, term_pattern, wildcard_pattern, and_pattern, macro_arg_pattern, PatternRow, no_pattern, more_pattern, Expression, term_expression, var_expression, bool_expression, int_expression, constant_expression, let_expression, ExpressionRow, no_expression, more_expression, LetRow, no_let, more_let, Condition, RuleDefinition, ExtractorDefinition}
 use Rattle.isle_ast_names.proofs.Writable.Erased.{unchanged, each-erased, names-erased, optional-erased}
-use Rattle.isle_ast_names.specs.Erased.{erase_name, erase_optional}
+use Rattle.isle_ast_names.specs.Erased.{erase_name}
+use Rattle.isle_ast_rules.proofs.Lawful.Rules.{no_head_erased, if_erased}
 use Rattle.isle_ast_rules.specs.Erased.{erase_pattern, erase_patterns, erase_expression, erase_expressions, erase_lets, erase_condition, erase_rule, erase_extractor}
-use Rattle.isle_ast_rules.specs.Writable.{IsPatternVariable, IsWritablePattern, AreWritablePatterns, IsExpressionVariable, IsWritableExpression, AreWritableExpressions, AreWritableLets, IsWritableCondition, IsTermOrAnd, IsNoInteger, IsNoIf, IsWritableRule, IsWritableExtractor}
+use Rattle.isle_ast_rules.specs.Writable.{IsPatternVariable, IsWritablePattern, AreWritablePatterns, IsExpressionVariable, IsWritableExpression, AreWritableExpressions, AreWritableLets, IsWritableCondition, IsWritableRule, IsWritableExtractor}
 
 pattern_variable-erased : (n : Name) → IsPatternVariable (erase_name n) ↔ IsPatternVariable n
 pattern_variable-erased n = (
@@ -89,59 +90,22 @@ condition-erased c =
     let expr = expression-erased c.expr in
     (λ h. (pattern.0 h.0, expr.0 h.1), λ h. (pattern.1 h.0, expr.1 h.1))
 
-term_or_and-erased : (p : PatternNode) → IsTermOrAnd (erase_pattern p) ↔ IsTermOrAnd p
-term_or_and-erased (var_pattern _ _) = unchanged
-term_or_and-erased (bind_pattern _ _ _) = unchanged
-term_or_and-erased (bool_pattern _ _) = unchanged
-term_or_and-erased (int_pattern _ _) = unchanged
-term_or_and-erased (constant_pattern _ _) = unchanged
-term_or_and-erased (term_pattern _ _ _) = unchanged
-term_or_and-erased (wildcard_pattern _) = unchanged
-term_or_and-erased (and_pattern _ _) = unchanged
-term_or_and-erased (macro_arg_pattern _ _) = unchanged
-
-no_integer-erased : (p : PatternNode) → IsNoInteger (erase_pattern p) ↔ IsNoInteger p
-no_integer-erased (var_pattern _ _) = unchanged
-no_integer-erased (bind_pattern _ _ _) = unchanged
-no_integer-erased (bool_pattern _ _) = unchanged
-no_integer-erased (int_pattern _ _) = unchanged
-no_integer-erased (constant_pattern _ _) = unchanged
-no_integer-erased (term_pattern _ _ _) = unchanged
-no_integer-erased (wildcard_pattern _) = unchanged
-no_integer-erased (and_pattern _ _) = unchanged
-no_integer-erased (macro_arg_pattern _ _) = unchanged
-
-no_if-erased : (x : Expression) → IsNoIf (erase_expression x) ↔ IsNoIf x
-no_if-erased (term_expression _ _ _) = unchanged
-no_if-erased (var_expression _ _) = unchanged
-no_if-erased (bool_expression _ _) = unchanged
-no_if-erased (int_expression _ _) = unchanged
-no_if-erased (constant_expression _ _) = unchanged
-no_if-erased (let_expression _ _ _) = unchanged
-
-no_name-erased : (o : Option Name) → (erase_optional o ≡ None) ↔ (o ≡ None)
-no_name-erased None = unchanged
-no_name-erased (Some n) = (λ e. absurd (cc e), λ e. absurd (cc e))
-
 pub rule-erased : (r : RuleDefinition) → IsWritableRule (erase_rule r) ↔ IsWritableRule r
 rule-erased r =
     let name = optional-erased r.name in
     let pattern = pattern-erased r.pattern in
     let iflets = each-erased IsWritableCondition erase_condition condition-erased r.iflets in
     let expr = expression-erased r.expr in
-    let no_integer = no_integer-erased r.pattern in
-    let no_name = no_name-erased r.name in
-    let term_or_and = term_or_and-erased r.pattern in
-    let not_if = no_if-erased r.expr in (
+    let no_head = no_head_erased r.name r.prio r.pattern in
+    let no_if = if_erased r.expr in (
       λ h. record {
         name = name.0 h.name;
         prio = h.prio;
         pattern = pattern.0 h.pattern;
         iflets = iflets.0 h.iflets;
         expr = expr.0 h.expr;
-        without_prio = λ none. no_integer.0 (h.without_prio none);
-        without_both = λ nameless none. term_or_and.0 (h.without_both (no_name.1 nameless) none);
-        not_if = not_if.0 h.not_if;
+        pattern_is_no_head = sym no_head ∙ h.pattern_is_no_head;
+        expr_is_no_condition = sym no_if ∙ h.expr_is_no_condition;
       },
       λ h. record {
         name = name.1 h.name;
@@ -149,9 +113,8 @@ rule-erased r =
         pattern = pattern.1 h.pattern;
         iflets = iflets.1 h.iflets;
         expr = expr.1 h.expr;
-        without_prio = λ none. no_integer.1 (h.without_prio none);
-        without_both = λ nameless none. term_or_and.1 (h.without_both (no_name.0 nameless) none);
-        not_if = not_if.1 h.not_if;
+        pattern_is_no_head = no_head ∙ h.pattern_is_no_head;
+        expr_is_no_condition = no_if ∙ h.expr_is_no_condition;
       },
     )
 

@@ -1,6 +1,6 @@
 -- Spelt patterns, expressions, rules and extractors are writable.
 use Rattle.std.proofs.Common.{◌≡◌, ℤ, List, true, false, Option, None, Some, IfSome, codes, inl, inr, sym, ap, ◌∙◌, subst}
-use Rattle.std.proofs.lemmas.Bool.{false≢true, true≢false, not-true}
+use Rattle.std.proofs.lemmas.Bool.{false≢true, not-true}
 use Rattle.isle_base.specs.Place.{Placed}
 use Rattle.isle_ast_names.specs.Numbers.{IsSigned, SpellsPriority}
 use Rattle.isle_ast_names.specs.Tree.{Name}
@@ -8,8 +8,8 @@ use Rattle.isle_ast_rules.specs.Tree.{PatternNode, var_pattern, bind_pattern, bo
 use Rattle.isle_ast_names.specs.Words.{SpellsOptional, is_constant}
 use Rattle.isle_ast_rules.specs.ExpressionGrammar.{is_variable_of_expressions, SpellsExpression, SpellsExpressions, SpellsLets}
 use Rattle.isle_ast_rules.specs.PatternGrammar.{is_variable_of_patterns, SpellsPattern, SpellsPatterns}
-use Rattle.isle_ast_rules.specs.RuleGrammar.{SpellsCondition, is_list_pattern, is_int_pattern, is_if_expression, pattern_is_no_head, SpellsRule, SpellsExtractor}
-use Rattle.isle_ast_rules.specs.Writable.{HasNoDollar, IsPatternVariable, IsWritablePattern, AreWritablePatterns, IsExpressionVariable, IsWritableExpression, AreWritableExpressions, AreWritableLets, IsWritableCondition, IsTermOrAnd, IsNoInteger, IsNoIf, IsWritableRule, IsWritableExtractor}
+use Rattle.isle_ast_rules.specs.RuleGrammar.{SpellsCondition, SpellsRule, SpellsExtractor}
+use Rattle.isle_ast_rules.specs.Writable.{HasNoDollar, IsPatternVariable, IsWritablePattern, AreWritablePatterns, IsExpressionVariable, IsWritableExpression, AreWritableExpressions, AreWritableLets, IsWritableCondition, IsWritableRule, IsWritableExtractor}
 use Rattle.isle_ast_names.proofs.SpeltWords.{both_true, Each-spelt, names-spelt, differs, no_bool_word, optional_name-spelt}
 
 -- variables
@@ -100,51 +100,6 @@ priority-spelt : (o : Option ℤ) (all rest : List Placed) → SpellsOptional Sp
 priority-spelt None all rest s = tt
 priority-spelt (Some n) all rest s = s.0
 
-list_is_head : (p : PatternNode) → is_list_pattern p ≡ true → IsTermOrAnd p
-list_is_head (var_pattern _ _) h = false≢true h
-list_is_head (bind_pattern _ _ _) h = false≢true h
-list_is_head (bool_pattern _ _) h = false≢true h
-list_is_head (int_pattern _ _) h = false≢true h
-list_is_head (constant_pattern _ _) h = false≢true h
-list_is_head (term_pattern _ _ _) h = tt
-list_is_head (wildcard_pattern _) h = false≢true h
-list_is_head (and_pattern _ _) h = tt
-list_is_head (macro_arg_pattern _ _) h = false≢true h
-
-no_integer : (p : PatternNode) → is_int_pattern p ≡ false → IsNoInteger p
-no_integer (var_pattern _ _) h = tt
-no_integer (bind_pattern _ _ _) h = tt
-no_integer (bool_pattern _ _) h = tt
-no_integer (int_pattern _ _) h = true≢false h
-no_integer (constant_pattern _ _) h = tt
-no_integer (term_pattern _ _ _) h = tt
-no_integer (wildcard_pattern _) h = tt
-no_integer (and_pattern _ _) h = tt
-no_integer (macro_arg_pattern _ _) h = tt
-
-head_is_no_integer : (p : PatternNode) → IsTermOrAnd p → IsNoInteger p
-head_is_no_integer (term_pattern _ _ _) h = tt
-head_is_no_integer (and_pattern _ _) h = tt
-head_is_no_integer _ h = absurd h
-
-without_prio-spelt : (name : Option Name) (prio : Option ℤ) (p : PatternNode) → pattern_is_no_head name prio p ≡ true → prio ≡ None → IsNoInteger p
-without_prio-spelt None None p h e = head_is_no_integer p (list_is_head p h)
-without_prio-spelt (Some n) None p h e = no_integer p (not-true (is_int_pattern p) h)
-without_prio-spelt name (Some o) p h e = cc
-
-without_both-spelt : (name : Option Name) (prio : Option ℤ) (p : PatternNode) → pattern_is_no_head name prio p ≡ true → name ≡ None → prio ≡ None → IsTermOrAnd p
-without_both-spelt None None p h e f = list_is_head p h
-without_both-spelt (Some n) prio p h e f = cc
-without_both-spelt None (Some o) p h e f = cc
-
-no_if : (x : Expression) → is_if_expression x ≡ false → IsNoIf x
-no_if (term_expression sym _ _) h = differs sym.text (codes "if") h
-no_if (var_expression _ _) h = tt
-no_if (bool_expression _ _) h = tt
-no_if (int_expression _ _) h = tt
-no_if (constant_expression _ _) h = tt
-no_if (let_expression _ _ _) h = tt
-
 pub rule-spelt : (r : RuleDefinition) (all rest : List Placed) → SpellsRule r all rest → IsWritableRule r
 rule-spelt r all rest s = record {
   name = optional_name-spelt r.name all s.behind_name s.name;
@@ -152,9 +107,8 @@ rule-spelt r all rest s = record {
   pattern = pattern-spelt r.pattern s.behind_prio s.behind_pattern s.pattern;
   iflets = Each-spelt IsWritableCondition SpellsCondition condition-spelt r.iflets s.behind_pattern s.behind_iflets s.iflets;
   expr = expression-spelt r.expr s.behind_iflets rest s.expr;
-  without_prio = without_prio-spelt r.name r.prio r.pattern s.pattern_is_no_head;
-  without_both = without_both-spelt r.name r.prio r.pattern s.pattern_is_no_head;
-  not_if = no_if r.expr s.expr_is_no_condition;
+  pattern_is_no_head = s.pattern_is_no_head;
+  expr_is_no_condition = s.expr_is_no_condition;
 }
 
 -- extractors

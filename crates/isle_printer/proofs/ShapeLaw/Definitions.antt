@@ -7,7 +7,7 @@ use Rattle.isle_base.specs.Token.{Tok, rparen}
 use Rattle.isle_ast_specs.specs.Erased.{erase_spec, erase_model}
 use Rattle.isle_ast_names.specs.Tree.{Name}
 use Rattle.isle_ast.specs.Tree.{Declaration, Conversion, NamedField, IndexedField, FieldList, unit_fields, struct_fields, tuple_fields, EnumVariant, TypeContent, primitive_type, enum_type, struct_type, AttributeTarget, term_target, rule_target, AttributeKind, chain_kind, priority_kind, tag_kind, TermSignature, ModelContent, type_model, const_model, ExternDefinition, extern_extractor, extern_constructor, extern_const, Definition, type_def, rule, extractor, decl, attr, spec, spec_macro, model, state, form, instantiation, external, converter}
-use Rattle.isle_ast_names.specs.Words.{SpellsWord, BeginsAt, SpellsAll, InParentheses, BehindWord, SpellsName, demands}
+use Rattle.isle_ast_names.specs.Words.{SpellsWord, BeginsAt, SpellsAll, InParentheses, BehindWord, SpellsName}
 use Rattle.isle_ast_names.specs.Erased.{erase_name, erase_names, erase_optional}
 use Rattle.isle_ast.specs.Erased.{erase_declaration, erase_conversion, erase_type, erase_attribute, erase_form, erase_instantiation, erase_model_definition, erase_named_field, erase_indexed_field, erase_fields, erase_variant, erase_type_content, erase_target, erase_kind, erase_signature, erase_model_content, erase_extern, erase_definition}
 use Rattle.isle_ast.specs.Grammar.{SpellsDefinition}
@@ -16,7 +16,7 @@ use Rattle.isle_ast_specs.specs.TypeModelGrammar.{SpellsTypeModel}
 use Rattle.isle_ast.specs.ModelGrammar.{SpellsSignature, SpellsTag, SpellsInstances, SpellsModelContent, SpellsModel, SpellsForm, SpellsInstantiation}
 use Rattle.isle_ast.specs.TermGrammar.{SpellsDeclaration, SpellsConversion, SpellsAttributeKind, SpellsAttributeTarget, SpellsPair, SpellsExtern, SpellsAttribute}
 use Rattle.isle_ast.specs.TypeGrammar.{SpellsNamedField, SpellsIndexedFields, SpellsFields, SpellsVariant, SpellsTypeContent, SpellsModifiers, SpellsTypeDefinition}
-use Rattle.isle_ast_names.specs.Writable.{IsName, Each, Wants}
+use Rattle.isle_ast_names.specs.Writable.{IsName, Each}
 use Rattle.isle_ast.specs.Writable.{IsWritableDeclaration, IsWritableConversion, IsWritableNamedField, AreWritableIndexedFields, AreWritableFields, IsWritableVariant, IsWritableTypeContent, IsWritableTarget, IsWritableKind, IsWritableSignature, AreWritableInstances, IsWritableModelContent, IsWritableExtern, IsWritable}
 use Rattle.isle_ast_specs.specs.Writable.{IsWritableModel}
 use Rattle.isle_printer.specs.DefinitionShapes.{definition_shape, named_field_shape, indexed_field_shape, field_shapes, variant_shape, type_content_shape, target_shape, tag_shape, kind_shape, signature_shape, instance_shapes, extern_shape, model_content_shape}
@@ -30,14 +30,6 @@ use Rattle.isle_printer_specs.proofs.ShapeLaw.Specs.{spell-spec}
 use Rattle.isle_printer_rules.proofs.ShapeLaw.Rules.{spell-rule, spell-extractor_definition}
 use Rattle.isle_printer_layout.proofs.Spellings.{ItemTokens, ◌then◌, IsAhead, item-ahead, items-ahead, Spelling, spell-nothing, spell-word, spell-flag, spell-name, spell-all, spell-names, spell-row, spell-behind, spell-form, InTurn, spell-turn, all_true, differs-test, regrouped, spell-constant}
 use Rattle.isle_printer_layout.proofs.WordSymbols.{word-decl, word-convert, word-pure, word-multi, word-partial, word-rec, word-type, word-extern, word-nodebug, word-primitive, word-enum, word-struct, word-attr, word-rule, word-veri, word-chain, word-priority, word-tag, word-model, word-form, word-instantiate, word-args, word-ret, word-extractor, word-infallible, word-constructor, word-const}
-
--- what a wish says of a text, as a test
-wanted : (text word : List ℕ) (set b : Bool) → bytes_eq text word ≡ b → (text ≡ word → set ≡ true) → (not b || set) ≡ true
-wanted text word set true e want = want ((bytes_eq-Decides text word).0 e)
-wanted text word set false e want = refl
-
-Wants-demands : (n : Name) (word : List ℕ) (set : Bool) → Wants n word set → demands n.text word set ≡ true
-Wants-demands n word set want = wanted n.text word set (bytes_eq n.text word) refl want
 
 spell-named_field : (f : NamedField) → IsWritableNamedField f → (rest : List Tok) → Spelling (named_field_shape f ∷ []) (SpellsNamedField (erase_named_field f)) rest
 spell-named_field f is rest =
@@ -229,7 +221,7 @@ spell-extern (extern_extractor term func _ infallible) is rest =
         unplaced kind.all,
         word.spells,
         (
-          Wants-demands term (codes "infallible") infallible is.2,
+          is.2,
           item-ahead kind.tokens,
           (unplaced flag.all, kind.spells, (unplaced pair.all, flag.spells, pair.spells)),
         ),
@@ -288,10 +280,7 @@ spell-declaration d is rest =
         unplaced pure.all,
         word.spells,
         record {
-          term_is_no_flag =
-              all_true _ _
-              (all_true _ _ (all_true _ _ (Wants-demands d.term _ _ is.not_pure) (Wants-demands d.term _ _ is.not_multi)) (Wants-demands d.term _ _ is.not_partial))
-              (Wants-demands d.term _ _ is.not_rec);
+          term_is_no_flag = is.term_is_no_flag;
           position = items-ahead pure.tokens (items-ahead multi.tokens (items-ahead partial.tokens (items-ahead rec.tokens (item-ahead term.tokens))));
           behind_pure = unplaced multi.all;
           pure = pure.spells;

@@ -9,12 +9,13 @@ use Rattle.isle_ast_names.specs.Tree.{Name}
 use Rattle.isle_ast_rules.specs.Tree.{PatternNode, var_pattern, bind_pattern, bool_pattern, int_pattern, constant_pattern, term_pattern, wildcard_pattern, and_pattern, macro_arg_pattern, PatternRow, no_pattern, more_pattern, Expression, term_expression, var_expression, bool_expression, int_expression, constant_expression, let_expression, ExpressionRow, no_expression, more_expression, LetRow, no_let, more_let, Condition, RuleDefinition, ExtractorDefinition}
 use Rattle.isle_ast_names.specs.Words.{SpellsToken, BeginsAt, SpellsAll, InParentheses, BehindWord, SpellsName, SpellsOptional, is_constant, bool_word, is_bool_word}
 use Rattle.isle_ast_names.specs.Erased.{erase_name, erase_names, erase_optional}
+use Rattle.isle_ast_rules.proofs.Lawful.Rules.{no_head_erased, if_erased}
 use Rattle.isle_ast_rules.specs.Erased.{erase_pattern, erase_patterns, erase_expression, erase_expressions, erase_lets, erase_condition, erase_rule, erase_extractor}
 use Rattle.isle_ast_rules.specs.ExpressionGrammar.{is_variable_of_expressions, SpellsExpressionVariable, SpellsExpression, SpellsExpressions, SpellsLets}
 use Rattle.isle_ast_rules.specs.PatternGrammar.{is_variable_of_patterns, SpellsVariable, SpellsPattern, SpellsPatterns}
-use Rattle.isle_ast_rules.specs.RuleGrammar.{SpellsMatch, SpellsCondition, is_list_pattern, is_int_pattern, is_if_expression, pattern_is_no_head, SpellsRule, SpellsExtractor}
+use Rattle.isle_ast_rules.specs.RuleGrammar.{SpellsMatch, SpellsCondition, SpellsRule, SpellsExtractor}
 use Rattle.isle_ast_names.specs.Writable.{IsName}
-use Rattle.isle_ast_rules.specs.Writable.{HasNoDollar, IsPatternVariable, IsExpressionVariable, IsWritablePattern, AreWritablePatterns, IsWritableExpression, AreWritableExpressions, AreWritableLets, IsWritableCondition, IsTermOrAnd, IsNoInteger, IsNoIf, IsWritableRule, IsWritableExtractor}
+use Rattle.isle_ast_rules.specs.Writable.{HasNoDollar, IsPatternVariable, IsExpressionVariable, IsWritablePattern, AreWritablePatterns, IsWritableExpression, AreWritableExpressions, AreWritableLets, IsWritableCondition, IsWritableRule, IsWritableExtractor}
 use Rattle.isle_printer_layout.specs.ReadBack.{ReadsAs, unplaced}
 use Rattle.isle_printer_rules.specs.RuleShapes.{pattern_shape, pattern_shapes, expression_shape, expression_shapes, let_shapes, condition_shape, rule_name_shape, priority_shape, rule_shape, extractor_shape}
 use Rattle.isle_printer_layout.specs.Sexp.{Sexp, atom, binding, row_of}
@@ -179,42 +180,6 @@ spell-condition c is rest =
     (placed (spell-turn second first)) in
     record { all = s.all; tokens = s.tokens; spells = inl s.spells }
 
-list_pattern-test : (p : PatternNode) → IsTermOrAnd p → is_list_pattern (erase_pattern p) ≡ true
-list_pattern-test (var_pattern _ _) is = absurd is
-list_pattern-test (bind_pattern _ _ _) is = absurd is
-list_pattern-test (bool_pattern _ _) is = absurd is
-list_pattern-test (int_pattern _ _) is = absurd is
-list_pattern-test (constant_pattern _ _) is = absurd is
-list_pattern-test (term_pattern _ _ _) is = refl
-list_pattern-test (wildcard_pattern _) is = absurd is
-list_pattern-test (and_pattern _ _) is = refl
-list_pattern-test (macro_arg_pattern _ _) is = absurd is
-
-no_integer-test : (p : PatternNode) → IsNoInteger p → not (is_int_pattern (erase_pattern p)) ≡ true
-no_integer-test (var_pattern _ _) is = refl
-no_integer-test (bind_pattern _ _ _) is = refl
-no_integer-test (bool_pattern _ _) is = refl
-no_integer-test (int_pattern _ _) is = absurd is
-no_integer-test (constant_pattern _ _) is = refl
-no_integer-test (term_pattern _ _ _) is = refl
-no_integer-test (wildcard_pattern _) is = refl
-no_integer-test (and_pattern _ _) is = refl
-no_integer-test (macro_arg_pattern _ _) is = refl
-
-no_head-test : (name : Option Name) (prio : Option ℤ) (p : PatternNode) → (prio ≡ None → IsNoInteger p) → (name ≡ None → prio ≡ None → IsTermOrAnd p) → pattern_is_no_head (erase_optional name) prio (erase_pattern p) ≡ true
-no_head-test None None p without_prio without_both = list_pattern-test p (without_both refl refl)
-no_head-test (Some _) None p without_prio without_both = no_integer-test p (without_prio refl)
-no_head-test None (Some _) p without_prio without_both = refl
-no_head-test (Some _) (Some _) p without_prio without_both = refl
-
-no_if-test : (x : Expression) → IsNoIf x → is_if_expression (erase_expression x) ≡ false
-no_if-test (term_expression sym _ _) is = differs-test sym.text (codes "if") _ refl is
-no_if-test (var_expression _ _) is = refl
-no_if-test (bool_expression _ _) is = refl
-no_if-test (int_expression _ _) is = refl
-no_if-test (constant_expression _ _) is = refl
-no_if-test (let_expression _ _ _) is = refl
-
 spell-rule_name : (name : Option Name) → IfSome name IsName → (rest : List Tok) → Spelling (rule_name_shape name) (SpellsOptional SpellsName (erase_optional name)) rest
 spell-rule_name None is rest = spell-nothing rest
 spell-rule_name (Some name) is rest = spell-name name is rest
@@ -245,8 +210,8 @@ spell-rule r is rest =
         unplaced name.all,
         word.spells,
         record {
-          pattern_is_no_head = no_head-test r.name r.prio r.pattern is.without_prio is.without_both;
-          expr_is_no_condition = no_if-test r.expr is.not_if;
+          pattern_is_no_head = no_head_erased r.name r.prio r.pattern ∙ is.pattern_is_no_head;
+          expr_is_no_condition = if_erased r.expr ∙ is.expr_is_no_condition;
           position = items-ahead name.tokens (items-ahead prio.tokens (item-ahead pattern.tokens));
           behind_name = unplaced prio.all;
           name = name.spells;

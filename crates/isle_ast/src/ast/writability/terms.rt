@@ -8,7 +8,7 @@ ghost use Rattle.isle_ast.specs.TreeView.{kind_of, target_of};
 ghost use Rattle.isle_ast.specs.WritableDeciders.{is_writable_attribute, is_writable_conversion};
 ghost use Rattle.isle_ast.specs.WritableDeciders.{is_writable_declaration, is_writable_extern};
 ghost use Rattle.isle_ast.specs.WritableDeciders.{is_writable_kind, is_writable_target};
-ghost use Rattle.isle_ast.specs.WritableDeciders.{wants_flags};
+ghost use Rattle.isle_ast.specs.TermGrammar.{term_is_no_flag};
 
 use crate::ast::{Attr, AttrKind, AttrTarget, Converter, Decl, Extern};
 use isle_ast_names::ast::writability::{are_names, is_constant_name, is_name};
@@ -17,12 +17,13 @@ use isle_ast_names::ast::writability::{are_names, is_constant_name, is_name};
 pub(super) fn is_writable_decl(decl: &Decl) -> bool
     ensures { result ≡ is_writable_declaration (declaration_of decl.now) }
 {
-    is_name(&decl.term) && are_names(&decl.arg_tys) && is_name(&decl.ret_ty) && has_its_flags(decl)
+    is_name(&decl.term) && are_names(&decl.arg_tys) && is_name(&decl.ret_ty) && term_is_no_flag(decl)
 }
 
-/// Tells whether a term that is the word of a flag has this flag or a later one.
-fn has_its_flags(decl: &Decl) -> bool
-    ensures { result ≡ wants_flags (declaration_of decl.now) }
+/// Tells whether the term isn't read as a flag that the declaration doesn't have: where it is the
+/// word of a flag, this flag or a later one is set.
+fn term_is_no_flag(decl: &Decl) -> bool
+    ensures { result ≡ term_is_no_flag (declaration_of decl.now) }
 {
     match decl.term.0.as_str() {
         "pure" => decl.pure || decl.multi || decl.partial || decl.rec,

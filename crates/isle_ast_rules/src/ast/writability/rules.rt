@@ -3,10 +3,10 @@
 ghost use Rattle.std.specs.Prelude.{◌≡◌, map};
 ghost use Rattle.std.specs.List.{list_all};
 ghost use Rattle.isle_ast_names.specs.TreeView.{optional_name_of};
-ghost use Rattle.isle_ast_rules.specs.WritableDeciders.{is_optional_signed, is_if};
+ghost use Rattle.isle_ast_rules.specs.WritableDeciders.{is_optional_signed};
 ghost use Rattle.isle_ast_rules.specs.WritableDeciders.{is_writable_condition};
 ghost use Rattle.isle_ast_rules.specs.WritableDeciders.{is_writable_extractor, is_writable_rule};
-ghost use Rattle.isle_ast_rules.specs.WritableDeciders.{may_follow};
+ghost use Rattle.isle_ast_rules.specs.RuleGrammar.{is_if_expression, pattern_is_no_head};
 ghost use Rattle.isle_ast_rules.specs.TreeView.{condition_of, expression_of, extractor_of};
 ghost use Rattle.isle_ast_rules.specs.TreeView.{pattern_of, rule_of};
 
@@ -24,8 +24,8 @@ pub fn is_writable_rule(rule: &Rule) -> bool
         && is_writable_pattern(&rule.pattern)
         && are_writable_conditions(&rule.iflets)
         && is_writable_expr(&rule.expr)
-        && may_follow(rule)
-        && !is_if(&rule.expr)
+        && pattern_is_no_head(rule)
+        && !is_if_expression(&rule.expr)
 }
 
 /// Each priority of the type is writable.
@@ -51,9 +51,10 @@ fn is_writable_condition(iflet: &IfLet) -> bool
 
 /// Tells whether the pattern isn't read as a name or a priority that the rule doesn't have: without
 /// a priority it isn't an integer, and without a name and a priority it is a term or an `and`.
-fn may_follow(rule: &Rule) -> bool
+fn pattern_is_no_head(rule: &Rule) -> bool
     ensures { result
-        ≡ may_follow (optional_name_of rule.now.name) rule.now.prio (pattern_of rule.now.pattern) }
+        ≡ pattern_is_no_head
+            (optional_name_of rule.now.name) rule.now.prio (pattern_of rule.now.pattern) }
 {
     if rule.prio.is_some() {
         true
@@ -64,9 +65,9 @@ fn may_follow(rule: &Rule) -> bool
     }
 }
 
-/// Tells whether an expression is a term named `if`.
-fn is_if(expr: &Expr) -> bool
-    ensures { result ≡ is_if (expression_of expr.now) }
+/// Tells whether an expression is a term named `if`, which is read as a condition.
+fn is_if_expression(expr: &Expr) -> bool
+    ensures { result ≡ is_if_expression (expression_of expr.now) }
 {
     match expr {
         Expr::Term { sym, .. } => sym.0.as_str() == "if",
