@@ -1,8 +1,8 @@
 -- The bytes of an identifier: none ends a symbol, and the first one begins one.
-use Rattle.std.proofs.Common.{◌≡◌, ℕ, ◌+◌, ◌/◌, ◌%◌, ◌<◌, ◌≤◌, List, [], ◌∷◌, ◌++◌, Bool, true, false, ◌&&◌, cond, ltb, refl, ap, sym, subst, ◌∙◌, ◌⊎◌, ⊎_elim, arith}
+use Rattle.std.proofs.Common.{◌≡◌, ℕ, ◌+◌, ◌/◌, ◌%◌, ◌<◌, ◌≤◌, List, [], ◌∷◌, ◌++◌, Bool, true, false, cond, ltb, refl, ap, sym, subst, ◌∙◌, ◌⊎◌, ⊎_elim, arith}
 use Rattle.std.specs.List.{list_all}
 use Rattle.std.specs.Str.{chars, IsUtf8, is_utf8}
-use Rattle.std.proofs.lemmas.Bool.{cases_lt}
+use Rattle.std.proofs.lemmas.Bool.{cases_lt, and_parts, and_from}
 use Rattle.std.proofs.lemmas.Bool.Decides.{nat_tests}
 use Rattle.std.proofs.lemmas.Str.{IsUtf8-from_is_utf8, encodes-chars, encode_ascii}
 use Rattle.std.proofs.lemmas.List.Folds.{list_all-append}
@@ -31,15 +31,8 @@ begins_symbol_low : (c : ℕ) → c < 128 → begins_identifier c ≡ true → b
 unfolding begins_symbol in_symbol is_blank begins_literal
 begins_symbol_low c h e = grind (arith, nat_tests)
 
-and_true : (a b : Bool) → a ≡ true → b ≡ true → (a && b) ≡ true
-and_true a b p q = ap (λ x. x && b) p ∙ q
-
-both_true : (a b : Bool) → (a && b) ≡ true → (a ≡ true) × (b ≡ true)
-both_true true b e = (refl, e)
-both_true false b e = cc
-
 in_symbol_cons : (b : ℕ) (bs : List ℕ) → in_symbol b ≡ true → list_all in_symbol bs ≡ true → list_all in_symbol (b ∷ bs) ≡ true
-in_symbol_cons b bs p q = and_true (in_symbol b) (list_all in_symbol bs) p q
+in_symbol_cons b bs p q = and_from (in_symbol b) (list_all in_symbol bs) p q
 
 -- the bytes of a character past ASCII: none of them is ASCII
 abbrev High : List ℕ → Type 0
@@ -82,9 +75,9 @@ continuing_bytes c e =
 others_bytes : (cs : List ℕ) → list_all continues_identifier cs ≡ true → list_all in_symbol (encodes cs) ≡ true
 others_bytes [] e = refl
 others_bytes (c ∷ cs) e =
-    let p = both_true (continues_identifier c) (list_all continues_identifier cs) e in
+    let p = and_parts (continues_identifier c) (list_all continues_identifier cs) e in
     list_all-append in_symbol (encode c) (encodes cs)
-    ∙ and_true (list_all in_symbol (encode c)) (list_all in_symbol (encodes cs)) (continuing_bytes c p.0) (others_bytes cs p.1)
+    ∙ and_from (list_all in_symbol (encode c)) (list_all in_symbol (encodes cs)) (continuing_bytes c p.0) (others_bytes cs p.1)
 
 -- the bytes of a symbol: one that begins it, and others that may stand in it
 pub record SymbolBytes (text : List ℕ) : Type 0 where
@@ -119,18 +112,18 @@ SymbolBytes-append xs ys h e = record {
   others = h.others ++ ys;
   split = ap (λ x. x ++ ys) h.split;
   begins = h.begins;
-  each = list_all-append in_symbol h.others ys ∙ and_true (list_all in_symbol h.others) (list_all in_symbol ys) h.each e;
+  each = list_all-append in_symbol h.others ys ∙ and_from (list_all in_symbol h.others) (list_all in_symbol ys) h.each e;
 }
 
 are_identifier_bytes : (cs : List ℕ) → are_identifier cs ≡ true → SymbolBytes (encodes cs)
 are_identifier_bytes [] e = cc
 are_identifier_bytes (c ∷ cs) e =
-    let p = both_true (begins_identifier c) (list_all continues_identifier cs) e in
+    let p = and_parts (begins_identifier c) (list_all continues_identifier cs) e in
     SymbolBytes-append (encode c) (encodes cs) (beginning_bytes c p.0) (others_bytes cs p.1)
 
 identifier_parts : (text : List ℕ) → is_identifier text ≡ true → (is_utf8 text ≡ true) × (are_identifier (chars text) ≡ true)
 unfolding is_identifier
-identifier_parts text e = both_true (is_utf8 text) (are_identifier (chars text)) e
+identifier_parts text e = and_parts (is_utf8 text) (are_identifier (chars text)) e
 
 -- an identifier is valid UTF-8
 pub identifier_is_text : (text : List ℕ) → is_identifier text ≡ true → IsUtf8 text
@@ -142,7 +135,7 @@ identifier_bytes text e =
 
 begins_symbol_in : (b : ℕ) → begins_symbol b ≡ true → in_symbol b ≡ true
 unfolding begins_symbol
-begins_symbol_in b e = (both_true (in_symbol b) _ e).0
+begins_symbol_in b e = (and_parts (in_symbol b) _ e).0
 
 -- its first byte begins a symbol
 pub identifier_begins_symbol : (text : List ℕ) → is_identifier text ≡ true → begins_with begins_symbol text ≡ true

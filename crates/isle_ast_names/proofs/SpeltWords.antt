@@ -1,16 +1,12 @@
 -- What the words of the grammar say of a spelt node, as the conditions of writable trees say it.
-use Rattle.std.proofs.Common.{◌≡◌, ◌≢◌, ℕ, List, [], ◌∷◌, Bool, true, false, ◌&&◌, ◌||◌, refl, sym, ◌∙◌, Option, None, Some, IfSome, codes}
-use Rattle.std.proofs.lemmas.Bool.{false≢true, true≢false}
+use Rattle.std.proofs.Common.{◌≡◌, ◌≢◌, ℕ, List, [], ◌∷◌, false, sym, ◌∙◌, Option, None, Some, IfSome, codes}
+use Rattle.std.proofs.lemmas.Bool.{false≢true, or_parts}
 use Rattle.std.proofs.lemmas.Slice.Eq.{bytes_eq-Decides}
 use Rattle.std.specs.Str.{bytes_eq}
 use Rattle.isle_base.specs.Place.{Placed}
 use Rattle.isle_ast_names.specs.Tree.{Name}
 use Rattle.isle_ast_names.specs.Words.{SpellsAll, SpellsName, SpellsOptional, is_bool_word}
 use Rattle.isle_ast_names.specs.Writable.{IsName, Each, IsNot}
-
-pub both_true : (a b : Bool) → (a && b) ≡ true → (a ≡ true) × (b ≡ true)
-both_true true b e = (refl, e)
-both_true false b e = absurd (false≢true e)
 
 -- each element of a spelt row
 pub Each-spelt : {A : Type 0} → (P : A → Type 0) (Spells : A → List Placed → List Placed → Type 0) → ((x : A) (all rest : List Placed) → Spells x all rest → P x) → (xs : List A) (all rest : List Placed) → SpellsAll Spells xs all rest → Each P xs
@@ -24,13 +20,9 @@ names-spelt = Each-spelt IsName SpellsName (λ n all rest s. s.0)
 pub differs : (text word : List ℕ) → bytes_eq text word ≡ false → text ≢ word
 differs text word h e = false≢true (sym h ∙ (bytes_eq-Decides text word).1 e)
 
-neither_set : (a b : Bool) → (a || b) ≡ false → (a ≡ false) × (b ≡ false)
-neither_set true b e = absurd (true≢false e)
-neither_set false b e = (refl, e)
-
 pub no_bool_word : (n : Name) → is_bool_word n.text ≡ false → IsNot n (codes "true") × IsNot n (codes "false")
 no_bool_word n h =
-    let both = neither_set (bytes_eq n.text (codes "true")) (bytes_eq n.text (codes "false")) h in
+    let both = or_parts (bytes_eq n.text (codes "true")) (bytes_eq n.text (codes "false")) h in
     (differs n.text (codes "true") both.0, differs n.text (codes "false") both.1)
 
 -- rules

@@ -6,9 +6,9 @@ use Rattle.std.specs.Cmp.{IsEquivalence, decided, on_equiv}
 use Rattle.std.specs.Option.{option_eq}
 use Rattle.std.specs.Ordering.{on}
 use Rattle.std.proofs.Common.{refl, sym, ap, subst}
-use Rattle.std.proofs.lemmas.Bool.{true≢false}
+use Rattle.std.proofs.lemmas.Bool.{true≢false, and_parts, and_from}
 use Rattle.std.proofs.lemmas.Bool.Decides.{Decides-eqb}
-use Rattle.isle_ast_names.specs.SameParts.{same_name, both_true, and_true, name_same, name_self}
+use Rattle.isle_ast_names.specs.SameParts.{same_name, name_same, name_self}
 use Rattle.isle_ast_specs.specs.Tree.{TypeModel, unspecified_model, auto_model, int_model, bool_model, unit_model, bit_vector_model, struct_model, named_model, ModelFieldRow, no_model_field, model_field}
 use Rattle.isle_ast_specs.specs.TreeView.{SingleModelField, type_model_of, single_model_field_of}
 
@@ -60,8 +60,8 @@ mutual
   pub model_fields_same : (fs gs : ModelFieldRow) → same_model_fields fs gs ≡ true → fs ≡ gs
   model_fields_same no_model_field no_model_field h = refl
   model_fields_same (model_field m t fs) (model_field n u gs) h =
-      let all = both_true (same_name m n) (same_model t u && same_model_fields fs gs) h in
-      let others = both_true (same_model t u) (same_model_fields fs gs) all.1 in
+      let all = and_parts (same_name m n) (same_model t u && same_model_fields fs gs) h in
+      let others = and_parts (same_model t u) (same_model_fields fs gs) all.1 in
       λ i. model_field (name_same m n all.0 i) (model_same t u others.0 i) (model_fields_same fs gs others.1 i)
   model_fields_same _ _ h = absurd (true≢false (sym h))
 
@@ -79,17 +79,17 @@ mutual
   pub model_fields_self : (fs : ModelFieldRow) → same_model_fields fs fs ≡ true
   model_fields_self no_model_field = refl
   model_fields_self (model_field m t fs) =
-      and_true (same_name m m) (same_model t t && same_model_fields fs fs) (name_self m)
-      (and_true (same_model t t) (same_model_fields fs fs) (model_self t) (model_fields_self fs))
+      and_from (same_name m m) (same_model t t && same_model_fields fs fs) (name_self m)
+      (and_from (same_model t t) (same_model_fields fs fs) (model_self t) (model_fields_self fs))
 
 pub model-Decides : (p q : TypeModel) → Decides (same_model p q) (p ≡ q)
 model-Decides p q = (model_same p q, λ e. subst (λ z. same_model p z ≡ true) e (model_self p))
 
 pub single-Decides : (f g : SingleModelField) → Decides (same_single f g) (f ≡ g)
 single-Decides f g = (
-  λ h. let all = both_true (same_name f.name g.name) (same_model f.ty g.ty) h in
+  λ h. let all = and_parts (same_name f.name g.name) (same_model f.ty g.ty) h in
       λ i. record { name = name_same f.name g.name all.0 i; ty = model_same f.ty g.ty all.1 i },
-  λ e. subst (λ z. same_single f z ≡ true) e (and_true (same_name f.name f.name) (same_model f.ty f.ty) (name_self f.name) (model_self f.ty)),
+  λ e. subst (λ z. same_single f z ≡ true) e (and_from (same_name f.name f.name) (same_model f.ty f.ty) (name_self f.name) (model_self f.ty)),
 )
 
 pub model_types_equiv : IsEquivalence (on type_model_of same_model)

@@ -11,7 +11,7 @@ use Rattle.isle_base.specs.LexerView.{computed_from, coming_of, ending_of, feed_
 use Rattle.isle_base.specs.Lexing.{Lexes, lexes}
 use Rattle.isle_base.specs.Place.{in_file, placed_at}
 use Rattle.isle_base.specs.Reads.{Finds}
-use Rattle.isle_base.specs.Steps.{Refuses, RefusesAt, Takes, placed_of, is_failed, is_at_end, AreWithin, EndsWithin, IsWithin, Rises}
+use Rattle.isle_base.specs.Steps.{Refuses, RefusesAt, Takes, placed_of, AreWithin, EndsWithin, IsWithin, Rises}
 use Rattle.isle_base.specs.Token.{Lexeme, Ending, end, fault, Feed}
 use Rattle.isle_base.specs.TokenView.{token_of}
 use Rattle.isle_base.proofs.Complete.{Lexes-unique, Skip-le, Piece-shorter}
@@ -142,8 +142,3 @@ takes_along {old = old} {other = other} {new = new} {further = further} {o = o} 
 pub refuses_along : {old other new further : Feed} {error : Error} → old ≡ other → new ≡ further → Refuses old error new → Refuses other error further
 refuses_along {old = old} {other = other} {new = new} {further = further} {error = error} e g h =
     subst (λ x. Refuses x error further) e (subst (λ x. Refuses old error x) g h)
-
--- a lexer with a token ahead is neither failed nor at the end
-pub ahead_live : (text : List ℕ) (pos : Pos) (o : Option (Pos × Token)) (failed : Bool) → is_some o ≡ true → (is_failed (feed_parts text pos o failed) ≡ false) × (is_at_end (feed_parts text pos o failed) ≡ false)
-ahead_live text pos None failed h = cc
-ahead_live text pos (Some x) failed h = (refl, refl)

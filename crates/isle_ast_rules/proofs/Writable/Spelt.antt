@@ -1,6 +1,6 @@
 -- Spelt patterns, expressions, rules and extractors are writable.
 use Rattle.std.proofs.Common.{◌≡◌, ℤ, List, true, false, Option, None, Some, IfSome, codes, inl, inr, sym, ap, ◌∙◌, subst}
-use Rattle.std.proofs.lemmas.Bool.{false≢true, not-true}
+use Rattle.std.proofs.lemmas.Bool.{false≢true, not-true, and_parts}
 use Rattle.isle_base.specs.Place.{Placed}
 use Rattle.isle_ast_names.specs.Numbers.{IsSigned, SpellsPriority}
 use Rattle.isle_ast_names.specs.Tree.{Name}
@@ -10,7 +10,7 @@ use Rattle.isle_ast_rules.specs.ExpressionGrammar.{is_variable_of_expressions, S
 use Rattle.isle_ast_rules.specs.PatternGrammar.{is_variable_of_patterns, SpellsPattern, SpellsPatterns}
 use Rattle.isle_ast_rules.specs.RuleGrammar.{SpellsCondition, SpellsRule, SpellsExtractor}
 use Rattle.isle_ast_rules.specs.Writable.{HasNoDollar, IsPatternVariable, IsWritablePattern, AreWritablePatterns, IsExpressionVariable, IsWritableExpression, AreWritableExpressions, AreWritableLets, IsWritableCondition, IsWritableRule, IsWritableExtractor}
-use Rattle.isle_ast_names.proofs.SpeltWords.{both_true, Each-spelt, names-spelt, differs, no_bool_word, optional_name-spelt}
+use Rattle.isle_ast_names.proofs.SpeltWords.{Each-spelt, names-spelt, differs, no_bool_word, optional_name-spelt}
 
 -- variables
 
@@ -19,9 +19,9 @@ no_dollar n h behind e = false≢true (sym h ∙ ap is_constant e)
 
 variable-spelt : (n : Name) → is_variable_of_patterns n.text ≡ true → IsPatternVariable n
 variable-spelt n h =
-    let first = both_true _ _ h in
-    let second = both_true _ _ first.0 in
-    let third = both_true _ _ second.0 in
+    let first = and_parts _ _ h in
+    let second = and_parts _ _ first.0 in
+    let third = and_parts _ _ second.0 in
     let words = no_bool_word n (not-true _ first.1) in
     record {
       name = third.0;
@@ -33,8 +33,8 @@ variable-spelt n h =
 
 expression_variable-spelt : (n : Name) → is_variable_of_expressions n.text ≡ true → IsExpressionVariable n
 expression_variable-spelt n h =
-    let first = both_true _ _ h in
-    let second = both_true _ _ first.0 in
+    let first = and_parts _ _ h in
+    let second = and_parts _ _ first.0 in
     let words = no_bool_word n (not-true _ first.1) in
     record { name = second.0; not_true = words.0; not_false = words.1; not_constant = no_dollar n (not-true _ second.1) }
 

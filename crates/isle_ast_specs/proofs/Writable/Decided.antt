@@ -3,7 +3,7 @@ use Rattle.std.proofs.Common.{ℕ, ◌^◌, ◌<◌, Option, None, Some, IfSome,
 use Rattle.std.proofs.lemmas.Bool.Decides.{Decides-ltb, Decides-and, Decides-eqb}
 use Rattle.std.specs.List.{list_all, list_any}
 use Rattle.std.specs.Str.{bytes_eq}
-use Rattle.std.proofs.lemmas.Bool.{false≢true, true≢false, not-true}
+use Rattle.std.proofs.lemmas.Bool.{false≢true, not-true, and_parts, and_from, or_cases, or_parts}
 use Rattle.std.proofs.lemmas.Slice.Eq.{bytes_eq-Decides}
 use Rattle.isle_ast_specs.specs.Tree.{TypeModel, unspecified_model, auto_model, int_model, bool_model, unit_model, bit_vector_model, struct_model, named_model, ModelFieldRow, no_model_field, model_field, SpecNode, int_spec, bit_vector_spec, bool_spec, var_spec, as_spec, field_spec, discriminator_spec, op_spec, match_spec, let_spec, with_spec, macro_spec, expand_spec, pair_spec, enum_spec, struct_spec, SpecRow, no_spec, more_spec, ArmRow, no_arm, more_arm, SpecLetRow, no_spec_let, more_spec_let, FieldInitRow, no_field_init, more_field_init, ModifiedState, SpecDefinition, SpecMacroDefinition, StateDefinition}
 use Rattle.isle_ast_specs.specs.Writable.{IsWritableModel, AreWritableModelFields, IsSpecVariable, IsWritableBitVector, IsWritableVariantName, IsWritableSpec, AreWritableSpecs, AreWritableCases, AreWritablePairs, AreWritableArms, AreWritableSpecLets, AreWritableFieldInits, IsWritableModified, IsWritableSpecDefinition, IsWritableSpecMacro, IsWritableState}
@@ -38,22 +38,6 @@ mutual
   model_fields_decided no_model_field = always
   model_fields_decided (model_field name ty fields) =
       three (is_name name) (is_writable_model ty) (are_writable_model_fields fields) (name_decided name) (model_decided ty) (model_fields_decided fields)
-
-both_true : (a b : Bool) → (a && b) ≡ true → (a ≡ true) × (b ≡ true)
-both_true true b e = (refl, e)
-both_true false b e = absurd (false≢true e)
-
-and_true : (a b : Bool) → a ≡ true → b ≡ true → (a && b) ≡ true
-and_true true b e f = f
-and_true false b e f = absurd (false≢true e)
-
-either_true : (a b : Bool) → (a || b) ≡ true → (a ≡ true) ⊎ (b ≡ true)
-either_true true b e = inl refl
-either_true false b e = inr e
-
-neither_set : (a b : Bool) → (a || b) ≡ false → (a ≡ false) × (b ≡ false)
-neither_set true b e = absurd (true≢false e)
-neither_set false b e = (refl, e)
 
 -- bit vectors
 
@@ -98,7 +82,7 @@ before_dot (b ∷ bs) = cond (b == 46) [] (b ∷ before_dot bs)
 before_the_dot : (text behind : List ℕ) → has_dot text ≡ false → before_dot (text ++ 46 ∷ behind) ≡ text
 before_the_dot [] behind e = refl
 before_the_dot (b ∷ bs) behind e =
-    let h = neither_set (b == 46) (has_dot bs) e in
+    let h = or_parts (b == 46) (has_dot bs) e in
     ap (λ c. cond c [] (b ∷ before_dot (bs ++ 46 ∷ behind))) h.0 ∙ ap (λ xs. b ∷ xs) (before_the_dot bs behind h.1)
 
 -- a text without a dot, or one that has `fp` before its first dot
@@ -112,11 +96,11 @@ operators_are_plain_or_float = refl
 among : (text : List ℕ) (os : List SpecOp) → list_all (λ o. is_plain_or_float (operator_text o)) os ≡ true → list_any (λ o. bytes_eq text (operator_text o)) os ≡ true → is_plain_or_float text ≡ true
 among text [] all any = absurd (false≢true any)
 among text (o ∷ os) all any =
-    let h = both_true (is_plain_or_float (operator_text o)) (list_all (λ o. is_plain_or_float (operator_text o)) os) all in
+    let h = and_parts (is_plain_or_float (operator_text o)) (list_all (λ o. is_plain_or_float (operator_text o)) os) all in
     ⊎_elim
     (λ here. ap is_plain_or_float ((bytes_eq-Decides text (operator_text o)).0 here) ∙ h.0)
     (λ later. among text os h.1 later)
-    (either_true (bytes_eq text (operator_text o)) (list_any (λ o. bytes_eq text (operator_text o)) os) any)
+    (or_cases (bytes_eq text (operator_text o)) (list_any (λ o. bytes_eq text (operator_text o)) os) any)
 
 -- behind `fp.` the operators of floats are read, and behind another name and a dot none is
 float_operators : (case : List ℕ) → is_operator_text (codes "fp" ++ 46 ∷ case) ≡ is_float_name case
@@ -141,9 +125,9 @@ no_operator_decided enum case none = no_operator_by (is_word (codes "fp") enum) 
 variant_name_decided : (enum case : Name) → Decides (is_writable_variant_name enum case) (IsWritableVariantName enum case)
 variant_name_decided enum case = (
   λ e.
-      let last = both_true _ _ e in
-      let dots = both_true _ _ last.0 in
-      let names = both_true _ _ dots.0 in
+      let last = and_parts _ _ e in
+      let dots = and_parts _ _ last.0 in
+      let names = and_parts _ _ dots.0 in
       record {
         name = names.0;
         variant = names.1;
@@ -152,9 +136,9 @@ variant_name_decided enum case = (
       },
   λ h.
       let none = dotless enum.text h.no_dot in
-      let names = and_true (is_name enum) (is_name case) h.name h.variant in
-      let dots = and_true (is_name enum && is_name case) (not (has_dot enum.text)) names (ap not none) in
-      and_true _ _ dots ((no_operator_decided enum case none).1 h.no_operator),
+      let names = and_from (is_name enum) (is_name case) h.name h.variant in
+      let dots = and_from (is_name enum && is_name case) (not (has_dot enum.text)) names (ap not none) in
+      and_from _ _ dots ((no_operator_decided enum case none).1 h.no_operator),
 )
 
 -- operators

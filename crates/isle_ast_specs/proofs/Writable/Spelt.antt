@@ -1,7 +1,7 @@
 -- Spelt specs, their definitions, their macros and states are writable.
 use Rattle.std.proofs.Common.{List, None, Some, ◌≡◌, ◌≢◌, ℕ, ◌+◌, ◌*◌, ◌^◌, ◌<◌, ◌≤◌, [], ◌∷◌, ◌++◌, length, true, not, codes, inl, inr, sym, ap, ◌∙◌, subst, arith}
 use Rattle.std.proofs.Math.Pow.{pow_mono}
-use Rattle.std.proofs.lemmas.Bool.{false≢true}
+use Rattle.std.proofs.lemmas.Bool.{false≢true, and_parts}
 use Rattle.std.proofs.lemmas.Int.Digits.{digits_value-lt}
 use Rattle.std.proofs.lemmas.List.{length-drop}
 use Rattle.std.proofs.lemmas.List.Folds.{list_all-append}
@@ -19,7 +19,7 @@ use Rattle.isle_ast_names.specs.Words.{SpellsAll}
 use Rattle.isle_ast_specs.specs.SpecDefinitionGrammar.{SpecClause, provide_clause, require_clause, match_clause, modifies_clause, SpellsClause, provided, required, matched, modified, SpellsSpecDefinition, SpellsSpecMacro, SpellsState}
 use Rattle.isle_ast_specs.specs.SpecGrammar.{is_dot, AreVariant, is_plain_operator, SpellsSpec, SpellsSpecs, SpellsCases, SpellsPairs, SpellsArms, SpellsSpecLets, SpellsFieldInits}
 use Rattle.isle_ast_names.specs.Writable.{Each}
-use Rattle.isle_ast_names.proofs.SpeltWords.{both_true, Each-spelt, names-spelt, no_bool_word, optional_name-spelt}
+use Rattle.isle_ast_names.proofs.SpeltWords.{Each-spelt, names-spelt, no_bool_word, optional_name-spelt}
 use Rattle.isle_ast_specs.specs.declared.ast.specs.SpecOp.TheVariants as op
 
 mutual
@@ -78,7 +78,7 @@ bit_vector-spelt text val width (inr s) =
 no_dot-spelt : (text : List ℕ) → list_all (λ byte. not (is_dot byte)) text ≡ true → (before behind : List ℕ) → text ≢ before ++ 46 ∷ behind
 no_dot-spelt text h before behind e =
     let joined = sym (list_all-append (λ byte. not (is_dot byte)) before (46 ∷ behind)) ∙ sym (ap (list_all (λ byte. not (is_dot byte))) e) ∙ h in
-    false≢true (both_true _ _ joined).1
+    false≢true (and_parts _ _ joined).1
 
 variant-spelt : (name variant : Name) (place : _) → AreVariant name variant place → IsWritableVariantName name variant
 variant-spelt name variant place s = record {
