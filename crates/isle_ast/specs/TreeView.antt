@@ -20,8 +20,6 @@ use Rattle.isle_ast.specs.declared.ast.ModelValue.{ModelValue}
 use Rattle.isle_ast.specs.declared.ast.Model.{Model}
 use Rattle.isle_ast.specs.declared.ast.Signature.{Signature}
 use Rattle.isle_ast.specs.declared.ast.Form.{Form}
-use Rattle.isle_ast_rules.specs.declared.ast.Rule.{Rule}
-use Rattle.isle_ast_rules.specs.declared.ast.Extractor.{Extractor}
 use Rattle.isle_ast.specs.declared.ast.Extern.{Extern}
 use Rattle.isle_ast.specs.declared.ast.Converter.{Converter}
 use Rattle.isle_ast.specs.declared.ast.Def.{Def}

@@ -1,5 +1,5 @@
 -- The conditions on each node of a writable tree, as tests.
-use Rattle.std.specs.Prelude.{[], ℕ, List, Bool, not, ◌||◌, ◌+◌, ◌∷◌, true, false, ◌&&◌, ◌==◌, Option, None, Some, codes}
+use Rattle.std.specs.Prelude.{[], ℕ, List, Bool, not, ◌+◌, ◌∷◌, true, false, ◌&&◌, ◌==◌, Option, None, Some, codes}
 use Rattle.std.specs.List.{list_all}
 use Rattle.isle_ast_names.specs.Tree.{Name}
 use Rattle.isle_ast_names.specs.WritableDeciders.{is_word, is_name, are_names, is_constant_name}

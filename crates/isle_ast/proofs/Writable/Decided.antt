@@ -1,12 +1,12 @@
 -- The tests of definitions tell which of them are writable.
-use Rattle.std.proofs.Common.{[], ◌≡◌, ◌≢◌, ℕ, List, Bool, true, false, not, ◌||◌, Decides, refl, ◌+◌, ◌∷◌, ◌==◌, Option, None, Some, codes}
+use Rattle.std.proofs.Common.{[], ◌≡◌, ℕ, List, not, Decides, refl, ◌+◌, ◌∷◌, ◌==◌, Option, None, Some, codes}
 use Rattle.std.proofs.lemmas.Bool.{false≢true}
 use Rattle.std.specs.List.{list_all}
 use Rattle.std.proofs.lemmas.Bool.Decides.{Decides-and, Decides-eqb}
 use Rattle.isle_ast_names.specs.Tree.{Name}
 use Rattle.isle_ast_names.specs.WritableDeciders.{is_word, is_name, are_names, is_constant_name}
 use Rattle.isle_ast.specs.WritableDeciders.{is_empty, is_writable_declaration, is_writable_conversion, is_writable_named_field, are_writable_indexed_fields, are_writable_fields, is_writable_variant, is_writable_type_content, is_writable_type, is_writable_target, is_writable_kind, is_writable_attribute, is_writable_signature, is_writable_form, are_writable_instances, is_writable_instantiation, is_writable_model_content, is_writable_model_definition, is_writable_extern, is_writable, are_writable}
-use Rattle.isle_ast_names.proofs.Writable.Decided.{word_decided, always, never, true_decided, three, each_decided, name_decided, names_decided}
+use Rattle.isle_ast_names.proofs.Writable.Decided.{always, never, true_decided, three, each_decided, name_decided, names_decided}
 use Rattle.isle_ast.specs.Tree.{Declaration, Conversion, NamedField, IndexedField, FieldList, unit_fields, struct_fields, tuple_fields, EnumVariant, TypeContent, primitive_type, enum_type, struct_type, TypeDefinition, AttributeTarget, term_target, rule_target, AttributeKind, chain_kind, priority_kind, tag_kind, Attribute, TermSignature, FormDefinition, TermInstantiation, ModelContent, type_model, const_model, ModelDefinition, ExternDefinition, extern_extractor, extern_constructor, extern_const, Definition, type_def, rule, extractor, decl, attr, spec, spec_macro, model, state, form, instantiation, external, converter}
 use Rattle.isle_ast_names.specs.Words.{IsNonEmpty, demands}
 use Rattle.isle_ast.specs.TermGrammar.{term_is_no_flag}
