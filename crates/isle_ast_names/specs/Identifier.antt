@@ -10,6 +10,7 @@ use Rattle.unicode.specs.Binary.{is_alphabetic}
 use Rattle.unicode.specs.GeneralCategory.{general_category}
 use Rattle.unicode.specs.declared.properties.GeneralCategory.{GeneralCategory}
 use Rattle.unicode.specs.declared.properties.GeneralCategory.TheVariants.{DecimalNumber, LetterNumber, OtherNumber}
+use Rattle.isle_base.specs.Bytes.{dollar, dot, underscore}
 
 abbrev pub is_number : GeneralCategory → Bool
 is_number DecimalNumber = true
@@ -25,11 +26,11 @@ is_digit c = if nat_lt c 128 then is_ascii_digit c else is_number (general_categ
 
 -- a letter, `_` or `$`
 abbrev pub begins_identifier : ℕ → Bool
-begins_identifier c = is_letter c || c == 95 || c == 36
+begins_identifier c = is_letter c || c == underscore || c == dollar
 
 -- a letter, a digit, `_`, `.` or `$`
 abbrev pub continues_identifier : ℕ → Bool
-continues_identifier c = is_letter c || is_digit c || c == 95 || c == 46 || c == 36
+continues_identifier c = is_letter c || is_digit c || c == underscore || c == dot || c == dollar
 
 abbrev pub are_identifier : List ℕ → Bool
 are_identifier [] = false

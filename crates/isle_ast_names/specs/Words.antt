@@ -3,6 +3,7 @@
 -- begins with a spelling and that `rest` follows it.
 use Rattle.std.specs.Prelude.{◌≡◌, ℕ, List, [], ◌∷◌, Bool, true, false, Option, None, Some, nat_eq, ◌||◌, codes, not}
 use Rattle.std.specs.Str.{bytes_eq}
+use Rattle.isle_base.specs.Bytes.{dollar}
 use Rattle.isle_base.specs.declared.lexer.Pos.{Pos}
 use Rattle.isle_base.specs.Token.{Tok, lparen, rparen, symbol}
 use Rattle.isle_base.specs.Place.{Placed}
@@ -61,7 +62,7 @@ abbrev pub InForm : List ℕ → (List Placed → List Placed → Type 0) → Li
 InForm word Spells = InParentheses (BehindWord word Spells)
 
 abbrev pub is_dollar : ℕ → Bool
-is_dollar byte = nat_eq byte 36
+is_dollar byte = nat_eq byte dollar
 
 -- what may be read as a constant: it begins with `$`
 abbrev pub is_constant : List ℕ → Bool
@@ -82,4 +83,5 @@ demands text word flag = not (bytes_eq text word) || flag
 -- a constant: `$` and its name, which together are an identifier. The name may be empty.
 abbrev pub SpellsConstant : Name → List Placed → List Placed → Type 0
 SpellsConstant name all rest =
-    (is_identifier (36 ∷ name.text) ≡ true) × (all ≡ record { pos = name.pos; token = symbol (36 ∷ name.text) } ∷ rest)
+    (is_identifier (dollar ∷ name.text) ≡ true)
+    × (all ≡ record { pos = name.pos; token = symbol (dollar ∷ name.text) } ∷ rest)

@@ -2,6 +2,7 @@
 use Rattle.std.specs.Prelude.{[], ℕ, ◌^◌, nat_lt, ℤ, pos, negsuc, List, ◌∷◌, Bool, true, false, ◌||◌, ◌==◌, Option, None, Some, codes}
 use Rattle.std.specs.List.{list_all}
 use Rattle.std.specs.Str.{bytes_eq}
+use Rattle.isle_base.specs.Bytes.{dollar}
 use Rattle.isle_ast_names.specs.Identifier.{is_identifier}
 use Rattle.isle_ast_names.specs.Tree.{Name}
 
@@ -25,11 +26,11 @@ is_bool_name n = is_word (codes "true") n || is_word (codes "false") n
 
 abbrev pub begins_with_dollar : List ℕ → Bool
 begins_with_dollar [] = false
-begins_with_dollar (b ∷ _) = b == 36
+begins_with_dollar (b ∷ _) = b == dollar
 
 -- written behind a `$`, the name is an identifier
 abbrev pub is_constant_name : Name → Bool
-is_constant_name n = is_identifier (36 ∷ n.text)
+is_constant_name n = is_identifier (dollar ∷ n.text)
 
 -- a sign and this many bits hold the number
 abbrev pub is_signed : ℕ → ℤ → Bool

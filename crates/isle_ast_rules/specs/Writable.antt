@@ -1,6 +1,7 @@
 -- Which patterns, expressions and rules are written so that they read back: the conditions on each node. They
 -- name no text and no width, and positions play no part.
 use Rattle.std.specs.Prelude.{◌≡◌, ◌≢◌, ℕ, List, ◌∷◌, true, false, IfSome, codes}
+use Rattle.isle_base.specs.Bytes.{dollar}
 use Rattle.isle_ast_names.specs.Identifier.{is_identifier}
 use Rattle.isle_ast_names.specs.Numbers.{IsSigned}
 use Rattle.isle_ast_names.specs.Tree.{Name}
@@ -10,11 +11,11 @@ use Rattle.isle_ast_names.specs.Writable.{IsName, Each, IsNot}
 
 -- a name that doesn't begin with `$`
 abbrev pub HasNoDollar : Name → Type 0
-HasNoDollar n = (behind : List ℕ) → n.text ≢ 36 ∷ behind
+HasNoDollar n = (behind : List ℕ) → n.text ≢ dollar ∷ behind
 
 -- written behind a `$`, the name is an identifier
 abbrev pub IsConstantName : Name → Type 0
-IsConstantName n = is_identifier (36 ∷ n.text) ≡ true
+IsConstantName n = is_identifier (dollar ∷ n.text) ≡ true
 
 -- a variable isn't `_`, `true` or `false` and doesn't begin with `$`
 pub record IsPatternVariable (n : Name) : Type 0 where

@@ -2,6 +2,7 @@
 -- behind its `(`.
 use Rattle.std.specs.Prelude.{◌≡◌, ℕ, nat_eq, List, [], ◌∷◌, ◌++◌, Bool, true, false, not, ◌⊎◌, codes}
 use Rattle.std.specs.List.{list_all}
+use Rattle.isle_base.specs.Bytes.{exclamation_mark, dot, colon, question_mark}
 use Rattle.isle_base.specs.declared.lexer.Pos.{Pos}
 use Rattle.isle_base.specs.Place.{Placed}
 use Rattle.isle_base.specs.Token.{symbol}
@@ -27,15 +28,15 @@ SpellsMarked mark name all rest =
 
 -- `:I`
 abbrev pub field_mark : List ℕ → List ℕ
-field_mark text = 58 ∷ text
+field_mark text = colon ∷ text
 
 -- `I?`
 abbrev pub discriminator_mark : List ℕ → List ℕ
-discriminator_mark text = text ++ 63 ∷ []
+discriminator_mark text = text ++ question_mark ∷ []
 
 -- `I!`
 abbrev pub expansion_mark : List ℕ → List ℕ
-expansion_mark text = text ++ 33 ∷ []
+expansion_mark text = text ++ exclamation_mark ∷ []
 
 -- identifiers in parentheses
 abbrev pub SpellsNames : List Name → List Placed → List Placed → Type 0
@@ -47,11 +48,11 @@ SpellsHeaded name names =
     InParentheses (λ inner close. (mid : List Placed) × SpellsName name inner mid × SpellsAll SpellsName names mid close)
 
 abbrev pub is_dot : ℕ → Bool
-is_dot byte = nat_eq byte 46
+is_dot byte = nat_eq byte dot
 
 -- the two names of a variant in one text, parted by its first dot
 abbrev pub dotted : Name → Name → List ℕ
-dotted name variant = name.text ++ 46 ∷ variant.text
+dotted name variant = name.text ++ dot ∷ variant.text
 
 -- The first name holds no dot, and both together are no operator. They stand at the `(`.
 pub record AreVariant (enum case : Name) (place : Pos) : Type 0 where

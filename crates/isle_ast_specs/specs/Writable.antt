@@ -1,5 +1,6 @@
 -- Which models of types and specs are written so that they read back: the conditions on each node.
 use Rattle.std.specs.Prelude.{◌≡◌, ◌≢◌, ℕ, ◌^◌, ◌<◌, ◌≤◌, List, ◌∷◌, ◌++◌, false, ◌⊎◌, IfSome, codes}
+use Rattle.isle_base.specs.Bytes.{dot}
 use Rattle.isle_ast_names.specs.Numbers.{IsSigned}
 use Rattle.isle_ast_specs.specs.Operators.{is_operator_text}
 use Rattle.isle_ast_names.specs.Tree.{Name}
@@ -22,8 +23,8 @@ pub record IsWritableBitVector (val width : ℕ) : Type 0 where
 pub record IsWritableVariantName (enum case : Name) : Type 0 where
   pub name : IsName enum
   pub variant : IsName case
-  pub no_dot : (before behind : List ℕ) → enum.text ≢ before ++ 46 ∷ behind
-  pub no_operator : is_operator_text (enum.text ++ 46 ∷ case.text) ≡ false
+  pub no_dot : (before behind : List ℕ) → enum.text ≢ before ++ dot ∷ behind
+  pub no_operator : is_operator_text (enum.text ++ dot ∷ case.text) ≡ false
 
 -- a width is a number of its type
 abbrev mutual

@@ -2,6 +2,7 @@
 use Rattle.std.specs.Prelude.{ℕ, ◌^◌, nat_lt, Bool, true, ◌&&◌, Option, None, Some, nat_le, List, [], ◌∷◌, false, not, ◌==◌, codes}
 use Rattle.std.specs.List.{list_all, list_any}
 use Rattle.std.specs.Str.{bytes_eq}
+use Rattle.isle_base.specs.Bytes.{dot}
 use Rattle.isle_ast_specs.specs.TreeView.{SingleModelField, SingleArm, SingleFieldInit, spec_row_of}
 use Rattle.isle_ast_specs.specs.Tree.{TypeModel, unspecified_model, auto_model, int_model, bool_model, unit_model, bit_vector_model, struct_model, named_model, ModelFieldRow, no_model_field, model_field, SpecNode, int_spec, bit_vector_spec, bool_spec, var_spec, as_spec, field_spec, discriminator_spec, op_spec, match_spec, let_spec, with_spec, macro_spec, expand_spec, pair_spec, enum_spec, struct_spec, SpecRow, no_spec, more_spec, ArmRow, no_arm, more_arm, SpecLetRow, no_spec_let, more_spec_let, FieldInitRow, no_field_init, more_field_init, ModifiedState, SpecDefinition, SpecMacroDefinition, StateDefinition}
 use Rattle.isle_ast_names.specs.WritableDeciders.{is_name, are_names, is_optional_name, is_word, is_bool_name, is_signed}
@@ -41,7 +42,7 @@ is_writable_bit_vector val width =
     (nat_le 1 width && nat_lt val (2 ^ width)) && (nat_lt val (2 ^ 128) && nat_lt width (2 ^ 64))
 
 abbrev pub has_dot : List ℕ → Bool
-has_dot text = list_any (λ byte. byte == 46) text
+has_dot text = list_any (λ byte. byte == dot) text
 
 -- what the operators of floats are named behind `fp.`
 abbrev pub float_names : List (List ℕ)

@@ -2,6 +2,7 @@
 -- are is said by `lexes`, and no contract of a call names anything of this file.
 use Rattle.std.specs.Prelude.{ℕ, zero, suc, ◌-◌, List, [], ◌∷◌, Bool, ◌&&◌, ◌==◌, if◌then◌else◌, Option, Some, None, length, drop, ℤ}
 use Rattle.std.specs.List.{prefix_len, take_while}
+use Rattle.isle_base.specs.Bytes.{form_feed, left_parenthesis, right_parenthesis, semicolon, commercial_at}
 use Rattle.isle_base.specs.Literals.{begins_literal, in_literal, has_minus, behind_minus, radix_at, behind_prefix, digits_of, value_of}
 use Rattle.isle_base.specs.Pieces.{in_symbol}
 use Rattle.isle_base.specs.Skips.{opens, is_blank, in_line}
@@ -17,8 +18,8 @@ close zero text = Some text
 close (suc n) [] = None
 close (suc n) (a ∷ []) = None
 close (suc n) (a ∷ b ∷ rest) =
-    if a == 40 && b == 59 then close (suc (suc n)) rest
-    else (if a == 59 && b == 41 then close n rest
+    if a == left_parenthesis && b == semicolon then close (suc (suc n)) rest
+    else (if a == semicolon && b == right_parenthesis then close n rest
     else close (suc n) (b ∷ rest))
 
 -- what a text begins with, behind a skip: nothing, a fault, or a token
@@ -34,10 +35,10 @@ literal_first text after (Some value) = found text (integer value) after
 unfoldable pub piece_first : List ℕ → First
 piece_first [] = ended
 piece_first (b ∷ rest) =
-    if b == 40 then found (b ∷ rest) lparen rest
-    else (if b == 41 then found (b ∷ rest) rparen rest
-    else (if b == 64 then found (b ∷ rest) at_sign rest
-    else (if b == 12 then refused (b ∷ rest)
+    if b == left_parenthesis then found (b ∷ rest) lparen rest
+    else (if b == right_parenthesis then found (b ∷ rest) rparen rest
+    else (if b == commercial_at then found (b ∷ rest) at_sign rest
+    else (if b == form_feed then refused (b ∷ rest)
     else (if begins_literal b then literal_first (b ∷ rest) (behind in_literal (behind_prefix (behind_minus (b ∷ rest)))) (value_of (has_minus (b ∷ rest)) (radix_at (behind_minus (b ∷ rest))) (digits_of (take_while in_literal (behind_prefix (behind_minus (b ∷ rest))))))
     else found (b ∷ rest) (symbol (take_while in_symbol (b ∷ rest))) (behind in_symbol (b ∷ rest))))))
 
@@ -50,7 +51,7 @@ first zero text = ended
 first (suc n) [] = ended
 first (suc n) (b ∷ rest) =
     if is_blank b then first n rest
-    else (if b == 59 then first n (behind in_line rest)
+    else (if b == semicolon then first n (behind in_line rest)
     else (if opens (b ∷ rest) then comment_first (first n) (b ∷ rest) (close 1 (drop 1 rest))
     else piece_first (b ∷ rest)))
 

@@ -1,3 +1,4 @@
+pub mod Bytes
 pub mod Computed
 pub mod Diagnostic
 pub mod Labels

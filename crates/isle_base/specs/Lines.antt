@@ -1,15 +1,16 @@
 -- The lines of a text, counted from 0. A LF is the last byte of its line.
 use Rattle.std.specs.Prelude.{ℕ, ◌+◌, ◌-◌, ◌==◌, if◌then◌else◌, List, [], ◌∷◌, length, take, count_by, slice_index, slice_index_or, slice_range}
+use Rattle.isle_base.specs.Bytes.{line_feed}
 
 -- the line on which an offset lies: how many LFs stand below it
 abbrev pub line : List ℕ → ℕ → ℕ
-line text offset = count_by (λ b. b == 10) (take offset text)
+line text offset = count_by (λ b. b == line_feed) (take offset text)
 
 -- the offset after each LF, in order, where the text's first byte has this offset
 abbrev pub line_ends_from : ℕ → List ℕ → List ℕ
 line_ends_from at [] = []
 line_ends_from at (b ∷ text) =
-    if b == 10 then (at + 1) ∷ line_ends_from (at + 1) text else line_ends_from (at + 1) text
+    if b == line_feed then (at + 1) ∷ line_ends_from (at + 1) text else line_ends_from (at + 1) text
 
 abbrev pub line_ends : List ℕ → List ℕ
 line_ends text = line_ends_from 0 text

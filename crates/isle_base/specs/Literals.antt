@@ -4,19 +4,20 @@
 use Rattle.std.specs.Prelude.{◌≡◌, ℕ, ℤ, pos, neg_ℤ, ◌-ℤ◌, ◌+◌, ◌*◌, ◌^◌, List, [], ◌∷◌, drop, length, map, filter, Bool, true, false, ◌||◌, not, ◌==◌, nat_lt, if◌then◌else◌, Option, Some, None, unwrap_or, is_some}
 use Rattle.std.specs.Char.{digit_value, is_ascii_digit, is_ascii_hexdigit}
 use Rattle.std.specs.List.{list_all}
+use Rattle.isle_base.specs.Bytes.{hyphen_minus, digit_zero, letter_upper_b, letter_upper_o, letter_upper_x, underscore, letter_b, letter_o, letter_x}
 use Rattle.isle_base.specs.Skips.{begins_with, Longest}
 
 -- `-` or a decimal digit
 unfoldable pub begins_literal : ℕ → Bool
-begins_literal b = b == 45 || is_ascii_digit b
+begins_literal b = b == hyphen_minus || is_ascii_digit b
 
 -- a hexadecimal digit or `_`
 unfoldable pub in_literal : ℕ → Bool
-in_literal b = is_ascii_hexdigit b || b == 95
+in_literal b = is_ascii_hexdigit b || b == underscore
 
 -- `-` stands here
 abbrev pub has_minus : List ℕ → Bool
-has_minus text = begins_with (λ b. b == 45) text
+has_minus text = begins_with (λ b. b == hyphen_minus) text
 
 abbrev pub behind_minus : List ℕ → List ℕ
 behind_minus text = if has_minus text then drop 1 text else text
@@ -24,16 +25,16 @@ behind_minus text = if has_minus text then drop 1 text else text
 -- the radix that a letter behind `0` stands for: `x` or `X` for 16, `o` or `O` for 8, `b` or `B` for 2
 unfoldable pub radix_of : ℕ → Option ℕ
 radix_of b =
-    if b == 120 || b == 88 then Some 16
-    else (if b == 111 || b == 79 then Some 8
-    else (if b == 98 || b == 66 then Some 2
+    if b == letter_x || b == letter_upper_x then Some 16
+    else (if b == letter_o || b == letter_upper_o then Some 8
+    else (if b == letter_b || b == letter_upper_b then Some 2
     else None))
 
 -- the radix of the prefix that stands here: `0` and a letter
 abbrev pub prefix_radix : List ℕ → Option ℕ
 prefix_radix [] = None
 prefix_radix (a ∷ []) = None
-prefix_radix (a ∷ b ∷ _) = if a == 48 then radix_of b else None
+prefix_radix (a ∷ b ∷ _) = if a == digit_zero then radix_of b else None
 
 -- A prefix is read wherever one stands; without one the radix is ten.
 abbrev pub radix_at : List ℕ → ℕ
@@ -44,7 +45,7 @@ behind_prefix text = if is_some (prefix_radix text) then drop 2 text else text
 
 -- the values of the digits of a run, without its underscores
 abbrev pub digits_of : List ℕ → List ℕ
-digits_of run = map digit_value (filter (λ b. not (b == 95)) run)
+digits_of run = map digit_value (filter (λ b. not (b == underscore)) run)
 
 -- the sum of digit times power of the radix
 abbrev pub number_of : ℕ → List ℕ → ℕ

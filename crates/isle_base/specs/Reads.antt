@@ -1,5 +1,6 @@
 -- What the private calls of the lexer find in the bytes of a text from an offset on.
 use Rattle.std.specs.Prelude.{◌≡◌, ◌⊎◌, ◌<◌, ◌≤◌, ◌+◌, ◌^◌, ℕ, ℤ, List, [], ◌∷◌, Bool, true, false, ◌&&◌, nat_lt, ◌==◌, Option, Some, None, Result, Ok, Err, length, drop, IsUtf8}
+use Rattle.isle_base.specs.Bytes.{semicolon}
 use Rattle.isle_base.specs.declared.lexer.read.Found.{Found}
 use Rattle.isle_base.specs.declared.lexer.read.Found.TheVariants as founds
 use Rattle.isle_base.specs.declared.lexer.read.Reason.{Reason}
@@ -22,7 +23,7 @@ EndsComment bytes from (Some at) = Inside (drop from bytes) (drop at bytes) × (
 -- no blank, no line comment and no block comment begins here
 pub record IsUnskipped (text : List ℕ) : Type 0 where
   pub not_blank : begins_with is_blank text ≡ false
-  pub no_line : begins_with (λ b. b == 59) text ≡ false
+  pub no_line : begins_with (λ b. b == semicolon) text ≡ false
   pub no_block : opens text ≡ false
 
 -- the end of a skip, or behind one a block comment without an end
