@@ -14,7 +14,7 @@ use Rattle.isle_parser_specs.proofs.Reading.Models.{model_begins}
 use Rattle.isle_parser_cursor.proofs.Reading.Numbers.{signed_begins}
 use Rattle.isle_parser_cursor.proofs.Reading.Heads.{head_begins}
 use Rattle.isle_parser_cursor.proofs.Readers.{Begins, begins_node, row_shorter, parentheses_begin}
-use Rattle.isle_parser_specs.proofs.Reading.Rows.{SpellsPairInside, SpellsPair, SpellsArm, SpellsArmInside, SpellsSpecLet, SpellsSpecLetInside, SpellsFieldInit, SpellsFieldInitInside}
+use Rattle.isle_parser_specs.proofs.Reading.Rows.{SpellsPairInside, SpellsPair, pair_row, SpellsArm, SpellsArmInside, SpellsSpecLet, SpellsSpecLetInside, SpellsFieldInit, SpellsFieldInitInside}
 
 marked_shorter : (mark : List ℕ → List ℕ) (n : Name) (all rest : List Placed) → SpellsMarked mark n all rest → length rest < length all
 marked_shorter mark n all rest h = rw h.1 (omega arith)
@@ -68,24 +68,14 @@ mutual
 
   pub pairs_shorter : (xs : SpecRow) (all rest : List Placed) → SpellsPairs xs all rest → length rest ≤ length all
   pairs_shorter no_spec all rest h = rw h (omega arith)
-  pairs_shorter (more_spec (pair_spec l r pos) xs) all rest h =
-      let one = parentheses_begin _ (λ i j b. omega (arith, (spec_begins l i b.1 b.2).1, (spec_begins r b.1 j b.3).1)) all h.0 h.1 in
-      omega (arith, one.1, pairs_shorter xs h.0 rest h.2)
-  pairs_shorter (more_spec (int_spec _ _) xs) all rest h = absurd h
-  pairs_shorter (more_spec (bit_vector_spec _ _ _) xs) all rest h = absurd h
-  pairs_shorter (more_spec (bool_spec _ _) xs) all rest h = absurd h
-  pairs_shorter (more_spec (var_spec _ _) xs) all rest h = absurd h
-  pairs_shorter (more_spec (as_spec _ _ _) xs) all rest h = absurd h
-  pairs_shorter (more_spec (field_spec _ _ _) xs) all rest h = absurd h
-  pairs_shorter (more_spec (discriminator_spec _ _ _) xs) all rest h = absurd h
-  pairs_shorter (more_spec (op_spec _ _ _) xs) all rest h = absurd h
-  pairs_shorter (more_spec (match_spec _ _ _) xs) all rest h = absurd h
-  pairs_shorter (more_spec (let_spec _ _ _) xs) all rest h = absurd h
-  pairs_shorter (more_spec (with_spec _ _ _) xs) all rest h = absurd h
-  pairs_shorter (more_spec (macro_spec _ _ _) xs) all rest h = absurd h
-  pairs_shorter (more_spec (expand_spec _ _ _) xs) all rest h = absurd h
-  pairs_shorter (more_spec (enum_spec _ _ _ _) xs) all rest h = absurd h
-  pairs_shorter (more_spec (struct_spec _ _) xs) all rest h = absurd h
+  pairs_shorter (more_spec x xs) all rest h =
+      let row = (pair_row x xs all rest).0 h in
+      let one = parentheses_begin (SpellsPairInside x) (pair_inside_shorter x) all row.0 row.1 in
+      omega (arith, one.1, pairs_shorter xs row.0 rest row.2)
+
+  pair_inside_shorter : (x : SpecNode) (all rest : List Placed) → SpellsPairInside x all rest → length rest ≤ length all
+  pair_inside_shorter (pair_spec l r pos) all rest h = omega (arith, (spec_begins l all h.1 h.2).1, (spec_begins r h.1 rest h.3).1)
+  pair_inside_shorter _ all rest h = absurd h
 
   pub arms_shorter : (arms : ArmRow) (all rest : List Placed) → SpellsArms arms all rest → length rest ≤ length all
   arms_shorter no_arm all rest h = rw h (omega arith)
@@ -106,24 +96,6 @@ mutual
       omega (arith, one.1, fields_shorter fs h.0 rest h.2)
 
 -- ---- parts
-
-pair_inside_shorter : (x : SpecNode) (all rest : List Placed) → SpellsPairInside x all rest → length rest ≤ length all
-pair_inside_shorter (pair_spec l r pos) all rest h = omega (arith, (spec_begins l all h.1 h.2).1, (spec_begins r h.1 rest h.3).1)
-pair_inside_shorter (int_spec _ _) all rest h = absurd h
-pair_inside_shorter (bit_vector_spec _ _ _) all rest h = absurd h
-pair_inside_shorter (bool_spec _ _) all rest h = absurd h
-pair_inside_shorter (var_spec _ _) all rest h = absurd h
-pair_inside_shorter (as_spec _ _ _) all rest h = absurd h
-pair_inside_shorter (field_spec _ _ _) all rest h = absurd h
-pair_inside_shorter (discriminator_spec _ _ _) all rest h = absurd h
-pair_inside_shorter (op_spec _ _ _) all rest h = absurd h
-pair_inside_shorter (match_spec _ _ _) all rest h = absurd h
-pair_inside_shorter (let_spec _ _ _) all rest h = absurd h
-pair_inside_shorter (with_spec _ _ _) all rest h = absurd h
-pair_inside_shorter (macro_spec _ _ _) all rest h = absurd h
-pair_inside_shorter (expand_spec _ _ _) all rest h = absurd h
-pair_inside_shorter (enum_spec _ _ _ _) all rest h = absurd h
-pair_inside_shorter (struct_spec _ _) all rest h = absurd h
 
 pub pair_begins : Begins SpellsPair
 pair_begins x all rest h = parentheses_begin (SpellsPairInside x) (pair_inside_shorter x) all rest h

@@ -1,9 +1,10 @@
 -- Rows of the parts of spec expressions, as lists of them: pairs, arms, values of a `let` and fields.
 use Rattle.std.proofs.Common.{◌≡◌, List, [], ◌∷◌, refl, ap}
+use Rattle.std.specs.Prelude.{◌↔◌}
 use Rattle.isle_base.specs.Place.{Placed}
 use Rattle.isle_ast_specs.specs.TreeView.{SingleArm, SingleFieldInit, spec_row_of, arm_row_of, field_init_row_of, spec_let_row_of}
 use Rattle.isle_ast_names.specs.Tree.{Name}
-use Rattle.isle_ast_specs.specs.Tree.{SpecNode, int_spec, bit_vector_spec, bool_spec, var_spec, as_spec, field_spec, discriminator_spec, op_spec, match_spec, let_spec, with_spec, macro_spec, expand_spec, pair_spec, enum_spec, struct_spec, SpecRow, no_spec, more_spec, ArmRow, no_arm, more_arm, SpecLetRow, no_spec_let, more_spec_let, FieldInitRow, no_field_init, more_field_init}
+use Rattle.isle_ast_specs.specs.Tree.{SpecNode, pair_spec, SpecRow, no_spec, more_spec, ArmRow, no_arm, more_arm, SpecLetRow, no_spec_let, more_spec_let, FieldInitRow, no_field_init, more_field_init}
 use Rattle.isle_ast_names.specs.Words.{BeginsAt, SpellsAll, InParentheses, SpellsName}
 use Rattle.isle_ast_specs.specs.SpecGrammar.{SpellsHeaded, SpellsSpec, SpellsSpecs, SpellsPairs, SpellsArms, SpellsSpecLets, SpellsFieldInits}
 
@@ -31,62 +32,25 @@ specs_listed (more_spec x xs) all rest h = (h.0, h.1, specs_listed xs h.0 rest h
 abbrev pub SpellsPairInside : SpecNode → List Placed → List Placed → Type 0
 SpellsPairInside (pair_spec l r pos) inner close =
     BeginsAt pos inner × (behind : List Placed) × SpellsSpec l inner behind × SpellsSpec r behind close
-SpellsPairInside (int_spec _ _) inner close = ⊥
-SpellsPairInside (bit_vector_spec _ _ _) inner close = ⊥
-SpellsPairInside (bool_spec _ _) inner close = ⊥
-SpellsPairInside (var_spec _ _) inner close = ⊥
-SpellsPairInside (as_spec _ _ _) inner close = ⊥
-SpellsPairInside (field_spec _ _ _) inner close = ⊥
-SpellsPairInside (discriminator_spec _ _ _) inner close = ⊥
-SpellsPairInside (op_spec _ _ _) inner close = ⊥
-SpellsPairInside (match_spec _ _ _) inner close = ⊥
-SpellsPairInside (let_spec _ _ _) inner close = ⊥
-SpellsPairInside (with_spec _ _ _) inner close = ⊥
-SpellsPairInside (macro_spec _ _ _) inner close = ⊥
-SpellsPairInside (expand_spec _ _ _) inner close = ⊥
-SpellsPairInside (enum_spec _ _ _ _) inner close = ⊥
-SpellsPairInside (struct_spec _ _) inner close = ⊥
+SpellsPairInside _ inner close = ⊥
 
 abbrev pub SpellsPair : SpecNode → List Placed → List Placed → Type 0
 SpellsPair x = InParentheses (SpellsPairInside x)
 
+-- A row of pairs that isn't empty begins with a pair, and no other expression is one.
+pub pair_row : (x : SpecNode) (xs : SpecRow) (all rest : List Placed) →
+    SpellsPairs (more_spec x xs) all rest ↔ ((mid : List Placed) × SpellsPair x all mid × SpellsPairs xs mid rest)
+pair_row (pair_spec l r pos) xs all rest = (λ h. h, λ h. h)
+pair_row _ xs all rest = (λ h. absurd h, λ h. absurd h.1.3)
+
 pub pairs_spelt : (xs : List SpecNode) (all rest : List Placed) → SpellsAll SpellsPair xs all rest → SpellsPairs (spec_row_of xs) all rest
 pairs_spelt [] all rest h = h
-pairs_spelt (pair_spec l r pos ∷ xs) all rest h = (h.0, h.1, pairs_spelt xs h.0 rest h.2)
-pairs_spelt (int_spec _ _ ∷ xs) all rest h = absurd h.1.3
-pairs_spelt (bit_vector_spec _ _ _ ∷ xs) all rest h = absurd h.1.3
-pairs_spelt (bool_spec _ _ ∷ xs) all rest h = absurd h.1.3
-pairs_spelt (var_spec _ _ ∷ xs) all rest h = absurd h.1.3
-pairs_spelt (as_spec _ _ _ ∷ xs) all rest h = absurd h.1.3
-pairs_spelt (field_spec _ _ _ ∷ xs) all rest h = absurd h.1.3
-pairs_spelt (discriminator_spec _ _ _ ∷ xs) all rest h = absurd h.1.3
-pairs_spelt (op_spec _ _ _ ∷ xs) all rest h = absurd h.1.3
-pairs_spelt (match_spec _ _ _ ∷ xs) all rest h = absurd h.1.3
-pairs_spelt (let_spec _ _ _ ∷ xs) all rest h = absurd h.1.3
-pairs_spelt (with_spec _ _ _ ∷ xs) all rest h = absurd h.1.3
-pairs_spelt (macro_spec _ _ _ ∷ xs) all rest h = absurd h.1.3
-pairs_spelt (expand_spec _ _ _ ∷ xs) all rest h = absurd h.1.3
-pairs_spelt (enum_spec _ _ _ _ ∷ xs) all rest h = absurd h.1.3
-pairs_spelt (struct_spec _ _ ∷ xs) all rest h = absurd h.1.3
+pairs_spelt (x ∷ xs) all rest h = (pair_row x (spec_row_of xs) all rest).1 (h.0, h.1, pairs_spelt xs h.0 rest h.2)
 
 pub pairs_listed : (xs : SpecRow) (all rest : List Placed) → SpellsPairs xs all rest → SpellsAll SpellsPair (listed xs) all rest
 pairs_listed no_spec all rest h = h
-pairs_listed (more_spec (pair_spec l r pos) xs) all rest h = (h.0, h.1, pairs_listed xs h.0 rest h.2)
-pairs_listed (more_spec (int_spec _ _) xs) all rest h = absurd h
-pairs_listed (more_spec (bit_vector_spec _ _ _) xs) all rest h = absurd h
-pairs_listed (more_spec (bool_spec _ _) xs) all rest h = absurd h
-pairs_listed (more_spec (var_spec _ _) xs) all rest h = absurd h
-pairs_listed (more_spec (as_spec _ _ _) xs) all rest h = absurd h
-pairs_listed (more_spec (field_spec _ _ _) xs) all rest h = absurd h
-pairs_listed (more_spec (discriminator_spec _ _ _) xs) all rest h = absurd h
-pairs_listed (more_spec (op_spec _ _ _) xs) all rest h = absurd h
-pairs_listed (more_spec (match_spec _ _ _) xs) all rest h = absurd h
-pairs_listed (more_spec (let_spec _ _ _) xs) all rest h = absurd h
-pairs_listed (more_spec (with_spec _ _ _) xs) all rest h = absurd h
-pairs_listed (more_spec (macro_spec _ _ _) xs) all rest h = absurd h
-pairs_listed (more_spec (expand_spec _ _ _) xs) all rest h = absurd h
-pairs_listed (more_spec (enum_spec _ _ _ _) xs) all rest h = absurd h
-pairs_listed (more_spec (struct_spec _ _) xs) all rest h = absurd h
+pairs_listed (more_spec x xs) all rest h =
+    let row = (pair_row x xs all rest).0 h in (row.0, row.1, pairs_listed xs row.0 rest row.2)
 
 -- ---- arms of a `match`
 

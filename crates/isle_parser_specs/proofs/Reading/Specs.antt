@@ -207,21 +207,7 @@ unfolding spec_pair_inside
 pair_inside_complete n read fits (pair_spec l r pos) all rest below h =
     let shorter : length h.1 < length all = (spec_begins l all h.1 h.2).1 in
     rw (fits l all h.1 below h.2, fits r h.1 rest (omega arith) h.3, position_of h.0) refl
-pair_inside_complete n read fits (int_spec _ _) all rest below h = absurd h
-pair_inside_complete n read fits (bit_vector_spec _ _ _) all rest below h = absurd h
-pair_inside_complete n read fits (bool_spec _ _) all rest below h = absurd h
-pair_inside_complete n read fits (var_spec _ _) all rest below h = absurd h
-pair_inside_complete n read fits (as_spec _ _ _) all rest below h = absurd h
-pair_inside_complete n read fits (field_spec _ _ _) all rest below h = absurd h
-pair_inside_complete n read fits (discriminator_spec _ _ _) all rest below h = absurd h
-pair_inside_complete n read fits (op_spec _ _ _) all rest below h = absurd h
-pair_inside_complete n read fits (match_spec _ _ _) all rest below h = absurd h
-pair_inside_complete n read fits (let_spec _ _ _) all rest below h = absurd h
-pair_inside_complete n read fits (with_spec _ _ _) all rest below h = absurd h
-pair_inside_complete n read fits (macro_spec _ _ _) all rest below h = absurd h
-pair_inside_complete n read fits (expand_spec _ _ _) all rest below h = absurd h
-pair_inside_complete n read fits (enum_spec _ _ _ _) all rest below h = absurd h
-pair_inside_complete n read fits (struct_spec _ _) all rest below h = absurd h
+pair_inside_complete n read fits _ all rest below h = absurd h
 
 pairs_complete : (n : ℕ) (read : Reader SpecNode) → Fits n read → (xs : SpecRow) (all rest : List Placed) → length all < n → closes rest ≡ true → SpellsPairs xs all rest → many closes (spec_pair read) all ≡ Some (listed xs, rest)
 unfolding spec_pair
