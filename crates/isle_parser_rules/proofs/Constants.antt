@@ -1,6 +1,6 @@
 -- A constant is read with its `$`.
 use Rattle.std.proofs.Common.{◌≡◌, ℕ, false, ◌==◌, List, [], ◌∷◌, Some, None, refl, ap}
-use Rattle.std.proofs.lemmas.Bool.{eqb-true}
+use Rattle.std.proofs.lemmas.Bool.{ne_eqb}
 use Rattle.isle_ast_names.specs.Tree.{Name}
 use Rattle.isle_base.specs.declared.lexer.Pos.{Pos}
 use Rattle.isle_base.specs.Place.{Placed}
@@ -9,13 +9,12 @@ use Rattle.isle_parser_cursor.specs.Outcomes.{IsRefusal, Source, Stops}
 use Rattle.isle_parser_cursor.specs.NameReaders.{name}
 use Rattle.isle_parser_rules.specs.ConstantReaders.{behind_dollar, constant}
 use Rattle.isle_parser_cursor.proofs.Ahead.{stopped}
-use Rattle.isle_parser_cursor.proofs.SameBytes.{is_false}
 
 -- a name that does not begin with `$`
 nothing_behind : (text : List ℕ) (place : Pos) → ((rest : List ℕ) → text ≡ 36 ∷ rest → ⊥) → behind_dollar (record { text = text; pos = place }) ≡ None
 nothing_behind [] place h = refl
 nothing_behind (b ∷ bs) place h =
-    let other : (b == 36) ≡ false = is_false (b == 36) (λ e. h bs (ap (λ (n : ℕ). n ∷ bs) (eqb-true b 36 e))) in
+    let other : (b == 36) ≡ false = ne_eqb b 36 (λ is. h bs (ap (λ (n : ℕ). n ∷ bs) is)) in
     rw other refl
 
 -- a name that begins with `$`

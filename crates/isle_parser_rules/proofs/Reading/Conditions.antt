@@ -3,7 +3,7 @@ use Rattle.std.proofs.Common.{◌≡◌, ◌⊎◌, inl, inr, ℕ, zero, suc, �
 use Rattle.std.specs.Prelude.{codes}
 use Rattle.std.specs.Str.{bytes_eq, is_utf8}
 use Rattle.std.proofs.lemmas.Str.{chars-IsAscii}
-use Rattle.std.proofs.lemmas.Slice.Eq.{bytes_eq-Decides}
+use Rattle.std.proofs.lemmas.Bool.{and_right}
 use Rattle.isle_base.specs.declared.lexer.Pos.{Pos}
 use Rattle.isle_base.specs.Place.{Placed}
 use Rattle.isle_ast_names.specs.Identifier.{is_identifier}
@@ -11,13 +11,13 @@ use Rattle.isle_ast_rules.specs.Tree.{PatternNode, wildcard_pattern, Expression,
 use Rattle.isle_ast_names.specs.Words.{BeginsAt, SpellsAll, InParentheses, BehindWord}
 use Rattle.isle_ast_rules.specs.ExpressionGrammar.{SpellsExpression}
 use Rattle.isle_ast_rules.specs.RuleGrammar.{SpellsMatch, SpellsTest, SpellsCondition, is_if_expression}
+use Rattle.isle_parser_cursor.proofs.SameBytes.{other_bytes}
 use Rattle.isle_parser_cursor.specs.Reading.{Reader, ◌>>=◌, is_ahead, is_lparen, is_word, closes, pos_ahead, in_parentheses}
 use Rattle.isle_parser_rules.specs.ExpressionReaders.{expression, expression_inside}
 use Rattle.isle_parser_rules.specs.PatternReaders.{pattern}
 use Rattle.isle_parser_rules.specs.RuleReaders.{RulePart, condition_part, expression_part, condition_match, condition_test, test_or_expression, match_or_expression, condition_or_expression, RightSide, behind_condition, behind_part, right_side_within, right_side}
 use Rattle.isle_parser_cursor.proofs.ReaderSteps.{made_of, word_ahead, word_shorter, flag_read, flag_absent, choice, position_of, begins_here, opens}
 use Rattle.isle_parser_cursor.proofs.Flags.{name_ahead}
-use Rattle.isle_parser_cursor.proofs.SameBytes.{is_false}
 use Rattle.isle_parser_rules.proofs.Reading.Expressions.{SpellsInside, from_inside, to_inside, expression_begins, expression_sound, expression_complete, expression_inside_sound, expression_inside_complete}
 use Rattle.isle_parser_cursor.proofs.Readers.{agree, Sound, Begins, Shrinks, Goes, begins_node, bind_some, bind_same, chosen, done_is, moved, shrinks, begins_goes, parentheses_sound, parentheses_complete, parentheses_begin}
 use Rattle.isle_parser_rules.proofs.Reading.Patterns.{pattern_begins, pattern_sound, pattern_complete}
@@ -152,18 +152,14 @@ part_sound all rest p e =
     ]
 
 -- `if-let` is no identifier
-and_false : (b : Bool) → (b && false) ≡ false
-and_false true = refl
-and_false false = refl
-
 if_let_no_name : is_identifier (codes "if-let") ≡ false
 unfolding is_identifier
-if_let_no_name = rw (chars-IsAscii (codes "if-let") (search rules)) (and_false (is_utf8 (codes "if-let")))
+if_let_no_name = rw (chars-IsAscii (codes "if-let") (search rules)) (and_right (is_utf8 (codes "if-let")) false refl)
 
 no_if_let : (t : List ℕ) → is_identifier t ≡ true → bytes_eq t (codes "if-let") ≡ false
 no_if_let t e =
-    is_false (bytes_eq t (codes "if-let")) (λ same.
-    let other : is_identifier t ≡ false = ap is_identifier ((bytes_eq-Decides t (codes "if-let")).0 same) ∙ if_let_no_name in
+    other_bytes t (codes "if-let") (λ is.
+    let other : is_identifier t ≡ false = ap is_identifier is ∙ if_let_no_name in
     absurd cc)
 
 -- the word that stands behind the `(` of an expression is no keyword of a condition

@@ -3,10 +3,11 @@ use Rattle.std.proofs.Common.{◌≡◌, ℕ, ◌*◌, ◌^◌, ◌<◌, ltb, tr
 use Rattle.std.specs.Result.{result_ok}
 use Rattle.std.specs.Char.{digit_value}
 use Rattle.std.specs.Str.Parse.{AllDigits, IsNumeral, digits_value, without_leading_plus}
+use Rattle.std.proofs.lemmas.Bool.{and_parts}
 use Rattle.std.proofs.lemmas.Bool.Decides.{nat_tests}
 use Rattle.isle_parser_specs.specs.SpecWords.{are_digits, bit_vector_of, is_numeral}
 use Rattle.isle_parser_cursor.proofs.Readers.{chosen_some}
-use Rattle.isle_parser_specs.proofs.Words.Texts.{both_true, some_is}
+use Rattle.isle_parser_specs.proofs.Words.Texts.{some_is}
 
 below : (a b : ℕ) → ltb a b ≡ true → a < b
 below a b e = grind (arith, nat_tests)
@@ -17,7 +18,7 @@ is_below a b e = grind (arith, nat_tests)
 digits_are : (radix : ℕ) (ds : List ℕ) → are_digits radix ds ≡ true → AllDigits radix ds
 digits_are radix [] e = tt
 digits_are radix (d ∷ ds) e =
-    let p = both_true (ltb (digit_value d) radix) (are_digits radix ds) e in
+    let p = and_parts (ltb (digit_value d) radix) (are_digits radix ds) e in
     (below (digit_value d) radix p.0, digits_are radix ds p.1)
 
 digits_pass : (radix : ℕ) (ds : List ℕ) → AllDigits radix ds → are_digits radix ds ≡ true
@@ -53,8 +54,8 @@ bit_vector_is radix bits digits v e =
     let value = digits_value radix ds in
     let width = length digits * bits in
     let made = chosen_some (is_numeral radix ds && ltb value (2 ^ 128) && ltb width (2 ^ 64)) (value, width) v e in
-    let p = both_true (is_numeral radix ds && ltb value (2 ^ 128)) (ltb width (2 ^ 64)) made.0 in
-    let q = both_true (is_numeral radix ds) (ltb value (2 ^ 128)) p.0 in
+    let p = and_parts (is_numeral radix ds && ltb value (2 ^ 128)) (ltb width (2 ^ 64)) made.0 in
+    let q = and_parts (is_numeral radix ds) (ltb value (2 ^ 128)) p.0 in
     let is = some_is (value, width) v made.1 in
     record {
       numeral = numeral_is radix ds q.0;

@@ -2,7 +2,7 @@
 use Rattle.std.proofs.Common.{◌≡◌, ℕ, ◌+◌, ◌/◌, ◌%◌, ◌<◌, ◌≤◌, eqb, ltb, List, [], ◌∷◌, ◌++◌, Bool, true, false, not, ◌&&◌, ◌||◌, cond, None, refl, ap, sym, subst, ◌∙◌, ⊎_elim, arith}
 use Rattle.std.specs.List.{list_all}
 use Rattle.std.specs.Str.{chars}
-use Rattle.std.proofs.lemmas.Bool.{cases_lt}
+use Rattle.std.proofs.lemmas.Bool.{and_parts, cases_lt, not-true}
 use Rattle.std.proofs.lemmas.Bool.Decides.{nat_tests}
 use Rattle.std.proofs.lemmas.Str.{encodes-chars, encode_ascii}
 use Rattle.std.proofs.lemmas.List.Folds.{list_all-append}
@@ -10,7 +10,6 @@ use Rattle.std.proofs.Math.Utf8.{encode, encodes}
 use Rattle.isle_ast_names.specs.Identifier.{is_identifier, are_identifier, begins_identifier, continues_identifier, is_digit, is_letter}
 use Rattle.isle_ast_names.proofs.IdentifierBytes.{identifier_bytes, identifier_is_text}
 use Rattle.isle_parser_specs.specs.SpecWords.{before_last}
-use Rattle.isle_parser_specs.proofs.Words.Texts.{both_true, not_true}
 
 abbrev pub is_plain : ℕ → Bool
 is_plain b = not (eqb b 33) && not (eqb b 35) && not (eqb b 58) && not (eqb b 63)
@@ -55,7 +54,7 @@ encode_plain c e =
 encodes_plain : (cs : List ℕ) → list_all continues_identifier cs ≡ true → list_all is_plain (encodes cs) ≡ true
 encodes_plain [] e = refl
 encodes_plain (c ∷ cs) e =
-    let p = both_true (continues_identifier c) (list_all continues_identifier cs) e in
+    let p = and_parts (continues_identifier c) (list_all continues_identifier cs) e in
     plain_append (encode c) (encodes cs) (encode_plain c p.0) (encodes_plain cs p.1)
 
 first_of : (letter digit line dot dollar : Bool) → (letter || line || dollar) ≡ true → (letter || digit || line || dot || dollar) ≡ true
@@ -71,12 +70,12 @@ begins_continues c e = first_of (is_letter c) (is_digit c) (eqb c 95) (eqb c 46)
 identifier_continues : (cs : List ℕ) → are_identifier cs ≡ true → list_all continues_identifier cs ≡ true
 identifier_continues [] e = refl
 identifier_continues (c ∷ cs) e =
-    let p = both_true (begins_identifier c) (list_all continues_identifier cs) e in
+    let p = and_parts (begins_identifier c) (list_all continues_identifier cs) e in
     ap (λ x. x && list_all continues_identifier cs) (begins_continues c p.0) ∙ p.1
 
 identifier_chars : (text : List ℕ) → is_identifier text ≡ true → are_identifier (chars text) ≡ true
 unfolding is_identifier
-identifier_chars text e = (both_true _ (are_identifier (chars text)) e).1
+identifier_chars text e = (and_parts _ (are_identifier (chars text)) e).1
 
 pub identifier_is_plain : (text : List ℕ) → is_identifier text ≡ true → list_all is_plain text ≡ true
 identifier_is_plain text e =
@@ -108,24 +107,24 @@ pub record NoMark (b : ℕ) : Type 0 where
 
 pub no_mark : (b : ℕ) (bs : List ℕ) → list_all is_plain (b ∷ bs) ≡ true → NoMark b
 no_mark b bs e =
-    let each = both_true (is_plain b) (list_all is_plain bs) e in
-    let last = both_true (not (eqb b 33) && not (eqb b 35) && not (eqb b 58)) (not (eqb b 63)) each.0 in
-    let third = both_true (not (eqb b 33) && not (eqb b 35)) (not (eqb b 58)) last.0 in
-    let second = both_true (not (eqb b 33)) (not (eqb b 35)) third.0 in
+    let each = and_parts (is_plain b) (list_all is_plain bs) e in
+    let last = and_parts (not (eqb b 33) && not (eqb b 35) && not (eqb b 58)) (not (eqb b 63)) each.0 in
+    let third = and_parts (not (eqb b 33) && not (eqb b 35)) (not (eqb b 58)) last.0 in
+    let second = and_parts (not (eqb b 33)) (not (eqb b 35)) third.0 in
     record {
-      exclamation = not_true (eqb b 33) second.0;
-      number = not_true (eqb b 35) second.1;
-      colon = not_true (eqb b 58) third.1;
-      question = not_true (eqb b 63) last.1;
+      exclamation = not-true (eqb b 33) second.0;
+      number = not-true (eqb b 35) second.1;
+      colon = not-true (eqb b 58) third.1;
+      question = not-true (eqb b 63) last.1;
     }
 
 -- none of them is the last byte
 pub no_question_mark : (text : List ℕ) → list_all is_plain text ≡ true → before_last 63 text ≡ None
 no_question_mark [] e = refl
 no_question_mark (x ∷ []) e = rw ((no_mark x [] e).question) refl
-no_question_mark (x ∷ y ∷ text) e = rw (no_question_mark (y ∷ text) (both_true (is_plain x) (list_all is_plain (y ∷ text)) e).1) refl
+no_question_mark (x ∷ y ∷ text) e = rw (no_question_mark (y ∷ text) (and_parts (is_plain x) (list_all is_plain (y ∷ text)) e).1) refl
 
 pub no_exclamation_mark : (text : List ℕ) → list_all is_plain text ≡ true → before_last 33 text ≡ None
 no_exclamation_mark [] e = refl
 no_exclamation_mark (x ∷ []) e = rw ((no_mark x [] e).exclamation) refl
-no_exclamation_mark (x ∷ y ∷ text) e = rw (no_exclamation_mark (y ∷ text) (both_true (is_plain x) (list_all is_plain (y ∷ text)) e).1) refl
+no_exclamation_mark (x ∷ y ∷ text) e = rw (no_exclamation_mark (y ∷ text) (and_parts (is_plain x) (list_all is_plain (y ∷ text)) e).1) refl

@@ -3,6 +3,7 @@ use Rattle.std.proofs.Common.{◌≡◌, ℕ, Bool, true, false, List, [], ◌�
 use Rattle.std.specs.Prelude.{codes, filter, map}
 use Rattle.std.specs.List.{list_all, list_any}
 use Rattle.std.specs.Str.{bytes_eq}
+use Rattle.std.proofs.lemmas.Bool.{and_parts}
 use Rattle.std.proofs.lemmas.Slice.Eq.{bytes_eq-Decides}
 use Rattle.isle_ast_specs.specs.declared.ast.specs.SpecOp.{SpecOp}
 use Rattle.isle_ast_specs.specs.Operators.{is_operator_text, operator_text, operators}
@@ -10,7 +11,7 @@ use Rattle.isle_ast_specs.specs.SpecGrammar.{is_plain_operator}
 use Rattle.isle_parser_specs.specs.SpecWords.{in_table, named_row, discriminator_or_other, expansion_or_other, head_of, keyword_head, operator_head, operator_of, operator_or_name, other_head}
 use Rattle.isle_parser_cursor.proofs.SameBytes.{other_bytes}
 use Rattle.isle_parser_cursor.proofs.Readers.{chosen}
-use Rattle.isle_parser_specs.proofs.Words.Texts.{both_true, some_is}
+use Rattle.isle_parser_specs.proofs.Words.Texts.{some_is}
 use Rattle.isle_ast_specs.specs.declared.ast.specs.SpecOp.TheVariants as op
 
 -- a plain operator and its text
@@ -20,7 +21,7 @@ IsNamed text o = (is_plain_operator o ≡ true) × (text ≡ operator_text o)
 named_is : (os : List SpecOp) (text : List ℕ) (o : SpecOp) → list_all is_plain_operator os ≡ true → in_table (map named_row os) text ≡ Some o → IsNamed text o
 named_is [] text o plain e = absurd cc
 named_is (p ∷ os) text o plain e =
-    let each = both_true (is_plain_operator p) (list_all is_plain_operator os) plain in
+    let each = and_parts (is_plain_operator p) (list_all is_plain_operator os) plain in
     ⊎_elim
     (λ found. subst (λ (q : SpecOp). IsNamed text q) (some_is p o found.1) (each.0, (bytes_eq-Decides text (operator_text p)).0 found.0))
     (λ later. named_is os text o each.1 later.1)

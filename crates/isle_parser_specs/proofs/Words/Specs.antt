@@ -3,6 +3,7 @@ use Rattle.std.proofs.Common.{◌≡◌, ℕ, ◌*◌, ◌^◌, ◌<◌, Bool, t
 use Rattle.std.specs.Prelude.{codes}
 use Rattle.std.specs.List.{list_all}
 use Rattle.std.specs.Str.{bytes_eq}
+use Rattle.std.proofs.lemmas.Bool.{or_parts}
 use Rattle.std.proofs.lemmas.Slice.Eq.{bytes_eq-Decides}
 use Rattle.isle_base.specs.declared.lexer.Pos.{Pos}
 use Rattle.isle_base.specs.Place.{Placed}
@@ -274,10 +275,6 @@ unfolding word_of binary_or_other hexadecimal_or_plain plain_word
 bool_word_is place true = refl
 bool_word_is place false = refl
 
-either_false : (a b : Bool) → (a || b) ≡ false → (a ≡ false) × (b ≡ false)
-either_false true b e = absurd cc
-either_false false b e = (refl, e)
-
 -- an identifier does not begin a bit vector
 no_bits : (kind : ℕ) (text : List ℕ) → PlainText text → behind_mark (35 ∷ kind ∷ []) text ≡ None
 no_bits kind text p =
@@ -288,5 +285,5 @@ pub variable_word : (place : Pos) (text : List ℕ) → is_identifier text ≡ t
 unfolding word_of binary_or_other hexadecimal_or_plain plain_word
 variable_word place text e other =
     let p = identifier_text text e in
-    let words = either_false (bytes_eq text (codes "true")) (bytes_eq text (codes "false")) other in
+    let words = or_parts (bytes_eq text (codes "true")) (bytes_eq text (codes "false")) other in
     rw (no_bits 98 text p, no_bits 120 text p, words.0, words.1, e) refl

@@ -3,23 +3,11 @@ use Rattle.std.proofs.Common.{◌≡◌, ◌≢◌, ℕ, suc, ◌<◌, eqb, Bool
 use Rattle.std.specs.Prelude.{option_map}
 use Rattle.std.specs.List.{list_all}
 use Rattle.std.specs.Option.{option_or}
-use Rattle.std.proofs.lemmas.Bool.{eqb-true, eq-eqb}
+use Rattle.std.proofs.lemmas.Bool.{and_parts, eqb-true, eq-eqb, ne_eqb, not-true}
 use Rattle.isle_parser_specs.specs.SpecWords.{around, before_last, behind_mark}
-use Rattle.isle_parser_cursor.proofs.SameBytes.{is_false}
 
 pub same_byte : (b : ℕ) → eqb b b ≡ true
 same_byte b = eq-eqb b b refl
-
-pub other_byte : (a b : ℕ) → (a ≡ b → ⊥) → eqb a b ≡ false
-other_byte a b h = is_false (eqb a b) (λ e. h (eqb-true a b e))
-
-pub both_true : (a b : Bool) → (a && b) ≡ true → (a ≡ true) × (b ≡ true)
-both_true true b e = (refl, e)
-both_true false b e = cc
-
-pub not_true : (b : Bool) → not b ≡ true → b ≡ false
-not_true true e = absurd cc
-not_true false e = refl
 
 pub some_is : {A : Type 0} (x y : A) → Some x ≡ Some y → x ≡ y
 some_is x y e = cc
@@ -103,8 +91,8 @@ is_other byte b = not (eqb b byte)
 pub around_made : (byte : ℕ) (front rest : List ℕ) → list_all (is_other byte) front ≡ true → around byte (front ++ byte ∷ rest) ≡ Some (front, rest)
 around_made byte [] rest e = rw (same_byte byte) refl
 around_made byte (x ∷ front) rest e =
-    let p = both_true (is_other byte x) (list_all (is_other byte) front) e in
-    let other : eqb x byte ≡ false = not_true (eqb x byte) p.0 in
+    let p = and_parts (is_other byte x) (list_all (is_other byte) front) e in
+    let other : eqb x byte ≡ false = not-true (eqb x byte) p.0 in
     rw (other, around_made byte front rest p.1) refl
 
 abbrev IsAround : ℕ → List ℕ → List ℕ × List ℕ → Type 0
@@ -129,14 +117,14 @@ around_is byte (x ∷ text) parts e = around_first byte x text parts (eqb x byte
 each_other : (byte : ℕ) (front : List ℕ) → ((i : ℕ) → i < length front → get_or front i 0 ≢ byte) → list_all (is_other byte) front ≡ true
 each_other byte [] h = refl
 each_other byte (x ∷ front) h =
-    let other : eqb x byte ≡ false = other_byte x byte (h 0 (omega arith)) in
+    let other : eqb x byte ≡ false = ne_eqb x byte (h 0 (omega arith)) in
     rw (other, each_other byte front (λ i l. h (suc i) (omega (arith, l)))) refl
 
 -- no such byte is there
 around_none : (byte : ℕ) (text : List ℕ) → ((i : ℕ) → i < length text → get_or text i 0 ≢ byte) → around byte text ≡ None
 around_none byte [] h = refl
 around_none byte (x ∷ text) h =
-    let other : eqb x byte ≡ false = other_byte x byte (h 0 (omega arith)) in
+    let other : eqb x byte ≡ false = ne_eqb x byte (h 0 (omega arith)) in
     rw (other, around_none byte text (λ i l. h (suc i) (omega (arith, l)))) refl
 
 -- what `split_once` gives
