@@ -11,7 +11,7 @@ ghost use Rattle.isle_base.specs.Steps.{Rises, is_failed};
 ghost use Rattle.isle_base.specs.declared.lexer.Fault.TheVariants.{Failed};
 ghost use Rattle.isle_parser.specs.Parsed.{Parses, RefusesText};
 ghost use Rattle.isle_parser.specs.Positions.{HasKnownPositions, HasPositions};
-ghost use Rattle.isle_parser_cursor.specs.Outcomes.{place};
+ghost use Rattle.isle_parser_cursor.specs.Outcomes.{placing};
 
 mod definitions;
 mod forms;
@@ -140,7 +140,7 @@ impl<'src> Parser<'src> {
 
     /// Everything that the lexer has still to give.
     fn parse_all(&mut self, alloc: Global) -> Result<Vec<Def>, Fault>
-        ensures parses { Parses (place self.old.cursor.disable_pos self.old.cursor.lexer.file)
+        ensures parses { Parses (placing self.old.cursor.disable_pos self.old.cursor.lexer.file)
             self.old.cursor.lexer result }
         ensures rising { Rises 0 self.old.cursor.lexer.coming }
     {

@@ -10,13 +10,13 @@ use Rattle.isle_base.specs.declared.error.Error.{Error}
 use Rattle.isle_parser_cursor.specs.declared.cursor.Stop.TheVariants as stops
 
 -- the position of an offset: the unknown place, where positions are not kept
-abbrev pub place : Bool → ℕ → ℕ → Pos
-place true file = nowhere
-place false file = in_file file
+abbrev pub placing : Bool → ℕ → ℕ → Pos
+placing true file = nowhere
+placing false file = in_file file
 
 -- the tokens to come, each at its position
 abbrev pub tokens : Cursor → List Placed
-tokens p = placed (place p.disable_pos p.lexer.file) p.lexer.coming
+tokens p = placed (placing p.disable_pos p.lexer.file) p.lexer.coming
 
 -- what no call changes
 pub record Source : Type 0 where

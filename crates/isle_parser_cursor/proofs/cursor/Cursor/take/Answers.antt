@@ -1,5 +1,5 @@
 use Rattle.std.proofs.Common.{Ok, Err, ap}
-use Rattle.isle_parser_cursor.specs.Outcomes.{place, source}
+use Rattle.isle_parser_cursor.specs.Outcomes.{placing, source}
 use Rattle.isle_parser_cursor.proofs.Ahead.{end_taken, fault_taken, refused_within}
 use Rattle.isle_parser_cursor.proofs.cursor.Cursor.take.Goals as goal
 
@@ -11,10 +11,10 @@ pub returns-in-Ok-None-clause-gives : goal.returns-in-Ok-None-clause-gives
 returns-in-Ok-None-clause-gives c =
     let old = c.args.self.now in
     let gives = c.in-Ok-None.ensures.end (ap Ok c.in-Ok-None.field-0-is) in
-    rw gives.1 (end_taken (place old.disable_pos old.lexer.file) old.lexer (source old) c.place-place.result c.refuse.result gives.0 c.place-place.ensures.place c.refuse.ensures)
+    rw gives.1 (end_taken (placing old.disable_pos old.lexer.file) old.lexer (source old) c.place-place.result c.refuse.result gives.0 c.place-place.ensures.place c.refuse.ensures)
 
 pub returns-in-Err-Failed-clause-gives : goal.returns-in-Err-Failed-clause-gives
 returns-in-Err-Failed-clause-gives c =
     let old = c.args.self.now in
     let gives = c.in-Err-Failed.ensures.failed (ap Err c.in-Err-Failed.field-0-is) in
-    rw gives.1 (fault_taken (place old.disable_pos old.lexer.file) old.lexer (source old) c.place-place.result c.refuse-in-Err-Failed.result gives.0 c.place-place.ensures.place c.refuse-in-Err-Failed.ensures)
+    rw gives.1 (fault_taken (placing old.disable_pos old.lexer.file) old.lexer (source old) c.place-place.result c.refuse-in-Err-Failed.result gives.0 c.place-place.ensures.place c.refuse-in-Err-Failed.ensures)
