@@ -1,7 +1,7 @@
 -- An integer in decimal reads back as that integer.
-use Rattle.std.proofs.Common.{◌≡◌, ◌==◌, ℕ, ℤ, pos, negsuc, ◌-ℤ◌, codes, suc, ◌+◌, ◌*◌, ◌/◌, ◌%◌, ◌^◌, ◌<◌, ◌≤◌, List, [], ◌∷◌, ◌++◌, length, map, drop, Bool, true, false, ◌&&◌, not, cond, ltb, Option, Some, None, is_some, unwrap_or, refl, sym, ap, ◌∙◌, subst, arith}
+use Rattle.std.proofs.Common.{◌≡◌, ◌==◌, ℕ, ℤ, pos, negsuc, ◌-ℤ◌, codes, suc, ◌+◌, ◌*◌, ◌/◌, ◌%◌, ◌^◌, ◌<◌, ◌≤◌, List, [], ◌∷◌, ◌++◌, length, map, drop, Bool, true, false, not, cond, ltb, Option, Some, None, is_some, unwrap_or, refl, sym, ap, ◌∙◌, subst, arith}
 use Rattle.std.proofs.Math.Nat.{pow-suc, pow-zero}
-use Rattle.std.proofs.lemmas.Bool.{false≢true}
+use Rattle.std.proofs.lemmas.Bool.{false≢true, and_parts, and_from}
 use Rattle.std.proofs.lemmas.Bool.Decides.{nat_tests}
 use Rattle.std.proofs.lemmas.Fmt.{decimal_by_steps_wide}
 use Rattle.std.proofs.lemmas.Int.{ints}
@@ -81,13 +81,10 @@ pub begins_with-append : (kind : ℕ → Bool) (xs ys : List ℕ) → begins_wit
 begins_with-append kind [] ys h = absurd (false≢true h)
 begins_with-append kind (x ∷ xs) ys h = h
 
-both : (a b : Bool) → a ≡ true → b ≡ true → (a && b) ≡ true
-both a b p q = ap (λ x. x && b) p ∙ q
-
 IsDigits-one : (n : ℕ) → n < 10 → IsDigits n ((48 + n) ∷ [])
 IsDigits-one n h = record {
   begins = digit_of n h;
-  each = both _ true (digit_of n h) refl;
+  each = and_from _ true (digit_of n h) refl;
   value = number_of-push 10 [] (digit_value (48 + n)) ∙ ap (λ d. 0 * 10 + d) (value_of_digit n h) ∙ omega arith;
 }
 
@@ -96,7 +93,7 @@ IsDigits-more n ds h is =
     let small : n % 10 < 10 = omega arith in
     record {
       begins = begins_with-append is_ascii_digit ds ((48 + n % 10) ∷ []) is.begins;
-      each = list_all-append is_ascii_digit ds ((48 + n % 10) ∷ []) ∙ both _ _ is.each (both _ true (digit_of (n % 10) small) refl);
+      each = list_all-append is_ascii_digit ds ((48 + n % 10) ∷ []) ∙ and_from _ _ is.each (and_from _ true (digit_of (n % 10) small) refl);
       value =
           ap (number_of 10) (map-append digit_value ds ((48 + n % 10) ∷ []))
           ∙ number_of-push 10 (map digit_value ds) (digit_value (48 + n % 10))
@@ -108,16 +105,12 @@ IsDigits-more n ds h is =
 decimal-IsDigits : (n : ℕ) → n < 10 ^ 64 → IsDigits n (decimal n)
 decimal-IsDigits = decimal_by_steps_wide IsDigits IsDigits-one IsDigits-more
 
-both_true : (a b : Bool) → (a && b) ≡ true → (a ≡ true) × (b ≡ true)
-both_true true b e = (refl, e)
-both_true false b e = absurd (false≢true e)
-
 -- each digit is a byte of a literal, none is `_`, and each is one of the radix
 each_in_literal : (text : List ℕ) → list_all is_ascii_digit text ≡ true → list_all in_literal text ≡ true
 each_in_literal [] h = refl
 each_in_literal (b ∷ bs) h =
-    let p = both_true _ _ h in
-    both _ _ (digit_byte b p.0).in_literal (each_in_literal bs p.1)
+    let p = and_parts _ _ h in
+    and_from _ _ (digit_byte b p.0).in_literal (each_in_literal bs p.1)
 
 abbrev counts : ℕ → Bool
 counts b = not (b == 95)
@@ -125,15 +118,15 @@ counts b = not (b == 95)
 all_count : (text : List ℕ) → list_all is_ascii_digit text ≡ true → filter counts text ≡ text
 all_count [] h = refl
 all_count (b ∷ bs) h =
-    let p = both_true _ _ h in
+    let p = and_parts _ _ h in
     ap (λ t. cond (not t) (b ∷ filter counts bs) (filter counts bs)) (digit_byte b p.0).no_underscore
     ∙ ap (λ ds. b ∷ ds) (all_count bs p.1)
 
 each_small : (text : List ℕ) → list_all is_ascii_digit text ≡ true → list_all (λ e. ltb e 10) (map digit_value text) ≡ true
 each_small [] h = refl
 each_small (b ∷ bs) h =
-    let p = both_true _ _ h in
-    both _ _ (digit_byte b p.0).small (each_small bs p.1)
+    let p = and_parts _ _ h in
+    and_from _ _ (digit_byte b p.0).small (each_small bs p.1)
 
 are_digits-text : (text : List ℕ) → begins_with is_ascii_digit text ≡ true → list_all is_ascii_digit text ≡ true → are_digits 10 (map digit_value text) ≡ true
 are_digits-text [] begins h = absurd (false≢true begins)
@@ -155,7 +148,7 @@ no_prefix [] rest begins h apart = absurd (false≢true begins)
 no_prefix (b ∷ []) [] begins h apart = refl
 no_prefix (b ∷ []) (c ∷ behind) begins h apart = no_prefix_here b c behind (no_radix c apart)
 no_prefix (b ∷ c ∷ more) rest begins h apart =
-    no_prefix_here b c (more ++ rest) (digit_byte c (both_true _ _ (both_true _ _ h).1).0).no_radix
+    no_prefix_here b c (more ++ rest) (digit_byte c (and_parts _ _ (and_parts _ _ h).1).0).no_radix
 
 stops_literal : (rest : List ℕ) → Separated rest → begins_with in_literal rest ≡ false
 stops_literal [] apart = refl

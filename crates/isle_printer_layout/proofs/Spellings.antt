@@ -1,6 +1,6 @@
 -- Parts of a shape, and what they spell: before any tokens there are some of which the items are
 -- the text, and which spell the part.
-use Rattle.std.proofs.Common.{ℤ, List, ◌∷◌, Bool, true, false, refl, ◌≡◌, ◌≢◌, ℕ, [], ◌++◌, map, ◌&&◌, sym, ap, ◌∙◌, subst}
+use Rattle.std.proofs.Common.{ℤ, List, ◌∷◌, Bool, true, false, refl, ◌≡◌, ◌≢◌, ℕ, [], ◌++◌, map, sym, ap, subst}
 use Rattle.std.proofs.lemmas.List.{append_assoc}
 use Rattle.std.proofs.lemmas.Slice.Eq.{bytes_eq-Decides}
 use Rattle.std.specs.Str.{bytes_eq}
@@ -144,10 +144,6 @@ spell-turn second first = record {
   tokens = first.tokens then second.tokens;
   spells = (unplaced second.all, first.spells, second.spells);
 }
-
--- both tests hold
-pub all_true : (a b : Bool) → a ≡ true → b ≡ true → (a && b) ≡ true
-all_true a b p q = ap (λ x. x && b) p ∙ q
 
 -- a text that isn't this word, as a test
 pub differs-test : (text word : List ℕ) (b : Bool) → bytes_eq text word ≡ b → text ≢ word → b ≡ false

@@ -1,5 +1,6 @@
 -- The text of a writable bit vector is one symbol, and a bit vector of this value and width.
 use Rattle.std.proofs.Common.{◌≡◌, ℕ, ◌+◌, ◌-◌, ◌*◌, ◌/◌, ◌%◌, ◌^◌, ◌<◌, ◌≤◌, ◌==◌, List, [], ◌∷◌, ◌++◌, length, map, drop, zero, suc, replicate, Bool, true, false, cond, codes, inl, inr, refl, sym, ap, ◌∙◌, subst, arith}
+use Rattle.std.proofs.lemmas.Bool.{and_from}
 use Rattle.std.proofs.lemmas.Bool.Decides.{nat_tests}
 use Rattle.std.proofs.lemmas.Int.Digits.{digits_of_step, length-digits_of-le, all_below_base_digits_of, number_digits_of}
 use Rattle.std.proofs.lemmas.List.{length-append, length-map, length-replicate}
@@ -18,7 +19,6 @@ use Rattle.isle_ast_specs.specs.Writable.{IsWritableBitVector}
 use Rattle.isle_printer_layout.specs.ReadBack.{ReadsAs}
 use Rattle.isle_printer_specs.specs.SpecShapes.{radix_text, zero_padded, bit_vector_text}
 use Rattle.isle_printer_layout.proofs.ReadBackLaw.{ReadsAs-symbol}
-use Rattle.isle_printer_layout.proofs.Spellings.{all_true}
 
 -- a digit below 16, as a byte
 digit_in_symbol : (d : ℕ) → d < 16 → in_symbol (digit_char d) ≡ true
@@ -41,7 +41,7 @@ digits-in_symbol : (radix : ℕ) (ds : List ℕ) → radix ≤ 16 → AllBelowBa
 digits-in_symbol radix [] fits below = refl
 digits-in_symbol radix (d ∷ ds) fits below =
     let small : d < 16 = omega (arith, below.0) in
-    all_true _ _ (digit_in_symbol d small) (digits-in_symbol radix ds fits below.1)
+    and_from _ _ (digit_in_symbol d small) (digits-in_symbol radix ds fits below.1)
 
 digits-value : (radix n : ℕ) (ds : List ℕ) → radix ≤ 16 → AllBelowBase radix ds → digits_value_after radix n (map digit_char ds) ≡ number_from_digits_after radix n ds
 digits-value radix n [] fits below = refl
@@ -163,7 +163,7 @@ hexadecimal_power n =
 
 marked-ReadsAs : (letter : ℕ) (digits : List ℕ) → in_symbol letter ≡ true → list_all in_symbol digits ≡ true → ReadsAs (35 ∷ letter ∷ digits) (symbol (35 ∷ letter ∷ digits))
 unfolding in_symbol begins_symbol is_blank begins_literal
-marked-ReadsAs letter digits is each = ReadsAs-symbol (35 ∷ letter ∷ digits) refl (all_true _ _ is each)
+marked-ReadsAs letter digits is each = ReadsAs-symbol (35 ∷ letter ∷ digits) refl (and_from _ _ is each)
 
 letter_b : in_symbol 98 ≡ true
 unfolding in_symbol is_blank

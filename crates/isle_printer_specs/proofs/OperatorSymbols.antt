@@ -1,5 +1,6 @@
 -- The texts of operators, and names with a mark, are symbols.
 use Rattle.std.proofs.Common.{◌≡◌, ◌≢◌, ℕ, List, [], ◌∷◌, ◌++◌, true, refl, ◌∙◌}
+use Rattle.std.proofs.lemmas.Bool.{and_from}
 use Rattle.std.proofs.lemmas.List.Folds.{list_all-append}
 use Rattle.std.specs.List.{list_all}
 use Rattle.isle_base.specs.Literals.{begins_literal}
@@ -16,7 +17,6 @@ use Rattle.isle_ast_names.specs.Writable.{IsName}
 use Rattle.isle_printer_layout.specs.ReadBack.{ReadsAs}
 use Rattle.isle_printer_layout.proofs.NumberAtoms.{begins_with-append}
 use Rattle.isle_printer_layout.proofs.ReadBackLaw.{ReadsAs-symbol}
-use Rattle.isle_printer_layout.proofs.Spellings.{all_true}
 use Rattle.isle_ast_specs.specs.declared.ast.specs.SpecOp.TheVariants as op
 
 -- The text of each operator but `-` reads as a symbol.
@@ -39,7 +39,7 @@ identifier_behind-ReadsAs : (text behind : List ℕ) → is_identifier text ≡ 
 identifier_behind-ReadsAs text behind is each =
     ReadsAs-symbol (text ++ behind)
     (begins_with-append begins_symbol text behind (identifier_begins_symbol text is))
-    (list_all-append in_symbol text behind ∙ all_true _ _ (identifier_in_symbol text is) each)
+    (list_all-append in_symbol text behind ∙ and_from _ _ (identifier_in_symbol text is) each)
 
 question_mark : list_all in_symbol (63 ∷ []) ≡ true
 unfolding in_symbol is_blank
@@ -62,7 +62,7 @@ unfolding in_symbol is_blank
 colon = refl
 
 pub field-ReadsAs : (n : Name) → IsName n → ReadsAs (field_mark n.text) (symbol (field_mark n.text))
-field-ReadsAs n is = ReadsAs-symbol (field_mark n.text) colon_begins (all_true _ _ colon (identifier_in_symbol n.text is))
+field-ReadsAs n is = ReadsAs-symbol (field_mark n.text) colon_begins (and_from _ _ colon (identifier_in_symbol n.text is))
 
 pub discriminator-ReadsAs : (n : Name) → IsName n → ReadsAs (discriminator_mark n.text) (symbol (discriminator_mark n.text))
 discriminator-ReadsAs n is = identifier_behind-ReadsAs n.text (63 ∷ []) is question_mark
@@ -72,4 +72,4 @@ expansion-ReadsAs n is = identifier_behind-ReadsAs n.text (33 ∷ []) is exclama
 
 pub dotted-ReadsAs : (enum case : Name) → IsName enum → IsName case → ReadsAs (dotted enum case) (symbol (dotted enum case))
 dotted-ReadsAs enum case is so =
-    identifier_behind-ReadsAs enum.text (46 ∷ case.text) is (all_true _ _ dot (identifier_in_symbol case.text so))
+    identifier_behind-ReadsAs enum.text (46 ∷ case.text) is (and_from _ _ dot (identifier_in_symbol case.text so))

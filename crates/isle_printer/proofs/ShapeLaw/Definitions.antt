@@ -28,7 +28,7 @@ use Rattle.isle_printer_specs.proofs.ShapeLaw.Models.{spell-model}
 use Rattle.isle_printer_specs.proofs.ShapeLaw.SpecDefinitions.{spell-spec_definition, spell-spec_macro, spell-state}
 use Rattle.isle_printer_specs.proofs.ShapeLaw.Specs.{spell-spec}
 use Rattle.isle_printer_rules.proofs.ShapeLaw.Rules.{spell-rule, spell-extractor_definition}
-use Rattle.isle_printer_layout.proofs.Spellings.{ItemTokens, ◌then◌, IsAhead, item-ahead, items-ahead, Spelling, spell-nothing, spell-word, spell-flag, spell-name, spell-all, spell-names, spell-row, spell-behind, spell-form, InTurn, spell-turn, all_true, differs-test, regrouped, spell-constant}
+use Rattle.isle_printer_layout.proofs.Spellings.{ItemTokens, ◌then◌, IsAhead, item-ahead, items-ahead, Spelling, spell-nothing, spell-word, spell-flag, spell-name, spell-all, spell-names, spell-row, spell-behind, spell-form, InTurn, spell-turn, differs-test, regrouped, spell-constant}
 use Rattle.isle_printer_layout.proofs.WordSymbols.{word-decl, word-convert, word-pure, word-multi, word-partial, word-rec, word-type, word-extern, word-nodebug, word-primitive, word-enum, word-struct, word-attr, word-rule, word-veri, word-chain, word-priority, word-tag, word-model, word-form, word-instantiate, word-args, word-ret, word-extractor, word-infallible, word-constructor, word-const}
 
 spell-named_field : (f : NamedField) → IsWritableNamedField f → (rest : List Tok) → Spelling (named_field_shape f ∷ []) (SpellsNamedField (erase_named_field f)) rest

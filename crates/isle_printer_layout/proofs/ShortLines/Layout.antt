@@ -3,7 +3,7 @@
 use Rattle.std.proofs.Common.{◌≡◌, ◌==◌, ℕ, zero, suc, ◌+◌, ◌*◌, ◌≤◌, List, [], ◌∷◌, ◌++◌, length, replicate, codes, Bool, true, false, ◌&&◌, ◌||◌, not, cond, Some, None, refl, sym, ap, ◌∙◌, subst, arith}
 use Rattle.std.proofs.lemmas.List.{append_assoc, length-append, length-replicate}
 use Rattle.std.proofs.lemmas.List.Folds.{list_all-append}
-use Rattle.std.proofs.lemmas.Bool.{false≢true}
+use Rattle.std.proofs.lemmas.Bool.{false≢true, and_parts, and_from}
 use Rattle.std.specs.List.{list_all}
 use Rattle.isle_ast_names.specs.Writable.{Each}
 use Rattle.isle_printer_layout.specs.Choices.{Choice, Choices, render, render_behind, FitsAt, FitsBehind}
@@ -31,29 +31,22 @@ stays b = not (b == 10)
 abbrev is_closing : ℕ → Bool
 is_closing b = not (b == 40)
 
-both : (a b : Bool) → a ≡ true → b ≡ true → (a && b) ≡ true
-both a b p q = ap (λ x. x && b) p ∙ q
-
-both_true : (a b : Bool) → (a && b) ≡ true → (a ≡ true) × (b ≡ true)
-both_true true b e = (refl, e)
-both_true false b e = absurd (false≢true e)
-
 pub all_weaker : (p q : ℕ → Bool) → ((b : ℕ) → p b ≡ true → q b ≡ true) → (text : List ℕ) → list_all p text ≡ true → list_all q text ≡ true
 all_weaker p q weaker [] h = refl
 all_weaker p q weaker (b ∷ bs) h =
-    let hs = both_true _ _ h in
-    both _ _ (weaker b hs.0) (all_weaker p q weaker bs hs.1)
+    let hs = and_parts _ _ h in
+    and_from _ _ (weaker b hs.0) (all_weaker p q weaker bs hs.1)
 
 pub all_append : (p : ℕ → Bool) (xs ys : List ℕ) → list_all p xs ≡ true → list_all p ys ≡ true → list_all p (xs ++ ys) ≡ true
-all_append p xs ys h k = list_all-append p xs ys ∙ both _ _ h k
+all_append p xs ys h k = list_all-append p xs ys ∙ and_from _ _ h k
 
 all_replicate : (p : ℕ → Bool) (n b : ℕ) → p b ≡ true → list_all p (replicate n b) ≡ true
 all_replicate p zero b h = refl
-all_replicate p (suc n) b h = both _ _ h (all_replicate p n b h)
+all_replicate p (suc n) b h = and_from _ _ h (all_replicate p n b h)
 
 all_at : (p : ℕ → Bool) (before : List ℕ) (b : ℕ) (behind : List ℕ) → list_all p (before ++ b ∷ behind) ≡ true → p b ≡ true
-all_at p [] b behind h = (both_true _ _ h).0
-all_at p (x ∷ xs) b behind h = all_at p xs b behind (both_true _ _ h).1
+all_at p [] b behind h = (and_parts _ _ h).0
+all_at p (x ∷ xs) b behind h = all_at p xs b behind (and_parts _ _ h).1
 
 -- the tests, over plain truth values
 plain_opens : (lf left right : Bool) → not (lf || left || right) ≡ true → not (lf || right) ≡ true
@@ -80,7 +73,7 @@ opening-stays = all_weaker is_opening stays (λ b h. opening_stays (b == 10) (b 
 first_line : (line rest : List ℕ) → list_all stays line ≡ true → text_lines (line ++ 10 ∷ rest) ≡ line ∷ text_lines rest
 first_line [] rest h = refl
 first_line (b ∷ bs) rest h =
-    let hs = both_true _ _ h in
+    let hs = and_parts _ _ h in
     ap (λ t. cond t ([] ∷ text_lines (bs ++ 10 ∷ rest)) (before_first b (text_lines (bs ++ 10 ∷ rest)))) (is_false _ hs.0)
     ∙ ap (before_first b) (first_line bs rest hs.1)
 

@@ -1,5 +1,6 @@
 -- The tokens of the shape of a writable pattern, expression, rule or extractor spell it, erased.
 use Rattle.std.proofs.Common.{[], ◌≡◌, ◌≢◌, ℕ, ℤ, List, ◌∷◌, ◌++◌, codes, true, false, ◌||◌, not, Option, None, Some, IfSome, inl, refl, ap, ◌∙◌, ne_eqb}
+use Rattle.std.proofs.lemmas.Bool.{and_from}
 use Rattle.std.specs.Str.{bytes_eq}
 use Rattle.isle_base.specs.Place.{Placed, unknown}
 use Rattle.isle_base.specs.Token.{Tok, rparen, symbol, integer, at_sign}
@@ -21,7 +22,7 @@ use Rattle.isle_printer_rules.specs.RuleShapes.{pattern_shape, pattern_shapes, e
 use Rattle.isle_printer_layout.specs.Sexp.{Sexp, atom, binding, row_of}
 use Rattle.isle_printer_layout.specs.NameShapes.{name_shape, name_shapes}
 use Rattle.isle_printer_layout.proofs.NumberAtoms.{signed_decimal-ReadsAs}
-use Rattle.isle_printer_layout.proofs.Spellings.{◌then◌, item-ahead, items-ahead, Spelling, placed, spell-nothing, spell-word, spell-name, spell-all, spell-names, spell-row, spell-form, InTurn, spell-turn, all_true, differs-test, spell-constant, word-bool, spell-integer}
+use Rattle.isle_printer_layout.proofs.Spellings.{◌then◌, item-ahead, items-ahead, Spelling, placed, spell-nothing, spell-word, spell-name, spell-all, spell-names, spell-row, spell-form, InTurn, spell-turn, differs-test, spell-constant, word-bool, spell-integer}
 use Rattle.isle_printer_layout.proofs.WordSymbols.{word-and, word-let, word-if_let, word-underscore, word-rule, word-extractor}
 
 -- the tests on a variable
@@ -43,13 +44,13 @@ no_bool_word text not_true not_false =
 
 variable-test : (n : Name) → IsPatternVariable n → is_variable_of_patterns n.text ≡ true
 variable-test n is =
-    all_true _ _
-    (all_true _ _ (all_true _ _ is.name (ap not (no_dollar n is.not_constant))) (differs n.text (codes "_") is.not_wildcard))
+    and_from _ _
+    (and_from _ _ (and_from _ _ is.name (ap not (no_dollar n is.not_constant))) (differs n.text (codes "_") is.not_wildcard))
     (no_bool_word n.text is.not_true is.not_false)
 
 expression_variable-test : (n : Name) → IsExpressionVariable n → is_variable_of_expressions n.text ≡ true
 expression_variable-test n is =
-    all_true _ _ (all_true _ _ is.name (ap not (no_dollar n is.not_constant))) (no_bool_word n.text is.not_true is.not_false)
+    and_from _ _ (and_from _ _ is.name (ap not (no_dollar n is.not_constant))) (no_bool_word n.text is.not_true is.not_false)
 
 -- patterns
 

@@ -1,5 +1,6 @@
 -- The tokens of the shape of a writable spec expression spell it, erased.
 use Rattle.std.proofs.Common.{◌≡◌, ◌≢◌, ℕ, List, [], ◌∷◌, ◌++◌, codes, true, false, ◌||◌, not, ◌⊎◌, inl, inr, refl, ap, ◌∙◌, ne_eqb}
+use Rattle.std.proofs.lemmas.Bool.{and_from}
 use Rattle.std.specs.List.{list_all}
 use Rattle.std.specs.Str.{bytes_eq}
 use Rattle.isle_base.specs.Place.{Placed, unknown}
@@ -21,7 +22,7 @@ use Rattle.isle_printer_specs.specs.SpecShapes.{bit_vector_text, spec_shape, spe
 use Rattle.isle_printer_specs.proofs.BitVectorAtoms.{bit_vector_text-atom}
 use Rattle.isle_printer_specs.proofs.ShapeLaw.Models.{spell-model}
 use Rattle.isle_printer_specs.proofs.OperatorSymbols.{operator-ReadsAs, field-ReadsAs, discriminator-ReadsAs, expansion-ReadsAs, dotted-ReadsAs}
-use Rattle.isle_printer_layout.proofs.Spellings.{word-bool, spell-integer, ◌then◌, item-ahead, Spelling, placed, spell-nothing, spell-word, spell-name, spell-names, spell-row, spell-form, InTurn, spell-turn, all_true, differs-test}
+use Rattle.isle_printer_layout.proofs.Spellings.{word-bool, spell-integer, ◌then◌, item-ahead, Spelling, placed, spell-nothing, spell-word, spell-name, spell-names, spell-row, spell-form, InTurn, spell-turn, differs-test}
 use Rattle.isle_printer_layout.proofs.WordSymbols.{word-as, word-match, word-let, word-with, word-macro, word-struct}
 use Rattle.isle_ast_specs.specs.declared.ast.specs.SpecOp.TheVariants as op
 
@@ -88,7 +89,7 @@ spell-form_turn word reads {x} {xs} {ys} {First} {Second} {rest} second first =
 no_dot-test : (text : List ℕ) → ((before behind : List ℕ) → text ≢ before ++ 46 ∷ behind) → list_all (λ byte. not (is_dot byte)) text ≡ true
 no_dot-test [] other = refl
 no_dot-test (b ∷ bs) other =
-    all_true _ _
+    and_from _ _
     (ap not (ne_eqb b 46 (λ e. other [] bs (ap (λ x. x ∷ bs) e))))
     (no_dot-test bs (λ before behind e. other (b ∷ before) behind (ap (λ text. b ∷ text) e)))
 
