@@ -12,7 +12,7 @@ use super::patterns::pattern;
 use isle_ast_names::ast::Ident;
 use isle_ast_rules::ast::{Extractor, IfLet, Rule};
 use isle_printer_layout::printer::SExpr;
-use isle_printer_layout::printer::names::{begun, list, push_name, push_names};
+use isle_printer_layout::printer::names::{begun, headed_names, list, push_name};
 use std::alloc::{AllocError, Global};
 
 /// The S-expression of a condition: `if-let` also where it was spelt `if`.
@@ -83,11 +83,8 @@ fn push_conditions(
 pub fn extractor(alloc: Global, extractor: &Extractor) -> Result<SExpr, AllocError>
     ensures { IfOk result (λ s. sexp_of s ≡ extractor_shape (extractor_of extractor.now)) }
 {
-    let mut head = Vec::new(alloc);
-    push_name(&mut head, alloc, &extractor.term)?;
-    push_names(&mut head, alloc, &extractor.args)?;
     let mut items = begun(alloc, "extractor")?;
-    items.push(list(head))?;
+    items.push(headed_names(alloc, &extractor.term, &extractor.args)?)?;
     items.push(pattern(&extractor.template, alloc)?)?;
     Ok(list(items))
 }

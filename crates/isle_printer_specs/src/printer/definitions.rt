@@ -6,13 +6,13 @@ ghost use Rattle.isle_ast_specs.specs.TreeView.{specs_of, state_of};
 ghost use Rattle.isle_printer_layout.specs.SexpView.{sexp_of, sexps_of};
 ghost use Rattle.isle_printer_specs.specs.SpecShapes.{clause_shape, modifies_shape};
 ghost use Rattle.isle_printer_specs.specs.SpecShapes.{spec_definition_shape, spec_macro_shape};
-ghost use Rattle.isle_printer_specs.specs.SpecShapes.{spec_shape, state_shape};
+ghost use Rattle.isle_printer_specs.specs.SpecShapes.{state_shape};
 
 use super::models::model_type;
-use super::specs::spec;
+use super::specs::{spec, specs_behind};
 use isle_ast_specs::ast::{Modifies, Spec, SpecExpr, SpecMacro, State};
 use isle_printer_layout::printer::SExpr;
-use isle_printer_layout::printer::names::{begun, headed, headed_names, list, push_name};
+use isle_printer_layout::printer::names::{atom, begun, headed, headed_names, list, push_name};
 use std::alloc::{AllocError, Global};
 
 /// The S-expression of a spec: a clause for each kind that says something, and one for each state
@@ -34,28 +34,15 @@ fn push_clause(
     items: &mut Vec<SExpr>,
     alloc: Global,
     word: &str,
-    specs: &[SpecExpr],
+    specs: &Vec<SpecExpr>,
 ) -> Result<(), AllocError>
     ensures { OnOk result (sexps_of items.new.items
-        ≡ sexps_of items.old.items ++ clause_shape word.now (specs_of specs.now)) }
+        ≡ sexps_of items.old.items ++ clause_shape word.now (specs_of specs.now.items)) }
 {
     if specs.is_empty() {
         return Ok(());
     }
-    let mut clause = begun(alloc, word)?;
-    push_specs(&mut clause, alloc, specs)?;
-    items.push(list(clause))?;
-    Ok(())
-}
-
-/// Appends spec expressions.
-fn push_specs(items: &mut Vec<SExpr>, alloc: Global, specs: &[SpecExpr]) -> Result<(), AllocError>
-    ensures { OnOk result (sexps_of items.new.items
-        ≡ sexps_of items.old.items ++ map spec_shape (specs_of specs.now)) }
-{
-    for each in specs {
-        items.push(spec(each, alloc)?)?;
-    }
+    items.push(specs_behind(specs, atom(alloc, word)?, alloc)?)?;
     Ok(())
 }
 

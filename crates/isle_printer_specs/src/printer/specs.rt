@@ -71,7 +71,7 @@ pub fn spec(node: &SpecExpr, alloc: Global) -> Result<SExpr, AllocError>
 
 /// The list of a head and spec expressions.
 #[cycle(specs)]
-fn specs_behind(nodes: &Vec<SpecExpr>, head: SExpr, alloc: Global) -> Result<SExpr, AllocError>
+pub fn specs_behind(nodes: &Vec<SpecExpr>, head: SExpr, alloc: Global) -> Result<SExpr, AllocError>
     ensures { IfOk result (λ s. sexp_of s
         ≡ row_of (sexp_of head ∷ spec_shapes (spec_row_of (specs_of nodes.now.items)))) }
 {
