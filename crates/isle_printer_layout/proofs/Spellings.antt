@@ -95,6 +95,18 @@ spell-name n is rest = record {
   spells = (is, refl);
 }
 
+-- one part and then another
+abbrev pub InTurn : (List Placed → List Placed → Type 0) → (List Placed → List Placed → Type 0) → List Placed → List Placed → Type 0
+InTurn First Second all rest = (mid : List Placed) × First all mid × Second mid rest
+
+pub spell-turn : {xs ys : List Sexp} {First Second : List Placed → List Placed → Type 0} {rest : List Tok}
+    → (second : Spelling ys Second rest) → Spelling xs First second.all → Spelling (xs ++ ys) (InTurn First Second) rest
+spell-turn second first = record {
+  all = first.all;
+  tokens = first.tokens then second.tokens;
+  spells = (unplaced second.all, first.spells, second.spells);
+}
+
 -- elements one after another
 pub spell-all : {A B : Type 0} → (shape : A → Sexp) (erased : A → B) (Spells : B → List Placed → List Placed → Type 0) (P : A → Type 0)
     → ((x : A) → P x → (rest : List Tok) → Spelling (shape x ∷ []) (Spells (erased x)) rest)
@@ -102,12 +114,7 @@ pub spell-all : {A B : Type 0} → (shape : A → Sexp) (erased : A → B) (Spel
 spell-all shape erased Spells P one [] each rest = spell-nothing rest
 spell-all shape erased Spells P one (x ∷ xs) each rest =
     let behind = spell-all shape erased Spells P one xs each.1 rest in
-    let first = one x each.0 behind.all in
-    record {
-      all = first.all;
-      tokens = first.tokens then behind.tokens;
-      spells = (unplaced behind.all, first.spells, behind.spells);
-    }
+    spell-turn behind (one x each.0 behind.all)
 
 pub spell-names : (ns : List Name) → Each IsName ns → (rest : List Tok) → Spelling (name_shapes ns) (SpellsAll SpellsName (erase_names ns)) rest
 spell-names = spell-all name_shape erase_name SpellsName IsName spell-name
@@ -132,18 +139,6 @@ spell-behind word is items Spells rest s = record {
 pub spell-form : (word : List ℕ) → ReadsAs word (symbol word) → (items : List Sexp) (Spells : List Placed → List Placed → Type 0) (rest : List Tok) → Spelling items Spells (rparen ∷ rest) → Spelling (form_shape word items ∷ []) (InParentheses (BehindWord word Spells)) rest
 spell-form word is items Spells rest s =
     spell-row (atom word ∷ items) (BehindWord word Spells) rest (spell-behind word is items Spells (rparen ∷ rest) s)
-
--- one part and then another
-abbrev pub InTurn : (List Placed → List Placed → Type 0) → (List Placed → List Placed → Type 0) → List Placed → List Placed → Type 0
-InTurn First Second all rest = (mid : List Placed) × First all mid × Second mid rest
-
-pub spell-turn : {xs ys : List Sexp} {First Second : List Placed → List Placed → Type 0} {rest : List Tok}
-    → (second : Spelling ys Second rest) → Spelling xs First second.all → Spelling (xs ++ ys) (InTurn First Second) rest
-spell-turn second first = record {
-  all = first.all;
-  tokens = first.tokens then second.tokens;
-  spells = (unplaced second.all, first.spells, second.spells);
-}
 
 -- a text that isn't this word, as a test
 pub differs-test : (text word : List ℕ) (b : Bool) → bytes_eq text word ≡ b → text ≢ word → b ≡ false

@@ -99,12 +99,7 @@ mutual
   spell-patterns no_pattern is rest = spell-nothing rest
   spell-patterns (more_pattern p ps) is rest =
       let behind = spell-patterns ps is.1 rest in
-      let first = spell-pattern p is.0 behind.all in
-      record {
-        all = first.all;
-        tokens = first.tokens then behind.tokens;
-        spells = (unplaced behind.all, first.spells, behind.spells);
-      }
+      spell-turn behind (spell-pattern p is.0 behind.all)
 
 -- expressions
 
@@ -138,12 +133,7 @@ mutual
   spell-expressions no_expression is rest = spell-nothing rest
   spell-expressions (more_expression x xs) is rest =
       let behind = spell-expressions xs is.1 rest in
-      let first = spell-expression x is.0 behind.all in
-      record {
-        all = first.all;
-        tokens = first.tokens then behind.tokens;
-        spells = (unplaced behind.all, first.spells, behind.spells);
-      }
+      spell-turn behind (spell-expression x is.0 behind.all)
 
   spell-lets : (ds : LetRow) → AreWritableLets ds → (rest : List Tok) → Spelling (let_shapes ds) (SpellsLets (erase_lets ds)) rest
   spell-lets no_let is rest = spell-nothing rest
@@ -161,12 +151,7 @@ mutual
         tokens = first.tokens then second.tokens then third.tokens;
         spells = (unplaced second.all, unplaced third.all, first.spells, second.spells, third.spells);
       } in
-      let s = placed (spell-row _ _ behind.all inner) in
-      record {
-        all = s.all;
-        tokens = s.tokens then behind.tokens;
-        spells = (unplaced behind.all, s.spells, behind.spells);
-      }
+      spell-turn behind (placed (spell-row _ _ behind.all inner))
 
 -- conditions, rules, extractors
 

@@ -9,11 +9,10 @@ use Rattle.isle_ast_names.specs.Erased.{erase_name}
 use Rattle.isle_ast_specs.specs.Erased.{erase_model, erase_model_fields}
 use Rattle.isle_ast_specs.specs.TypeModelGrammar.{SpellsTypeModel, SpellsModelFields}
 use Rattle.isle_ast_specs.specs.Writable.{IsWritableModel, AreWritableModelFields}
-use Rattle.isle_printer_layout.specs.ReadBack.{unplaced}
 use Rattle.isle_printer_layout.specs.NameShapes.{name_shape, number_shape}
 use Rattle.isle_printer_specs.specs.SpecShapes.{width_shape, model_shape, model_field_shapes}
 use Rattle.isle_printer_layout.proofs.NumberAtoms.{decimal-ReadsAs}
-use Rattle.isle_printer_layout.proofs.Spellings.{◌then◌, Spelling, spell-nothing, spell-word, spell-name, spell-row, spell-form, InTurn, spell-turn}
+use Rattle.isle_printer_layout.proofs.Spellings.{Spelling, spell-nothing, spell-word, spell-name, spell-row, spell-form, InTurn, spell-turn}
 use Rattle.isle_printer_layout.proofs.WordSymbols.{word-struct, word-bv, word-named, word-Int, word-Bool, word-Unit, word-bang, word-underscore}
 
 spell-number : (n : ℕ) → n < 2 ^ 64 → (rest : List Tok) → Spelling (number_shape n ∷ []) (SpellsNumber n) rest
@@ -49,8 +48,4 @@ mutual
       let second = spell-model ty is.1 (rparen ∷ behind.all) in
       let first = spell-name name is.0 second.all in
       let field = spell-row (name_shape name ∷ model_shape ty ∷ []) (InTurn (SpellsName (erase_name name)) (SpellsTypeModel (erase_model ty))) behind.all (spell-turn second first) in
-      record {
-        all = field.all;
-        tokens = field.tokens then behind.tokens;
-        spells = (unplaced behind.all, field.spells, behind.spells);
-      }
+      spell-turn behind field
