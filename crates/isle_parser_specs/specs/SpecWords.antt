@@ -90,43 +90,37 @@ keyword_head text =
     else (if bytes_eq text (codes "as") then Some as_head
     else None))))))
 
--- the head of this one name, where it is an identifier
-unfoldable pub named_head : (List ℕ → SpecHead) → List ℕ → Option SpecHead
-named_head make name = if is_identifier name then Some (make name) else None
-
--- the names on both sides of the first dot, where they are identifiers
-unfoldable pub variant_of : Option (List ℕ × List ℕ) → Option SpecHead
-variant_of None = None
-variant_of (Some names) =
-    if is_identifier names.0 then named_head (λ case. variant_head names.0 case) names.1 else None
-
-unfoldable pub field_or_variant : List ℕ → Option (List ℕ) → Option SpecHead
-field_or_variant text (Some field) = named_head field_head field
-field_or_variant text None = variant_of (around 46 text)
-
-unfoldable pub operator_or_name : List ℕ → Option SpecOp → Option SpecHead
-operator_or_name text (Some operator) = Some (operator_head operator)
-operator_or_name text None = field_or_variant text (behind_mark (codes ":") text)
-
-unfoldable pub expansion_or_other : List ℕ → Option (List ℕ) → Option SpecHead
-expansion_or_other text (Some macro) = named_head expansion_head macro
-expansion_or_other text None = operator_or_name text (operator_of text)
-
-unfoldable pub discriminator_or_other : List ℕ → Option (List ℕ) → Option SpecHead
-discriminator_or_other text (Some variant) = named_head discriminator_head variant
-discriminator_or_other text None = expansion_or_other text (before_last 33 text)
-
 -- whether this text begins as a bit vector does
 abbrev pub begins_bit_vector : List ℕ → Bool
 begins_bit_vector text = is_some (behind_mark (codes "#b") text) || is_some (behind_mark (codes "#x") text)
 
--- what a text is that is none of the words: a bit vector is no head
-unfoldable pub other_head : List ℕ → Option SpecHead
-other_head text = if begins_bit_vector text then None else discriminator_or_other text (before_last 63 text)
+-- The head that this text is, whatever the names in it are: the first of these. A bit vector is none.
+unfoldable pub head_word : List ℕ → Option SpecHead
+head_word text =
+    option_or (keyword_head text)
+    (if begins_bit_vector text then None
+    else (option_or (option_map discriminator_head (before_last 63 text))
+    (option_or (option_map expansion_head (before_last 33 text))
+    (option_or (option_map operator_head (operator_of text))
+    (option_or (option_map field_head (behind_mark (codes ":") text))
+    (option_map (λ names. variant_head names.0 names.1) (around 46 text)))))))
+
+-- whether the names in a head are identifiers
+abbrev pub are_identifiers : SpecHead → Bool
+are_identifiers (discriminator_head variant) = is_identifier variant
+are_identifiers (expansion_head macro) = is_identifier macro
+are_identifiers (field_head field) = is_identifier field
+are_identifiers (variant_head enum case) = is_identifier enum && is_identifier case
+are_identifiers _ = true
+
+-- this head, where the names in it are identifiers
+unfoldable pub identified : Option SpecHead → Option SpecHead
+identified None = None
+identified (Some head) = if are_identifiers head then Some head else None
 
 -- the head that this text is
 unfoldable pub head_of : List ℕ → Option SpecHead
-head_of text = option_or (keyword_head text) (other_head text)
+head_of text = identified (head_word text)
 
 abbrev pub are_digits : ℕ → List ℕ → Bool
 are_digits radix [] = true

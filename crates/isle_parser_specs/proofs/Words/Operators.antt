@@ -8,7 +8,7 @@ use Rattle.std.proofs.lemmas.Slice.Eq.{bytes_eq-Decides}
 use Rattle.isle_ast_specs.specs.declared.ast.specs.SpecOp.{SpecOp}
 use Rattle.isle_ast_specs.specs.Operators.{is_operator_text, operator_text, operators}
 use Rattle.isle_ast_specs.specs.SpecGrammar.{is_plain_operator}
-use Rattle.isle_parser_specs.specs.SpecWords.{in_table, named_row, discriminator_or_other, expansion_or_other, head_of, keyword_head, operator_head, operator_of, operator_or_name, other_head}
+use Rattle.isle_parser_specs.specs.SpecWords.{in_table, named_row, head_of, head_word, identified, keyword_head, operator_head, operator_of}
 use Rattle.isle_parser_cursor.proofs.SameBytes.{other_bytes}
 use Rattle.isle_parser_cursor.proofs.Readers.{chosen}
 use Rattle.isle_parser_specs.proofs.Words.Texts.{some_is}
@@ -40,7 +40,7 @@ operator_found op.Switch e = absurd cc
 operator_found _ e = refl
 
 pub operator_head_found : (o : SpecOp) → is_plain_operator o ≡ true → head_of (operator_text o) ≡ Some (operator_head o)
-unfolding head_of keyword_head other_head discriminator_or_other expansion_or_other operator_or_name operator_of
+unfolding head_of head_word keyword_head operator_of identified
 operator_head_found op.Sub e = absurd cc
 operator_head_found op.Switch e = absurd cc
 operator_head_found _ e = refl

@@ -1,9 +1,9 @@
 -- A symbol's text is the head or the word that the grammar says, and no other.
 use Rattle.std.proofs.Common.{◌≡◌, ℕ, ◌*◌, ◌^◌, ◌<◌, Bool, true, false, cond, List, [], ◌∷◌, ◌++◌, length, Option, Some, None, refl, sym, ap, subst, ◌∙◌, inl, inr, ⊎_elim}
-use Rattle.std.specs.Prelude.{codes}
+use Rattle.std.specs.Prelude.{codes, option_map}
 use Rattle.std.specs.List.{list_all}
 use Rattle.std.specs.Str.{bytes_eq}
-use Rattle.std.proofs.lemmas.Bool.{or_parts}
+use Rattle.std.proofs.lemmas.Bool.{and_from, and_parts, or_parts}
 use Rattle.std.proofs.lemmas.Slice.Eq.{bytes_eq-Decides}
 use Rattle.isle_base.specs.declared.lexer.Pos.{Pos}
 use Rattle.isle_base.specs.Place.{Placed}
@@ -15,13 +15,13 @@ use Rattle.isle_ast_specs.specs.Operators.{is_operator_text, operator_text}
 use Rattle.isle_ast_specs.specs.Tree.{SpecNode, bit_vector_spec, bool_spec, var_spec}
 use Rattle.isle_ast_names.specs.Words.{bool_word, is_bool_word}
 use Rattle.isle_ast_specs.specs.SpecGrammar.{SpellsSpec}
-use Rattle.isle_parser_specs.specs.SpecWords.{IsHead, SpecHead, around, as_head, before_last, begins_bit_vector, behind_mark, binary_or_other, bit_vector_at, bit_vector_of, discriminator_head, discriminator_or_other, expansion_head, expansion_or_other, field_head, field_or_variant, head_of, hexadecimal_or_plain, keyword_head, let_head, macro_head, match_head, named_head, operator_head, operator_of, operator_or_name, other_head, plain_word, struct_head, switch_head, variant_head, variant_of, with_head, word_of}
+use Rattle.isle_parser_specs.specs.SpecWords.{IsHead, SpecHead, are_identifiers, around, as_head, before_last, begins_bit_vector, behind_mark, binary_or_other, bit_vector_at, bit_vector_of, discriminator_head, expansion_head, field_head, head_of, head_word, hexadecimal_or_plain, identified, keyword_head, let_head, macro_head, match_head, operator_head, operator_of, plain_word, struct_head, switch_head, variant_head, with_head, word_of}
 use Rattle.isle_parser_cursor.proofs.SameBytes.{other_bytes}
 use Rattle.isle_parser_cursor.proofs.Readers.{bind_some, chosen, chosen_some}
 use Rattle.isle_parser_specs.proofs.Words.BitVectors.{IsMade, bit_vector_is, bit_vector_made}
 use Rattle.isle_parser_specs.proofs.Words.Marks.{PlainText, identifier_text, no_exclamation_mark, no_mark, no_question_mark}
 use Rattle.isle_parser_specs.proofs.Words.Operators.{no_operator_text, operator_head_found, operator_is, operator_none}
-use Rattle.isle_parser_specs.proofs.Words.Texts.{around_is, around_made, before_last_behind, before_last_is, before_last_made, before_last_other, behind_is, is_other, or_is, some_is}
+use Rattle.isle_parser_specs.proofs.Words.Texts.{around_is, around_made, before_last_behind, before_last_is, before_last_made, before_last_other, behind_is, is_other, mapped_none, mapped_some, or_is, some_is}
 
 -- ---- what is found is a head
 
@@ -43,68 +43,70 @@ keyword_is text head e =
     (keyword text (codes "macro") macro_head _ head (λ is. is)
     (keyword text (codes "as") as_head None head (λ is. is) (λ n. absurd cc))))))) e
 
-named_is : (make : List ℕ → SpecHead) (name : List ℕ) (head : SpecHead) → named_head make name ≡ Some head → (is_identifier name ≡ true) × (make name ≡ head)
-unfolding named_head
-named_is make name head e =
-    let c = chosen_some (is_identifier name) (make name) head e in (c.0, some_is (make name) head c.1)
-
 -- a text around a dot is neither `-` nor `switch`
 dotted_not : (text : List ℕ) (parts : List ℕ × List ℕ) (word : List ℕ) → around 46 text ≡ Some parts → around 46 word ≡ None → text ≡ word → ⊥
 dotted_not text parts word e none is =
     let clash : None ≡ Some parts = sym none ∙ sym (ap (around 46) is) ∙ e in cc
 
-variant_is : (text : List ℕ) (o : Option (List ℕ × List ℕ)) (head : SpecHead) → around 46 text ≡ o → operator_of text ≡ None → variant_of o ≡ Some head → IsHead head text
-unfolding variant_of
-variant_is text None head a none e = absurd cc
-variant_is text (Some names) head a none e =
-    let first = chosen (is_identifier names.0) (named_head (λ case. variant_head names.0 case) names.1) None (Some head) e in
-    let parts = around_is 46 text names a in
-    let no = no_operator_text text none (dotted_not text names (codes "-") a refl) (dotted_not text names (codes "switch") a refl) in
-    ⊎_elim
-    (λ found. let n = named_is (λ case. variant_head names.0 case) names.1 head found.1 in
-    subst (λ (h : SpecHead). IsHead h text) n.1 (found.0, n.0, parts.1, no, parts.0))
-    (λ not. let clash : None ≡ Some head = not.1 in absurd cc)
-    first
+variant_is : (text : List ℕ) (head : SpecHead) → operator_of text ≡ None → option_map (λ names. variant_head names.0 names.1) (around 46 text) ≡ Some head → are_identifiers head ≡ true → IsHead head text
+variant_is text head none e names =
+    let m = mapped_some (λ (names : List ℕ × List ℕ). variant_head names.0 names.1) (around 46 text) head e in
+    let parts = around_is 46 text m.0 m.1 in
+    let no = no_operator_text text none (dotted_not text m.0 (codes "-") m.1 refl) (dotted_not text m.0 (codes "switch") m.1 refl) in
+    let both = and_parts (is_identifier m.0.0) (is_identifier m.0.1) (ap are_identifiers m.2 ∙ names) in
+    subst (λ (h : SpecHead). IsHead h text) m.2 (both.0, both.1, parts.1, no, parts.0)
 
-field_is : (text : List ℕ) (o : Option (List ℕ)) (head : SpecHead) → behind_mark (codes ":") text ≡ o → operator_of text ≡ None → field_or_variant text o ≡ Some head → IsHead head text
-unfolding field_or_variant
-field_is text None head b none e = variant_is text (around 46 text) head refl none e
-field_is text (Some field) head b none e =
-    let n = named_is field_head field head e in
-    subst (λ (h : SpecHead). IsHead h text) n.1 (n.0, behind_is (codes ":") text field b)
+operator_head_is : (text : List ℕ) (head : SpecHead) → option_map operator_head (operator_of text) ≡ Some head → IsHead head text
+operator_head_is text head e =
+    let m = mapped_some operator_head (operator_of text) head e in
+    subst (λ (h : SpecHead). IsHead h text) m.2 (operator_is text m.0 m.1)
 
-operator_head_is : (text : List ℕ) (o : Option SpecOp) (head : SpecHead) → operator_of text ≡ o → operator_or_name text o ≡ Some head → IsHead head text
-unfolding operator_or_name
-operator_head_is text None head f e = field_is text (behind_mark (codes ":") text) head refl f e
-operator_head_is text (Some operator) head f e =
-    subst (λ (h : SpecHead). IsHead h text) (some_is (operator_head operator) head e) (operator_is text operator f)
+-- a head of one name
+named_is : (make : List ℕ → SpecHead) (found : Option (List ℕ)) (text : List ℕ) (head : SpecHead) → ((name : List ℕ) → found ≡ Some name → are_identifiers (make name) ≡ true → IsHead (make name) text) → option_map make found ≡ Some head → are_identifiers head ≡ true → IsHead head text
+named_is make found text head is e names =
+    let m = mapped_some make found head e in
+    subst (λ (h : SpecHead). IsHead h text) m.2 (is m.0 m.1 (ap are_identifiers m.2 ∙ names))
 
-expansion_is : (text : List ℕ) (o : Option (List ℕ)) (head : SpecHead) → before_last 33 text ≡ o → expansion_or_other text o ≡ Some head → IsHead head text
-unfolding expansion_or_other
-expansion_is text None head b e = operator_head_is text (operator_of text) head refl e
-expansion_is text (Some macro) head b e =
-    let n = named_is expansion_head macro head e in
-    subst (λ (h : SpecHead). IsHead h text) n.1 (n.0, before_last_is 33 text macro b)
+head_word_is : (text : List ℕ) (head : SpecHead) → head_word text ≡ Some head → are_identifiers head ≡ true → IsHead head text
+unfolding head_word
+head_word_is text head e names =
+    elim (or_is (keyword_head text) _ head e) [
+      | inl keyword ↦ keyword_is text head keyword
+      | inr other ↦
+          elim (chosen (begins_bit_vector text) None _ (Some head) other.1) [
+            | inl bits ↦
+                let clash : None ≡ Some head = bits.1 in absurd cc
+            | inr word ↦
+                elim (or_is (option_map discriminator_head (before_last 63 text)) _ head word.1) [
+                  | inl found ↦ named_is discriminator_head (before_last 63 text) text head (λ name b i. (i, before_last_is 63 text name b)) found names
+                  | inr no_discriminator ↦
+                      elim (or_is (option_map expansion_head (before_last 33 text)) _ head no_discriminator.1) [
+                        | inl found ↦ named_is expansion_head (before_last 33 text) text head (λ name b i. (i, before_last_is 33 text name b)) found names
+                        | inr no_expansion ↦
+                            elim (or_is (option_map operator_head (operator_of text)) _ head no_expansion.1) [
+                              | inl found ↦ operator_head_is text head found
+                              | inr no_operator ↦
+                                  elim (or_is (option_map field_head (behind_mark (codes ":") text)) _ head no_operator.1) [
+                                    | inl found ↦ named_is field_head (behind_mark (codes ":") text) text head (λ name b i. (i, behind_is (codes ":") text name b)) found names
+                                    | inr no_field ↦ variant_is text head (mapped_none operator_head (operator_of text) no_operator.0) no_field.1 names
+                                  ]
+                            ]
+                      ]
+                ]
+          ]
+    ]
 
-discriminator_is : (text : List ℕ) (o : Option (List ℕ)) (head : SpecHead) → before_last 63 text ≡ o → discriminator_or_other text o ≡ Some head → IsHead head text
-unfolding discriminator_or_other
-discriminator_is text None head b e = expansion_is text (before_last 33 text) head refl e
-discriminator_is text (Some variant) head b e =
-    let n = named_is discriminator_head variant head e in
-    subst (λ (h : SpecHead). IsHead h text) n.1 (n.0, before_last_is 63 text variant b)
-
-other_head_is : (text : List ℕ) (head : SpecHead) → other_head text ≡ Some head → IsHead head text
-unfolding other_head
-other_head_is text head e =
-    ⊎_elim
-    (λ bits. let clash : None ≡ Some head = bits.1 in absurd cc)
-    (λ other. discriminator_is text (before_last 63 text) head refl other.1)
-    (chosen (begins_bit_vector text) None (discriminator_or_other text (before_last 63 text)) (Some head) e)
+identified_is : (o : Option SpecHead) (head : SpecHead) → identified o ≡ Some head → (o ≡ Some head) × (are_identifiers head ≡ true)
+unfolding identified
+identified_is None head e = absurd cc
+identified_is (Some found) head e =
+    let c = chosen_some (are_identifiers found) found head e in
+    (c.1, ap are_identifiers (sym (some_is found head c.1)) ∙ c.0)
 
 pub head_is : (text : List ℕ) (head : SpecHead) → head_of text ≡ Some head → IsHead head text
 unfolding head_of
 head_is text head e =
-    ⊎_elim (keyword_is text head) (λ other. other_head_is text head other.1) (or_is (keyword_head text) (other_head text) head e)
+    let found = identified_is (head_word text) head e in head_word_is text head found.0 found.1
 
 -- ---- a head is found
 
@@ -120,9 +122,9 @@ no_keyword {A} test text x e a b c d f g h =
     let clash : None ≡ Some x = sym none ∙ sym (ap test is) ∙ e in cc in
     keyword_none text (differs (codes "switch") a) (differs (codes "let") b) (differs (codes "with") c) (differs (codes "match") d) (differs (codes "struct") f) (differs (codes "macro") g) (differs (codes "as") h)
 
-named : (make : List ℕ → SpecHead) (name : List ℕ) → is_identifier name ≡ true → named_head make name ≡ Some (make name)
-unfolding named_head
-named make name e = rw e refl
+accepted : (head : SpecHead) → are_identifiers head ≡ true → identified (Some head) ≡ Some head
+unfolding identified
+accepted head e = rw e refl
 
 -- an identifier in front does not begin a bit vector
 not_bits : (name rest : List ℕ) → PlainText name → begins_bit_vector (name ++ rest) ≡ false
@@ -131,16 +133,16 @@ not_bits name rest p =
     subst (λ (t : List ℕ). begins_bit_vector (t ++ rest) ≡ false) (sym p.split) (rw n refl)
 
 discriminator_found : (name : List ℕ) → is_identifier name ≡ true → head_of (name ++ 63 ∷ []) ≡ Some (discriminator_head name)
-unfolding head_of other_head discriminator_or_other
+unfolding head_of head_word
 discriminator_found name e =
     rw (no_keyword (before_last 63) (name ++ 63 ∷ []) name (before_last_made 63 name) refl refl refl refl refl refl refl, not_bits name (63 ∷ []) (identifier_text name e), before_last_made 63 name)
-    (named discriminator_head name e)
+    (accepted (discriminator_head name) e)
 
 expansion_found : (name : List ℕ) → is_identifier name ≡ true → head_of (name ++ 33 ∷ []) ≡ Some (expansion_head name)
-unfolding head_of other_head discriminator_or_other expansion_or_other
+unfolding head_of head_word
 expansion_found name e =
     rw (no_keyword (before_last 33) (name ++ 33 ∷ []) name (before_last_made 33 name) refl refl refl refl refl refl refl, not_bits name (33 ∷ []) (identifier_text name e), before_last_other 63 33 name refl, before_last_made 33 name)
-    (named expansion_head name e)
+    (accepted (expansion_head name) e)
 
 -- a plain text behind a byte ends with no mark
 question_behind : (byte : ℕ) (name : List ℕ) → PlainText name → before_last 63 (byte ∷ name) ≡ None
@@ -152,10 +154,10 @@ exclamation_behind byte name p =
     subst (λ (t : List ℕ). before_last 33 (byte ∷ t) ≡ None) (sym p.split) (rw (no_exclamation_mark (p.first ∷ p.others) p.plain) refl)
 
 field_found : (name : List ℕ) → is_identifier name ≡ true → head_of (58 ∷ name) ≡ Some (field_head name)
-unfolding head_of keyword_head other_head discriminator_or_other expansion_or_other operator_or_name operator_of field_or_variant
+unfolding head_of head_word keyword_head operator_of
 field_found name e =
     let p = identifier_text name e in
-    rw (question_behind 58 name p, exclamation_behind 58 name p) (named field_head name e)
+    rw (question_behind 58 name p, exclamation_behind 58 name p) (accepted (field_head name) e)
 
 -- an identifier in front does not begin a field
 not_field : (name rest : List ℕ) → PlainText name → behind_mark (codes ":") (name ++ rest) ≡ None
@@ -163,24 +165,20 @@ not_field name rest p =
     let n = (no_mark p.first p.others p.plain).colon in
     subst (λ (t : List ℕ). behind_mark (codes ":") (t ++ rest) ≡ None) (sym p.split) (rw n refl)
 
-variant_named : (enum case : List ℕ) → is_identifier enum ≡ true → is_identifier case ≡ true → variant_of (Some (enum, case)) ≡ Some (variant_head enum case)
-unfolding variant_of
-variant_named enum case e f = rw e (named (λ c. variant_head enum c) case f)
-
 variant_found : (enum case : List ℕ) → is_identifier enum ≡ true → is_identifier case ≡ true → list_all (is_other 46) enum ≡ true → is_operator_text (enum ++ 46 ∷ case) ≡ false → head_of (enum ++ 46 ∷ case) ≡ Some (variant_head enum case)
-unfolding head_of other_head discriminator_or_other expansion_or_other operator_or_name field_or_variant
+unfolding head_of head_word
 variant_found enum case e f dots none =
     let p = identifier_text enum e in
     let q = identifier_text case f in
     let parts = around_made 46 enum case dots in
     rw (no_keyword (around 46) (enum ++ 46 ∷ case) (enum, case) parts refl refl refl refl refl refl refl, not_bits enum (46 ∷ case) p, before_last_behind 63 enum 46 case (question_behind 46 case q), before_last_behind 33 enum 46 case (exclamation_behind 46 case q), operator_none (enum ++ 46 ∷ case) none, not_field enum (46 ∷ case) p, parts)
-    (variant_named enum case e f)
+    (accepted (variant_head enum case) (and_from (is_identifier enum) (is_identifier case) e f))
 
 word_found : (text word : List ℕ) (head : SpecHead) → head_of word ≡ Some head → text ≡ word → head_of text ≡ Some head
 word_found text word head e is = ap head_of is ∙ e
 
 words_found : (head_of (codes "switch") ≡ Some switch_head) × (head_of (codes "let") ≡ Some let_head) × (head_of (codes "with") ≡ Some with_head) × (head_of (codes "match") ≡ Some match_head) × (head_of (codes "struct") ≡ Some struct_head) × (head_of (codes "macro") ≡ Some macro_head) × (head_of (codes "as") ≡ Some as_head)
-unfolding head_of keyword_head
+unfolding head_of head_word keyword_head identified
 words_found = (refl, refl, refl, refl, refl, refl, refl)
 
 pub is_head : (text : List ℕ) (head : SpecHead) → IsHead head text → head_of text ≡ Some head

@@ -22,6 +22,10 @@ pub mapped_some : {A B : Type 0} (f : A → B) (o : Option A) (z : B) → option
 mapped_some f None z e = absurd cc
 mapped_some f (Some y) z e = (y, refl, cc)
 
+pub mapped_none : {A B : Type 0} (f : A → B) (o : Option A) → option_map f o ≡ None → o ≡ None
+mapped_none f None e = refl
+mapped_none f (Some y) e = absurd cc
+
 pub none_unless : {A : Type 0} (o : Option A) → ((x : A) → o ≡ Some x → ⊥) → o ≡ None
 none_unless None h = refl
 none_unless (Some x) h = absurd (h x refl)

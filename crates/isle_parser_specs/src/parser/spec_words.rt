@@ -7,13 +7,11 @@ ghost use Rattle.isle_ast_names.specs.Identifier.{is_identifier};
 ghost use Rattle.isle_ast_specs.specs.TreeView.{spec_of};
 ghost use Rattle.isle_parser_cursor.specs.Outcomes.{Gives, IsPlace, IsRefusal, source, tokens};
 ghost use Rattle.isle_parser_specs.specs.SpecReaders.{spec_word};
-ghost use Rattle.isle_parser_specs.specs.SpecFormHeads.{Finds, head_view};
+ghost use Rattle.isle_parser_specs.specs.SpecFormHeads.{Finds, head_view, word_view};
 ghost use Rattle.isle_parser_specs.specs.SpecWords.{around, before_last, begins_bit_vector};
-ghost use Rattle.isle_parser_specs.specs.SpecWords.{behind_mark, bit_vector_of, expansion_or_other};
-ghost use Rattle.isle_parser_specs.specs.SpecWords.{field_or_variant, head_of};
-ghost use Rattle.isle_parser_specs.specs.SpecWords.{hexadecimal_or_plain, keyword_head};
-ghost use Rattle.isle_parser_specs.specs.SpecWords.{operator_of, operator_or_name, other_head};
-ghost use Rattle.isle_parser_specs.specs.SpecWords.{plain_word, spec_head, variant_of, word_of};
+ghost use Rattle.isle_parser_specs.specs.SpecWords.{behind_mark, bit_vector_of, head_of};
+ghost use Rattle.isle_parser_specs.specs.SpecWords.{head_word, hexadecimal_or_plain};
+ghost use Rattle.isle_parser_specs.specs.SpecWords.{operator_of, plain_word, spec_head, word_of};
 
 use crate::parser::operators::operator_of;
 use isle_ast_names::ast::Ident;
@@ -51,6 +49,36 @@ pub(super) enum Head {
     Variant(String, String),
 }
 
+/// What a word is as a head, with the texts that are to be names.
+enum HeadWord<'a> {
+    /// `switch`
+    Switch,
+    /// `let`
+    Let,
+    /// `with`
+    With,
+    /// `match`
+    Match,
+    /// `struct`
+    Struct,
+    /// `macro`
+    Macro,
+    /// `as`
+    As,
+    /// What stands before a `?`.
+    Discriminator(&'a str),
+    /// What stands before a `!`.
+    Expansion(&'a str),
+    /// An operator.
+    Operator(SpecOp),
+    /// What stands behind a `:`.
+    Field(&'a str),
+    /// What stands on both sides of the first dot.
+    Variant(&'a str, &'a str),
+    /// No head.
+    Other,
+}
+
 /// The head that the symbol ahead is. The `(` before it stood at `start`.
 pub(super) fn parse_spec_head(cursor: &mut Cursor, alloc: Global, start: Pos) -> Result<Head, Stop>
     requires { IsPlace (source cursor.old) start }
@@ -65,8 +93,8 @@ pub(super) fn parse_spec_head(cursor: &mut Cursor, alloc: Global, start: Pos) ->
     spec_head(cursor, alloc, start, place, &word)
 }
 
-/// The head that this word is, which stood at `place`.
-#[tactic(auto, unfolding(crate::specs::SpecWords::head_of))]
+/// The head that this word is, which stood at `place`. The names of a variant stand at the `(`.
+#[tactic(auto, unfolding(crate::specs::SpecWords::head_of, crate::specs::SpecWords::identified))]
 fn spec_head(
     cursor: &Cursor,
     alloc: Global,
@@ -78,107 +106,26 @@ fn spec_head(
     requires place { IsPlace (source cursor.now) place }
     ensures { Finds head_view (head_of word.now) (source cursor.now) result }
 {
-    match keyword_head(word) {
-        Some(head) => Ok(head),
-        None => other_head(cursor, alloc, start, place, word),
-    }
-}
-
-/// The head that this word is, which is none of the fixed ones.
-#[tactic(auto, unfolding(crate::specs::SpecWords::other_head, crate::specs::SpecWords::discriminator_or_other, crate::specs::SpecWords::named_head))]
-fn other_head(
-    cursor: &Cursor,
-    alloc: Global,
-    start: Pos,
-    place: Pos,
-    word: &str,
-) -> Result<Head, Stop>
-    requires start { IsPlace (source cursor.now) start }
-    requires place { IsPlace (source cursor.now) place }
-    ensures { Finds head_view (other_head word.now) (source cursor.now) result }
-{
-    if begins_bit_vector(word) {
-        return Err(unexpected_spec(cursor, alloc, start));
-    }
-    match before_question_mark(word) {
-        Some(variant) => Ok(Head::Discriminator(identifier(cursor, alloc, place, variant)?)),
-        None => expansion_or_other(cursor, alloc, start, place, word),
-    }
-}
-
-/// The same of a word that does not end with `?`.
-#[tactic(auto, unfolding(crate::specs::SpecWords::expansion_or_other, crate::specs::SpecWords::named_head))]
-fn expansion_or_other(
-    cursor: &Cursor,
-    alloc: Global,
-    start: Pos,
-    place: Pos,
-    word: &str,
-) -> Result<Head, Stop>
-    requires start { IsPlace (source cursor.now) start }
-    requires place { IsPlace (source cursor.now) place }
-    ensures { Finds head_view (expansion_or_other word.now (before_last 33 word.now))
-        (source cursor.now) result }
-{
-    match before_exclamation_mark(word) {
-        Some(name) => Ok(Head::Expansion(identifier(cursor, alloc, place, name)?)),
-        None => operator_or_name(cursor, alloc, start, place, word),
-    }
-}
-
-/// The same of a word that does not end with `!` either.
-#[tactic(auto, unfolding(crate::specs::SpecWords::operator_or_name))]
-fn operator_or_name(
-    cursor: &Cursor,
-    alloc: Global,
-    start: Pos,
-    place: Pos,
-    word: &str,
-) -> Result<Head, Stop>
-    requires start { IsPlace (source cursor.now) start }
-    requires place { IsPlace (source cursor.now) place }
-    ensures { Finds head_view (operator_or_name word.now (operator_of word.now))
-        (source cursor.now) result }
-{
-    match operator_of(word) {
-        Some(op) => Ok(Head::Operator(op)),
-        None => field_or_variant(cursor, alloc, start, place, word),
-    }
-}
-
-/// The same of a word that is no operator either.
-#[tactic(auto, unfolding(crate::specs::SpecWords::field_or_variant, crate::specs::SpecWords::named_head))]
-fn field_or_variant(
-    cursor: &Cursor,
-    alloc: Global,
-    start: Pos,
-    place: Pos,
-    word: &str,
-) -> Result<Head, Stop>
-    requires start { IsPlace (source cursor.now) start }
-    requires place { IsPlace (source cursor.now) place }
-    ensures { Finds head_view (field_or_variant word.now (behind_mark (codes ":") word.now))
-        (source cursor.now) result }
-{
-    match behind_colon(word) {
-        Some(field) => Ok(Head::Field(identifier(cursor, alloc, place, field)?)),
-        None => variant(cursor, alloc, start, word),
-    }
-}
-
-/// The variant that this word is. Its names stand at the `(`.
-#[tactic(auto, unfolding(crate::specs::SpecWords::variant_of, crate::specs::SpecWords::named_head))]
-fn variant(cursor: &Cursor, alloc: Global, start: Pos, word: &str) -> Result<Head, Stop>
-    requires { IsPlace (source cursor.now) start }
-    ensures { Finds head_view (variant_of (around 46 word.now)) (source cursor.now) result }
-{
-    match around_dot(word) {
-        Some((name, variant)) => {
+    match head_word(word) {
+        HeadWord::Switch => Ok(Head::Switch),
+        HeadWord::Let => Ok(Head::Let),
+        HeadWord::With => Ok(Head::With),
+        HeadWord::Match => Ok(Head::Match),
+        HeadWord::Struct => Ok(Head::Struct),
+        HeadWord::Macro => Ok(Head::Macro),
+        HeadWord::As => Ok(Head::As),
+        HeadWord::Discriminator(variant) => {
+            Ok(Head::Discriminator(identifier(cursor, alloc, place, variant)?))
+        }
+        HeadWord::Expansion(name) => Ok(Head::Expansion(identifier(cursor, alloc, place, name)?)),
+        HeadWord::Operator(op) => Ok(Head::Operator(op)),
+        HeadWord::Field(field) => Ok(Head::Field(identifier(cursor, alloc, place, field)?)),
+        HeadWord::Variant(name, variant) => {
             let name = identifier(cursor, alloc, start, name)?;
             let variant = identifier(cursor, alloc, start, variant)?;
             Ok(Head::Variant(name, variant))
         }
-        None => Err(unexpected_spec(cursor, alloc, start)),
+        HeadWord::Other => Err(unexpected_spec(cursor, alloc, start)),
     }
 }
 
@@ -285,20 +232,37 @@ fn plain_word(
     }
 }
 
-/// The head that is one of the fixed words.
-#[tactic(auto, unfolding(crate::specs::SpecWords::keyword_head))]
-fn keyword_head(word: &str) -> Option<Head>
-    ensures { option_map head_view result ≡ keyword_head word.now }
+/// The head that this word is, whatever the names in it are: the first of these. A bit vector is
+/// none.
+#[tactic(auto, unfolding(crate::specs::SpecWords::head_word, crate::specs::SpecWords::keyword_head))]
+fn head_word(word: &str) -> HeadWord<'_>
+    ensures { word_view result ≡ head_word word.now }
 {
     match word {
-        "switch" => Some(Head::Switch),
-        "let" => Some(Head::Let),
-        "with" => Some(Head::With),
-        "match" => Some(Head::Match),
-        "struct" => Some(Head::Struct),
-        "macro" => Some(Head::Macro),
-        "as" => Some(Head::As),
-        _ => None,
+        "switch" => HeadWord::Switch,
+        "let" => HeadWord::Let,
+        "with" => HeadWord::With,
+        "match" => HeadWord::Match,
+        "struct" => HeadWord::Struct,
+        "macro" => HeadWord::Macro,
+        "as" => HeadWord::As,
+        _ => {
+            if begins_bit_vector(word) {
+                HeadWord::Other
+            } else if let Some(variant) = before_question_mark(word) {
+                HeadWord::Discriminator(variant)
+            } else if let Some(name) = before_exclamation_mark(word) {
+                HeadWord::Expansion(name)
+            } else if let Some(op) = operator_of(word) {
+                HeadWord::Operator(op)
+            } else if let Some(field) = behind_colon(word) {
+                HeadWord::Field(field)
+            } else if let Some((name, variant)) = around_dot(word) {
+                HeadWord::Variant(name, variant)
+            } else {
+                HeadWord::Other
+            }
+        }
     }
 }
 
