@@ -1,5 +1,6 @@
 -- The flags of a declaration: which are read, and which term can stand behind them.
 use Rattle.std.proofs.Common.{◌≡◌, ℕ, ◌≤◌, Bool, true, false, List, length, refl, sym, ap, ◌∙◌, arith}
+use Rattle.std.proofs.lemmas.Bool.{and_parts}
 use Rattle.std.specs.Prelude.{codes, ◌&&◌, ◌||◌, not}
 use Rattle.std.specs.Str.{bytes_eq}
 use Rattle.isle_base.specs.Place.{Placed}
@@ -30,10 +31,6 @@ or-true false = refl
 or-false : (a b : Bool) → (a || b) ≡ false → (a ≡ false) × (b ≡ false)
 or-false true b e = absurd cc
 or-false false b e = (refl, e)
-
-and-true : (a b : Bool) → (a && b) ≡ true → (a ≡ true) × (b ≡ true)
-and-true true b e = (refl, e)
-and-true false b e = absurd cc
 
 not-true : (b : Bool) → (not b || false) ≡ true → b ≡ false
 not-true true e = absurd cc
@@ -118,9 +115,9 @@ term_ahead word n t rest any h demand none = name_ahead word n t rest h ∙ dema
 pub front_unset : (d : Declaration) (all m p r t rest : List Placed) → Front d all m p r t rest → Unset d m p r t
 front_unset d all m p r t rest f =
     let text = d.term.text in
-    let umpr = and-true (demands text (codes "pure") (d.pure || d.multi || d.partial || d.rec) && demands text (codes "multi") (d.multi || d.partial || d.rec) && demands text (codes "partial") (d.partial || d.rec)) (demands text (codes "rec") d.rec) f.demands in
-    let ump = and-true (demands text (codes "pure") (d.pure || d.multi || d.partial || d.rec) && demands text (codes "multi") (d.multi || d.partial || d.rec)) (demands text (codes "partial") (d.partial || d.rec)) umpr.0 in
-    let um = and-true (demands text (codes "pure") (d.pure || d.multi || d.partial || d.rec)) (demands text (codes "multi") (d.multi || d.partial || d.rec)) ump.0 in
+    let umpr = and_parts (demands text (codes "pure") (d.pure || d.multi || d.partial || d.rec) && demands text (codes "multi") (d.multi || d.partial || d.rec) && demands text (codes "partial") (d.partial || d.rec)) (demands text (codes "rec") d.rec) f.demands in
+    let ump = and_parts (demands text (codes "pure") (d.pure || d.multi || d.partial || d.rec) && demands text (codes "multi") (d.multi || d.partial || d.rec)) (demands text (codes "partial") (d.partial || d.rec)) umpr.0 in
+    let um = and_parts (demands text (codes "pure") (d.pure || d.multi || d.partial || d.rec)) (demands text (codes "multi") (d.multi || d.partial || d.rec)) ump.0 in
     record {
       pure = λ u0.
           unset_ahead (codes "pure") (codes "multi") d.multi m p refl f.multi (λ m0.

@@ -5,7 +5,7 @@ use Rattle.std.specs.Prelude.{IfOk, IfErr}
 use Rattle.isle_base.specs.declared.error.Error.{Error}
 use Rattle.isle_base.specs.declared.lexer.Pos.{Pos}
 use Rattle.isle_base.specs.Place.{Placed, in_file, nowhere, placed}
-use Rattle.isle_base.specs.Steps.{ended_by, is_at_end}
+use Rattle.isle_base.specs.Steps.{IfError, ended_by, is_at_end}
 use Rattle.isle_base.specs.Token.{Lexeme, Ending, end, fault, Feed}
 use Rattle.isle_base.specs.declared.lexer.Fault.{Fault}
 use Rattle.isle_ast.specs.Tree.{Definition}
@@ -15,7 +15,7 @@ use Rattle.isle_ast.specs.MacroArgs.{definitions_have_macro_arg}
 use Rattle.isle_ast.specs.TreeView.{definitions_of}
 use Rattle.isle_ast.specs.Spelt.{Spells}
 use Rattle.isle_parser_cursor.specs.Outcomes.{Source, is_fault, RefusesIn}
-use Rattle.isle_parser.specs.Parsed.{Parses, RefusesText, SpellsOnly}
+use Rattle.isle_parser.specs.Parsed.{Parses, RefusesText, RefusesWith, SpellsOnly}
 use Rattle.isle_parser.specs.DefinitionReaders.{definitions}
 use Rattle.isle_ast.proofs.Erasing.{text_erased, text_placed}
 use Rattle.isle_ast.proofs.NoMacroArgs.{spelt_has_no_macro_arg}
@@ -56,6 +56,12 @@ same_ending s t e = ap (λ (u : Source). u.ending) e
 pub same_text : (s t : Source) (e : Error) → s ≡ t → RefusesIn s.file s.size e → RefusesIn t.file t.size e
 same_text s t e is h = subst (λ (u : Source). RefusesIn u.file u.size e) is h
 
+-- what holds of the error makes another thing hold of it
+pub IfError-map : (P Q : Error → Type 0) (f : Fault) → ((e : Error) → P e → Q e) → IfError P f → IfError Q f
+IfError-map P Q (faults.Error e) step p = step e p
+IfError-map P Q faults.Failed step p = tt
+IfError-map P Q faults.Memory step p = tt
+
 -- no pattern that is read is or holds the argument of a macro
 pub whole_found : (place : ℕ → Pos) (feed : Feed) (r : Result (Vec Def) Fault) → Parses place feed r → IfOk r (λ defs. definitions_have_macro_arg (definitions_of defs.items) ≡ false)
 whole_found place feed (Ok defs) h = spelt_has_no_macro_arg (definitions_of defs.items) (placed place feed.coming) h.spelt.1
@@ -71,6 +77,7 @@ erased_found feed (Err e) h = tt
 
 pub erased_refused : (feed : Feed) (r : Result (Vec Def) Fault) → Parses nowhere feed r → IfErr r (RefusesText (in_file feed.file) feed)
 erased_refused feed (Ok defs) h = tt
-erased_refused feed (Err (faults.Error e)) h = (λ ds spelt. h.0.0 (erase ds) (text_erased (in_file feed.file) feed ds spelt), h.0.1)
-erased_refused feed (Err faults.Failed) h = tt
-erased_refused feed (Err faults.Memory) h = tt
+erased_refused feed (Err f) h =
+    IfError-map (RefusesWith nowhere feed) (RefusesWith (in_file feed.file) feed) f
+    (λ e refused. (λ ds spelt. refused.0 (erase ds) (text_erased (in_file feed.file) feed ds spelt), refused.1))
+    h.0

@@ -1,9 +1,10 @@
 -- What the parsers answer, by what a lexer has still to give.
 use Rattle.std.specs.Prelude.{◌≡◌, ℕ, List, Result, Ok, Err, true, false}
 use Rattle.std.specs.Global.{Vec}
+use Rattle.isle_base.specs.declared.error.Error.{Error}
 use Rattle.isle_base.specs.declared.lexer.Fault.{Fault}
 use Rattle.isle_base.specs.declared.lexer.Pos.{Pos}
-use Rattle.isle_base.specs.Steps.{is_failed}
+use Rattle.isle_base.specs.Steps.{is_failed, IfError}
 use Rattle.isle_base.specs.Token.{Feed}
 use Rattle.isle_ast.specs.Tree.{Definition}
 use Rattle.isle_ast.specs.declared.ast.Def.{Def}
@@ -17,11 +18,13 @@ pub record SpellsOnly (place : ℕ → Pos) (feed : Feed) (ds : List Definition)
   pub spelt : Spells place feed ds
   pub only : (es : List Definition) → Spells place feed es → es ≡ ds
 
+-- no list of definitions is spelt, and the error stands in the text
+abbrev pub RefusesWith : (ℕ → Pos) → Feed → Error → Type 0
+RefusesWith place feed e = ((ds : List Definition) → Spells place feed ds → ⊥) × RefusesIn feed.file feed.size e
+
 -- An error means that no list of definitions is spelt. Want of memory says nothing.
 abbrev pub RefusesText : (ℕ → Pos) → Feed → Fault → Type 0
-RefusesText place feed (faults.Error e) = ((ds : List Definition) → Spells place feed ds → ⊥) × RefusesIn feed.file feed.size e
-RefusesText place feed faults.Failed = Unit {0}
-RefusesText place feed faults.Memory = Unit {0}
+RefusesText place feed f = IfError (RefusesWith place feed) f
 
 -- whether a parser answers that its lexer was failed
 abbrev pub FailsAs : Feed → Fault → Type 0

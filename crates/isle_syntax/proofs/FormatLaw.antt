@@ -6,6 +6,7 @@ use Rattle.isle_base.specs.Place.{nowhere, placed}
 use Rattle.isle_base.specs.Token.{end, fault, Feed}
 use Rattle.isle_base.proofs.Complete.{Lexes-unique}
 use Rattle.isle_parser.proofs.Reading.Definitions.{one_list}
+use Rattle.isle_parser.proofs.Whole.{IfError-map}
 use Rattle.isle_ast.specs.Tree.{Definition}
 use Rattle.isle_ast.specs.Erased.{erase}
 use Rattle.isle_ast.specs.Grammar.{SpellsDefinitions}
@@ -16,10 +17,10 @@ use Rattle.isle_ast.proofs.Writable.Spelt.{spelt_is_writable}
 use Rattle.isle_printer.proofs.Printing.{IsPrinted-text, WiderHasNoMoreLines-from_text}
 use Rattle.isle_printer.proofs.PrintLaw.{IsPrinted-ReadsBack, IsPrinted-erased, IsPrinted-tokens}
 use Rattle.isle_printer.proofs.ShortLines.Definitions.{IsPrinted-HasShortLines}
-use Rattle.isle_parser.specs.Parsed.{RefusesText}
+use Rattle.isle_parser.specs.Parsed.{RefusesText, RefusesWith}
 use Rattle.isle_parser_cursor.specs.Outcomes.{RefusesIn}
+use Rattle.isle_base.specs.declared.error.Error.{Error}
 use Rattle.isle_base.specs.declared.lexer.Fault.{Fault}
-use Rattle.isle_base.specs.declared.lexer.Fault.TheVariants as faults
 use Rattle.isle_base.specs.Steps.{IfError, RefusesStart}
 use Rattle.isle_syntax.specs.Format.{IsFormatted, IsRefused, OfItsTree}
 
@@ -86,29 +87,29 @@ IsSpelt-Spells text feed ds l s =
     let same = Lexes-unique (length text) text s.0 feed.coming end feed.ending s.1 l in
     (sym same.1, subst (λ tokens. SpellsDefinitions ds (placed nowhere tokens)) same.0 s.2)
 
+-- the text is refused, and the error stands in it
+abbrev pub IsRefusedWith : List ℕ → Error → Type 0
+IsRefusedWith text e = IsRefused text × RefusesIn 0 (length text) e
+
 -- A text that begins with a fault is refused there.
-pub refused_start : (text : List ℕ) (f : Fault) → IfError (RefusesStart 0 text) f
-    → IfError (λ e. IsRefused text × RefusesIn 0 (length text) e) f
-refused_start text (faults.Error e) s =
-    (IsRefused-from text (fault_spells_nothing text s.0 s.1), (s.0, fault_within text s.0 s.1, s.2))
-refused_start text faults.Failed s = tt
-refused_start text faults.Memory s = tt
+pub refused_start : (text : List ℕ) (f : Fault) → IfError (RefusesStart 0 text) f → IfError (IsRefusedWith text) f
+refused_start text f =
+    IfError-map (RefusesStart 0 text) (IsRefusedWith text) f (λ e s. (IsRefused-from text (fault_spells_nothing text s.0 s.1), (s.0, fault_within text s.0 s.1, s.2)))
 
 -- A text of whose lexer the parser makes no tree is refused where the parser refuses it.
 pub refused_tree : (text : List ℕ) (feed : Feed) (f : Fault) → feed.file ≡ 0 → feed.size ≡ length text
     → lexes text feed.coming feed.ending → RefusesText nowhere feed f
-    → IfError (λ e. IsRefused text × RefusesIn 0 (length text) e) f
-refused_tree text feed (faults.Error e) file size l refused = (
-  IsRefused-from text (λ ds spelt. refused.0 ds (IsSpelt-Spells text feed ds l spelt)),
-  subst (λ size. RefusesIn 0 size e) size (subst (λ file. RefusesIn file feed.size e) file refused.1),
-)
-refused_tree text feed faults.Failed file size l refused = tt
-refused_tree text feed faults.Memory file size l refused = tt
+    → IfError (IsRefusedWith text) f
+refused_tree text feed f file size l =
+    IfError-map (RefusesWith nowhere feed) (IsRefusedWith text) f (λ e refused. (
+      IsRefused-from text (λ ds spelt. refused.0 ds (IsSpelt-Spells text feed ds l spelt)),
+      subst (λ size. RefusesIn 0 size e) size (subst (λ file. RefusesIn file feed.size e) file refused.1),
+    ))
 
 -- what holds of the one tree of a text holds of each tree that it spells
-pub of_its_tree : (P : List Definition → Type 0) (text : List ℕ) (tree : List Definition)
-    → IsSpelt nowhere text tree → P tree → OfItsTree text P
-of_its_tree P text tree s p other t = subst P (IsSpelt-one text tree other s t) p
+pub of_its_tree : {width : ℕ} {text answer : List ℕ} (f : IsFormatted width text answer)
+    → (P : List Definition → Type 0) → P f.tree → OfItsTree text P
+of_its_tree {text = text} f P p other t = subst P (IsSpelt-one text f.tree other f.spelt t) p
 
 -- the print of the tree
 pub formatted : (width : ℕ) (text answer : List ℕ) (feed : Feed) (tree : List Definition)

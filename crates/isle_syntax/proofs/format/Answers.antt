@@ -30,13 +30,13 @@ returns-in-Ok c =
     let f = formatted width text answer c.in_ok-lexer.lexer (definitions_of c.in_ok-defs.defs.items) c.in_ok-lexer.ensures.tokens c.in_ok-defs.ensures.spelt is in
     record {
       spelt = (f.tree, f.spelt);
-      only = of_its_tree (IsOnlyTree text) text f.tree f.spelt f.only;
-      printed = of_its_tree (λ tree. IsPrinted width tree answer) text f.tree f.spelt f.printed;
-      read_back = of_its_tree (IsSpelt nowhere answer) text f.tree f.spelt f.read_back;
-      equal_prints = of_its_tree (HasPrintOfItsOwn width answer) text f.tree f.spelt f.equal_prints;
+      only = of_its_tree f (IsOnlyTree text) f.only;
+      printed = of_its_tree f (λ tree. IsPrinted width tree answer) f.printed;
+      read_back = of_its_tree f (IsSpelt nowhere answer) f.read_back;
+      equal_prints = of_its_tree f (HasPrintOfItsOwn width answer) f.equal_prints;
       short_lines = f.short_lines;
-      fewer_lines = of_its_tree (λ tree. WiderHasNoMoreLines width tree answer) text f.tree f.spelt f.fewer_lines;
-      other_widths = of_its_tree (ReadsBackAtOtherWidths answer) text f.tree f.spelt f.other_widths;
+      fewer_lines = of_its_tree f (λ tree. WiderHasNoMoreLines width tree answer) f.fewer_lines;
+      other_widths = of_its_tree f (ReadsBackAtOtherWidths answer) f.other_widths;
       refused = tt;
       never_failed = λ e. cc;
     }
