@@ -3,12 +3,13 @@
 -- column, and 0 past the width. A list has a counted length of at least 1, so it ends within the
 -- width exactly if it counts no more than the room.
 use Rattle.std.specs.Prelude.{ℕ, ◌+◌, ◌-◌, ◌*◌, List, ◌∷◌, ◌++◌, length, replicate, codes, nat_le, if◌then◌else◌}
+use Rattle.isle_base.specs.Bytes.{line_feed, space}
 use Rattle.isle_printer_layout.specs.Sexp.{Sexp, Sexps, atom, binding, row, none, more}
 use Rattle.isle_printer_layout.specs.Flat.{flat, counted}
 
 -- a new line: LF, and four spaces for each level
 abbrev pub new_line : ℕ → List ℕ
-new_line level = 10 ∷ replicate (4 * level) 32
+new_line level = line_feed ∷ replicate (4 * level) space
 
 -- An atom is written. A binding is its name, ` @ ` and what it binds. A list whose counted length
 -- is within the room is written on this line, any other list is broken.

@@ -2,6 +2,7 @@
 -- bytes it holds.
 use Rattle.std.specs.Prelude.{[], ℕ, ◌^◌, ◌==◌, suc, ℤ, pos, negsuc, List, if◌then◌else◌, codes, ◌∷◌, Bool, true, false, map}
 use Rattle.std.specs.Fmt.{decimal, signed_decimal}
+use Rattle.isle_base.specs.Bytes.{dollar}
 use Rattle.isle_printer_layout.specs.Sexp.{Sexp, atom, row_of}
 use Rattle.isle_ast_names.specs.Tree.{Name}
 
@@ -37,7 +38,7 @@ form_shape word items = row_of (atom word ∷ items)
 
 -- `$` and the name of a constant
 abbrev pub constant_shape : Name → Sexp
-constant_shape name = atom (36 ∷ name.text)
+constant_shape name = atom (dollar ∷ name.text)
 
 -- names in parentheses
 abbrev pub names_shape : List Name → Sexp

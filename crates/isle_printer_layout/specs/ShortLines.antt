@@ -1,5 +1,6 @@
 -- How long the lines of a text are on which lists stand whole.
 use Rattle.std.specs.Prelude.{◌≡◌, ℕ, ◌+◌, ◌≤◌, ◌==◌, ◌&&◌, List, [], ◌∷◌, ◌++◌, length, if◌then◌else◌}
+use Rattle.isle_base.specs.Bytes.{left_parenthesis, line_feed, right_parenthesis, space}
 use Rattle.isle_base.specs.Skips.{begins_with}
 use Rattle.isle_ast_names.specs.Writable.{Each}
 
@@ -11,23 +12,25 @@ before_first b (line ∷ lines) = (b ∷ line) ∷ lines
 -- The lines of a text, each without the LF that ends it. The last one may have none.
 abbrev pub text_lines : List ℕ → List (List ℕ)
 text_lines [] = []
-text_lines (b ∷ bs) = if b == 10 then [] ∷ text_lines bs else before_first b (text_lines bs)
+text_lines (b ∷ bs) = if b == line_feed then [] ∷ text_lines bs else before_first b (text_lines bs)
 
 -- how many spaces a line begins with
 abbrev pub indentation : List ℕ → ℕ
 indentation [] = 0
-indentation (b ∷ bs) = if b == 32 then 1 + indentation bs else 0
+indentation (b ∷ bs) = if b == space then 1 + indentation bs else 0
 
 -- how many empty lists stand on a line: a `(` and a `)` just behind it
 abbrev pub empty_lists : List ℕ → ℕ
 empty_lists [] = 0
-empty_lists (b ∷ bs) = (if b == 40 && begins_with (λ next. next == 41) bs then 1 else 0) + empty_lists bs
+empty_lists (b ∷ bs) =
+    (if b == left_parenthesis && begins_with (λ next. next == right_parenthesis) bs then 1 else 0)
+    + empty_lists bs
 
 -- Where a list may stand whole on a line, since a `(` is before a `)`, the line has at most as many
 -- bytes as the width, its indentation, and one more for each empty list on it.
 abbrev pub IsShortLine : ℕ → List ℕ → Type 0
 IsShortLine width line =
-    (before within behind : List ℕ) → line ≡ before ++ 40 ∷ within ++ 41 ∷ behind
+    (before within behind : List ℕ) → line ≡ before ++ left_parenthesis ∷ within ++ right_parenthesis ∷ behind
     → length line ≤ width + indentation line + empty_lists line
 
 abbrev pub HasShortLines : ℕ → List ℕ → Type 0
