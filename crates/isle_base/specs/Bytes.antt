@@ -1,4 +1,4 @@
--- The bytes that the definitions name: the codes of the characters, each under the character's name.
+-- The bytes that the definitions name: codes of characters, each under the name of its character.
 use Rattle.std.specs.Prelude.{ℕ}
 
 abbrev pub tab : ℕ

@@ -17,7 +17,10 @@ use isle_ast_names::ast::writability::{are_names, is_constant_name, is_name};
 pub(super) fn is_writable_decl(decl: &Decl) -> bool
     ensures { result ≡ is_writable_declaration (declaration_of decl.now) }
 {
-    is_name(&decl.term) && are_names(&decl.arg_tys) && is_name(&decl.ret_ty) && term_is_no_flag(decl)
+    is_name(&decl.term)
+        && are_names(&decl.arg_tys)
+        && is_name(&decl.ret_ty)
+        && term_is_no_flag(decl)
 }
 
 /// Tells whether the term isn't read as a flag that the declaration doesn't have: where it is the

@@ -54,7 +54,7 @@ fn is_writable_condition(iflet: &IfLet) -> bool
 fn pattern_is_no_head(rule: &Rule) -> bool
     ensures { result
         ≡ pattern_is_no_head
-            (optional_name_of rule.now.name) rule.now.prio (pattern_of rule.now.pattern) }
+        (optional_name_of rule.now.name) rule.now.prio (pattern_of rule.now.pattern) }
 {
     if rule.prio.is_some() {
         true
