@@ -4,3 +4,4 @@ pub mod Reading
 pub mod Positions
 pub mod Rows
 pub mod Whole
+pub mod NextDefinition

@@ -5,3 +5,4 @@ pub mod ModelReaders
 pub mod TermReaders
 pub mod TypeReaders
 pub mod DefinitionReaders
+pub mod NextDefinition

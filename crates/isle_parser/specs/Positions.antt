@@ -75,10 +75,18 @@ abbrev pub behind_first : List Lexeme → List Lexeme
 behind_first [] = []
 behind_first (x ∷ xs) = xs
 
--- Each position is the first byte of a token, and never of the first one.
-abbrev pub HasPositions : ℕ → List Lexeme → List Definition → Type 0
-HasPositions file xs ds = AllByRecursion (EachPosition (BeginsToken file (behind_first xs))) ds
+-- Each position in a definition is the first byte of a token, and never of the first one.
+abbrev pub OneHasPositions : ℕ → List Lexeme → Definition → Type 0
+OneHasPositions file xs d = EachPosition (BeginsToken file (behind_first xs)) d
 
--- no position is the default one, which stands for an unknown place
+-- the same of definitions
+abbrev pub HasPositions : ℕ → List Lexeme → List Definition → Type 0
+HasPositions file xs ds = AllByRecursion (OneHasPositions file xs) ds
+
+-- no position in a definition is the default one, which stands for an unknown place
+abbrev pub OneHasKnownPositions : Definition → Type 0
+OneHasKnownPositions d = EachPosition (λ (pos : Pos). pos ≡ unknown → ⊥) d
+
+-- the same of definitions
 abbrev pub HasKnownPositions : List Definition → Type 0
-HasKnownPositions ds = AllByRecursion (EachPosition (λ (pos : Pos). pos ≡ unknown → ⊥)) ds
+HasKnownPositions ds = AllByRecursion OneHasKnownPositions ds

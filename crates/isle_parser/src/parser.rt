@@ -1,17 +1,21 @@
 //! Parser for the ISLE language.
 
-ghost use Rattle.std.specs.Prelude.{◌≡◌, ◌↔◌, List, IfOk, IfErr, IsErrOf, true, false};
+ghost use Rattle.std.specs.Prelude.{◌≡◌, ◌↔◌, List, IfOk, IfErr, IsErrOf, None, Ok, OnErr, OnOk};
+ghost use Rattle.std.specs.Prelude.{true, false};
+ghost use Rattle.isle_ast.specs.Grammar.{SpellsDefinition};
 ghost use Rattle.isle_ast.specs.Erased.{erase};
-ghost use Rattle.isle_ast.specs.MacroArgs.{definitions_have_macro_arg};
+ghost use Rattle.isle_ast.specs.MacroArgs.{definition_has_macro_arg, definitions_have_macro_arg};
 ghost use Rattle.isle_ast.specs.Spelt.{Spells};
 ghost use Rattle.isle_ast.specs.Tree.{Definition};
 ghost use Rattle.isle_ast.specs.TreeView.{definitions_of};
-ghost use Rattle.isle_base.specs.Place.{in_file, nowhere};
-ghost use Rattle.isle_base.specs.Steps.{Rises, is_failed};
+ghost use Rattle.isle_base.specs.Place.{Placed, in_file, nowhere};
+ghost use Rattle.isle_base.specs.Steps.{IfError, Rises, is_at_end, is_failed};
 ghost use Rattle.isle_base.specs.declared.lexer.Fault.TheVariants.{Failed};
+ghost use Rattle.isle_parser.specs.NextDefinition.{IfFound, RefusesNext, fault_of, has_failed};
 ghost use Rattle.isle_parser.specs.Parsed.{Parses, RefusesText};
 ghost use Rattle.isle_parser.specs.Positions.{HasKnownPositions, HasPositions};
-ghost use Rattle.isle_parser_cursor.specs.Outcomes.{placing};
+ghost use Rattle.isle_parser.specs.Positions.{OneHasKnownPositions, OneHasPositions};
+ghost use Rattle.isle_parser_cursor.specs.Outcomes.{placing, source, tokens};
 
 mod definitions;
 mod forms;
@@ -20,7 +24,7 @@ mod models;
 mod terms;
 mod types;
 
-use crate::parser::definitions::parse_defs;
+use crate::parser::definitions::parse_def;
 use isle_ast::ast::Def;
 use isle_base::lexer::{Fault, Lexer};
 use isle_parser_cursor::cursor::{Cursor, Stop};
@@ -95,10 +99,13 @@ pub fn parse_without_pos(alloc: Global, lexer: Lexer) -> Result<Vec<Def>, Fault>
 
 /// The ISLE parser.
 ///
-/// Takes in a lexer and creates an AST. Its parsing calls are private: `parse` is the way in.
+/// Takes in a lexer and creates an AST. `next_def` gives its definitions one after another; `parse`
+/// gives all of them at once.
 #[derive(Debug, Drop)]
 pub struct Parser<'src> {
     cursor: Cursor<'src>,
+    /// Whether an earlier call was refused.
+    refused: bool,
 }
 
 impl<'src> Clone for Parser<'src> {
@@ -107,6 +114,7 @@ impl<'src> Clone for Parser<'src> {
     fn clone(&self) -> Result<Parser<'src>, AllocError> {
         Ok(Parser {
             cursor: self.cursor.clone()?,
+            refused: self.refused,
         })
     }
 }
@@ -116,12 +124,14 @@ impl<'src> Parser<'src> {
     pub fn new(lexer: Lexer<'src>) -> Parser<'src>
         ensures lexer { result.cursor.lexer ≡ lexer.entry }
         ensures positions { result.cursor.disable_pos ≡ false }
+        ensures ready { result.refused ≡ false }
     {
         Parser {
             cursor: Cursor {
                 lexer,
                 disable_pos: false,
             },
+            refused: false,
         }
     }
 
@@ -129,29 +139,102 @@ impl<'src> Parser<'src> {
     fn new_without_pos_tracking(lexer: Lexer<'src>) -> Parser<'src>
         ensures lexer { result.cursor.lexer ≡ lexer.entry }
         ensures positions { result.cursor.disable_pos ≡ true }
+        ensures ready { result.refused ≡ false }
     {
         Parser {
             cursor: Cursor {
                 lexer,
                 disable_pos: true,
             },
+            refused: false,
         }
+    }
+
+    /// The next definition that the tokens to come spell, or `None` at the end of the text.
+    ///
+    /// It takes the tokens of that definition off, and the next call goes on behind them. No front
+    /// of the tokens to come spells another definition. No pattern in it is or holds the argument
+    /// of a macro. Each position in it is a byte offset in the lexer's text, with the number of the
+    /// lexer's file: the first byte of a token to come, and never of the first one. `None` comes
+    /// exactly where nothing is to come and the parser has not failed, and leaves it as it was.
+    ///
+    /// It answers an error only where no front of the tokens to come spells a definition, or where
+    /// the lexer refuses its text further on: then the definition may be spelt before that fault.
+    /// The error is a parse error at one byte of the text, or at its end. `Memory` comes where a
+    /// growth was refused. After either the parser has failed, as it has from the first if its
+    /// lexer had refused the text: it answers `Failed` then, and only then, to each later call.
+    pub fn next_def(&mut self, alloc: Global) -> Result<Option<Def>, Fault>
+        // What `Ok` holds.
+        ensures end { (result ≡ Ok None)
+            ↔ ((has_failed self.old ≡ false) × (is_at_end self.old.cursor.lexer ≡ true)) }
+        ensures spelt { IfFound result
+            (λ d. SpellsDefinition d (tokens self.old.cursor) (tokens self.new.cursor)) }
+        ensures only { IfFound result
+            (λ d. (e : Definition) (rest : List Placed)
+            → SpellsDefinition e (tokens self.old.cursor) rest
+            → (e ≡ d) × (rest ≡ tokens self.new.cursor)) }
+        ensures positions { self.old.cursor.disable_pos ≡ false → IfFound result
+            (OneHasPositions self.old.cursor.lexer.file self.old.cursor.lexer.coming) }
+        ensures known { self.old.cursor.disable_pos ≡ false
+            → IfFound result OneHasKnownPositions }
+        ensures no_macro_arg { IfFound result (λ d. definition_has_macro_arg d ≡ false) }
+
+        // When each error comes.
+        ensures refused { IfErr result (IfError (RefusesNext self.old.cursor)) }
+        ensures failed { IsErrOf result Failed ↔ (has_failed self.old ≡ true) }
+
+        // What is left after it.
+        ensures same { source self.new.cursor ≡ source self.old.cursor }
+        ensures at_end { result ≡ Ok None → self.new ≡ self.old }
+        ensures ready { OnOk result (has_failed self.new ≡ false) }
+        ensures stays_failed { OnErr result (has_failed self.new ≡ true) }
+        ensures rising { Rises 0 self.old.cursor.lexer.coming }
+    {
+        if self.has_failed() {
+            return Err(Fault::Failed);
+        }
+        if self.cursor.is_at_end() {
+            return Ok(None);
+        }
+        match parse_def(&mut self.cursor, alloc) {
+            Ok(def) => Ok(Some(def)),
+            Err(stop) => {
+                self.refused = true;
+                Err(fault_of(stop))
+            }
+        }
+    }
+
+    /// Tells whether the lexer had refused its text, or an earlier call was refused.
+    fn has_failed(&self) -> bool
+        ensures failed { result ≡ has_failed self.now }
+        ensures rising { Rises 0 self.now.cursor.lexer.coming }
+    {
+        self.cursor.is_failed() || self.refused
     }
 
     /// Everything that the lexer has still to give.
     fn parse_all(&mut self, alloc: Global) -> Result<Vec<Def>, Fault>
+        requires { self.old.refused ≡ false }
         ensures parses { Parses (placing self.old.cursor.disable_pos self.old.cursor.lexer.file)
             self.old.cursor.lexer result }
         ensures rising { Rises 0 self.old.cursor.lexer.coming }
     {
-        if self.cursor.is_failed() {
-            return Err(Fault::Failed);
+        let mut defs = Vec::new(alloc);
+        while let Some(def) = self.next_def(alloc)? {
+            defs.push(def)?;
         }
-        match parse_defs(&mut self.cursor, alloc) {
-            Ok(defs) => Ok(defs),
-            Err(Stop::Parser(error)) => Err(Fault::Error(error)),
-            Err(Stop::Lexer(error)) => Err(Fault::Error(error)),
-            Err(Stop::Memory) => Err(Fault::Memory),
-        }
+        Ok(defs)
+    }
+}
+
+/// What the parser answers where reading stops.
+fn fault_of(stop: Stop) -> Fault
+    ensures { result ≡ fault_of stop }
+{
+    match stop {
+        Stop::Parser(error) => Fault::Error(error),
+        Stop::Lexer(error) => Fault::Error(error),
+        Stop::Memory => Fault::Memory,
     }
 }

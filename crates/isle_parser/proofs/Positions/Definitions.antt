@@ -25,7 +25,7 @@ use Rattle.isle_ast.specs.TypeGrammar.{SpellsNamedField, SpellsIndexedFields, Sp
 use Rattle.isle_parser.specs.Parsed.{Parses}
 use Rattle.isle_parser_cursor.specs.Positions.{OfName, OfNames, OfOptionalName}
 use Rattle.isle_parser_specs.specs.Positions.{OfModel, OfSpec, OfSpecDefinition, OfSpecMacro, OfState}
-use Rattle.isle_parser.specs.Positions.{OfNamedField, OfIndexedField, OfFields, OfVariant, OfTypeContent, OfTarget, OfKind, OfSignature, OfModelContent, OfExtern, BeginsToken, EachPosition, HasKnownPositions, HasPositions, behind_first}
+use Rattle.isle_parser.specs.Positions.{OfNamedField, OfIndexedField, OfFields, OfVariant, OfTypeContent, OfTarget, OfKind, OfSignature, OfModelContent, OfExtern, BeginsToken, EachPosition, HasKnownPositions, OneHasKnownPositions, OneHasPositions, HasPositions, behind_first}
 use Rattle.isle_parser_rules.specs.Positions.{OfRule, OfExtractor}
 use Rattle.isle_parser.proofs.Reading.Definitions.{SpellsKeyword, to_keyword}
 use Rattle.isle_parser_specs.proofs.Positions.Models.{type_model_stands, models_stand}
@@ -287,3 +287,13 @@ known_found feed (Ok defs) rising h =
     definitions_stand (definitions_of defs.items) (placed (in_file feed.file) feed.coming) [] h.spelt.1 (λ (pos : Pos). pos ≡ unknown → ⊥)
     (λ pos a. behind_known feed.file feed.coming pos rising (behind_token feed.file feed.coming pos a))
 known_found feed (Err e) rising h = tt
+
+-- ---- of one definition
+
+pub definition_positions : (file : ℕ) (xs : List Lexeme) (d : Definition) (rest : List Placed) → SpellsDefinition d (placed (in_file file) xs) rest → OneHasPositions file xs d
+definition_positions file xs d rest h = (definition_stands d (placed (in_file file) xs) rest h (BeginsToken file (behind_first xs)) (behind_token file xs)).0
+
+pub definition_known : (file : ℕ) (xs : List Lexeme) (d : Definition) (rest : List Placed) → Rises 0 xs → SpellsDefinition d (placed (in_file file) xs) rest → OneHasKnownPositions d
+definition_known file xs d rest rising h =
+    (definition_stands d (placed (in_file file) xs) rest h (λ (pos : Pos). pos ≡ unknown → ⊥)
+    (λ pos a. behind_known file xs pos rising (behind_token file xs pos a))).0

@@ -1,5 +1,5 @@
 -- Definitions are read as the grammar spells them, and one list of tokens spells one list of them.
-use Rattle.std.proofs.Common.{◌≡◌, ℕ, ◌≤◌, ◌<◌, Bool, true, cond, List, [], ◌∷◌, length, suc, Option, Some, refl, sym, subst, ◌∙◌, arith, inl, inr}
+use Rattle.std.proofs.Common.{◌≡◌, ℕ, ◌≤◌, ◌<◌, Bool, true, cond, List, [], ◌∷◌, length, suc, Option, Some, None, refl, sym, subst, ◌∙◌, arith, inl, inr}
 use Rattle.std.specs.Prelude.{codes}
 use Rattle.std.specs.Str.{bytes_eq}
 use Rattle.isle_base.specs.Place.{Placed}
@@ -304,9 +304,22 @@ pub definition_sound : Sound SpellsDefinition definition
 unfolding definition
 definition_sound all rest x e = from_keyword x all rest (parentheses_sound SpellsKeyword keyword_form keyword_form_sound all rest x e)
 
-pub definition_complete : Complete SpellsDefinition definition
+-- a definition that is spelt is read, whatever stands behind it
+pub definition_read : (d : Definition) (all rest : List Placed) → SpellsDefinition d all rest → definition all ≡ Some (d, rest)
 unfolding definition
-definition_complete x all rest goes h = enclosed_complete SpellsKeyword keyword_form keyword_form_complete x all rest (to_keyword x all rest h)
+definition_read d all rest h = enclosed_complete SpellsKeyword keyword_form keyword_form_complete d all rest (to_keyword d all rest h)
+
+-- two definitions at the front of one list of tokens are one, and so is what stands behind them
+pub one_definition : (d e : Definition) (all i j : List Placed) → SpellsDefinition d all i → SpellsDefinition e all j → (d ≡ e) × (i ≡ j)
+one_definition d e all i j p q = done_is d e i j (sym (definition_read d all i p) ∙ definition_read e all j q)
+
+read_nothing : (read : Option (Definition × List Placed)) → ((d : Definition) (rest : List Placed) → read ≡ Some (d, rest) → ⊥) → read ≡ None
+read_nothing None h = refl
+read_nothing (Some x) h = absurd (h x.0 x.1 refl)
+
+-- where no definition is spelt, none is read
+pub definition_not_read : (all : List Placed) → ((d : Definition) (rest : List Placed) → SpellsDefinition d all rest → ⊥) → definition all ≡ None
+definition_not_read all h = read_nothing (definition all) (λ d rest e. h d rest (definition_sound all rest d e))
 
 pub definition_begins : Begins SpellsDefinition
 definition_begins x all rest h = parentheses_begin (SpellsKeyword x) (keyword_form_shorter x) all rest (to_keyword x all rest h)
@@ -328,7 +341,7 @@ definitions_sound all rest ds e =
 
 pub definitions_complete : (ds : List Definition) (all : List Placed) → SpellsDefinitions ds all → definitions all ≡ Some (ds, [])
 unfolding definitions
-definitions_complete ds all h = many_complete SpellsDefinition definition ends (suc (length all)) (λ x i j below. definition_complete x i j) definition_begins stopping_ends ds all [] (omega arith) h refl
+definitions_complete ds all h = many_complete SpellsDefinition definition ends (suc (length all)) (λ x i j below goes. definition_read x i j) definition_begins stopping_ends ds all [] (omega arith) h refl
 
 -- one list of tokens spells one list of definitions
 pub one_list : (all : List Placed) (ds es : List Definition) → SpellsDefinitions ds all → SpellsDefinitions es all → ds ≡ es

@@ -1,10 +1,9 @@
 //! Definitions.
 
-ghost use Rattle.std.specs.Prelude.{◌≡◌, OnOk, true, false};
-ghost use Rattle.isle_ast.specs.TreeView.{definition_of, definitions_of};
-ghost use Rattle.isle_base.specs.Steps.{is_at_end, is_failed};
-ghost use Rattle.isle_parser.specs.DefinitionReaders.{behind, definition, definitions};
-ghost use Rattle.isle_parser.specs.DefinitionReaders.{keyword_form};
+ghost use Rattle.std.specs.Prelude.{◌≡◌, OnOk, false};
+ghost use Rattle.isle_ast.specs.TreeView.{definition_of};
+ghost use Rattle.isle_base.specs.Steps.{is_failed};
+ghost use Rattle.isle_parser.specs.DefinitionReaders.{behind, definition, keyword_form};
 ghost use Rattle.isle_parser_cursor.specs.Outcomes.{Gives, IsPlace, source, tokens};
 
 use crate::parser::forms::{parse_form, parse_instantiation};
@@ -18,23 +17,8 @@ use isle_parser_rules::parser::rules::{parse_etor, parse_rule};
 use isle_parser_specs::parser::spec_definitions::{parse_spec, parse_spec_macro, parse_state};
 use std::alloc::Global;
 
-#[tactic(auto, unfolding(crate::specs::DefinitionReaders::definitions))]
-pub(super) fn parse_defs(cursor: &mut Cursor, alloc: Global) -> Result<Vec<Def>, Stop>
-    requires { is_failed cursor.old.lexer ≡ false }
-    ensures same { source cursor.new ≡ source cursor.old }
-    ensures gives { Gives
-        (λ ds. definitions_of ds.items) (definitions (tokens cursor.old)) result cursor.new }
-    ensures at_end { OnOk result (is_at_end cursor.new.lexer ≡ true) }
-{
-    let mut defs = Vec::new(alloc);
-    while !cursor.is_at_end() {
-        defs.push(parse_def(cursor, alloc)?)?;
-    }
-    Ok(defs)
-}
-
 #[tactic(auto, unfolding(crate::specs::DefinitionReaders::definition, isle_parser_cursor::specs::Reading::in_parentheses))]
-fn parse_def(cursor: &mut Cursor, alloc: Global) -> Result<Def, Stop>
+pub(super) fn parse_def(cursor: &mut Cursor, alloc: Global) -> Result<Def, Stop>
     ensures same { source cursor.new ≡ source cursor.old }
     ensures gives { Gives definition_of (definition (tokens cursor.old)) result cursor.new }
     ensures goes_on { OnOk result (is_failed cursor.new.lexer ≡ false) }

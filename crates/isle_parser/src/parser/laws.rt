@@ -1,6 +1,8 @@
 //! Laws of the grammar that follow from how the parser reads.
 
-ghost use Rattle.std.specs.Prelude.{◌≡◌, List, false};
+ghost use Rattle.std.specs.Prelude.{◌≡◌, ◌↔◌, ◌∷◌, List, false};
+ghost use Rattle.isle_ast.specs.Grammar.{SpellsDefinition, SpellsDefinitions};
+ghost use Rattle.isle_ast.specs.Tree.{Definition};
 ghost use Rattle.isle_ast_rules.specs.ExpressionGrammar.{SpellsExpression};
 ghost use Rattle.isle_ast_rules.specs.PatternGrammar.{SpellsPattern};
 ghost use Rattle.isle_ast_rules.specs.Tree.{Expression, PatternNode};
@@ -17,4 +19,16 @@ pub fn patterns_and_expressions_are_read_once()
         × (i ≡ j) }
     ensures expressions { (x y : Expression) (all i j : List Placed) → SpellsExpression x all i
         → SpellsExpression y all j → (x ≡ y) × (i ≡ j) }
+{}
+
+/// A law, which runs no code: a list of definitions is spelt exactly where a front of the tokens
+/// spells the first and the tokens behind it spell the others, and one definition at most is spelt
+/// by a front. So what `next_def` gives, one definition after another up to `None`, is the list
+/// that `parse` answers.
+pub fn definitions_are_read_one_after_another()
+    ensures one_after_another { (d : Definition) (ds : List Definition) (all : List Placed)
+        → SpellsDefinitions (d ∷ ds) all ↔ ((rest : List Placed) × SpellsDefinition d all rest
+        × SpellsDefinitions ds rest) }
+    ensures once { (d e : Definition) (all i j : List Placed) → SpellsDefinition d all i
+        → SpellsDefinition e all j → (d ≡ e) × (i ≡ j) }
 {}
