@@ -1,6 +1,7 @@
 -- The printed text: the relation and the function are one, and a greater width has no more lines.
-use Rattle.std.proofs.Common.{◌≡◌, ℕ, ◌+◌, ◌≤◌, List, [], ◌∷◌, ◌++◌, Bool, true, false, ◌||◌, refl, sym, ap, ◌∙◌, subst, arith}
+use Rattle.std.proofs.Common.{◌≡◌, ℕ, ◌+◌, ◌≤◌, List, [], ◌∷◌, ◌++◌, Bool, true, false, ◌||◌, length, length-append, refl, sym, ap, ◌∙◌, subst, arith}
 use Rattle.std.proofs.lemmas.Bool.{false≢true}
+use Rattle.std.proofs.lemmas.List.{append-nil, append_assoc}
 use Rattle.isle_ast.specs.Tree.{Definition}
 use Rattle.isle_ast.specs.MacroArgs.{definition_has_macro_arg, definitions_have_macro_arg}
 use Rattle.isle_printer_layout.specs.Layout.{layout}
@@ -88,3 +89,29 @@ printed_text-line_end_count narrow wide (d ∷ ds) le =
 pub WiderHasNoMoreLines-from_text : (width : ℕ) (ds : List Definition) (text : List ℕ) → text ≡ printed_text width ds → WiderHasNoMoreLines width ds text
 WiderHasNoMoreLines-from_text width ds text e wide other le printed =
     omega (arith, printed_text-line_end_count width wide ds le, ap line_end_count e, ap line_end_count (IsPrinted-text wide ds other printed))
+
+-- ---- one definition more
+
+-- the end of a list of definitions, one definition further
+behind_text-push : (width : ℕ) (ds : List Definition) (d : Definition) → behind_text width (ds ++ d ∷ []) ≡ behind_text width ds ++ 10 ∷ definition_text width d
+behind_text-push width [] d = append-nil (10 ∷ definition_text width d)
+behind_text-push width (e ∷ ds) d =
+    ap (λ t. 10 ∷ definition_text width e ++ t) (behind_text-push width ds d)
+    ∙ sym (append_assoc (10 ∷ definition_text width e) (behind_text width ds) (10 ∷ definition_text width d))
+
+-- the first definition stands where nothing is written
+pub printed_text-first : (width : ℕ) (before : List Definition) (text : List ℕ) (d : Definition) → text ≡ printed_text width before → length text ≡ 0 → text ++ definition_text width d ≡ printed_text width (before ++ d ∷ [])
+printed_text-first width [] text d e empty = ap (λ t. t ++ definition_text width d) e ∙ sym (append-nil (definition_text width d))
+printed_text-first width (b ∷ ds) text d e empty =
+    let whole = ap length e in
+    let parts = length-append (definition_text width b) (behind_text width ds) in
+    let first = length-append (layout width (definition_shape b)) (10 ∷ []) in
+    absurd (omega (arith, empty, whole, parts, first))
+
+-- any other stands behind an empty line
+pub printed_text-next : (width : ℕ) (before : List Definition) (text : List ℕ) (d : Definition) → text ≡ printed_text width before → (length text ≡ 0 → ⊥) → text ++ 10 ∷ definition_text width d ≡ printed_text width (before ++ d ∷ [])
+printed_text-next width [] text d e some = absurd (some (ap length e))
+printed_text-next width (b ∷ ds) text d e some =
+    ap (λ t. t ++ 10 ∷ definition_text width d) e
+    ∙ append_assoc (definition_text width b) (behind_text width ds) (10 ∷ definition_text width d)
+    ∙ ap (λ t. definition_text width b ++ t) (sym (behind_text-push width ds d))

@@ -1,4 +1,5 @@
 pub mod DefinitionShapes
 pub mod Printed
+pub mod PrintedNodes
 pub mod Lines
 pub mod ReadBack

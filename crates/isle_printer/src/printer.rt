@@ -5,7 +5,7 @@
 //! printer of `cranelift-isle`, save that an empty list is `()` also where it does not fit, and
 //! that a `String` is answered in place of writing to a writer.
 
-mod definitions;
+pub(crate) mod definitions;
 mod expressions;
 pub mod laws;
 mod models;
@@ -16,20 +16,23 @@ mod terms;
 mod to_sexpr;
 mod types;
 
-ghost use Rattle.std.specs.Prelude.{◌≡◌, ◌++◌, IfOk, OnOk, IfSome, IsSome, IsErrOf, None, true};
-ghost use Rattle.std.specs.Prelude.{false, string_bytes};
-ghost use Rattle.isle_ast.specs.MacroArgs.{definition_has_macro_arg, definitions_have_macro_arg};
-ghost use Rattle.isle_ast.specs.TreeView.{definition_of, definitions_of};
+ghost use Rattle.std.specs.Prelude.{◌≡◌, ◌≤◌, ◌+◌, IfOk, IfSome, IsSome, IsErrOf};
+ghost use Rattle.std.specs.Prelude.{None, OnOk, [], true, false, string_bytes};
+ghost use Rattle.isle_ast.specs.MacroArgs.{definitions_have_macro_arg};
+ghost use Rattle.isle_ast.specs.TreeView.{definitions_of};
 ghost use Rattle.isle_ast.specs.Writable.{AreWritable};
 ghost use Rattle.isle_printer.specs.Lines.{WiderHasNoMoreLines};
-ghost use Rattle.isle_printer.specs.Printed.{IsPrinted, definition_text, printed_text};
+ghost use Rattle.isle_printer.specs.Printed.{IsPrinted, printed_text};
+ghost use Rattle.isle_printer.specs.PrintedNodes.{nodes_of_definitions};
 ghost use Rattle.isle_printer.specs.ReadBack.{ReadsBack, ReadsBackIfWritable};
 ghost use Rattle.isle_printer_layout.specs.Choices.{IsLayout};
 ghost use Rattle.isle_printer_layout.specs.Lines.{HasFewestLines};
 ghost use Rattle.isle_printer_layout.specs.declared.printer.sexpr.PrintFault.TheVariants.{MacroArg};
 
+use crate::lines::put_definition;
 use isle_ast::ast::Def;
 use isle_printer_layout::printer::put;
+use isle_printer_layout::printer::shape::shape_of;
 pub use isle_printer_layout::printer::{Looks, PrintFault, SExpr, fits};
 use std::alloc::Global;
 pub use to_sexpr::ToSExpr;
@@ -62,9 +65,43 @@ pub fn print(alloc: Global, defs: &[Def], width: usize) -> Result<String, PrintF
         → definitions_have_macro_arg (definitions_of defs.now) ≡ true }
     ensures unwritable { IsErrOf result MacroArg → AreWritable (definitions_of defs.now) → ⊥ }
 {
-    let mut looks = Looks::new();
+    print_counted(alloc, defs, width, &mut Looks::new())
+}
+
+/// Prints definitions as `print` does, and counts the nodes of S-expressions that it looks at.
+///
+/// Where it answers a text, it has looked at each node of the definitions' S-expressions once, and
+/// at no node more than once whatever it answers. It never looks at a definition that holds the
+/// argument of a macro, which has no S-expression.
+pub fn print_counted(
+    alloc: Global,
+    defs: &[Def],
+    width: usize,
+    looks: &mut Looks,
+) -> Result<String, PrintFault>
+    // What `Ok` holds.
+    ensures printed { IfOk result
+        (λ text. IsPrinted width (definitions_of defs.now) (string_bytes text)) }
+    ensures lines { IfOk result
+        (λ text. WiderHasNoMoreLines width (definitions_of defs.now) (string_bytes text)) }
+    ensures reads_back { IfOk result
+        (λ text. ReadsBack (definitions_of defs.now) (string_bytes text)) }
+    ensures writable { IfOk result
+        (λ text. ReadsBackIfWritable (definitions_of defs.now) (string_bytes text)) }
+
+    // When `MacroArg` comes.
+    ensures refused { IsErrOf result MacroArg
+        → definitions_have_macro_arg (definitions_of defs.now) ≡ true }
+    ensures unwritable { IsErrOf result MacroArg → AreWritable (definitions_of defs.now) → ⊥ }
+
+    // How many nodes it looks at.
+    ensures once { IfOk result
+        (λ _. looks.new.count ≡ looks.old.count + nodes_of_definitions (definitions_of defs.now)) }
+    ensures at_most { looks.new.count
+        ≤ looks.old.count + nodes_of_definitions (definitions_of defs.now) }
+{
     let mut out = String::new(alloc);
-    put_definitions(alloc, defs, width, &mut looks, &mut out)?;
+    put_definitions(alloc, defs, width, looks, &mut out)?;
     Ok(out)
 }
 
@@ -88,13 +125,13 @@ pub fn print_node<N: ToSExpr>(alloc: Global, node: &N, width: usize) -> Result<S
     ensures refused { IsErrOf result MacroArg → N.meaning node.now ≡ None }
 {
     let sexpr = node.to_sexpr(alloc)?;
-    let mut looks = Looks::new();
+    let shape = shape_of(&sexpr, alloc)?;
     let mut out = String::new(alloc);
-    put(&sexpr, width, width, 0, &mut looks, &mut out)?;
+    put(&shape, width, width, 0, &mut Looks::new(), &mut out)?;
     Ok(out)
 }
 
-/// Appends the printed text of definitions.
+/// Appends the printed text of definitions to the empty text.
 fn put_definitions(
     alloc: Global,
     defs: &[Def],
@@ -102,41 +139,19 @@ fn put_definitions(
     looks: &mut Looks,
     out: &mut String,
 ) -> Result<(), PrintFault>
+    requires { string_bytes out.old ≡ [] }
     ensures plain { OnOk result (definitions_have_macro_arg (definitions_of defs.now) ≡ false) }
-    ensures printed { OnOk result (string_bytes out.new
-        ≡ string_bytes out.old ++ printed_text width (definitions_of defs.now)) }
+    ensures printed { OnOk result
+        (string_bytes out.new ≡ printed_text width (definitions_of defs.now)) }
     ensures refused { IsErrOf result MacroArg
         → definitions_have_macro_arg (definitions_of defs.now) ≡ true }
+    ensures once { OnOk result
+        (looks.new.count ≡ looks.old.count + nodes_of_definitions (definitions_of defs.now)) }
+    ensures at_most { looks.new.count
+        ≤ looks.old.count + nodes_of_definitions (definitions_of defs.now) }
 {
-    match defs {
-        [] => Ok(()),
-        [first, rest @ ..] => {
-            put_definition(alloc, first, width, looks, out)?;
-            for def in rest {
-                out.push('\n')?;
-                put_definition(alloc, def, width, looks, out)?;
-            }
-            Ok(())
-        }
+    for def in defs {
+        put_definition(alloc, def, width, looks, out)?;
     }
-}
-
-/// Appends a definition's lines.
-fn put_definition(
-    alloc: Global,
-    def: &Def,
-    width: usize,
-    looks: &mut Looks,
-    out: &mut String,
-) -> Result<(), PrintFault>
-    ensures plain { OnOk result (definition_has_macro_arg (definition_of def.now) ≡ false) }
-    ensures printed { OnOk result (string_bytes out.new
-        ≡ string_bytes out.old ++ definition_text width (definition_of def.now)) }
-    ensures refused { IsErrOf result MacroArg
-        → definition_has_macro_arg (definition_of def.now) ≡ true }
-{
-    let sexpr = def.to_sexpr(alloc)?;
-    put(&sexpr, width, width, 0, looks, out)?;
-    out.push('\n')?;
     Ok(())
 }

@@ -8,3 +8,4 @@ pub mod ReadBackLaw
 pub mod ShortLines
 pub mod WordSymbols
 pub mod Spellings
+pub mod Sizes

@@ -1,5 +1,7 @@
 pub mod Sexp
+pub mod SexpCode
 pub mod Flat
+pub mod Lengths
 pub mod Layout
 pub mod Choices
 pub mod Lines
@@ -7,4 +9,6 @@ pub mod Looks
 pub mod NameShapes
 pub mod ReadBack
 pub mod SexpView
+pub mod ShapeView
+pub mod ShapeSizes
 pub mod ShortLines

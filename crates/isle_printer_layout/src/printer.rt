@@ -8,7 +8,9 @@ mod layout;
 mod looks;
 pub mod names;
 mod sexpr;
+pub mod shape;
 
 pub use layout::{fits, put};
 pub use looks::Looks;
 pub use sexpr::{PrintFault, SExpr};
+pub use shape::Shape;

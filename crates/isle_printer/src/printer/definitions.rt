@@ -1,14 +1,16 @@
 //! The S-expressions of definitions.
 
-ghost use Rattle.std.specs.Prelude.{◌≡◌, IfOk};
+ghost use Rattle.std.specs.Prelude.{◌≡◌, IfOk, IsErrOf, true, false};
+ghost use Rattle.isle_ast.specs.MacroArgs.{definition_has_macro_arg};
 ghost use Rattle.isle_ast.specs.TreeView.{definition_of};
 ghost use Rattle.isle_printer.specs.DefinitionShapes.{definition_shape};
-ghost use Rattle.isle_printer_layout.specs.SexpView.{sexp_of};
+ghost use Rattle.isle_printer_layout.specs.declared.printer.sexpr.PrintFault.TheVariants.{MacroArg};
 
 use super::to_sexpr::ToSExpr;
 use super::{models, terms, types};
 use isle_ast::ast::Def;
-use isle_printer_layout::printer::{PrintFault, SExpr};
+use isle_printer_layout::printer::shape::sexpr_of;
+use isle_printer_layout::printer::{PrintFault, SExpr, Shape};
 use isle_printer_rules::printer::rules;
 use isle_printer_specs::printer::definitions as specs;
 use std::alloc::{AllocError, Global};
@@ -23,16 +25,26 @@ impl ToSExpr for Def {
         (definition_has_macro_arg (definition_of d)) (definition_shape (definition_of d)) };
 
     fn to_sexpr(&self, alloc: Global) -> Result<SExpr, PrintFault> {
-        if self.has_macro_arg() {
-            return Err(PrintFault::MacroArg);
-        }
-        Ok(definition(alloc, self)?)
+        Ok(sexpr_of(&shape(alloc, self)?, alloc)?)
     }
 }
 
+/// The S-expression of a definition, unless it holds the argument of a macro.
+pub(crate) fn shape<'src>(alloc: Global, def: &'src Def) -> Result<Shape<'src>, PrintFault>
+    ensures plain { IfOk result (λ _. definition_has_macro_arg (definition_of def.now) ≡ false) }
+    ensures made { IfOk result (λ s. s ≡ definition_shape (definition_of def.now)) }
+    ensures refused { IsErrOf result MacroArg
+        → definition_has_macro_arg (definition_of def.now) ≡ true }
+{
+    if def.has_macro_arg() {
+        return Err(PrintFault::MacroArg);
+    }
+    Ok(definition(alloc, def)?)
+}
+
 /// The S-expression of a definition.
-fn definition(alloc: Global, def: &Def) -> Result<SExpr, AllocError>
-    ensures { IfOk result (λ s. sexp_of s ≡ definition_shape (definition_of def.now)) }
+fn definition<'src>(alloc: Global, def: &'src Def) -> Result<Shape<'src>, AllocError>
+    ensures { IfOk result (λ s. s ≡ definition_shape (definition_of def.now)) }
 {
     match def {
         Def::Pragma(pragma) => match *pragma {},

@@ -2,6 +2,7 @@
 
 use super::to_sexpr::ToSExpr;
 use isle_ast::ast::{Expr, LetDef};
+use isle_printer_layout::printer::shape::sexpr_of;
 use isle_printer_layout::printer::{PrintFault, SExpr};
 use isle_printer_rules::printer::expressions::{expression, let_definition};
 use std::alloc::Global;
@@ -14,7 +15,7 @@ impl ToSExpr for Expr {
     ghost meaning = { λ x. Some (expression_shape (expression_of x)) };
 
     fn to_sexpr(&self, alloc: Global) -> Result<SExpr, PrintFault> {
-        Ok(expression(self, alloc)?)
+        Ok(sexpr_of(&expression(self, alloc)?, alloc)?)
     }
 }
 
@@ -26,6 +27,6 @@ impl ToSExpr for LetDef {
     ghost meaning = { λ d. Some (let_shape (single_let_of d)) };
 
     fn to_sexpr(&self, alloc: Global) -> Result<SExpr, PrintFault> {
-        Ok(let_definition(self, alloc)?)
+        Ok(sexpr_of(&let_definition(self, alloc)?, alloc)?)
     }
 }

@@ -5,12 +5,12 @@ ghost use Rattle.isle_ast.specs.TreeView.{model_content_of, model_definition_of,
 ghost use Rattle.isle_ast.specs.TreeView.{signatures_of};
 ghost use Rattle.isle_printer.specs.DefinitionShapes.{model_content_shape, model_definition_shape};
 ghost use Rattle.isle_printer.specs.DefinitionShapes.{signature_shape};
-ghost use Rattle.isle_printer_layout.specs.SexpView.{sexp_of, sexps_of};
 
 use super::to_sexpr::ToSExpr;
 use isle_ast::ast::{Model, ModelField, ModelType, ModelValue, Signature};
-use isle_printer_layout::printer::names::{begun, headed, list, pair, push_name};
-use isle_printer_layout::printer::{PrintFault, SExpr};
+use isle_printer_layout::printer::names::{begun, headed, pair, push_name};
+use isle_printer_layout::printer::shape::sexpr_of;
+use isle_printer_layout::printer::{PrintFault, SExpr, Shape};
 use isle_printer_specs::printer::models::{model_field, model_type, push_models};
 use isle_printer_specs::printer::specs::spec;
 use std::alloc::{AllocError, Global};
@@ -23,7 +23,7 @@ impl ToSExpr for ModelType {
     ghost meaning = { λ m. Some (model_shape (type_model_of m)) };
 
     fn to_sexpr(&self, alloc: Global) -> Result<SExpr, PrintFault> {
-        Ok(model_type(self, alloc)?)
+        Ok(sexpr_of(&model_type(self, alloc)?, alloc)?)
     }
 }
 
@@ -35,7 +35,7 @@ impl ToSExpr for ModelField {
     ghost meaning = { λ f. Some (model_field_shape (single_model_field_of f)) };
 
     fn to_sexpr(&self, alloc: Global) -> Result<SExpr, PrintFault> {
-        Ok(model_field(self, alloc)?)
+        Ok(sexpr_of(&model_field(self, alloc)?, alloc)?)
     }
 }
 
@@ -47,7 +47,7 @@ impl ToSExpr for Model {
     ghost meaning = { λ m. Some (model_definition_shape (model_definition_of m)) };
 
     fn to_sexpr(&self, alloc: Global) -> Result<SExpr, PrintFault> {
-        Ok(model(alloc, self)?)
+        Ok(sexpr_of(&model(alloc, self)?, alloc)?)
     }
 }
 
@@ -59,7 +59,7 @@ impl ToSExpr for ModelValue {
     ghost meaning = { λ v. Some (model_content_shape (model_content_of v)) };
 
     fn to_sexpr(&self, alloc: Global) -> Result<SExpr, PrintFault> {
-        Ok(model_value(alloc, self)?)
+        Ok(sexpr_of(&model_value(alloc, self)?, alloc)?)
     }
 }
 
@@ -71,24 +71,24 @@ impl ToSExpr for Signature {
     ghost meaning = { λ s. Some (signature_shape (signature_of s)) };
 
     fn to_sexpr(&self, alloc: Global) -> Result<SExpr, PrintFault> {
-        Ok(signature(alloc, self)?)
+        Ok(sexpr_of(&signature(alloc, self)?, alloc)?)
     }
 }
 
 /// The S-expression of the model of a type.
-pub(super) fn model(alloc: Global, model: &Model) -> Result<SExpr, AllocError>
-    ensures { IfOk result (λ s. sexp_of s
+pub(super) fn model<'src>(alloc: Global, model: &'src Model) -> Result<Shape<'src>, AllocError>
+    ensures { IfOk result (λ s. s
         ≡ model_definition_shape (model_definition_of model.now)) }
 {
     let mut items = begun(alloc, "model")?;
-    push_name(&mut items, alloc, &model.name)?;
+    push_name(&mut items, &model.name)?;
     items.push(model_value(alloc, &model.val)?)?;
-    Ok(list(items))
+    Ok(Shape::list(items))
 }
 
 /// The S-expression of what a model is given by.
-fn model_value(alloc: Global, value: &ModelValue) -> Result<SExpr, AllocError>
-    ensures { IfOk result (λ s. sexp_of s ≡ model_content_shape (model_content_of value.now)) }
+fn model_value<'src>(alloc: Global, value: &'src ModelValue) -> Result<Shape<'src>, AllocError>
+    ensures { IfOk result (λ s. s ≡ model_content_shape (model_content_of value.now)) }
 {
     match value {
         ModelValue::TypeValue(ty) => headed(alloc, "type", model_type(ty, alloc)?),
@@ -97,23 +97,23 @@ fn model_value(alloc: Global, value: &ModelValue) -> Result<SExpr, AllocError>
 }
 
 /// The S-expression of a signature.
-fn signature(alloc: Global, signature: &Signature) -> Result<SExpr, AllocError>
-    ensures { IfOk result (λ s. sexp_of s ≡ signature_shape (signature_of signature.now)) }
+fn signature<'src>(alloc: Global, signature: &'src Signature) -> Result<Shape<'src>, AllocError>
+    ensures { IfOk result (λ s. s ≡ signature_shape (signature_of signature.now)) }
 {
     let mut args = begun(alloc, "args")?;
     push_models(&mut args, alloc, &signature.args)?;
     let ret = headed(alloc, "ret", model_type(&signature.ret, alloc)?)?;
-    pair(alloc, list(args), ret)
+    pair(alloc, Shape::list(args), ret)
 }
 
 /// Appends signatures.
-pub(super) fn push_signatures(
-    items: &mut Vec<SExpr>,
+pub(super) fn push_signatures<'src>(
+    items: &mut Vec<Shape<'src>>,
     alloc: Global,
-    signatures: &[Signature],
+    signatures: &'src [Signature],
 ) -> Result<(), AllocError>
-    ensures { OnOk result (sexps_of items.new.items
-        ≡ sexps_of items.old.items ++ map signature_shape (signatures_of signatures.now)) }
+    ensures { OnOk result (items.new.items
+        ≡ items.old.items ++ map signature_shape (signatures_of signatures.now)) }
 {
     for each in signatures {
         items.push(signature(alloc, each)?)?;

@@ -2,6 +2,7 @@
 
 use super::to_sexpr::ToSExpr;
 use isle_ast::ast::Pattern;
+use isle_printer_layout::printer::shape::sexpr_of;
 use isle_printer_layout::printer::{PrintFault, SExpr};
 use isle_printer_rules::printer::patterns::pattern;
 use std::alloc::Global;
@@ -18,6 +19,6 @@ impl ToSExpr for Pattern {
         if self.has_macro_arg() {
             return Err(PrintFault::MacroArg);
         }
-        Ok(pattern(self, alloc)?)
+        Ok(sexpr_of(&pattern(self, alloc)?, alloc)?)
     }
 }

@@ -2,6 +2,7 @@
 
 use super::to_sexpr::ToSExpr;
 use isle_ast::ast::{Extractor, IfLet, Rule};
+use isle_printer_layout::printer::shape::sexpr_of;
 use isle_printer_layout::printer::{PrintFault, SExpr};
 use isle_printer_rules::printer::rules::{condition, extractor, rule};
 use std::alloc::Global;
@@ -19,7 +20,7 @@ impl ToSExpr for IfLet {
         if self.has_macro_arg() {
             return Err(PrintFault::MacroArg);
         }
-        Ok(condition(alloc, self)?)
+        Ok(sexpr_of(&condition(alloc, self)?, alloc)?)
     }
 }
 
@@ -35,7 +36,7 @@ impl ToSExpr for Rule {
         if self.has_macro_arg() {
             return Err(PrintFault::MacroArg);
         }
-        Ok(rule(alloc, self)?)
+        Ok(sexpr_of(&rule(alloc, self)?, alloc)?)
     }
 }
 
@@ -52,6 +53,6 @@ impl ToSExpr for Extractor {
         if self.has_macro_arg() {
             return Err(PrintFault::MacroArg);
         }
-        Ok(extractor(alloc, self)?)
+        Ok(sexpr_of(&extractor(alloc, self)?, alloc)?)
     }
 }

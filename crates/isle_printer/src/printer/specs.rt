@@ -3,6 +3,7 @@
 
 use super::to_sexpr::ToSExpr;
 use isle_ast::ast::{Arm, FieldInit, Modifies, Spec, SpecExpr, SpecMacro, SpecOp, State};
+use isle_printer_layout::printer::shape::sexpr_of;
 use isle_printer_layout::printer::{PrintFault, SExpr};
 use isle_printer_specs::printer::definitions::{modifies, spec_definition, spec_macro, state};
 use isle_printer_specs::printer::operators::operator;
@@ -16,7 +17,7 @@ impl ToSExpr for SpecOp {
     ghost meaning = { λ op. Some (operator_shape op) };
 
     fn to_sexpr(&self, alloc: Global) -> Result<SExpr, PrintFault> {
-        Ok(operator(alloc, self)?)
+        Ok(sexpr_of(&operator(self), alloc)?)
     }
 }
 
@@ -28,7 +29,7 @@ impl ToSExpr for SpecExpr {
     ghost meaning = { λ x. Some (spec_shape (spec_of x)) };
 
     fn to_sexpr(&self, alloc: Global) -> Result<SExpr, PrintFault> {
-        Ok(spec(self, alloc)?)
+        Ok(sexpr_of(&spec(self, alloc)?, alloc)?)
     }
 }
 
@@ -40,7 +41,7 @@ impl ToSExpr for Arm {
     ghost meaning = { λ a. Some (arm_shape (single_arm_of a)) };
 
     fn to_sexpr(&self, alloc: Global) -> Result<SExpr, PrintFault> {
-        Ok(arm(self, alloc)?)
+        Ok(sexpr_of(&arm(self, alloc)?, alloc)?)
     }
 }
 
@@ -52,7 +53,7 @@ impl ToSExpr for FieldInit {
     ghost meaning = { λ f. Some (field_init_shape (single_field_init_of f)) };
 
     fn to_sexpr(&self, alloc: Global) -> Result<SExpr, PrintFault> {
-        Ok(field_init(self, alloc)?)
+        Ok(sexpr_of(&field_init(self, alloc)?, alloc)?)
     }
 }
 
@@ -64,7 +65,7 @@ impl ToSExpr for Spec {
     ghost meaning = { λ s. Some (spec_definition_shape (spec_definition_of s)) };
 
     fn to_sexpr(&self, alloc: Global) -> Result<SExpr, PrintFault> {
-        Ok(spec_definition(alloc, self)?)
+        Ok(sexpr_of(&spec_definition(alloc, self)?, alloc)?)
     }
 }
 
@@ -76,7 +77,7 @@ impl ToSExpr for Modifies {
     ghost meaning = { λ m. Some (modifies_shape (modified_of m)) };
 
     fn to_sexpr(&self, alloc: Global) -> Result<SExpr, PrintFault> {
-        Ok(modifies(alloc, self)?)
+        Ok(sexpr_of(&modifies(alloc, self)?, alloc)?)
     }
 }
 
@@ -88,7 +89,7 @@ impl ToSExpr for SpecMacro {
     ghost meaning = { λ m. Some (spec_macro_shape (spec_macro_of m)) };
 
     fn to_sexpr(&self, alloc: Global) -> Result<SExpr, PrintFault> {
-        Ok(spec_macro(alloc, self)?)
+        Ok(sexpr_of(&spec_macro(alloc, self)?, alloc)?)
     }
 }
 
@@ -100,6 +101,6 @@ impl ToSExpr for State {
     ghost meaning = { λ s. Some (state_shape (state_of s)) };
 
     fn to_sexpr(&self, alloc: Global) -> Result<SExpr, PrintFault> {
-        Ok(state(alloc, self)?)
+        Ok(sexpr_of(&state(alloc, self)?, alloc)?)
     }
 }

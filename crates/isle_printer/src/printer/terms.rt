@@ -5,7 +5,6 @@ ghost use Rattle.isle_ast.specs.TreeView.{attribute_of, conversion_of, declarati
 ghost use Rattle.isle_ast.specs.TreeView.{form_of, instantiation_of, kind_of, signatures_of};
 ghost use Rattle.isle_ast.specs.TreeView.{target_of};
 ghost use Rattle.isle_ast_names.specs.TreeView.{name_of, names_of, optional_name_of};
-ghost use Rattle.isle_printer_layout.specs.SexpView.{sexp_of, sexps_of};
 ghost use Rattle.isle_printer.specs.DefinitionShapes.{attribute_shape, conversion_shape};
 ghost use Rattle.isle_printer.specs.DefinitionShapes.{declaration_shape, extern_shape};
 ghost use Rattle.isle_printer.specs.DefinitionShapes.{form_definition_shape, instance_shapes};
@@ -18,9 +17,10 @@ use isle_ast::ast::{
     Attr, AttrKind, AttrTarget, Converter, Decl, Extern, Form, Ident, Instantiation, Signature,
 };
 use isle_printer_layout::printer::names::{
-    atom, begun, constant, headed, list, name, names, push_atom, push_flag, push_name,
+    begun, constant, headed, name, names, push_atom, push_flag, push_name,
 };
-use isle_printer_layout::printer::{PrintFault, SExpr};
+use isle_printer_layout::printer::shape::sexpr_of;
+use isle_printer_layout::printer::{PrintFault, SExpr, Shape};
 use std::alloc::{AllocError, Global};
 
 impl ToSExpr for Decl {
@@ -31,7 +31,7 @@ impl ToSExpr for Decl {
     ghost meaning = { λ d. Some (declaration_shape (declaration_of d)) };
 
     fn to_sexpr(&self, alloc: Global) -> Result<SExpr, PrintFault> {
-        Ok(declaration(alloc, self)?)
+        Ok(sexpr_of(&declaration(alloc, self)?, alloc)?)
     }
 }
 
@@ -43,7 +43,7 @@ impl ToSExpr for Form {
     ghost meaning = { λ f. Some (form_definition_shape (form_of f)) };
 
     fn to_sexpr(&self, alloc: Global) -> Result<SExpr, PrintFault> {
-        Ok(form(alloc, self)?)
+        Ok(sexpr_of(&form(alloc, self)?, alloc)?)
     }
 }
 
@@ -55,7 +55,7 @@ impl ToSExpr for Instantiation {
     ghost meaning = { λ i. Some (instantiation_shape (instantiation_of i)) };
 
     fn to_sexpr(&self, alloc: Global) -> Result<SExpr, PrintFault> {
-        Ok(instantiation(alloc, self)?)
+        Ok(sexpr_of(&instantiation(alloc, self)?, alloc)?)
     }
 }
 
@@ -67,7 +67,7 @@ impl ToSExpr for Extern {
     ghost meaning = { λ e. Some (extern_shape (extern_of e)) };
 
     fn to_sexpr(&self, alloc: Global) -> Result<SExpr, PrintFault> {
-        Ok(external(alloc, self)?)
+        Ok(sexpr_of(&external(alloc, self)?, alloc)?)
     }
 }
 
@@ -79,7 +79,7 @@ impl ToSExpr for Converter {
     ghost meaning = { λ c. Some (conversion_shape (conversion_of c)) };
 
     fn to_sexpr(&self, alloc: Global) -> Result<SExpr, PrintFault> {
-        Ok(conversion(alloc, self)?)
+        Ok(sexpr_of(&conversion(alloc, self)?, alloc)?)
     }
 }
 
@@ -91,7 +91,7 @@ impl ToSExpr for AttrKind {
     ghost meaning = { λ k. Some (kind_shape (kind_of k)) };
 
     fn to_sexpr(&self, alloc: Global) -> Result<SExpr, PrintFault> {
-        Ok(attribute_kind(alloc, self)?)
+        Ok(sexpr_of(&attribute_kind(alloc, self)?, alloc)?)
     }
 }
 
@@ -103,45 +103,45 @@ impl ToSExpr for Attr {
     ghost meaning = { λ a. Some (attribute_shape (attribute_of a)) };
 
     fn to_sexpr(&self, alloc: Global) -> Result<SExpr, PrintFault> {
-        Ok(attribute(alloc, self)?)
+        Ok(sexpr_of(&attribute(alloc, self)?, alloc)?)
     }
 }
 
 /// The S-expression of a declaration.
-pub(super) fn declaration(alloc: Global, decl: &Decl) -> Result<SExpr, AllocError>
-    ensures { IfOk result (λ s. sexp_of s ≡ declaration_shape (declaration_of decl.now)) }
+pub(super) fn declaration<'src>(alloc: Global, decl: &'src Decl) -> Result<Shape<'src>, AllocError>
+    ensures { IfOk result (λ s. s ≡ declaration_shape (declaration_of decl.now)) }
 {
     let mut items = begun(alloc, "decl")?;
-    push_flag(&mut items, alloc, "pure", decl.pure)?;
-    push_flag(&mut items, alloc, "multi", decl.multi)?;
-    push_flag(&mut items, alloc, "partial", decl.partial)?;
-    push_flag(&mut items, alloc, "rec", decl.rec)?;
-    push_name(&mut items, alloc, &decl.term)?;
+    push_flag(&mut items, "pure", decl.pure)?;
+    push_flag(&mut items, "multi", decl.multi)?;
+    push_flag(&mut items, "partial", decl.partial)?;
+    push_flag(&mut items, "rec", decl.rec)?;
+    push_name(&mut items, &decl.term)?;
     items.push(names(alloc, &decl.arg_tys)?)?;
-    push_name(&mut items, alloc, &decl.ret_ty)?;
-    Ok(list(items))
+    push_name(&mut items, &decl.ret_ty)?;
+    Ok(Shape::list(items))
 }
 
 /// The S-expression of a form.
-pub(super) fn form(alloc: Global, form: &Form) -> Result<SExpr, AllocError>
-    ensures { IfOk result (λ s. sexp_of s ≡ form_definition_shape (form_of form.now)) }
+pub(super) fn form<'src>(alloc: Global, form: &'src Form) -> Result<Shape<'src>, AllocError>
+    ensures { IfOk result (λ s. s ≡ form_definition_shape (form_of form.now)) }
 {
     let mut items = begun(alloc, "form")?;
-    push_name(&mut items, alloc, &form.name)?;
+    push_name(&mut items, &form.name)?;
     push_signatures(&mut items, alloc, &form.signatures)?;
-    Ok(list(items))
+    Ok(Shape::list(items))
 }
 
 /// The S-expression of an instantiation.
-pub(super) fn instantiation(
+pub(super) fn instantiation<'src>(
     alloc: Global,
-    instantiation: &Instantiation,
-) -> Result<SExpr, AllocError>
-    ensures { IfOk result (λ s. sexp_of s
+    instantiation: &'src Instantiation,
+) -> Result<Shape<'src>, AllocError>
+    ensures { IfOk result (λ s. s
         ≡ instantiation_shape (instantiation_of instantiation.now)) }
 {
     let mut items = begun(alloc, "instantiate")?;
-    push_name(&mut items, alloc, &instantiation.term)?;
+    push_name(&mut items, &instantiation.term)?;
     push_instance(
         &mut items,
         alloc,
@@ -149,30 +149,34 @@ pub(super) fn instantiation(
         &instantiation.signatures,
     )?;
     push_tags(&mut items, alloc, &instantiation.tags)?;
-    Ok(list(items))
+    Ok(Shape::list(items))
 }
 
 /// Appends the form if there is one, else the signatures.
-fn push_instance(
-    items: &mut Vec<SExpr>,
+fn push_instance<'src>(
+    items: &mut Vec<Shape<'src>>,
     alloc: Global,
-    form: &Option<Ident>,
-    signatures: &[Signature],
+    form: &'src Option<Ident>,
+    signatures: &'src [Signature],
 ) -> Result<(), AllocError>
-    ensures { OnOk result (sexps_of items.new.items
-        ≡ sexps_of items.old.items
+    ensures { OnOk result (items.new.items
+        ≡ items.old.items
         ++ instance_shapes (optional_name_of form.now) (signatures_of signatures.now)) }
 {
     match form {
-        Some(form) => push_name(items, alloc, form),
+        Some(form) => push_name(items, form),
         None => push_signatures(items, alloc, signatures),
     }
 }
 
 /// Appends tags.
-fn push_tags(items: &mut Vec<SExpr>, alloc: Global, tags: &[Ident]) -> Result<(), AllocError>
-    ensures { OnOk result (sexps_of items.new.items
-        ≡ sexps_of items.old.items ++ map tag_shape (names_of tags.now)) }
+fn push_tags<'src>(
+    items: &mut Vec<Shape<'src>>,
+    alloc: Global,
+    tags: &'src [Ident],
+) -> Result<(), AllocError>
+    ensures { OnOk result (items.new.items
+        ≡ items.old.items ++ map tag_shape (names_of tags.now)) }
 {
     for each in tags {
         items.push(tag(alloc, each)?)?;
@@ -181,15 +185,18 @@ fn push_tags(items: &mut Vec<SExpr>, alloc: Global, tags: &[Ident]) -> Result<()
 }
 
 /// The S-expression of a tag.
-fn tag(alloc: Global, tag: &Ident) -> Result<SExpr, AllocError>
-    ensures { IfOk result (λ s. sexp_of s ≡ tag_shape (name_of tag.now)) }
+fn tag<'src>(alloc: Global, tag: &'src Ident) -> Result<Shape<'src>, AllocError>
+    ensures { IfOk result (λ s. s ≡ tag_shape (name_of tag.now)) }
 {
-    headed(alloc, "tag", name(alloc, tag)?)
+    headed(alloc, "tag", name(tag))
 }
 
 /// The S-expression of a term or a constant that is defined outside.
-pub(super) fn external(alloc: Global, external: &Extern) -> Result<SExpr, AllocError>
-    ensures { IfOk result (λ s. sexp_of s ≡ extern_shape (extern_of external.now)) }
+pub(super) fn external<'src>(
+    alloc: Global,
+    external: &'src Extern,
+) -> Result<Shape<'src>, AllocError>
+    ensures { IfOk result (λ s. s ≡ extern_shape (extern_of external.now)) }
 {
     let mut items = begun(alloc, "extern")?;
     match external {
@@ -199,76 +206,86 @@ pub(super) fn external(alloc: Global, external: &Extern) -> Result<SExpr, AllocE
             pos: _,
             infallible,
         } => {
-            push_atom(&mut items, alloc, "extractor")?;
-            push_flag(&mut items, alloc, "infallible", *infallible)?;
-            push_name(&mut items, alloc, term)?;
-            push_name(&mut items, alloc, func)?;
+            push_atom(&mut items, "extractor")?;
+            push_flag(&mut items, "infallible", *infallible)?;
+            push_name(&mut items, term)?;
+            push_name(&mut items, func)?;
         }
         Extern::Constructor { term, func, pos: _ } => {
-            push_atom(&mut items, alloc, "constructor")?;
-            push_name(&mut items, alloc, term)?;
-            push_name(&mut items, alloc, func)?;
+            push_atom(&mut items, "constructor")?;
+            push_name(&mut items, term)?;
+            push_name(&mut items, func)?;
         }
         Extern::Const { name, ty, pos: _ } => {
-            push_atom(&mut items, alloc, "const")?;
+            push_atom(&mut items, "const")?;
             items.push(constant(alloc, name)?)?;
-            push_name(&mut items, alloc, ty)?;
+            push_name(&mut items, ty)?;
         }
     }
-    Ok(list(items))
+    Ok(Shape::list(items))
 }
 
 /// The S-expression of a conversion.
-pub(super) fn conversion(alloc: Global, converter: &Converter) -> Result<SExpr, AllocError>
-    ensures { IfOk result (λ s. sexp_of s ≡ conversion_shape (conversion_of converter.now)) }
+pub(super) fn conversion<'src>(
+    alloc: Global,
+    converter: &'src Converter,
+) -> Result<Shape<'src>, AllocError>
+    ensures { IfOk result (λ s. s ≡ conversion_shape (conversion_of converter.now)) }
 {
     let mut items = begun(alloc, "convert")?;
-    push_name(&mut items, alloc, &converter.inner_ty)?;
-    push_name(&mut items, alloc, &converter.outer_ty)?;
-    push_name(&mut items, alloc, &converter.term)?;
-    Ok(list(items))
+    push_name(&mut items, &converter.inner_ty)?;
+    push_name(&mut items, &converter.outer_ty)?;
+    push_name(&mut items, &converter.term)?;
+    Ok(Shape::list(items))
 }
 
 /// The S-expression of what an attribute says.
-fn attribute_kind(alloc: Global, kind: &AttrKind) -> Result<SExpr, AllocError>
-    ensures { IfOk result (λ s. sexp_of s ≡ kind_shape (kind_of kind.now)) }
+fn attribute_kind<'src>(alloc: Global, kind: &'src AttrKind) -> Result<Shape<'src>, AllocError>
+    ensures { IfOk result (λ s. s ≡ kind_shape (kind_of kind.now)) }
 {
     match kind {
-        AttrKind::Chain => headed(alloc, "veri", atom(alloc, "chain")?),
-        AttrKind::Priority => headed(alloc, "veri", atom(alloc, "priority")?),
+        AttrKind::Chain => headed(alloc, "veri", Shape::atom("chain")),
+        AttrKind::Priority => headed(alloc, "veri", Shape::atom("priority")),
         AttrKind::Tag(name) => tag(alloc, name),
     }
 }
 
 /// The S-expression of an attribute.
-pub(super) fn attribute(alloc: Global, attr: &Attr) -> Result<SExpr, AllocError>
-    ensures { IfOk result (λ s. sexp_of s ≡ attribute_shape (attribute_of attr.now)) }
+pub(super) fn attribute<'src>(alloc: Global, attr: &'src Attr) -> Result<Shape<'src>, AllocError>
+    ensures { IfOk result (λ s. s ≡ attribute_shape (attribute_of attr.now)) }
 {
     let mut items = begun(alloc, "attr")?;
-    push_target(&mut items, alloc, &attr.target)?;
+    push_target(&mut items, &attr.target)?;
     push_kinds(&mut items, alloc, &attr.kinds)?;
-    Ok(list(items))
+    Ok(Shape::list(items))
 }
 
 /// Appends what an attribute speaks of.
-fn push_target(items: &mut Vec<SExpr>, alloc: Global, target: &AttrTarget) -> Result<(), AllocError>
-    ensures { OnOk result (sexps_of items.new.items
-        ≡ sexps_of items.old.items ++ target_shape (target_of target.now)) }
+fn push_target<'src>(
+    items: &mut Vec<Shape<'src>>,
+    target: &'src AttrTarget,
+) -> Result<(), AllocError>
+    ensures { OnOk result (items.new.items
+        ≡ items.old.items ++ target_shape (target_of target.now)) }
 {
     match target {
-        AttrTarget::Term(name) => push_name(items, alloc, name),
+        AttrTarget::Term(name) => push_name(items, name),
         AttrTarget::Rule(name) => {
-            push_atom(items, alloc, "rule")?;
-            push_name(items, alloc, name)?;
+            push_atom(items, "rule")?;
+            push_name(items, name)?;
             Ok(())
         }
     }
 }
 
 /// Appends what an attribute says.
-fn push_kinds(items: &mut Vec<SExpr>, alloc: Global, kinds: &[AttrKind]) -> Result<(), AllocError>
-    ensures { OnOk result (sexps_of items.new.items
-        ≡ sexps_of items.old.items ++ map kind_shape (map kind_of kinds.now)) }
+fn push_kinds<'src>(
+    items: &mut Vec<Shape<'src>>,
+    alloc: Global,
+    kinds: &'src [AttrKind],
+) -> Result<(), AllocError>
+    ensures { OnOk result (items.new.items
+        ≡ items.old.items ++ map kind_shape (map kind_of kinds.now)) }
 {
     for kind in kinds {
         items.push(attribute_kind(alloc, kind)?)?;

@@ -2,6 +2,7 @@
 
 use isle_ast::ast::Ident;
 use isle_printer_layout::printer::names::name;
+use isle_printer_layout::printer::shape::sexpr_of;
 use isle_printer_layout::printer::{PrintFault, SExpr};
 use std::alloc::Global;
 
@@ -35,6 +36,6 @@ impl ToSExpr for Ident {
     ghost meaning = { λ i. Some (name_shape (name_of i)) };
 
     fn to_sexpr(&self, alloc: Global) -> Result<SExpr, PrintFault> {
-        Ok(name(alloc, self)?)
+        Ok(sexpr_of(&name(self), alloc)?)
     }
 }

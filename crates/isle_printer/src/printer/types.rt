@@ -3,15 +3,15 @@
 ghost use Rattle.std.specs.Prelude.{◌≡◌, ◌++◌, map, IfOk, OnOk};
 ghost use Rattle.isle_ast.specs.TreeView.{fields_of, indexed_field_of, named_field_of};
 ghost use Rattle.isle_ast.specs.TreeView.{type_content_of, type_definition_of, variant_of};
-ghost use Rattle.isle_printer_layout.specs.SexpView.{sexp_of, sexps_of};
 ghost use Rattle.isle_printer.specs.DefinitionShapes.{field_shapes, indexed_field_shape};
 ghost use Rattle.isle_printer.specs.DefinitionShapes.{named_field_shape, type_content_shape};
 ghost use Rattle.isle_printer.specs.DefinitionShapes.{type_shape, variant_shape};
 
 use super::to_sexpr::ToSExpr;
 use isle_ast::ast::{Fields, StructField, TupleField, TypeDef, TypeValue, Variant};
-use isle_printer_layout::printer::names::{begun, headed, list, name, pair, push_flag, push_name};
-use isle_printer_layout::printer::{PrintFault, SExpr};
+use isle_printer_layout::printer::names::{begun, headed, name, pair, push_flag, push_name};
+use isle_printer_layout::printer::shape::sexpr_of;
+use isle_printer_layout::printer::{PrintFault, SExpr, Shape};
 use std::alloc::{AllocError, Global};
 
 impl ToSExpr for TypeDef {
@@ -22,7 +22,7 @@ impl ToSExpr for TypeDef {
     ghost meaning = { λ t. Some (type_shape (type_definition_of t)) };
 
     fn to_sexpr(&self, alloc: Global) -> Result<SExpr, PrintFault> {
-        Ok(type_definition(alloc, self)?)
+        Ok(sexpr_of(&type_definition(alloc, self)?, alloc)?)
     }
 }
 
@@ -34,7 +34,7 @@ impl ToSExpr for TypeValue {
     ghost meaning = { λ v. Some (type_content_shape (type_content_of v)) };
 
     fn to_sexpr(&self, alloc: Global) -> Result<SExpr, PrintFault> {
-        Ok(type_value(alloc, self)?)
+        Ok(sexpr_of(&type_value(alloc, self)?, alloc)?)
     }
 }
 
@@ -46,7 +46,7 @@ impl ToSExpr for Variant {
     ghost meaning = { λ v. Some (variant_shape (variant_of v)) };
 
     fn to_sexpr(&self, alloc: Global) -> Result<SExpr, PrintFault> {
-        Ok(variant(alloc, self)?)
+        Ok(sexpr_of(&variant(alloc, self)?, alloc)?)
     }
 }
 
@@ -58,7 +58,7 @@ impl ToSExpr for StructField {
     ghost meaning = { λ f. Some (named_field_shape (named_field_of f)) };
 
     fn to_sexpr(&self, alloc: Global) -> Result<SExpr, PrintFault> {
-        Ok(struct_field(alloc, self)?)
+        Ok(sexpr_of(&struct_field(alloc, self)?, alloc)?)
     }
 }
 
@@ -70,59 +70,62 @@ impl ToSExpr for TupleField {
     ghost meaning = { λ f. Some (indexed_field_shape (indexed_field_of f)) };
 
     fn to_sexpr(&self, alloc: Global) -> Result<SExpr, PrintFault> {
-        Ok(name(alloc, &self.ty)?)
+        Ok(sexpr_of(&name(&self.ty), alloc)?)
     }
 }
 
 /// The S-expression of a type definition.
-pub(super) fn type_definition(alloc: Global, ty: &TypeDef) -> Result<SExpr, AllocError>
-    ensures { IfOk result (λ s. sexp_of s ≡ type_shape (type_definition_of ty.now)) }
+pub(super) fn type_definition<'src>(
+    alloc: Global,
+    ty: &'src TypeDef,
+) -> Result<Shape<'src>, AllocError>
+    ensures { IfOk result (λ s. s ≡ type_shape (type_definition_of ty.now)) }
 {
     let mut items = begun(alloc, "type")?;
-    push_name(&mut items, alloc, &ty.name)?;
-    push_flag(&mut items, alloc, "extern", ty.is_extern)?;
-    push_flag(&mut items, alloc, "nodebug", ty.is_nodebug)?;
+    push_name(&mut items, &ty.name)?;
+    push_flag(&mut items, "extern", ty.is_extern)?;
+    push_flag(&mut items, "nodebug", ty.is_nodebug)?;
     items.push(type_value(alloc, &ty.ty)?)?;
-    Ok(list(items))
+    Ok(Shape::list(items))
 }
 
 /// The S-expression of what a type consists of.
-fn type_value(alloc: Global, value: &TypeValue) -> Result<SExpr, AllocError>
-    ensures { IfOk result (λ s. sexp_of s ≡ type_content_shape (type_content_of value.now)) }
+fn type_value<'src>(alloc: Global, value: &'src TypeValue) -> Result<Shape<'src>, AllocError>
+    ensures { IfOk result (λ s. s ≡ type_content_shape (type_content_of value.now)) }
 {
     match value {
-        TypeValue::Primitive(primitive, _) => headed(alloc, "primitive", name(alloc, primitive)?),
+        TypeValue::Primitive(primitive, _) => headed(alloc, "primitive", name(primitive)),
         TypeValue::Enum(variants, _) => {
             let mut items = begun(alloc, "enum")?;
             push_variants(&mut items, alloc, variants)?;
-            Ok(list(items))
+            Ok(Shape::list(items))
         }
         TypeValue::Struct(fields, _) => {
             let mut items = begun(alloc, "struct")?;
             push_fields(&mut items, alloc, fields)?;
-            Ok(list(items))
+            Ok(Shape::list(items))
         }
     }
 }
 
 /// The S-expression of a variant: a list, even where the variant has no fields.
-fn variant(alloc: Global, variant: &Variant) -> Result<SExpr, AllocError>
-    ensures { IfOk result (λ s. sexp_of s ≡ variant_shape (variant_of variant.now)) }
+fn variant<'src>(alloc: Global, variant: &'src Variant) -> Result<Shape<'src>, AllocError>
+    ensures { IfOk result (λ s. s ≡ variant_shape (variant_of variant.now)) }
 {
     let mut items = Vec::new(alloc);
-    push_name(&mut items, alloc, &variant.name)?;
+    push_name(&mut items, &variant.name)?;
     push_fields(&mut items, alloc, &variant.fields)?;
-    Ok(list(items))
+    Ok(Shape::list(items))
 }
 
 /// Appends the variants of an enum type.
-fn push_variants(
-    items: &mut Vec<SExpr>,
+fn push_variants<'src>(
+    items: &mut Vec<Shape<'src>>,
     alloc: Global,
-    variants: &[Variant],
+    variants: &'src [Variant],
 ) -> Result<(), AllocError>
-    ensures { OnOk result (sexps_of items.new.items
-        ≡ sexps_of items.old.items ++ map variant_shape (map variant_of variants.now)) }
+    ensures { OnOk result (items.new.items
+        ≡ items.old.items ++ map variant_shape (map variant_of variants.now)) }
 {
     for each in variants {
         items.push(variant(alloc, each)?)?;
@@ -131,9 +134,13 @@ fn push_variants(
 }
 
 /// Appends the fields of a variant or of a struct type: nothing where there are none.
-fn push_fields(items: &mut Vec<SExpr>, alloc: Global, fields: &Fields) -> Result<(), AllocError>
-    ensures { OnOk result (sexps_of items.new.items
-        ≡ sexps_of items.old.items ++ field_shapes (fields_of fields.now)) }
+fn push_fields<'src>(
+    items: &mut Vec<Shape<'src>>,
+    alloc: Global,
+    fields: &'src Fields,
+) -> Result<(), AllocError>
+    ensures { OnOk result (items.new.items
+        ≡ items.old.items ++ field_shapes (fields_of fields.now)) }
 {
     match fields {
         Fields::Unit => Ok(()),
@@ -143,13 +150,13 @@ fn push_fields(items: &mut Vec<SExpr>, alloc: Global, fields: &Fields) -> Result
 }
 
 /// Appends fields that have names.
-fn push_struct_fields(
-    items: &mut Vec<SExpr>,
+fn push_struct_fields<'src>(
+    items: &mut Vec<Shape<'src>>,
     alloc: Global,
-    fields: &[StructField],
+    fields: &'src [StructField],
 ) -> Result<(), AllocError>
-    ensures { OnOk result (sexps_of items.new.items
-        ≡ sexps_of items.old.items ++ map named_field_shape (map named_field_of fields.now)) }
+    ensures { OnOk result (items.new.items
+        ≡ items.old.items ++ map named_field_shape (map named_field_of fields.now)) }
 {
     for field in fields {
         items.push(struct_field(alloc, field)?)?;
@@ -158,23 +165,23 @@ fn push_struct_fields(
 }
 
 /// Appends fields that are known by their places.
-fn push_tuple_fields(
-    items: &mut Vec<SExpr>,
+fn push_tuple_fields<'src>(
+    items: &mut Vec<Shape<'src>>,
     alloc: Global,
-    fields: &[TupleField],
+    fields: &'src [TupleField],
 ) -> Result<(), AllocError>
-    ensures { OnOk result (sexps_of items.new.items
-        ≡ sexps_of items.old.items ++ map indexed_field_shape (map indexed_field_of fields.now)) }
+    ensures { OnOk result (items.new.items
+        ≡ items.old.items ++ map indexed_field_shape (map indexed_field_of fields.now)) }
 {
     for field in fields {
-        push_name(items, alloc, &field.ty)?;
+        push_name(items, &field.ty)?;
     }
     Ok(())
 }
 
 /// The S-expression of a field that has a name.
-fn struct_field(alloc: Global, field: &StructField) -> Result<SExpr, AllocError>
-    ensures { IfOk result (λ s. sexp_of s ≡ named_field_shape (named_field_of field.now)) }
+fn struct_field<'src>(alloc: Global, field: &'src StructField) -> Result<Shape<'src>, AllocError>
+    ensures { IfOk result (λ s. s ≡ named_field_shape (named_field_of field.now)) }
 {
-    pair(alloc, name(alloc, &field.name)?, name(alloc, &field.ty)?)
+    pair(alloc, name(&field.name), name(&field.ty))
 }

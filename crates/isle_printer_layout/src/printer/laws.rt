@@ -1,11 +1,12 @@
 //! The laws of S-expressions and their layouts.
 
-ghost use Rattle.std.specs.Prelude.{◌≡◌, ◌≤◌, ◌↔◌, ℕ, List, []};
+ghost use Rattle.std.specs.Prelude.{◌≡◌, ◌≤◌, ◌<◌, ◌+◌, ◌^◌, ◌↔◌, ℕ, List, [], None};
 ghost use Rattle.isle_base.specs.Lexing.{lexes};
 ghost use Rattle.isle_base.specs.Place.{nowhere, placed};
 ghost use Rattle.isle_base.specs.Token.{Tok, Lexeme, end};
 ghost use Rattle.isle_printer_layout.specs.Choices.{Choice, IsWithin, IsLeast, IsLayout, render};
 ghost use Rattle.isle_printer_layout.specs.Layout.{layout};
+ghost use Rattle.isle_printer_layout.specs.Lengths.{record_of};
 ghost use Rattle.isle_printer_layout.specs.ReadBack.{TokensOf, unplaced};
 ghost use Rattle.isle_printer_layout.specs.Sexp.{Sexp};
 
@@ -28,4 +29,14 @@ pub fn rendered_text_lexes()
     ensures { (s : Sexp) (c : Choice s) (level : ℕ) (tokens : List Tok) → TokensOf s tokens []
         → (l : List Lexeme) × lexes (render s c level) l end
         × (placed nowhere l ≡ unplaced tokens) }
+{}
+
+/// A law, which runs no code: the greatest number and 1 is recorded as past the greatest. A length
+/// that is so recorded is within no room, and adding to it leaves it so.
+pub fn past_the_greatest_fits_nowhere()
+    ensures greatest { record_of (2 ^ 64) ≡ None }
+    ensures nowhere { (length room : ℕ) → record_of length ≡ None → room < 2 ^ 64
+        → length ≤ room → ⊥ }
+    ensures stays { (length more : ℕ) → record_of length ≡ None
+        → record_of (length + more) ≡ None }
 {}

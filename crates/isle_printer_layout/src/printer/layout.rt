@@ -1,25 +1,29 @@
 //! The layout of S-expressions.
 //!
 //! Columns count the bytes written on a line, its indentation apart. The functions are given the
-//! room that the width leaves of the line, and the level of indentation.
+//! room that the width leaves of the line, and the level of indentation. Each node is looked at
+//! once, where it is written: its record says whether it fits.
 
-ghost use Rattle.std.specs.Prelude.{◌≡◌, ◌≤◌, ◌<◌, ◌+◌, ◌++◌, ◌↔◌, IsTrue, OnOk, IfSome};
+ghost use Rattle.std.specs.Prelude.{◌≡◌, ◌≤◌, ◌<◌, ◌+◌, ◌++◌, ◌↔◌, ℕ, IsTrue, OnOk, IfSome};
 ghost use Rattle.std.specs.Prelude.{MatchOption, string_bytes, string_len};
 ghost use Rattle.isle_printer_layout.specs.Flat.{flat, counted};
 ghost use Rattle.isle_printer_layout.specs.Layout.{layout_in, layout_broken, new_line};
-ghost use Rattle.isle_printer_layout.specs.Looks.{nodes};
-ghost use Rattle.isle_printer_layout.specs.Sexp.{sexps};
-ghost use Rattle.isle_printer_layout.specs.SexpView.{sexp_of, sexps_of};
+ghost use Rattle.isle_printer_layout.specs.Lengths.{record_of};
+ghost use Rattle.isle_printer_layout.specs.Looks.{nodes, nodes_of_items};
+ghost use Rattle.isle_printer_layout.specs.Sexp.{row, sexps};
+ghost use Rattle.isle_printer_layout.specs.SexpView.{sexp_of};
 
 use super::looks::Looks;
 use super::sexpr::SExpr;
+use super::shape::{Node, Shape};
 use std::alloc::AllocError;
 
-/// Appends the layout of an S-expression, at a width and a level, where the line has this room
-/// left.
+/// Appends the layout of a shape, at a width and a level, where the line has this room left.
+///
+/// Each node is looked at once at most, and just once where all is written.
 #[cycle(put)]
 pub fn put(
-    sexpr: &SExpr,
+    shape: &Shape,
     width: usize,
     room: usize,
     level: usize,
@@ -27,36 +31,52 @@ pub fn put(
     out: &mut String,
 ) -> Result<(), AllocError>
     requires { level ≤ string_len out.old }
-    ensures { OnOk result (string_bytes out.new
-        ≡ string_bytes out.old ++ layout_in width (sexp_of sexpr.now) room level) }
+    ensures written { OnOk result (string_bytes out.new
+        ≡ string_bytes out.old ++ layout_in width shape.now room level) }
+    ensures at_least { OnOk result (looks.old.count + nodes shape.now ≤ looks.new.count) }
+    ensures at_most { looks.new.count ≤ looks.old.count + nodes shape.now }
 {
-    match sexpr {
-        SExpr::Atom(text) => {
+    match shape.look(looks) {
+        (Node::Borrowed(text), _) => {
             out.push_str(text)?;
             Ok(())
         }
-        SExpr::Binding(name, inner) => {
+        (Node::Made(text), _) => {
+            out.push_str(text)?;
+            Ok(())
+        }
+        (Node::Binding(name, inner), _) => {
             out.push_str(name)?;
             out.push_str(" @ ")?;
             let left = room.saturating_sub(name.len()).saturating_sub(3);
             put(inner, width, left, level, looks, out)?;
             Ok(())
         }
-        SExpr::List(items) => {
-            if fits(sexpr, room, looks) {
-                put_flat(sexpr, out)?;
-                return Ok(());
+        (Node::List(items), length) => {
+            if fits_in(length, room) {
+                put_flat_items(items, looks, out)?;
+            } else {
+                put_broken(items, width, room, level, looks, out)?;
             }
-            put_broken(items, width, room, level, looks, out)?;
             Ok(())
         }
+    }
+}
+
+/// Tells whether a recorded length is within the room.
+fn fits_in(length: Option<usize>, room: usize) -> bool
+    ensures { (n : ℕ) → length ≡ record_of n → IsTrue result ↔ (n ≤ room) }
+{
+    match length {
+        Some(length) => length <= room,
+        None => false,
     }
 }
 
 /// Appends a broken list of these items, at a width and a level, where the line has this room left.
 #[cycle(put)]
 fn put_broken(
-    items: &[SExpr],
+    items: &[Shape],
     width: usize,
     room: usize,
     level: usize,
@@ -64,8 +84,11 @@ fn put_broken(
     out: &mut String,
 ) -> Result<(), AllocError>
     requires { level ≤ string_len out.old }
-    ensures { OnOk result (string_bytes out.new
-        ≡ string_bytes out.old ++ layout_broken width (sexps (sexps_of items.now)) room level) }
+    ensures written { OnOk result (string_bytes out.new
+        ≡ string_bytes out.old ++ layout_broken width (sexps items.now) room level) }
+    ensures at_least { OnOk result
+        (looks.old.count + nodes_of_items (sexps items.now) ≤ looks.new.count) }
+    ensures at_most { looks.new.count ≤ looks.old.count + nodes_of_items (sexps items.now) }
 {
     match items {
         [] => {
@@ -97,38 +120,56 @@ fn put_new_line(level: usize, out: &mut String) -> Result<(), AllocError>
     Ok(())
 }
 
-/// Appends an S-expression on one line.
-fn put_flat(sexpr: &SExpr, out: &mut String) -> Result<(), AllocError>
-    ensures { OnOk result
-        (string_bytes out.new ≡ string_bytes out.old ++ flat (sexp_of sexpr.now)) }
+/// Appends a shape on one line.
+#[cycle(put_flat)]
+fn put_flat(shape: &Shape, looks: &mut Looks, out: &mut String) -> Result<(), AllocError>
+    ensures written { OnOk result (string_bytes out.new ≡ string_bytes out.old ++ flat shape.now) }
+    ensures at_least { OnOk result (looks.old.count + nodes shape.now ≤ looks.new.count) }
+    ensures at_most { looks.new.count ≤ looks.old.count + nodes shape.now }
 {
-    match sexpr {
-        SExpr::Atom(text) => {
+    match shape.look(looks).0 {
+        Node::Borrowed(text) => {
             out.push_str(text)?;
             Ok(())
         }
-        SExpr::Binding(name, inner) => {
-            out.push_str(name)?;
-            out.push_str(" @ ")?;
-            put_flat(inner, out)?;
+        Node::Made(text) => {
+            out.push_str(text)?;
             Ok(())
         }
-        SExpr::List(items) => match items.as_slice() {
-            [] => {
-                out.push_str("()")?;
-                Ok(())
+        Node::Binding(name, inner) => {
+            out.push_str(name)?;
+            out.push_str(" @ ")?;
+            put_flat(inner, looks, out)?;
+            Ok(())
+        }
+        Node::List(items) => put_flat_items(items, looks, out),
+    }
+}
+
+/// Appends a list of these items on one line.
+#[cycle(put_flat)]
+fn put_flat_items(items: &[Shape], looks: &mut Looks, out: &mut String) -> Result<(), AllocError>
+    ensures written { OnOk result
+        (string_bytes out.new ≡ string_bytes out.old ++ flat (row (sexps items.now))) }
+    ensures at_least { OnOk result
+        (looks.old.count + nodes_of_items (sexps items.now) ≤ looks.new.count) }
+    ensures at_most { looks.new.count ≤ looks.old.count + nodes_of_items (sexps items.now) }
+{
+    match items {
+        [] => {
+            out.push_str("()")?;
+            Ok(())
+        }
+        [first, rest @ ..] => {
+            out.push('(')?;
+            put_flat(first, looks, out)?;
+            for item in rest {
+                out.push(' ')?;
+                put_flat(item, looks, out)?;
             }
-            [first, rest @ ..] => {
-                out.push('(')?;
-                put_flat(first, out)?;
-                for item in rest {
-                    out.push(' ')?;
-                    put_flat(item, out)?;
-                }
-                out.push(')')?;
-                Ok(())
-            }
-        },
+            out.push(')')?;
+            Ok(())
+        }
     }
 }
 

@@ -3,58 +3,55 @@
 ghost use Rattle.std.specs.Prelude.{◌≡◌, ◌++◌, IfOk, OnOk};
 ghost use Rattle.isle_ast_rules.specs.TreeView.{pattern_of, pattern_row_of, patterns_of};
 ghost use Rattle.isle_printer_rules.specs.RuleShapes.{pattern_shape, pattern_shapes};
-ghost use Rattle.isle_printer_layout.specs.SexpView.{sexp_of, sexps_of};
 
 use isle_ast_rules::ast::Pattern;
-use isle_printer_layout::printer::SExpr;
-use isle_printer_layout::printer::names::{
-    atom, begun, boolean, constant, integer, list, name, push_name,
-};
+use isle_printer_layout::printer::Shape;
+use isle_printer_layout::printer::names::{begun, boolean, constant, integer, name, push_name};
 use std::alloc::{AllocError, Global};
 
 /// The S-expression of a pattern. That of a macro's argument stands for nothing.
 #[cycle(patterns)]
-pub fn pattern(node: &Pattern, alloc: Global) -> Result<SExpr, AllocError>
-    ensures { IfOk result (λ s. sexp_of s ≡ pattern_shape (pattern_of node.now)) }
+pub fn pattern<'src>(node: &'src Pattern, alloc: Global) -> Result<Shape<'src>, AllocError>
+    ensures { IfOk result (λ s. s ≡ pattern_shape (pattern_of node.now)) }
 {
     match node {
-        Pattern::Var { var, pos: _ } => name(alloc, var),
+        Pattern::Var { var, pos: _ } => Ok(name(var)),
         Pattern::BindPattern {
             var,
             subpat,
             pos: _,
         } => {
-            let bound = Box::new(alloc, pattern(subpat, alloc)?)?;
-            Ok(SExpr::Binding(var.0.clone()?, bound))
+            let bound = pattern(subpat, alloc)?;
+            Shape::binding(alloc, &var.0, bound)
         }
-        Pattern::ConstBool { val, pos: _ } => boolean(alloc, *val),
+        Pattern::ConstBool { val, pos: _ } => Ok(boolean(*val)),
         Pattern::ConstInt { val, pos: _ } => integer(alloc, *val),
         Pattern::ConstPrim { val, pos: _ } => constant(alloc, val),
         Pattern::Term { sym, args, pos: _ } => {
             let mut items = Vec::new(alloc);
-            push_name(&mut items, alloc, sym)?;
+            push_name(&mut items, sym)?;
             push_patterns(args, &mut items, alloc)?;
-            Ok(list(items))
+            Ok(Shape::list(items))
         }
-        Pattern::Wildcard { pos: _ } => atom(alloc, "_"),
+        Pattern::Wildcard { pos: _ } => Ok(Shape::atom("_")),
         Pattern::And { subpats, pos: _ } => {
             let mut items = begun(alloc, "and")?;
             push_patterns(subpats, &mut items, alloc)?;
-            Ok(list(items))
+            Ok(Shape::list(items))
         }
-        Pattern::MacroArg { index: _, pos: _ } => atom(alloc, ""),
+        Pattern::MacroArg { index: _, pos: _ } => Ok(Shape::atom("")),
     }
 }
 
 /// Appends patterns.
 #[cycle(patterns)]
-fn push_patterns(
-    nodes: &Vec<Pattern>,
-    items: &mut Vec<SExpr>,
+fn push_patterns<'src>(
+    nodes: &'src Vec<Pattern>,
+    items: &mut Vec<Shape<'src>>,
     alloc: Global,
 ) -> Result<(), AllocError>
-    ensures { OnOk result (sexps_of items.new.items
-        ≡ sexps_of items.old.items
+    ensures { OnOk result (items.new.items
+        ≡ items.old.items
         ++ pattern_shapes (pattern_row_of (patterns_of nodes.now.items))) }
 {
     for node in nodes {

@@ -5,73 +5,75 @@ ghost use Rattle.isle_ast_rules.specs.TreeView.{condition_of, conditions_of, ext
 ghost use Rattle.isle_ast_names.specs.TreeView.{optional_name_of};
 ghost use Rattle.isle_printer_rules.specs.RuleShapes.{condition_shape, extractor_shape};
 ghost use Rattle.isle_printer_rules.specs.RuleShapes.{priority_shape, rule_name_shape, rule_shape};
-ghost use Rattle.isle_printer_layout.specs.SexpView.{sexp_of, sexps_of};
 
 use super::expressions::expression;
 use super::patterns::pattern;
 use isle_ast_names::ast::Ident;
 use isle_ast_rules::ast::{Extractor, IfLet, Rule};
-use isle_printer_layout::printer::SExpr;
-use isle_printer_layout::printer::names::{begun, headed_names, list, push_name};
+use isle_printer_layout::printer::Shape;
+use isle_printer_layout::printer::names::{begun, headed_names, push_name};
 use std::alloc::{AllocError, Global};
 
 /// The S-expression of a condition: `if-let` also where it was spelt `if`.
-pub fn condition(alloc: Global, condition: &IfLet) -> Result<SExpr, AllocError>
-    ensures { IfOk result (λ s. sexp_of s ≡ condition_shape (condition_of condition.now)) }
+pub fn condition<'src>(alloc: Global, condition: &'src IfLet) -> Result<Shape<'src>, AllocError>
+    ensures { IfOk result (λ s. s ≡ condition_shape (condition_of condition.now)) }
 {
     let mut items = begun(alloc, "if-let")?;
     items.push(pattern(&condition.pattern, alloc)?)?;
     items.push(expression(&condition.expr, alloc)?)?;
-    Ok(list(items))
+    Ok(Shape::list(items))
 }
 
 /// The S-expression of a rule.
-pub fn rule(alloc: Global, rule: &Rule) -> Result<SExpr, AllocError>
-    ensures { IfOk result (λ s. sexp_of s ≡ rule_shape (rule_of rule.now)) }
+pub fn rule<'src>(alloc: Global, rule: &'src Rule) -> Result<Shape<'src>, AllocError>
+    ensures { IfOk result (λ s. s ≡ rule_shape (rule_of rule.now)) }
 {
     let mut items = begun(alloc, "rule")?;
-    push_rule_name(&mut items, alloc, &rule.name)?;
+    push_rule_name(&mut items, &rule.name)?;
     push_priority(&mut items, alloc, rule.prio)?;
     items.push(pattern(&rule.pattern, alloc)?)?;
     push_conditions(&mut items, alloc, &rule.iflets)?;
     items.push(expression(&rule.expr, alloc)?)?;
-    Ok(list(items))
+    Ok(Shape::list(items))
 }
 
 /// Appends the name of a rule, if it has one.
-fn push_rule_name(
-    items: &mut Vec<SExpr>,
-    alloc: Global,
-    name: &Option<Ident>,
+fn push_rule_name<'src>(
+    items: &mut Vec<Shape<'src>>,
+    name: &'src Option<Ident>,
 ) -> Result<(), AllocError>
-    ensures { OnOk result (sexps_of items.new.items
-        ≡ sexps_of items.old.items ++ rule_name_shape (optional_name_of name.now)) }
+    ensures { OnOk result (items.new.items
+        ≡ items.old.items ++ rule_name_shape (optional_name_of name.now)) }
 {
     match name {
-        Some(name) => push_name(items, alloc, name),
+        Some(name) => push_name(items, name),
         None => Ok(()),
     }
 }
 
 /// Appends a priority, if there is one.
-fn push_priority(items: &mut Vec<SExpr>, alloc: Global, prio: Option<i64>) -> Result<(), AllocError>
-    ensures { OnOk result (sexps_of items.new.items
-        ≡ sexps_of items.old.items ++ priority_shape prio) }
+fn push_priority<'src>(
+    items: &mut Vec<Shape<'src>>,
+    alloc: Global,
+    prio: Option<i64>,
+) -> Result<(), AllocError>
+    ensures { OnOk result (items.new.items
+        ≡ items.old.items ++ priority_shape prio) }
 {
     if let Some(prio) = prio {
-        items.push(SExpr::Atom(prio.to_string(alloc)?))?;
+        items.push(Shape::made(prio.to_string(alloc)?))?;
     }
     Ok(())
 }
 
 /// Appends conditions.
-fn push_conditions(
-    items: &mut Vec<SExpr>,
+fn push_conditions<'src>(
+    items: &mut Vec<Shape<'src>>,
     alloc: Global,
-    conditions: &[IfLet],
+    conditions: &'src [IfLet],
 ) -> Result<(), AllocError>
-    ensures { OnOk result (sexps_of items.new.items
-        ≡ sexps_of items.old.items ++ map condition_shape (conditions_of conditions.now)) }
+    ensures { OnOk result (items.new.items
+        ≡ items.old.items ++ map condition_shape (conditions_of conditions.now)) }
 {
     for each in conditions {
         items.push(condition(alloc, each)?)?;
@@ -80,11 +82,11 @@ fn push_conditions(
 }
 
 /// The S-expression of an extractor.
-pub fn extractor(alloc: Global, extractor: &Extractor) -> Result<SExpr, AllocError>
-    ensures { IfOk result (λ s. sexp_of s ≡ extractor_shape (extractor_of extractor.now)) }
+pub fn extractor<'src>(alloc: Global, extractor: &'src Extractor) -> Result<Shape<'src>, AllocError>
+    ensures { IfOk result (λ s. s ≡ extractor_shape (extractor_of extractor.now)) }
 {
     let mut items = begun(alloc, "extractor")?;
     items.push(headed_names(alloc, &extractor.term, &extractor.args)?)?;
     items.push(pattern(&extractor.template, alloc)?)?;
-    Ok(list(items))
+    Ok(Shape::list(items))
 }

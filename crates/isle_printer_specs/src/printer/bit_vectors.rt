@@ -4,16 +4,15 @@ ghost use Rattle.std.specs.Prelude.{◌≡◌, ◌≤◌, ◌<◌, [], ◌∷◌
 ghost use Rattle.std.specs.Prelude.{OnOk};
 ghost use Rattle.std.specs.Char.{digit_char};
 ghost use Rattle.isle_printer_layout.specs.Sexp.{atom};
-ghost use Rattle.isle_printer_layout.specs.SexpView.{sexp_of};
 ghost use Rattle.isle_printer_specs.specs.SpecShapes.{bit_vector_text, radix_text, zero_padded};
 
-use isle_printer_layout::printer::SExpr;
+use isle_printer_layout::printer::Shape;
 use std::alloc::{AllocError, Global};
 
 /// The atom of a bit vector of this value and width: in hexadecimal where four divides the width,
 /// else in binary.
-pub fn bit_vector(alloc: Global, val: u128, width: usize) -> Result<SExpr, AllocError>
-    ensures { IfOk result (λ s. sexp_of s ≡ atom (bit_vector_text val width)) }
+pub fn bit_vector<'src>(alloc: Global, val: u128, width: usize) -> Result<Shape<'src>, AllocError>
+    ensures { IfOk result (λ s. s ≡ atom (bit_vector_text val width)) }
 {
     if width % 4 == 0 {
         marked_digits(alloc, "#x", 16, val, width / 4)
@@ -23,16 +22,16 @@ pub fn bit_vector(alloc: Global, val: u128, width: usize) -> Result<SExpr, Alloc
 }
 
 /// The atom of a mark and the digits of a number behind it, so many at least.
-fn marked_digits(
+fn marked_digits<'src>(
     alloc: Global,
     mark: &str,
     radix: u32,
     val: u128,
     least: usize,
-) -> Result<SExpr, AllocError>
+) -> Result<Shape<'src>, AllocError>
     requires low { 2 ≤ radix }
     requires high { radix ≤ 16 }
-    ensures { IfOk result (λ s. sexp_of s
+    ensures { IfOk result (λ s. s
         ≡ atom (mark.now ++ zero_padded least (radix_text radix val))) }
 {
     let mut digits = String::new(alloc);
@@ -40,7 +39,7 @@ fn marked_digits(
     let mut text = String::from_str(alloc, mark)?;
     push_zeros(&mut text, least.saturating_sub(digits.len()))?;
     text.push_str(&digits)?;
-    Ok(SExpr::Atom(text))
+    Ok(Shape::made(text))
 }
 
 /// Appends so many zeros.

@@ -1,24 +1,21 @@
 //! The S-expressions of the operators of spec expressions.
 
-ghost use Rattle.std.specs.Prelude.{◌≡◌, IfOk};
+ghost use Rattle.std.specs.Prelude.{◌≡◌};
 ghost use Rattle.isle_ast_specs.specs.Operators.{operator_text};
-ghost use Rattle.isle_printer_layout.specs.SexpView.{sexp_of};
 ghost use Rattle.isle_printer_specs.specs.SpecShapes.{operator_shape};
 
 use isle_ast_specs::ast::SpecOp;
-use isle_printer_layout::printer::SExpr;
-use isle_printer_layout::printer::names::atom;
-use std::alloc::{AllocError, Global};
+use isle_printer_layout::printer::Shape;
 
 /// The atom of an operator.
-pub fn operator(alloc: Global, op: &SpecOp) -> Result<SExpr, AllocError>
-    ensures { IfOk result (λ s. sexp_of s ≡ operator_shape op.now) }
+pub fn operator<'src>(op: &'src SpecOp) -> Shape<'src>
+    ensures { result ≡ operator_shape op.now }
 {
-    atom(alloc, text(op))
+    Shape::atom(text(op))
 }
 
 /// The text of an operator.
-fn text(op: &SpecOp) -> &'static str
+fn text(op: &SpecOp) -> &str
     ensures { result.now ≡ operator_text op.now }
 {
     match op {

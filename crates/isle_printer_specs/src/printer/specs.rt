@@ -8,7 +8,6 @@ ghost use Rattle.isle_ast_specs.specs.TreeView.{spec_let_row_of, spec_of, spec_r
 ghost use Rattle.isle_ast_specs.specs.SpecGrammar.{dotted};
 ghost use Rattle.isle_ast_names.specs.TreeView.{name_of};
 ghost use Rattle.isle_printer_layout.specs.Sexp.{atom, row_of};
-ghost use Rattle.isle_printer_layout.specs.SexpView.{sexp_of};
 ghost use Rattle.isle_printer_layout.specs.NameShapes.{form_shape};
 ghost use Rattle.isle_printer_specs.specs.SpecShapes.{arm_shape, arm_shapes, field_init_shape};
 ghost use Rattle.isle_printer_specs.specs.SpecShapes.{field_init_shapes, spec_let_shapes};
@@ -19,22 +18,22 @@ use super::models::model_type;
 use super::operators::operator;
 use isle_ast_names::ast::Ident;
 use isle_ast_specs::ast::{Arm, FieldInit, SpecExpr};
-use isle_printer_layout::printer::SExpr;
+use isle_printer_layout::printer::Shape;
 use isle_printer_layout::printer::names::{
-    begun, boolean, headed_names, headed_pair, integer, joined, list, name, names, pair,
+    begun, boolean, headed_names, headed_pair, integer, joined, name, names, pair,
 };
 use std::alloc::{AllocError, Global};
 
 /// The S-expression of a spec expression.
 #[cycle(specs)]
-pub fn spec(node: &SpecExpr, alloc: Global) -> Result<SExpr, AllocError>
-    ensures { IfOk result (λ s. sexp_of s ≡ spec_shape (spec_of node.now)) }
+pub fn spec<'src>(node: &'src SpecExpr, alloc: Global) -> Result<Shape<'src>, AllocError>
+    ensures { IfOk result (λ s. s ≡ spec_shape (spec_of node.now)) }
 {
     match node {
         SpecExpr::ConstInt { val, .. } => integer(alloc, *val),
         SpecExpr::ConstBitVec { val, width, .. } => bit_vector(alloc, *val, *width),
-        SpecExpr::ConstBool { val, .. } => boolean(alloc, *val),
-        SpecExpr::Var { var, .. } => name(alloc, var),
+        SpecExpr::ConstBool { val, .. } => Ok(boolean(*val)),
+        SpecExpr::Var { var, .. } => Ok(name(var)),
         SpecExpr::As { x, ty, .. } => {
             headed_pair(alloc, "as", spec(x, alloc)?, model_type(ty, alloc)?)
         }
@@ -44,7 +43,7 @@ pub fn spec(node: &SpecExpr, alloc: Global) -> Result<SExpr, AllocError>
         SpecExpr::Discriminator { variant, x, .. } => {
             pair(alloc, joined(alloc, &variant.0, "?")?, spec(x, alloc)?)
         }
-        SpecExpr::Op { op, args, .. } => specs_behind(args, operator(alloc, op)?, alloc),
+        SpecExpr::Op { op, args, .. } => specs_behind(args, operator(op), alloc),
         SpecExpr::Match { x, arms, .. } => arms_behind(arms, spec(x, alloc)?, alloc),
         SpecExpr::Let { defs, body, .. } => {
             headed_pair(alloc, "let", spec_lets(defs, alloc)?, spec(body, alloc)?)
@@ -71,37 +70,45 @@ pub fn spec(node: &SpecExpr, alloc: Global) -> Result<SExpr, AllocError>
 
 /// The list of a head and spec expressions.
 #[cycle(specs)]
-pub fn specs_behind(nodes: &Vec<SpecExpr>, head: SExpr, alloc: Global) -> Result<SExpr, AllocError>
-    ensures { IfOk result (λ s. sexp_of s
-        ≡ row_of (sexp_of head ∷ spec_shapes (spec_row_of (specs_of nodes.now.items)))) }
+pub fn specs_behind<'src>(
+    nodes: &'src Vec<SpecExpr>,
+    head: Shape<'src>,
+    alloc: Global,
+) -> Result<Shape<'src>, AllocError>
+    ensures { IfOk result (λ s. s
+        ≡ row_of (head.entry ∷ spec_shapes (spec_row_of (specs_of nodes.now.items)))) }
 {
     let mut items = Vec::new(alloc);
     items.push(head)?;
     for node in nodes {
         items.push(spec(node, alloc)?)?;
     }
-    Ok(list(items))
+    Ok(Shape::list(items))
 }
 
 /// The S-expression of a `match`: what it looks at, and its arms.
 #[cycle(specs)]
-fn arms_behind(nodes: &Vec<Arm>, looked_at: SExpr, alloc: Global) -> Result<SExpr, AllocError>
-    ensures { IfOk result (λ s. sexp_of s
+fn arms_behind<'src>(
+    nodes: &'src Vec<Arm>,
+    looked_at: Shape<'src>,
+    alloc: Global,
+) -> Result<Shape<'src>, AllocError>
+    ensures { IfOk result (λ s. s
         ≡ form_shape (codes "match")
-        (sexp_of looked_at ∷ arm_shapes (arm_row_of (single_arms_of nodes.now.items)))) }
+        (looked_at.entry ∷ arm_shapes (arm_row_of (single_arms_of nodes.now.items)))) }
 {
     let mut items = begun(alloc, "match")?;
     items.push(looked_at)?;
     for node in nodes {
         items.push(arm(node, alloc)?)?;
     }
-    Ok(list(items))
+    Ok(Shape::list(items))
 }
 
 /// The S-expression of an arm of a `match`.
 #[cycle(specs)]
-pub fn arm(node: &Arm, alloc: Global) -> Result<SExpr, AllocError>
-    ensures { IfOk result (λ s. sexp_of s ≡ arm_shape (single_arm_of node.now)) }
+pub fn arm<'src>(node: &'src Arm, alloc: Global) -> Result<Shape<'src>, AllocError>
+    ensures { IfOk result (λ s. s ≡ arm_shape (single_arm_of node.now)) }
 {
     let head = headed_names(alloc, &node.variant, &node.args)?;
     pair(alloc, head, spec(&node.body, alloc)?)
@@ -109,22 +116,25 @@ pub fn arm(node: &Arm, alloc: Global) -> Result<SExpr, AllocError>
 
 /// The list of the definitions of a `let`.
 #[cycle(specs)]
-fn spec_lets(nodes: &Vec<(Ident, SpecExpr)>, alloc: Global) -> Result<SExpr, AllocError>
-    ensures { IfOk result (λ s. sexp_of s
+fn spec_lets<'src>(
+    nodes: &'src Vec<(Ident, SpecExpr)>,
+    alloc: Global,
+) -> Result<Shape<'src>, AllocError>
+    ensures { IfOk result (λ s. s
         ≡ row_of (spec_let_shapes (spec_let_row_of (single_spec_lets_of nodes.now.items)))) }
 {
     let mut items = Vec::new(alloc);
     for node in nodes {
         let value = spec(&node.1, alloc)?;
-        items.push(pair(alloc, name(alloc, &node.0)?, value)?)?;
+        items.push(pair(alloc, name(&node.0), value)?)?;
     }
-    Ok(list(items))
+    Ok(Shape::list(items))
 }
 
 /// The S-expression of a `struct`.
 #[cycle(specs)]
-fn field_inits(nodes: &Vec<FieldInit>, alloc: Global) -> Result<SExpr, AllocError>
-    ensures { IfOk result (λ s. sexp_of s
+fn field_inits<'src>(nodes: &'src Vec<FieldInit>, alloc: Global) -> Result<Shape<'src>, AllocError>
+    ensures { IfOk result (λ s. s
         ≡ form_shape (codes "struct")
         (field_init_shapes (field_init_row_of (single_field_inits_of nodes.now.items)))) }
 {
@@ -132,24 +142,24 @@ fn field_inits(nodes: &Vec<FieldInit>, alloc: Global) -> Result<SExpr, AllocErro
     for node in nodes {
         items.push(field_init(node, alloc)?)?;
     }
-    Ok(list(items))
+    Ok(Shape::list(items))
 }
 
 /// The S-expression of a field of a struct and its value.
 #[cycle(specs)]
-pub fn field_init(node: &FieldInit, alloc: Global) -> Result<SExpr, AllocError>
-    ensures { IfOk result (λ s. sexp_of s ≡ field_init_shape (single_field_init_of node.now)) }
+pub fn field_init<'src>(node: &'src FieldInit, alloc: Global) -> Result<Shape<'src>, AllocError>
+    ensures { IfOk result (λ s. s ≡ field_init_shape (single_field_init_of node.now)) }
 {
-    pair(alloc, name(alloc, &node.name)?, spec(&node.value, alloc)?)
+    pair(alloc, name(&node.name), spec(&node.value, alloc)?)
 }
 
 /// The atom of an enum and its variant, parted by a dot.
-fn dotted(alloc: Global, name: &Ident, variant: &Ident) -> Result<SExpr, AllocError>
-    ensures { IfOk result (λ s. sexp_of s
+fn dotted<'src>(alloc: Global, name: &Ident, variant: &Ident) -> Result<Shape<'src>, AllocError>
+    ensures { IfOk result (λ s. s
         ≡ atom (dotted (name_of name.now) (name_of variant.now))) }
 {
     let mut text = String::from_str(alloc, &name.0)?;
     text.push('.')?;
     text.push_str(&variant.0)?;
-    Ok(SExpr::Atom(text))
+    Ok(Shape::made(text))
 }

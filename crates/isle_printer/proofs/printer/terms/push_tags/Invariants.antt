@@ -1,9 +1,8 @@
 use Rattle.std.proofs.Common.{◌≡◌, ◌++◌, map, take}
 use Rattle.isle_ast_names.specs.TreeView.{names_of}
 use Rattle.isle_printer.specs.DefinitionShapes.{tag_shape}
-use Rattle.isle_printer_layout.specs.SexpView.{sexps_of}
 use Rattle.isle_printer.proofs.printer.terms.push_tags.Given as goal
 
 abbrev pub invariant-loop-each : goal.invariant-loop-each
 invariant-loop-each l =
-    sexps_of l.items.items ≡ sexps_of l.fn.items.items ++ map tag_shape (names_of (take l.each-index l.tags))
+    l.items.items ≡ l.fn.items.items ++ map tag_shape (names_of (take l.each-index l.tags))

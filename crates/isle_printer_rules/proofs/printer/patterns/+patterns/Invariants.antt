@@ -2,10 +2,9 @@
 use Rattle.std.proofs.Common.{◌≡◌, ◌++◌, drop}
 use Rattle.isle_ast_rules.specs.TreeView.{pattern_row_of, patterns_of}
 use Rattle.isle_printer_rules.specs.RuleShapes.{pattern_shapes}
-use Rattle.isle_printer_layout.specs.SexpView.{sexps_of}
 use Rattle.isle_printer_rules.proofs.printer.patterns.+patterns.Given as goal
 
 abbrev pub invariant-push_patterns-loop-node : goal.invariant-push_patterns-loop-node
 invariant-push_patterns-loop-node l =
-    sexps_of l.items.items ++ pattern_shapes (pattern_row_of (patterns_of (drop l.node-index l.node-items)))
-    ≡ sexps_of l.fn.items.items ++ pattern_shapes (pattern_row_of (patterns_of l.node-items))
+    l.items.items ++ pattern_shapes (pattern_row_of (patterns_of (drop l.node-index l.node-items)))
+    ≡ l.fn.items.items ++ pattern_shapes (pattern_row_of (patterns_of l.node-items))

@@ -1,11 +1,9 @@
 use Rattle.std.proofs.Common.{◌≡◌, ◌==◌, ◌∷◌, ◌++◌, ℕ, List, [], false, length, map, refl, ap, ◌∙◌, rules}
-use Rattle.std.proofs.lemmas.List.{map_push}
 use Rattle.isle_ast_specs.specs.Tree.{SpecNode}
 use Rattle.isle_ast_specs.specs.TreeView.{spec_row_of, specs_of}
 use Rattle.isle_ast_specs.specs.declared.ast.specs.SpecExpr.{SpecExpr}
 use Rattle.isle_printer_layout.specs.NameShapes.{form_shape}
 use Rattle.isle_printer_layout.specs.Sexp.{Sexp, atom, row_of}
-use Rattle.isle_printer_layout.specs.SexpView.{sexp_of, sexps_of}
 use Rattle.isle_printer_specs.specs.SpecShapes.{clause_shape, spec_shape, spec_shapes}
 use Rattle.isle_printer_specs.proofs.printer.definitions.push_clause.Goals as goal
 
@@ -29,7 +27,7 @@ returns c =
     let before = c.args.items.now.items in
     let clause = c.in_ok-specs_behind.field-0 in
     let some : (length xs == 0) ≡ false = search rules in
-    let e : sexps_of c.push.new.self.items ≡ sexps_of before ++ sexp_of clause ∷ [] =
-    rw c.in_ok-push.ensures.items (map_push _ before clause) in
-    e ∙ ap (λ ss. sexps_of before ++ ss)
-    (clause_made c.args.word.now xs (sexp_of c.in_ok-atom.field-0) (sexp_of clause) some c.in_ok-atom.ensures c.in_ok-specs_behind.ensures)
+    let e : c.push.new.self.items ≡ before ++ clause ∷ [] =
+    c.in_ok-push.ensures.items in
+    e ∙ ap (λ ss. before ++ ss)
+    (clause_made c.args.word.now xs c.atom.result clause some c.atom.ensures c.in_ok-specs_behind.ensures)

@@ -4,7 +4,7 @@ use Rattle.isle_ast.specs.TreeView.{definitions_of}
 use Rattle.isle_printer.specs.Printed.{printed_text}
 use Rattle.isle_printer.proofs.Printing.{IsPrinted-from_text, WiderHasNoMoreLines-from_text}
 use Rattle.isle_printer.proofs.PrintLaw.{IsPrinted-ReadsBack, IsPrinted-ReadsBackIfWritable, macro_arg-unwritable}
-use Rattle.isle_printer.proofs.printer.print.Goals as goal
+use Rattle.isle_printer.proofs.printer.print_counted.Goals as goal
 
 pub returns-clause-printed : goal.returns-clause-printed
 returns-clause-printed c =

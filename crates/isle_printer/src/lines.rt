@@ -1,0 +1,47 @@
+//! The lines of definitions, one definition after another.
+
+ghost use Rattle.std.specs.Prelude.{◌≡◌, ◌≤◌, ◌+◌, ◌++◌, [], ◌∷◌, List, OnOk, IsErrOf, true, false};
+ghost use Rattle.std.specs.Prelude.{string_bytes};
+ghost use Rattle.isle_ast.specs.MacroArgs.{definition_has_macro_arg};
+ghost use Rattle.isle_ast.specs.Tree.{Definition};
+ghost use Rattle.isle_ast.specs.TreeView.{definition_of};
+ghost use Rattle.isle_printer.specs.Printed.{printed_text};
+ghost use Rattle.isle_printer.specs.PrintedNodes.{nodes_of_definition};
+ghost use Rattle.isle_printer_layout.specs.declared.printer.sexpr.PrintFault.TheVariants.{MacroArg};
+
+use crate::printer::definitions::shape;
+use isle_ast::ast::Def;
+use isle_printer_layout::printer::{Looks, PrintFault, put};
+use std::alloc::Global;
+
+/// Appends a definition's lines to the printed text of those before it: behind an empty line,
+/// unless it is the first.
+///
+/// It looks at each node of the definition's S-expression once at most, and just once where all is
+/// written.
+pub fn put_definition(
+    alloc: Global,
+    def: &Def,
+    width: usize,
+    looks: &mut Looks,
+    out: &mut String,
+) -> Result<(), PrintFault>
+    ensures plain { OnOk result (definition_has_macro_arg (definition_of def.now) ≡ false) }
+    ensures printed { (before : List Definition) → string_bytes out.old ≡ printed_text width before
+        → OnOk result (string_bytes out.new
+        ≡ printed_text width (before ++ definition_of def.now ∷ [])) }
+    ensures refused { IsErrOf result MacroArg
+        → definition_has_macro_arg (definition_of def.now) ≡ true }
+    ensures once { OnOk result
+        (looks.new.count ≡ looks.old.count + nodes_of_definition (definition_of def.now)) }
+    ensures at_most { looks.new.count
+        ≤ looks.old.count + nodes_of_definition (definition_of def.now) }
+{
+    let shape = shape(alloc, def)?;
+    if !out.is_empty() {
+        out.push('\n')?;
+    }
+    put(&shape, width, width, 0, looks, out)?;
+    out.push('\n')?;
+    Ok(())
+}
