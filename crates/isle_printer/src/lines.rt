@@ -17,8 +17,8 @@ use std::alloc::Global;
 /// Appends a definition's lines to the printed text of those before it: behind an empty line,
 /// unless it is the first.
 ///
-/// It looks at each node of the definition's S-expression once at most, and just once where all is
-/// written.
+/// It adds a look for each node of the definition's S-expression where all is written, and never
+/// more. What holds the argument of a macro has no S-expression, and counts none.
 pub fn put_definition(
     alloc: Global,
     def: &Def,

@@ -70,9 +70,9 @@ pub fn print(alloc: Global, defs: &[Def], width: usize) -> Result<String, PrintF
 
 /// Prints definitions as `print` does, and counts the nodes of S-expressions that it looks at.
 ///
-/// Where it answers a text, it has looked at each node of the definitions' S-expressions once, and
-/// at no node more than once whatever it answers. It never looks at a definition that holds the
-/// argument of a macro, which has no S-expression.
+/// Where it answers a text, it adds as many looks as the definitions' S-expressions have nodes, and
+/// never more, whatever it answers. A definition that holds the argument of a macro has no
+/// S-expression, and counts none.
 pub fn print_counted(
     alloc: Global,
     defs: &[Def],

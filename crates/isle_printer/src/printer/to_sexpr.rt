@@ -1,4 +1,4 @@
-//! Which nodes have an S-expression, the form of a node just before it is laid out.
+//! Which nodes have an S-expression, the form in which a node is laid out.
 
 use isle_ast::ast::Ident;
 use isle_printer_layout::printer::names::name;

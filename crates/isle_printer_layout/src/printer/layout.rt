@@ -1,8 +1,8 @@
 //! The layout of S-expressions.
 //!
 //! Columns count the bytes written on a line, its indentation apart. The functions are given the
-//! room that the width leaves of the line, and the level of indentation. Each node is looked at
-//! once, where it is written: its record says whether it fits.
+//! room that the width leaves of the line, and the level of indentation. A node is looked at where
+//! it is written: its record says whether it fits.
 
 ghost use Rattle.std.specs.Prelude.{◌≡◌, ◌≤◌, ◌<◌, ◌+◌, ◌++◌, ◌↔◌, ℕ, IsTrue, OnOk, IfSome};
 ghost use Rattle.std.specs.Prelude.{MatchOption, string_bytes, string_len};
@@ -20,7 +20,7 @@ use std::alloc::AllocError;
 
 /// Appends the layout of a shape, at a width and a level, where the line has this room left.
 ///
-/// Each node is looked at once at most, and just once where all is written.
+/// It adds a look for each node where all is written, and never more than there are nodes.
 #[cycle(put)]
 pub fn put(
     shape: &Shape,

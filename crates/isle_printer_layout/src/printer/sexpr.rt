@@ -1,4 +1,4 @@
-//! S-expressions, the form of a node just before it is laid out.
+//! S-expressions that own their texts, as `to_sexpr` answers them and `fits` measures them.
 
 ghost use Rattle.std.specs.Prelude.{◌≡◌, IfOk};
 ghost use Rattle.isle_printer_layout.specs.SexpView.{sexp_of, sexps_of};
@@ -6,7 +6,7 @@ ghost use Rattle.isle_printer_layout.specs.declared.printer.sexpr.PrintFault.The
 
 use std::alloc::{AllocError, AllocFailed, Global};
 
-/// An S-expression, the representation of a node before it is printed.
+/// The S-expression of a node, with texts of its own.
 #[derive(Debug, PartialEq, Eq, Drop)]
 pub enum SExpr {
     /// A plain text, which is printed as it stands.

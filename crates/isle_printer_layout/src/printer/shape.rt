@@ -1,9 +1,8 @@
 //! Shapes: S-expressions that borrow the texts of the tree, with the record of each one's length.
 //!
-//! The record of a node is made when the node is, from those of its parts, so it is there before
-//! anything is written, and nothing is examined for it. What is written looks at each node once,
-//! by `Shape::look`; no other call of the layout takes a node apart. Copying a shape to an
-//! S-expression and back is no look.
+//! The record of a node is made with the node, from the records of its parts. That is making, and
+//! no look; it is there before anything of its definition is written. Writing takes nodes apart by
+//! `Shape::look` alone, which adds one look. Copies to an S-expression and back are no look.
 
 ghost use Rattle.std.specs.Prelude.{◌≡◌, ◌+◌, ◌++◌, ℕ, IfOk, string_bytes};
 ghost use Rattle.isle_printer_layout.specs.Flat.{counted};
