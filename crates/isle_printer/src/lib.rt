@@ -1,5 +1,5 @@
 //! The printer of ISLE.
 #![tactic(auto)]
 
-mod lines;
+pub mod lines;
 pub mod printer;

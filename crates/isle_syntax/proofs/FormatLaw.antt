@@ -19,10 +19,10 @@ use Rattle.isle_printer.proofs.PrintLaw.{IsPrinted-ReadsBack, IsPrinted-erased, 
 use Rattle.isle_printer.proofs.ShortLines.Definitions.{IsPrinted-HasShortLines}
 use Rattle.isle_parser.specs.Parsed.{RefusesText, RefusesWith}
 use Rattle.isle_parser_cursor.specs.Outcomes.{RefusesIn}
-use Rattle.isle_base.specs.declared.error.Error.{Error}
 use Rattle.isle_base.specs.declared.lexer.Fault.{Fault}
 use Rattle.isle_base.specs.Steps.{IfError, RefusesStart}
 use Rattle.isle_syntax.specs.Format.{IsFormatted, IsRefused, OfItsTree}
+use Rattle.isle_syntax.specs.Streaming.{IsRefusedWith}
 
 -- what is spelt in some places is spelt erased
 IsSpelt-erased : (place : ℕ → Pos) (text : List ℕ) (ds : List Definition) → IsSpelt place text ds → IsSpelt nowhere text (erase ds)
@@ -86,10 +86,6 @@ pub IsSpelt-Spells : (text : List ℕ) (feed : Feed) (ds : List Definition) → 
 IsSpelt-Spells text feed ds l s =
     let same = Lexes-unique (length text) text s.0 feed.coming end feed.ending s.1 l in
     (sym same.1, subst (λ tokens. SpellsDefinitions ds (placed nowhere tokens)) same.0 s.2)
-
--- the text is refused, and the error stands in it
-abbrev pub IsRefusedWith : List ℕ → Error → Type 0
-IsRefusedWith text e = IsRefused text × RefusesIn 0 (length text) e
 
 -- A text that begins with a fault is refused there.
 pub refused_start : (text : List ℕ) (f : Fault) → IfError (RefusesStart 0 text) f → IfError (IsRefusedWith text) f

@@ -1,1 +1,2 @@
 pub mod FormatLaw
+pub mod StreamingLaw

@@ -16,14 +16,16 @@ ghost use Rattle.isle_printer_layout.specs.ShortLines.{HasShortLines};
 ghost use Rattle.isle_syntax.specs.Format.{HasPrintOfItsOwn, IsOnlyTree, IsRefused, OfItsTree};
 ghost use Rattle.isle_syntax.specs.Format.{ReadsBackAtOtherWidths, SpellsTree};
 
+mod streaming;
+
 pub use isle_ast::ast;
 use isle_base::lexer::{Fault, Lexer};
 pub use isle_base::{error, files, lexer};
 pub use isle_parser::parser;
-use isle_parser::parser::parse_without_pos;
+use isle_parser::parser::Parser;
 pub use isle_printer::printer;
-use isle_printer::printer::{PrintFault, print};
 use std::alloc::Global;
+use streaming::put_all;
 
 /// Formats a text of ISLE: the print, at this width in bytes, of the one tree that the text spells.
 ///
@@ -67,10 +69,8 @@ pub fn format(alloc: Global, text: &str, width: usize) -> Result<String, Fault>
     ensures never_failed { result ≢ Err Failed }
 {
     let lexer = Lexer::new(alloc, 0, text)?;
-    let defs = parse_without_pos(alloc, lexer)?;
-    match print(alloc, &defs, width) {
-        Ok(answer) => Ok(answer),
-        Err(PrintFault::MacroArg) => unreachable!(),
-        Err(PrintFault::Memory) => Err(Fault::Memory),
-    }
+    let mut parser = Parser::new(lexer);
+    let mut answer = String::new(alloc);
+    put_all(alloc, &mut parser, width, &mut answer)?;
+    Ok(answer)
 }

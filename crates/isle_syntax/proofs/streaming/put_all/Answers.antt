@@ -1,0 +1,34 @@
+use Rattle.std.proofs.Common.{Ok, ap, string_bytes}
+use Rattle.std.proofs.lemmas.Result.{err_from_is_err_and}
+use Rattle.isle_syntax.proofs.StreamingLaw.{all_written, never_failed, nothing_written, one_more_written, put_takes, refused_next}
+use Rattle.isle_syntax.proofs.streaming.put_all.Goals as goal
+
+pub loop-init : goal.loop-init
+loop-init c = nothing_written c.args.width c.args.parser.now (string_bytes c.args.answer.now) c.requires.empty c.requires.ready
+
+pub returns-in_err-put_next-clause-formatted : goal.returns-in_err-put_next-clause-formatted
+returns-in_err-put_next-clause-formatted c text s =
+    let p = err_from_is_err_and c.from_residual.result c.from_residual.ensures.1 in
+    rw p.1 tt
+
+pub returns-in_err-put_next-clause-refused : goal.returns-in_err-put_next-clause-refused
+returns-in_err-put_next-clause-refused c text s =
+    let p = err_from_is_err_and c.from_residual.result c.from_residual.ensures.1 in
+    rw (p.1, p.2) (refused_next c.args.width text (string_bytes c.loop.answer) c.args.parser.now c.loop.parser c.in_err-put_next.field-0.0 s c.loop.invariant c.in_err-put_next.ensures.failed c.in_err-put_next.ensures.refused)
+
+pub returns-in_err-put_next-clause-never_failed : goal.returns-in_err-put_next-clause-never_failed
+returns-in_err-put_next-clause-never_failed c =
+    let p = err_from_is_err_and c.from_residual.result c.from_residual.ensures.1 in
+    rw (p.1, p.2) (never_failed c.args.width c.args.parser.now c.loop.parser (string_bytes c.loop.answer) c.in_err-put_next.field-0.0 c.loop.invariant c.in_err-put_next.ensures.failed)
+
+pub loop-smaller : goal.loop-smaller
+loop-smaller c =
+    put_takes c.args.width c.loop.parser c.put_next.new.parser (string_bytes c.loop.answer) (string_bytes c.put_next.new.answer) (c.in_ok-put_next.ensures.put (ap Ok c.if-branch.true))
+
+pub loop-preserved : goal.loop-preserved
+loop-preserved c =
+    one_more_written c.args.width c.args.parser.now c.loop.parser c.put_next.new.parser (string_bytes c.loop.answer) (string_bytes c.put_next.new.answer) c.loop.invariant (c.in_ok-put_next.ensures.put (ap Ok c.if-branch.true))
+
+pub returns-clause-formatted : goal.returns-clause-formatted
+returns-clause-formatted c text s =
+    all_written c.args.width text (string_bytes c.loop.answer) (string_bytes c.put_next.new.answer) c.args.parser.now c.loop.parser c.put_next.new.parser s c.loop.invariant (c.in_ok-put_next.ensures.done (ap Ok c.if-branch.false))

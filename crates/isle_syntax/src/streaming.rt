@@ -1,0 +1,58 @@
+//! Formatting one definition after another.
+
+ghost use Rattle.std.specs.Prelude.{◌≡◌, ◌↔◌, Err, IfErr, IsErrOf, List, Ok, OnOk, [], ℕ};
+ghost use Rattle.std.specs.Prelude.{false, string_bytes, true};
+ghost use Rattle.isle_base.specs.Steps.{IfError};
+ghost use Rattle.isle_base.specs.declared.lexer.Fault.TheVariants.{Failed};
+ghost use Rattle.isle_parser.specs.NextDefinition.{RefusesNext, has_failed};
+ghost use Rattle.isle_syntax.specs.Format.{IsFormatted};
+ghost use Rattle.isle_syntax.specs.Streaming.{IsAtStart, IsDone, IsPut, IsRefusedWith};
+
+use isle_base::lexer::Fault;
+use isle_parser::parser::Parser;
+use isle_printer::lines::put_definition;
+use isle_printer::printer::{Looks, PrintFault};
+use std::alloc::Global;
+
+/// Appends the print of each definition that a parser has still to give, one after another.
+pub(crate) fn put_all(
+    alloc: Global,
+    parser: &mut Parser,
+    width: usize,
+    answer: &mut String,
+) -> Result<(), Fault>
+    requires empty { string_bytes answer.old ≡ [] }
+    requires ready { has_failed parser.old ≡ false }
+    ensures formatted { (text : List ℕ) → IsAtStart text parser.old
+        → OnOk result (IsFormatted width text (string_bytes answer.new)) }
+    ensures refused { (text : List ℕ) → IsAtStart text parser.old
+        → IfErr result (IfError (IsRefusedWith text)) }
+    ensures never_failed { IsErrOf result Failed → ⊥ }
+{
+    while put_next(alloc, parser, width, answer)? {}
+    Ok(())
+}
+
+/// Appends the print of the next definition, and tells whether there was one.
+fn put_next(
+    alloc: Global,
+    parser: &mut Parser,
+    width: usize,
+    answer: &mut String,
+) -> Result<bool, Fault>
+    ensures put { result ≡ Ok true
+        → IsPut width parser.old parser.new (string_bytes answer.old) (string_bytes answer.new) }
+    ensures done { result ≡ Ok false
+        → IsDone parser.old parser.new (string_bytes answer.old) (string_bytes answer.new) }
+    ensures refused { IfErr result (IfError (RefusesNext parser.old.cursor)) }
+    ensures failed { IsErrOf result Failed ↔ (has_failed parser.old ≡ true) }
+{
+    let Some(def) = parser.next_def(alloc)? else {
+        return Ok(false);
+    };
+    match put_definition(alloc, &def, width, &mut Looks::new(), answer) {
+        Ok(()) => Ok(true),
+        Err(PrintFault::MacroArg) => unreachable!(),
+        Err(PrintFault::Memory) => Err(Fault::Memory),
+    }
+}
