@@ -1,6 +1,6 @@
 -- What the first byte of a piece says about the classes of bytes.
-use Rattle.std.proofs.Common.{◌≡◌, ℕ, List, [], ◌∷◌, Bool, true, false, refl, ap, ◌∙◌, arith, eqb, ⊎_elim, ◌&&◌, not}
-use Rattle.std.proofs.lemmas.Bool.{and_parts, cases_Bool, both_ways, eqb-true}
+use Rattle.std.proofs.Common.{◌≡◌, ◌<◌, ◌≤◌, ℕ, List, [], ◌∷◌, Bool, true, false, refl, ap, ◌∙◌, arith, eqb, ⊎_elim, ◌&&◌, not, inl, inr}
+use Rattle.std.proofs.lemmas.Bool.{and_parts, cases_Bool, cases_eq, both_ways, eqb-true}
 use Rattle.std.proofs.lemmas.Bool.Decides.{nat_tests}
 use Rattle.isle_base.specs.Literals.{begins_literal, in_literal}
 use Rattle.isle_base.specs.Pieces.{in_symbol, begins_symbol}
@@ -10,6 +10,39 @@ use Rattle.isle_base.specs.Skips.{is_blank, opens}
 pub other_byte : (kind : ℕ → Bool) (b c : ℕ) → kind b ≡ true → kind c ≡ false → eqb b c ≡ false
 other_byte kind b c has lacks =
     ⊎_elim (λ same. absurd (both_ways (kind b) (ap kind (eqb-true b c same) ∙ lacks) has)) (λ differs. differs) (cases_Bool (eqb b c))
+
+-- a byte that is space, tab, LF or else CR
+pub blank_one : (b : ℕ) → ((b ≡ 32 → ⊥) → (b ≡ 9 → ⊥) → (b ≡ 10 → ⊥) → b ≡ 13) → is_blank b ≡ true
+unfolding is_blank
+blank_one b last =
+    elim (cases_eq b 32) [
+      | inl space ↦ ap is_blank space
+      | inr no_space ↦ elim (cases_eq b 9) [
+        | inl tab ↦ ap is_blank tab
+        | inr no_tab ↦ elim (cases_eq b 10) [
+          | inl feed ↦ ap is_blank feed
+          | inr no_feed ↦ ap is_blank (last no_space no_tab no_feed)
+        ]
+      ]
+    ]
+
+digit_begins : (b : ℕ) → 48 ≤ b → b < 58 → begins_literal b ≡ true
+unfolding begins_literal
+digit_begins b above below = grind (arith, nat_tests)
+
+-- a byte that is `-` or else a digit
+pub literal_one : (b : ℕ) → ((b ≡ 45 → ⊥) → (48 ≤ b) × (b < 58)) → begins_literal b ≡ true
+unfolding begins_literal
+literal_one b digit =
+    elim (cases_eq b 45) [
+      | inl minus ↦ ap begins_literal minus
+      | inr no_minus ↦ digit_begins b (digit no_minus).0 (digit no_minus).1
+    ]
+
+-- a byte that is neither
+pub literal_else : (b : ℕ) → (b ≡ 45 → ⊥) → (48 ≤ b → 58 ≤ b) → begins_literal b ≡ false
+unfolding begins_literal
+literal_else b no_minus no_digit = grind (arith, nat_tests)
 
 pub literal_ne_open : (b : ℕ) → begins_literal b ≡ true → eqb b 40 ≡ false
 unfolding begins_literal

@@ -6,6 +6,7 @@ pub mod Exists
 pub mod Utf8
 pub mod Found
 pub mod LabelLemmas
+pub mod LaneLemmas
 pub mod LineLemmas
 pub mod Numbers
 pub mod Places

@@ -7,6 +7,7 @@ use Rattle.std.proofs.lemmas.List.{drop_more, drop_all, drop-drop}
 use Rattle.isle_base.specs.Skips.{Inside, Skip, blank, line_comment, block_comment, is_blank, in_line, begins_with, opens, closes}
 use Rattle.isle_base.specs.Literals.{prefix_radix, radix_of}
 use Rattle.isle_base.specs.Reads.{IsUnskipped}
+use Rattle.isle_base.proofs.Bytes.{opens_not}
 use Rattle.isle_base.proofs.Comments.{Insides, opens_as, closes_as, insides_open, open_insides, insides_close, close_insides, insides_byte, byte_insides, insides_nil, Inside-shorter}
 use Rattle.isle_base.proofs.Runs.{longest_from, prefix_len-yes, prefix_len-no}
 
@@ -122,11 +123,21 @@ run_within kind bytes from end h e = omega (arith, prefix_len-le-length kind (dr
 pub unskipped_end : (text : List ℕ) → text ≡ [] → IsUnskipped text
 unskipped_end text e = subst IsUnskipped (sym e) (record { not_blank = refl; no_line = refl; no_block = refl })
 
-pub unskipped_byte : (text : List ℕ) (b : ℕ) (rest : List ℕ) → text ≡ b ∷ rest → (b ≡ 59 → ⊥) → is_blank b ≡ false → opens text ≡ false → IsUnskipped text
-unskipped_byte text b rest e no_line not_blank no_block = record {
-  not_blank = ap (begins_with is_blank) e ∙ not_blank;
-  no_line = ap (begins_with (λ c. eqb c 59)) e ∙ ne_eqb b 59 no_line;
+pub unskipped_open : (text : List ℕ) (b : ℕ) (rest : List ℕ) → text ≡ b ∷ rest → b ≡ 40 → opens text ≡ false → IsUnskipped text
+unfolding is_blank
+unskipped_open text b rest e opening no_block = record {
+  not_blank = ap (begins_with is_blank) e ∙ ap is_blank opening;
+  no_line = ap (begins_with (λ c. eqb c 59)) e ∙ ap (λ c. eqb c 59) opening;
   no_block = no_block;
+}
+
+-- a byte at which no skip can begin
+pub unskipped_byte : (text : List ℕ) (b : ℕ) (rest : List ℕ) → text ≡ b ∷ rest → (b ≡ 32 → ⊥) → (b ≡ 9 → ⊥) → (b ≡ 10 → ⊥) → (b ≡ 13 → ⊥) → (b ≡ 59 → ⊥) → (b ≡ 40 → ⊥) → IsUnskipped text
+unfolding is_blank
+unskipped_byte text b rest e no_space no_tab no_feed no_return no_line no_open = record {
+  not_blank = ap (begins_with is_blank) e ∙ rw (ne_eqb b 32 no_space, ne_eqb b 9 no_tab, ne_eqb b 10 no_feed, ne_eqb b 13 no_return) refl;
+  no_line = ap (begins_with (λ c. eqb c 59)) e ∙ ne_eqb b 59 no_line;
+  no_block = ap opens e ∙ opens_not b rest (ne_eqb b 40 no_open);
 }
 
 pub prefix_pair : (bytes : List ℕ) (at : ℕ) → at + 1 < length bytes → prefix_radix (drop at bytes) ≡ cond (eqb (get_or bytes at 0) 48) (radix_of (get_or bytes (at + 1) 0)) None

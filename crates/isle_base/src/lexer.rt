@@ -9,6 +9,7 @@ ghost use Rattle.isle_base.specs.Token.{is_int, is_symbol};
 ghost use Rattle.isle_base.specs.TokenView.{token_of};
 ghost use Rattle.isle_base.specs.declared.lexer.Fault.TheVariants.{Failed, Memory};
 
+mod lanes;
 pub mod laws;
 mod literal;
 mod read;
@@ -16,6 +17,7 @@ mod scan;
 
 use crate::error::Error;
 use crate::files::Files;
+pub use lanes::{blank_end, line_comment_end, symbol_end};
 use read::{Found, error, read};
 use std::alloc::{AllocError, AllocFailed, Global};
 use std::marker::Model;

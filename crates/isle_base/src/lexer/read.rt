@@ -1,21 +1,18 @@
 //! The next token of a text.
 
 ghost use Rattle.std.specs.Prelude.{◌≡◌, ◌+◌, ◌^◌, ◌<◌, ◌≤◌, true, drop, length, IfOk, IsUtf8};
-ghost use Rattle.std.specs.List.{prefix_len};
-ghost use Rattle.isle_base.specs.Literals.{begins_literal as starts_literal};
-ghost use Rattle.isle_base.specs.Pieces.{begins_symbol, in_symbol};
+ghost use Rattle.isle_base.specs.Literals.{begins_literal};
+ghost use Rattle.isle_base.specs.Pieces.{begins_symbol};
 ghost use Rattle.isle_base.specs.Reads.{Finds, FindsHere, IsUnskipped};
 ghost use Rattle.isle_base.specs.Skips.{begins_with};
 ghost use Rattle.isle_base.specs.Steps.{RefusesAt};
 
 use crate::error::{Error, Span};
+use crate::lexer::lanes::{FORM_FEED, symbol_end};
 use crate::lexer::literal::literal_at;
 use crate::lexer::scan::skip_end;
 use crate::lexer::{Pos, Token};
 use std::alloc::{AllocError, Global};
-
-/// The byte that may stand in comments alone.
-const FORM_FEED: u8 = 0x0c;
 
 /// Why a text is refused.
 #[derive(Clone, Copy)]
@@ -59,30 +56,6 @@ pub(crate) enum Found {
     Fault(usize, Reason),
 }
 
-/// Tells whether a byte may stand in a symbol behind its first.
-#[tactic(auto, unfolding(crate::specs::Pieces::in_symbol, crate::specs::Skips::is_blank))]
-fn is_in_symbol(byte: u8) -> bool
-    ensures { result ≡ in_symbol byte }
-{
-    !matches!(
-        byte,
-        b'(' | b')' | b';' | b'@' | b' ' | b'\t' | b'\n' | FORM_FEED | b'\r'
-    )
-}
-
-/// Finds the first byte from an offset on that is in no symbol, or the end of the text.
-fn symbol_end(bytes: &[u8], from: usize) -> usize
-    requires { from ≤ length bytes.now }
-    ensures end { result ≡ from + prefix_len in_symbol (drop from bytes.now) }
-    ensures within { result ≤ length bytes.now }
-{
-    let mut at = from;
-    while at < bytes.len() && is_in_symbol(bytes[at]) {
-        at += 1;
-    }
-    at
-}
-
 /// Reads the symbol at an offset.
 fn symbol_at(alloc: Global, src: &str, start: usize) -> Result<Found, AllocError>
     requires within { start < length src.now }
@@ -95,18 +68,10 @@ fn symbol_at(alloc: Global, src: &str, start: usize) -> Result<Found, AllocError
     Ok(Found::Token(start, Token::Symbol(name), end))
 }
 
-/// Tells whether a byte begins a literal.
-#[tactic(auto, unfolding(crate::specs::Literals::begins_literal))]
-fn begins_literal(byte: u8) -> bool
-    ensures { result ≡ starts_literal byte }
-{
-    byte == b'-' || byte.is_ascii_digit()
-}
-
 /// Reads the literal at an offset.
 fn integer_at(bytes: &[u8], start: usize) -> Found
     requires within { start < length bytes.now }
-    requires begins { begins_with starts_literal (drop start bytes.now) ≡ true }
+    requires begins { begins_with begins_literal (drop start bytes.now) ≡ true }
     ensures { FindsHere bytes.now start result }
 {
     match literal_at(bytes, start) {
@@ -122,19 +87,13 @@ fn token_at(alloc: Global, src: &str, start: usize) -> Result<Found, AllocError>
     requires unskipped { IsUnskipped (drop start src.now) }
     ensures { IfOk result (FindsHere src.now start) }
 {
-    let byte = src.as_bytes()[start];
-    if byte == b'(' {
-        Ok(Found::Token(start, Token::LParen, start + 1))
-    } else if byte == b')' {
-        Ok(Found::Token(start, Token::RParen, start + 1))
-    } else if byte == b'@' {
-        Ok(Found::Token(start, Token::At, start + 1))
-    } else if byte == FORM_FEED {
-        Ok(Found::Fault(start, Reason::FormFeed))
-    } else if begins_literal(byte) {
-        Ok(integer_at(src.as_bytes(), start))
-    } else {
-        symbol_at(alloc, src, start)
+    match src.as_bytes()[start] {
+        b'(' => Ok(Found::Token(start, Token::LParen, start + 1)),
+        b')' => Ok(Found::Token(start, Token::RParen, start + 1)),
+        b'@' => Ok(Found::Token(start, Token::At, start + 1)),
+        FORM_FEED => Ok(Found::Fault(start, Reason::FormFeed)),
+        b'-' | b'0'..=b'9' => Ok(integer_at(src.as_bytes(), start)),
+        _ => symbol_at(alloc, src, start),
     }
 }
 
