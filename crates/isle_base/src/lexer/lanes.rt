@@ -1,4 +1,8 @@
-//! Where a run of bytes ends: a symbol, blanks, the rest of a line.
+//! Where a symbol, blanks or a line comment end, found many bytes at a time.
+//!
+//! Which bytes these are made of is the rule of the lexer of upstream `cranelift-isle`. Most runs
+//! are a few bytes long, so the first bytes are looked at one by one, and lanes take over behind
+//! them.
 
 ghost use Rattle.std.specs.Prelude.{◌≡◌, ◌+◌, ◌≤◌, ℕ, Bool, not, map, drop, length};
 ghost use Rattle.std.specs.List.{prefix_len};
@@ -11,17 +15,17 @@ use std::simd::prelude::*;
 /// The byte that may stand in comments alone.
 pub(crate) const FORM_FEED: u8 = 0x0c;
 
-/// How many bytes of a run are looked at one by one: most runs are shorter.
+/// How many bytes are looked at one by one before lanes take over. Most runs are shorter.
 const NEAR: usize = 16;
 
-/// How many bytes are looked at together behind them.
+/// How many bytes are looked at together from there on.
 const LANES: usize = 32;
 
-/// The bytes that a run is made of.
+/// A class of bytes, of which runs are made.
 trait Class {
     ghost holds: { ℕ → Bool };
 
-    /// Tells whether a byte is of the class.
+    /// Tells whether a byte is of the class. One comparison decides on letters, and comes first.
     fn has(byte: u8) -> bool
         ensures { result ≡ holds byte };
 
@@ -39,10 +43,11 @@ impl Class for InSymbol {
     #[inline(always)]
     #[tactic(auto, unfolding(crate::specs::Pieces::in_symbol, crate::specs::Skips::is_blank))]
     fn has(byte: u8) -> bool {
-        !matches!(
-            byte,
-            b'(' | b')' | b';' | b'@' | b' ' | b'\t' | b'\n' | FORM_FEED | b'\r'
-        )
+        byte > b'@'
+            || !matches!(
+                byte,
+                b'(' | b')' | b';' | b'@' | b' ' | b'\t' | b'\n' | FORM_FEED | b'\r'
+            )
     }
 
     #[inline(always)]
@@ -69,7 +74,7 @@ impl Class for Blank {
     #[inline(always)]
     #[tactic(auto, unfolding(crate::specs::Skips::is_blank))]
     fn has(byte: u8) -> bool {
-        matches!(byte, b' ' | b'\t' | b'\n' | b'\r')
+        byte <= b' ' && matches!(byte, b' ' | b'\t' | b'\n' | b'\r')
     }
 
     #[inline(always)]
@@ -91,7 +96,7 @@ impl Class for InLine {
     #[inline(always)]
     #[tactic(auto, unfolding(crate::specs::Skips::in_line))]
     fn has(byte: u8) -> bool {
-        !matches!(byte, b'\n' | b'\r')
+        byte > b'\r' || !matches!(byte, b'\n' | b'\r')
     }
 
     #[inline(always)]
@@ -101,7 +106,7 @@ impl Class for InLine {
     }
 }
 
-/// Finds the end of a run byte by byte.
+/// Finds where a run ends, byte by byte.
 #[inline(always)]
 fn rest_end<C: Class>(bytes: &[u8], from: usize) -> usize
     requires { from ≤ length bytes.now }
@@ -114,7 +119,7 @@ fn rest_end<C: Class>(bytes: &[u8], from: usize) -> usize
     at
 }
 
-/// Finds the end of a long run, 32 bytes at a time.
+/// Finds where a long run ends, 32 bytes at a time, and what is left byte by byte.
 #[inline(never)]
 fn far_end<C: Class>(bytes: &[u8], from: usize) -> usize
     requires { from ≤ length bytes.now }
@@ -131,17 +136,16 @@ fn far_end<C: Class>(bytes: &[u8], from: usize) -> usize
     rest_end::<C>(bytes, at)
 }
 
-/// Finds the end of a run.
+/// Finds where a run ends, which may well be a short one.
 #[inline(always)]
 fn run_end<C: Class>(bytes: &[u8], from: usize) -> usize
     requires { from ≤ length bytes.now }
     ensures { result ≡ from + prefix_len C.holds (drop from bytes.now) }
 {
-    let near = if bytes.len() - from > NEAR {
-        from + NEAR
-    } else {
-        bytes.len()
-    };
+    if bytes.len() - from < NEAR {
+        return far_end::<C>(bytes, from);
+    }
+    let near = from + NEAR;
     let mut at = from;
     while at < near {
         if !C::has(bytes[at]) {
@@ -152,7 +156,15 @@ fn run_end<C: Class>(bytes: &[u8], from: usize) -> usize
     far_end::<C>(bytes, at)
 }
 
-/// Finds where a symbol ends.
+/// Finds where a symbol ends: the offset of the first byte from `from` on that can't stand in a
+/// symbol, or the length of `bytes` if there is none.
+///
+/// Such a byte is `(`, `)`, `;`, `@`, space, tab, LF, form feed or CR. Any other goes on with the
+/// symbol, also NUL, VT and each byte from 128 on. The byte at `from` is looked at like those
+/// behind it, and isn't asked to begin a symbol.
+///
+/// `from` and the answer are byte offsets into `bytes`, from 0. It asks that `from` is at most the
+/// length. `bytes` needn't be UTF-8, and no memory is taken.
 pub fn symbol_end(bytes: &[u8], from: usize) -> usize
     requires { from ≤ length bytes.now }
     ensures end { result ≡ from + prefix_len in_symbol (drop from bytes.now) }
@@ -161,7 +173,14 @@ pub fn symbol_end(bytes: &[u8], from: usize) -> usize
     run_end::<InSymbol>(bytes, from)
 }
 
-/// Finds where blanks end.
+/// Finds where blanks end: the offset of the first byte from `from` on that is no space, tab, LF
+/// or CR, or the length of `bytes` if there is none.
+///
+/// Form feed and VT are no blanks, nor is the `;` of a comment. Where the byte at `from` is no
+/// blank, the answer is `from`.
+///
+/// `from` and the answer are byte offsets into `bytes`, from 0. It asks that `from` is at most the
+/// length. `bytes` needn't be UTF-8, and no memory is taken.
 pub fn blank_end(bytes: &[u8], from: usize) -> usize
     requires { from ≤ length bytes.now }
     ensures { result ≡ from + prefix_len is_blank (drop from bytes.now) }
@@ -169,7 +188,15 @@ pub fn blank_end(bytes: &[u8], from: usize) -> usize
     run_end::<Blank>(bytes, from)
 }
 
-/// Finds where a line ends.
+/// Finds where a line comment ends: the offset of the first LF or CR from `from` on, or the length
+/// of `bytes` if there is none.
+///
+/// Nothing else ends a line comment, form feed and `;)` neither. The byte at `from` is looked at
+/// like those behind it, so `from` may be the offset of the comment's `;` or any further one. The
+/// LF or CR isn't part of the comment.
+///
+/// `from` and the answer are byte offsets into `bytes`, from 0. It asks that `from` is at most the
+/// length. `bytes` needn't be UTF-8, and no memory is taken.
 pub fn line_comment_end(bytes: &[u8], from: usize) -> usize
     requires { from ≤ length bytes.now }
     ensures { result ≡ from + prefix_len in_line (drop from bytes.now) }
