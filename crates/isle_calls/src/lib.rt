@@ -8,6 +8,8 @@ mod error;
 #[cfg(test)]
 mod files;
 #[cfg(test)]
+mod lanes;
+#[cfg(test)]
 mod lexer;
 #[cfg(test)]
 mod looks;
