@@ -10,4 +10,4 @@ returns c =
     let v = c.args.bytes in
     let long = c.fits-bytes.0 in
     masked _ (λ b. not (is_blank b)) v _ (omega arith) c.fits-bytes.1
-    (zip2_of_maps _ _ _ v (zip2_of_maps _ _ _ v (zip2_of_maps _ _ _ v (zip2_splat _ v 32 32 long) (zip2_splat _ v 32 9 long)) (zip2_splat _ v 32 10 long)) (zip2_splat _ v 32 13 long)) refl
+    (zip2_of_maps _ _ _ v (zip2_of_maps _ _ _ v (zip2_of_maps _ _ _ v (zip2_splat _ v 32 _ long) (zip2_splat _ v 32 _ long)) (zip2_splat _ v 32 _ long)) (zip2_splat _ v 32 _ long)) refl

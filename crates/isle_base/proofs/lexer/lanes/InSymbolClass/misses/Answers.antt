@@ -13,5 +13,5 @@ returns c =
     masked _ (λ b. not (in_symbol b)) v _ (omega arith) c.fits-bytes.1
     (zip2_of_maps _ _ _ v (zip2_of_maps _ _ _ v (zip2_of_maps _ _ _ v (zip2_of_maps _ _ _ v
     (zip2_of_maps _ _ _ v (zip2_of_maps _ _ _ v (zip2_of_maps _ _ _ v (zip2_of_maps _ _ _ v
-    (zip2_splat _ v 32 40 long) (zip2_splat _ v 32 41 long)) (zip2_splat _ v 32 59 long)) (zip2_splat _ v 32 64 long)) (zip2_splat _ v 32 32 long))
-    (zip2_splat _ v 32 9 long)) (zip2_splat _ v 32 10 long)) (zip2_splat _ v 32 12 long)) (zip2_splat _ v 32 13 long)) refl
+    (zip2_splat _ v 32 _ long) (zip2_splat _ v 32 _ long)) (zip2_splat _ v 32 _ long)) (zip2_splat _ v 32 _ long)) (zip2_splat _ v 32 _ long))
+    (zip2_splat _ v 32 _ long)) (zip2_splat _ v 32 _ long)) (zip2_splat _ v 32 _ long)) (zip2_splat _ v 32 _ long)) refl
