@@ -1,7 +1,7 @@
 //! The next token of a text.
 
 ghost use Rattle.std.specs.Prelude.{◌≡◌, ◌+◌, ◌^◌, ◌<◌, ◌≤◌, true, drop, length, IfOk, IsUtf8};
-ghost use Rattle.isle_base.specs.Literals.{begins_literal};
+ghost use Rattle.isle_base.specs.Literals.{begins_literal as starts_literal};
 ghost use Rattle.isle_base.specs.Pieces.{begins_symbol};
 ghost use Rattle.isle_base.specs.Reads.{Finds, FindsHere, IsUnskipped};
 ghost use Rattle.isle_base.specs.Skips.{begins_with};
@@ -71,7 +71,7 @@ fn symbol_at(alloc: Global, src: &str, start: usize) -> Result<Found, AllocError
 /// Reads the literal at an offset.
 fn integer_at(bytes: &[u8], start: usize) -> Found
     requires within { start < length bytes.now }
-    requires begins { begins_with begins_literal (drop start bytes.now) ≡ true }
+    requires begins { begins_with starts_literal (drop start bytes.now) ≡ true }
     ensures { FindsHere bytes.now start result }
 {
     match literal_at(bytes, start) {
