@@ -11,6 +11,7 @@ use Rattle.unicode.specs.GeneralCategory.{general_category}
 use Rattle.unicode.specs.declared.properties.GeneralCategory.{GeneralCategory}
 use Rattle.unicode.specs.declared.properties.GeneralCategory.TheVariants.{DecimalNumber, LetterNumber, OtherNumber}
 use Rattle.isle_base.specs.Bytes.{dollar, dot, underscore}
+use Rattle.isle_base.specs.Skips.{begins_with}
 
 abbrev pub is_number : GeneralCategory → Bool
 is_number DecimalNumber = true
@@ -39,3 +40,11 @@ are_identifier (c ∷ cs) = begins_identifier c && list_all continues_identifier
 -- these bytes are a text, and its characters make an identifier
 unfoldable pub is_identifier : List ℕ → Bool
 is_identifier text = is_utf8 text && are_identifier (chars text)
+
+-- an ASCII character that may stand in an identifier behind the first one
+abbrev pub continues_in_ascii : ℕ → Bool
+continues_in_ascii b = nat_lt b 128 && continues_identifier b
+
+-- an identifier of ASCII characters alone
+abbrev pub is_ascii_identifier : List ℕ → Bool
+is_ascii_identifier text = begins_with begins_identifier text && list_all continues_in_ascii text

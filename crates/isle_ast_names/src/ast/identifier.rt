@@ -10,7 +10,9 @@
 ghost use Rattle.std.specs.Prelude.{◌≡◌, drop, slice_get};
 ghost use Rattle.std.specs.List.{list_all};
 ghost use Rattle.std.specs.Str.{chars};
+ghost use Rattle.isle_base.specs.Skips.{begins_with};
 ghost use Rattle.isle_ast_names.specs.Identifier.{begins_identifier, continues_identifier};
+ghost use Rattle.isle_ast_names.specs.Identifier.{continues_in_ascii, is_ascii_identifier};
 ghost use Rattle.isle_ast_names.specs.Identifier.{is_digit, is_identifier, is_letter, is_number};
 
 use unicode::properties::{GeneralCategory, is_alphabetic};
@@ -19,10 +21,7 @@ use unicode::properties::{GeneralCategory, is_alphabetic};
 pub fn is_identifier(text: &str) -> bool
     ensures { result ≡ is_identifier text.now }
 {
-    match first_char(text) {
-        Some(first) => begins_identifier(first) && others_continue(text),
-        None => false,
-    }
+    is_ascii_identifier(text) || is_identifier_by_chars(text)
 }
 
 /// Tells whether a character may be the first of an identifier: a letter, `_` or `$`.
@@ -68,6 +67,46 @@ fn is_number(category: GeneralCategory) -> bool
         | GeneralCategory::LetterNumber
         | GeneralCategory::OtherNumber => true,
         _ => false,
+    }
+}
+
+/// Tells whether a text is an identifier of ASCII characters alone.
+fn is_ascii_identifier(text: &str) -> bool
+    ensures { result ≡ is_ascii_identifier text.now }
+{
+    begins_in_ascii(text) && continue_in_ascii(text)
+}
+
+/// Tells whether the first byte, taken as a character, may be the first of an identifier.
+fn begins_in_ascii(text: &str) -> bool
+    ensures { result ≡ begins_with begins_identifier text.now }
+{
+    match text.as_bytes() {
+        [first, ..] => begins_identifier(*first as char),
+        [] => false,
+    }
+}
+
+fn continue_in_ascii(text: &str) -> bool
+    ensures { result ≡ list_all continues_in_ascii text.now }
+{
+    text.bytes().all(continues_in_ascii)
+}
+
+/// Tells whether a byte is an ASCII character that may stand in an identifier behind the first one.
+fn continues_in_ascii(byte: u8) -> bool
+    ensures { result ≡ continues_in_ascii byte }
+{
+    byte.is_ascii_alphanumeric() || byte == b'_' || byte == b'.' || byte == b'$'
+}
+
+/// Tells whether a text is an identifier, whatever its characters are.
+fn is_identifier_by_chars(text: &str) -> bool
+    ensures { result ≡ is_identifier text.now }
+{
+    match first_char(text) {
+        Some(first) => begins_identifier(first) && others_continue(text),
+        None => false,
     }
 }
 
