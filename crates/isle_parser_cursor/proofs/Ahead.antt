@@ -52,13 +52,12 @@ fault_within (fault o) size offset e h =
     omega (arith, h, is)
 
 -- the lexer's refusal stands within the text
-pub refused_within : (old new : Feed) (e : Error) → Refuses old e new → IsWithin old → (is_fault new.ending ≡ true) × RefusesIn new.file new.size e
+pub refused_within : (old new : Feed) (e : Error) → Refuses old e new → IsWithin new → (is_fault new.ending ≡ true) × RefusesIn new.file new.size e
 refused_within old new e h w =
     let is : new.ending ≡ fault h.offset = rw h.failed h.ending in
-    let within : h.offset ≤ old.size = fault_within old.ending old.size h.offset h.ending w.ending in
-    let size : new.size ≡ old.size = rw h.failed refl in
+    let within : h.offset ≤ new.size = fault_within new.ending new.size h.offset is w.ending in
     let file : new.file ≡ old.file = rw h.failed refl in
-    (rw is refl, (h.offset, rw size within, rw file h.error))
+    (rw is refl, (h.offset, within, rw file h.error))
 
 ended_nothing : (xs : List Lexeme) (ending : Ending) → ended_by xs ending ≡ true → xs ≡ []
 ended_nothing [] ending e = refl
@@ -68,21 +67,19 @@ failed_nothing : (xs : List Lexeme) (ending : Ending) → failed_by xs ending �
 failed_nothing [] ending e = refl
 failed_nothing (x ∷ xs) ending e = absurd cc
 
-nothing_taken : (place : ℕ → Pos) (xs : List Lexeme) (s : Source) (pos : Pos) (e : Stop) → xs ≡ [] → IsPlace s pos → IsRefusalAt pos e → Stops (take (placed place xs)) s e
-nothing_taken place xs s pos (stops.Parser e) is p h = (rw is refl, refusal_at s pos (stops.Parser e) p h)
-nothing_taken place xs s pos (stops.Lexer e) is p h = absurd h
-nothing_taken place xs s pos stops.Memory is p h = tt
-
--- at the end of the text there is nothing to take
-pub end_taken : (place : ℕ → Pos) (feed : Feed) (s : Source) (pos : Pos) (e : Stop) → is_at_end feed ≡ true → IsPlace s pos → IsRefusalAt pos e → Stops (take (placed place feed.coming)) s e
-end_taken place feed s pos e ended = nothing_taken place feed.coming s pos e (ended_nothing feed.coming feed.ending ended)
-
--- behind a fault there is nothing to take
-pub fault_taken : (place : ℕ → Pos) (feed : Feed) (s : Source) (pos : Pos) (e : Stop) → is_failed feed ≡ true → IsPlace s pos → IsRefusalAt pos e → Stops (take (placed place feed.coming)) s e
-fault_taken place feed s pos e failed = nothing_taken place feed.coming s pos e (failed_nothing feed.coming feed.ending failed)
-
 -- where reading gives nothing, the parser's refusal stops it
 pub stopped : {Y : Type 0} (read : Option (Y × List Placed)) (s : Source) (e : Stop) → read ≡ None → IsRefusal s e → Stops read s e
 stopped read s (stops.Parser e) none h = (none, h)
 stopped read s (stops.Lexer e) none h = absurd h
 stopped read s stops.Memory none h = tt
+
+nothing_taken : (place : ℕ → Pos) (xs : List Lexeme) (s : Source) (e : Stop) → xs ≡ [] → IsRefusal s e → Stops (take (placed place xs)) s e
+nothing_taken place xs s e is = stopped (take (placed place xs)) s e (rw is refl)
+
+-- at the end of the text there is nothing to take
+pub end_taken : (place : ℕ → Pos) (feed : Feed) (s : Source) (e : Stop) → is_at_end feed ≡ true → IsRefusal s e → Stops (take (placed place feed.coming)) s e
+end_taken place feed s e ended = nothing_taken place feed.coming s e (ended_nothing feed.coming feed.ending ended)
+
+-- behind a fault there is nothing to take
+pub fault_taken : (place : ℕ → Pos) (feed : Feed) (s : Source) (e : Stop) → is_failed feed ≡ true → IsRefusal s e → Stops (take (placed place feed.coming)) s e
+fault_taken place feed s e failed = nothing_taken place feed.coming s e (failed_nothing feed.coming feed.ending failed)

@@ -4,7 +4,7 @@ ghost use Rattle.std.specs.Prelude.{◌≡◌, ◌+◌, ◌<◌, ◌^◌, IfOk, 
 ghost use Rattle.std.specs.Prelude.{false};
 ghost use Rattle.isle_ast_names.specs.Words.{is_constant};
 ghost use Rattle.isle_base.specs.Steps.{IsWithin, Rises, is_at_end, is_failed};
-ghost use Rattle.isle_base.specs.Token.{integer, is_int, is_symbol, rparen};
+ghost use Rattle.isle_base.specs.Token.{at_sign, integer, is_int, is_symbol, lparen, rparen};
 ghost use Rattle.isle_base.specs.TokenView.{token_of};
 ghost use Rattle.isle_parser_cursor.specs.Outcomes.{Gives, IsPlace, IsRefusal, IsRefusalAt};
 ghost use Rattle.isle_parser_cursor.specs.Outcomes.{placing, source, tokens};
@@ -192,12 +192,15 @@ impl<'src> Cursor<'src> {
         ensures gives { Gives token_of (take (tokens self.old)) result self.new }
         ensures goes_on { OnOk result (is_failed self.new.lexer ≡ false) }
     {
-        let place = self.place();
         match self.lexer.next(alloc) {
             Ok(Some((_, token))) => Ok(token),
-            Ok(None) => Err(refuse(place, unexpected_message(alloc, None))),
-            Err(Fault::Error(error)) => Err(Stop::Lexer(error)),
-            Err(Fault::Failed) => Err(refuse(place, unexpected_message(alloc, None))),
+            Ok(None) => Err(self.unexpected(alloc)),
+            Err(Fault::Error(error)) => {
+                // The fault that the lexer stands at is within the text.
+                self.lexer.pos();
+                Err(Stop::Lexer(error))
+            }
+            Err(Fault::Failed) => Err(self.unexpected(alloc)),
             Err(Fault::Memory) => Err(Stop::Memory),
         }
     }
@@ -215,26 +218,29 @@ impl<'src> Cursor<'src> {
     }
 
     /// Takes off `(`.
-    pub fn expect_lparen(&mut self, alloc: Global) -> Result<Token, Stop>
+    #[tactic(auto, using(crate::proofs::Expected::expected_lparen))]
+    pub fn expect_lparen(&mut self, alloc: Global) -> Result<(), Stop>
         ensures same { source self.new ≡ source self.old }
-        ensures gives { Gives token_of (expect is_lparen (tokens self.old)) result self.new }
+        ensures gives { Gives (λ _. lparen) (expect is_lparen (tokens self.old)) result self.new }
     {
         let is_wanted = self.is_lparen();
-        self.take_if(alloc, is_wanted)
+        self.take_if(alloc, is_wanted)?;
+        Ok(())
     }
 
     /// Takes off `)`.
-    pub fn expect_rparen(&mut self, alloc: Global) -> Result<Token, Stop>
+    #[tactic(auto, using(crate::proofs::Expected::expected_rparen))]
+    pub fn expect_rparen(&mut self, alloc: Global) -> Result<(), Stop>
         ensures same { source self.new ≡ source self.old }
-        ensures gives { Gives token_of (expect is_rparen (tokens self.old)) result self.new }
+        ensures gives { Gives (λ _. rparen) (expect is_rparen (tokens self.old)) result self.new }
         ensures goes_on { OnOk result (is_failed self.new.lexer ≡ false) }
     {
         let is_wanted = self.is_rparen();
-        self.take_if(alloc, is_wanted)
+        self.take_if(alloc, is_wanted)?;
+        Ok(())
     }
 
     /// Takes off the closing parenthesis behind a node, and gives the node.
-    #[tactic(auto, using(crate::proofs::Expected::expected_rparen))]
     pub fn close<T: Drop>(&mut self, alloc: Global, node: T) -> Result<T, Stop>
         ensures same { source self.new ≡ source self.old }
         ensures kept { IfOk result (λ n. n ≡ node) }
@@ -246,12 +252,14 @@ impl<'src> Cursor<'src> {
     }
 
     /// Takes off `@`.
-    pub fn expect_at(&mut self, alloc: Global) -> Result<Token, Stop>
+    #[tactic(auto, using(crate::proofs::Expected::expected_at))]
+    pub fn expect_at(&mut self, alloc: Global) -> Result<(), Stop>
         ensures same { source self.new ≡ source self.old }
-        ensures gives { Gives token_of (expect is_at (tokens self.old)) result self.new }
+        ensures gives { Gives (λ _. at_sign) (expect is_at (tokens self.old)) result self.new }
     {
         let is_wanted = self.is_at();
-        self.take_if(alloc, is_wanted)
+        self.take_if(alloc, is_wanted)?;
+        Ok(())
     }
 
     /// Takes off a symbol, and gives its text.

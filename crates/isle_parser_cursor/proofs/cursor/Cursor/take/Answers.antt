@@ -5,16 +5,16 @@ use Rattle.isle_parser_cursor.proofs.cursor.Cursor.take.Goals as goal
 
 pub returns-in-Err-Error-clause-gives : goal.returns-in-Err-Error-clause-gives
 returns-in-Err-Error-clause-gives c =
-    refused_within c.args.self.now.lexer c.next.new.self c.in-Err-Error.error (rw c.in-Err-Error.field-0-is at c.in-Err-Error.ensures.refused) c.place-place.ensures.within
+    refused_within c.args.self.now.lexer c.next.new.self c.in-Err-Error.error (rw c.in-Err-Error.field-0-is at c.in-Err-Error.ensures.refused) c.pos.ensures.within
 
 pub returns-in-Ok-None-clause-gives : goal.returns-in-Ok-None-clause-gives
 returns-in-Ok-None-clause-gives c =
     let old = c.args.self.now in
     let gives = c.in-Ok-None.ensures.end (ap Ok c.in-Ok-None.field-0-is) in
-    rw gives.1 (end_taken (placing old.disable_pos old.lexer.file) old.lexer (source old) c.place-place.result c.refuse.result gives.0 c.place-place.ensures.place c.refuse.ensures)
+    end_taken (placing old.disable_pos old.lexer.file) old.lexer (source record { lexer = c.next.new.self; disable_pos = old.disable_pos }) c.unexpected.result gives.0 c.unexpected.ensures
 
 pub returns-in-Err-Failed-clause-gives : goal.returns-in-Err-Failed-clause-gives
 returns-in-Err-Failed-clause-gives c =
     let old = c.args.self.now in
     let gives = c.in-Err-Failed.ensures.failed (ap Err c.in-Err-Failed.field-0-is) in
-    rw gives.1 (fault_taken (placing old.disable_pos old.lexer.file) old.lexer (source old) c.place-place.result c.refuse-in-Err-Failed.result gives.0 c.place-place.ensures.place c.refuse-in-Err-Failed.ensures)
+    fault_taken (placing old.disable_pos old.lexer.file) old.lexer (source record { lexer = c.next.new.self; disable_pos = old.disable_pos }) c.unexpected-in-Err-Failed.result gives.0 c.unexpected-in-Err-Failed.ensures
