@@ -6,7 +6,7 @@ use Rattle.std.proofs.lemmas.Result.{err_from_is_err_and}
 use Rattle.std.proofs.lemmas.List.{map_push}
 use Rattle.isle_ast_rules.specs.TreeView.{expression_of, expressions_of, single_let_of, single_lets_of}
 use Rattle.isle_ast_names.specs.TreeView.{name_of}
-use Rattle.isle_base.specs.TokenView.{token_of}
+use Rattle.isle_base.specs.Token.{lparen}
 use Rattle.isle_parser_cursor.specs.Outcomes.{source, tokens}
 use Rattle.isle_parser_rules.specs.ExpressionReaders.{expression, let_definition}
 use Rattle.isle_parser_cursor.specs.Reading.{closes, is_lparen, many}
@@ -35,7 +35,7 @@ parse_expr_inner_parens-parse_exprs-requires t c =
 
 pub parse_letdef-parse_expr-requires : goal.parse_letdef-parse_expr-requires
 parse_letdef-parse_expr-requires t c =
-    (omega (arith, expect_shorter is_lparen (tokens c.args.cursor.now) (tokens c.expect_lparen.new.self) (token_of c.in_ok-expect_lparen.field-0) c.in_ok-expect_lparen.ensures.gives, name_shrinks (tokens c.expect_lparen.new.self) (tokens c.parse_ident.new.self) (name_of c.in_ok-var.var) c.in_ok-var.ensures.gives, name_shrinks (tokens c.parse_ident.new.self) (tokens c.parse_ident-2.new.self) (name_of c.in_ok-ty.ty) c.in_ok-ty.ensures.gives), tt)
+    (omega (arith, expect_shorter is_lparen (tokens c.args.cursor.now) (tokens c.expect_lparen.new.self) lparen c.in_ok-expect_lparen.ensures.gives, name_shrinks (tokens c.expect_lparen.new.self) (tokens c.parse_ident.new.self) (name_of c.in_ok-var.var) c.in_ok-var.ensures.gives, name_shrinks (tokens c.parse_ident.new.self) (tokens c.parse_ident-2.new.self) (name_of c.in_ok-ty.ty) c.in_ok-ty.ensures.gives), tt)
 
 pub parse_exprs-returns-in_err-parse_expr-clause-gives : goal.parse_exprs-returns-in_err-parse_expr-clause-gives
 parse_exprs-returns-in_err-parse_expr-clause-gives t c =

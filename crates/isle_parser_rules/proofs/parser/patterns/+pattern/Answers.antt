@@ -6,7 +6,7 @@ use Rattle.std.proofs.lemmas.Result.{err_from_is_err_and}
 use Rattle.std.proofs.lemmas.List.{map_push}
 use Rattle.isle_ast_names.specs.TreeView.{name_of}
 use Rattle.isle_ast_rules.specs.TreeView.{pattern_of, patterns_of}
-use Rattle.isle_base.specs.TokenView.{token_of}
+use Rattle.isle_base.specs.Token.{at_sign}
 use Rattle.isle_parser_cursor.specs.Outcomes.{source, tokens}
 use Rattle.isle_parser_rules.specs.PatternReaders.{pattern}
 use Rattle.isle_parser_cursor.specs.Reading.{closes, is_at, many}
@@ -35,7 +35,7 @@ parse_pattern_symbol-parse_pattern_variable-requires t c =
 
 pub parse_pattern_variable-parse_pattern-requires : goal.parse_pattern_variable-parse_pattern-requires
 parse_pattern_variable-parse_pattern-requires t c =
-    (omega (arith, name_shrinks (tokens c.args.cursor.now) (tokens c.parse_ident.new.self) (name_of c.in_ok-var.var) c.in_ok-var.ensures.gives, expect_shorter is_at (tokens c.parse_ident.new.self) (tokens c.expect_at.new.self) (token_of c.in_ok-expect_at.field-0) c.in_ok-expect_at.ensures.gives), tt)
+    (omega (arith, name_shrinks (tokens c.args.cursor.now) (tokens c.parse_ident.new.self) (name_of c.in_ok-var.var) c.in_ok-var.ensures.gives, expect_shorter is_at (tokens c.parse_ident.new.self) (tokens c.expect_at.new.self) at_sign c.in_ok-expect_at.ensures.gives), tt)
 
 pub parse_patterns-returns-in_err-parse_pattern-clause-gives : goal.parse_patterns-returns-in_err-parse_pattern-clause-gives
 parse_patterns-returns-in_err-parse_pattern-clause-gives t c =
