@@ -1,7 +1,9 @@
 //! Names of constants.
 
-ghost use Rattle.std.specs.Prelude.{◌≡◌};
+ghost use Rattle.std.specs.Prelude.{◌≡◌, ◌∷◌, string_bytes, true};
+ghost use Rattle.isle_base.specs.Bytes.{dollar};
 ghost use Rattle.isle_ast_names.specs.TreeView.{name_of};
+ghost use Rattle.isle_ast_names.specs.Words.{is_constant};
 ghost use Rattle.isle_parser_cursor.specs.Outcomes.{Gives, source, tokens};
 ghost use Rattle.isle_parser_rules.specs.ConstantReaders.{constant};
 
@@ -16,12 +18,28 @@ pub fn parse_const(cursor: &mut Cursor, alloc: Global) -> Result<Ident, Stop>
     ensures gives { Gives name_of (constant (tokens cursor.old)) result cursor.new }
 {
     let place = cursor.place();
-    let ident = cursor.parse_ident(alloc)?;
-    match ident.0.strip_prefix('$') {
-        Some(text) => Ok(Ident(String::from_str(alloc, text)?, ident.1)),
-        None => Err(cursor.refuse_at(
-            place,
-            String::from_str(alloc, "Not a constant identifier; must start with a '$'"),
-        )),
+    let Ident(name, pos) = cursor.parse_ident(alloc)?;
+    if begins_constant(&name) {
+        return Ok(Ident(behind_dollar(name), pos));
     }
+    Err(cursor.refuse_at(
+        place,
+        String::from_str(alloc, "Not a constant identifier; must start with a '$'"),
+    ))
+}
+
+/// Tells whether the text begins with `$`.
+fn begins_constant(text: &str) -> bool
+    ensures { result ≡ is_constant text.now }
+{
+    text.starts_with('$')
+}
+
+/// What stands behind the `$`, in the memory of the whole text.
+fn behind_dollar(mut text: String) -> String
+    requires { is_constant (string_bytes text) ≡ true }
+    ensures { string_bytes text ≡ dollar ∷ string_bytes result }
+{
+    text.remove(0);
+    text
 }
