@@ -3,7 +3,7 @@ use Rattle.std.specs.Prelude.{codes}
 use Rattle.std.proofs.lemmas.Result.{err_from_is_err_and}
 use Rattle.std.proofs.lemmas.List.{map_push}
 use Rattle.isle_ast_names.specs.TreeView.{name_of}
-use Rattle.isle_base.specs.TokenView.{token_of}
+use Rattle.isle_base.specs.Token.{lparen}
 use Rattle.isle_parser_cursor.specs.Outcomes.{source, tokens}
 use Rattle.isle_parser_specs.specs.ModelReaders.{model_field_inside, model_type}
 use Rattle.isle_parser_cursor.specs.Reading.{closes, in_parentheses, is_lparen, many}
@@ -16,7 +16,7 @@ use Rattle.isle_parser_specs.proofs.parser.models.+model_type.Goals as goal
 
 pub parse_model_field-parse_model_type-requires : goal.parse_model_field-parse_model_type-requires
 parse_model_field-parse_model_type-requires t c =
-    (omega (arith, expect_shorter is_lparen (tokens c.args.cursor.now) (tokens c.expect_lparen.new.self) (token_of c.in_ok-expect_lparen.field-0) c.in_ok-expect_lparen.ensures.gives, name_shrinks (tokens c.expect_lparen.new.self) (tokens c.parse_ident.new.self) (name_of c.in_ok-name.name) c.in_ok-name.ensures.gives), tt)
+    (omega (arith, expect_shorter is_lparen (tokens c.args.cursor.now) (tokens c.expect_lparen.new.self) lparen c.in_ok-expect_lparen.ensures.gives, name_shrinks (tokens c.expect_lparen.new.self) (tokens c.parse_ident.new.self) (name_of c.in_ok-name.name) c.in_ok-name.ensures.gives), tt)
 
 pub parse_model_fields-parse_model_field-requires : goal.parse_model_fields-parse_model_field-requires
 parse_model_fields-parse_model_field-requires t c = (omega (arith, c.loop-alloc.invariant.shorter), tt)
@@ -55,5 +55,5 @@ parse_model_inside-returns-then-branch-2-clause-gives t c =
 
 pub parse_model_type-parse_model_inside-requires : goal.parse_model_type-parse_model_inside-requires
 parse_model_type-parse_model_inside-requires t c =
-    let less = expect_shorter is_lparen (tokens c.args.cursor.now) (tokens c.expect_lparen.new.self) (token_of c.in_ok-expect_lparen.field-0) c.in_ok-expect_lparen.ensures.gives in
+    let less = expect_shorter is_lparen (tokens c.args.cursor.now) (tokens c.expect_lparen.new.self) lparen c.in_ok-expect_lparen.ensures.gives in
     (omega (arith, less), rw c.in_ok-expect_lparen.ensures.same c.place-place.ensures.place)
