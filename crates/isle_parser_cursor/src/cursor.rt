@@ -187,6 +187,7 @@ impl<'src> Cursor<'src> {
     }
 
     /// Takes off the token ahead.
+    #[inline(always)]
     pub fn take(&mut self, alloc: Global) -> Result<Token, Stop>
         ensures same { source self.new ≡ source self.old }
         ensures gives { Gives token_of (take (tokens self.old)) result self.new }
@@ -206,6 +207,7 @@ impl<'src> Cursor<'src> {
     }
 
     /// Takes off the token ahead where it is wanted, and refuses it otherwise.
+    #[inline(always)]
     pub fn take_if(&mut self, alloc: Global, is_wanted: bool) -> Result<Token, Stop>
         ensures same { source self.new ≡ source self.old }
         ensures gives { Gives token_of (take_if is_wanted (tokens self.old)) result self.new }
