@@ -44,13 +44,13 @@ pub next_refused : (old new : Cursor) (stop : Stop) → is_at_end old.lexer ≡ 
 next_refused old new (stops.Parser e) before same h =
     record {
       because = inl (spells_none (tokens old) h.0);
-      stands = same_text (source new) (source old) e same h.1;
+      stands = same_text (source new) (source old) e.value same h.1;
       before_end = before;
     }
 next_refused old new (stops.Lexer e) before same h =
     record {
       because = inr (same_fault (source new) (source old) same h.0);
-      stands = same_text (source new) (source old) e same h.1;
+      stands = same_text (source new) (source old) e.value same h.1;
       before_end = before;
     }
 next_refused old new stops.Memory before same h = tt

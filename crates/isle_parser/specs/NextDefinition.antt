@@ -36,6 +36,6 @@ pub record RefusesNext (old : Cursor) (e : Error) : Type 0 where
 
 -- what a parser answers where reading stops
 abbrev pub fault_of : Stop → Fault
-fault_of (stops.Parser e) = faults.Error e
-fault_of (stops.Lexer e) = faults.Error e
+fault_of (stops.Parser e) = faults.Error e.value
+fault_of (stops.Lexer e) = faults.Error e.value
 fault_of stops.Memory = faults.Memory

@@ -233,8 +233,8 @@ fn fault_of(stop: Stop) -> Fault
     ensures { result ≡ fault_of stop }
 {
     match stop {
-        Stop::Parser(error) => Fault::Error(error),
-        Stop::Lexer(error) => Fault::Error(error),
+        Stop::Parser(error) => Fault::Error(Box::into_inner(error)),
+        Stop::Lexer(error) => Fault::Error(Box::into_inner(error)),
         Stop::Memory => Fault::Memory,
     }
 }

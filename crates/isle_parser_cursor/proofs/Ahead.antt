@@ -6,7 +6,7 @@ use Rattle.isle_base.specs.Place.{Placed, in_file, unknown, nowhere, placed}
 use Rattle.isle_base.specs.Steps.{AreWithin, EndsWithin, IsWithin, Refuses, RefusesAt, ended_by, failed_by, first_placed, is_at_end, is_failed, lookahead}
 use Rattle.isle_base.specs.Token.{Lexeme, Ending, end, fault, Feed}
 use Rattle.isle_parser_cursor.specs.declared.cursor.Stop.{Stop}
-use Rattle.isle_parser_cursor.specs.Outcomes.{IsPlace, IsRefusal, IsRefusalAt, Judges, Source, Stops, is_fault, RefusesIn}
+use Rattle.isle_parser_cursor.specs.Outcomes.{IsLexerRefusal, IsPlace, IsRefusal, IsRefusalAt, Judges, Source, Stops, is_fault, RefusesIn}
 use Rattle.isle_parser_cursor.specs.Reading.{pos_ahead, take}
 use Rattle.isle_parser_cursor.specs.declared.cursor.Stop.TheVariants as stops
 
@@ -22,7 +22,7 @@ is_unknown pos e f = ap (λ (n : ℕ). in_file n pos.offset) e ∙ ap (λ (n : �
 pub refusal_at : (s : Source) (pos : Pos) (e : Stop) → IsPlace s pos → IsRefusalAt pos e → IsRefusal s e
 refusal_at s pos (stops.Parser e) p h =
     let is : pos ≡ in_file s.file pos.offset = ap (λ (n : ℕ). in_file n pos.offset) p.file in
-    (pos.offset, p.offset, subst (λ (q : Pos). RefusesAt q e) is h)
+    (pos.offset, p.offset, subst (λ (q : Pos). RefusesAt q e.value) is h)
 refusal_at s pos (stops.Lexer e) p h = h
 refusal_at s pos stops.Memory p h = tt
 
@@ -58,6 +58,12 @@ refused_within old new e h w =
     let within : h.offset ≤ new.size = fault_within new.ending new.size h.offset is w.ending in
     let file : new.file ≡ old.file = rw h.failed refl in
     (rw is refl, (h.offset, within, rw file h.error))
+
+-- and so does what the cursor hands on of it
+pub handed_on : {Y : Type 0} (read : Option (Y × List Placed)) (s : Source) (error : Error) (e : Stop) → IsLexerRefusal error e → (is_fault s.ending ≡ true) × RefusesIn s.file s.size error → Stops read s e
+handed_on read s error (stops.Parser e) is h = absurd is
+handed_on read s error (stops.Lexer e) is h = (h.0, subst (λ (x : Error). RefusesIn s.file s.size x) (sym is) h.1)
+handed_on read s error stops.Memory is h = tt
 
 ended_nothing : (xs : List Lexeme) (ending : Ending) → ended_by xs ending ≡ true → xs ≡ []
 ended_nothing [] ending e = refl

@@ -40,9 +40,15 @@ pub record IsPlace (s : Source) (pos : Pos) : Type 0 where
 
 -- the parser refuses the byte at this position
 abbrev pub IsRefusalAt : Pos → Stop → Type 0
-IsRefusalAt pos (stops.Parser e) = RefusesAt pos e
+IsRefusalAt pos (stops.Parser e) = RefusesAt pos e.value
 IsRefusalAt pos (stops.Lexer e) = ⊥
 IsRefusalAt pos stops.Memory = Unit {0}
+
+-- the lexer refuses its text with this error
+abbrev pub IsLexerRefusal : Error → Stop → Type 0
+IsLexerRefusal error (stops.Parser e) = ⊥
+IsLexerRefusal error (stops.Lexer e) = e.value ≡ error
+IsLexerRefusal error stops.Memory = Unit {0}
 
 -- a parse error whose span is one byte of the file, or the one behind the text's end
 abbrev pub RefusesIn : ℕ → ℕ → Error → Type 0
@@ -50,14 +56,14 @@ RefusesIn file size e = (offset : ℕ) × (offset ≤ size) × RefusesAt (in_fil
 
 -- a refusal of the parser at some byte of the file, or at the text's end
 abbrev pub IsRefusal : Source → Stop → Type 0
-IsRefusal s (stops.Parser e) = RefusesIn s.file s.size e
+IsRefusal s (stops.Parser e) = RefusesIn s.file s.size e.value
 IsRefusal s (stops.Lexer e) = ⊥
 IsRefusal s stops.Memory = Unit {0}
 
 -- Where the parser refuses, reading gives nothing, and where the lexer does, a fault stands behind the tokens.
 abbrev pub Stops : {Y : Type 0} → Option (Y × List Placed) → Source → Stop → Type 0
-Stops read s (stops.Parser e) = (read ≡ None) × RefusesIn s.file s.size e
-Stops read s (stops.Lexer e) = (is_fault s.ending ≡ true) × RefusesIn s.file s.size e
+Stops read s (stops.Parser e) = (read ≡ None) × RefusesIn s.file s.size e.value
+Stops read s (stops.Lexer e) = (is_fault s.ending ≡ true) × RefusesIn s.file s.size e.value
 Stops read s stops.Memory = Unit {0}
 
 -- What a call answered, seen by view, is what reading gives of the tokens that were to come.
@@ -68,6 +74,6 @@ Gives view read (Err e) new = Stops read (source new) e
 -- A test of what stands at a place is passed, or the parser refuses there.
 abbrev pub Judges : {X : Type 0} → Bool → Source → Result X Stop → Type 0
 Judges passed s (Ok _) = passed ≡ true
-Judges passed s (Err (stops.Parser e)) = (passed ≡ false) × RefusesIn s.file s.size e
+Judges passed s (Err (stops.Parser e)) = (passed ≡ false) × RefusesIn s.file s.size e.value
 Judges passed s (Err (stops.Lexer e)) = ⊥
 Judges passed s (Err stops.Memory) = Unit {0}

@@ -6,7 +6,8 @@ ghost use Rattle.isle_ast_names.specs.Words.{is_constant};
 ghost use Rattle.isle_base.specs.Steps.{IsWithin, Rises, is_at_end, is_failed};
 ghost use Rattle.isle_base.specs.Token.{at_sign, integer, is_int, is_symbol, lparen, rparen};
 ghost use Rattle.isle_base.specs.TokenView.{token_of};
-ghost use Rattle.isle_parser_cursor.specs.Outcomes.{Gives, IsPlace, IsRefusal, IsRefusalAt};
+ghost use Rattle.isle_parser_cursor.specs.Outcomes.{Gives, IsLexerRefusal, IsPlace, IsRefusal};
+ghost use Rattle.isle_parser_cursor.specs.Outcomes.{IsRefusalAt};
 ghost use Rattle.isle_parser_cursor.specs.Outcomes.{placing, source, tokens};
 ghost use Rattle.isle_parser_cursor.specs.NumberReaders.{signed};
 ghost use Rattle.isle_parser_cursor.specs.Reading.{is_const, ends, expect, flag, is_ahead, is_at};
@@ -46,9 +47,9 @@ impl<'src> Clone for Cursor<'src> {
 #[derive(Drop)]
 pub enum Stop {
     /// The parser refuses the tokens.
-    Parser(Error),
+    Parser(Box<Error>),
     /// The lexer refuses its text.
-    Lexer(Error),
+    Lexer(Box<Error>),
     /// A growth of memory was refused.
     Memory,
 }
@@ -199,7 +200,7 @@ impl<'src> Cursor<'src> {
             Err(Fault::Error(error)) => {
                 // The fault that the lexer stands at is within the text.
                 self.lexer.pos();
-                Err(Stop::Lexer(error))
+                Err(refused_by_lexer(alloc, error))
             }
             Err(Fault::Failed) => Err(self.unexpected(alloc)),
             Err(Fault::Memory) => Err(Stop::Memory),
@@ -339,10 +340,30 @@ fn refuse(place: Pos, message: Result<String, AllocError>) -> Stop
     ensures { IsRefusalAt place result }
 {
     match message {
-        Ok(msg) => Stop::Parser(Error::ParseError {
-            msg,
-            span: Span::new_single(place),
-        }),
+        Ok(msg) => refuse_with(place, msg),
         Err(error) => Stop::from(error),
+    }
+}
+
+/// Hands on what the lexer refuses, where there is memory for it.
+fn refused_by_lexer(alloc: Global, error: Error) -> Stop
+    ensures { IsLexerRefusal error result }
+{
+    match Box::new(alloc, error) {
+        Ok(error) => Stop::Lexer(error),
+        Err(_) => Stop::Memory,
+    }
+}
+
+/// Refuses the byte at this place with this message.
+fn refuse_with(place: Pos, msg: String) -> Stop
+    requires { place.offset + 1 < 2 ^ 64 }
+    ensures { IsRefusalAt place result }
+{
+    let alloc = *msg.allocator();
+    let span = Span::new_single(place);
+    match Box::new(alloc, Error::ParseError { msg, span }) {
+        Ok(error) => Stop::Parser(error),
+        Err(_) => Stop::Memory,
     }
 }

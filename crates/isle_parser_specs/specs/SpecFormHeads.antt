@@ -41,6 +41,6 @@ word_view words.Other = None
 -- What a call made of a text, seen by view, is what was found. Where the parser refuses the text, nothing was.
 abbrev pub Finds : {X Y : Type 0} → (X → Y) → Option Y → Source → Result X Stop → Type 0
 Finds view found s (Ok x) = found ≡ Some (view x)
-Finds view found s (Err (stops.Parser e)) = (found ≡ None) × RefusesIn s.file s.size e
+Finds view found s (Err (stops.Parser e)) = (found ≡ None) × RefusesIn s.file s.size e.value
 Finds view found s (Err (stops.Lexer e)) = ⊥
 Finds view found s (Err stops.Memory) = Unit {0}

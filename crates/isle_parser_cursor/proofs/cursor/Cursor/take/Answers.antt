@@ -1,11 +1,15 @@
 use Rattle.std.proofs.Common.{Ok, Err, ap}
-use Rattle.isle_parser_cursor.specs.Outcomes.{placing, source}
-use Rattle.isle_parser_cursor.proofs.Ahead.{end_taken, fault_taken, refused_within}
+use Rattle.isle_parser_cursor.specs.Outcomes.{placing, source, tokens}
+use Rattle.isle_parser_cursor.specs.Reading.{take}
+use Rattle.isle_parser_cursor.proofs.Ahead.{end_taken, fault_taken, handed_on, refused_within}
 use Rattle.isle_parser_cursor.proofs.cursor.Cursor.take.Goals as goal
 
 pub returns-in-Err-Error-clause-gives : goal.returns-in-Err-Error-clause-gives
 returns-in-Err-Error-clause-gives c =
-    refused_within c.args.self.now.lexer c.next.new.self c.in-Err-Error.error (rw c.in-Err-Error.field-0-is at c.in-Err-Error.ensures.refused) c.pos.ensures.within
+    let old = c.args.self.now in
+    let refused = refused_within old.lexer c.next.new.self c.in-Err-Error.error (rw c.in-Err-Error.field-0-is at c.in-Err-Error.ensures.refused) c.pos.ensures.within in
+    let all = take (tokens old) in
+    handed_on all (source (record { lexer = c.next.new.self; disable_pos = old.disable_pos })) c.in-Err-Error.error c.refused_by_lexer.result c.refused_by_lexer.ensures refused
 
 pub returns-in-Ok-None-clause-gives : goal.returns-in-Ok-None-clause-gives
 returns-in-Ok-None-clause-gives c =
