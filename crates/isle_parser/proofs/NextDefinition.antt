@@ -23,7 +23,7 @@ use Rattle.isle_parser.proofs.Whole.{at_end_ends, fault_spells_nothing, not_pars
 use Rattle.isle_parser_cursor.specs.declared.cursor.Cursor.{Cursor}
 use Rattle.isle_parser_cursor.specs.declared.cursor.Stop.{Stop}
 use Rattle.isle_parser_cursor.specs.declared.cursor.Stop.TheVariants as stops
-use Rattle.isle_parser_cursor.specs.Outcomes.{Source, Stops, is_fault, placing, source, tokens}
+use Rattle.isle_parser_cursor.specs.Outcomes.{RefusesIn, Source, StandsAtFault, Stops, placing, source, tokens}
 use Rattle.isle_parser_cursor.specs.Reading.{ends, is_ahead, many}
 use Rattle.isle_parser_cursor.proofs.Loops.{behind_front, loop_begin, loop_end, loop_none, loop_push}
 use Rattle.isle_parser_cursor.proofs.Readers.{begins_node}
@@ -37,8 +37,12 @@ none_some x e = cc
 spells_none : (all : List Placed) → definition all ≡ None → SpellsNone all
 spells_none all e d rest h = none_some (d, rest) (sym e ∙ definition_read d all rest h)
 
-same_fault : (s t : Source) → s ≡ t → is_fault s.ending ≡ true → is_fault t.ending ≡ true
-same_fault s t e h = subst (λ (u : Source). is_fault u.ending ≡ true) e h
+same_fault : (s t : Source) (e : Error) → s ≡ t → StandsAtFault s e → StandsAtFault t e
+same_fault s t e is h = subst (λ (u : Source). StandsAtFault u e) is h
+
+-- the fault is in the text
+stands_within : (s : Source) (e : Error) → StandsAtFault s e → RefusesIn s.file s.size e
+stands_within s e h = (h.0, h.2, h.3)
 
 pub next_refused : (old new : Cursor) (stop : Stop) → is_at_end old.lexer ≡ false → source new ≡ source old → Stops (definition (tokens old)) (source new) stop → IfError (RefusesNext old) (fault_of stop)
 next_refused old new (stops.Parser e) before same h =
@@ -49,8 +53,8 @@ next_refused old new (stops.Parser e) before same h =
     }
 next_refused old new (stops.Lexer e) before same h =
     record {
-      because = inr (same_fault (source new) (source old) same h.0);
-      stands = same_text (source new) (source old) e.value same h.1;
+      because = inr (same_fault (source new) (source old) e.value same h);
+      stands = stands_within (source old) e.value (same_fault (source new) (source old) e.value same h);
       before_end = before;
     }
 next_refused old new stops.Memory before same h = tt
@@ -131,7 +135,9 @@ loop_refused start now front e live same so_far h =
           let here = ends_not now.lexer.coming (placing now.disable_pos now.lexer.file) now.lexer.ending h.before_end live in
           let nothing = loop_none definition ends definition_shrinks front (tokens now) (definitions (tokens start)) here (definition_not_read (tokens now) none) so_far in
           (not_parsed place start.lexer nothing, stands)
-      | inr broken ↦ (fault_spells_nothing place start.lexer (same_fault (source now) (source start) same broken), stands)
+      | inr broken ↦
+          let there = same_fault (source now) (source start) e same broken in
+          (fault_spells_nothing place start.lexer there.0 there.1, stands)
     ]
 
 loop_text : (start now : Parser) (front : List Definition) (f : Fault) → source now.cursor ≡ source start.cursor → behind_front front (many ends definition (tokens now.cursor)) ≡ definitions (tokens start.cursor) → (refusal f ≡ refusal faults.Failed) ↔ (has_failed now ≡ true) → IfError (RefusesNext now.cursor) f → RefusesText (placing start.cursor.disable_pos start.cursor.lexer.file) start.cursor.lexer f

@@ -14,7 +14,7 @@ use Rattle.isle_ast.specs.Erased.{erase}
 use Rattle.isle_ast.specs.MacroArgs.{definitions_have_macro_arg}
 use Rattle.isle_ast.specs.TreeView.{definitions_of}
 use Rattle.isle_ast.specs.Spelt.{Spells}
-use Rattle.isle_parser_cursor.specs.Outcomes.{Source, is_fault, RefusesIn}
+use Rattle.isle_parser_cursor.specs.Outcomes.{Source, RefusesIn}
 use Rattle.isle_parser.specs.Parsed.{Parses, RefusesText, RefusesWith, SpellsOnly}
 use Rattle.isle_parser.specs.DefinitionReaders.{definitions}
 use Rattle.isle_ast.proofs.Erasing.{text_erased, text_placed}
@@ -44,9 +44,9 @@ pub not_parsed : (place : ℕ → Pos) (feed : Feed) → definitions (placed pla
 not_parsed place feed e ds h = none_some (ds, []) (sym e ∙ definitions_complete ds (placed place feed.coming) h.1)
 
 -- before a fault nothing is spelt
-pub fault_spells_nothing : (place : ℕ → Pos) (feed : Feed) → is_fault feed.ending ≡ true → (ds : List Definition) → Spells place feed ds → ⊥
-fault_spells_nothing place feed e ds h =
-    let f : is_fault end ≡ true = ap is_fault (sym h.0) ∙ e in
+pub fault_spells_nothing : (place : ℕ → Pos) (feed : Feed) (offset : ℕ) → feed.ending ≡ fault offset → (ds : List Definition) → Spells place feed ds → ⊥
+fault_spells_nothing place feed offset e ds h =
+    let f : end ≡ fault offset = sym h.0 ∙ e in
     absurd cc
 
 -- the text is the same, so what ends it does too

@@ -11,7 +11,7 @@ use Rattle.isle_base.specs.Steps.{is_at_end, is_failed}
 use Rattle.isle_parser.specs.declared.parser.Parser.{Parser}
 use Rattle.isle_parser_cursor.specs.declared.cursor.Cursor.{Cursor}
 use Rattle.isle_parser_cursor.specs.declared.cursor.Stop.{Stop}
-use Rattle.isle_parser_cursor.specs.Outcomes.{RefusesIn, is_fault, tokens}
+use Rattle.isle_parser_cursor.specs.Outcomes.{RefusesIn, StandsAtFault, source, tokens}
 use Rattle.isle_base.specs.declared.lexer.Fault.TheVariants as faults
 use Rattle.isle_parser_cursor.specs.declared.cursor.Stop.TheVariants as stops
 
@@ -27,10 +27,10 @@ IfFound r P = IfOk r (λ found. IfSome found (λ def. P (definition_of def)))
 abbrev pub SpellsNone : List Placed → Type 0
 SpellsNone all = (d : Definition) (rest : List Placed) → SpellsDefinition d all rest → ⊥
 
--- No front of the tokens to come spells a definition, or a fault ends them. The error stands in the
--- text, and something was to come.
+-- No front of the tokens to come spells a definition, or the error stands at the fault that ends them. It stands in
+-- the text, and something was to come.
 pub record RefusesNext (old : Cursor) (e : Error) : Type 0 where
-  pub because : SpellsNone (tokens old) ⊎ (is_fault old.lexer.ending ≡ true)
+  pub because : SpellsNone (tokens old) ⊎ StandsAtFault (source old) e
   pub stands : RefusesIn old.lexer.file old.lexer.size e
   pub before_end : is_at_end old.lexer ≡ false
 

@@ -6,7 +6,7 @@ use Rattle.isle_base.specs.Place.{Placed, in_file, unknown, nowhere, placed}
 use Rattle.isle_base.specs.Steps.{AreWithin, EndsWithin, IsWithin, Refuses, RefusesAt, ended_by, failed_by, first_placed, is_at_end, is_failed, lookahead}
 use Rattle.isle_base.specs.Token.{Lexeme, Ending, end, fault, Feed}
 use Rattle.isle_parser_cursor.specs.declared.cursor.Stop.{Stop}
-use Rattle.isle_parser_cursor.specs.Outcomes.{IsLexerRefusal, IsPlace, IsRefusal, IsRefusalAt, Judges, Source, Stops, is_fault, RefusesIn}
+use Rattle.isle_parser_cursor.specs.Outcomes.{IsLexerRefusal, IsPlace, IsRefusal, IsRefusalAt, Judges, Source, StandsAtFault, Stops}
 use Rattle.isle_parser_cursor.specs.Reading.{pos_ahead, take}
 use Rattle.isle_parser_cursor.specs.declared.cursor.Stop.TheVariants as stops
 
@@ -52,17 +52,17 @@ fault_within (fault o) size offset e h =
     omega (arith, h, is)
 
 -- the lexer's refusal stands within the text
-pub refused_within : (old new : Feed) (e : Error) → Refuses old e new → IsWithin new → (is_fault new.ending ≡ true) × RefusesIn new.file new.size e
+pub refused_within : (old new : Feed) (e : Error) → Refuses old e new → IsWithin new → (offset : ℕ) × (new.ending ≡ fault offset) × (offset ≤ new.size) × RefusesAt (in_file new.file offset) e
 refused_within old new e h w =
     let is : new.ending ≡ fault h.offset = rw h.failed h.ending in
     let within : h.offset ≤ new.size = fault_within new.ending new.size h.offset is w.ending in
     let file : new.file ≡ old.file = rw h.failed refl in
-    (rw is refl, (h.offset, within, rw file h.error))
+    (h.offset, is, within, rw file h.error)
 
 -- and so does what the cursor hands on of it
-pub handed_on : {Y : Type 0} (read : Option (Y × List Placed)) (s : Source) (error : Error) (e : Stop) → IsLexerRefusal error e → (is_fault s.ending ≡ true) × RefusesIn s.file s.size error → Stops read s e
+pub handed_on : {Y : Type 0} (read : Option (Y × List Placed)) (s : Source) (error : Error) (e : Stop) → IsLexerRefusal error e → StandsAtFault s error → Stops read s e
 handed_on read s error (stops.Parser e) is h = absurd is
-handed_on read s error (stops.Lexer e) is h = (h.0, subst (λ (x : Error). RefusesIn s.file s.size x) (sym is) h.1)
+handed_on read s error (stops.Lexer e) is h = subst (λ (x : Error). StandsAtFault s x) (sym is) h
 handed_on read s error stops.Memory is h = tt
 
 ended_nothing : (xs : List Lexeme) (ending : Ending) → ended_by xs ending ≡ true → xs ≡ []

@@ -3,7 +3,7 @@ use Rattle.std.specs.Prelude.{◌≡◌, ℕ, ◌+◌, ◌≤◌, ◌<◌, ◌^�
 use Rattle.isle_base.specs.declared.lexer.Pos.{Pos}
 use Rattle.isle_base.specs.Place.{Placed, in_file, nowhere, placed}
 use Rattle.isle_base.specs.Steps.{RefusesAt}
-use Rattle.isle_base.specs.Token.{Ending, end, fault}
+use Rattle.isle_base.specs.Token.{Ending, fault}
 use Rattle.isle_parser_cursor.specs.declared.cursor.Cursor.{Cursor}
 use Rattle.isle_parser_cursor.specs.declared.cursor.Stop.{Stop}
 use Rattle.isle_base.specs.declared.error.Error.{Error}
@@ -28,10 +28,6 @@ pub record Source : Type 0 where
 abbrev pub source : Cursor → Source
 source p = record { file = p.lexer.file; ending = p.lexer.ending; size = p.lexer.size; disable_pos = p.disable_pos }
 
-abbrev pub is_fault : Ending → Bool
-is_fault end = false
-is_fault (fault _) = true
-
 -- a byte of the text, or its end, and a number is left past that
 pub record IsPlace (s : Source) (pos : Pos) : Type 0 where
   pub file : pos.file ≡ s.file
@@ -54,16 +50,20 @@ IsLexerRefusal error stops.Memory = Unit {0}
 abbrev pub RefusesIn : ℕ → ℕ → Error → Type 0
 RefusesIn file size e = (offset : ℕ) × (offset ≤ size) × RefusesAt (in_file file offset) e
 
+-- a parse error at the fault that ends the text
+abbrev pub StandsAtFault : Source → Error → Type 0
+StandsAtFault s e = (offset : ℕ) × (s.ending ≡ fault offset) × (offset ≤ s.size) × RefusesAt (in_file s.file offset) e
+
 -- a refusal of the parser at some byte of the file, or at the text's end
 abbrev pub IsRefusal : Source → Stop → Type 0
 IsRefusal s (stops.Parser e) = RefusesIn s.file s.size e.value
 IsRefusal s (stops.Lexer e) = ⊥
 IsRefusal s stops.Memory = Unit {0}
 
--- Where the parser refuses, reading gives nothing, and where the lexer does, a fault stands behind the tokens.
+-- Where the parser refuses, reading gives nothing, and where the lexer does, it is at the fault behind the tokens.
 abbrev pub Stops : {Y : Type 0} → Option (Y × List Placed) → Source → Stop → Type 0
 Stops read s (stops.Parser e) = (read ≡ None) × RefusesIn s.file s.size e.value
-Stops read s (stops.Lexer e) = (is_fault s.ending ≡ true) × RefusesIn s.file s.size e.value
+Stops read s (stops.Lexer e) = StandsAtFault s e.value
 Stops read s stops.Memory = Unit {0}
 
 -- What a call answered, seen by view, is what reading gives of the tokens that were to come.
