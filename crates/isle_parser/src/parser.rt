@@ -159,10 +159,11 @@ impl<'src> Parser<'src> {
     /// exactly where nothing is to come and the parser has not failed, and leaves it as it was.
     ///
     /// It answers an error only where no front of the tokens to come spells a definition, or where
-    /// the lexer refuses its text further on: then the definition may be spelt before that fault.
-    /// The error is a parse error at one byte of the text, or at its end. `Memory` comes where a
-    /// growth was refused. After either the parser has failed, as it has from the first if its
-    /// lexer had refused the text: it answers `Failed` then, and only then, to each later call.
+    /// the lexer refuses its text further on: then the error stands at that fault, and the
+    /// definition may be spelt before it. The error is a parse error at one byte of the text, or at
+    /// its end. `Memory` comes where a growth was refused. After either the parser has failed, as it
+    /// has from the first if its lexer had refused the text: it answers `Failed` then, and only
+    /// then, to each later call.
     pub fn next_def(&mut self, alloc: Global) -> Result<Option<Def>, Fault>
         // What `Ok` holds.
         ensures end { (result ≡ Ok None)
