@@ -94,16 +94,22 @@ static ssize_t failed(void)
     return -1;
 }
 
+/* Whether this call, the next of its kind, is the one to fail; else how many bytes it may move. */
+static int is_failed(long *calls, const char *name, size_t *count)
+{
+    *calls += 1;
+    if (*calls == number(name))
+        return 1;
+    if (*count > 1 && number("ONE_BYTE"))
+        *count = 1;
+    return 0;
+}
+
 ssize_t read(int file, void *bytes, size_t count)
 {
     static long reads = 0;
-    if (file == 0) {
-        reads += 1;
-        if (reads == number("FAIL_READ"))
-            return failed();
-        if (count > 1 && number("ONE_BYTE"))
-            count = 1;
-    }
+    if (file == 0 && is_failed(&reads, "FAIL_READ", &count))
+        return failed();
     return syscall(SYS_read, file, bytes, count);
 }
 
@@ -112,12 +118,7 @@ ssize_t write(int file, const void *bytes, size_t count)
     static long writes = 0;
     if (file == 2 && number("FAIL_ERRORS"))
         return failed();
-    if (file == 1) {
-        writes += 1;
-        if (writes == number("FAIL_WRITE"))
-            return failed();
-        if (count > 1 && number("ONE_BYTE"))
-            count = 1;
-    }
+    if (file == 1 && is_failed(&writes, "FAIL_WRITE", &count))
+        return failed();
     return syscall(SYS_write, file, bytes, count);
 }
