@@ -11,7 +11,7 @@ expected_lparen all rest t e = lparen_complete all rest (lparen_sound all rest t
 pub expected_rparen : (all rest : List Placed) (t : Tok) → expect is_rparen all ≡ Some (t, rest) → expect is_rparen all ≡ Some (rparen, rest)
 expected_rparen all rest t e = rparen_complete all rest (rparen_sound all rest t e)
 
-is_at-is : (t : Tok) → is_at t ≡ true → t ≡ at_sign
+pub is_at-is : (t : Tok) → is_at t ≡ true → t ≡ at_sign
 is_at-is lparen e = absurd cc
 is_at-is rparen e = absurd cc
 is_at-is (symbol s) e = absurd cc

@@ -316,7 +316,7 @@ impl<'src> Cursor<'src> {
 }
 
 /// Tells whether the text begins with `$`.
-fn begins_constant(text: &str) -> bool
+pub fn begins_constant(text: &str) -> bool
     ensures { result ≡ is_constant text.now }
 {
     text.starts_with('$')

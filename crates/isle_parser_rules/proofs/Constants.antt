@@ -17,14 +17,7 @@ nothing_behind (b ∷ bs) place h =
     let other : (b == 36) ≡ false = ne_eqb b 36 (λ is. h bs (ap (λ (n : ℕ). n ∷ bs) is)) in
     rw other refl
 
--- a name that begins with `$`
-some_behind : (text rest : List ℕ) (place : Pos) → text ≡ 36 ∷ rest → behind_dollar (record { text = text; pos = place }) ≡ Some (record { text = rest; pos = place })
-some_behind text rest place e = rw e refl
-
-pub dollar_taken : (all : List Placed) (n : Name) (rest : List Placed) (bytes : List ℕ) → name all ≡ Some (n, rest) → n.text ≡ 36 ∷ bytes → constant all ≡ Some (record { text = bytes; pos = n.pos }, rest)
-unfolding constant
-dollar_taken all n rest bytes read e = rw (read, some_behind n.text bytes n.pos e) refl
-
+-- a name that doesn't begin with `$` is no constant
 pub no_dollar : (all : List Placed) (n : Name) (rest : List Placed) (s : Source) (e : Stop) → name all ≡ Some (n, rest) → ((bytes : List ℕ) → n.text ≡ 36 ∷ bytes → ⊥) → IsRefusal s e → Stops (constant all) s e
 unfolding constant
 no_dollar all n rest s e read h refused =

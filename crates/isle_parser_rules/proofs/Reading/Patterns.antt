@@ -4,7 +4,7 @@ use Rattle.std.specs.Prelude.{ℤ, codes}
 use Rattle.std.specs.Str.{bytes_eq}
 use Rattle.isle_base.specs.declared.lexer.Pos.{Pos}
 use Rattle.isle_base.specs.Place.{Placed}
-use Rattle.isle_base.specs.Token.{Tok, lparen, rparen, symbol, integer, at_sign, is_int, is_symbol}
+use Rattle.isle_base.specs.Token.{symbol, at_sign, is_int, is_symbol}
 use Rattle.isle_ast_names.specs.Identifier.{is_identifier}
 use Rattle.isle_ast_names.specs.Tree.{Name}
 use Rattle.isle_ast_rules.specs.Tree.{PatternNode, var_pattern, bind_pattern, bool_pattern, int_pattern, constant_pattern, term_pattern, wildcard_pattern, and_pattern, macro_arg_pattern, PatternRow, no_pattern, more_pattern}
@@ -16,6 +16,7 @@ use Rattle.isle_parser_cursor.specs.NameReaders.{name}
 use Rattle.isle_parser_cursor.specs.NumberReaders.{signed}
 use Rattle.isle_parser_rules.specs.PatternReaders.{pattern_inside, variable_pattern, false_pattern, true_pattern, word_pattern, symbol_pattern, pattern_step, pattern_within, pattern}
 use Rattle.isle_parser_rules.specs.ConstantReaders.{constant}
+use Rattle.isle_parser_cursor.proofs.Expected.{is_at-is}
 use Rattle.isle_parser_cursor.proofs.ReaderSteps.{nothing, made_of, word_ahead, word_at, word_shorter, flag_read, flag_absent, choice, row_sound, position_of, begins_here, name_at, opened_at}
 use Rattle.isle_parser_cursor.proofs.Flags.{name_ahead}
 use Rattle.isle_parser_cursor.proofs.Names.{name_sound, name_read, name_begins}
@@ -114,13 +115,6 @@ pub const_ahead : {t : List ℕ} {place : Pos} {all rest : List Placed} → all 
 const_ahead e = rw e refl
 
 -- ---- what is read is spelt
-
-is_at-is : (t : Tok) → is_at t ≡ true → t ≡ at_sign
-is_at-is lparen e = absurd cc
-is_at-is rparen e = absurd cc
-is_at-is (symbol s) e = absurd cc
-is_at-is (integer n) e = absurd cc
-is_at-is at_sign e = refl
 
 -- what stands in the parentheses of a pattern whose `(` stands at this place
 abbrev SpellsInside : Pos → PatternNode → List Placed → List Placed → Type 0

@@ -8,7 +8,7 @@ ghost use Rattle.isle_parser_cursor.specs.Outcomes.{Gives, source, tokens};
 ghost use Rattle.isle_parser_rules.specs.ConstantReaders.{constant};
 
 use isle_ast_names::ast::Ident;
-use isle_parser_cursor::cursor::{Cursor, Stop};
+use isle_parser_cursor::cursor::{Cursor, Stop, begins_constant};
 use std::alloc::Global;
 
 /// The name of a constant, without its `$`.
@@ -26,13 +26,6 @@ pub fn parse_const(cursor: &mut Cursor, alloc: Global) -> Result<Ident, Stop>
         place,
         String::from_str(alloc, "Not a constant identifier; must start with a '$'"),
     ))
-}
-
-/// Tells whether the text begins with `$`.
-fn begins_constant(text: &str) -> bool
-    ensures { result ≡ is_constant text.now }
-{
-    text.starts_with('$')
 }
 
 /// What stands behind the `$`, in the memory of the whole text.
