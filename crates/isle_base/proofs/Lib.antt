@@ -11,6 +11,7 @@ pub mod LineLemmas
 pub mod Numbers
 pub mod Places
 pub mod PositionOrders
+pub mod Shown
 pub mod SourceLemmas
 pub mod Stepping
 pub mod Values

@@ -48,19 +48,15 @@ impl std::error::Error for Errors {}
 /// then a line end. Rules are shown in their order, a mask before the rules that it shadows. An
 /// offset past the text is on the last line.
 ///
-/// It takes no memory, and refuses only where the formatter does: what was written before stays
-/// written.
+/// The text is the same whatever options the formatter has, such as `{:#}`. It takes no memory, and
+/// refuses only where the formatter does: what was written before stays written.
 impl fmt::Display for Errors {
     ghost output = { λ report. Some (report_text report) };
+    ghost styled_output = { λ report _. Some (report_text report) };
 
     fn fmt<W: fmt::Write>(&self, f: &mut fmt::Formatter<W>) -> fmt::Result {
-        for error in &self.errors {
-            show::write_error(f, &self.files, error)?;
-        }
-        if self.errors.len() > 1 {
-            writeln!(f, "found {} errors", self.errors.len())?;
-        }
-        Ok(())
+        show::write_errors(f, &self.files, &self.errors)?;
+        show::write_count(f, self.errors.len())
     }
 }
 

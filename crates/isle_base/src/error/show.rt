@@ -1,24 +1,40 @@
 //! What `Display` writes of an error.
-ghost use Rattle.std.specs.Prelude.{◌≡◌, ◌+◌, ◌^◌, ◌<◌, ◌≤◌, ◌-◌, ◌==◌, if◌then◌else◌, true, ◌++◌};
+ghost use Rattle.std.specs.Prelude.{◌≡◌, ◌+◌, ◌^◌, ◌<◌, ◌≤◌, ◌-◌, ◌==◌, if◌then◌else◌, true, ◌++◌, [], ◌∷◌};
 ghost use Rattle.std.specs.Prelude.{codes, length, slice_index};
-ghost use Rattle.std.specs.Fmt.{WritesOnOk, decimal};
+ghost use Rattle.std.specs.Fmt.{WritesStyledOnOk, decimal};
 ghost use Rattle.std.specs.List.{flat_map, list_all};
-ghost use Rattle.isle_base.specs.Diagnostic.{error_text, label_text, message};
-ghost use Rattle.isle_base.specs.Labels.{error_fits, labels, span_fits};
+ghost use Rattle.isle_base.specs.Diagnostic.{error_text, found_text, label_text, message};
+ghost use Rattle.isle_base.specs.Labels.{all_fit, error_fits, labels, span_fits};
 ghost use Rattle.isle_base.specs.Lines.{line, line_ends, line_text, column};
 
 use crate::error::{Error, Span};
 use crate::files::{Files, LineMap};
 use std::fmt;
 
+/// Writes some errors.
+pub fn write_errors<W: fmt::Write>(
+    f: &mut fmt::Formatter<W>,
+    files: &Files,
+    errors: &[Error],
+) -> fmt::Result
+    requires { all_fit files.now errors.now ≡ true }
+    ensures { WritesStyledOnOk W.write_str_gives f.old result
+        (flat_map (error_text files.now) errors.now) f.new }
+{
+    for error in errors {
+        write_error(f, files, error)?;
+    }
+    Ok(())
+}
+
 /// Writes one error.
-pub fn write_error<W: fmt::Write>(
+fn write_error<W: fmt::Write>(
     f: &mut fmt::Formatter<W>,
     files: &Files,
     error: &Error,
 ) -> fmt::Result
     requires { error_fits files.now error.now ≡ true }
-    ensures { WritesOnOk W.write_str_gives f.old result (error_text files.now error.now) f.new }
+    ensures { WritesStyledOnOk W.write_str_gives f.old result (error_text files.now error.now) f.new }
 {
     write_message(f, error)?;
     f.write_str("\n")?;
@@ -28,18 +44,30 @@ pub fn write_error<W: fmt::Write>(
 
 /// Writes what is wrong.
 fn write_message<W: fmt::Write>(f: &mut fmt::Formatter<W>, error: &Error) -> fmt::Result
-    ensures { WritesOnOk W.write_str_gives f.old result (message error.now) f.new }
+    ensures { WritesStyledOnOk W.write_str_gives f.old result (message error.now) f.new }
 {
     match error {
-        Error::ParseError { msg, .. } => write!(f, "parse error: {msg}"),
-        Error::TypeError { msg, .. } => write!(f, "type error: {msg}"),
-        Error::UnreachableError { msg, .. } => write!(f, "unreachable rule: {msg}"),
-        Error::OverlapError { msg, .. } => write!(f, "overlap error: {msg}"),
-        Error::RecursionError { msg, .. } => write!(f, "recursion error: {msg}"),
+        Error::ParseError { msg, .. } => write_reason(f, "parse error: ", msg),
+        Error::TypeError { msg, .. } => write_reason(f, "type error: ", msg),
+        Error::UnreachableError { msg, .. } => write_reason(f, "unreachable rule: ", msg),
+        Error::OverlapError { msg, .. } => write_reason(f, "overlap error: ", msg),
+        Error::RecursionError { msg, .. } => write_reason(f, "recursion error: ", msg),
         Error::ShadowedError { .. } => {
             f.write_str("more general higher-priority rule shadows other rules")
         }
     }
+}
+
+/// Writes the kind of an error, and its reason.
+fn write_reason<W: fmt::Write>(
+    f: &mut fmt::Formatter<W>,
+    kind: &str,
+    reason: &str,
+) -> fmt::Result
+    ensures { WritesStyledOnOk W.write_str_gives f.old result (kind.now ++ reason.now) f.new }
+{
+    f.write_str(kind)?;
+    f.write_str(reason)
 }
 
 /// Writes the places that an error speaks of.
@@ -49,7 +77,7 @@ fn write_error_labels<W: fmt::Write>(
     error: &Error,
 ) -> fmt::Result
     requires { error_fits files.now error.now ≡ true }
-    ensures { WritesOnOk W.write_str_gives f.old result
+    ensures { WritesStyledOnOk W.write_str_gives f.old result
         (flat_map (label_text files.now) (labels error.now)) f.new }
 {
     match error {
@@ -72,7 +100,7 @@ fn write_labels<W: fmt::Write>(
     spans: &[Span],
 ) -> fmt::Result
     requires { list_all (span_fits files.now) spans.now ≡ true }
-    ensures { WritesOnOk W.write_str_gives f.old result
+    ensures { WritesStyledOnOk W.write_str_gives f.old result
         (flat_map (label_text files.now) spans.now) f.new }
 {
     for span in spans {
@@ -84,7 +112,7 @@ fn write_labels<W: fmt::Write>(
 /// Writes one place: its file, line and column, and the line itself.
 fn write_label<W: fmt::Write>(f: &mut fmt::Formatter<W>, files: &Files, span: &Span) -> fmt::Result
     requires { span_fits files.now span.now ≡ true }
-    ensures { WritesOnOk W.write_str_gives f.old result (label_text files.now span.now) f.new }
+    ensures { WritesStyledOnOk W.write_str_gives f.old result (label_text files.now span.now) f.new }
 {
     let pos = span.from;
     let name = files.file_name(pos.file).unwrap();
@@ -102,11 +130,48 @@ fn write_place<W: fmt::Write>(
     column: usize,
     line: &str,
 ) -> fmt::Result
-    ensures { WritesOnOk W.write_str_gives f.old result
+    ensures { WritesStyledOnOk W.write_str_gives f.old result
         (name.now ++ codes ":" ++ decimal number ++ codes ":" ++ decimal column ++ codes ": " ++ line.now)
         f.new }
 {
-    write!(f, "{name}:{number}:{column}: {line}")
+    f.write_str(name)?;
+    f.write_str(":")?;
+    write_number(f, number)?;
+    f.write_str(":")?;
+    write_number(f, column)?;
+    f.write_str(": ")?;
+    f.write_str(line)
+}
+
+/// Writes a number in decimal, whatever the formatter's options are.
+fn write_number<W: fmt::Write>(f: &mut fmt::Formatter<W>, number: usize) -> fmt::Result
+    ensures { WritesStyledOnOk W.write_str_gives f.old result (decimal number) f.new }
+{
+    if number < 10 {
+        return write_digit(f, number);
+    }
+    write_number(f, number / 10)?;
+    write_digit(f, number % 10)
+}
+
+/// Writes a decimal digit.
+fn write_digit<W: fmt::Write>(f: &mut fmt::Formatter<W>, digit: usize) -> fmt::Result
+    requires { digit < 10 }
+    ensures { WritesStyledOnOk W.write_str_gives f.old result ((48 + digit) ∷ []) f.new }
+{
+    f.write_char((b'0' + digit as u8) as char)
+}
+
+/// Writes how many errors there are, where there is more than one.
+pub fn write_count<W: fmt::Write>(f: &mut fmt::Formatter<W>, count: usize) -> fmt::Result
+    ensures { WritesStyledOnOk W.write_str_gives f.old result (found_text count) f.new }
+{
+    if count > 1 {
+        f.write_str("found ")?;
+        write_number(f, count)?;
+        f.write_str(" errors\n")?;
+    }
+    Ok(())
 }
 
 /// The line of a text on which an offset lies.
