@@ -5,6 +5,8 @@ use Rattle.std.specs.Fmt.{decimal}
 use Rattle.isle_base.specs.declared.error.Error.{Error}
 use Rattle.isle_base.specs.declared.error.Error.TheVariants.{ParseError, TypeError, UnreachableError, OverlapError, RecursionError, ShadowedError}
 use Rattle.isle_base.specs.declared.error.Span.{Span}
+use Rattle.isle_base.specs.declared.lexer.Fault.{Fault}
+use Rattle.isle_base.specs.declared.lexer.Fault.TheVariants as faults
 use Rattle.isle_base.specs.Labels.{labels}
 use Rattle.isle_base.specs.Lines.{line, column, line_text}
 use Rattle.isle_base.specs.Source.{Source, source_at}
@@ -22,6 +24,12 @@ message (UnreachableError msg span) = codes "unreachable rule: " ++ string_bytes
 message (OverlapError msg rules) = codes "overlap error: " ++ string_bytes msg
 message (RecursionError msg span) = codes "recursion error: " ++ string_bytes msg
 message (ShadowedError shadowed mask) = codes "more general higher-priority rule shadows other rules"
+
+-- why a lexer, a parser or the formatter gives no answer
+abbrev pub fault_text : Fault → List ℕ
+fault_text (faults.Error e) = message e
+fault_text faults.Failed = codes "the text was refused before"
+fault_text faults.Memory = codes "out of memory"
 
 -- a place in a file: its name, line and column, counted from 1, and the line itself, with its LF if it has one
 abbrev pub place_text : Source → ℕ → List ℕ

@@ -56,6 +56,10 @@ RefusesAt pos (ParseError msg span) =
     span ≡ record { from = pos; to = record { file = pos.file; offset = pos.offset + 1 } }
 RefusesAt pos _ = ⊥
 
+-- parse errors that stand at one place
+abbrev pub RefuseAlike : Error → Error → Type 0
+RefuseAlike e f = (pos : Pos) × RefusesAt pos e × RefusesAt pos f
+
 -- The first token is taken off, and the others are still to come. It isn't the last one before a fault.
 pub record Takes (old : Feed) (x : Placed) (new : Feed) : Type 0 where
   pub first : Lexeme

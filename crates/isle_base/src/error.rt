@@ -7,7 +7,7 @@ ghost use Rattle.std.specs.List.{list_all};
 ghost use Rattle.isle_base.specs.Diagnostic.{report_text};
 ghost use Rattle.isle_base.specs.Labels.{all_fit, error_fits, span_fits};
 
-mod show;
+pub(crate) mod show;
 
 use crate::files::Files;
 use crate::lexer::Pos;
@@ -52,6 +52,7 @@ impl std::error::Error for Errors {}
 /// refuses only where the formatter does: what was written before stays written.
 impl fmt::Display for Errors {
     ghost output = { λ report. Some (report_text report) };
+
     ghost styled_output = { λ report _. Some (report_text report) };
 
     fn fmt<W: fmt::Write>(&self, f: &mut fmt::Formatter<W>) -> fmt::Result {

@@ -2,11 +2,13 @@
 
 ghost use Rattle.std.specs.Prelude.{◌≡◌, ◌≢◌, ◌↔◌, Err, IfErr, IfOk, IfSome, IsTrue, None, Ok};
 ghost use Rattle.std.specs.Prelude.{Some, false, length, option_map, true};
+ghost use Rattle.isle_base.specs.Diagnostic.{fault_text};
 ghost use Rattle.isle_base.specs.Lexing.{lexes};
 ghost use Rattle.isle_base.specs.Steps.{IfError, IsWithin, Refuses, RefusesStart, Rises, Takes};
 ghost use Rattle.isle_base.specs.Steps.{current_pos, is_at_end, is_failed, lookahead, placed_of};
 ghost use Rattle.isle_base.specs.Token.{is_int, is_symbol};
 ghost use Rattle.isle_base.specs.TokenView.{token_of};
+ghost use Rattle.isle_base.specs.declared.lexer.Fault.TheVariants as faults;
 ghost use Rattle.isle_base.specs.declared.lexer.Fault.TheVariants.{Failed, Memory};
 
 mod lanes;
@@ -16,10 +18,12 @@ mod read;
 mod scan;
 
 use crate::error::Error;
+use crate::error::show::write_message;
 use crate::files::Files;
 pub use lanes::{blank_end, line_comment_end, symbol_end};
 use read::{Found, error, read};
 use std::alloc::{AllocError, AllocFailed, Global};
+use std::fmt;
 use std::marker::Model;
 
 /// Why a lexer, a parser or the formatter gives no answer.
@@ -31,6 +35,35 @@ pub enum Fault {
     Failed,
     /// A growth of memory was refused.
     Memory,
+}
+
+/// Writes why there is no answer: the kind and the reason of the refusal, without its place, which
+/// `Errors` shows; or that the text was refused before, or that memory ran out.
+///
+/// The text is the same whatever options the formatter has. It takes no memory, and refuses only
+/// where the formatter does.
+impl fmt::Display for Fault {
+    ghost output = { λ fault. Some (fault_text fault) };
+
+    ghost styled_output = { λ fault _. Some (fault_text fault) };
+
+    fn fmt<W: fmt::Write>(&self, f: &mut fmt::Formatter<W>) -> fmt::Result {
+        match self {
+            Fault::Error(error) => write_message(f, error),
+            Fault::Failed => f.write_str("the text was refused before"),
+            Fault::Memory => f.write_str("out of memory"),
+        }
+    }
+}
+
+impl std::error::Error for Fault {}
+
+impl From<Error> for Fault {
+    ghost from_gives = { λ error fault. fault ≡ faults.Error error };
+
+    fn from(error: Error) -> Fault {
+        Fault::Error(error)
+    }
 }
 
 impl From<AllocError> for Fault {

@@ -43,7 +43,7 @@ fn write_error<W: fmt::Write>(
 }
 
 /// Writes what is wrong.
-fn write_message<W: fmt::Write>(f: &mut fmt::Formatter<W>, error: &Error) -> fmt::Result
+pub fn write_message<W: fmt::Write>(f: &mut fmt::Formatter<W>, error: &Error) -> fmt::Result
     ensures { WritesStyledOnOk W.write_str_gives f.old result (message error.now) f.new }
 {
     match error {
@@ -59,11 +59,7 @@ fn write_message<W: fmt::Write>(f: &mut fmt::Formatter<W>, error: &Error) -> fmt
 }
 
 /// Writes the kind of an error, and its reason.
-fn write_reason<W: fmt::Write>(
-    f: &mut fmt::Formatter<W>,
-    kind: &str,
-    reason: &str,
-) -> fmt::Result
+fn write_reason<W: fmt::Write>(f: &mut fmt::Formatter<W>, kind: &str, reason: &str) -> fmt::Result
     ensures { WritesStyledOnOk W.write_str_gives f.old result (kind.now ++ reason.now) f.new }
 {
     f.write_str(kind)?;

@@ -1,11 +1,16 @@
 //! Laws of positions and of lexing, which run no code.
 
 ghost use Rattle.std.specs.Prelude.{◌≡◌, ◌↔◌, ℕ, List, IsTrue, Some};
+ghost use Rattle.isle_base.specs.declared.error.Error.{Error};
 ghost use Rattle.std.specs.declared.cmp.Ordering.TheVariants.{Equal};
 ghost use Rattle.isle_base.specs.Lexing.{HasOneLexing};
+ghost use Rattle.isle_base.specs.Place.{Placed};
 ghost use Rattle.isle_base.specs.PositionOrder.{IsInRange, position_cmp, position_hash};
+ghost use Rattle.isle_base.specs.Steps.{Refuses, RefuseAlike, Takes};
+ghost use Rattle.isle_base.specs.Token.{Feed};
+ghost use Rattle.isle_base.specs.TokenView.{token_of};
 
-use crate::lexer::Pos;
+use crate::lexer::{Pos, Token};
 use std::hash::Hash;
 
 /// A law, which runs no code: positions are ordered by file, then by offset, and their order, their
@@ -24,4 +29,20 @@ pub fn positions_are_ordered()
 /// A law, which runs no code: each text has tokens and an ending, and just one of each.
 pub fn one_lexing()
     ensures { (text : List ℕ) → HasOneLexing text }
+{}
+
+/// A law, which runs no code: two tokens are equal exactly if they are the same one.
+pub fn tokens_are_equal_as_written()
+    ensures { (a b : Token) → IsTrue (⟦<Token as PartialEq>⟧.eq a b) ↔ (token_of a ≡ token_of b) }
+{}
+
+/// A law, which runs no code: what a lexer is in a contract decides what it gives next. So a lexer
+/// and its copy hand out the same tokens, up to the same refusal, want of memory aside.
+pub fn copies_go_on_alike()
+    ensures token { (feed : Feed) (x y : Placed) (a b : Feed)
+        → Takes feed x a → Takes feed y b → (x ≡ y) × (a ≡ b) }
+    ensures refusal { (feed : Feed) (e f : Error) (a b : Feed)
+        → Refuses feed e a → Refuses feed f b → RefuseAlike e f × (a ≡ b) }
+    ensures no_choice { (feed : Feed) (x : Placed) (e : Error) (a b : Feed)
+        → Takes feed x a → Refuses feed e b → ⊥ }
 {}

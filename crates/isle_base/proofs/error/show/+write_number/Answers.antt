@@ -1,4 +1,4 @@
-use Rattle.std.proofs.Common.{refl, sym, rules}
+use Rattle.std.proofs.Common.{refl, sym}
 use Rattle.std.proofs.Output.{has_written_styled_append as then_written, has_written_styled_of_eq}
 use Rattle.std.proofs.lemmas.Fmt.{decimal_step, decimal_digit}
 use Rattle.isle_base.proofs.error.show.+write_number.Goals as goal
