@@ -20,4 +20,4 @@ pub returns-clause-no_choice : goal.returns-clause-no_choice
 returns-clause-no_choice c feed x e a b l m =
     let coming : a.coming ≡ [] = ap (drop 1) (sym l.coming ∙ m.coming) in
     let ending = ap (λ f. f.ending) l.same ∙ m.ending in
-    both_ways _ (ap (λ xs. failed_by xs a.ending) coming ∙ ap (failed_by []) ending) l.goes_on
+    both_ways _ l.goes_on (ap (λ xs. failed_by xs a.ending) coming ∙ ap (failed_by []) ending)
