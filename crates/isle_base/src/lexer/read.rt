@@ -57,6 +57,7 @@ pub(crate) enum Found {
 }
 
 /// Reads the symbol at an offset.
+#[inline(always)]
 fn symbol_at(alloc: Global, src: &str, start: usize) -> Result<Found, AllocError>
     requires within { start < length src.now }
     requires text { IsUtf8 (drop start src.now) }
@@ -69,6 +70,7 @@ fn symbol_at(alloc: Global, src: &str, start: usize) -> Result<Found, AllocError
 }
 
 /// Reads the literal at an offset.
+#[inline(never)]
 fn integer_at(bytes: &[u8], start: usize) -> Found
     requires within { start < length bytes.now }
     requires begins { begins_with starts_literal (drop start bytes.now) ≡ true }
@@ -81,6 +83,7 @@ fn integer_at(bytes: &[u8], start: usize) -> Found
 }
 
 /// Reads the token at an offset at which no blank and no comment begins.
+#[inline(always)]
 fn token_at(alloc: Global, src: &str, start: usize) -> Result<Found, AllocError>
     requires within { start < length src.now }
     requires text { IsUtf8 (drop start src.now) }
@@ -98,6 +101,7 @@ fn token_at(alloc: Global, src: &str, start: usize) -> Result<Found, AllocError>
 }
 
 /// Finds what a text has from an offset on.
+#[inline(always)]
 pub(crate) fn read(alloc: Global, src: &str, from: usize) -> Result<Found, AllocError>
     requires within { from ≤ length src.now }
     requires text { IsUtf8 (drop from src.now) }
@@ -116,6 +120,7 @@ pub(crate) fn read(alloc: Global, src: &str, from: usize) -> Result<Found, Alloc
 }
 
 /// Makes the error of a refused text.
+#[inline(never)]
 pub(crate) fn error(alloc: Global, pos: Pos, reason: Reason) -> Result<Error, AllocError>
     requires { pos.offset + 1 < 2 ^ 64 }
     ensures { IfOk result (RefusesAt pos) }

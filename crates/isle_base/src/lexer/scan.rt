@@ -37,6 +37,7 @@ fn closes_at(bytes: &[u8], at: usize) -> bool
 }
 
 /// Finds the end of the block comment whose inside begins at an offset, behind its `;)`.
+#[inline(never)]
 fn block_comment_end(bytes: &[u8], from: usize) -> Option<usize>
     requires { from ≤ length bytes.now }
     ensures { EndsComment bytes.now from result }
@@ -61,6 +62,7 @@ fn block_comment_end(bytes: &[u8], from: usize) -> Option<usize>
 
 /// Finds the first byte from an offset on that belongs to no blank and no comment, or the end of
 /// the text. The error is the offset of a block comment without an end.
+#[inline(always)]
 pub(crate) fn skip_end(bytes: &[u8], from: usize) -> Result<usize, usize>
     requires { from ≤ length bytes.now }
     ensures { EndsSkip bytes.now from result }
