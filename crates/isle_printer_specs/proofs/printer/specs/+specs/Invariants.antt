@@ -13,7 +13,7 @@ invariant-specs_behind-loop-node l =
 abbrev pub invariant-arms_behind-loop-node : goal.invariant-arms_behind-loop-node
 invariant-arms_behind-loop-node l =
     l.items.items ++ arm_shapes (arm_row_of (single_arms_of (drop l.node-index l.node-items)))
-    ≡ atom (codes "match") ∷ l.fn.looked_at ∷ arm_shapes (arm_row_of (single_arms_of l.node-items))
+    ≡ l.fn.items.items ++ arm_shapes (arm_row_of (single_arms_of l.node-items))
 
 abbrev pub invariant-spec_lets-loop-node : goal.invariant-spec_lets-loop-node
 invariant-spec_lets-loop-node l =
