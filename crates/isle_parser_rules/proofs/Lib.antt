@@ -1,3 +1,4 @@
+pub mod ClosedParts
 pub mod Constants
 pub mod Reading
 pub mod ExpressionParts

@@ -1,6 +1,6 @@
 -- Patterns, as the code reads them.
-use Rattle.std.proofs.Common.{◌≡◌, true, List, Some, sym, ◌∙◌, rules}
-use Rattle.std.specs.Prelude.{ℤ}
+use Rattle.std.proofs.Common.{◌≡◌, Bool, true, false, List, Some, refl, sym, ap, ◌∙◌, rules}
+use Rattle.std.specs.Prelude.{ℕ, ℤ, ◌||◌, codes, if◌then◌else◌}
 use Rattle.isle_base.specs.declared.lexer.Pos.{Pos}
 use Rattle.isle_base.specs.Place.{Placed}
 use Rattle.isle_base.specs.Token.{is_int}
@@ -8,9 +8,9 @@ use Rattle.isle_ast_rules.specs.Tree.{int_pattern}
 use Rattle.isle_ast_rules.specs.declared.ast.Pattern.{the_lemmas}
 use Rattle.isle_ast_rules.specs.declared.ast.Pattern.TheVariants.{ConstInt}
 use Rattle.isle_ast_rules.specs.TreeView.{pattern_of}
-use Rattle.isle_parser_cursor.specs.Reading.{is_ahead, pos_ahead}
+use Rattle.isle_parser_cursor.specs.Reading.{flag, is_ahead, is_const, is_word, pos_ahead}
 use Rattle.isle_parser_cursor.specs.NumberReaders.{signed}
-use Rattle.isle_parser_rules.specs.PatternReaders.{pattern, pattern_step}
+use Rattle.isle_parser_rules.specs.PatternReaders.{false_pattern, is_fixed, pattern, pattern_step, symbol_pattern, true_pattern, variable_pattern, word_pattern}
 use Rattle.isle_parser_rules.proofs.Reading.Patterns.{int_read, pattern-unfolds}
 
 -- a pattern is its own step
@@ -24,3 +24,22 @@ int_seen val place = search (rules, the_lemmas)
 pub int_taken : (all rest : List Placed) (val held : ℤ) (place : Pos) → held ≡ val → true ≡ is_ahead is_int all → place ≡ pos_ahead all → signed 127 all ≡ Some (val, rest) → pattern all ≡ Some (pattern_of (ConstInt held place), rest)
 int_taken all rest val held place same ahead at e =
     rw (int_seen held place, same, at) (pattern-unfolds all ∙ int_read pattern all rest val (sym ahead) e)
+
+-- none of four tests is passed
+none_of : (a b c d : Bool) → false ≡ (a || b || c || d) → (a ≡ false) × (b ≡ false) × (c ≡ false) × (d ≡ false)
+none_of false false false false e = (refl, refl, refl, refl)
+none_of true b c d e = absurd cc
+none_of false true c d e = absurd cc
+none_of false false true d e = absurd cc
+none_of false false false true e = absurd cc
+
+not_ahead : (word : List ℕ) (all : List Placed) → is_ahead (is_word word) all ≡ false → flag word all ≡ Some (false, all)
+unfolding flag
+not_ahead word all e = rw e refl
+
+-- a symbol that is neither a constant nor one of the words is a variable
+pub variable_is : (place : Pos) (all : List Placed) → false ≡ is_fixed all → symbol_pattern place pattern all ≡ variable_pattern place pattern all
+unfolding symbol_pattern word_pattern true_pattern false_pattern
+variable_is place all e =
+    let h = none_of (is_ahead is_const all) (is_ahead (is_word (codes "_")) all) (is_ahead (is_word (codes "true")) all) (is_ahead (is_word (codes "false")) all) e in
+    rw (h.0, not_ahead (codes "_") all h.1, not_ahead (codes "true") all h.2, not_ahead (codes "false") all h.3) refl

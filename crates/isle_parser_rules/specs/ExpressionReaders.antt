@@ -23,6 +23,13 @@ let_definition read all = in_parentheses (let_inside (pos_ahead all) read) all
 unfoldable pub let_definitions : Reader Expression → Reader (List SingleLet)
 let_definitions read = in_parentheses (many closes (let_definition read))
 
+-- what stands behind the word `let`. The `(` before it stood at this place.
+unfoldable pub let_behind : Pos → Reader Expression → Reader Expression
+let_behind place read all = do
+  ds ← let_definitions read all
+  body ← read ds.1
+  Some (let_expression (let_row_of ds.0) body.0 place, body.1)
+
 -- `let` or a term, and what stands behind it. The `(` stood at this place.
 unfoldable pub expression_inside : Pos → Reader Expression → Reader Expression
 expression_inside place read all = do

@@ -1,10 +1,11 @@
 -- Reading of patterns: the left sides of rules.
-use Rattle.std.specs.Prelude.{ℕ, zero, suc, length, true, false, Some, None, if◌then◌else◌, codes}
+use Rattle.std.specs.Prelude.{ℕ, zero, suc, List, Bool, ◌||◌, length, true, false, Some, None, if◌then◌else◌, codes}
 use Rattle.isle_base.specs.declared.lexer.Pos.{Pos}
+use Rattle.isle_base.specs.Place.{Placed}
 use Rattle.isle_base.specs.Token.{is_int, is_symbol}
 use Rattle.isle_ast_rules.specs.Tree.{PatternNode, var_pattern, bind_pattern, bool_pattern, int_pattern, constant_pattern, term_pattern, wildcard_pattern, and_pattern}
 use Rattle.isle_ast_rules.specs.TreeView.{pattern_row_of}
-use Rattle.isle_parser_cursor.specs.Reading.{Reader, ◌>>=◌, is_lparen, is_at, is_ahead, expect, flag, pos_ahead, closes, in_parentheses, many, is_const}
+use Rattle.isle_parser_cursor.specs.Reading.{Reader, ◌>>=◌, is_lparen, is_at, is_ahead, expect, flag, pos_ahead, closes, in_parentheses, many, is_const, is_word}
 use Rattle.isle_parser_cursor.specs.NameReaders.{name}
 use Rattle.isle_parser_cursor.specs.NumberReaders.{signed}
 use Rattle.isle_parser_rules.specs.ConstantReaders.{constant}
@@ -40,6 +41,10 @@ unfoldable pub word_pattern : Pos → Reader PatternNode → Reader PatternNode
 word_pattern place read all = do
   word ← flag (codes "_") all
   if word.0 then Some (wildcard_pattern place, word.1) else true_pattern place read word.1
+
+-- whether a constant, `_`, `true` or `false` is ahead
+abbrev pub is_fixed : List Placed → Bool
+is_fixed all = is_ahead is_const all || is_ahead (is_word (codes "_")) all || is_ahead (is_word (codes "true")) all || is_ahead (is_word (codes "false")) all
 
 -- a pattern that begins with a symbol
 unfoldable pub symbol_pattern : Pos → Reader PatternNode → Reader PatternNode

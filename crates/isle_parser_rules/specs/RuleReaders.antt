@@ -5,6 +5,7 @@ use Rattle.isle_base.specs.Place.{Placed}
 use Rattle.isle_base.specs.Token.{is_int}
 use Rattle.isle_ast_rules.specs.Tree.{wildcard_pattern, Expression, Condition, RuleDefinition, ExtractorDefinition}
 use Rattle.isle_parser_cursor.specs.Reading.{Reader, ◌>>=◌, is_lparen, is_ahead, flag, pos_ahead, in_parentheses}
+use Rattle.isle_parser_rules.specs.Closed.{closed}
 use Rattle.isle_parser_rules.specs.ExpressionReaders.{expression, expression_inside}
 use Rattle.isle_parser_cursor.specs.NameReaders.{optional_name, head_inside}
 use Rattle.isle_parser_cursor.specs.NumberReaders.{signed}
@@ -27,6 +28,10 @@ unfoldable pub condition_test : Reader Condition
 condition_test all = do
   x ← expression all
   Some (record { pattern = wildcard_pattern (pos_ahead all); expr = x.0; pos = pos_ahead all }, x.1)
+
+-- what an expression has in its parentheses, and `)`, as a part. The `(` stood at this place.
+abbrev pub expression_behind : Pos → Reader RulePart
+expression_behind place all = closed (expression_inside place expression) all >>= λ x. Some (expression_part x.0, x.1)
 
 -- `if` and a condition, or what an expression has in its parentheses. The `(` stood at this place.
 unfoldable pub test_or_expression : Pos → Reader RulePart

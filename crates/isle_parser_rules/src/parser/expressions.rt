@@ -1,22 +1,28 @@
 //! Expressions: what a rule or a condition computes.
 
-ghost use Rattle.std.specs.Prelude.{◌≡◌};
+ghost use Rattle.std.specs.Prelude.{◌≡◌, ◌++◌, [], ◌∷◌, IfErr, IfOk};
 ghost use Rattle.isle_ast_rules.specs.TreeView.{expression_of, expressions_of, single_let_of};
 ghost use Rattle.isle_ast_rules.specs.TreeView.{single_lets_of};
-ghost use Rattle.isle_parser_cursor.specs.Outcomes.{Gives, source, tokens};
+ghost use Rattle.isle_parser_cursor.specs.Outcomes.{Gives, IsRefusal, source, tokens};
 ghost use Rattle.isle_parser_cursor.specs.Reading.{closes, many};
+ghost use Rattle.isle_parser_cursor.specs.declared.cursor.Stop.TheVariants.{Memory};
+ghost use Rattle.isle_parser_rules.specs.Closed.{closed};
 ghost use Rattle.isle_parser_rules.specs.ExpressionReaders.{expression, expression_inside};
-ghost use Rattle.isle_parser_rules.specs.ExpressionReaders.{let_definition, let_definitions};
+ghost use Rattle.isle_parser_rules.specs.ExpressionReaders.{let_behind, let_definition};
+ghost use Rattle.isle_parser_rules.specs.ExpressionReaders.{let_definitions};
 ghost use Rattle.isle_parser_rules.specs.ExpressionReaders.{symbol_expression};
 
-use crate::parser::names::parse_const;
+use crate::parser::names::{parse_const, take_int};
 use isle_ast_rules::ast::{Expr, LetDef};
 use isle_base::lexer::Pos;
 use isle_parser_cursor::cursor::{Cursor, Stop};
 use std::alloc::Global;
 
+// How deep a nest goes is bound by the frames of this ring. So what is no part of the recursion has
+// a frame of its own, and what is read stands in few places.
+
 #[cycle(expression)]
-#[tactic(auto, using(crate::proofs::ExpressionParts::expression_is), unfolding(crate::specs::ExpressionReaders::expression_step, isle_parser_cursor::specs::Reading::in_parentheses))]
+#[tactic(auto, using(crate::proofs::ExpressionParts::expression_is), unfolding(crate::specs::ExpressionReaders::expression_step, isle_parser_cursor::specs::Reading::in_parentheses, crate::specs::Closed::closed))]
 pub(super) fn parse_expr(cursor: &mut Cursor, alloc: Global) -> Result<Expr, Stop>
     ensures same { source cursor.new ≡ source cursor.old }
     ensures gives { Gives expression_of (expression (tokens cursor.old)) result cursor.new }
@@ -24,23 +30,31 @@ pub(super) fn parse_expr(cursor: &mut Cursor, alloc: Global) -> Result<Expr, Sto
     let pos = cursor.pos();
     if cursor.is_lparen() {
         cursor.expect_lparen(alloc)?;
-        let expr = parse_expr_inner_parens(cursor, alloc, pos)?;
-        return cursor.close(alloc, expr);
+        return parse_expr_behind_lparen(cursor, alloc, pos);
     }
     if cursor.is_sym() {
         return parse_expr_symbol(cursor, alloc, pos);
     }
     if cursor.is_int() {
-        let val = cursor.parse_int(alloc)?;
+        let val = take_int(cursor, alloc)?;
         return Ok(Expr::ConstInt { val, pos });
     }
-    Err(cursor.refuse_at(
+    Err(refuse_expr(cursor, alloc))
+}
+
+/// Refuses what is no expression.
+#[inline(never)]
+fn refuse_expr(cursor: &Cursor, alloc: Global) -> Stop
+    ensures { IsRefusal (source cursor.now) result }
+{
+    cursor.refuse_at(
         cursor.place(),
         String::from_str(alloc, "Invalid expression"),
-    ))
+    )
 }
 
 /// An expression that is a symbol, at this position.
+#[inline(never)]
 #[tactic(auto, unfolding(crate::specs::ExpressionReaders::symbol_expression, crate::specs::ExpressionReaders::word_expression, crate::specs::ExpressionReaders::false_expression, crate::specs::ExpressionReaders::variable_expression))]
 fn parse_expr_symbol(cursor: &mut Cursor, alloc: Global, pos: Pos) -> Result<Expr, Stop>
     ensures same { source cursor.new ≡ source cursor.old }
@@ -61,30 +75,56 @@ fn parse_expr_symbol(cursor: &mut Cursor, alloc: Global, pos: Pos) -> Result<Exp
     Ok(Expr::Var { name, pos })
 }
 
-/// `let` or a term, and what stands behind it. The `(` stood at this position.
+/// `let` or a term, what stands behind it, and `)`. The `(` stood at this position.
 #[cycle(expression)]
-#[tactic(auto, unfolding(crate::specs::ExpressionReaders::expression_inside))]
-pub(super) fn parse_expr_inner_parens(
+#[inline(never)]
+#[tactic(auto, unfolding(crate::specs::ExpressionReaders::expression_inside, crate::specs::ExpressionReaders::let_behind, crate::specs::Closed::closed))]
+pub(super) fn parse_expr_behind_lparen(
     cursor: &mut Cursor,
     alloc: Global,
     pos: Pos,
 ) -> Result<Expr, Stop>
     ensures same { source cursor.new ≡ source cursor.old }
-    ensures gives { Gives expression_of (expression_inside pos expression (tokens cursor.old))
+    ensures gives { Gives expression_of (closed (expression_inside pos expression) (tokens cursor.old))
         result cursor.new }
 {
     if cursor.eat_sym_str(alloc, "let")? {
-        let defs = parse_letdefs(cursor, alloc)?;
-        let body = Box::new(alloc, parse_expr(cursor, alloc)?)?;
-        return Ok(Expr::Let { defs, body, pos });
+        return parse_let(cursor, alloc, pos);
     }
     let sym = cursor.parse_ident(alloc)?;
     let args = parse_exprs(cursor, alloc)?;
+    cursor.expect_rparen(alloc)?;
     Ok(Expr::Term { sym, args, pos })
+}
+
+/// The definitions of a `let`, its expression, and `)`. The `(` stood at this position.
+#[cycle(expression)]
+#[inline(never)]
+#[tactic(auto, unfolding(crate::specs::ExpressionReaders::let_behind, crate::specs::Closed::closed))]
+fn parse_let(cursor: &mut Cursor, alloc: Global, pos: Pos) -> Result<Expr, Stop>
+    ensures same { source cursor.new ≡ source cursor.old }
+    ensures gives { Gives expression_of (closed (let_behind pos expression) (tokens cursor.old))
+        result cursor.new }
+{
+    let defs = parse_letdefs(cursor, alloc)?;
+    let expr = parse_expr(cursor, alloc)?;
+    let body = boxed(alloc, expr)?;
+    cursor.expect_rparen(alloc)?;
+    Ok(Expr::Let { defs, body, pos })
+}
+
+/// An expression in memory of its own.
+#[inline(never)]
+fn boxed(alloc: Global, expr: Expr) -> Result<Box<Expr>, Stop>
+    ensures boxed { IfOk result (λ b. b.value ≡ expr) }
+    ensures memory { IfErr result (λ e. e ≡ Memory) }
+{
+    Ok(Box::new(alloc, expr)?)
 }
 
 /// Expressions, up to the closing parenthesis.
 #[cycle(expression)]
+#[inline(never)]
 fn parse_exprs(cursor: &mut Cursor, alloc: Global) -> Result<Vec<Expr>, Stop>
     ensures same { source cursor.new ≡ source cursor.old }
     ensures gives { Gives
@@ -93,9 +133,20 @@ fn parse_exprs(cursor: &mut Cursor, alloc: Global) -> Result<Vec<Expr>, Stop>
 {
     let mut exprs = Vec::new(alloc);
     while !cursor.is_rparen() {
-        exprs.push(parse_expr(cursor, alloc)?)?;
+        let expr = parse_expr(cursor, alloc)?;
+        push_expr(&mut exprs, expr)?;
     }
     Ok(exprs)
+}
+
+/// Appends an expression.
+#[inline(never)]
+fn push_expr(exprs: &mut Vec<Expr>, expr: Expr) -> Result<(), Stop>
+    ensures items { IfOk result (λ _. exprs.new.items ≡ exprs.old.items ++ expr ∷ []) }
+    ensures memory { IfErr result (λ e. e ≡ Memory) }
+{
+    exprs.push(expr)?;
+    Ok(())
 }
 
 /// The definitions of a `let`, in parentheses.
@@ -138,6 +189,7 @@ fn parse_letdef(cursor: &mut Cursor, alloc: Global) -> Result<LetDef, Stop>
     cursor.expect_lparen(alloc)?;
     let var = cursor.parse_ident(alloc)?;
     let ty = cursor.parse_ident(alloc)?;
-    let val = Box::new(alloc, parse_expr(cursor, alloc)?)?;
+    let expr = parse_expr(cursor, alloc)?;
+    let val = boxed(alloc, expr)?;
     cursor.close(alloc, LetDef { var, ty, val, pos })
 }

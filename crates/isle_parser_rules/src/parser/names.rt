@@ -1,10 +1,13 @@
-//! Names of constants.
+//! Names of constants, and integers.
 
 ghost use Rattle.std.specs.Prelude.{◌≡◌, ◌∷◌, string_bytes, true};
 ghost use Rattle.isle_base.specs.Bytes.{dollar};
+ghost use Rattle.isle_base.specs.Token.{at_sign};
 ghost use Rattle.isle_ast_names.specs.TreeView.{name_of};
 ghost use Rattle.isle_ast_names.specs.Words.{is_constant};
+ghost use Rattle.isle_parser_cursor.specs.NumberReaders.{signed};
 ghost use Rattle.isle_parser_cursor.specs.Outcomes.{Gives, source, tokens};
+ghost use Rattle.isle_parser_cursor.specs.Reading.{expect, is_at};
 ghost use Rattle.isle_parser_rules.specs.ConstantReaders.{constant};
 
 use isle_ast_names::ast::Ident;
@@ -35,4 +38,22 @@ fn behind_dollar(mut text: String) -> String
 {
     text.remove(0);
     text
+}
+
+/// An integer, out of the frame of its caller.
+#[inline(never)]
+pub(super) fn take_int(cursor: &mut Cursor, alloc: Global) -> Result<i128, Stop>
+    ensures same { source cursor.new ≡ source cursor.old }
+    ensures gives { Gives (λ value. value) (signed 127 (tokens cursor.old)) result cursor.new }
+{
+    cursor.parse_int(alloc)
+}
+
+/// Takes off `@`, out of the frame of its caller.
+#[inline(never)]
+pub(super) fn take_at(cursor: &mut Cursor, alloc: Global) -> Result<(), Stop>
+    ensures same { source cursor.new ≡ source cursor.old }
+    ensures gives { Gives (λ _. at_sign) (expect is_at (tokens cursor.old)) result cursor.new }
+{
+    cursor.expect_at(alloc)
 }

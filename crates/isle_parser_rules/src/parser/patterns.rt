@@ -1,45 +1,66 @@
 //! Patterns: what a rule, a condition or an extractor matches.
 
-ghost use Rattle.std.specs.Prelude.{◌≡◌};
+ghost use Rattle.std.specs.Prelude.{◌≡◌, ◌++◌, [], ◌∷◌, IfErr, IfOk};
 ghost use Rattle.isle_ast_rules.specs.TreeView.{pattern_of, patterns_of};
-ghost use Rattle.isle_parser_cursor.specs.Outcomes.{Gives, source, tokens};
-ghost use Rattle.isle_parser_cursor.specs.Reading.{closes, many};
-ghost use Rattle.isle_parser_rules.specs.PatternReaders.{pattern, pattern_inside, symbol_pattern};
-ghost use Rattle.isle_parser_rules.specs.PatternReaders.{variable_pattern};
+ghost use Rattle.isle_parser_cursor.specs.Outcomes.{Gives, IsRefusal, source, tokens};
+ghost use Rattle.isle_parser_cursor.specs.Reading.{closes, in_parentheses, many};
+ghost use Rattle.isle_parser_cursor.specs.declared.cursor.Stop.TheVariants.{Memory};
+ghost use Rattle.isle_parser_rules.specs.PatternReaders.{is_fixed, pattern, pattern_inside};
+ghost use Rattle.isle_parser_rules.specs.PatternReaders.{symbol_pattern, variable_pattern};
 
-use crate::parser::names::parse_const;
+use crate::parser::names::{parse_const, take_at, take_int};
 use isle_ast_rules::ast::Pattern;
 use isle_base::lexer::Pos;
 use isle_parser_cursor::cursor::{Cursor, Stop};
 use std::alloc::Global;
 
+// How deep a nest goes is bound by the frames of this ring. So what is no part of the recursion has
+// a frame of its own, and what is read stands in few places.
+
 #[cycle(pattern)]
-#[tactic(auto, using(crate::proofs::PatternParts::pattern_is), unfolding(crate::specs::PatternReaders::pattern_step, isle_parser_cursor::specs::Reading::in_parentheses))]
+#[tactic(auto, using(crate::proofs::PatternParts::pattern_is, crate::proofs::PatternParts::variable_is), unfolding(crate::specs::PatternReaders::pattern_step))]
 pub(super) fn parse_pattern(cursor: &mut Cursor, alloc: Global) -> Result<Pattern, Stop>
     ensures same { source cursor.new ≡ source cursor.old }
     ensures gives { Gives pattern_of (pattern (tokens cursor.old)) result cursor.new }
 {
     let pos = cursor.pos();
     if cursor.is_int() {
-        let val = cursor.parse_int(alloc)?;
+        let val = take_int(cursor, alloc)?;
         return Ok(Pattern::ConstInt { val, pos });
     }
     if cursor.is_sym() {
-        return parse_pattern_symbol(cursor, alloc, pos);
+        if is_fixed(cursor) {
+            return parse_pattern_symbol(cursor, alloc, pos);
+        }
+        return parse_pattern_variable(cursor, alloc, pos);
     }
     if cursor.is_lparen() {
-        cursor.expect_lparen(alloc)?;
-        let pattern = parse_pattern_inner_parens(cursor, alloc, pos)?;
-        return cursor.close(alloc, pattern);
+        return parse_pattern_parens(cursor, alloc, pos);
     }
-    Err(cursor.refuse_at(
+    Err(refuse_pattern(cursor, alloc))
+}
+
+/// Refuses what is no pattern.
+#[inline(never)]
+fn refuse_pattern(cursor: &Cursor, alloc: Global) -> Stop
+    ensures { IsRefusal (source cursor.now) result }
+{
+    cursor.refuse_at(
         cursor.place(),
         String::from_str(alloc, "Unexpected pattern"),
-    ))
+    )
+}
+
+/// Tells whether a constant, `_`, `true` or `false` is ahead. Any other symbol is a variable.
+fn is_fixed(cursor: &Cursor) -> bool
+    ensures { result ≡ is_fixed (tokens cursor.now) }
+{
+    cursor.is_const() || cursor.is_word("_") || cursor.is_word("true") || cursor.is_word("false")
 }
 
 /// A pattern that begins with a symbol, at this position.
 #[cycle(pattern)]
+#[inline(never)]
 #[tactic(auto, unfolding(crate::specs::PatternReaders::symbol_pattern, crate::specs::PatternReaders::word_pattern, crate::specs::PatternReaders::true_pattern, crate::specs::PatternReaders::false_pattern))]
 fn parse_pattern_symbol(cursor: &mut Cursor, alloc: Global, pos: Pos) -> Result<Pattern, Stop>
     ensures same { source cursor.new ≡ source cursor.old }
@@ -64,6 +85,7 @@ fn parse_pattern_symbol(cursor: &mut Cursor, alloc: Global, pos: Pos) -> Result<
 
 /// A variable, and behind `@` what it is bound to.
 #[cycle(pattern)]
+#[inline(never)]
 #[tactic(auto, unfolding(crate::specs::PatternReaders::variable_pattern))]
 fn parse_pattern_variable(cursor: &mut Cursor, alloc: Global, pos: Pos) -> Result<Pattern, Stop>
     ensures same { source cursor.new ≡ source cursor.old }
@@ -74,30 +96,45 @@ fn parse_pattern_variable(cursor: &mut Cursor, alloc: Global, pos: Pos) -> Resul
     if !cursor.is_at() {
         return Ok(Pattern::Var { var, pos });
     }
-    cursor.expect_at(alloc)?;
-    let subpat = Box::new(alloc, parse_pattern(cursor, alloc)?)?;
+    take_at(cursor, alloc)?;
+    let bound = parse_pattern(cursor, alloc)?;
+    let subpat = boxed(alloc, bound)?;
     Ok(Pattern::BindPattern { var, subpat, pos })
 }
 
-/// `and` or a term, and patterns. The `(` stood at this position.
-#[cycle(pattern)]
-#[tactic(auto, unfolding(crate::specs::PatternReaders::pattern_inside))]
-fn parse_pattern_inner_parens(cursor: &mut Cursor, alloc: Global, pos: Pos) -> Result<Pattern, Stop>
-    ensures same { source cursor.new ≡ source cursor.old }
-    ensures gives { Gives pattern_of (pattern_inside pos pattern (tokens cursor.old)) result
-        cursor.new }
+/// A pattern in memory of its own.
+#[inline(never)]
+fn boxed(alloc: Global, pattern: Pattern) -> Result<Box<Pattern>, Stop>
+    ensures boxed { IfOk result (λ b. b.value ≡ pattern) }
+    ensures memory { IfErr result (λ e. e ≡ Memory) }
 {
+    Ok(Box::new(alloc, pattern)?)
+}
+
+/// `and` or a term, and patterns, in parentheses. The `(` stands at this position.
+#[cycle(pattern)]
+#[inline(never)]
+#[tactic(auto, unfolding(crate::specs::PatternReaders::pattern_inside, isle_parser_cursor::specs::Reading::in_parentheses))]
+fn parse_pattern_parens(cursor: &mut Cursor, alloc: Global, pos: Pos) -> Result<Pattern, Stop>
+    ensures same { source cursor.new ≡ source cursor.old }
+    ensures gives { Gives pattern_of
+        (in_parentheses (pattern_inside pos pattern) (tokens cursor.old)) result cursor.new }
+{
+    cursor.expect_lparen(alloc)?;
     if cursor.eat_sym_str(alloc, "and")? {
         let subpats = parse_patterns(cursor, alloc)?;
+        cursor.expect_rparen(alloc)?;
         return Ok(Pattern::And { subpats, pos });
     }
     let sym = cursor.parse_ident(alloc)?;
     let args = parse_patterns(cursor, alloc)?;
+    cursor.expect_rparen(alloc)?;
     Ok(Pattern::Term { sym, args, pos })
 }
 
 /// Patterns, up to the closing parenthesis.
 #[cycle(pattern)]
+#[inline(never)]
 fn parse_patterns(cursor: &mut Cursor, alloc: Global) -> Result<Vec<Pattern>, Stop>
     ensures same { source cursor.new ≡ source cursor.old }
     ensures gives { Gives
@@ -105,7 +142,18 @@ fn parse_patterns(cursor: &mut Cursor, alloc: Global) -> Result<Vec<Pattern>, St
 {
     let mut patterns = Vec::new(alloc);
     while !cursor.is_rparen() {
-        patterns.push(parse_pattern(cursor, alloc)?)?;
+        let pattern = parse_pattern(cursor, alloc)?;
+        push_pattern(&mut patterns, pattern)?;
     }
     Ok(patterns)
+}
+
+/// Appends a pattern.
+#[inline(never)]
+fn push_pattern(patterns: &mut Vec<Pattern>, pattern: Pattern) -> Result<(), Stop>
+    ensures items { IfOk result (λ _. patterns.new.items ≡ patterns.old.items ++ pattern ∷ []) }
+    ensures memory { IfErr result (λ e. e ≡ Memory) }
+{
+    patterns.push(pattern)?;
+    Ok(())
 }

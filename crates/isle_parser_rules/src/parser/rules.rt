@@ -4,13 +4,15 @@ ghost use Rattle.std.specs.Prelude.{◌≡◌};
 ghost use Rattle.isle_ast_rules.specs.TreeView.{condition_of, conditions_of, expression_of};
 ghost use Rattle.isle_ast_rules.specs.TreeView.{extractor_of, rule_of};
 ghost use Rattle.isle_parser_cursor.specs.Outcomes.{Gives, IsPlace, source, tokens};
+ghost use Rattle.isle_parser_rules.specs.Closed.{closed};
 ghost use Rattle.isle_parser_rules.specs.RuleReaders.{condition_match, condition_or_expression};
-ghost use Rattle.isle_parser_rules.specs.RuleReaders.{condition_test, extractor_definition};
+ghost use Rattle.isle_parser_rules.specs.RuleReaders.{condition_test, expression_behind};
+ghost use Rattle.isle_parser_rules.specs.RuleReaders.{extractor_definition};
 ghost use Rattle.isle_parser_rules.specs.RuleReaders.{match_or_expression, priority, right_side};
 ghost use Rattle.isle_parser_rules.specs.RuleReaders.{rule_definition};
 ghost use Rattle.isle_parser_rules.specs.RuleParts.{part_of};
 
-use crate::parser::expressions::{parse_expr, parse_expr_inner_parens};
+use crate::parser::expressions::{parse_expr, parse_expr_behind_lparen};
 use crate::parser::patterns::parse_pattern;
 use isle_ast_rules::ast::{Expr, Extractor, IfLet, Pattern, Rule};
 use isle_base::lexer::Pos;
@@ -103,7 +105,7 @@ fn parse_iflets_and_expr(cursor: &mut Cursor, alloc: Global) -> Result<(Vec<IfLe
     }
 }
 
-#[tactic(auto, unfolding(crate::specs::RuleReaders::condition_or_expression, isle_parser_cursor::specs::Reading::in_parentheses))]
+#[tactic(auto, unfolding(crate::specs::RuleReaders::condition_or_expression, isle_parser_cursor::specs::Reading::in_parentheses, crate::specs::Closed::closed))]
 fn parse_iflet_or_expr(cursor: &mut Cursor, alloc: Global) -> Result<IfLetOrExpr, Stop>
     ensures same { source cursor.new ≡ source cursor.old }
     ensures gives { Gives part_of (condition_or_expression (tokens cursor.old)) result cursor.new }
@@ -113,27 +115,38 @@ fn parse_iflet_or_expr(cursor: &mut Cursor, alloc: Global) -> Result<IfLetOrExpr
         return Ok(IfLetOrExpr::Expr(parse_expr(cursor, alloc)?));
     }
     cursor.expect_lparen(alloc)?;
-    let part = parse_iflet_or_expr_inner_parens(cursor, alloc, pos)?;
-    cursor.close(alloc, part)
+    parse_iflet_or_expr_behind_lparen(cursor, alloc, pos)
 }
 
-/// What a condition or an expression has in its parentheses. The `(` stood at this position.
-#[tactic(auto, unfolding(crate::specs::RuleReaders::match_or_expression, crate::specs::RuleReaders::test_or_expression))]
-fn parse_iflet_or_expr_inner_parens(
+/// What a condition or an expression has in its parentheses, and `)`. The `(` stood at this
+/// position.
+#[tactic(auto, using(crate::proofs::ClosedParts::part_behind), unfolding(crate::specs::RuleReaders::match_or_expression, crate::specs::RuleReaders::test_or_expression, crate::specs::Closed::closed))]
+fn parse_iflet_or_expr_behind_lparen(
     cursor: &mut Cursor,
     alloc: Global,
     pos: Pos,
 ) -> Result<IfLetOrExpr, Stop>
     ensures same { source cursor.new ≡ source cursor.old }
-    ensures gives { Gives part_of (match_or_expression pos (tokens cursor.old)) result cursor.new }
+    ensures gives { Gives part_of (closed (match_or_expression pos) (tokens cursor.old)) result
+        cursor.new }
 {
     if cursor.eat_sym_str(alloc, "if-let")? {
-        return Ok(IfLetOrExpr::IfLet(parse_iflet(cursor, alloc)?));
+        let iflet = parse_iflet(cursor, alloc)?;
+        return cursor.close(alloc, IfLetOrExpr::IfLet(iflet));
     }
     if cursor.eat_sym_str(alloc, "if")? {
-        return Ok(IfLetOrExpr::IfLet(parse_iflet_if(cursor, alloc)?));
+        let iflet = parse_iflet_if(cursor, alloc)?;
+        return cursor.close(alloc, IfLetOrExpr::IfLet(iflet));
     }
-    let expr = parse_expr_inner_parens(cursor, alloc, pos)?;
+    parse_expr_part(cursor, alloc, pos)
+}
+
+/// What an expression has in its parentheses, and `)`. The `(` stood at this position.
+fn parse_expr_part(cursor: &mut Cursor, alloc: Global, pos: Pos) -> Result<IfLetOrExpr, Stop>
+    ensures same { source cursor.new ≡ source cursor.old }
+    ensures gives { Gives part_of (expression_behind pos (tokens cursor.old)) result cursor.new }
+{
+    let expr = parse_expr_behind_lparen(cursor, alloc, pos)?;
     Ok(IfLetOrExpr::Expr(expr))
 }
 

@@ -19,40 +19,40 @@ use Rattle.isle_parser_rules.proofs.parser.expressions.+expression.Goals as goal
 
 pub parse_expr-returns-then-is_int-clause-gives : goal.parse_expr-returns-then-is_int-clause-gives
 parse_expr-returns-then-is_int-clause-gives t c =
-    int_taken (tokens c.args.cursor.now) (tokens c.parse_int.new.self) c.in_ok-val.val _ c.pos-pos.result (to_z-of_z w128 c.in_ok-val.val (search rules)) c.if-is_lparen.ensures c.if-is_sym.ensures c.if-is_int.ensures c.pos-pos.ensures c.in_ok-val.ensures.gives
+    int_taken (tokens c.args.cursor.now) (tokens c.take_int.new.cursor) c.in_ok-val.val _ c.pos-pos.result (to_z-of_z w128 c.in_ok-val.val (search rules)) c.if-is_lparen.ensures c.if-is_sym.ensures c.if-is_int.ensures c.pos-pos.ensures c.in_ok-val.ensures.gives
 
-pub parse_expr_inner_parens-parse_letdefs-requires : goal.parse_expr_inner_parens-parse_letdefs-requires
-parse_expr_inner_parens-parse_letdefs-requires t c =
+pub parse_expr_behind_lparen-parse_let-requires : goal.parse_expr_behind_lparen-parse_let-requires
+parse_expr_behind_lparen-parse_let-requires t c =
     (omega (arith, flag_shorter (codes "let") (tokens c.args.cursor.now) (tokens c.eat_sym_str.new.self) c.in_ok-eat_sym_str.field-0 c.in_ok-eat_sym_str.ensures.gives), tt)
 
-pub parse_expr_inner_parens-parse_expr-requires : goal.parse_expr_inner_parens-parse_expr-requires
-parse_expr_inner_parens-parse_expr-requires t c =
-    (omega (arith, flag_shorter (codes "let") (tokens c.args.cursor.now) (tokens c.eat_sym_str.new.self) c.in_ok-eat_sym_str.field-0 c.in_ok-eat_sym_str.ensures.gives, let_definitions_shrink (tokens c.eat_sym_str.new.self) (tokens c.parse_letdefs.new.cursor) (single_lets_of c.in_ok-defs.defs.items) c.in_ok-defs.ensures.gives), tt)
+pub parse_let-parse_expr-requires : goal.parse_let-parse_expr-requires
+parse_let-parse_expr-requires t c =
+    (omega (arith, let_definitions_shrink (tokens c.args.cursor.now) (tokens c.parse_letdefs.new.cursor) (single_lets_of c.in_ok-defs.defs.items) c.in_ok-defs.ensures.gives), tt)
 
-pub parse_expr_inner_parens-parse_exprs-requires : goal.parse_expr_inner_parens-parse_exprs-requires
-parse_expr_inner_parens-parse_exprs-requires t c =
+pub parse_expr_behind_lparen-parse_exprs-requires : goal.parse_expr_behind_lparen-parse_exprs-requires
+parse_expr_behind_lparen-parse_exprs-requires t c =
     (omega (arith, flag_shorter (codes "let") (tokens c.args.cursor.now) (tokens c.eat_sym_str.new.self) c.in_ok-eat_sym_str.field-0 c.in_ok-eat_sym_str.ensures.gives, name_shrinks (tokens c.eat_sym_str.new.self) (tokens c.parse_ident.new.self) (name_of c.in_ok-sym.sym) c.in_ok-sym.ensures.gives), tt)
 
 pub parse_letdef-parse_expr-requires : goal.parse_letdef-parse_expr-requires
 parse_letdef-parse_expr-requires t c =
     (omega (arith, expect_shorter is_lparen (tokens c.args.cursor.now) (tokens c.expect_lparen.new.self) lparen c.in_ok-expect_lparen.ensures.gives, name_shrinks (tokens c.expect_lparen.new.self) (tokens c.parse_ident.new.self) (name_of c.in_ok-var.var) c.in_ok-var.ensures.gives, name_shrinks (tokens c.parse_ident.new.self) (tokens c.parse_ident-2.new.self) (name_of c.in_ok-ty.ty) c.in_ok-ty.ensures.gives), tt)
 
-pub parse_exprs-returns-in_err-parse_expr-clause-gives : goal.parse_exprs-returns-in_err-parse_expr-clause-gives
-parse_exprs-returns-in_err-parse_expr-clause-gives t c =
+pub parse_exprs-returns-in_err-expr-clause-gives : goal.parse_exprs-returns-in_err-expr-clause-gives
+parse_exprs-returns-in_err-expr-clause-gives t c =
     let p = err_from_is_err_and c.from_residual.result c.from_residual.ensures.1 in
-    rw (p.1, p.2) (loop_stops expression closes expression_shrinks (expressions_of c.loop-alloc.exprs.items) (tokens c.loop-alloc.cursor) (many closes expression (tokens c.args.cursor.now)) (source c.parse_expr.new.cursor) c.in_err-parse_expr.field-0.0 (sym c.loop-alloc-test.ensures) c.in_err-parse_expr.ensures.gives c.loop-alloc.invariant.so_far)
+    rw (p.1, p.2) (loop_stops expression closes expression_shrinks (expressions_of c.loop-alloc.exprs.items) (tokens c.loop-alloc.cursor) (many closes expression (tokens c.args.cursor.now)) (source c.parse_expr.new.cursor) c.in_err-expr.field-0.0 (sym c.loop-alloc-test.ensures) c.in_err-expr.ensures.gives c.loop-alloc.invariant.so_far)
 
 pub parse_exprs-loop-alloc-smaller : goal.parse_exprs-loop-alloc-smaller
-parse_exprs-loop-alloc-smaller t c = expression_shrinks (tokens c.loop-alloc.cursor) (tokens c.parse_expr.new.cursor) (expression_of c.in_ok-parse_expr.field-0) c.in_ok-parse_expr.ensures.gives
+parse_exprs-loop-alloc-smaller t c = expression_shrinks (tokens c.loop-alloc.cursor) (tokens c.parse_expr.new.cursor) (expression_of c.in_ok-expr.expr) c.in_ok-expr.ensures.gives
 
 pub parse_exprs-loop-alloc-preserved : goal.parse_exprs-loop-alloc-preserved
 parse_exprs-loop-alloc-preserved t c =
-    let x = c.in_ok-parse_expr.field-0 in
-    let e : expressions_of c.push.new.self.items ≡ expressions_of c.loop-alloc.exprs.items ++ expression_of x ∷ [] = rw c.in_ok-push.ensures.items (map_push _ c.loop-alloc.exprs.items x) in
-    let less = expression_shrinks (tokens c.loop-alloc.cursor) (tokens c.parse_expr.new.cursor) (expression_of x) c.in_ok-parse_expr.ensures.gives in
+    let x = c.in_ok-expr.expr in
+    let e : expressions_of c.push_expr.new.exprs.items ≡ expressions_of c.loop-alloc.exprs.items ++ expression_of x ∷ [] = rw c.in_ok-push_expr.ensures.items (map_push _ c.loop-alloc.exprs.items x) in
+    let less = expression_shrinks (tokens c.loop-alloc.cursor) (tokens c.parse_expr.new.cursor) (expression_of x) c.in_ok-expr.ensures.gives in
     record {
-      same = c.in_ok-parse_expr.ensures.same ∙ c.loop-alloc.invariant.same;
-      so_far = rw e (loop_push expression closes expression_shrinks (expressions_of c.loop-alloc.exprs.items) (tokens c.loop-alloc.cursor) (tokens c.parse_expr.new.cursor) (expression_of x) (many closes expression (tokens c.args.cursor.now)) (sym c.loop-alloc-test.ensures) c.in_ok-parse_expr.ensures.gives c.loop-alloc.invariant.so_far);
+      same = c.in_ok-expr.ensures.same ∙ c.loop-alloc.invariant.same;
+      so_far = rw e (loop_push expression closes expression_shrinks (expressions_of c.loop-alloc.exprs.items) (tokens c.loop-alloc.cursor) (tokens c.parse_expr.new.cursor) (expression_of x) (many closes expression (tokens c.args.cursor.now)) (sym c.loop-alloc-test.ensures) c.in_ok-expr.ensures.gives c.loop-alloc.invariant.so_far);
       shorter = omega (arith, less, c.loop-alloc.invariant.shorter);
     }
 

@@ -6,10 +6,10 @@ use Rattle.std.proofs.lemmas.Result.{err_from_is_err_and}
 use Rattle.std.proofs.lemmas.List.{map_push}
 use Rattle.isle_ast_names.specs.TreeView.{name_of}
 use Rattle.isle_ast_rules.specs.TreeView.{pattern_of, patterns_of}
-use Rattle.isle_base.specs.Token.{at_sign}
+use Rattle.isle_base.specs.Token.{at_sign, lparen}
 use Rattle.isle_parser_cursor.specs.Outcomes.{source, tokens}
 use Rattle.isle_parser_rules.specs.PatternReaders.{pattern}
-use Rattle.isle_parser_cursor.specs.Reading.{closes, is_at, many}
+use Rattle.isle_parser_cursor.specs.Reading.{closes, is_at, is_lparen, many}
 use Rattle.isle_parser_cursor.proofs.Lengths.{expect_shorter, flag_shorter}
 use Rattle.isle_parser_cursor.proofs.Loops.{loop_push, loop_stops, loop_end}
 use Rattle.isle_parser_cursor.proofs.Names.{name_shrinks}
@@ -19,15 +19,15 @@ use Rattle.isle_parser_rules.proofs.parser.patterns.+pattern.Goals as goal
 
 pub parse_pattern-returns-then-is_int-clause-gives : goal.parse_pattern-returns-then-is_int-clause-gives
 parse_pattern-returns-then-is_int-clause-gives t c =
-    int_taken (tokens c.args.cursor.now) (tokens c.parse_int.new.self) c.in_ok-val.val _ c.pos-pos.result (to_z-of_z w128 c.in_ok-val.val (search rules)) c.if-is_int.ensures c.pos-pos.ensures c.in_ok-val.ensures.gives
+    int_taken (tokens c.args.cursor.now) (tokens c.take_int.new.cursor) c.in_ok-val.val _ c.pos-pos.result (to_z-of_z w128 c.in_ok-val.val (search rules)) c.if-is_int.ensures c.pos-pos.ensures c.in_ok-val.ensures.gives
 
-pub parse_pattern_inner_parens-parse_patterns-requires : goal.parse_pattern_inner_parens-parse_patterns-requires
-parse_pattern_inner_parens-parse_patterns-requires t c =
-    (omega (arith, flag_shorter (codes "and") (tokens c.args.cursor.now) (tokens c.eat_sym_str.new.self) c.in_ok-eat_sym_str.field-0 c.in_ok-eat_sym_str.ensures.gives), tt)
+pub parse_pattern_parens-parse_patterns-requires : goal.parse_pattern_parens-parse_patterns-requires
+parse_pattern_parens-parse_patterns-requires t c =
+    (omega (arith, expect_shorter is_lparen (tokens c.args.cursor.now) (tokens c.expect_lparen.new.self) lparen c.in_ok-expect_lparen.ensures.gives, flag_shorter (codes "and") (tokens c.expect_lparen.new.self) (tokens c.eat_sym_str.new.self) c.in_ok-eat_sym_str.field-0 c.in_ok-eat_sym_str.ensures.gives), tt)
 
-pub parse_pattern_inner_parens-parse_patterns-requires-2 : goal.parse_pattern_inner_parens-parse_patterns-requires-2
-parse_pattern_inner_parens-parse_patterns-requires-2 t c =
-    (omega (arith, flag_shorter (codes "and") (tokens c.args.cursor.now) (tokens c.eat_sym_str.new.self) c.in_ok-eat_sym_str.field-0 c.in_ok-eat_sym_str.ensures.gives, name_shrinks (tokens c.eat_sym_str.new.self) (tokens c.parse_ident.new.self) (name_of c.in_ok-sym.sym) c.in_ok-sym.ensures.gives), tt)
+pub parse_pattern_parens-parse_patterns-requires-2 : goal.parse_pattern_parens-parse_patterns-requires-2
+parse_pattern_parens-parse_patterns-requires-2 t c =
+    (omega (arith, expect_shorter is_lparen (tokens c.args.cursor.now) (tokens c.expect_lparen.new.self) lparen c.in_ok-expect_lparen.ensures.gives, flag_shorter (codes "and") (tokens c.expect_lparen.new.self) (tokens c.eat_sym_str.new.self) c.in_ok-eat_sym_str.field-0 c.in_ok-eat_sym_str.ensures.gives, name_shrinks (tokens c.eat_sym_str.new.self) (tokens c.parse_ident.new.self) (name_of c.in_ok-sym.sym) c.in_ok-sym.ensures.gives), tt)
 
 pub parse_pattern_symbol-parse_pattern_variable-requires : goal.parse_pattern_symbol-parse_pattern_variable-requires
 parse_pattern_symbol-parse_pattern_variable-requires t c =
@@ -35,24 +35,24 @@ parse_pattern_symbol-parse_pattern_variable-requires t c =
 
 pub parse_pattern_variable-parse_pattern-requires : goal.parse_pattern_variable-parse_pattern-requires
 parse_pattern_variable-parse_pattern-requires t c =
-    (omega (arith, name_shrinks (tokens c.args.cursor.now) (tokens c.parse_ident.new.self) (name_of c.in_ok-var.var) c.in_ok-var.ensures.gives, expect_shorter is_at (tokens c.parse_ident.new.self) (tokens c.expect_at.new.self) at_sign c.in_ok-expect_at.ensures.gives), tt)
+    (omega (arith, name_shrinks (tokens c.args.cursor.now) (tokens c.parse_ident.new.self) (name_of c.in_ok-var.var) c.in_ok-var.ensures.gives, expect_shorter is_at (tokens c.parse_ident.new.self) (tokens c.take_at.new.cursor) at_sign c.in_ok-take_at.ensures.gives), tt)
 
-pub parse_patterns-returns-in_err-parse_pattern-clause-gives : goal.parse_patterns-returns-in_err-parse_pattern-clause-gives
-parse_patterns-returns-in_err-parse_pattern-clause-gives t c =
+pub parse_patterns-returns-in_err-pattern-clause-gives : goal.parse_patterns-returns-in_err-pattern-clause-gives
+parse_patterns-returns-in_err-pattern-clause-gives t c =
     let p = err_from_is_err_and c.from_residual.result c.from_residual.ensures.1 in
-    rw (p.1, p.2) (loop_stops pattern closes pattern_shrinks (patterns_of c.loop-alloc.patterns.items) (tokens c.loop-alloc.cursor) (many closes pattern (tokens c.args.cursor.now)) (source c.parse_pattern.new.cursor) c.in_err-parse_pattern.field-0.0 (sym c.loop-alloc-test.ensures) c.in_err-parse_pattern.ensures.gives c.loop-alloc.invariant.so_far)
+    rw (p.1, p.2) (loop_stops pattern closes pattern_shrinks (patterns_of c.loop-alloc.patterns.items) (tokens c.loop-alloc.cursor) (many closes pattern (tokens c.args.cursor.now)) (source c.parse_pattern.new.cursor) c.in_err-pattern.field-0.0 (sym c.loop-alloc-test.ensures) c.in_err-pattern.ensures.gives c.loop-alloc.invariant.so_far)
 
 pub parse_patterns-loop-alloc-smaller : goal.parse_patterns-loop-alloc-smaller
-parse_patterns-loop-alloc-smaller t c = pattern_shrinks (tokens c.loop-alloc.cursor) (tokens c.parse_pattern.new.cursor) (pattern_of c.in_ok-parse_pattern.field-0) c.in_ok-parse_pattern.ensures.gives
+parse_patterns-loop-alloc-smaller t c = pattern_shrinks (tokens c.loop-alloc.cursor) (tokens c.parse_pattern.new.cursor) (pattern_of c.in_ok-pattern.pattern) c.in_ok-pattern.ensures.gives
 
 pub parse_patterns-loop-alloc-preserved : goal.parse_patterns-loop-alloc-preserved
 parse_patterns-loop-alloc-preserved t c =
-    let x = c.in_ok-parse_pattern.field-0 in
-    let e : patterns_of c.push.new.self.items ≡ patterns_of c.loop-alloc.patterns.items ++ pattern_of x ∷ [] = rw c.in_ok-push.ensures.items (map_push _ c.loop-alloc.patterns.items x) in
-    let less = pattern_shrinks (tokens c.loop-alloc.cursor) (tokens c.parse_pattern.new.cursor) (pattern_of x) c.in_ok-parse_pattern.ensures.gives in
+    let x = c.in_ok-pattern.pattern in
+    let e : patterns_of c.push_pattern.new.patterns.items ≡ patterns_of c.loop-alloc.patterns.items ++ pattern_of x ∷ [] = rw c.in_ok-push_pattern.ensures.items (map_push _ c.loop-alloc.patterns.items x) in
+    let less = pattern_shrinks (tokens c.loop-alloc.cursor) (tokens c.parse_pattern.new.cursor) (pattern_of x) c.in_ok-pattern.ensures.gives in
     record {
-      same = c.in_ok-parse_pattern.ensures.same ∙ c.loop-alloc.invariant.same;
-      so_far = rw e (loop_push pattern closes pattern_shrinks (patterns_of c.loop-alloc.patterns.items) (tokens c.loop-alloc.cursor) (tokens c.parse_pattern.new.cursor) (pattern_of x) (many closes pattern (tokens c.args.cursor.now)) (sym c.loop-alloc-test.ensures) c.in_ok-parse_pattern.ensures.gives c.loop-alloc.invariant.so_far);
+      same = c.in_ok-pattern.ensures.same ∙ c.loop-alloc.invariant.same;
+      so_far = rw e (loop_push pattern closes pattern_shrinks (patterns_of c.loop-alloc.patterns.items) (tokens c.loop-alloc.cursor) (tokens c.parse_pattern.new.cursor) (pattern_of x) (many closes pattern (tokens c.args.cursor.now)) (sym c.loop-alloc-test.ensures) c.in_ok-pattern.ensures.gives c.loop-alloc.invariant.so_far);
       shorter = omega (arith, less, c.loop-alloc.invariant.shorter);
     }
 

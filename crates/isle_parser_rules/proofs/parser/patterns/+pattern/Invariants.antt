@@ -9,8 +9,8 @@ use Rattle.isle_parser_rules.proofs.parser.patterns.+pattern.Given as goal
 abbrev pub decreases-parse_pattern : goal.decreases-parse_pattern
 decreases-parse_pattern l = 3 * length (tokens l.cursor.now) + 2
 
-abbrev pub decreases-parse_pattern_inner_parens : goal.decreases-parse_pattern_inner_parens
-decreases-parse_pattern_inner_parens l = 3 * length (tokens l.cursor.now) + 4
+abbrev pub decreases-parse_pattern_parens : goal.decreases-parse_pattern_parens
+decreases-parse_pattern_parens l = 3 * length (tokens l.cursor.now) + 1
 
 abbrev pub decreases-parse_pattern_symbol : goal.decreases-parse_pattern_symbol
 decreases-parse_pattern_symbol l = 3 * length (tokens l.cursor.now) + 1
