@@ -5,3 +5,4 @@ pub mod Operators
 pub mod Specs
 pub mod Models
 pub mod Tables
+pub mod Lengths

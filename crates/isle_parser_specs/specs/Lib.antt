@@ -1,3 +1,4 @@
+pub mod OperatorRows
 pub mod Positions
 pub mod ModelReaders
 pub mod SpecWords
