@@ -9,3 +9,4 @@ pub mod ShortLines
 pub mod WordSymbols
 pub mod Spellings
 pub mod Sizes
+pub mod SameLists

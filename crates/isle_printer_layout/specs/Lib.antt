@@ -9,6 +9,8 @@ pub mod Looks
 pub mod NameShapes
 pub mod ReadBack
 pub mod SexpView
+pub mod SameSexp
+pub mod FaultTexts
 pub mod ShapeView
 pub mod ShapeSizes
 pub mod ShortLines

@@ -1,13 +1,20 @@
 //! S-expressions that own their texts, as `to_sexpr` answers them and `fits` measures them.
 
-ghost use Rattle.std.specs.Prelude.{◌≡◌, IfOk};
+ghost use Rattle.std.specs.Prelude.{◌≡◌, ◌&&◌, IfOk, Some};
+ghost use Rattle.std.specs.Cmp.{partial_equiv_from_equiv};
+ghost use Rattle.std.specs.Ordering.{on};
+ghost use Rattle.isle_printer_layout.specs.FaultTexts.{fault_text};
+ghost use Rattle.isle_printer_layout.specs.SameSexp.{s_expressions_equiv, same_sexp, same_sexps};
+ghost use Rattle.isle_printer_layout.specs.Sexp.{sexps};
 ghost use Rattle.isle_printer_layout.specs.SexpView.{sexp_of, sexps_of};
 ghost use Rattle.isle_printer_layout.specs.declared.printer.sexpr.PrintFault.TheVariants.{Memory};
 
 use std::alloc::{AllocError, AllocFailed, Global};
+use std::error::Error;
+use std::fmt;
 
 /// The S-expression of a node, with texts of its own.
-#[derive(Debug, PartialEq, Eq, Drop)]
+#[derive(Debug, Drop)]
 pub enum SExpr {
     /// A plain text, which is printed as it stands.
     Atom(String),
@@ -52,6 +59,52 @@ fn copy_items(items: &Vec<SExpr>) -> Result<Vec<SExpr>, AllocError>
     Ok(copies)
 }
 
+impl PartialEq for SExpr {
+    ghost eq = { on sexp_of same_sexp };
+
+    ghost laws = { partial_equiv_from_equiv s_expressions_equiv };
+
+    fn eq(&self, other: &SExpr) -> bool {
+        same_sexpr(self, other)
+    }
+}
+
+impl Eq for SExpr {
+    ghost laws = { s_expressions_equiv };
+}
+
+/// Tells whether two S-expressions are equal.
+#[cycle(same)]
+fn same_sexpr(a: &SExpr, b: &SExpr) -> bool
+    ensures { result ≡ same_sexp (sexp_of a.now) (sexp_of b.now) }
+{
+    match (a, b) {
+        (SExpr::Atom(text), SExpr::Atom(other)) => text == other,
+        (SExpr::Binding(name, inner), SExpr::Binding(other, bound)) => {
+            name == other && same_sexpr(inner, bound)
+        }
+        (SExpr::List(items), SExpr::List(others)) => same_items(items, others),
+        _ => false,
+    }
+}
+
+/// Tells whether the items of two lists are equal.
+#[cycle(same)]
+fn same_items(items: &Vec<SExpr>, others: &Vec<SExpr>) -> bool
+    ensures { result
+        ≡ same_sexps (sexps (sexps_of items.now.items)) (sexps (sexps_of others.now.items)) }
+{
+    if items.len() != others.len() {
+        return false;
+    }
+    for i in 0..items.len() {
+        if !same_sexpr(&items[i], &others[i]) {
+            return false;
+        }
+    }
+    true
+}
+
 /// Why a node was not printed.
 #[derive(Debug, Drop)]
 pub enum PrintFault {
@@ -60,6 +113,22 @@ pub enum PrintFault {
     /// A growth of memory was refused.
     Memory,
 }
+
+/// Writes why nothing was printed, in a few words on one line, whatever the options are.
+impl fmt::Display for PrintFault {
+    ghost output = { λ fault. Some (fault_text fault) };
+
+    ghost styled_output = { λ fault _. Some (fault_text fault) };
+
+    fn fmt<W: fmt::Write>(&self, f: &mut fmt::Formatter<W>) -> fmt::Result {
+        match self {
+            PrintFault::MacroArg => f.write_str("the argument of a macro has no print"),
+            PrintFault::Memory => f.write_str("out of memory"),
+        }
+    }
+}
+
+impl Error for PrintFault {}
 
 impl From<AllocError> for PrintFault {
     ghost from_gives = { λ _ e. e ≡ Memory };
