@@ -1,6 +1,6 @@
 //! The program's work, over any reader and any two writers.
 
-ghost use Rattle.std.specs.Prelude.{◌≡◌, ◌≢◌, ◌<◌, ◌≤◌, length, map, string_bytes, IfOk, IfErr};
+ghost use Rattle.std.specs.Prelude.{◌≡◌, ◌≢◌, ◌<◌, ◌≤◌, drop, length, map, string_bytes, IfOk, IfErr};
 ghost use Rattle.std.specs.Prelude.{OnOk, false};
 ghost use Rattle.std.specs.Option.{SomeIff};
 ghost use Rattle.std.specs.Io.{StartsWith, appended_bytes};
@@ -19,7 +19,7 @@ use isle_syntax::error::{Error, Errors};
 use isle_syntax::files::Files;
 use isle_syntax::lexer::Fault;
 use std::alloc::{AllocError, AllocFailed, Global};
-use std::env::Env;
+use std::env::{Env, FillError};
 use std::io::{ErrorKind, Read, Write};
 use std::rc::Rc;
 use std::{env, io};
@@ -182,15 +182,25 @@ pub fn report<E: Write>(failure: &Failure, faults: &mut E) -> u8
 
 /// The words of the command line, without the program's name.
 ///
-/// A word that isn't UTF-8 is a usage error.
+/// A word that isn't UTF-8 is a usage error. The program's name may be any bytes.
 pub fn taken_words<R: Env + AllocGlobal>(rt: &R) -> Result<Vec<String>, Failure>
     ensures { IfErr result IsWordsFailure }
 {
-    match env::args(rt) {
-        Ok(args) => Ok(args.skip(1).collect(rt.alloc())?),
+    match env::args(&Unnamed(rt)) {
+        Ok(args) => Ok(behind_first(args.collect(rt.alloc())?)),
         Err(error) if error.kind() == ErrorKind::OutOfMemory => Err(Failure::Memory),
         Err(_) => Err(Failure::Usage),
     }
+}
+
+/// The arguments behind the first, which is the program's name.
+fn behind_first(mut args: Vec<String>) -> Vec<String>
+    ensures { result.items ≡ drop 1 args.entry.items }
+{
+    if !args.is_empty() {
+        drop(args.remove(0));
+    }
+    args
 }
 
 /// The width that the words give.
@@ -303,6 +313,35 @@ fn write_whole<W: Write>(writer: &mut W, bytes: &[u8]) -> io::Result<()>
         }
     }
     Err(io::Error::from(ErrorKind::WriteZero))
+}
+
+/// A command line whose first word, the program's name, is empty: nothing asks for it, and it need
+/// not be UTF-8.
+struct Unnamed<'a, R>(&'a R);
+
+impl<R: AllocGlobal> Alloc for Unnamed<'_, R> {
+    type A = Global;
+
+    fn alloc(&self) -> Global {
+        self.0.alloc()
+    }
+}
+
+impl<R: Env> Env for Unnamed<'_, R> {
+    fn arg(&self, i: usize, buf: &mut [u8]) -> Result<usize, FillError> {
+        if i == 0 {
+            return Ok(0);
+        }
+        self.0.arg(i, buf)
+    }
+
+    fn var(&self, name: &str, buf: &mut [u8]) -> Result<usize, FillError> {
+        self.0.var(name, buf)
+    }
+
+    fn var_at(&self, i: usize, buf: &mut [u8]) -> Result<usize, FillError> {
+        self.0.var_at(i, buf)
+    }
 }
 
 #[cfg(test)]

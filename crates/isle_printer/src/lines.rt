@@ -8,6 +8,7 @@ ghost use Rattle.isle_ast.specs.TreeView.{definition_of};
 ghost use Rattle.isle_printer.specs.Printed.{printed_text};
 ghost use Rattle.isle_printer.specs.PrintedNodes.{nodes_of_definition};
 ghost use Rattle.isle_printer_layout.specs.declared.printer.sexpr.PrintFault.TheVariants.{MacroArg};
+ghost use Rattle.isle_printer_layout.specs.declared.printer.sexpr.PrintFault.TheVariants.{Memory};
 
 use crate::printer::definitions::shape;
 use isle_ast::ast::Def;
@@ -32,6 +33,8 @@ pub fn put_definition(
         ≡ printed_text width (before ++ definition_of def.now ∷ [])) }
     ensures refused { IsErrOf result MacroArg
         → definition_has_macro_arg (definition_of def.now) ≡ true }
+    ensures memory { IsErrOf result Memory
+        → definition_has_macro_arg (definition_of def.now) ≡ false }
     ensures once { OnOk result
         (looks.new.count ≡ looks.old.count + nodes_of_definition (definition_of def.now)) }
     ensures at_most { looks.new.count

@@ -28,6 +28,7 @@ ghost use Rattle.isle_printer.specs.ReadBack.{ReadsBack, ReadsBackIfWritable};
 ghost use Rattle.isle_printer_layout.specs.Choices.{IsLayout};
 ghost use Rattle.isle_printer_layout.specs.Lines.{HasFewestLines};
 ghost use Rattle.isle_printer_layout.specs.declared.printer.sexpr.PrintFault.TheVariants.{MacroArg};
+ghost use Rattle.isle_printer_layout.specs.declared.printer.sexpr.PrintFault.TheVariants.{Memory};
 
 use crate::lines::put_definition;
 use isle_ast::ast::Def;
@@ -46,9 +47,9 @@ pub use to_sexpr::ToSExpr;
 ///
 /// The text is spelt by the definitions, positions aside, exactly if they are writable.
 ///
-/// The fault is `MacroArg`, where a definition holds the argument of a macro, so that they aren't
-/// writable, or `Memory`, where a growth was refused. The text begun is dropped then, and nothing
-/// is left of it.
+/// The fault is `MacroArg` exactly where a definition holds the argument of a macro, so that they
+/// aren't writable: that is looked for before anything is made. It is `Memory` where a growth was
+/// refused. The text begun is dropped then, and nothing is left of it.
 pub fn print(alloc: Global, defs: &[Def], width: usize) -> Result<String, PrintFault>
     // What `Ok` holds.
     ensures printed { IfOk result
@@ -60,9 +61,11 @@ pub fn print(alloc: Global, defs: &[Def], width: usize) -> Result<String, PrintF
     ensures writable { IfOk result
         (λ text. ReadsBackIfWritable (definitions_of defs.now) (string_bytes text)) }
 
-    // When `MacroArg` comes.
+    // When `MacroArg` comes, and when no other fault does.
     ensures refused { IsErrOf result MacroArg
         → definitions_have_macro_arg (definitions_of defs.now) ≡ true }
+    ensures memory { IsErrOf result Memory
+        → definitions_have_macro_arg (definitions_of defs.now) ≡ false }
     ensures unwritable { IsErrOf result MacroArg → AreWritable (definitions_of defs.now) → ⊥ }
 {
     print_counted(alloc, defs, width, &mut Looks::new())
@@ -89,9 +92,11 @@ pub fn print_counted(
     ensures writable { IfOk result
         (λ text. ReadsBackIfWritable (definitions_of defs.now) (string_bytes text)) }
 
-    // When `MacroArg` comes.
+    // When `MacroArg` comes, and when no other fault does.
     ensures refused { IsErrOf result MacroArg
         → definitions_have_macro_arg (definitions_of defs.now) ≡ true }
+    ensures memory { IsErrOf result Memory
+        → definitions_have_macro_arg (definitions_of defs.now) ≡ false }
     ensures unwritable { IsErrOf result MacroArg → AreWritable (definitions_of defs.now) → ⊥ }
 
     // How many nodes it looks at.
@@ -100,6 +105,9 @@ pub fn print_counted(
     ensures at_most { looks.new.count
         ≤ looks.old.count + nodes_of_definitions (definitions_of defs.now) }
 {
+    if any_has_macro_arg(defs) {
+        return Err(PrintFault::MacroArg);
+    }
     let mut out = String::new(alloc);
     put_definitions(alloc, defs, width, looks, &mut out)?;
     Ok(out)
@@ -129,6 +137,13 @@ pub fn print_node<N: ToSExpr>(alloc: Global, node: &N, width: usize) -> Result<S
     let mut out = String::new(alloc);
     put(&shape, width, width, 0, &mut Looks::new(), &mut out)?;
     Ok(out)
+}
+
+/// Tells whether one of the definitions holds the argument of a macro.
+fn any_has_macro_arg(defs: &[Def]) -> bool
+    ensures { result ≡ definitions_have_macro_arg (definitions_of defs.now) }
+{
+    defs.iter().any(|def| def.has_macro_arg())
 }
 
 /// Appends the printed text of definitions to the empty text.

@@ -1,5 +1,4 @@
 use super::*;
-use std::env::FillError;
 use std::process::Abort;
 use std::test::Fail;
 
@@ -49,13 +48,14 @@ impl Read for Reader<'_> {
 }
 
 /// Holds what it took, at most a step at a time, after some interrupted writes. It fails where it
-/// has no room.
+/// has no room, or where it is flushed.
 #[derive(Drop)]
 struct Writer {
     held: Vec<u8>,
     step: usize,
     interruptions: usize,
     room: usize,
+    keeps_back: bool,
 }
 
 impl Writer {
@@ -65,6 +65,7 @@ impl Writer {
             step: usize::MAX,
             interruptions: 0,
             room,
+            keeps_back: false,
         }
     }
 }
@@ -85,6 +86,9 @@ impl Write for Writer {
     }
 
     fn flush(&mut self) -> io::Result<()> {
+        if self.keeps_back {
+            return Err(io::Error::from(ErrorKind::Other));
+        }
         Ok(())
     }
 }
@@ -265,6 +269,30 @@ fn tells_of_bad_output(rt: HostRuntime) -> Result<(), Fail> {
 }
 
 #[test]
+fn tells_of_a_refused_flush(rt: HostRuntime) -> Result<(), Fail> {
+    let alloc = rt.alloc();
+    let mut output = Writer::with_room(alloc, 1000);
+    output.keeps_back = true;
+    let mut faults = Writer::with_room(alloc, 1000);
+    let status = run(alloc, &[], &mut Reader::of(DECL), &mut output, &mut faults);
+    assert_eq!(rt; status, 5);
+    assert_eq!(rt;
+        faults.held.as_slice(),
+        b"isle-fmt: output failed\n".as_slice()
+    );
+    assert_eq!(rt; output.held.as_slice(), DECL.as_bytes());
+
+    // Standard error may keep back what it got: the status stays the same.
+    let mut output = Writer::with_room(alloc, 1000);
+    let mut faults = Writer::with_room(alloc, 1000);
+    faults.keeps_back = true;
+    let mut input = Reader::of(REFUSED);
+    let status = run(alloc, &[], &mut input, &mut output, &mut faults);
+    assert_eq!(rt; status, 1);
+    Ok(())
+}
+
+#[test]
 fn goes_on_after_short_and_interrupted_calls(rt: HostRuntime) -> Result<(), Fail> {
     let alloc = rt.alloc();
     let words = strings(alloc, &["5"])?;
@@ -279,6 +307,7 @@ fn goes_on_after_short_and_interrupted_calls(rt: HostRuntime) -> Result<(), Fail
         step: 3,
         interruptions: 3,
         room: 1000,
+        keeps_back: false,
     };
     let status = run(
         alloc,
@@ -330,6 +359,9 @@ fn takes_the_words(rt: HostRuntime) -> Result<(), Fail> {
     assert_takes(&rt, alloc, &[b"isle-fmt"], &[])?;
     assert_takes(&rt, alloc, &[], &[])?;
 
+    // The program's name may be any bytes; another word may not.
+    assert_takes(&rt, alloc, &[&[255], b"5"], &["5"])?;
+    assert_takes(&rt, alloc, &[&[], b"5", b"6"], &["5", "6"])?;
     let words: &[&[u8]] = &[b"isle-fmt", b"5", &[255]];
     assert!(rt;
         matches!(

@@ -5,6 +5,7 @@ ghost use Rattle.isle_ast.specs.MacroArgs.{definition_has_macro_arg};
 ghost use Rattle.isle_ast.specs.TreeView.{definition_of};
 ghost use Rattle.isle_printer.specs.DefinitionShapes.{definition_shape};
 ghost use Rattle.isle_printer_layout.specs.declared.printer.sexpr.PrintFault.TheVariants.{MacroArg};
+ghost use Rattle.isle_printer_layout.specs.declared.printer.sexpr.PrintFault.TheVariants.{Memory};
 
 use super::to_sexpr::ToSExpr;
 use super::{models, terms, types};
@@ -16,6 +17,9 @@ use isle_printer_specs::printer::definitions as specs;
 use std::alloc::{AllocError, Global};
 
 impl ToSExpr for Def {
+    ghost use Rattle.std.specs.Prelude.{◌≡◌, IfOk, IsErrOf, None, Some, false};
+    ghost use Rattle.isle_printer_layout.specs.SexpView.{sexp_of};
+    ghost use Rattle.isle_printer_layout.specs.declared.printer.sexpr.PrintFault.TheVariants.{MacroArg, Memory};
     ghost use Rattle.isle_ast.specs.MacroArgs.{definition_has_macro_arg};
     ghost use Rattle.isle_ast.specs.TreeView.{definition_of};
     ghost use Rattle.isle_printer.specs.DefinitionShapes.{definition_shape};
@@ -24,7 +28,15 @@ impl ToSExpr for Def {
     ghost meaning = { λ d. unless
         (definition_has_macro_arg (definition_of d)) (definition_shape (definition_of d)) };
 
-    fn to_sexpr(&self, alloc: Global) -> Result<SExpr, PrintFault> {
+    fn to_sexpr(&self, alloc: Global) -> Result<SExpr, PrintFault>
+        ensures meant { IfOk result (λ s. unless
+            (definition_has_macro_arg (definition_of self.now)) (definition_shape (definition_of self.now))
+            ≡ Some (sexp_of s)) }
+        ensures refused { IsErrOf result MacroArg
+            → unless (definition_has_macro_arg (definition_of self.now)) (definition_shape (definition_of self.now))
+            ≡ None }
+        ensures memory { IsErrOf result Memory → definition_has_macro_arg (definition_of self.now) ≡ false }
+    {
         Ok(sexpr_of(&shape(alloc, self)?, alloc)?)
     }
 }
@@ -35,6 +47,8 @@ pub(crate) fn shape<'src>(alloc: Global, def: &'src Def) -> Result<Shape<'src>, 
     ensures made { IfOk result (λ s. s ≡ definition_shape (definition_of def.now)) }
     ensures refused { IsErrOf result MacroArg
         → definition_has_macro_arg (definition_of def.now) ≡ true }
+    ensures memory { IsErrOf result Memory
+        → definition_has_macro_arg (definition_of def.now) ≡ false }
 {
     if def.has_macro_arg() {
         return Err(PrintFault::MacroArg);

@@ -12,7 +12,8 @@ ghost use Rattle.isle_printer.specs.ReadBack.{HaveSameTokens, ReadsBack, ReadsBa
 ghost use Rattle.isle_printer_layout.specs.ShortLines.{HasShortLines};
 
 pub use isle_printer_layout::printer::laws::{
-    narrower_breaks_more, rendered_text_lexes, rules_give_least_choice,
+    least_choice_is_one, narrower_breaks_more, rendered_text_lexes, rules_give_least_choice,
+    s_expressions_are_compared,
 };
 
 /// A law, which runs no code: the print of spelt definitions, at any width, is spelt by them,

@@ -8,6 +8,9 @@ use isle_printer_rules::printer::patterns::pattern;
 use std::alloc::Global;
 
 impl ToSExpr for Pattern {
+    ghost use Rattle.std.specs.Prelude.{◌≡◌, IfOk, IsErrOf, None, Some, false};
+    ghost use Rattle.isle_printer_layout.specs.SexpView.{sexp_of};
+    ghost use Rattle.isle_printer_layout.specs.declared.printer.sexpr.PrintFault.TheVariants.{MacroArg, Memory};
     ghost use Rattle.isle_ast_rules.specs.MacroArgs.{has_macro_arg};
     ghost use Rattle.isle_ast_rules.specs.TreeView.{pattern_of};
     ghost use Rattle.isle_printer_rules.specs.RuleShapes.{pattern_shape};
@@ -15,7 +18,15 @@ impl ToSExpr for Pattern {
 
     ghost meaning = { λ p. unless (has_macro_arg (pattern_of p)) (pattern_shape (pattern_of p)) };
 
-    fn to_sexpr(&self, alloc: Global) -> Result<SExpr, PrintFault> {
+    fn to_sexpr(&self, alloc: Global) -> Result<SExpr, PrintFault>
+        ensures meant { IfOk result (λ s. unless
+            (has_macro_arg (pattern_of self.now)) (pattern_shape (pattern_of self.now))
+            ≡ Some (sexp_of s)) }
+        ensures refused { IsErrOf result MacroArg
+            → unless (has_macro_arg (pattern_of self.now)) (pattern_shape (pattern_of self.now))
+            ≡ None }
+        ensures memory { IsErrOf result Memory → has_macro_arg (pattern_of self.now) ≡ false }
+    {
         if self.has_macro_arg() {
             return Err(PrintFault::MacroArg);
         }

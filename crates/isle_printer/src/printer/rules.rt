@@ -8,6 +8,9 @@ use isle_printer_rules::printer::rules::{condition, extractor, rule};
 use std::alloc::Global;
 
 impl ToSExpr for IfLet {
+    ghost use Rattle.std.specs.Prelude.{◌≡◌, IfOk, IsErrOf, None, Some, false};
+    ghost use Rattle.isle_printer_layout.specs.SexpView.{sexp_of};
+    ghost use Rattle.isle_printer_layout.specs.declared.printer.sexpr.PrintFault.TheVariants.{MacroArg, Memory};
     ghost use Rattle.isle_ast_rules.specs.MacroArgs.{condition_has_macro_arg};
     ghost use Rattle.isle_ast_rules.specs.TreeView.{condition_of};
     ghost use Rattle.isle_printer_rules.specs.RuleShapes.{condition_shape};
@@ -16,7 +19,15 @@ impl ToSExpr for IfLet {
     ghost meaning = { λ c. unless
         (condition_has_macro_arg (condition_of c)) (condition_shape (condition_of c)) };
 
-    fn to_sexpr(&self, alloc: Global) -> Result<SExpr, PrintFault> {
+    fn to_sexpr(&self, alloc: Global) -> Result<SExpr, PrintFault>
+        ensures meant { IfOk result (λ s. unless
+            (condition_has_macro_arg (condition_of self.now)) (condition_shape (condition_of self.now))
+            ≡ Some (sexp_of s)) }
+        ensures refused { IsErrOf result MacroArg
+            → unless (condition_has_macro_arg (condition_of self.now)) (condition_shape (condition_of self.now))
+            ≡ None }
+        ensures memory { IsErrOf result Memory → condition_has_macro_arg (condition_of self.now) ≡ false }
+    {
         if self.has_macro_arg() {
             return Err(PrintFault::MacroArg);
         }
@@ -25,6 +36,9 @@ impl ToSExpr for IfLet {
 }
 
 impl ToSExpr for Rule {
+    ghost use Rattle.std.specs.Prelude.{◌≡◌, IfOk, IsErrOf, None, Some, false};
+    ghost use Rattle.isle_printer_layout.specs.SexpView.{sexp_of};
+    ghost use Rattle.isle_printer_layout.specs.declared.printer.sexpr.PrintFault.TheVariants.{MacroArg, Memory};
     ghost use Rattle.isle_ast_rules.specs.MacroArgs.{rule_has_macro_arg};
     ghost use Rattle.isle_ast_rules.specs.TreeView.{rule_of};
     ghost use Rattle.isle_printer_rules.specs.RuleShapes.{rule_shape};
@@ -32,7 +46,15 @@ impl ToSExpr for Rule {
 
     ghost meaning = { λ r. unless (rule_has_macro_arg (rule_of r)) (rule_shape (rule_of r)) };
 
-    fn to_sexpr(&self, alloc: Global) -> Result<SExpr, PrintFault> {
+    fn to_sexpr(&self, alloc: Global) -> Result<SExpr, PrintFault>
+        ensures meant { IfOk result (λ s. unless
+            (rule_has_macro_arg (rule_of self.now)) (rule_shape (rule_of self.now))
+            ≡ Some (sexp_of s)) }
+        ensures refused { IsErrOf result MacroArg
+            → unless (rule_has_macro_arg (rule_of self.now)) (rule_shape (rule_of self.now))
+            ≡ None }
+        ensures memory { IsErrOf result Memory → rule_has_macro_arg (rule_of self.now) ≡ false }
+    {
         if self.has_macro_arg() {
             return Err(PrintFault::MacroArg);
         }
@@ -41,6 +63,9 @@ impl ToSExpr for Rule {
 }
 
 impl ToSExpr for Extractor {
+    ghost use Rattle.std.specs.Prelude.{◌≡◌, IfOk, IsErrOf, None, Some, false};
+    ghost use Rattle.isle_printer_layout.specs.SexpView.{sexp_of};
+    ghost use Rattle.isle_printer_layout.specs.declared.printer.sexpr.PrintFault.TheVariants.{MacroArg, Memory};
     ghost use Rattle.isle_ast_rules.specs.MacroArgs.{extractor_has_macro_arg};
     ghost use Rattle.isle_ast_rules.specs.TreeView.{extractor_of};
     ghost use Rattle.isle_printer_rules.specs.RuleShapes.{extractor_shape};
@@ -49,7 +74,15 @@ impl ToSExpr for Extractor {
     ghost meaning = { λ e. unless
         (extractor_has_macro_arg (extractor_of e)) (extractor_shape (extractor_of e)) };
 
-    fn to_sexpr(&self, alloc: Global) -> Result<SExpr, PrintFault> {
+    fn to_sexpr(&self, alloc: Global) -> Result<SExpr, PrintFault>
+        ensures meant { IfOk result (λ s. unless
+            (extractor_has_macro_arg (extractor_of self.now)) (extractor_shape (extractor_of self.now))
+            ≡ Some (sexp_of s)) }
+        ensures refused { IsErrOf result MacroArg
+            → unless (extractor_has_macro_arg (extractor_of self.now)) (extractor_shape (extractor_of self.now))
+            ≡ None }
+        ensures memory { IsErrOf result Memory → extractor_has_macro_arg (extractor_of self.now) ≡ false }
+    {
         if self.has_macro_arg() {
             return Err(PrintFault::MacroArg);
         }
