@@ -186,7 +186,7 @@ pub fn report<E: Write>(failure: &Failure, faults: &mut E) -> u8
 pub fn taken_words<R: Env + AllocGlobal>(rt: &R) -> Result<Vec<String>, Failure>
     ensures { IfErr result IsWordsFailure }
 {
-    match env::args(&Unnamed(rt)) {
+    match env::args(&(Unnamed(rt), rt.alloc())) {
         Ok(args) => Ok(behind_first(args.collect(rt.alloc())?)),
         Err(error) if error.kind() == ErrorKind::OutOfMemory => Err(Failure::Memory),
         Err(_) => Err(Failure::Usage),
@@ -318,14 +318,6 @@ fn write_whole<W: Write>(writer: &mut W, bytes: &[u8]) -> io::Result<()>
 /// A command line whose first word, the program's name, is empty: nothing asks for it, and it need
 /// not be UTF-8.
 struct Unnamed<'a, R>(&'a R);
-
-impl<R: AllocGlobal> Alloc for Unnamed<'_, R> {
-    type A = Global;
-
-    fn alloc(&self) -> Global {
-        self.0.alloc()
-    }
-}
 
 impl<R: Env> Env for Unnamed<'_, R> {
     fn arg(&self, i: usize, buf: &mut [u8]) -> Result<usize, FillError> {
