@@ -317,6 +317,7 @@ fn write_whole<W: Write>(writer: &mut W, bytes: &[u8]) -> io::Result<()>
 
 /// A command line whose first word, the program's name, is empty: nothing asks for it, and it need
 /// not be UTF-8.
+#[derive(Drop)]
 struct Unnamed<'a, R>(&'a R);
 
 impl<R: Env> Env for Unnamed<'_, R> {
