@@ -143,7 +143,12 @@ pub fn print_node<N: ToSExpr>(alloc: Global, node: &N, width: usize) -> Result<S
 fn any_has_macro_arg(defs: &[Def]) -> bool
     ensures { result ≡ definitions_have_macro_arg (definitions_of defs.now) }
 {
-    defs.iter().any(|def| def.has_macro_arg())
+    for def in defs {
+        if def.has_macro_arg() {
+            return true;
+        }
+    }
+    false
 }
 
 /// Appends the printed text of definitions to the empty text.

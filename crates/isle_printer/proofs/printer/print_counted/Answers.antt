@@ -30,3 +30,8 @@ pub returns-in_err-put_definitions-clause-unwritable : goal.returns-in_err-put_d
 returns-in_err-put_definitions-clause-unwritable c is writable =
     let holds : definitions_have_macro_arg (definitions_of c.args.defs.now) ≡ true = search rules in
     macro_arg-unwritable _ holds writable
+
+pub returns-then-any_has_macro_arg-clause-unwritable : goal.returns-then-any_has_macro_arg-clause-unwritable
+returns-then-any_has_macro_arg-clause-unwritable c is writable =
+    let holds : definitions_have_macro_arg (definitions_of c.args.defs.now) ≡ true = search rules in
+    macro_arg-unwritable _ holds writable
