@@ -2,7 +2,7 @@
 
 use isle_syntax::error::{Error, Errors, ErrorsBuilder, Span};
 use isle_syntax::files::Files;
-use isle_syntax::lexer::Pos;
+use isle_syntax::lexer::{Fault, Lexer, Pos};
 use std::alloc::{AllocError, Global};
 use std::fmt::{self, Write};
 use std::ops::Range;
@@ -115,6 +115,42 @@ fn accepted_errors(rt: HostRuntime) -> Result<(), Fail> {
     assert!(rt; is_accepted(alloc, Span::new_single(Pos::new(0, 100)))?);
     assert!(rt; !is_accepted(alloc, Span::new_single(Pos::new(1, 0)))?);
     assert!(rt; !is_accepted(alloc, past)?);
+    Ok(())
+}
+
+#[test]
+fn shows_errors_whatever_the_options(rt: HostRuntime) -> Result<(), Fail> {
+    let alloc = rt.alloc();
+    let builder = two_errors(alloc)?;
+    assert!(rt; builder.is_buildable());
+    let errors = builder.build();
+    assert_eq!(rt; format!(in alloc; "{errors:#}")?.as_str(), SHOWN);
+    assert_eq!(rt; format!(in alloc; "{errors:>9}")?.as_str(), SHOWN);
+    assert_eq!(rt; format!(in alloc; "{errors:.3}")?.as_str(), SHOWN);
+    Ok(())
+}
+
+/// Whether the errors, which are in file 3, can be shown with so many files.
+fn are_accepted_with(alloc: Global, errors: &[Error], count: usize) -> Result<bool, AllocError> {
+    let mut pairs = Vec::new(alloc);
+    for _ in 0..count {
+        pairs.push(("a.isle".to_string(alloc)?, "a 12ab".to_string(alloc)?))?;
+    }
+    let files = Files::from_names_and_contents(alloc, pairs)?;
+    Ok(Errors::accepts(errors, &files))
+}
+
+#[test]
+fn errors_in_the_fourth_file_want_four(rt: HostRuntime) -> Result<(), Fail> {
+    let alloc = rt.alloc();
+    let mut lexer = Lexer::new(alloc, 3, "a 12ab").ok().ok_or("a token")?;
+    let refused = match lexer.next(alloc) {
+        Err(Fault::Error(error)) => vec![in alloc; error]?,
+        _ => return Err("the text is refused".into()),
+    };
+    assert!(rt; !are_accepted_with(alloc, &refused, 1)?);
+    assert!(rt; !are_accepted_with(alloc, &refused, 3)?);
+    assert!(rt; are_accepted_with(alloc, &refused, 4)?);
     Ok(())
 }
 

@@ -1,7 +1,7 @@
 //! S-expressions of a caller's own, and nodes that no text gives.
 
 use isle_calls_nodes::{condition, extractor, ident, macro_arg, pos, rule, term, wildcard};
-use isle_syntax::ast::{Def, Pattern, SpecExpr, SpecOp};
+use isle_syntax::ast::{Converter, Def, Pattern, SpecExpr, SpecOp};
 use isle_syntax::printer::{PrintFault, SExpr, ToSExpr, print, print_node};
 use std::alloc::{AllocError, Global};
 use std::test::Fail;
@@ -48,6 +48,22 @@ fn lays_out_bindings_and_empty_lists(rt: HostRuntime) -> Result<(), Fail> {
     let nested = Fixed(SExpr::List(vec![in alloc; empty]?));
     assert_eq!(rt; print_node(alloc, &nested, 3)?.as_str(), "(())");
     assert_eq!(rt; print_node(alloc, &nested, 2)?.as_str(), "(()\n)");
+    Ok(())
+}
+
+#[test]
+fn s_expressions_of_a_conversion_and_a_condition(rt: HostRuntime) -> Result<(), Fail> {
+    let alloc = rt.alloc();
+    let converter = Converter {
+        term: ident(alloc, "c")?,
+        inner_ty: ident(alloc, "A")?,
+        outer_ty: ident(alloc, "B")?,
+        pos: pos(),
+    };
+    let want = atoms(alloc, &["convert", "A", "B", "c"])?;
+    assert!(rt; converter.to_sexpr(alloc)? == want);
+    let want = atoms(alloc, &["if-let", "_", "true"])?;
+    assert!(rt; condition(wildcard()).to_sexpr(alloc)? == want);
     Ok(())
 }
 

@@ -1,21 +1,26 @@
 //! Which trees built by hand are written so that they read back: for each condition a tree that
 //! breaks it, and one near it that does not.
 
-use isle_calls_nodes::{ident, is_writable, pos};
+use isle_calls_nodes::{are_told, ident, is_told, pos};
 use isle_syntax::ast::{
     Attr, AttrTarget, Converter, Decl, Def, Extern, Fields, Form, Instantiation, Model, ModelField,
     ModelType, ModelValue, Signature, StructField, StructFields, TupleField, TupleFields, TypeDef,
-    TypeValue, writable,
+    TypeValue, Variant, writable,
 };
 use std::alloc::{AllocError, Global};
 
-fn converter(alloc: Global, term: &str) -> Result<Def, AllocError> {
+/// `(convert A OUTER TERM)`
+fn conversion(alloc: Global, outer: &str, term: &str) -> Result<Def, AllocError> {
     Ok(Def::Converter(Converter {
         term: ident(alloc, term)?,
         inner_ty: ident(alloc, "A")?,
-        outer_ty: ident(alloc, "B")?,
+        outer_ty: ident(alloc, outer)?,
         pos: pos(),
     }))
+}
+
+fn converter(alloc: Global, term: &str) -> Result<Def, AllocError> {
+    conversion(alloc, "B", term)
 }
 
 fn converters(alloc: Global, terms: &[&str]) -> Result<Vec<Def>, AllocError> {
@@ -30,8 +35,9 @@ fn converters(alloc: Global, terms: &[&str]) -> Result<Vec<Def>, AllocError> {
 fn each_definition_is(rt: HostRuntime) -> Result<(), AllocError> {
     let alloc = rt.alloc();
     assert!(rt; writable(&[]));
-    assert!(rt; writable(&converters(alloc, &["a", "b"])?));
-    assert!(rt; !writable(&converters(alloc, &["a", "1"])?));
+    assert!(rt; are_told(alloc, Vec::new(alloc), true));
+    assert!(rt; are_told(alloc, converters(alloc, &["a", "b"])?, true));
+    assert!(rt; are_told(alloc, converters(alloc, &["a", "1"])?, false));
     Ok(())
 }
 
@@ -45,9 +51,24 @@ fn names_are_identifiers(rt: HostRuntime) -> Result<(), AllocError> {
         ("1a", false),
         ("a-b", false),
         ("a b", false),
+        ("c) (convert A B c", false),
     ] {
-        let answer = is_writable(converter(rt.alloc(), term)?);
-        assert_eq!(rt; answer, want, "at {term}");
+        let def = converter(rt.alloc(), term)?;
+        assert!(rt; is_told(rt.alloc(), def, want)?, "at {term}");
+    }
+    Ok(())
+}
+
+#[test]
+fn names_hold_no_comment_and_no_blank(rt: HostRuntime) -> Result<(), AllocError> {
+    for (outer, want) in [
+        ("B", true),
+        ("B;x", false),
+        ("B\n", false),
+        ("B(;;)", false),
+    ] {
+        let def = conversion(rt.alloc(), outer, "c")?;
+        assert!(rt; is_told(rt.alloc(), def, want)?, "at {outer}");
     }
     Ok(())
 }
@@ -86,18 +107,46 @@ fn placed(alloc: Global, places: &[usize]) -> Result<Def, AllocError> {
     struct_type(alloc, Fields::Tuple(TupleFields { fields, pos: pos() }))
 }
 
+/// `(type A (enum (B FIELD..)))`
+fn enum_type(alloc: Global, fields: Fields) -> Result<Def, AllocError> {
+    let variant = Variant {
+        name: ident(alloc, "B")?,
+        fields,
+        pos: pos(),
+    };
+    Ok(Def::TypeDef(TypeDef {
+        name: ident(alloc, "A")?,
+        is_extern: false,
+        is_nodebug: false,
+        ty: TypeValue::Enum(vec![in alloc; variant]?, pos()),
+        pos: pos(),
+    }))
+}
+
+#[test]
+fn fields_of_variants_are_some(rt: HostRuntime) -> Result<(), AllocError> {
+    let alloc = rt.alloc();
+    assert!(rt; is_told(alloc, enum_type(alloc, Fields::Unit)?, true)?);
+    let fields = StructFields {
+        fields: Vec::new(alloc),
+        pos: pos(),
+    };
+    assert!(rt; is_told(alloc, enum_type(alloc, Fields::Struct(fields))?, false)?);
+    Ok(())
+}
+
 #[test]
 fn fields_are_some_and_at_their_places(rt: HostRuntime) -> Result<(), AllocError> {
     let alloc = rt.alloc();
-    assert!(rt; struct_type(alloc, Fields::Unit)?.is_writable());
-    assert!(rt; !named(alloc, &[])?.is_writable());
-    assert!(rt; named(alloc, &["f", "f"])?.is_writable());
-    assert!(rt; !named(alloc, &["f", "?"])?.is_writable());
-    assert!(rt; !placed(alloc, &[])?.is_writable());
-    assert!(rt; placed(alloc, &[0, 1, 2])?.is_writable());
-    assert!(rt; !placed(alloc, &[1])?.is_writable());
-    assert!(rt; !placed(alloc, &[0, 2])?.is_writable());
-    assert!(rt; !placed(alloc, &[0, 0])?.is_writable());
+    assert!(rt; is_told(alloc, struct_type(alloc, Fields::Unit)?, true)?);
+    assert!(rt; is_told(alloc, named(alloc, &[])?, false)?);
+    assert!(rt; is_told(alloc, named(alloc, &["f", "f"])?, true)?);
+    assert!(rt; is_told(alloc, named(alloc, &["f", "?"])?, false)?);
+    assert!(rt; is_told(alloc, placed(alloc, &[])?, false)?);
+    assert!(rt; is_told(alloc, placed(alloc, &[0, 1, 2])?, true)?);
+    assert!(rt; is_told(alloc, placed(alloc, &[1])?, false)?);
+    assert!(rt; is_told(alloc, placed(alloc, &[0, 2])?, false)?);
+    assert!(rt; is_told(alloc, placed(alloc, &[0, 0])?, false)?);
     Ok(())
 }
 
@@ -125,6 +174,8 @@ fn words_of_flags_want_flags(rt: HostRuntime) -> Result<(), AllocError> {
     let rec = [false, false, false, true];
     for (term, flags, want) in [
         ("f", none, true),
+        ("", none, false),
+        ("a b", none, false),
         ("pure", none, false),
         ("pure", pure, true),
         ("pure", rec, true),
@@ -138,7 +189,7 @@ fn words_of_flags_want_flags(rt: HostRuntime) -> Result<(), AllocError> {
         ("rec", rec, true),
     ] {
         let def = decl(rt.alloc(), term, flags)?;
-        assert_eq!(rt; def.is_writable(), want, "at {term}");
+        assert!(rt; is_told(rt.alloc(), def, want)?, "at {term}");
     }
     Ok(())
 }
@@ -154,9 +205,27 @@ fn attr(alloc: Global, target: AttrTarget) -> Def {
 #[test]
 fn targets_are_not_read_as_rules(rt: HostRuntime) -> Result<(), AllocError> {
     let alloc = rt.alloc();
-    assert!(rt; attr(alloc, AttrTarget::Term(ident(alloc, "f")?)).is_writable());
-    assert!(rt; !attr(alloc, AttrTarget::Term(ident(alloc, "rule")?)).is_writable());
-    assert!(rt; attr(alloc, AttrTarget::Rule(ident(alloc, "rule")?)).is_writable());
+    assert!(rt;
+        is_told(
+            alloc,
+            attr(alloc, AttrTarget::Term(ident(alloc, "f")?)),
+            true
+        )?
+    );
+    assert!(rt;
+        is_told(
+            alloc,
+            attr(alloc, AttrTarget::Term(ident(alloc, "rule")?)),
+            false
+        )?
+    );
+    assert!(rt;
+        is_told(
+            alloc,
+            attr(alloc, AttrTarget::Rule(ident(alloc, "rule")?)),
+            true
+        )?
+    );
     Ok(())
 }
 
@@ -207,7 +276,7 @@ fn instantiations_are_of_a_form_or_of_signatures(rt: HostRuntime) -> Result<(), 
         (false, 1, 1, false),
     ] {
         let def = instantiation(rt.alloc(), form, signatures, tags)?;
-        assert_eq!(rt; def.is_writable(), want);
+        assert!(rt; is_told(rt.alloc(), def, want)?);
     }
     Ok(())
 }
@@ -220,7 +289,7 @@ fn parts_of_models_are_writable(rt: HostRuntime) -> Result<(), AllocError> {
         signatures: vec![in alloc; signature(alloc)?]?,
         pos: pos(),
     });
-    assert!(rt; form.is_writable());
+    assert!(rt; is_told(alloc, form, true)?);
     for (name, want) in [("M", true), ("1", false)] {
         let field = ModelField {
             name: ident(alloc, "f")?,
@@ -230,7 +299,7 @@ fn parts_of_models_are_writable(rt: HostRuntime) -> Result<(), AllocError> {
             name: ident(alloc, "A")?,
             val: ModelValue::TypeValue(ModelType::Struct(vec![in alloc; field]?)),
         });
-        assert_eq!(rt; model.is_writable(), want, "at {name}");
+        assert!(rt; is_told(rt.alloc(), model, want)?, "at {name}");
     }
     Ok(())
 }
@@ -249,7 +318,7 @@ fn infallible_wants_the_flag(rt: HostRuntime) -> Result<(), AllocError> {
             pos: pos(),
             infallible,
         });
-        assert_eq!(rt; outside.is_writable(), want, "at {term}");
+        assert!(rt; is_told(rt.alloc(), outside, want)?, "at {term}");
     }
     Ok(())
 }
@@ -263,7 +332,7 @@ fn constants_are_identifiers_behind_a_dollar(rt: HostRuntime) -> Result<(), Allo
             ty: ident(alloc, "T")?,
             pos: pos(),
         });
-        assert_eq!(rt; outside.is_writable(), want, "at {name}");
+        assert!(rt; is_told(rt.alloc(), outside, want)?, "at {name}");
     }
     Ok(())
 }

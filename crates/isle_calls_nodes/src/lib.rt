@@ -1,9 +1,10 @@
 //! Trees of texts, and nodes by hand, which the crates of tests share.
 #![tactic(auto)]
 
-use isle_syntax::ast::{Def, Expr, Extractor, Ident, IfLet, Pattern, Rule};
+use isle_syntax::ast::{Def, Expr, Extractor, Ident, IfLet, Pattern, Rule, writable};
 use isle_syntax::lexer::{Lexer, Pos};
 use isle_syntax::parser::{parse, parse_without_pos};
+use isle_syntax::printer::print;
 use std::alloc::{AllocError, Global};
 
 /// The definitions of a text, without positions.
@@ -85,9 +86,28 @@ pub fn extractor(alloc: Global, template: Pattern) -> Result<Extractor, AllocErr
     })
 }
 
-/// Whether a definition is writable, which ends here.
-pub fn is_writable(def: Def) -> bool {
-    let answer = def.is_writable();
-    drop(def);
+/// Whether the print of definitions at a width spells them and no others; `None` where they have no
+/// print.
+fn reads_back(alloc: Global, defs: &Vec<Def>, width: usize) -> Option<bool> {
+    let text = print(alloc, defs, width).ok()?;
+    let read = read(alloc, &text);
+    let answer = matches!(&read, Some(read) if *read == *defs);
+    drop(read);
+    Some(answer)
+}
+
+/// Whether definitions, which end here, are writable as wanted, and their print, at widths from the
+/// least to the greatest, reads back exactly if they are.
+pub fn are_told(alloc: Global, defs: Vec<Def>, want: bool) -> bool {
+    let mut answer = writable(&defs) == want;
+    for width in [0, 5, 78, usize::MAX] {
+        answer = answer && reads_back(alloc, &defs, width) == Some(want);
+    }
+    drop(defs);
     answer
+}
+
+/// The same of one definition.
+pub fn is_told(alloc: Global, def: Def, want: bool) -> Result<bool, AllocError> {
+    Ok(are_told(alloc, vec![in alloc; def]?, want))
 }

@@ -1,6 +1,6 @@
 //! Rules, their patterns and their expressions.
 
-use isle_calls_nodes::{ident, is_writable, pos};
+use isle_calls_nodes::{ident, is_told, pos};
 use isle_syntax::ast::{Def, Expr, Ident, IfLet, LetDef, Pattern, Rule};
 use std::alloc::{AllocError, Global};
 
@@ -43,13 +43,15 @@ fn rule(
     })
 }
 
-/// Whether a pattern is writable, as that of a rule with a priority and without a name.
-fn is_pattern(alloc: Global, pattern: Pattern) -> Result<bool, AllocError> {
-    Ok(is_writable(rule(pattern, value(alloc, "e")?, Some(-1), None, alloc)))
+/// Whether a pattern is told to be writable as wanted, as that of a rule with a priority and without
+/// a name.
+fn is_pattern(alloc: Global, pattern: Pattern, want: bool) -> Result<bool, AllocError> {
+    let def = rule(pattern, value(alloc, "e")?, Some(-1), None, alloc);
+    is_told(alloc, def, want)
 }
 
-/// Whether an expression is writable, as that of a condition.
-fn is_expr(alloc: Global, expr: Expr) -> Result<bool, AllocError> {
+/// Whether an expression is told to be writable as wanted, as that of a condition.
+fn is_expr(alloc: Global, expr: Expr, want: bool) -> Result<bool, AllocError> {
     let iflet = IfLet {
         pattern: Pattern::Wildcard { pos: pos() },
         expr,
@@ -63,36 +65,39 @@ fn is_expr(alloc: Global, expr: Expr) -> Result<bool, AllocError> {
         prio: None,
         name: Some(ident(alloc, "r")?),
     };
-    Ok(is_writable(Def::Rule(rule)))
+    is_told(alloc, Def::Rule(rule), want)
 }
 
-/// Whether a rule with this pattern is writable: with a priority or not, and with a name or not.
+/// Whether a rule with this pattern, with a priority or not, and with a name or not, is told to be
+/// writable as wanted.
 fn is_rule(
     alloc: Global,
     pattern: Pattern,
     prio: Option<i64>,
     name: Option<&str>,
+    want: bool,
 ) -> Result<bool, AllocError> {
     let name = match name {
         Some(name) => Some(ident(alloc, name)?),
         None => None,
     };
-    Ok(is_writable(rule(pattern, value(alloc, "e")?, prio, name, alloc)))
+    let def = rule(pattern, value(alloc, "e")?, prio, name, alloc);
+    is_told(alloc, def, want)
 }
 
 #[test]
 fn a_variable_is_not_read_as_a_name(rt: HostRuntime) -> Result<(), AllocError> {
     let alloc = rt.alloc();
-    assert!(rt; !is_rule(alloc, var(alloc, "x")?, None, None)?);
-    assert!(rt; is_rule(alloc, var(alloc, "x")?, None, Some("r"))?);
-    assert!(rt; !is_rule(alloc, var(alloc, "x")?, None, Some("1"))?);
-    assert!(rt; is_rule(alloc, var(alloc, "x")?, Some(i64::MIN), None)?);
-    assert!(rt; !is_rule(alloc, Pattern::Wildcard { pos: pos() }, None, None)?);
+    assert!(rt; is_rule(alloc, var(alloc, "x")?, None, None, false)?);
+    assert!(rt; is_rule(alloc, var(alloc, "x")?, None, Some("r"), true)?);
+    assert!(rt; is_rule(alloc, var(alloc, "x")?, None, Some("1"), false)?);
+    assert!(rt; is_rule(alloc, var(alloc, "x")?, Some(i64::MIN), None, true)?);
+    assert!(rt; is_rule(alloc, Pattern::Wildcard { pos: pos() }, None, None, false)?);
     let and = Pattern::And {
         subpats: Vec::new(alloc),
         pos: pos(),
     };
-    assert!(rt; is_rule(alloc, and, None, None)?);
+    assert!(rt; is_rule(alloc, and, None, None, true)?);
     Ok(())
 }
 
@@ -105,7 +110,7 @@ fn an_integer_is_not_read_as_a_priority(rt: HostRuntime) -> Result<(), AllocErro
         (Some(3), Some("r"), true),
     ] {
         let five = Pattern::ConstInt { val: 5, pos: pos() };
-        assert_eq!(rt; is_rule(rt.alloc(), five, prio, name)?, want);
+        assert!(rt; is_rule(rt.alloc(), five, prio, name, want)?);
     }
     Ok(())
 }
@@ -115,9 +120,16 @@ fn a_rule_gives_no_term_named_if(rt: HostRuntime) -> Result<(), AllocError> {
     let alloc = rt.alloc();
     for (term, want) in [("if", false), ("if_let", true)] {
         let def = rule(var(alloc, "x")?, call(alloc, term)?, Some(0), None, alloc);
-        assert_eq!(rt; def.is_writable(), want, "at {term}");
+        assert!(rt; is_told(alloc, def, want)?, "at {term}");
     }
-    assert!(rt; is_expr(alloc, call(alloc, "if")?)?);
+    assert!(rt; is_expr(alloc, call(alloc, "if")?, true)?);
+    let inside = Expr::Term {
+        sym: ident(alloc, "f")?,
+        args: vec![in alloc; call(alloc, "if")?]?,
+        pos: pos(),
+    };
+    let def = rule(var(alloc, "x")?, inside, Some(0), None, alloc);
+    assert!(rt; is_told(alloc, def, true)?);
     Ok(())
 }
 
@@ -134,13 +146,13 @@ fn variables_of_patterns_are_no_other_words(rt: HostRuntime) -> Result<(), Alloc
         ("$x", false),
         ("1", false),
     ] {
-        assert_eq!(rt; is_pattern(alloc, var(alloc, name)?)?, want, "at {name}");
+        assert!(rt; is_pattern(alloc, var(alloc, name)?, want)?, "at {name}");
         let bound = Pattern::BindPattern {
             var: ident(alloc, name)?,
             subpat: Box::new(alloc, Pattern::Wildcard { pos: pos() })?,
             pos: pos(),
         };
-        assert_eq!(rt; is_pattern(alloc, bound)?, want, "at {name} @ _");
+        assert!(rt; is_pattern(alloc, bound, want)?, "at {name} @ _");
     }
     Ok(())
 }
@@ -159,13 +171,13 @@ fn terms_of_patterns_are_not_and(rt: HostRuntime) -> Result<(), AllocError> {
             args: vec![in alloc; var(alloc, argument)?]?,
             pos: pos(),
         };
-        assert_eq!(rt; is_pattern(alloc, pattern)?, want, "at {term}");
+        assert!(rt; is_pattern(alloc, pattern, want)?, "at {term}");
     }
     let and = Pattern::And {
         subpats: vec![in alloc; var(alloc, "_")?]?,
         pos: pos(),
     };
-    assert!(rt; !is_pattern(alloc, and)?);
+    assert!(rt; is_pattern(alloc, and, false)?);
     Ok(())
 }
 
@@ -176,6 +188,7 @@ fn constants_are_identifiers_behind_a_dollar(rt: HostRuntime) -> Result<(), Allo
         ("C", true),
         ("", true),
         ("1", true),
+        ("1a", true),
         ("é", true),
         ("!", false),
     ] {
@@ -184,9 +197,9 @@ fn constants_are_identifiers_behind_a_dollar(rt: HostRuntime) -> Result<(), Allo
             val: val.clone()?,
             pos: pos(),
         };
-        assert_eq!(rt; is_pattern(alloc, pattern)?, want, "at {name}");
+        assert!(rt; is_pattern(alloc, pattern, want)?, "at {name}");
         let expr = Expr::ConstPrim { val, pos: pos() };
-        assert_eq!(rt; is_expr(alloc, expr)?, want, "at {name}");
+        assert!(rt; is_expr(alloc, expr, want)?, "at {name}");
     }
     Ok(())
 }
@@ -202,7 +215,7 @@ fn variables_of_expressions_are_no_other_words(rt: HostRuntime) -> Result<(), Al
         ("false", false),
         ("$x", false),
     ] {
-        assert_eq!(rt; is_expr(alloc, value(alloc, name)?)?, want, "at {name}");
+        assert!(rt; is_expr(alloc, value(alloc, name)?, want)?, "at {name}");
     }
     Ok(())
 }
@@ -210,8 +223,8 @@ fn variables_of_expressions_are_no_other_words(rt: HostRuntime) -> Result<(), Al
 #[test]
 fn terms_of_expressions_are_not_let(rt: HostRuntime) -> Result<(), AllocError> {
     let alloc = rt.alloc();
-    assert!(rt; is_expr(alloc, call(alloc, "and")?)?);
-    assert!(rt; !is_expr(alloc, call(alloc, "let")?)?);
+    assert!(rt; is_expr(alloc, call(alloc, "and")?, true)?);
+    assert!(rt; is_expr(alloc, call(alloc, "let")?, false)?);
     for (name, ty, val, want) in [
         ("x", "T", "y", true),
         ("_", "T", "y", true),
@@ -230,7 +243,7 @@ fn terms_of_expressions_are_not_let(rt: HostRuntime) -> Result<(), AllocError> {
             body: Box::new(alloc, value(alloc, "x")?)?,
             pos: pos(),
         };
-        assert_eq!(rt; is_expr(alloc, expr)?, want);
+        assert!(rt; is_expr(alloc, expr, want)?);
     }
     Ok(())
 }

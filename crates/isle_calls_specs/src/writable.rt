@@ -1,19 +1,19 @@
 //! Specs, their macros and states, and constants of models.
 
-use isle_calls_nodes::{ident, is_writable, pos};
+use isle_calls_nodes::{ident, is_told, pos};
 use isle_syntax::ast::{
     Arm, Def, FieldInit, Model, ModelType, ModelValue, Modifies, Spec, SpecExpr, SpecMacro, SpecOp,
     State,
 };
 use std::alloc::{AllocError, Global};
 
-/// Whether a spec expression is writable, as the constant of a model.
-fn is_spec(alloc: Global, expr: SpecExpr) -> Result<bool, AllocError> {
+/// Whether a spec expression is told to be writable as wanted, as the constant of a model.
+fn is_spec(alloc: Global, expr: SpecExpr, want: bool) -> Result<bool, AllocError> {
     let model = Def::Model(Model {
         name: ident(alloc, "A")?,
         val: ModelValue::ConstValue(expr),
     });
-    Ok(is_writable(model))
+    is_told(alloc, model, want)
 }
 
 fn var(alloc: Global, name: &str) -> Result<SpecExpr, AllocError> {
@@ -56,7 +56,7 @@ fn variables_are_no_booleans(rt: HostRuntime) -> Result<(), AllocError> {
         ("false", false),
         ("1", false),
     ] {
-        assert_eq!(rt; is_spec(alloc, var(alloc, name)?)?, want, "at {name}");
+        assert!(rt; is_spec(alloc, var(alloc, name)?, want)?, "at {name}");
     }
     Ok(())
 }
@@ -72,15 +72,30 @@ fn bit_vectors_have_their_bits(rt: HostRuntime) -> Result<(), AllocError> {
         (u128::MAX, 127, false),
         (u128::MAX, 128, true),
         (u128::MAX, 129, true),
-        (7, usize::MAX, true),
+        (1, 200, true),
     ] {
         let expr = SpecExpr::ConstBitVec {
             val,
             width,
             pos: pos(),
         };
-        assert_eq!(rt; is_spec(rt.alloc(), expr)?, want, "at {val} of {width}");
+        assert!(rt; is_spec(rt.alloc(), expr, want)?, "at {val} of {width}");
     }
+    Ok(())
+}
+
+/// Its text is longer than any memory, so it is told without one.
+#[test]
+fn the_widest_bit_vector_is_writable(rt: HostRuntime) -> Result<(), AllocError> {
+    let model = Def::Model(Model {
+        name: ident(rt.alloc(), "A")?,
+        val: ModelValue::ConstValue(SpecExpr::ConstBitVec {
+            val: 7,
+            width: usize::MAX,
+            pos: pos(),
+        }),
+    });
+    assert!(rt; model.is_writable());
     Ok(())
 }
 
@@ -88,46 +103,59 @@ fn bit_vectors_have_their_bits(rt: HostRuntime) -> Result<(), AllocError> {
 fn a_minus_is_never_an_operator(rt: HostRuntime) -> Result<(), AllocError> {
     let alloc = rt.alloc();
     let add = op(SpecOp::Add, vec![in alloc; var(alloc, "x")?]?);
-    assert!(rt; is_spec(alloc, add)?);
-    assert!(rt; is_spec(alloc, op(SpecOp::FPPositiveInfinity, Vec::new(alloc)))?);
+    assert!(rt; is_spec(alloc, add, true)?);
+    assert!(rt; is_spec(alloc, op(SpecOp::FPPositiveInfinity, Vec::new(alloc)), true)?);
     let sub = op(SpecOp::Sub, vec![in alloc; var(alloc, "x")?]?);
-    assert!(rt; !is_spec(alloc, sub)?);
+    assert!(rt; is_spec(alloc, sub, false)?);
     let inner = op(SpecOp::And, vec![in alloc; var(alloc, "true")?]?);
-    assert!(rt; !is_spec(alloc, inner)?);
+    assert!(rt; is_spec(alloc, inner, false)?);
     Ok(())
 }
 
-/// Whether a `switch` of these arguments is writable.
-fn is_switch(alloc: Global, args: Vec<SpecExpr>) -> Result<bool, AllocError> {
-    is_spec(alloc, op(SpecOp::Switch, args))
+/// Whether a `switch` of these arguments is told to be writable as wanted.
+fn is_switch(alloc: Global, args: Vec<SpecExpr>, want: bool) -> Result<bool, AllocError> {
+    is_spec(alloc, op(SpecOp::Switch, args), want)
 }
 
 #[test]
 fn a_switch_has_an_argument_and_pairs(rt: HostRuntime) -> Result<(), AllocError> {
     let alloc = rt.alloc();
     let cases = vec![in alloc; var(alloc, "x")?, case(alloc, "y")?, case(alloc, "z")?]?;
-    assert!(rt; is_switch(alloc, cases)?);
+    assert!(rt; is_switch(alloc, cases, true)?);
     let alone = vec![in alloc; var(alloc, "x")?]?;
-    assert!(rt; is_switch(alloc, alone)?);
-    assert!(rt; !is_switch(alloc, Vec::new(alloc))?);
+    assert!(rt; is_switch(alloc, alone, true)?);
+    assert!(rt; is_switch(alloc, Vec::new(alloc), false)?);
     let first = vec![in alloc; case(alloc, "y")?]?;
-    assert!(rt; !is_switch(alloc, first)?);
+    assert!(rt; is_switch(alloc, first, false)?);
     let other = vec![in alloc; var(alloc, "x")?, case(alloc, "y")?, var(alloc, "z")?]?;
-    assert!(rt; !is_switch(alloc, other)?);
+    assert!(rt; is_switch(alloc, other, false)?);
     Ok(())
 }
 
 #[test]
 fn pairs_are_writable_and_stand_nowhere_else(rt: HostRuntime) -> Result<(), AllocError> {
     let alloc = rt.alloc();
-    assert!(rt; !is_spec(alloc, case(alloc, "y")?)?);
+    assert!(rt; is_spec(alloc, case(alloc, "y")?, false)?);
     let elsewhere = vec![in alloc; var(alloc, "x")?, case(alloc, "y")?]?;
-    assert!(rt; !is_spec(alloc, op(SpecOp::And, elsewhere))?);
+    assert!(rt; is_spec(alloc, op(SpecOp::And, elsewhere), false)?);
     let inside = vec![in alloc; var(alloc, "x")?, case(alloc, "true")?]?;
-    assert!(rt; !is_switch(alloc, inside)?);
+    assert!(rt; is_switch(alloc, inside, false)?);
     let nested = pair(alloc, case(alloc, "y")?, var(alloc, "z")?)?;
     let nested = vec![in alloc; var(alloc, "x")?, nested]?;
-    assert!(rt; !is_switch(alloc, nested)?);
+    assert!(rt; is_switch(alloc, nested, false)?);
+    Ok(())
+}
+
+#[test]
+fn no_pair_reads_as_an_operation_or_is_read_as_one(rt: HostRuntime) -> Result<(), AllocError> {
+    let alloc = rt.alloc();
+    let not_y = pair(alloc, var(alloc, "not")?, var(alloc, "y")?)?;
+    let equal = op(SpecOp::Eq, vec![in alloc; not_y]?);
+    assert!(rt; is_spec(alloc, equal, false)?);
+    let not_y = op(SpecOp::Not, vec![in alloc; var(alloc, "y")?]?);
+    let cases = vec![in alloc; var(alloc, "x")?, not_y]?;
+    assert!(rt; is_switch(alloc, cases, false)?);
+    assert!(rt; is_spec(alloc, op(SpecOp::If, Vec::new(alloc)), true)?);
     Ok(())
 }
 
@@ -150,7 +178,7 @@ fn names_of_enums_have_no_dot_and_make_no_operator(rt: HostRuntime) -> Result<()
             args: Vec::new(alloc),
             pos: pos(),
         };
-        assert_eq!(rt; is_spec(alloc, expr)?, want, "at {name}.{variant}");
+        assert!(rt; is_spec(alloc, expr, want)?, "at {name}.{variant}");
     }
     Ok(())
 }
@@ -234,10 +262,10 @@ fn rows(alloc: Global, name: &str, x: &str) -> Result<Vec<SpecExpr>, AllocError>
     Ok(exprs)
 }
 
-/// Whether each of the expressions is as wanted.
+/// Whether each of the expressions is told to be writable as wanted.
 fn are_all(alloc: Global, exprs: Vec<SpecExpr>, want: bool) -> Result<bool, AllocError> {
     for expr in exprs {
-        if is_spec(alloc, expr)? != want {
+        if !is_spec(alloc, expr, want)? {
             return Ok(false);
         }
     }
@@ -280,9 +308,9 @@ fn spec(alloc: Global, provided: &str, cond: &str) -> Result<Def, AllocError> {
 #[test]
 fn parts_of_definitions_are_writable(rt: HostRuntime) -> Result<(), AllocError> {
     let alloc = rt.alloc();
-    assert!(rt; spec(alloc, "x", "c")?.is_writable());
-    assert!(rt; !spec(alloc, "true", "c")?.is_writable());
-    assert!(rt; !spec(alloc, "x", "1")?.is_writable());
+    assert!(rt; is_told(alloc, spec(alloc, "x", "c")?, true)?);
+    assert!(rt; is_told(alloc, spec(alloc, "true", "c")?, false)?);
+    assert!(rt; is_told(alloc, spec(alloc, "x", "1")?, false)?);
     for (name, value, want) in [("n", "x", true), ("1", "x", false), ("n", "false", false)] {
         let spec_macro = Def::SpecMacro(SpecMacro {
             name: ident(alloc, name)?,
@@ -290,14 +318,14 @@ fn parts_of_definitions_are_writable(rt: HostRuntime) -> Result<(), AllocError> 
             body: var(alloc, value)?,
             pos: pos(),
         });
-        assert_eq!(rt; spec_macro.is_writable(), want);
+        assert!(rt; is_told(alloc, spec_macro, want)?);
         let state = Def::State(State {
             name: ident(alloc, name)?,
             ty: ModelType::BitVec(None),
             default: var(alloc, value)?,
             pos: pos(),
         });
-        assert_eq!(rt; state.is_writable(), want);
+        assert!(rt; is_told(alloc, state, want)?);
     }
     Ok(())
 }
