@@ -151,6 +151,7 @@ fn push_expr(exprs: &mut Vec<Expr>, expr: Expr) -> Result<(), Stop>
 
 /// The definitions of a `let`, in parentheses.
 #[cycle(expression)]
+#[inline(never)]
 #[tactic(auto, unfolding(crate::specs::ExpressionReaders::let_definitions, isle_parser_cursor::specs::Reading::in_parentheses))]
 fn parse_letdefs(cursor: &mut Cursor, alloc: Global) -> Result<Vec<LetDef>, Stop>
     ensures same { source cursor.new ≡ source cursor.old }
