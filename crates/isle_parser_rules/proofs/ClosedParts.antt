@@ -4,10 +4,10 @@ use Rattle.std.specs.Prelude.{codes}
 use Rattle.isle_base.specs.declared.lexer.Pos.{Pos}
 use Rattle.isle_base.specs.Place.{Placed}
 use Rattle.isle_base.specs.Token.{Tok}
-use Rattle.isle_parser_cursor.specs.Reading.{Reader, ◌>>=◌, expect, flag, is_rparen}
+use Rattle.isle_parser_cursor.specs.Reading.{◌>>=◌, expect, flag, is_rparen}
 use Rattle.isle_parser_rules.specs.Closed.{closed}
 use Rattle.isle_parser_rules.specs.ExpressionReaders.{expression, expression_inside}
-use Rattle.isle_parser_rules.specs.RuleReaders.{RulePart, expression_part, expression_behind, match_or_expression, test_or_expression}
+use Rattle.isle_parser_rules.specs.RuleReaders.{expression_part, expression_behind, match_or_expression, test_or_expression}
 
 -- what was read, with the tokens behind a token
 abbrev behind : {A : Type 0} → A → Tok × List Placed → Option (A × List Placed)

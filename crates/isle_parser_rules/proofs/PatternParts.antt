@@ -1,17 +1,16 @@
 -- Patterns, as the code reads them.
-use Rattle.std.proofs.Common.{◌≡◌, Bool, true, false, List, Some, refl, sym, ap, ◌∙◌, rules}
-use Rattle.std.specs.Prelude.{ℕ, ℤ, ◌||◌, codes, if◌then◌else◌}
+use Rattle.std.proofs.Common.{◌≡◌, Bool, true, false, List, Some, refl, rules}
+use Rattle.std.specs.Prelude.{ℕ, ℤ, ◌||◌, codes}
 use Rattle.isle_base.specs.declared.lexer.Pos.{Pos}
 use Rattle.isle_base.specs.Place.{Placed}
-use Rattle.isle_base.specs.Token.{is_int}
 use Rattle.isle_ast_rules.specs.Tree.{int_pattern}
 use Rattle.isle_ast_rules.specs.declared.ast.Pattern.{the_lemmas}
 use Rattle.isle_ast_rules.specs.declared.ast.Pattern.TheVariants.{ConstInt}
 use Rattle.isle_ast_rules.specs.TreeView.{pattern_of}
-use Rattle.isle_parser_cursor.specs.Reading.{flag, is_ahead, is_const, is_word, pos_ahead}
+use Rattle.isle_parser_cursor.specs.Reading.{flag, is_ahead, is_const, is_word}
 use Rattle.isle_parser_cursor.specs.NumberReaders.{signed}
-use Rattle.isle_parser_rules.specs.PatternReaders.{false_pattern, is_fixed, pattern, pattern_step, symbol_pattern, true_pattern, variable_pattern, word_pattern}
-use Rattle.isle_parser_rules.proofs.Reading.Patterns.{int_read, pattern-unfolds}
+use Rattle.isle_parser_rules.specs.PatternReaders.{false_pattern, integer_pattern, is_fixed, pattern, pattern_step, symbol_pattern, true_pattern, variable_pattern, word_pattern}
+use Rattle.isle_parser_rules.proofs.Reading.Patterns.{pattern-unfolds}
 
 -- a pattern is its own step
 pub pattern_is : (all : List Placed) → pattern all ≡ pattern_step pattern all
@@ -21,9 +20,9 @@ int_seen : (val : ℤ) (place : Pos) → pattern_of (ConstInt val place) ≡ int
 int_seen val place = search (rules, the_lemmas)
 
 -- an integer that was taken
-pub int_taken : (all rest : List Placed) (val held : ℤ) (place : Pos) → held ≡ val → true ≡ is_ahead is_int all → place ≡ pos_ahead all → signed 127 all ≡ Some (val, rest) → pattern all ≡ Some (pattern_of (ConstInt held place), rest)
-int_taken all rest val held place same ahead at e =
-    rw (int_seen held place, same, at) (pattern-unfolds all ∙ int_read pattern all rest val (sym ahead) e)
+pub int_taken : (all rest : List Placed) (val held : ℤ) (place : Pos) → held ≡ val → signed 127 all ≡ Some (val, rest) → integer_pattern place all ≡ Some (pattern_of (ConstInt held place), rest)
+unfolding integer_pattern
+int_taken all rest val held place same e = rw (int_seen held place, same, e) refl
 
 -- none of four tests is passed
 none_of : (a b c d : Bool) → false ≡ (a || b || c || d) → (a ≡ false) × (b ≡ false) × (c ≡ false) × (d ≡ false)

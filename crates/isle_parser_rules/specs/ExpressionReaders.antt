@@ -61,6 +61,10 @@ symbol_expression place all =
     then (constant all >>= λ c. Some (constant_expression c.0 place, c.1))
     else word_expression place all
 
+-- an integer
+unfoldable pub integer_expression : Pos → Reader Expression
+integer_expression place all = signed 127 all >>= λ n. Some (int_expression n.0 place, n.1)
+
 -- one layer of an expression, whose parts `read` reads
 unfoldable pub expression_step : Reader Expression → Reader Expression
 expression_step read all =

@@ -53,6 +53,10 @@ symbol_pattern place read all =
     then (constant all >>= λ c. Some (constant_pattern c.0 place, c.1))
     else word_pattern place read all
 
+-- an integer
+unfoldable pub integer_pattern : Pos → Reader PatternNode
+integer_pattern place all = signed 127 all >>= λ n. Some (int_pattern n.0 place, n.1)
+
 -- one layer of a pattern, whose parts `read` reads
 unfoldable pub pattern_step : Reader PatternNode → Reader PatternNode
 pattern_step read all =

@@ -9,10 +9,10 @@ ghost use Rattle.isle_parser_cursor.specs.declared.cursor.Stop.TheVariants.{Memo
 ghost use Rattle.isle_parser_rules.specs.Closed.{closed};
 ghost use Rattle.isle_parser_rules.specs.ExpressionReaders.{expression, expression_inside};
 ghost use Rattle.isle_parser_rules.specs.ExpressionReaders.{let_behind, let_definition};
-ghost use Rattle.isle_parser_rules.specs.ExpressionReaders.{let_definitions};
+ghost use Rattle.isle_parser_rules.specs.ExpressionReaders.{integer_expression, let_definitions};
 ghost use Rattle.isle_parser_rules.specs.ExpressionReaders.{symbol_expression};
 
-use crate::parser::names::{parse_const, take_int};
+use crate::parser::names::parse_const;
 use isle_ast_rules::ast::{Expr, LetDef};
 use isle_base::lexer::Pos;
 use isle_parser_cursor::cursor::{Cursor, Stop};
@@ -22,7 +22,7 @@ use std::alloc::Global;
 // a frame of its own, and what is read stands in few places.
 
 #[cycle(expression)]
-#[tactic(auto, using(crate::proofs::ExpressionParts::expression_is), unfolding(crate::specs::ExpressionReaders::expression_step, isle_parser_cursor::specs::Reading::in_parentheses, crate::specs::Closed::closed))]
+#[tactic(auto, using(crate::proofs::ExpressionParts::expression_is), unfolding(crate::specs::ExpressionReaders::expression_step, crate::specs::ExpressionReaders::integer_expression, isle_parser_cursor::specs::Reading::in_parentheses, crate::specs::Closed::closed))]
 pub(super) fn parse_expr(cursor: &mut Cursor, alloc: Global) -> Result<Expr, Stop>
     ensures same { source cursor.new ≡ source cursor.old }
     ensures gives { Gives expression_of (expression (tokens cursor.old)) result cursor.new }
@@ -36,10 +36,20 @@ pub(super) fn parse_expr(cursor: &mut Cursor, alloc: Global) -> Result<Expr, Sto
         return parse_expr_symbol(cursor, alloc, pos);
     }
     if cursor.is_int() {
-        let val = take_int(cursor, alloc)?;
-        return Ok(Expr::ConstInt { val, pos });
+        return parse_expr_int(cursor, alloc, pos);
     }
     Err(refuse_expr(cursor, alloc))
+}
+
+/// An expression that is an integer, at this position.
+#[inline(never)]
+#[tactic(auto, unfolding(crate::specs::ExpressionReaders::integer_expression))]
+fn parse_expr_int(cursor: &mut Cursor, alloc: Global, pos: Pos) -> Result<Expr, Stop>
+    ensures same { source cursor.new ≡ source cursor.old }
+    ensures gives { Gives expression_of (integer_expression pos (tokens cursor.old)) result cursor.new }
+{
+    let val = cursor.parse_int(alloc)?;
+    Ok(Expr::ConstInt { val, pos })
 }
 
 /// Refuses what is no expression.

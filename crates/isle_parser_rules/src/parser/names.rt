@@ -1,11 +1,10 @@
-//! Names of constants, and integers.
+//! Names of constants, and `@`.
 
 ghost use Rattle.std.specs.Prelude.{◌≡◌, ◌∷◌, string_bytes, true};
 ghost use Rattle.isle_base.specs.Bytes.{dollar};
 ghost use Rattle.isle_base.specs.Token.{at_sign};
 ghost use Rattle.isle_ast_names.specs.TreeView.{name_of};
 ghost use Rattle.isle_ast_names.specs.Words.{is_constant};
-ghost use Rattle.isle_parser_cursor.specs.NumberReaders.{signed};
 ghost use Rattle.isle_parser_cursor.specs.Outcomes.{Gives, source, tokens};
 ghost use Rattle.isle_parser_cursor.specs.Reading.{expect, is_at};
 ghost use Rattle.isle_parser_rules.specs.ConstantReaders.{constant};
@@ -38,15 +37,6 @@ fn behind_dollar(mut text: String) -> String
 {
     text.remove(0);
     text
-}
-
-/// An integer, out of the frame of its caller.
-#[inline(never)]
-pub(super) fn take_int(cursor: &mut Cursor, alloc: Global) -> Result<i128, Stop>
-    ensures same { source cursor.new ≡ source cursor.old }
-    ensures gives { Gives (λ value. value) (signed 127 (tokens cursor.old)) result cursor.new }
-{
-    cursor.parse_int(alloc)
 }
 
 /// Takes off `@`, out of the frame of its caller.

@@ -5,10 +5,11 @@ ghost use Rattle.isle_ast_rules.specs.TreeView.{pattern_of, patterns_of};
 ghost use Rattle.isle_parser_cursor.specs.Outcomes.{Gives, IsRefusal, source, tokens};
 ghost use Rattle.isle_parser_cursor.specs.Reading.{closes, in_parentheses, many};
 ghost use Rattle.isle_parser_cursor.specs.declared.cursor.Stop.TheVariants.{Memory};
-ghost use Rattle.isle_parser_rules.specs.PatternReaders.{is_fixed, pattern, pattern_inside};
+ghost use Rattle.isle_parser_rules.specs.PatternReaders.{integer_pattern, is_fixed, pattern};
+ghost use Rattle.isle_parser_rules.specs.PatternReaders.{pattern_inside};
 ghost use Rattle.isle_parser_rules.specs.PatternReaders.{symbol_pattern, variable_pattern};
 
-use crate::parser::names::{parse_const, take_at, take_int};
+use crate::parser::names::{parse_const, take_at};
 use isle_ast_rules::ast::Pattern;
 use isle_base::lexer::Pos;
 use isle_parser_cursor::cursor::{Cursor, Stop};
@@ -18,15 +19,14 @@ use std::alloc::Global;
 // a frame of its own, and what is read stands in few places.
 
 #[cycle(pattern)]
-#[tactic(auto, using(crate::proofs::PatternParts::pattern_is, crate::proofs::PatternParts::variable_is), unfolding(crate::specs::PatternReaders::pattern_step))]
+#[tactic(auto, using(crate::proofs::PatternParts::pattern_is, crate::proofs::PatternParts::variable_is), unfolding(crate::specs::PatternReaders::pattern_step, crate::specs::PatternReaders::integer_pattern))]
 pub(super) fn parse_pattern(cursor: &mut Cursor, alloc: Global) -> Result<Pattern, Stop>
     ensures same { source cursor.new ≡ source cursor.old }
     ensures gives { Gives pattern_of (pattern (tokens cursor.old)) result cursor.new }
 {
     let pos = cursor.pos();
     if cursor.is_int() {
-        let val = take_int(cursor, alloc)?;
-        return Ok(Pattern::ConstInt { val, pos });
+        return parse_pattern_int(cursor, alloc, pos);
     }
     if cursor.is_sym() {
         if is_fixed(cursor) {
@@ -38,6 +38,17 @@ pub(super) fn parse_pattern(cursor: &mut Cursor, alloc: Global) -> Result<Patter
         return parse_pattern_parens(cursor, alloc, pos);
     }
     Err(refuse_pattern(cursor, alloc))
+}
+
+/// A pattern that is an integer, at this position.
+#[inline(never)]
+#[tactic(auto, unfolding(crate::specs::PatternReaders::integer_pattern))]
+fn parse_pattern_int(cursor: &mut Cursor, alloc: Global, pos: Pos) -> Result<Pattern, Stop>
+    ensures same { source cursor.new ≡ source cursor.old }
+    ensures gives { Gives pattern_of (integer_pattern pos (tokens cursor.old)) result cursor.new }
+{
+    let val = cursor.parse_int(alloc)?;
+    Ok(Pattern::ConstInt { val, pos })
 }
 
 /// Refuses what is no pattern.

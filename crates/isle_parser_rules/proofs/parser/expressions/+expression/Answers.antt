@@ -1,7 +1,5 @@
-use mir.Syntax.{w128}
-use Rattle.std.proofs.Common.{◌≡◌, rules, [], ◌∷◌, ◌++◌, sym, ◌∙◌, arith}
+use Rattle.std.proofs.Common.{◌≡◌, [], ◌∷◌, ◌++◌, sym, ◌∙◌, arith}
 use Rattle.std.specs.Prelude.{codes}
-use Rattle.std.proofs.lemmas.Int.{to_z-of_z}
 use Rattle.std.proofs.lemmas.Result.{err_from_is_err_and}
 use Rattle.std.proofs.lemmas.List.{map_push}
 use Rattle.isle_ast_rules.specs.TreeView.{expression_of, expressions_of, single_let_of, single_lets_of}
@@ -13,13 +11,8 @@ use Rattle.isle_parser_cursor.specs.Reading.{closes, is_lparen, many}
 use Rattle.isle_parser_cursor.proofs.Lengths.{expect_shorter, flag_shorter}
 use Rattle.isle_parser_cursor.proofs.Loops.{loop_push, loop_stops, loop_end}
 use Rattle.isle_parser_cursor.proofs.Names.{name_shrinks}
-use Rattle.isle_parser_rules.proofs.ExpressionParts.{int_taken}
 use Rattle.isle_parser_rules.proofs.Reading.Expressions.{expression_shrinks, let_definition_shrinks, let_definitions_shrink}
 use Rattle.isle_parser_rules.proofs.parser.expressions.+expression.Goals as goal
-
-pub parse_expr-returns-then-is_int-clause-gives : goal.parse_expr-returns-then-is_int-clause-gives
-parse_expr-returns-then-is_int-clause-gives t c =
-    int_taken (tokens c.args.cursor.now) (tokens c.take_int.new.cursor) c.in_ok-val.val _ c.pos-pos.result (to_z-of_z w128 c.in_ok-val.val (search rules)) c.if-is_lparen.ensures c.if-is_sym.ensures c.if-is_int.ensures c.pos-pos.ensures c.in_ok-val.ensures.gives
 
 pub parse_expr_behind_lparen-parse_let-requires : goal.parse_expr_behind_lparen-parse_let-requires
 parse_expr_behind_lparen-parse_let-requires t c =

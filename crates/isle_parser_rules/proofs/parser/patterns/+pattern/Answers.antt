@@ -1,7 +1,5 @@
-use mir.Syntax.{w128}
-use Rattle.std.proofs.Common.{◌≡◌, rules, [], ◌∷◌, ◌++◌, sym, ◌∙◌, arith}
+use Rattle.std.proofs.Common.{◌≡◌, [], ◌∷◌, ◌++◌, sym, ◌∙◌, arith}
 use Rattle.std.specs.Prelude.{codes}
-use Rattle.std.proofs.lemmas.Int.{to_z-of_z}
 use Rattle.std.proofs.lemmas.Result.{err_from_is_err_and}
 use Rattle.std.proofs.lemmas.List.{map_push}
 use Rattle.isle_ast_names.specs.TreeView.{name_of}
@@ -13,13 +11,8 @@ use Rattle.isle_parser_cursor.specs.Reading.{closes, is_at, is_lparen, many}
 use Rattle.isle_parser_cursor.proofs.Lengths.{expect_shorter, flag_shorter}
 use Rattle.isle_parser_cursor.proofs.Loops.{loop_push, loop_stops, loop_end}
 use Rattle.isle_parser_cursor.proofs.Names.{name_shrinks}
-use Rattle.isle_parser_rules.proofs.PatternParts.{int_taken}
 use Rattle.isle_parser_rules.proofs.Reading.Patterns.{pattern_shrinks}
 use Rattle.isle_parser_rules.proofs.parser.patterns.+pattern.Goals as goal
-
-pub parse_pattern-returns-then-is_int-clause-gives : goal.parse_pattern-returns-then-is_int-clause-gives
-parse_pattern-returns-then-is_int-clause-gives t c =
-    int_taken (tokens c.args.cursor.now) (tokens c.take_int.new.cursor) c.in_ok-val.val _ c.pos-pos.result (to_z-of_z w128 c.in_ok-val.val (search rules)) c.if-is_int.ensures c.pos-pos.ensures c.in_ok-val.ensures.gives
 
 pub parse_pattern_parens-parse_patterns-requires : goal.parse_pattern_parens-parse_patterns-requires
 parse_pattern_parens-parse_patterns-requires t c =
