@@ -95,8 +95,8 @@ pub(super) fn parse_expr_behind_lparen(
     pos: Pos,
 ) -> Result<Expr, Stop>
     ensures same { source cursor.new ≡ source cursor.old }
-    ensures gives { Gives expression_of (closed (expression_inside pos expression) (tokens cursor.old))
-        result cursor.new }
+    ensures gives { Gives expression_of
+        (closed (expression_inside pos expression) (tokens cursor.old)) result cursor.new }
 {
     if cursor.eat_sym_str(alloc, "let")? {
         return parse_let(cursor, alloc, pos);
