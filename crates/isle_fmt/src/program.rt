@@ -195,7 +195,7 @@ pub fn taken_words<R: Env + AllocGlobal>(rt: &R) -> Result<Vec<String>, Failure>
 
 /// The arguments behind the first, which is the program's name.
 fn behind_first(mut args: Vec<String>) -> Vec<String>
-    ensures { result.items ≡ drop 1 args.entry.items }
+    ensures { result.items ≡ drop 1 args.items }
 {
     if !args.is_empty() {
         drop(args.remove(0));
