@@ -117,10 +117,11 @@ fn lexers(alloc: Global, text: &str, lexer: Lexer, mut failed: Lexer) -> bool {
     };
     let is_ahead = lexer.pos().offset <= text.len() && !lexer.eof();
     let bytes = text.as_bytes();
-    let lanes = symbol_end(bytes, 0) + blank_end(bytes, 0) + line_comment_end(bytes, 0);
+    let is_symbol_end = symbol_end(bytes, 0) <= text.len();
+    let are_ends = blank_end(bytes, 0) == 0 && line_comment_end(bytes, 0) <= text.len();
     let is_failed = !failed.eof() && matches!(failed.next(alloc), Err(Fault::Failed));
     drop(Parser::new(lexer));
-    is_token && is_symbol && is_ahead && lanes <= 3 * text.len() && is_failed
+    is_token && is_symbol && is_ahead && is_symbol_end && are_ends && is_failed
 }
 
 /// The calls of trees.
