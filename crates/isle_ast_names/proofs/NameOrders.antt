@@ -1,10 +1,11 @@
--- Names that are equal in order are equal.
-use Rattle.std.proofs.Common.{◌≡◌, ℕ, List, [], ◌∷◌, refl, subst, sym}
+-- Names that are equal in order, or in what their hash is of, are equal.
+use Rattle.std.proofs.Common.{◌≡◌, ℕ, List, [], ◌∷◌, drop, get_or, refl, ap, subst, sym}
 use Rattle.std.specs.Cmp.Lexicographic.{slice_cmp}
 use Rattle.std.specs.Ordering.{nat_cmp, ordering_then}
 use Rattle.std.specs.declared.cmp.Ordering.TheVariants.{Equal}
-use Rattle.isle_base.proofs.PositionOrders.{both_equal, numbers_equal, number_itself, then_equal}
-use Rattle.isle_ast_names.specs.NameOrder.{name_cmp}
+use Rattle.isle_base.proofs.PositionOrders.{both_equal, hashes_equal, numbers_equal, number_itself, then_equal}
+use Rattle.isle_base.specs.PositionOrder.{IsInRange}
+use Rattle.isle_ast_names.specs.NameOrder.{name_cmp, name_hash}
 use Rattle.isle_ast_names.specs.Tree.{Name}
 
 texts_equal : (xs ys : List ℕ) → slice_cmp nat_cmp xs ys ≡ Equal → xs ≡ ys
@@ -37,3 +38,9 @@ name_itself n =
 
 pub equal_names : (m n : Name) → m ≡ n → name_cmp m n ≡ Equal
 equal_names m n e = subst (λ x. name_cmp m x ≡ Equal) e (name_itself m)
+
+pub name_hashes_equal : (m n : Name) → IsInRange m.pos → IsInRange n.pos → name_hash m ≡ name_hash n → m ≡ n
+name_hashes_equal m n l r e =
+    let text = ap (λ writes. get_or writes 0 []) e in
+    let pos = hashes_equal m.pos n.pos l r (ap (drop 2) e) in
+    λ i. record { text = text i; pos = pos i }

@@ -4,10 +4,12 @@ ghost use Rattle.std.specs.Prelude.{◌≡◌, ◌↔◌, ◌++◌, ℕ, List, I
 ghost use Rattle.std.specs.List.{list_all};
 ghost use Rattle.std.specs.declared.cmp.Ordering.TheVariants.{Equal};
 ghost use Rattle.isle_base.specs.Pieces.{begins_symbol, in_symbol, Piece};
+ghost use Rattle.isle_base.specs.PositionOrder.{IsInRange};
 ghost use Rattle.isle_base.specs.Skips.{begins_with};
 ghost use Rattle.isle_base.specs.Token.{symbol};
 ghost use Rattle.isle_ast_names.specs.Identifier.{is_identifier};
-ghost use Rattle.isle_ast_names.specs.NameOrder.{name_cmp};
+ghost use Rattle.isle_ast_names.specs.NameOrder.{name_cmp, name_hash};
+ghost use Rattle.isle_ast_names.specs.Tree.{Name};
 ghost use Rattle.isle_ast_names.specs.TreeView.{name_of};
 
 use crate::ast::Ident;
@@ -25,6 +27,9 @@ pub fn identifiers_are_ordered()
         → (name_cmp (name_of a) (name_of b) ≡ Equal) ↔ (name_of a ≡ name_of b) }
     ensures hash { (a b : Ident) → name_of a ≡ name_of b
         → ⟦<Ident as Hash>⟧.hash_input a ≡ ⟦<Ident as Hash>⟧.hash_input b }
+    ensures fed { (a : Ident) → ⟦<Ident as Hash>⟧.hash_input a ≡ name_hash (name_of a) }
+    ensures equal_in_hash { (m n : Name) → IsInRange m.pos → IsInRange n.pos
+        → (name_hash m ≡ name_hash n) ↔ (m ≡ n) }
 {}
 
 /// A law, which runs no code: no byte of an identifier ends a symbol, and its first byte begins
