@@ -75,8 +75,8 @@ pub fn parse(alloc: Global, lexer: Lexer) -> Result<Vec<Def>, Fault>
 /// testing on structure alone.
 ///
 /// It answers the tree that `parse` does, with the default position in place of each. It answers an
-/// error exactly where `parse` does, want of memory aside: a parse error at one byte of the text, or at
-/// its end. `Failed` comes of a lexer that had refused its text before this call, and
+/// error exactly where `parse` does, want of memory aside: a parse error at one byte of the text, or
+/// at its end. `Failed` comes of a lexer that had refused its text before this call, and
 /// of no other, as from `parse`. `Memory` comes where a growth was refused. The lexer is gone
 /// afterwards, whatever the answer.
 pub fn parse_without_pos(alloc: Global, lexer: Lexer) -> Result<Vec<Def>, Fault>
