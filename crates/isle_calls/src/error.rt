@@ -71,6 +71,20 @@ fn parse_error(alloc: Global, offset: usize) -> Result<Error, AllocError> {
 }
 
 #[test]
+fn faults_are_shown_by_their_reason(rt: HostRuntime) -> Result<(), Fail> {
+    let alloc = rt.alloc();
+    let refused = Fault::from(parse_error(alloc, 0)?);
+    let failed = Fault::Failed;
+    assert_eq!(rt; refused.to_string(alloc)?.as_str(), "parse error: m");
+    assert_eq!(rt;
+        format!(in alloc; "{failed:>40}")?.as_str(),
+        "the text was refused before"
+    );
+    assert_eq!(rt; Fault::Memory.to_string(alloc)?.as_str(), "out of memory");
+    Ok(())
+}
+
+#[test]
 fn builders_hold_what_was_last_given(rt: HostRuntime) -> Result<(), Fail> {
     let alloc = rt.alloc();
     let one = two_errors(alloc)?.error(alloc, parse_error(alloc, 4)?)?;

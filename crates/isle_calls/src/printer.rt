@@ -148,3 +148,22 @@ fn refuses_arguments_of_macros(rt: HostRuntime) -> Result<(), Fail> {
     assert!(rt; matches!(printed, Err(PrintFault::MacroArg)));
     Ok(())
 }
+
+#[test]
+fn faults_of_the_printer_are_shown(rt: HostRuntime) -> Result<(), Fail> {
+    let alloc = rt.alloc();
+    let fault = PrintFault::MacroArg;
+    assert_eq!(rt;
+        fault.to_string(alloc)?.as_str(),
+        "the argument of a macro has no print"
+    );
+    assert_eq!(rt;
+        format!(in alloc; "{fault:#}")?.as_str(),
+        "the argument of a macro has no print"
+    );
+    assert_eq!(rt;
+        PrintFault::Memory.to_string(alloc)?.as_str(),
+        "out of memory"
+    );
+    Ok(())
+}
