@@ -6,7 +6,8 @@
    FAIL_WRITE=N     the Nth write to standard output fails
    FAIL_ERRORS=1    each write to standard error fails
    ONE_BYTE=1       each read of standard input and each write to standard output moves one byte
-   TOLD=FILE        where one byte is written for each request or call that was refused or failed
+   COUNT=1          each request for memory is told
+   TOLD=FILE        where one byte is written for each request or call that was refused, failed or told
 
    Built by the scripts beside it: cc -shared -fPIC -O2 -o refuse.so refuse.c, and loaded by LD_PRELOAD. */
 
@@ -28,7 +29,7 @@ static long number(const char *name)
     return value ? atol(value) : 0;
 }
 
-/* Tells that something was refused. The file is opened anew each time: the program's own files are never touched. */
+/* Tells that something was refused, or of a request. The file is opened anew each time: the program's own files are never touched. */
 static void tell(void)
 {
     const char *name = getenv("TOLD");
@@ -45,12 +46,15 @@ static void tell(void)
 static int is_refused(void)
 {
     static long requests = 0;
-    static long one = -1, from = -1;
+    static long one = -1, from = -1, counted = 0;
     if (one < 0) {
         one = number("REFUSE");
         from = number("REFUSE_FROM");
+        counted = number("COUNT");
     }
     requests += 1;
+    if (counted)
+        tell();
     if (requests != one && (from == 0 || requests < from))
         return 0;
     tell();

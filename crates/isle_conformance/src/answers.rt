@@ -4,6 +4,7 @@ use crate::case::Case;
 use crate::errors::{line_map, overlap_error, parse_errors, refusal, shadowed_error};
 use crate::nodes::nodes;
 use crate::patterns::{substitute, template, terms};
+use crate::texts::{beginnings, damaged};
 use isle_syntax::ast::{Def, writable};
 use isle_syntax::format;
 use isle_syntax::lexer::{Fault, Lexer, Pos, Token};
@@ -44,6 +45,8 @@ pub fn answer(alloc: Global, case: &Case) -> Result<String, AllocError> {
         "format" => shown(alloc, formatted(alloc, case)?),
         "lines" => lines(alloc, case),
         "refusal" => shown(alloc, refusal(alloc, case)?),
+        "beginnings" => beginnings(alloc, case),
+        "damaged" => damaged(alloc, case),
         "parse_errors" => shown(alloc, parse_errors(alloc, case)?),
         "overlap_error" => shown(alloc, overlap_error(alloc, case)?),
         "shadowed_error" => shown(alloc, shadowed_error(alloc, case)?),
@@ -138,12 +141,23 @@ fn formatted(alloc: Global, case: &Case) -> Result<Result<String, Fault>, AllocE
     Ok(Ok(text))
 }
 
+/// The first text as many times as the second number says, or once.
+fn repeated(alloc: Global, case: &Case) -> Result<String, AllocError> {
+    let mut text = String::new(alloc);
+    for _ in 0..case.number(1).max(1) {
+        text.push_str(case.text(0))?;
+    }
+    Ok(text)
+}
+
 fn lines(alloc: Global, case: &Case) -> Result<String, AllocError> {
-    match format(alloc, case.text(0), case.number(0)) {
+    let text = repeated(alloc, case)?;
+    match format(alloc, &text, case.number(0)) {
         Ok(text) => {
             let count = text.lines().count();
             let longest = text.lines().map(|line| line.len()).max().unwrap_or(0);
-            format!(in alloc; "{count} lines, the longest of {longest} bytes")
+            let whole = text.len();
+            format!(in alloc; "{count} lines, the longest of {longest} bytes, {whole} bytes in all")
         }
         Err(fault) => shown(alloc, fault),
     }

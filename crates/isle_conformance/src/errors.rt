@@ -1,10 +1,11 @@
 //! What is shown of errors.
 
-use crate::answers::parsed;
 use crate::case::Case;
+use isle_syntax::ast::Def;
 use isle_syntax::error::{Error, Errors, Span};
 use isle_syntax::files::{Files, LineMap};
-use isle_syntax::lexer::{Fault, Pos};
+use isle_syntax::lexer::{Fault, Lexer, Pos};
+use isle_syntax::parser::parse;
 use std::alloc::{AllocError, Global};
 use std::rc::Rc;
 
@@ -25,17 +26,25 @@ fn display(
     }
 }
 
-/// What is shown of the error for which the text is refused, in a file named as the program names
-/// its input.
-pub fn refusal(alloc: Global, case: &Case) -> Result<String, AllocError> {
-    match parsed(alloc, case) {
+/// What is shown of the error for which a text is refused, in a file named as the program names its
+/// input.
+pub fn refusal_of(alloc: Global, text: &str) -> Result<String, AllocError> {
+    match parsed(alloc, text) {
         Ok(_) => "accepted".to_string(alloc),
-        Err(Fault::Error(error)) => {
-            display(alloc, vec![in alloc; error]?, "<stdin>", case.text(0))
-        }
+        Err(Fault::Error(error)) => display(alloc, vec![in alloc; error]?, "<stdin>", text),
         Err(Fault::Failed) => "failed".to_string(alloc),
         Err(Fault::Memory) => "memory".to_string(alloc),
     }
+}
+
+/// What is shown of the error for which the first text is refused.
+pub fn refusal(alloc: Global, case: &Case) -> Result<String, AllocError> {
+    refusal_of(alloc, case.text(0))
+}
+
+/// What `parse` answers of a text in file 0.
+fn parsed(alloc: Global, text: &str) -> Result<Vec<Def>, Fault> {
+    parse(alloc, Lexer::new(alloc, 0, text)?)
 }
 
 /// A place in file 0.

@@ -7,15 +7,18 @@
 //!
 //! The answer of a case is what Debug shows of the call's, with each position as `FILE:OFFSET`. A
 //! lexer is of the text, in the file FILE, after READ calls of `next`. A number that is left out is
-//! 0.
+//! 0. Each of many texts is also read by a lexer and formatted at the widths 0, 1 and the greatest: it
+//! is formatted where it is accepted, and else refused at a place in it, or the answer is `wrong`.
 //!
 //! | Case | The answer |
 //! |---|---|
 //! | `tokens FILE READ TEXT` | what each call of `next` gives, behind the lexer's state before it |
 //! | `parse FILE READ TEXT`, `parse_without_pos FILE READ TEXT` | the tree, or the fault |
 //! | `format WIDTH.. TEXT` | the text at the first width, formatted at the next one, and so on |
-//! | `lines WIDTH TEXT` | how many lines the formatted text has, and how long the longest is |
+//! | `lines WIDTH TIMES TEXT` | how many lines the text, so many times, has when it is formatted, how long the longest is, and all of it |
 //! | `refusal TEXT` | what Display shows of the error, or `accepted` |
+//! | `beginnings TEXT` | of how many beginnings of the text which are accepted, and the hash of what `refusal` shows of the others |
+//! | `damaged PIECE TEXT` | the same of the texts in which the piece stands in place of a character |
 //! | `parse_errors OFFSET.. NAME TEXT` | what Display shows of parse errors at these places of a file |
 //! | `overlap_error OFFSET.. NAME TEXT` | what Display shows of an overlap of rules at these places |
 //! | `shadowed_error MASK OFFSET.. NAME TEXT` | what Display shows of rules at these places that another one shadows |
@@ -33,6 +36,7 @@ mod case;
 mod errors;
 mod nodes;
 mod patterns;
+mod texts;
 
 use answers::answer;
 use case::Case;
