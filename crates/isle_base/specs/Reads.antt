@@ -48,6 +48,11 @@ abbrev pub ReadsLiteral : List ℕ → ℕ → Result (ℤ × ℕ) Reason → Ty
 ReadsLiteral bytes from (Ok x) = Literal (drop from bytes) (Some x.0) (drop x.1 bytes) × (x.1 ≤ length bytes)
 ReadsLiteral bytes from (Err _) = Faulty (drop from bytes)
 
+-- the end of the literal that has a value here, if there is one
+abbrev pub EndsLiteral : List ℕ → ℕ → Option ℕ → Type 0
+EndsLiteral bytes from None = Faulty (drop from bytes)
+EndsLiteral bytes from (Some at) = ((value : ℤ) × Literal (drop from bytes) (Some value) (drop at bytes)) × (at ≤ length bytes)
+
 -- the token or the fault that stands here
 abbrev pub FindsHere : List ℕ → ℕ → Found → Type 0
 FindsHere text from (founds.Token start token after) =

@@ -13,9 +13,9 @@ ghost use Rattle.isle_base.specs.declared.lexer.Fault.TheVariants.{Failed, Memor
 
 mod lanes;
 pub mod laws;
-mod literal;
+pub(crate) mod literal;
 mod read;
-mod scan;
+pub(crate) mod scan;
 
 use crate::error::Error;
 use crate::error::show::write_message;

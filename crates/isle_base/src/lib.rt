@@ -4,3 +4,4 @@
 pub mod error;
 pub mod files;
 pub mod lexer;
+pub mod pieces;

@@ -5,7 +5,7 @@ ghost use Rattle.std.specs.List.{prefix_len};
 ghost use Rattle.isle_base.specs.Literals.{begins_literal, behind_minus, behind_prefix, digits_of};
 ghost use Rattle.isle_base.specs.Literals.{has_minus, in_literal, prefix_radix, radix_at};
 ghost use Rattle.isle_base.specs.Literals.{radix_of as letter_radix};
-ghost use Rattle.isle_base.specs.Reads.{HasSign, IsRadix, ReadsLiteral, WritesNumber};
+ghost use Rattle.isle_base.specs.Reads.{EndsLiteral, HasSign, IsRadix, ReadsLiteral, WritesNumber};
 ghost use Rattle.isle_base.specs.Skips.{begins_with};
 
 use crate::lexer::read::Reason;
@@ -155,5 +155,17 @@ pub(crate) fn literal_at(bytes: &[u8], from: usize) -> Result<(i128, usize), Rea
             Err(reason) => Err(reason),
             Ok(value) => Ok((value, end)),
         },
+    }
+}
+
+/// Finds the end of the integer literal at an offset, if it is one that has a value.
+pub fn integer_end(bytes: &[u8], from: usize) -> Option<usize>
+    requires within { from < length bytes.now }
+    requires begins { begins_with begins_literal (drop from bytes.now) ≡ true }
+    ensures { EndsLiteral bytes.now from result }
+{
+    match literal_at(bytes, from) {
+        Ok((_, end)) => Some(end),
+        Err(_) => None,
     }
 }

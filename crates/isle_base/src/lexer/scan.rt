@@ -20,7 +20,7 @@ pub(crate) fn byte_at(bytes: &[u8], at: usize) -> Option<u8>
 
 /// Tells whether `(;` stands at an offset.
 #[tactic(auto, using(crate::proofs::Places::opens_pair, crate::proofs::Places::opens_end))]
-fn opens_at(bytes: &[u8], at: usize) -> bool
+pub fn opens_at(bytes: &[u8], at: usize) -> bool
     requires { at ≤ length bytes.now }
     ensures { result ≡ opens (drop at bytes.now) }
 {
@@ -38,7 +38,7 @@ fn closes_at(bytes: &[u8], at: usize) -> bool
 
 /// Finds the end of the block comment whose inside begins at an offset, behind its `;)`.
 #[inline(never)]
-fn block_comment_end(bytes: &[u8], from: usize) -> Option<usize>
+pub fn block_comment_end(bytes: &[u8], from: usize) -> Option<usize>
     requires { from ≤ length bytes.now }
     ensures { EndsComment bytes.now from result }
 {
