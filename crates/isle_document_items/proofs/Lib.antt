@@ -1,0 +1,12 @@
+pub mod Alone
+pub mod Existing
+pub mod GapLemmas
+pub mod InlineLemmas
+pub mod Listing
+pub mod Marks
+pub mod Matching
+pub mod Reading
+pub mod Refusals
+pub mod Standing
+pub mod Unique
+pub mod Words

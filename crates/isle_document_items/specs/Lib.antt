@@ -1,0 +1,12 @@
+pub mod Closings
+pub mod Finds
+pub mod Gaps
+pub mod Grammar
+pub mod Inline
+pub mod Items
+pub mod ItemsCode
+pub mod ItemsFall
+pub mod ItemsView
+pub mod Matched
+pub mod PrecedingView
+pub mod Tokens

@@ -1,0 +1,278 @@
+//! The document of a text, read in one pass.
+
+ghost use Rattle.std.specs.Prelude.{◌≡◌, ◌==◌, ◌+◌, ◌-◌, ◌<◌, ◌≤◌, IfOk, IfSome, IsUtf8, Ok, None};
+ghost use Rattle.std.specs.Prelude.{drop, false, length, take, true};
+ghost use Rattle.std.specs.List.{prefix_len};
+ghost use Rattle.isle_base.specs.Literals.{begins_literal};
+ghost use Rattle.isle_base.specs.Pieces.{begins_symbol};
+ghost use Rattle.isle_base.specs.Skips.{begins_with, is_blank, opens};
+ghost use Rattle.isle_base.specs.Bytes.{semicolon};
+ghost use Rattle.isle_document_items.specs.Closings.{is_closing};
+ghost use Rattle.isle_document_items.specs.Finds.{FindsItem, FindsItems, FindsStep, Stands};
+ghost use Rattle.isle_document_items.specs.Finds.{FindsGap, opens_row};
+ghost use Rattle.isle_document_items.specs.Grammar.{IsDocument};
+ghost use Rattle.isle_document_items.specs.Items.{Items};
+ghost use Rattle.isle_document_items.specs.ItemsView.{item_of};
+ghost use Rattle.isle_document_items.specs.PrecedingView.{before_of};
+ghost use Rattle.isle_document_items.specs.declared.reader.Stop.TheVariants as stops;
+
+use crate::document::{Document, Entry, Gap, Item};
+use crate::gaps::{Preceding, gap_of, kept};
+use isle_base::lexer::{blank_end, line_comment_end, symbol_end};
+use isle_base::pieces::{block_comment_end, integer_end, opens_at};
+use std::alloc::{AllocError, AllocFailed, Global};
+
+/// Why reading stops.
+#[derive(Drop)]
+pub(crate) enum Stop {
+    /// No document has what was read.
+    Refused,
+    /// A growth of memory was refused.
+    Memory,
+}
+
+impl From<AllocError> for Stop {
+    ghost from_gives = { λ _ stop. stop ≡ stops.Memory };
+
+    fn from(_error: AllocError) -> Stop {
+        Stop::Memory
+    }
+}
+
+impl<T: Drop> From<AllocFailed<T>> for Stop {
+    ghost from_gives = { λ _ stop. stop ≡ stops.Memory };
+
+    fn from(_error: AllocFailed<T>) -> Stop {
+        Stop::Memory
+    }
+}
+
+/// What stands behind blanks.
+#[derive(Drop)]
+pub(crate) enum Step<'src> {
+    /// An item with the gap before it, what the next one follows, and the offset behind the item.
+    More(Entry<'src>, Preceding, usize),
+    /// The end of the items, at this offset.
+    End(usize),
+}
+
+/// Gives the part of a text between two offsets.
+fn part<'src>(text: &'src str, from: usize, to: usize) -> &'src str
+    requires order { from ≤ to }
+    requires within { to ≤ length text.now }
+    requires first { IsUtf8 (drop from text.now) }
+    requires last { IsUtf8 (drop to text.now) }
+    ensures { result.now ≡ take (to - from) (drop from text.now) }
+{
+    &text[from..to]
+}
+
+/// Reads the symbol at an offset.
+fn symbol_at<'src>(text: &'src str, start: usize) -> (Item<'src>, usize)
+    requires within { start < length text.now }
+    requires first { IsUtf8 (drop start text.now) }
+    requires begins { begins_with begins_symbol (drop start text.now) ≡ true }
+    ensures { Stands text.now (item_of result.0) start result.1 }
+{
+    let end = symbol_end(text.as_bytes(), start);
+    (Item::Word(part(text, start, end)), end)
+}
+
+/// Reads the integer at an offset.
+fn integer_at<'src>(text: &'src str, start: usize) -> Result<(Item<'src>, usize), Stop>
+    requires within { start < length text.now }
+    requires first { IsUtf8 (drop start text.now) }
+    requires begins { begins_with begins_literal (drop start text.now) ≡ true }
+    ensures { FindsItem text.now start result }
+{
+    match integer_end(text.as_bytes(), start) {
+        Some(end) => Ok((Item::Word(part(text, start, end)), end)),
+        None => Err(Stop::Refused),
+    }
+}
+
+/// Reads the line comment whose `;` is at an offset.
+fn note_at<'src>(text: &'src str, start: usize) -> (Item<'src>, usize)
+    requires within { start < length text.now }
+    requires first { IsUtf8 (drop start text.now) }
+    requires begins { begins_with (λ b. b == semicolon) (drop start text.now) ≡ true }
+    ensures { Stands text.now (item_of result.0) start result.1 }
+{
+    let end = line_comment_end(text.as_bytes(), start + 1);
+    (Item::Note(part(text, start + 1, end)), end)
+}
+
+/// Reads the block comment whose `(;` is at an offset.
+fn remark_at<'src>(text: &'src str, start: usize) -> Result<(Item<'src>, usize), Stop>
+    requires within { start < length text.now }
+    requires first { IsUtf8 (drop start text.now) }
+    requires begins { opens (drop start text.now) ≡ true }
+    ensures { FindsItem text.now start result }
+{
+    match block_comment_end(text.as_bytes(), start + 2) {
+        Some(end) => Ok((Item::Remark(part(text, start + 2, end)), end)),
+        None => Err(Stop::Refused),
+    }
+}
+
+/// Tells whether a list begins at an offset: a `(` that begins no block comment.
+fn opens_row_at(bytes: &[u8], at: usize) -> bool
+    requires { at < length bytes.now }
+    ensures { result ≡ opens_row (drop at bytes.now) }
+{
+    bytes[at] == b'(' && !opens_at(bytes, at)
+}
+
+/// Tells whether items end at an offset: at the end of the text, or at a `)`.
+fn closes_at(bytes: &[u8], at: usize) -> bool
+    requires { at ≤ length bytes.now }
+    ensures { result ≡ is_closing (drop at bytes.now) }
+{
+    at == bytes.len() || bytes[at] == b')'
+}
+
+/// Finds the first byte from an offset on that is no blank, or the end of the text.
+fn blanks_end(bytes: &[u8], from: usize) -> usize
+    requires { from ≤ length bytes.now }
+    ensures end { result ≡ from + prefix_len is_blank (drop from bytes.now) }
+    ensures within { result ≤ length bytes.now }
+{
+    blank_end(bytes, from)
+}
+
+/// Gives the gap that the blanks at an offset make, and the offset behind them.
+fn gap_at(bytes: &[u8], from: usize) -> (Gap, usize)
+    requires { from ≤ length bytes.now }
+    ensures { FindsGap bytes.now from result.0 result.1 }
+{
+    let start = blanks_end(bytes, from);
+    (gap_of(&bytes[from..start]), start)
+}
+
+/// Reads the item at an offset, which is no list.
+fn plain_at<'src>(text: &'src str, start: usize) -> Result<(Item<'src>, usize), Stop>
+    requires within { start < length text.now }
+    requires first { IsUtf8 (drop start text.now) }
+    requires not_blank { begins_with is_blank (drop start text.now) ≡ false }
+    requires no_row { opens_row (drop start text.now) ≡ false }
+    requires no_end { is_closing (drop start text.now) ≡ false }
+    ensures { FindsItem text.now start result }
+{
+    match text.as_bytes()[start] {
+        b'(' => remark_at(text, start),
+        b';' => Ok(note_at(text, start)),
+        b'@' => Ok((Item::Sign, start + 1)),
+        b'\x0c' => Err(Stop::Refused),
+        b'-' | b'0'..=b'9' => integer_at(text, start),
+        _ => Ok(symbol_at(text, start)),
+    }
+}
+
+/// Reads the list whose `(` is at an offset.
+#[cycle(reading)]
+fn row_at<'src>(text: &'src str, start: usize, alloc: Global) -> Result<(Item<'src>, usize), Stop>
+    requires within { start < length text.now }
+    requires first { IsUtf8 (drop start text.now) }
+    requires row { opens_row (drop start text.now) ≡ true }
+    ensures { FindsItem text.now start result }
+{
+    let (inner, end) = items_at(text, start + 1, Preceding::Opening, alloc)?;
+    if end == text.len() {
+        Err(Stop::Refused)
+    } else {
+        Ok((Item::Row(inner), end + 1))
+    }
+}
+
+/// Reads the item at an offset.
+#[cycle(reading)]
+fn item_at<'src>(text: &'src str, start: usize, alloc: Global) -> Result<(Item<'src>, usize), Stop>
+    requires within { start < length text.now }
+    requires first { IsUtf8 (drop start text.now) }
+    requires not_blank { begins_with is_blank (drop start text.now) ≡ false }
+    requires no_end { is_closing (drop start text.now) ≡ false }
+    ensures { FindsItem text.now start result }
+{
+    if opens_row_at(text.as_bytes(), start) {
+        row_at(text, start, alloc)
+    } else {
+        plain_at(text, start)
+    }
+}
+
+/// Reads what stands behind the blanks at an offset.
+#[cycle(reading)]
+fn step_at<'src>(
+    text: &'src str,
+    from: usize,
+    preceding: Preceding,
+    alloc: Global,
+) -> Result<Step<'src>, Stop>
+    requires within { from ≤ length text.now }
+    requires first { IsUtf8 (drop from text.now) }
+    ensures { FindsStep (before_of preceding) text.now from result }
+{
+    let (gap, start) = gap_at(text.as_bytes(), from);
+    if closes_at(text.as_bytes(), start) {
+        return Ok(Step::End(start));
+    }
+    let (item, end) = item_at(text, start, alloc)?;
+    let gap = kept(preceding, &item, gap);
+    let next = Preceding::behind(&item);
+    Ok(Step::More(Entry { gap, item }, next, end))
+}
+
+/// Reads items from an offset up to where they end, the first of which follows this.
+#[cycle(reading)]
+fn items_at<'src>(
+    text: &'src str,
+    from: usize,
+    first: Preceding,
+    alloc: Global,
+) -> Result<(Document<'src>, usize), Stop>
+    requires within { from ≤ length text.now }
+    requires first { IsUtf8 (drop from text.now) }
+    ensures { FindsItems (before_of first) text.now from result }
+{
+    let mut entries = Vec::new(alloc);
+    let mut preceding = first;
+    let mut at = from;
+    loop {
+        match step_at(text, at, preceding, alloc)? {
+            Step::More(entry, next, end) => {
+                entries.push(entry)?;
+                preceding = next;
+                at = end;
+            }
+            Step::End(end) => return Ok((Document::new(entries), end)),
+        }
+    }
+}
+
+/// Reads the document of a text, whose texts it borrows.
+///
+/// It answers `None` exactly where the text has none: where a block comment has no end, where a
+/// form feed stands outside of comments, where an integer writes no number or one that doesn't fit
+/// 128 bits, or where the parentheses don't match. The error comes where memory runs out.
+///
+/// The text is read once, and no deeper than its lists are nested.
+pub fn read_document<'src>(
+    alloc: Global,
+    text: &'src str,
+) -> Result<Option<Document<'src>>, AllocError>
+    ensures read { IfOk result (λ answer. IfSome answer (IsDocument text.now)) }
+    ensures refused { result ≡ Ok None
+        → (document : Items) → IsDocument text.now document → ⊥ }
+{
+    match items_at(text, 0, Preceding::Start, alloc) {
+        Ok((document, end)) => {
+            if end == text.len() {
+                Ok(Some(document))
+            } else {
+                Ok(None)
+            }
+        }
+        Err(Stop::Refused) => Ok(None),
+        Err(Stop::Memory) => Err(AllocError),
+    }
+}
