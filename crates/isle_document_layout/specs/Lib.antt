@@ -1,0 +1,6 @@
+pub mod Documents
+pub mod KindView
+pub mod OneLine
+pub mod Spacing
+pub mod Tidy
+pub mod Written

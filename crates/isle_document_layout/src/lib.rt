@@ -1,0 +1,11 @@
+//! The layout of documents: the tidy text of a document at a width.
+#![tactic(auto)]
+
+pub mod laws;
+pub mod spacing;
+mod writing;
+
+pub use writing::tidy_document;
+
+#[cfg(test)]
+mod tests;

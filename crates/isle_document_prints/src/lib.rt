@@ -1,0 +1,4 @@
+//! What printed texts are as documents: laws alone.
+#![tactic(auto)]
+
+pub mod laws;
