@@ -1,0 +1,32 @@
+use Rattle.std.proofs.Common.{Ok, ap}
+use Rattle.std.proofs.lemmas.Result.{err_from_is_err_and}
+use Rattle.isle_document.proofs.ReadingLaw.{all_read, nothing_read, one_more_read, read_never_failed, read_refused, read_takes}
+use Rattle.isle_document.proofs.reading.read_all.Goals as goal
+
+pub loop-init : goal.loop-init
+loop-init c = nothing_read c.args.parser.now c.requires.ready
+
+pub returns-in_err-read_next-clause-spelt : goal.returns-in_err-read_next-clause-spelt
+returns-in_err-read_next-clause-spelt c text s =
+    let p = err_from_is_err_and c.from_residual.result c.from_residual.ensures.1 in
+    rw p.1 tt
+
+pub returns-in_err-read_next-clause-refused : goal.returns-in_err-read_next-clause-refused
+returns-in_err-read_next-clause-refused c text s =
+    let p = err_from_is_err_and c.from_residual.result c.from_residual.ensures.1 in
+    rw (p.1, p.2) (read_refused text c.args.parser.now c.loop.parser c.in_err-read_next.field-0.0 s c.loop.invariant c.in_err-read_next.ensures.failed c.in_err-read_next.ensures.refused)
+
+pub returns-in_err-read_next-clause-never_failed : goal.returns-in_err-read_next-clause-never_failed
+returns-in_err-read_next-clause-never_failed c =
+    let p = err_from_is_err_and c.from_residual.result c.from_residual.ensures.1 in
+    rw (p.1, p.2) (read_never_failed c.args.parser.now c.loop.parser c.in_err-read_next.field-0.0 c.loop.invariant c.in_err-read_next.ensures.failed)
+
+pub loop-smaller : goal.loop-smaller
+loop-smaller c = read_takes c.loop.parser c.read_next.new.parser (c.in_ok-read_next.ensures.read (ap Ok c.if-branch.true))
+
+pub loop-preserved : goal.loop-preserved
+loop-preserved c = one_more_read c.args.parser.now c.loop.parser c.read_next.new.parser c.loop.invariant (c.in_ok-read_next.ensures.read (ap Ok c.if-branch.true))
+
+pub returns-clause-spelt : goal.returns-clause-spelt
+returns-clause-spelt c text s =
+    all_read text c.args.parser.now c.loop.parser s c.loop.invariant (c.in_ok-read_next.ensures.done (ap Ok c.if-branch.false)).0
