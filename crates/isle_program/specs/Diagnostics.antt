@@ -1,0 +1,13 @@
+-- What is shown of a refused text.
+use Rattle.std.specs.Prelude.{◌≡◌, ℕ, List, [], ◌∷◌, length}
+use Rattle.isle_base.specs.declared.error.Error.{Error}
+use Rattle.isle_base.specs.Diagnostic.{report_text}
+use Rattle.isle_parser_cursor.specs.Outcomes.{RefusesIn}
+
+-- what an error of the text of a file shows, under the name of the file
+abbrev pub refusal_text : List ℕ → List ℕ → Error → List ℕ
+refusal_text name text e = report_text (record { errors = e ∷ []; files = record { name = name; text = text } ∷ [] })
+
+-- this shows a refusal of the text, at one of its bytes or at its end
+abbrev pub IsRefusal : List ℕ → List ℕ → List ℕ → Type 0
+IsRefusal name text shown = (e : Error) × RefusesIn 0 (length text) e × (shown ≡ refusal_text name text e)

@@ -1,0 +1,3 @@
+pub mod Diagnostics
+pub mod Streams
+pub mod Words

@@ -1,0 +1,113 @@
+//! Tidying files in place: whole or not at all.
+
+use crate::failure::Failure;
+use crate::program::tidied;
+use isle_program::streams::{read_text, write_whole};
+use std::fs::{Files, Metadata, OpenFile, OpenOptions};
+use std::io::ErrorKind;
+use std::os::unix::fs::MetadataExt;
+use std::{fs, io};
+
+/// How many names are tried for the new file beside the old one.
+const NAMES: u32 = 100;
+
+/// Tidies a file, and tells whether its tidy text is another than what it holds. With `check` the
+/// file is left alone.
+///
+/// A link is followed: the file that it leads to is tidied. The new text is written into a new
+/// file beside it, which gets the old one's owner and permissions, is written through to the
+/// disk, and then takes its place. After an error the old file is there as it was, and the new
+/// one is gone.
+pub fn tidy_file<R: Files + AllocGlobal>(
+    rt: &R,
+    name: &str,
+    width: usize,
+    check: bool,
+) -> Result<bool, Failure> {
+    let target = fs::canonicalize(rt, name).map_err(unreadable)?;
+    let path = target.as_str();
+    let metadata = rt.metadata(path).map_err(unreadable)?;
+    if !metadata.is_file() {
+        return Err(Failure::Input);
+    }
+    let mut file = OpenOptions::new()
+        .read(true)
+        .open(rt, path)
+        .map_err(unreadable)?;
+    let text = read_text(rt.alloc(), &mut file)?;
+    drop(file);
+    let answer = tidied(rt.alloc(), name, text.as_str(), width)?;
+    if answer.as_str() == text.as_str() {
+        return Ok(false);
+    }
+    if !check {
+        replace(rt, path, &metadata, answer.as_bytes())?;
+    }
+    Ok(true)
+}
+
+/// What an error of the system is, where a file is read.
+fn unreadable(error: io::Error) -> Failure {
+    if error.kind() == ErrorKind::OutOfMemory {
+        Failure::Memory
+    } else {
+        Failure::Input
+    }
+}
+
+/// Puts a new file with these bytes in the place of a file.
+fn replace<R: Files + AllocGlobal>(
+    rt: &R,
+    path: &str,
+    old: &Metadata,
+    bytes: &[u8],
+) -> Result<(), Failure> {
+    // Whoever may not write the file may not replace it either.
+    match OpenOptions::new().write(true).open(rt, path) {
+        Ok(file) => drop(file),
+        Err(_) => return Err(Failure::Output),
+    }
+    let (name, mut file) = new_beside(rt, path)?;
+    let made = fill(rt, name.as_str(), &mut file, old, bytes);
+    drop(file);
+    if made.is_ok() && rt.rename(name.as_str(), path).is_ok() {
+        return Ok(());
+    }
+    let _ = rt.remove_file(name.as_str());
+    Err(Failure::Output)
+}
+
+/// Makes a new, empty file beside another one, and gives its name.
+fn new_beside<R: Files + AllocGlobal>(rt: &R, path: &str) -> Result<(String, R::File), Failure> {
+    for number in 0..NAMES {
+        let name = format!(in rt.alloc(); "{path}.isle-tidy-{number}")?;
+        let made = OpenOptions::new()
+            .write(true)
+            .create_new(true)
+            .open(rt, name.as_str());
+        match made {
+            Ok(file) => return Ok((name, file)),
+            Err(error) if error.kind() == ErrorKind::AlreadyExists => {}
+            Err(_) => return Err(Failure::Output),
+        }
+    }
+    Err(Failure::Output)
+}
+
+/// Gives a new file the owner and the permissions of an old one, and these bytes, down to the
+/// disk.
+fn fill<R: Files>(
+    rt: &R,
+    name: &str,
+    file: &mut R::File,
+    old: &Metadata,
+    bytes: &[u8],
+) -> io::Result<()> {
+    let new = file.metadata()?;
+    if new.uid() != old.uid() || new.gid() != old.gid() {
+        rt.chown(name, Some(old.uid()), Some(old.gid()))?;
+    }
+    file.set_permissions(old.permissions())?;
+    write_whole(file, bytes)?;
+    file.sync_all()
+}
