@@ -1,0 +1,4 @@
+pub mod Failure
+pub mod Linted
+pub mod Shown
+pub mod Streams

@@ -1,0 +1,10 @@
+pub mod Names
+pub mod Seen
+pub mod Variables
+pub mod Uses
+pub mod Unknown
+pub mod Unused
+pub mod Doubled
+pub mod Givings
+pub mod Finding
+pub mod Findings
