@@ -1,0 +1,83 @@
+//! Finds the static library and has it linked: `crates/isle_c/out/libisle_c.a` of this repository,
+//! which `bindings/rust/archive` makes, or the file that the variable `ISLE_C_ARCHIVE` names.
+
+use std::env;
+use std::ffi::OsStr;
+use std::path::{Path, PathBuf};
+
+/// The variable that names an archive elsewhere.
+const ARCHIVE: &str = "ISLE_C_ARCHIVE";
+
+/// The variable that names a folder with upstream's sources, for the benchmark.
+const UPSTREAM: &str = "CRANELIFT_ISLE";
+
+/// Upstream's modules that the benchmark takes.
+const MODULES: [&str; 6] = ["ast", "error", "files", "lexer", "parser", "printer"];
+
+/// What those modules name besides: a log that writes nothing, and a type that no step uses.
+const STUBS: &str = "
+#[allow(unused_macros)]
+macro_rules! log { ($($word:tt)*) => {}; }
+#[allow(unused_imports)]
+pub(crate) use log;
+pub mod codegen {
+    #[derive(Clone, Debug)]
+    pub struct Prefix { pub prefix: String, pub name: String }
+}
+";
+
+fn main() {
+    println!("cargo::rerun-if-changed=build.rs");
+    link_archive();
+    name_upstream();
+}
+
+fn link_archive() {
+    println!("cargo::rerun-if-env-changed={ARCHIVE}");
+    let folder = env::var("CARGO_MANIFEST_DIR").expect("Cargo names the package's folder");
+    let repository = Path::new(&folder)
+        .ancestors()
+        .nth(2)
+        .unwrap_or(Path::new("/"));
+    let own = repository.join("crates/isle_c/out/libisle_c.a");
+    let archive = env::var_os(ARCHIVE).map_or(own, PathBuf::from);
+    println!("cargo::rerun-if-changed={}", archive.display());
+    let (Ok(archive), Some(name)) = (
+        archive.canonicalize(),
+        archive.file_name().and_then(OsStr::to_str),
+    ) else {
+        println!(
+            "cargo::error=there is no archive {}: run bindings/rust/archive in the repository \
+             of isle-syntax (it proves the library and makes the archive), or have {ARCHIVE} name one",
+            archive.display()
+        );
+        return;
+    };
+    let folder = archive.parent().expect("a file stands in a folder");
+    println!("cargo::rustc-link-search=native={}", folder.display());
+    println!("cargo::rustc-link-lib=static:+verbatim={name}");
+}
+
+/// Writes the modules that the benchmark includes, where the variable names upstream's crate.
+fn name_upstream() {
+    println!("cargo::rerun-if-env-changed={UPSTREAM}");
+    println!("cargo::rustc-check-cfg=cfg(upstream)");
+    let Some(sources) = env::var_os(UPSTREAM).map(|it| PathBuf::from(it).join("src")) else {
+        return;
+    };
+    let mut modules = String::from(STUBS);
+    for name in MODULES {
+        let file = sources.join(name).with_extension("rs");
+        let Ok(file) = file.canonicalize() else {
+            println!(
+                "cargo::error={UPSTREAM} names no folder of the crate cranelift-isle: there is no {}",
+                file.display()
+            );
+            return;
+        };
+        modules += &format!("#[allow(warnings)]\n#[path = {file:?}]\npub mod {name};\n");
+    }
+    let to = PathBuf::from(env::var_os("OUT_DIR").expect("Cargo names a folder for this"));
+    std::fs::write(to.join("upstream.rs"), modules).expect("that folder can be written");
+    println!("cargo::rustc-cfg=upstream");
+}

@@ -1,0 +1,165 @@
+//! The calls of the static library, over slices.
+//!
+//! The declarations fit `crates/isle_c/src/lib.rt`, where each call's contract stands: a `&[u8]`
+//! crosses as a pointer and then a length, and the parameter for the allocator takes no bytes, so
+//! it isn't passed. Nothing compares the two texts but the tests.
+
+/// What a call tells.
+#[derive(Clone, Copy, Debug, PartialEq, Eq)]
+pub(crate) enum Told {
+    /// The whole answer stands at the front of the slice, and has so many bytes. It is UTF-8.
+    Written(usize),
+    /// The slice is left as it was: it is too short for the answer, which has so many bytes.
+    TooShort(usize),
+    /// The text is one of ISLE.
+    Accepted,
+    /// The text is none of ISLE.
+    Refused,
+    /// A text isn't UTF-8.
+    NotUtf8,
+    /// A growth of memory was refused.
+    Memory,
+}
+
+/// What a call tells, as it crosses.
+#[repr(C)]
+struct Answer {
+    status: u32,
+    len: usize,
+}
+
+impl Answer {
+    /// What a call tells that has a number alone.
+    fn of(status: u32) -> Answer {
+        Answer { status, len: 0 }
+    }
+
+    fn told(self) -> Told {
+        match self.status {
+            0 => Told::Written(self.len),
+            1 => Told::TooShort(self.len),
+            2 => Told::Accepted,
+            3 => Told::Refused,
+            4 => Told::NotUtf8,
+            5 => Told::Memory,
+            status => unreachable!("{status} is above each number that the library's clauses name"),
+        }
+    }
+}
+
+/// Where a text is refused.
+#[repr(C)]
+#[derive(Clone, Copy, Debug, Default, PartialEq, Eq)]
+pub(crate) struct Place {
+    pub offset: usize,
+    pub line: usize,
+    pub column: usize,
+    pub line_begin: usize,
+    pub line_end: usize,
+}
+
+/// A version, by its three numbers.
+#[repr(C)]
+#[derive(Clone, Copy, Debug, PartialEq, Eq)]
+pub(crate) struct Version {
+    pub major: u32,
+    pub minor: u32,
+    pub patch: u32,
+}
+
+unsafe extern "C" {
+    fn isle_c_format(
+        text: *const u8,
+        text_len: usize,
+        width: usize,
+        into: *mut u8,
+        into_len: usize,
+    ) -> Answer;
+
+    fn isle_c_check(text: *const u8, text_len: usize) -> u32;
+
+    fn isle_c_refusal(
+        text: *const u8,
+        text_len: usize,
+        reason: *mut u8,
+        reason_len: usize,
+        place: *mut Place,
+    ) -> Answer;
+
+    fn isle_c_diagnostic(
+        name: *const u8,
+        name_len: usize,
+        text: *const u8,
+        text_len: usize,
+        into: *mut u8,
+        into_len: usize,
+    ) -> Answer;
+
+    safe fn isle_c_version() -> Version;
+}
+
+/// Formats a text at a width.
+pub(crate) fn format(text: &[u8], width: usize, into: &mut [u8]) -> Told {
+    // SAFETY: the declaration fits the library's. Each pointer and length are those of one slice,
+    // which is borrowed for the call, `into` for it alone. The call has no `requires`.
+    let answer = unsafe {
+        isle_c_format(
+            text.as_ptr(),
+            text.len(),
+            width,
+            into.as_mut_ptr(),
+            into.len(),
+        )
+    };
+    answer.told()
+}
+
+/// Tells whether a text is one of ISLE.
+pub(crate) fn check(text: &[u8]) -> Told {
+    // SAFETY: the declaration fits the library's. The pointer and the length are those of one
+    // slice, which is borrowed for the call. The call has no `requires`.
+    let status = unsafe { isle_c_check(text.as_ptr(), text.len()) };
+    Answer::of(status).told()
+}
+
+/// Tells why and where a text is refused.
+pub(crate) fn refusal(text: &[u8], reason: &mut [u8], place: &mut Place) -> Told {
+    // SAFETY: the declaration fits the library's. Each pointer and length are those of one slice,
+    // which is borrowed for the call, `reason` and `place` for it alone. The call has no
+    // `requires`, and any numbers are a place.
+    let answer = unsafe {
+        isle_c_refusal(
+            text.as_ptr(),
+            text.len(),
+            reason.as_mut_ptr(),
+            reason.len(),
+            place,
+        )
+    };
+    answer.told()
+}
+
+/// Gives the diagnostic of a text that is refused, with this name for its file.
+pub(crate) fn diagnostic(name: &[u8], text: &[u8], into: &mut [u8]) -> Told {
+    // SAFETY: the declaration fits the library's. Each pointer and length are those of one slice,
+    // which is borrowed for the call, `into` for it alone. The call has no `requires`.
+    let answer = unsafe {
+        isle_c_diagnostic(
+            name.as_ptr(),
+            name.len(),
+            text.as_ptr(),
+            text.len(),
+            into.as_mut_ptr(),
+            into.len(),
+        )
+    };
+    answer.told()
+}
+
+/// The version of `cranelift-isle` that the library answers as.
+pub(crate) fn version() -> Version {
+    isle_c_version()
+}
+
+#[cfg(test)]
+mod tests;

@@ -1,0 +1,115 @@
+//! The calls on slices of every length, on bytes that are no text, and on the empty text.
+
+use super::*;
+
+/// What stands in a slice before a call.
+const BEFORE: u8 = b'#';
+
+const DECL: &[u8] = b"(decl foo (A) B)\n";
+
+const BROKEN: &[u8] = b"(decl\n    foo\n    (A)\n    B\n)\n";
+
+const REFUSED: &[u8] = b"(decl f () T)\n(decl pure () T)\n";
+
+const NO_UTF8: &[u8] = b"(decl foo (A) \xff)";
+
+/// Makes a call with a slice of each length up to two past the answer's: it is too short as long as
+/// the answer doesn't fit in, and then has it at its front. The rest of it stays as it was.
+fn at_every_length(answer: &[u8], mut call: impl FnMut(&mut [u8]) -> Told) {
+    for len in 0..answer.len() + 3 {
+        let mut room = vec![BEFORE; len + 2];
+        let told = call(&mut room[1..=len]);
+        let mut wanted = vec![BEFORE; len + 2];
+        if len < answer.len() {
+            assert_eq!(told, Told::TooShort(answer.len()), "of {len}");
+        } else {
+            assert_eq!(told, Told::Written(answer.len()), "of {len}");
+            wanted[1..=answer.len()].copy_from_slice(answer);
+        }
+        assert_eq!(room, wanted, "of {len}");
+    }
+}
+
+/// Makes a call that writes nothing, and gives what it tells.
+fn told_alone(call: impl FnOnce(&mut [u8]) -> Told) -> Told {
+    let mut room = [BEFORE; 100];
+    let told = call(&mut room);
+    assert_eq!(room, [BEFORE; 100]);
+    told
+}
+
+#[test]
+fn formats_into_a_slice_of_every_length() {
+    at_every_length(BROKEN, |into| format(DECL, 5, into));
+    at_every_length(DECL, |into| format(DECL, 78, into));
+    at_every_length(b"", |into| format(b"", 78, into));
+    at_every_length(b"", |into| format(b" ; nothing", 78, into));
+}
+
+#[test]
+fn tells_a_refusal_into_a_slice_of_every_length() {
+    let mut place = Place::default();
+    at_every_length(b"Unexpected token LParen", |into| {
+        place = Place::default();
+        let told = refusal(REFUSED, into, &mut place);
+        assert_eq!((place.offset, place.line, place.column), (25, 2, 12));
+        assert_eq!((place.line_begin, place.line_end), (14, 31));
+        told
+    });
+    at_every_length(b"Unexpected EOF", |into| {
+        refusal(b"(decl", into, &mut place)
+    });
+    assert_eq!((place.offset, place.line, place.column), (5, 1, 6));
+    assert_eq!((place.line_begin, place.line_end), (0, 5));
+}
+
+#[test]
+fn shows_a_refusal_into_a_slice_of_every_length() {
+    let shown = b"parse error: Unexpected token LParen\na.isle:2:12: (decl pure () T)\n\n";
+    at_every_length(shown, |into| diagnostic(b"a.isle", REFUSED, into));
+    let shown = b"parse error: Unexpected EOF\n:1:6: (decl\n";
+    at_every_length(shown, |into| diagnostic(b"", b"(decl", into));
+}
+
+#[test]
+fn tells_why_nothing_is_written() {
+    let kept = Place {
+        offset: 1,
+        line: 2,
+        column: 3,
+        line_begin: 4,
+        line_end: 5,
+    };
+    let mut place = kept;
+    assert_eq!(told_alone(|into| format(REFUSED, 78, into)), Told::Refused);
+    assert_eq!(told_alone(|into| format(NO_UTF8, 78, into)), Told::NotUtf8);
+    assert_eq!(
+        told_alone(|into| refusal(DECL, into, &mut place)),
+        Told::Accepted
+    );
+    assert_eq!(
+        told_alone(|into| refusal(NO_UTF8, into, &mut place)),
+        Told::NotUtf8
+    );
+    assert_eq!(place, kept);
+    assert_eq!(
+        told_alone(|into| diagnostic(b"a", DECL, into)),
+        Told::Accepted
+    );
+    assert_eq!(
+        told_alone(|into| diagnostic(b"a", NO_UTF8, into)),
+        Told::NotUtf8
+    );
+    assert_eq!(
+        told_alone(|into| diagnostic(b"\xff", REFUSED, into)),
+        Told::NotUtf8
+    );
+}
+
+#[test]
+fn checks() {
+    assert_eq!(check(b""), Told::Accepted);
+    assert_eq!(check(DECL), Told::Accepted);
+    assert_eq!(check(REFUSED), Told::Refused);
+    assert_eq!(check(NO_UTF8), Told::NotUtf8);
+}

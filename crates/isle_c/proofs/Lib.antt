@@ -1,0 +1,4 @@
+pub mod AnswerLemmas
+pub mod ParsedLaw
+pub mod RefusalLemmas
+pub mod StatusLemmas
