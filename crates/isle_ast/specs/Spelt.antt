@@ -1,6 +1,7 @@
 -- Which definitions a text spells.
 use Rattle.std.specs.Prelude.{◌≡◌, ℕ, List}
 use Rattle.isle_base.specs.declared.lexer.Pos.{Pos}
+use Rattle.isle_base.specs.EarlierLexing.{earlier_lexes}
 use Rattle.isle_base.specs.Lexing.{lexes}
 use Rattle.isle_base.specs.Token.{Feed, Lexeme, end}
 use Rattle.isle_ast.specs.Grammar.{SpellsDefinitions}
@@ -16,3 +17,9 @@ Spells place feed ds = (feed.ending ≡ end) × SpellsDefinitions ds (placed pla
 abbrev pub IsSpelt : (ℕ → Pos) → List ℕ → List Definition → Type 0
 IsSpelt place text ds =
     (tokens : List Lexeme) × lexes text tokens end × SpellsDefinitions ds (placed place tokens)
+
+-- The same with the tokens that the text had before a lone `-` was a symbol. The grammar is
+-- today's.
+abbrev pub WasSpelt : (ℕ → Pos) → List ℕ → List Definition → Type 0
+WasSpelt place text ds =
+    (tokens : List Lexeme) × earlier_lexes text tokens end × SpellsDefinitions ds (placed place tokens)

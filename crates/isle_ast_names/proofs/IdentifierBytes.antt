@@ -11,6 +11,7 @@ use Rattle.isle_base.specs.Literals.{begins_literal}
 use Rattle.isle_base.specs.Pieces.{in_symbol, begins_symbol, Piece}
 use Rattle.isle_base.specs.Skips.{begins_with, is_blank}
 use Rattle.isle_base.specs.Token.{symbol}
+use Rattle.isle_base.proofs.Minus.{plain_here}
 use Rattle.isle_ast_names.specs.Identifier.{is_identifier, are_identifier, begins_identifier, continues_identifier}
 
 -- a byte that isn't ASCII
@@ -154,6 +155,6 @@ pub identifier_is_symbol : (text rest : List ℕ) → is_identifier text ≡ tru
     Piece (text ++ rest) (symbol text) rest
 identifier_is_symbol text rest e stops =
     let h = identifier_bytes text e in (
-      subst (λ bs. begins_with begins_symbol (bs ++ rest) ≡ true) (sym h.split) h.begins,
+      plain_here (text ++ rest) (subst (λ bs. begins_with begins_symbol (bs ++ rest) ≡ true) (sym h.split) h.begins),
       record { split = refl; each = identifier_in_symbol text e; stops = stops },
     )

@@ -63,9 +63,8 @@ pub record AreVariant (enum case : Name) (place : Pos) : Type 0 where
   pub name_position : enum.pos ≡ place
   pub variant_position : case.pos ≡ place
 
--- An operator that takes any arguments. No text has a symbol `-`, which begins a number.
+-- an operator that takes any arguments
 abbrev pub is_plain_operator : SpecOp → Bool
-is_plain_operator op.Sub = false
 is_plain_operator op.Switch = false
 is_plain_operator _ = true
 

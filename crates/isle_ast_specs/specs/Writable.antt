@@ -42,8 +42,7 @@ abbrev mutual
   AreWritableModelFields no_model_field = Unit {0}
   AreWritableModelFields (model_field name ty fields) = IsName name × IsWritableModel ty × AreWritableModelFields fields
 
--- A `switch` has an argument and then pairs, which stand nowhere else. No other operator but `-` has a
--- condition, and `-` is never written.
+-- A `switch` has an argument and then pairs, which stand nowhere else. No other operator has a condition.
 abbrev mutual
   pub IsWritableSpec : SpecNode → Type 0
   IsWritableSpec (int_spec val _) = IsSigned 127 val
@@ -54,8 +53,7 @@ abbrev mutual
   IsWritableSpec (field_spec field x _) = IsName field × IsWritableSpec x
   IsWritableSpec (discriminator_spec variant x _) = IsName variant × IsWritableSpec x
   IsWritableSpec (op_spec operator args _) =
-      (operator ≢ op.Sub)
-      × ((operator ≡ op.Switch) × AreWritableCases args ⊎ (operator ≢ op.Switch) × AreWritableSpecs args)
+      (operator ≡ op.Switch) × AreWritableCases args ⊎ (operator ≢ op.Switch) × AreWritableSpecs args
   IsWritableSpec (match_spec x arms _) = IsWritableSpec x × AreWritableArms arms
   IsWritableSpec (let_spec defs body _) = AreWritableSpecLets defs × IsWritableSpec body
   IsWritableSpec (with_spec decls body _) = Each IsName decls × IsWritableSpec body

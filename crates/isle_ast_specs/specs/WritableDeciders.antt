@@ -61,9 +61,8 @@ abbrev pub is_writable_variant_name : Name → Name → Bool
 is_writable_variant_name enum case =
     ((is_name enum && is_name case) && not (has_dot enum.text)) && not (is_word (codes "fp") enum && is_float_name case.text)
 
--- `-` is never written, a `switch` has cases, and any other operator has arguments
+-- a `switch` has cases, and any other operator has arguments
 abbrev pub by_operator : SpecOp → Bool → Bool → Bool
-by_operator op.Sub cases arguments = false
 by_operator op.Switch cases arguments = cases
 by_operator _ cases arguments = arguments
 

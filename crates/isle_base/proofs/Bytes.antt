@@ -1,10 +1,10 @@
 -- What the first byte of a piece says about the classes of bytes.
 use Rattle.std.proofs.Common.{◌≡◌, ◌<◌, ◌≤◌, ℕ, List, [], ◌∷◌, Bool, true, false, refl, ap, ◌∙◌, arith, eqb, ⊎_elim, ◌&&◌, not, inl, inr}
-use Rattle.std.proofs.lemmas.Bool.{and_parts, cases_Bool, cases_eq, both_ways, eqb-true}
+use Rattle.std.proofs.lemmas.Bool.{and_parts, or_cases, cases_Bool, cases_eq, both_ways, eqb-true}
 use Rattle.std.proofs.lemmas.Bool.Decides.{nat_tests}
 use Rattle.isle_base.specs.Literals.{begins_literal, in_literal}
-use Rattle.isle_base.specs.Pieces.{in_symbol, begins_symbol}
-use Rattle.isle_base.specs.Skips.{is_blank, opens}
+use Rattle.isle_base.specs.Pieces.{in_symbol, begins_symbol, is_lone_minus, symbol_here}
+use Rattle.isle_base.specs.Skips.{begins_with, is_blank, opens}
 
 -- a byte of a kind is none that isn't
 pub other_byte : (kind : ℕ → Bool) (b c : ℕ) → kind b ≡ true → kind c ≡ false → eqb b c ≡ false
@@ -73,33 +73,33 @@ literal_not_blank b h =
     let return = other_byte begins_literal b 13 h refl in
     rw (space, tab, feed, return) refl
 
-pub symbol_ne_open : (b : ℕ) → begins_symbol b ≡ true → eqb b 40 ≡ false
-unfolding begins_symbol in_symbol begins_literal is_blank
-symbol_ne_open b h = other_byte begins_symbol b 40 h refl
+pub symbol_ne_open : (b : ℕ) → in_symbol b ≡ true → eqb b 40 ≡ false
+unfolding in_symbol is_blank
+symbol_ne_open b h = other_byte in_symbol b 40 h refl
 
-pub symbol_ne_close : (b : ℕ) → begins_symbol b ≡ true → eqb b 41 ≡ false
-unfolding begins_symbol in_symbol begins_literal is_blank
-symbol_ne_close b h = other_byte begins_symbol b 41 h refl
+pub symbol_ne_close : (b : ℕ) → in_symbol b ≡ true → eqb b 41 ≡ false
+unfolding in_symbol is_blank
+symbol_ne_close b h = other_byte in_symbol b 41 h refl
 
-pub symbol_ne_at : (b : ℕ) → begins_symbol b ≡ true → eqb b 64 ≡ false
-unfolding begins_symbol in_symbol begins_literal is_blank
-symbol_ne_at b h = other_byte begins_symbol b 64 h refl
+pub symbol_ne_at : (b : ℕ) → in_symbol b ≡ true → eqb b 64 ≡ false
+unfolding in_symbol is_blank
+symbol_ne_at b h = other_byte in_symbol b 64 h refl
 
-pub symbol_ne_feed : (b : ℕ) → begins_symbol b ≡ true → eqb b 12 ≡ false
-unfolding begins_symbol in_symbol begins_literal is_blank
-symbol_ne_feed b h = other_byte begins_symbol b 12 h refl
+pub symbol_ne_feed : (b : ℕ) → in_symbol b ≡ true → eqb b 12 ≡ false
+unfolding in_symbol is_blank
+symbol_ne_feed b h = other_byte in_symbol b 12 h refl
 
-pub symbol_ne_semicolon : (b : ℕ) → begins_symbol b ≡ true → eqb b 59 ≡ false
-unfolding begins_symbol in_symbol begins_literal is_blank
-symbol_ne_semicolon b h = other_byte begins_symbol b 59 h refl
+pub symbol_ne_semicolon : (b : ℕ) → in_symbol b ≡ true → eqb b 59 ≡ false
+unfolding in_symbol is_blank
+symbol_ne_semicolon b h = other_byte in_symbol b 59 h refl
 
-pub symbol_not_blank : (b : ℕ) → begins_symbol b ≡ true → is_blank b ≡ false
-unfolding begins_symbol in_symbol begins_literal is_blank
+pub symbol_not_blank : (b : ℕ) → in_symbol b ≡ true → is_blank b ≡ false
+unfolding in_symbol is_blank
 symbol_not_blank b h =
-    let space = other_byte begins_symbol b 32 h refl in
-    let tab = other_byte begins_symbol b 9 h refl in
-    let feed = other_byte begins_symbol b 10 h refl in
-    let return = other_byte begins_symbol b 13 h refl in
+    let space = other_byte in_symbol b 32 h refl in
+    let tab = other_byte in_symbol b 9 h refl in
+    let feed = other_byte in_symbol b 10 h refl in
+    let return = other_byte in_symbol b 13 h refl in
     rw (space, tab, feed, return) refl
 
 not_both : (a b : Bool) → (a && not b) ≡ true → b ≡ true → ⊥
@@ -121,9 +121,21 @@ pub opens_not : (b : ℕ) (rest : List ℕ) → eqb b 40 ≡ false → opens (b 
 opens_not b [] h = refl
 opens_not b (c ∷ rest) h = rw h refl
 
-pub symbol_stays : (b : ℕ) → begins_symbol b ≡ true → in_symbol b ≡ true
+begins_stays : (b : ℕ) → begins_symbol b ≡ true → in_symbol b ≡ true
 unfolding begins_symbol
-symbol_stays b h = (and_parts (in_symbol b) (not (begins_literal b)) h).0
+begins_stays b h = (and_parts (in_symbol b) (not (begins_literal b)) h).0
+
+minus_in_symbol : in_symbol 45 ≡ true
+unfolding in_symbol is_blank
+minus_in_symbol = refl
+
+-- the first byte of a symbol, a lone `-` too, may stand in one
+pub symbol_stays : (b : ℕ) (rest : List ℕ) → symbol_here (b ∷ rest) ≡ true → in_symbol b ≡ true
+symbol_stays b rest h =
+    ⊎_elim
+    (begins_stays b)
+    (λ lone. ap in_symbol (eqb-true b 45 (and_parts (eqb b 45) (not (begins_with in_symbol rest)) lone).0) ∙ minus_in_symbol)
+    (or_cases (begins_symbol b) (is_lone_minus (b ∷ rest)) h)
 
 pub digit_stays : (b : ℕ) → begins_literal b ≡ true → eqb b 45 ≡ false → in_literal b ≡ true
 unfolding begins_literal in_literal

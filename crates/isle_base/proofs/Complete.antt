@@ -1,15 +1,16 @@
 -- What the view computes is what the relations say, if they say anything: so a text has just one
 -- list of tokens and one ending.
-use Rattle.std.proofs.Common.{◌≡◌, ℕ, zero, suc, ◌≤◌, ◌<◌, List, [], ◌∷◌, Bool, true, false, Option, Some, None, MatchOption, ℤ, length, drop, is_some, refl, sym, ap, subst, ⊎_elim, ◌∙◌, eqb, arith, length-append, length-drop}
-use Rattle.std.proofs.lemmas.Bool.{cases_Bool, cond-true, cond-false, cond_both, both_ways}
+use Rattle.std.proofs.Common.{◌≡◌, ℕ, zero, suc, ◌≤◌, ◌<◌, List, [], ◌∷◌, Bool, true, false, Option, Some, None, MatchOption, ℤ, length, drop, ◌&&◌, not, is_some, refl, sym, ap, subst, ⊎_elim, ◌∙◌, eqb, arith, length-append, length-drop}
+use Rattle.std.proofs.lemmas.Bool.{or_cases, cases_Bool, cond-true, cond-false, cond_both, both_ways}
 use Rattle.isle_base.specs.Computed.{First, ended, refused, found, close, literal_first, piece_first, comment_first, first, computed_by, computed}
 use Rattle.isle_base.specs.Lexing.{Faulty, unclosed, form_feed, literal, Lexes}
 use Rattle.isle_base.specs.Literals.{begins_literal, in_literal, behind_minus, prefix_radix, behind_prefix, Literal}
-use Rattle.isle_base.specs.Pieces.{begins_symbol, in_symbol, Piece}
+use Rattle.isle_base.specs.Pieces.{begins_symbol, in_symbol, is_lone_minus, symbol_here, Piece}
 use Rattle.isle_base.specs.Skips.{Skip, nothing, blank, line_comment, block_comment, Inside, Longest, is_blank, in_line, opens, begins_with}
 use Rattle.isle_base.specs.Token.{Tok, lparen, rparen, symbol, integer, at_sign, Lexeme, Ending, end, fault}
 use Rattle.isle_base.proofs.Bytes as bytes
 use Rattle.isle_base.proofs.Comments.{Inside-unique, Inside-shorter, close_gives}
+use Rattle.isle_base.proofs.Minus.{valued_not_lone}
 use Rattle.isle_base.proofs.Runs.{longest, Longest-unique}
 
 -- where a comment ends, `close` finds it
@@ -22,18 +23,31 @@ close_none inner None h never = refl
 close_none inner (Some rest) h never = absurd (never h.0 h.1)
 
 -- a literal, whatever its value
-literal_computed : (b : ℕ) (rest after : List ℕ) (value : Option ℤ) → Literal (b ∷ rest) value after → piece_first (b ∷ rest) ≡ literal_first (b ∷ rest) after value
+literal_computed : (b : ℕ) (rest after : List ℕ) (value : Option ℤ) → Literal (b ∷ rest) value after → is_lone_minus (b ∷ rest) ≡ false → piece_first (b ∷ rest) ≡ literal_first (b ∷ rest) after value
 unfolding piece_first
-literal_computed b rest after value l =
+literal_computed b rest after value l whole =
     let begins = l.begins in
     let run = Longest-unique (longest in_literal (behind_prefix (behind_minus (b ∷ rest)))) l.longest in
-    rw (bytes.literal_ne_open b begins, bytes.literal_ne_close b begins, bytes.literal_ne_at b begins, bytes.literal_ne_feed b begins, begins, run.1, run.0, ← l.meaning) refl
+    rw (bytes.literal_ne_open b begins, bytes.literal_ne_close b begins, bytes.literal_ne_at b begins, bytes.literal_ne_feed b begins, begins, whole, run.1, run.0, ← l.meaning) refl
 
-symbol_computed : (b : ℕ) (rest name after : List ℕ) → begins_symbol b ≡ true → Longest in_symbol (b ∷ rest) name after → piece_first (b ∷ rest) ≡ found (b ∷ rest) (symbol name) after
+lone_no_literal : (begins lone : Bool) → lone ≡ true → (begins && not lone) ≡ false
+lone_no_literal true lone h = rw h refl
+lone_no_literal false lone h = refl
+
+-- where a symbol begins no literal does, but a lone `-`, which is none
+symbol_no_literal : (b : ℕ) (rest : List ℕ) → symbol_here (b ∷ rest) ≡ true → (begins_literal b && not (is_lone_minus (b ∷ rest))) ≡ false
+symbol_no_literal b rest begins =
+    ⊎_elim
+    (λ plain. rw (bytes.symbol_not_literal b plain) refl)
+    (λ lone. lone_no_literal (begins_literal b) (is_lone_minus (b ∷ rest)) lone)
+    (or_cases (begins_symbol b) (is_lone_minus (b ∷ rest)) begins)
+
+symbol_computed : (b : ℕ) (rest name after : List ℕ) → symbol_here (b ∷ rest) ≡ true → Longest in_symbol (b ∷ rest) name after → piece_first (b ∷ rest) ≡ found (b ∷ rest) (symbol name) after
 unfolding piece_first
 symbol_computed b rest name after begins l =
     let run = Longest-unique (longest in_symbol (b ∷ rest)) l in
-    rw (bytes.symbol_ne_open b begins, bytes.symbol_ne_close b begins, bytes.symbol_ne_at b begins, bytes.symbol_ne_feed b begins, bytes.symbol_not_literal b begins, run.1, run.0) refl
+    let stays = bytes.symbol_stays b rest begins in
+    rw (bytes.symbol_ne_open b stays, bytes.symbol_ne_close b stays, bytes.symbol_ne_at b stays, bytes.symbol_ne_feed b stays, symbol_no_literal b rest begins, run.1, run.0) refl
 
 -- A text that begins with a piece, or with a fault that is no comment: no skip begins there.
 record Stands (text : List ℕ) (gives : First) : Type 0 where
@@ -45,27 +59,27 @@ record Stands (text : List ℕ) (gives : First) : Type 0 where
   no_block : opens text ≡ false
   computed_as : piece_first text ≡ gives
 
-literal_stands : (text after : List ℕ) (value : Option ℤ) → Literal text value after → Stands text (literal_first text after value)
-literal_stands [] after value l = let never = l.begins in cc
-literal_stands (b ∷ rest) after value l = record {
+literal_stands : (text after : List ℕ) (value : Option ℤ) → Literal text value after → is_lone_minus text ≡ false → Stands text (literal_first text after value)
+literal_stands [] after value l whole = let never = l.begins in cc
+literal_stands (b ∷ rest) after value l whole = record {
   head = b;
   tail = rest;
   is = refl;
   not_blank = bytes.literal_not_blank b l.begins;
   no_line = bytes.literal_ne_semicolon b l.begins;
   no_block = bytes.opens_not b rest (bytes.literal_ne_open b l.begins);
-  computed_as = literal_computed b rest after value l;
+  computed_as = literal_computed b rest after value l whole;
 }
 
-symbol_stands : (text name after : List ℕ) → begins_with begins_symbol text ≡ true → Longest in_symbol text name after → Stands text (found text (symbol name) after)
+symbol_stands : (text name after : List ℕ) → symbol_here text ≡ true → Longest in_symbol text name after → Stands text (found text (symbol name) after)
 symbol_stands [] name after begins l = cc
 symbol_stands (b ∷ rest) name after begins l = record {
   head = b;
   tail = rest;
   is = refl;
-  not_blank = bytes.symbol_not_blank b begins;
-  no_line = bytes.symbol_ne_semicolon b begins;
-  no_block = bytes.opens_not b rest (bytes.symbol_ne_open b begins);
+  not_blank = bytes.symbol_not_blank b (bytes.symbol_stays b rest begins);
+  no_line = bytes.symbol_ne_semicolon b (bytes.symbol_stays b rest begins);
+  no_block = bytes.opens_not b rest (bytes.symbol_ne_open b (bytes.symbol_stays b rest begins));
   computed_as = symbol_computed b rest name after begins l;
 }
 
@@ -78,15 +92,15 @@ piece_stands text rparen after p =
 piece_stands text at_sign after p =
     subst (λ t. Stands t (found t at_sign after)) (sym p) (record { head = 64; tail = after; is = refl; not_blank = refl; no_line = refl; no_block = bytes.opens_not 64 after refl; computed_as = refl })
 piece_stands text (symbol name) after p = symbol_stands text name after p.0 p.1
-piece_stands text (integer value) after p = literal_stands text after (Some value) p
+piece_stands text (integer value) after p = literal_stands text after (Some value) p (valued_not_lone text value after p)
 
 feed_stands : (after : List ℕ) → Stands (12 ∷ after) (refused (12 ∷ after))
 unfolding is_blank piece_first
 feed_stands after = record { head = 12; tail = after; is = refl; not_blank = refl; no_line = refl; no_block = bytes.opens_not 12 after refl; computed_as = refl }
 
-unvalued_stands : (text after : List ℕ) → Literal text None after → Stands text (refused text)
+unvalued_stands : (text after : List ℕ) → Literal text None after → is_lone_minus text ≡ false → Stands text (refused text)
 unfolding literal_first
-unvalued_stands text after l = literal_stands text after None l
+unvalued_stands text after l whole = literal_stands text after None l whole
 
 first_stands : (text : List ℕ) (gives : First) → Stands text gives → (n : ℕ) → length text ≤ n → first n text ≡ gives
 unfolding first
@@ -106,7 +120,7 @@ first_faulty text (unclosed {inner = inner} e never) (suc n) h =
     ap (first (suc n)) e ∙ whole ∙ sym (ap refused e)
 first_faulty text (form_feed {after = after} e) n h =
     first_stands text (refused text) (subst (λ t. Stands t (refused t)) (sym e) (feed_stands after)) n h
-first_faulty text (literal {rest = after} l) n h = first_stands text (refused text) (unvalued_stands text after l) n h
+first_faulty text (literal {rest = after} l whole) n h = first_stands text (refused text) (unvalued_stands text after l whole) n h
 
 -- what `first` computes, given as many steps as there are bytes
 abbrev Computes : List ℕ → First → Type 0
@@ -188,15 +202,15 @@ Piece-shorter text lparen after p = rw p.0 (omega arith)
 Piece-shorter text rparen after p = rw p (omega arith)
 Piece-shorter text at_sign after p = rw p (omega arith)
 Piece-shorter [] (symbol name) after p = let begins = p.0 in cc
-Piece-shorter (b ∷ rest) (symbol name) after p = run_shorter in_symbol b rest name after (bytes.symbol_stays b p.0) p.1
+Piece-shorter (b ∷ rest) (symbol name) after p = run_shorter in_symbol b rest name after (bytes.symbol_stays b rest p.0) p.1
 Piece-shorter [] (integer value) after p = let begins = p.begins in cc
 Piece-shorter (b ∷ rest) (integer value) after p = literal_shorter b rest p.run after p.begins p.longest
 
 pub Faulty-nonempty : {text : List ℕ} → Faulty text → 0 < length text
 Faulty-nonempty (unclosed e never) = rw e (omega arith)
 Faulty-nonempty (form_feed e) = rw e (omega arith)
-Faulty-nonempty {text = []} (literal l) = let begins = l.begins in cc
-Faulty-nonempty {text = b ∷ rest} (literal l) = omega arith
+Faulty-nonempty {text = []} (literal l whole) = let begins = l.begins in cc
+Faulty-nonempty {text = b ∷ rest} (literal l whole) = omega arith
 
 computed_is : (size : ℕ) (text : List ℕ) (xs : List Lexeme) (ending : Ending) → Lexes size text xs ending → (n : ℕ) → length text ≤ n → computed n size text ≡ record { tokens = xs; ending = ending }
 unfolding computed computed_by

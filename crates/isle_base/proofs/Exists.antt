@@ -1,15 +1,16 @@
 -- What the view computes is so: each text has tokens and an ending.
-use Rattle.std.proofs.Common.{◌≡◌, ℕ, zero, suc, ◌≤◌, ◌<◌, List, [], ◌∷◌, true, false, Option, Some, None, MatchOption, ℤ, length, drop, refl, ap, subst, eqb, arith}
+use Rattle.std.proofs.Common.{◌≡◌, ℕ, zero, suc, ◌≤◌, ◌<◌, List, [], ◌∷◌, Bool, true, false, ◌&&◌, not, ⊎_elim, sym, Option, Some, None, MatchOption, ℤ, length, drop, refl, ap, subst, eqb, arith}
 use Rattle.std.specs.List.{take_while}
-use Rattle.std.proofs.lemmas.Bool.{cond_both, eqb-true}
+use Rattle.std.proofs.lemmas.Bool.{and_parts, cases_Bool, cond_both, eqb-true}
 use Rattle.isle_base.specs.Computed.{First, ended, refused, found, behind, close, literal_first, piece_first, comment_first, first, Computed, computed_by, computed}
 use Rattle.isle_base.specs.Lexing.{Faulty, unclosed, form_feed, literal, Lexes}
 use Rattle.isle_base.specs.Literals.{begins_literal, in_literal, behind_minus, behind_prefix, Literal}
-use Rattle.isle_base.specs.Pieces.{in_symbol, Piece}
+use Rattle.isle_base.specs.Pieces.{begins_symbol, in_symbol, is_lone_minus, symbol_here, Piece}
 use Rattle.isle_base.specs.Skips.{Skip, nothing, blank, line_comment, block_comment, Inside, is_blank, in_line, opens}
 use Rattle.isle_base.proofs.Bytes.{symbol_else}
 use Rattle.isle_base.proofs.Comments.{opens_as, Inside-shorter, close_gives}
 use Rattle.isle_base.proofs.Complete.{Skip-le, Longest-le, Piece-shorter}
+use Rattle.isle_base.proofs.Minus.{begins_here, lone_here}
 use Rattle.isle_base.proofs.Runs.{longest}
 
 -- the text begins with this, behind a skip
@@ -18,10 +19,27 @@ Sound text ended = Skip text []
 Sound text (refused from) = Skip text from × Faulty from
 Sound text (found from token after) = Skip text from × Piece from token after
 
-literal_sound : (text after : List ℕ) (value : Option ℤ) → Literal text value after → Sound text (literal_first text after value)
+literal_sound : (text after : List ℕ) (value : Option ℤ) → Literal text value after → is_lone_minus text ≡ false → Sound text (literal_first text after value)
 unfolding literal_first
-literal_sound text after None l = (nothing refl, literal l)
-literal_sound text after (Some value) l = (nothing refl, l)
+literal_sound text after None l whole = (nothing refl, literal l whole)
+literal_sound text after (Some value) l whole = (nothing refl, l)
+
+not_lone : (lone : Bool) → not lone ≡ true → lone ≡ false
+not_lone true h = sym h
+not_lone false h = refl
+
+no_literal : (begins lone : Bool) → (begins && not lone) ≡ false → lone ≡ false → begins ≡ false
+no_literal true true h e = e
+no_literal true false h e = h
+no_literal false lone h e = refl
+
+-- where no literal begins, or a lone `-` stands, a symbol does
+symbol_sound : (b : ℕ) (rest : List ℕ) → (begins_literal b ≡ false → begins_symbol b ≡ true) → (begins_literal b && not (is_lone_minus (b ∷ rest))) ≡ false → symbol_here (b ∷ rest) ≡ true
+symbol_sound b rest plain h =
+    ⊎_elim
+    (λ lone. lone_here (b ∷ rest) lone)
+    (λ whole. begins_here b rest (plain (no_literal (begins_literal b) (is_lone_minus (b ∷ rest)) h whole)))
+    (cases_Bool (is_lone_minus (b ∷ rest)))
 
 piece_sound : (b : ℕ) (rest : List ℕ) → is_blank b ≡ false → eqb b 59 ≡ false → opens (b ∷ rest) ≡ false → Sound (b ∷ rest) (piece_first (b ∷ rest))
 unfolding piece_first
@@ -30,14 +48,14 @@ piece_sound b rest not_blank no_line no_block =
     cond_both (eqb b 41) _ _ (Sound (b ∷ rest)) (λ e. (nothing refl, ap (λ x. x ∷ rest) (eqb-true b 41 e))) (λ no_close.
     cond_both (eqb b 64) _ _ (Sound (b ∷ rest)) (λ e. (nothing refl, ap (λ x. x ∷ rest) (eqb-true b 64 e))) (λ no_at.
     cond_both (eqb b 12) _ _ (Sound (b ∷ rest)) (λ e. (nothing refl, form_feed (ap (λ x. x ∷ rest) (eqb-true b 12 e)))) (λ no_feed.
-    cond_both (begins_literal b) _ _ (Sound (b ∷ rest))
+    cond_both (begins_literal b && not (is_lone_minus (b ∷ rest))) _ _ (Sound (b ∷ rest))
     (λ begins. literal_sound (b ∷ rest) (behind in_literal (behind_prefix (behind_minus (b ∷ rest)))) _ (record {
-      begins = begins;
+      begins = (and_parts (begins_literal b) (not (is_lone_minus (b ∷ rest))) begins).0;
       run = take_while in_literal (behind_prefix (behind_minus (b ∷ rest)));
       longest = longest in_literal (behind_prefix (behind_minus (b ∷ rest)));
       meaning = refl;
-    }))
-    (λ no_literal. (nothing refl, (symbol_else b not_blank no_line no_open no_close no_at no_feed no_literal, longest in_symbol (b ∷ rest))))))))
+    }) (not_lone (is_lone_minus (b ∷ rest)) (and_parts (begins_literal b) (not (is_lone_minus (b ∷ rest))) begins).1))
+    (λ no_literal. (nothing refl, (symbol_sound b rest (symbol_else b not_blank no_line no_open no_close no_at no_feed) no_literal, longest in_symbol (b ∷ rest))))))))
 
 -- what stands behind the first part of a skip
 sound_behind : (text mid : List ℕ) (f : First) → ((from : List ℕ) → Skip mid from → Skip text from) → Sound mid f → Sound text f

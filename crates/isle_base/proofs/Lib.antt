@@ -1,6 +1,7 @@
 pub mod Bytes
 pub mod Comments
 pub mod Runs
+pub mod Minus
 pub mod Complete
 pub mod Exists
 pub mod Utf8
@@ -15,3 +16,4 @@ pub mod Shown
 pub mod SourceLemmas
 pub mod Stepping
 pub mod Values
+pub mod Earlier

@@ -1,10 +1,10 @@
 -- How the view of a lexer computes the tokens of a text. It is only that: what the tokens of a text
 -- are is said by `lexes`, and no contract of a call names anything of this file.
-use Rattle.std.specs.Prelude.{ℕ, zero, suc, ◌-◌, List, [], ◌∷◌, Bool, ◌&&◌, ◌==◌, if◌then◌else◌, Option, Some, None, length, drop, ℤ}
+use Rattle.std.specs.Prelude.{ℕ, zero, suc, ◌-◌, List, [], ◌∷◌, Bool, ◌&&◌, not, ◌==◌, if◌then◌else◌, Option, Some, None, length, drop, ℤ}
 use Rattle.std.specs.List.{prefix_len, take_while}
 use Rattle.isle_base.specs.Bytes.{form_feed, left_parenthesis, right_parenthesis, semicolon, commercial_at}
 use Rattle.isle_base.specs.Literals.{begins_literal, in_literal, has_minus, behind_minus, radix_at, behind_prefix, digits_of, value_of}
-use Rattle.isle_base.specs.Pieces.{in_symbol}
+use Rattle.isle_base.specs.Pieces.{in_symbol, is_lone_minus}
 use Rattle.isle_base.specs.Skips.{opens, is_blank, in_line}
 use Rattle.isle_base.specs.Token.{Tok, lparen, rparen, symbol, integer, at_sign, Lexeme, Ending, end, fault}
 
@@ -39,7 +39,7 @@ piece_first (b ∷ rest) =
     else (if b == right_parenthesis then found (b ∷ rest) rparen rest
     else (if b == commercial_at then found (b ∷ rest) at_sign rest
     else (if b == form_feed then refused (b ∷ rest)
-    else (if begins_literal b then literal_first (b ∷ rest) (behind in_literal (behind_prefix (behind_minus (b ∷ rest)))) (value_of (has_minus (b ∷ rest)) (radix_at (behind_minus (b ∷ rest))) (digits_of (take_while in_literal (behind_prefix (behind_minus (b ∷ rest))))))
+    else (if begins_literal b && not (is_lone_minus (b ∷ rest)) then literal_first (b ∷ rest) (behind in_literal (behind_prefix (behind_minus (b ∷ rest)))) (value_of (has_minus (b ∷ rest)) (radix_at (behind_minus (b ∷ rest))) (digits_of (take_while in_literal (behind_prefix (behind_minus (b ∷ rest))))))
     else found (b ∷ rest) (symbol (take_while in_symbol (b ∷ rest))) (behind in_symbol (b ∷ rest))))))
 
 unfoldable pub comment_first : (List ℕ → First) → List ℕ → Option (List ℕ) → First

@@ -8,7 +8,7 @@ use Rattle.isle_base.specs.declared.error.Span.{Span}
 use Rattle.isle_base.specs.declared.lexer.Fault.{Fault}
 use Rattle.isle_base.specs.declared.lexer.Fault.TheVariants as faults
 use Rattle.isle_base.specs.Labels.{labels}
-use Rattle.isle_base.specs.Lines.{line, column, line_text}
+use Rattle.isle_base.specs.Lines.{line, column, line_text, missing_line_feed}
 use Rattle.isle_base.specs.Source.{Source, source_at}
 
 -- some errors, and the files that they speak of
@@ -31,11 +31,12 @@ fault_text (faults.Error e) = message e
 fault_text faults.Failed = codes "the text was refused before"
 fault_text faults.Memory = codes "out of memory"
 
--- a place in a file: its name, line and column, counted from 1, and the line itself, with its LF if it has one
+-- a place in a file: its name, line and column, counted from 1, and the line itself, with a LF in any case
 abbrev pub place_text : Source → ℕ → List ℕ
 place_text source offset =
     source.name ++ codes ":" ++ decimal (line source.text offset + 1) ++ codes ":"
     ++ decimal (column source.text offset + 1) ++ codes ": " ++ line_text source.text (line source.text offset)
+    ++ missing_line_feed source.text (line source.text offset)
 
 unfoldable pub label_text : List Source → Span → List ℕ
 label_text files span = place_text (source_at files span.from.file) span.from.offset

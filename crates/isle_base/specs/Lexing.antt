@@ -1,17 +1,17 @@
 -- The tokens of a text, and how they end.
-use Rattle.std.specs.Prelude.{◌≡◌, ℕ, ◌-◌, List, [], ◌∷◌, length, None}
+use Rattle.std.specs.Prelude.{◌≡◌, ℕ, ◌-◌, List, [], ◌∷◌, false, length, None}
 use Rattle.isle_base.specs.Bytes.{form_feed as form_feed_byte, left_parenthesis, semicolon}
 use Rattle.isle_base.specs.Literals.{Literal}
-use Rattle.isle_base.specs.Pieces.{Piece}
+use Rattle.isle_base.specs.Pieces.{is_lone_minus, Piece}
 use Rattle.isle_base.specs.Skips.{Skip, Inside}
 use Rattle.isle_base.specs.Token.{Lexeme, Ending, end, fault}
 
 -- Here the text is refused: at a `(;` that begins no whole block comment, at a form feed, or at a
--- literal without a value.
+-- literal without a value, save a lone `-`.
 pub data Faulty : List ℕ → Type 0 where
   unclosed : {text inner : List ℕ} → text ≡ left_parenthesis ∷ semicolon ∷ inner → ((rest : List ℕ) → Inside inner rest → ⊥) → Faulty text
   form_feed : {text after : List ℕ} → text ≡ form_feed_byte ∷ after → Faulty text
-  literal : {text rest : List ℕ} → Literal text None rest → Faulty text
+  literal : {text rest : List ℕ} → Literal text None rest → is_lone_minus text ≡ false → Faulty text
 
 -- The last bytes of a text of this size are a skip, a piece, a skip, a piece and so on. They end
 -- with a skip, or with a fault behind one, where lexing stops. The offset of a place is what is

@@ -1,6 +1,7 @@
 pub mod Bytes
 pub mod Computed
 pub mod Diagnostic
+pub mod EarlierLexing
 pub mod Labels
 pub mod LexerView
 pub mod Lexing

@@ -1,5 +1,5 @@
 -- The lines of a text, counted from 0. A LF is the last byte of its line.
-use Rattle.std.specs.Prelude.{ℕ, ◌+◌, ◌-◌, ◌==◌, if◌then◌else◌, List, [], ◌∷◌, length, take, count_by, slice_index, slice_index_or, slice_range}
+use Rattle.std.specs.Prelude.{ℕ, ◌+◌, ◌-◌, ◌==◌, nat_lt, Bool, if◌then◌else◌, List, [], ◌∷◌, length, take, count_by, slice_index, slice_index_or, slice_range}
 use Rattle.isle_base.specs.Bytes.{line_feed}
 
 -- the line on which an offset lies: how many LFs stand below it
@@ -26,6 +26,14 @@ line_end text number = slice_index_or (line_ends text) number (length text)
 -- the bytes of a line, with its LF if it has one
 abbrev pub line_text : List ℕ → ℕ → List ℕ
 line_text text number = slice_range text (line_begin text number) (line_end text number)
+
+-- whether a line ends with a LF: all but the last one do
+abbrev pub has_line_feed : List ℕ → ℕ → Bool
+has_line_feed text number = nat_lt number (length (line_ends text))
+
+-- the LF that a line lacks
+abbrev pub missing_line_feed : List ℕ → ℕ → List ℕ
+missing_line_feed text number = if has_line_feed text number then [] else line_feed ∷ []
 
 -- how many bytes of its line stand before an offset, where an offset past the text is on the last line
 abbrev pub column : List ℕ → ℕ → ℕ

@@ -1,6 +1,6 @@
 -- Integer literals: an optional `-`, an optional prefix, and the longest run of hexadecimal digits
 -- and `_`. Underscores don't count. A literal that writes no number, or one that doesn't fit, has
--- no value: the text is refused there.
+-- no value: the text is refused there, save at a lone `-`, which is a symbol.
 use Rattle.std.specs.Prelude.{◌≡◌, ℕ, ℤ, pos, neg_ℤ, ◌-ℤ◌, ◌+◌, ◌*◌, ◌^◌, List, [], ◌∷◌, drop, length, map, filter, Bool, true, false, ◌||◌, not, ◌==◌, nat_lt, if◌then◌else◌, Option, Some, None, unwrap_or, is_some}
 use Rattle.std.specs.Char.{digit_value, is_ascii_digit, is_ascii_hexdigit}
 use Rattle.std.specs.List.{list_all}

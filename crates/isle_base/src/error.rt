@@ -44,9 +44,9 @@ impl std::error::Error for Errors {}
 /// there are.
 ///
 /// An error is its message and a line end; then for each place the file's name, the line and the
-/// column (in bytes, both from 1) and that line of the file, with its line feed if it has one;
-/// then a line end. Rules are shown in their order, a mask before the rules that it shadows. An
-/// offset past the text is on the last line.
+/// column (in bytes, both from 1) and that line of the file with its line feed, or with one added
+/// where it has none, which is so of a last line alone; then a line end. Rules are shown in their
+/// order, a mask before the rules that it shadows. An offset past the text is on the last line.
 ///
 /// The text is the same whatever options the formatter has, such as `{:#}`. It takes no memory, and
 /// refuses only where the formatter does: what was written before stays written.

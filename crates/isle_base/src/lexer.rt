@@ -14,7 +14,7 @@ ghost use Rattle.isle_base.specs.declared.lexer.Fault.TheVariants.{Failed, Memor
 mod lanes;
 pub mod laws;
 pub(crate) mod literal;
-mod read;
+pub(crate) mod read;
 pub(crate) mod scan;
 
 use crate::error::Error;
@@ -180,10 +180,12 @@ impl Clone for Token {
 /// Breaks source text up into a sequence of tokens with source positions. It reads one token ahead,
 /// in one pass over the text, of which it holds no copy.
 ///
-/// A text is refused at a fault: at a block comment without an end, at a form feed outside of
-/// comments, and at an integer literal that writes no number or one that doesn't fit. A lexer whose
-/// text was refused by `next` is failed, and stays so. In a contract a lexer is what it has still
-/// to give: the number of its file, the tokens to come, how they end, and the length of its text.
+/// A `-` that no byte of a symbol follows is a symbol; any other begins an integer literal, as
+/// every `-` does upstream. A text is refused at a fault: at a block comment without an end, at a
+/// form feed outside of comments, and at an integer literal that writes no number or one that
+/// doesn't fit. A lexer whose text was refused by `next` is failed, and stays so. In a contract a
+/// lexer is what it has still to give: the number of its file, the tokens to come, how they end,
+/// and the length of its text.
 #[derive(Debug, Drop)]
 pub struct Lexer<'src> {
     src: &'src str,

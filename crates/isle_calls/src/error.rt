@@ -15,6 +15,7 @@ a.isle:2:1: (B)
 
 parse error: m
 b.isle:1:6: (rule
+
 found 2 errors
 ";
 

@@ -88,7 +88,7 @@ fn a_difference(rt: HostRuntime) -> Result<(), Fail> {
         pos: pos(),
     };
     let text = "(model M (const (-)))\n";
-    assert!(rt; is_shown(alloc, model(alloc, difference)?, text, false)?);
+    assert!(rt; is_shown(alloc, model(alloc, difference)?, text, true)?);
     Ok(())
 }
 

@@ -100,13 +100,13 @@ fn the_widest_bit_vector_is_writable(rt: HostRuntime) -> Result<(), AllocError> 
 }
 
 #[test]
-fn a_minus_is_never_an_operator(rt: HostRuntime) -> Result<(), AllocError> {
+fn operators_take_writable_arguments(rt: HostRuntime) -> Result<(), AllocError> {
     let alloc = rt.alloc();
     let add = op(SpecOp::Add, vec![in alloc; var(alloc, "x")?]?);
     assert!(rt; is_spec(alloc, add, true)?);
     assert!(rt; is_spec(alloc, op(SpecOp::FPPositiveInfinity, Vec::new(alloc)), true)?);
     let sub = op(SpecOp::Sub, vec![in alloc; var(alloc, "x")?]?);
-    assert!(rt; is_spec(alloc, sub, false)?);
+    assert!(rt; is_spec(alloc, sub, true)?);
     let inner = op(SpecOp::And, vec![in alloc; var(alloc, "true")?]?);
     assert!(rt; is_spec(alloc, inner, false)?);
     Ok(())

@@ -5,6 +5,7 @@ use crate::errors::{line_map, overlap_error, parse_errors, refusal, shadowed_err
 use crate::nodes::nodes;
 use crate::patterns::{substitute, template, terms};
 use crate::texts::{beginnings, damaged};
+use isle_document::tidy;
 use isle_syntax::ast::{Def, writable};
 use isle_syntax::format;
 use isle_syntax::lexer::{Fault, Lexer, Pos, Token};
@@ -43,6 +44,7 @@ pub fn answer(alloc: Global, case: &Case) -> Result<String, AllocError> {
         "parse" => shown(alloc, parsed(alloc, case)),
         "parse_without_pos" => shown(alloc, parsed_without_pos(alloc, case)),
         "format" => shown(alloc, formatted(alloc, case)?),
+        "tidy" => shown(alloc, tidied(alloc, case)?),
         "lines" => lines(alloc, case),
         "refusal" => shown(alloc, refusal(alloc, case)?),
         "beginnings" => beginnings(alloc, case),
@@ -134,6 +136,18 @@ fn formatted(alloc: Global, case: &Case) -> Result<Result<String, Fault>, AllocE
     let mut text = case.text(0).to_string(alloc)?;
     for width in &case.numbers {
         match format(alloc, &text, *width) {
+            Ok(answer) => text = answer,
+            Err(fault) => return Ok(Err(fault)),
+        }
+    }
+    Ok(Ok(text))
+}
+
+/// The first text, tidied at the first width, the answer of that at the next one, and so on.
+fn tidied(alloc: Global, case: &Case) -> Result<Result<String, Fault>, AllocError> {
+    let mut text = case.text(0).to_string(alloc)?;
+    for width in &case.numbers {
+        match tidy(alloc, &text, *width) {
             Ok(answer) => text = answer,
             Err(fault) => return Ok(Err(fault)),
         }

@@ -15,6 +15,7 @@
 //! | `tokens FILE READ TEXT` | what each call of `next` gives, behind the lexer's state before it |
 //! | `parse FILE READ TEXT`, `parse_without_pos FILE READ TEXT` | the tree, or the fault |
 //! | `format WIDTH.. TEXT` | the text at the first width, formatted at the next one, and so on |
+//! | `tidy WIDTH.. TEXT` | the text at the first width, tidied at the next one, and so on |
 //! | `lines WIDTH TIMES TEXT` | how many lines the text, so many times, has when it is formatted, how long the longest is, and all of it |
 //! | `refusal TEXT` | what Display shows of the error, or `accepted` |
 //! | `beginnings TEXT` | of how many beginnings of the text which are accepted, and the hash of what `refusal` shows of the others |

@@ -30,6 +30,13 @@ let_behind place read all = do
   body ← read ds.1
   Some (let_expression (let_row_of ds.0) body.0 place, body.1)
 
+-- a term, whose arguments `read` reads. The `(` before it stood at this place.
+unfoldable pub term_behind : Pos → Reader Expression → Reader Expression
+term_behind place read all = do
+  n ← name all
+  xs ← many closes read n.1
+  Some (term_expression n.0 (expression_row_of xs.0) place, xs.1)
+
 -- `let` or a term, and what stands behind it. The `(` stood at this place.
 unfoldable pub expression_inside : Pos → Reader Expression → Reader Expression
 expression_inside place read all = do

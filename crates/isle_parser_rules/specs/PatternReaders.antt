@@ -1,11 +1,12 @@
 -- Reading of patterns: the left sides of rules.
-use Rattle.std.specs.Prelude.{ℕ, zero, suc, List, Bool, ◌||◌, length, true, false, Some, None, if◌then◌else◌, codes}
+use Rattle.std.specs.Prelude.{ℕ, zero, suc, List, Bool, ◌||◌, length, true, false, Option, Some, None, if◌then◌else◌, codes}
 use Rattle.isle_base.specs.declared.lexer.Pos.{Pos}
 use Rattle.isle_base.specs.Place.{Placed}
 use Rattle.isle_base.specs.Token.{is_int, is_symbol}
+use Rattle.isle_ast_names.specs.Tree.{Name}
 use Rattle.isle_ast_rules.specs.Tree.{PatternNode, var_pattern, bind_pattern, bool_pattern, int_pattern, constant_pattern, term_pattern, wildcard_pattern, and_pattern}
 use Rattle.isle_ast_rules.specs.TreeView.{pattern_row_of}
-use Rattle.isle_parser_cursor.specs.Reading.{Reader, ◌>>=◌, is_lparen, is_at, is_ahead, expect, flag, pos_ahead, closes, in_parentheses, many, is_const, is_word}
+use Rattle.isle_parser_cursor.specs.Reading.{Reader, ◌>>=◌, is_lparen, is_rparen, is_at, is_ahead, expect, flag, pos_ahead, closes, in_parentheses, many, is_const, is_word}
 use Rattle.isle_parser_cursor.specs.NameReaders.{name}
 use Rattle.isle_parser_cursor.specs.NumberReaders.{signed}
 use Rattle.isle_parser_rules.specs.ConstantReaders.{constant}
@@ -17,6 +18,26 @@ pattern_inside place read all = do
   if word.0
       then (many closes read word.1 >>= λ ps. Some (and_pattern (pattern_row_of ps.0) place, ps.1))
       else (name word.1 >>= λ n. many closes read n.1 >>= λ ps. Some (term_pattern n.0 (pattern_row_of ps.0) place, ps.1))
+
+-- `(`, and `and` or the name of a term: no name where it is `and`
+unfoldable pub pattern_head : Reader (Option Name)
+pattern_head all = do
+  inside ← expect is_lparen all
+  word ← flag (codes "and") inside.1
+  if word.0 then Some (None, word.1) else (name word.1 >>= λ n. Some (Some n.0, n.1))
+
+-- these patterns behind the name of a term, or behind `and`
+abbrev pub group_node : Pos → Option Name → List PatternNode → PatternNode
+group_node place None ps = and_pattern (pattern_row_of ps) place
+group_node place (Some sym) ps = term_pattern sym (pattern_row_of ps) place
+
+-- `and` or a term, and patterns, which `read` reads, in parentheses. The `(` stands at this place.
+unfoldable pub pattern_group : Pos → Reader PatternNode → Reader PatternNode
+pattern_group place read all = do
+  head ← pattern_head all
+  ps ← many closes read head.1
+  rest ← expect is_rparen ps.1
+  Some (group_node place head.0 ps.0, rest.1)
 
 -- a variable, and behind `@` a pattern
 unfoldable pub variable_pattern : Pos → Reader PatternNode → Reader PatternNode

@@ -1,3 +1,4 @@
 pub mod Positions
 pub mod Reading
 pub mod Words
+pub mod StructParts

@@ -1,4 +1,5 @@
 pub mod Texts
+pub mod Cuts
 pub mod BitVectors
 pub mod Marks
 pub mod Operators

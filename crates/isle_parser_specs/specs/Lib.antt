@@ -6,3 +6,4 @@ pub mod SpecReaders
 pub mod SpecDefinitionReaders
 pub mod SpecFormHeads
 pub mod SpecParts
+pub mod StructParts

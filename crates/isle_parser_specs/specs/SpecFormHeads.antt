@@ -3,10 +3,8 @@ use Rattle.std.specs.Prelude.{◌≡◌, Option, Some, None, Result, Ok, Err, st
 use Rattle.isle_parser_cursor.specs.Outcomes.{Source, RefusesIn}
 use Rattle.isle_parser_specs.specs.SpecWords.{SpecHead, switch_head, let_head, with_head, match_head, struct_head, macro_head, as_head, discriminator_head, expansion_head, operator_head, field_head, variant_head}
 use Rattle.isle_parser_specs.specs.declared.parser.spec_words.Head.{Head}
-use Rattle.isle_parser_specs.specs.declared.parser.spec_words.HeadWord.{HeadWord}
 use Rattle.isle_parser_cursor.specs.declared.cursor.Stop.{Stop}
 use Rattle.isle_parser_specs.specs.declared.parser.spec_words.Head.TheVariants as heads
-use Rattle.isle_parser_specs.specs.declared.parser.spec_words.HeadWord.TheVariants as words
 use Rattle.isle_parser_cursor.specs.declared.cursor.Stop.TheVariants as stops
 
 abbrev pub head_view : Head → SpecHead
@@ -22,21 +20,6 @@ head_view (heads.Expansion macro) = expansion_head (string_bytes macro)
 head_view (heads.Operator operator) = operator_head operator
 head_view (heads.Field field) = field_head (string_bytes field)
 head_view (heads.Variant enum case) = variant_head (string_bytes enum) (string_bytes case)
-
-abbrev pub word_view : HeadWord → Option SpecHead
-word_view words.Switch = Some switch_head
-word_view words.Let = Some let_head
-word_view words.With = Some with_head
-word_view words.Match = Some match_head
-word_view words.Struct = Some struct_head
-word_view words.Macro = Some macro_head
-word_view words.As = Some as_head
-word_view (words.Discriminator variant) = Some (discriminator_head variant.now)
-word_view (words.Expansion macro) = Some (expansion_head macro.now)
-word_view (words.Operator operator) = Some (operator_head operator)
-word_view (words.Field field) = Some (field_head field.now)
-word_view (words.Variant enum case) = Some (variant_head enum.now case.now)
-word_view words.Other = None
 
 -- What a call made of a text, seen by view, is what was found. Where the parser refuses the text, nothing was.
 abbrev pub Finds : {X Y : Type 0} → (X → Y) → Option Y → Source → Result X Stop → Type 0

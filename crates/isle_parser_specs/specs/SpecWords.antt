@@ -74,7 +74,7 @@ abbrev pub in_table : List (List ℕ × SpecOp) → List ℕ → Option SpecOp
 in_table [] text = None
 in_table (row ∷ rows) text = if bytes_eq text row.0 then Some row.1 else in_table rows text
 
--- The operator of this text. It is neither `-`, which no symbol is, nor `switch`, which is a head of its own.
+-- The operator of this text. It is not `switch`, which is a head of its own.
 unfoldable pub operator_of : List ℕ → Option SpecOp
 operator_of = in_table (map named_row (filter is_plain_operator operators))
 
@@ -94,16 +94,19 @@ keyword_head text =
 abbrev pub begins_bit_vector : List ℕ → Bool
 begins_bit_vector text = is_some (behind_mark (codes "#b") text) || is_some (behind_mark (codes "#x") text)
 
--- The head that this text is, whatever the names in it are: the first of these. A bit vector is none.
-unfoldable pub head_word : List ℕ → Option SpecHead
-head_word text =
-    option_or (keyword_head text)
-    (if begins_bit_vector text then None
+-- the head that a text is that is none of these words: the first of these. A bit vector is none.
+unfoldable pub other_head : List ℕ → Option SpecHead
+other_head text =
+    if begins_bit_vector text then None
     else (option_or (option_map discriminator_head (before_last 63 text))
     (option_or (option_map expansion_head (before_last 33 text))
     (option_or (option_map operator_head (operator_of text))
     (option_or (option_map field_head (behind_mark (codes ":") text))
-    (option_map (λ names. variant_head names.0 names.1) (around 46 text)))))))
+    (option_map (λ names. variant_head names.0 names.1) (around 46 text))))))
+
+-- the head that this text is, whatever the names in it are
+unfoldable pub head_word : List ℕ → Option SpecHead
+head_word text = option_or (keyword_head text) (other_head text)
 
 -- whether the names in a head are identifiers
 abbrev pub are_identifiers : SpecHead → Bool

@@ -23,7 +23,7 @@ use Rattle.isle_printer.specs.ReadBack.{ReadsBack, ReadsBackIfWritable, HaveSame
 use Rattle.isle_printer_layout.proofs.Greedy.{greedy, layout_is_render}
 use Rattle.isle_printer.proofs.Printing.{IsPrinted-from_text, IsPrinted-text, IsPrinted-plain}
 use Rattle.isle_printer.proofs.Erased.Definitions.{definition_shape-erased, macro_args-erased}
-use Rattle.isle_printer_layout.proofs.ReadBackLaw.{Lexes-from_reads, render-reads, Reads-blank, is_blank-10, in_symbol-10}
+use Rattle.isle_printer_layout.proofs.ReadBackLaw.{Lexes-from_reads, render-reads, tokens-any, Reads-blank, is_blank-10, in_symbol-10}
 use Rattle.isle_printer.proofs.ShapeLaw.Definitions.{spell-definition}
 
 -- A text for each width, which reads at every width as the same tokens, and these spell the
@@ -39,7 +39,7 @@ definition_text-reads width d text all rest t r =
     subst (λ b. Reads b all)
     (ap (λ b. b ++ (10 ∷ text)) (sym (layout_is_render width (definition_shape d)))
     ∙ sym (append_assoc (layout width (definition_shape d)) (10 ∷ []) text))
-    (render-reads (definition_shape d) (greedy width (definition_shape d) 0) 0 all rest t (10 ∷ text) in_symbol-10
+    (render-reads (definition_shape d) (greedy width (definition_shape d) 0) 0 all rest (tokens-any (definition_shape d) all rest t) (10 ∷ text) in_symbol-10
     (Reads-blank 10 text rest is_blank-10 r))
 
 -- a definition's lines before a text of definitions

@@ -1,12 +1,14 @@
 -- Rendered text lexes to its tokens: for every choice of broken lists, the text of an S-expression
 -- whose atoms are the texts of tokens reads back, and lexes, as just these tokens.
-use Rattle.std.proofs.Common.{◌≡◌, ◌==◌, ℕ, zero, suc, ◌+◌, ◌-◌, ◌*◌, List, [], ◌∷◌, ◌++◌, length, replicate, codes, Bool, true, false, Some, None, refl, sym, ap, ◌∙◌, subst, ne_eqb}
+use Rattle.std.proofs.Common.{◌≡◌, ◌==◌, ℕ, zero, suc, ◌+◌, ◌-◌, ◌*◌, List, [], ◌∷◌, ◌++◌, length, replicate, codes, Bool, true, false, not, Some, None, refl, sym, ap, ◌∙◌, subst, ne_eqb}
 use Rattle.std.proofs.lemmas.List.{append_assoc, append-nil}
 use Rattle.std.proofs.lemmas.Bool.{false≢true}
 use Rattle.std.specs.List.{list_all}
 use Rattle.isle_base.specs.Lexing.{Lexes, lexes}
 use Rattle.isle_base.specs.Literals.{begins_literal}
-use Rattle.isle_base.specs.Pieces.{Piece, in_symbol, begins_symbol}
+use Rattle.isle_base.specs.Pieces.{Piece, in_symbol, begins_symbol, symbol_here}
+use Rattle.isle_base.proofs.Bytes.{symbol_stays}
+use Rattle.isle_base.proofs.Minus.{lone_here, plain_here}
 use Rattle.isle_base.specs.Place.{unknown, nowhere, placed}
 use Rattle.isle_base.specs.Skips.{nothing, blank, begins_with, is_blank, opens}
 use Rattle.isle_base.specs.Token.{Tok, Lexeme, end, lparen, rparen, symbol, integer, at_sign}
@@ -14,6 +16,7 @@ use Rattle.isle_printer_layout.specs.Sexp.{Sexp, Sexps, atom, binding, row, none
 use Rattle.isle_printer_layout.specs.Flat.{flat, flat_behind}
 use Rattle.isle_printer_layout.specs.Layout.{new_line}
 use Rattle.isle_printer_layout.specs.Choices.{Choice, Choices, render, render_behind}
+use Rattle.isle_printer_layout.specs.AnyTokens.{AnyTokensOf, AnyTokensOfItems}
 use Rattle.isle_printer_layout.specs.ReadBack.{Separated, ReadsAs, TokensOf, TokensOfItems, Reads, unplaced}
 
 pub is_blank-10 : is_blank 10 ≡ true
@@ -56,13 +59,18 @@ unfolding in_symbol is_blank
 in_symbol-41 = refl
 
 -- `;` begins no token
-begins_symbol-59 : begins_symbol 59 ≡ false
-unfolding begins_symbol in_symbol is_blank begins_literal
-begins_symbol-59 = refl
+in_symbol-59 : in_symbol 59 ≡ false
+unfolding in_symbol is_blank
+in_symbol-59 = refl
 
 begins_literal-59 : begins_literal 59 ≡ false
 unfolding begins_literal
 begins_literal-59 = refl
+
+-- a symbol begins with a byte of symbols, be it a lone `-`
+symbol_begins_in : (text : List ℕ) → symbol_here text ≡ true → begins_with in_symbol text ≡ true
+symbol_begins_in [] h = h
+symbol_begins_in (b ∷ rest) h = symbol_stays b rest h
 
 abbrev has_semicolon : List ℕ → Bool
 has_semicolon text = begins_with (λ b. b == 59) text
@@ -80,7 +88,8 @@ ReadsAs-no_semicolon : (text : List ℕ) (token : Tok) → ReadsAs text token �
 ReadsAs-no_semicolon text lparen h rest = begins-same text rest 40 refl [] (h [] refl).0
 ReadsAs-no_semicolon text rparen h rest = begins-same text rest 41 refl [] (h [] refl)
 ReadsAs-no_semicolon text at_sign h rest = begins-same text rest 64 refl [] (h [] refl)
-ReadsAs-no_semicolon text (symbol name) h rest = begins-other begins_symbol begins_symbol-59 text rest (h [] refl).0
+ReadsAs-no_semicolon text (symbol name) h rest =
+    begins-other in_symbol in_symbol-59 text rest (symbol_begins_in (text ++ []) (h [] refl).0)
 ReadsAs-no_semicolon text (integer value) h rest = begins-other begins_literal begins_literal-59 text rest (h [] refl).begins
 
 opens-no_semicolon : (text : List ℕ) → has_semicolon text ≡ false → opens (40 ∷ text) ≡ false
@@ -124,7 +133,7 @@ Reads-close text rest all e r =
 
 mutual
   -- an S-expression on one line begins no comment
-  flat-no_semicolon : (s : Sexp) (all rest : List Tok) → TokensOf s all rest → (text : List ℕ) → has_semicolon (flat s ++ text) ≡ false
+  flat-no_semicolon : (s : Sexp) (all rest : List Tok) → AnyTokensOf s all rest → (text : List ℕ) → has_semicolon (flat s ++ text) ≡ false
   flat-no_semicolon (atom name) all rest t text = ReadsAs-no_semicolon name t.0 t.1 text
   flat-no_semicolon (binding name s) all rest t text =
       ap has_semicolon (binding-grouped name (flat s) text) ∙ ReadsAs-no_semicolon name t.0 t.2 (32 ∷ 64 ∷ 32 ∷ (flat s ++ text))
@@ -137,7 +146,7 @@ flat_behind-separated (more s ss) text = in_symbol-32
 
 mutual
   -- what is written on one line reads as its tokens, before anything that ends a symbol
-  flat-reads : (s : Sexp) (all rest : List Tok) → TokensOf s all rest → (text : List ℕ) → Separated text → Reads text rest → Reads (flat s ++ text) all
+  flat-reads : (s : Sexp) (all rest : List Tok) → AnyTokensOf s all rest → (text : List ℕ) → Separated text → Reads text rest → Reads (flat s ++ text) all
   flat-reads (atom name) all rest t text apart r =
       subst (λ a. Reads (name ++ text) a) (sym t.2) (Reads-piece (name ++ text) t.0 text rest (t.1 text apart) r)
   flat-reads (binding name s) all rest t text apart r =
@@ -151,7 +160,7 @@ mutual
       (flat-reads s t.0 t.2.0 t.2.1 (flat_behind ss ++ text) (flat_behind-separated ss text)
       (flat_behind-reads ss t.2.0 rest t.2.2 text r)))
 
-  flat_behind-reads : (ss : Sexps) (all rest : List Tok) → TokensOfItems ss all (rparen ∷ rest) → (text : List ℕ) → Reads text rest → Reads (flat_behind ss ++ text) all
+  flat_behind-reads : (ss : Sexps) (all rest : List Tok) → AnyTokensOfItems ss all (rparen ∷ rest) → (text : List ℕ) → Reads text rest → Reads (flat_behind ss ++ text) all
   flat_behind-reads none all rest t text r = Reads-close text rest all t r
   flat_behind-reads (more s ss) all rest t text r =
       subst (λ b. Reads b all) (sym (items-grouped 32 (flat s) (flat_behind ss) text))
@@ -169,7 +178,7 @@ render_behind-separated : (ss : Sexps) (c : Choices ss) (level : ℕ) (text : Li
 render_behind-separated none c level text = in_symbol-10
 render_behind-separated (more s ss) c level text = in_symbol-10
 
-render-no_semicolon : (s : Sexp) (c : Choice s) (level : ℕ) (all rest : List Tok) → TokensOf s all rest → (text : List ℕ) → has_semicolon (render s c level ++ text) ≡ false
+render-no_semicolon : (s : Sexp) (c : Choice s) (level : ℕ) (all rest : List Tok) → AnyTokensOf s all rest → (text : List ℕ) → has_semicolon (render s c level ++ text) ≡ false
 render-no_semicolon (atom name) c level all rest t text = ReadsAs-no_semicolon name t.0 t.1 text
 render-no_semicolon (binding name s) c level all rest t text =
     ap has_semicolon (binding-grouped name (render s c level) text)
@@ -181,7 +190,7 @@ render-no_semicolon (row (more s ss)) (Some c) level all rest t text = refl
 mutual
   -- The text of a choice reads as the tokens of the S-expression, before anything that ends a
   -- symbol.
-  pub render-reads : (s : Sexp) (c : Choice s) (level : ℕ) (all rest : List Tok) → TokensOf s all rest → (text : List ℕ) → Separated text → Reads text rest → Reads (render s c level ++ text) all
+  pub render-reads : (s : Sexp) (c : Choice s) (level : ℕ) (all rest : List Tok) → AnyTokensOf s all rest → (text : List ℕ) → Separated text → Reads text rest → Reads (render s c level ++ text) all
   render-reads (atom name) c level all rest t text apart r = flat-reads (atom name) all rest t text apart r
   render-reads (binding name s) c level all rest t text apart r =
       subst (λ a. Reads (render (binding name s) c level ++ text) a) (sym t.3)
@@ -195,7 +204,7 @@ mutual
       (render-reads s c.0 level t.0 t.2.0 t.2.1 (render_behind ss c.1 level ++ text) (render_behind-separated ss c.1 level text)
       (render_behind-reads ss c.1 level t.2.0 rest t.2.2 text r)))
 
-  render_behind-reads : (ss : Sexps) (c : Choices ss) (level : ℕ) (all rest : List Tok) → TokensOfItems ss all (rparen ∷ rest) → (text : List ℕ) → Reads text rest → Reads (render_behind ss c level ++ text) all
+  render_behind-reads : (ss : Sexps) (c : Choices ss) (level : ℕ) (all rest : List Tok) → AnyTokensOfItems ss all (rparen ∷ rest) → (text : List ℕ) → Reads text rest → Reads (render_behind ss c level ++ text) all
   render_behind-reads none c level all rest t text r =
       subst (λ b. Reads b all) (sym (append_assoc (new_line level) (codes ")") text))
       (Reads-new_line level (codes ")" ++ text) all (Reads-close text rest all t r))
@@ -207,7 +216,12 @@ mutual
 -- a text of symbol bytes, the first of which begins one, reads as that symbol
 pub ReadsAs-symbol : (text : List ℕ) → begins_with begins_symbol text ≡ true → list_all in_symbol text ≡ true → ReadsAs text (symbol text)
 ReadsAs-symbol [] begins each rest apart = absurd (false≢true begins)
-ReadsAs-symbol (b ∷ bs) begins each rest apart = (begins, record { split = refl; each = each; stops = apart })
+ReadsAs-symbol (b ∷ bs) begins each rest apart = (plain_here (b ∷ bs ++ rest) begins, record { split = refl; each = each; stops = apart })
+
+-- a lone `-` reads as the symbol that it is
+pub ReadsAs-minus : ReadsAs (45 ∷ []) (symbol (45 ∷ []))
+unfolding in_symbol is_blank
+ReadsAs-minus rest apart = (lone_here (45 ∷ rest) (ap not apart), record { split = refl; each = refl; stops = apart })
 
 -- The offsets of the pieces make lexemes of them.
 pub Lexes-from_reads : (size : ℕ) (text : List ℕ) (tokens : List Tok) → Reads text tokens → (l : List Lexeme) × Lexes size text l end × (placed nowhere l ≡ unplaced tokens)
@@ -220,8 +234,19 @@ Lexes-from_reads size text (token ∷ tokens) r =
     )
 
 -- Every choice of broken lists lexes to the tokens of the S-expression.
-pub render-lexes : (s : Sexp) (c : Choice s) (level : ℕ) (tokens : List Tok) → TokensOf s tokens []
+pub render-lexes : (s : Sexp) (c : Choice s) (level : ℕ) (tokens : List Tok) → AnyTokensOf s tokens []
     → (l : List Lexeme) × lexes (render s c level) l end × (placed nowhere l ≡ unplaced tokens)
 render-lexes s c level tokens t =
     Lexes-from_reads (length (render s c level)) (render s c level) tokens
     (subst (λ b. Reads b tokens) (append-nil (render s c level)) (render-reads s c level tokens [] t [] refl (nothing refl)))
+
+-- Symbols and integers are tokens.
+mutual
+  pub tokens-any : (s : Sexp) (all rest : List Tok) → TokensOf s all rest → AnyTokensOf s all rest
+  tokens-any (atom text) all rest t = (t.0, t.2, t.3)
+  tokens-any (binding name s) all rest t = (t.0, t.1, t.3, t.4, tokens-any s t.1 rest t.5)
+  tokens-any (row items) all rest t = (t.0, t.1, items-any items t.0 (rparen ∷ rest) t.2)
+
+  items-any : (ss : Sexps) (all rest : List Tok) → TokensOfItems ss all rest → AnyTokensOfItems ss all rest
+  items-any none all rest t = t
+  items-any (more s ss) all rest t = (t.0, tokens-any s all t.0 t.1, items-any ss t.0 rest t.2)

@@ -1,12 +1,12 @@
 -- The items of a list have fewer nodes than the list.
-use Rattle.std.proofs.Common.{◌≡◌, ℕ, ◌+◌, ◌*◌, ◌≤◌, List, [], ◌∷◌, arith, ap, refl, sym, ◌∙◌}
+use Rattle.std.proofs.Common.{◌≡◌, ◌+◌, ◌*◌, ◌≤◌, List, [], ◌∷◌, arith, ap, refl, sym, ◌∙◌}
 use Rattle.std.specs.Global.{Vec}
 use denote.Param.Weighed.{most}
 use Rattle.isle_printer_layout.specs.declared.printer.shape.Node.{Node}
 use Rattle.isle_printer_layout.specs.declared.printer.shape.Shape.{Shape}
 use Rattle.isle_printer_layout.specs.declared.printer.shape.Shape.TheDeep.{size-Shape}
 use Rattle.isle_printer_layout.specs.declared.printer.shape.Shape.TheView.{size}
-use Rattle.isle_printer_layout.specs.Sexp.{Sexp, sexps}
+use Rattle.isle_printer_layout.specs.Sexp.{sexps}
 use Rattle.isle_printer_layout.specs.Looks.{nodes, nodes_of_items}
 use Rattle.isle_printer_layout.specs.ShapeView.{node_sexp}
 

@@ -35,7 +35,7 @@ pub record Spelling (items : List Sexp) (Spells : List Placed → List Placed �
 pub spell-integer : (z : ℤ) → IsSigned 127 z → (rest : List Tok) → Spelling (integer_shape z ∷ []) (SpellsInteger z) rest
 spell-integer z fits rest = record {
   all = integer z ∷ rest;
-  tokens = record { are = (rest, (integer z, integer_text-ReadsAs z fits, refl), refl) };
+  tokens = record { are = (rest, (integer z, refl, integer_text-ReadsAs z fits, refl), refl) };
   spells = (fits, (unknown, refl));
 }
 
@@ -53,8 +53,8 @@ abbrev pub IsAhead : List Tok → Type 0
 IsAhead all = BeginsAt unknown (unplaced all)
 
 TokensOf-ahead : (s : Sexp) (all rest : List Tok) → TokensOf s all rest → IsAhead all
-TokensOf-ahead (atom text) all rest t = (t.0, unplaced rest, ap unplaced t.2)
-TokensOf-ahead (binding name s) all rest t = (t.0, _, ap unplaced t.3)
+TokensOf-ahead (atom text) all rest t = (t.0, unplaced rest, ap unplaced t.3)
+TokensOf-ahead (binding name s) all rest t = (t.0, _, ap unplaced t.4)
 TokensOf-ahead (row items) all rest t = (lparen, unplaced t.0, ap unplaced t.1)
 
 -- an item stands ahead
@@ -80,7 +80,7 @@ spell-nothing rest = record { all = rest; tokens = record { are = refl }; spells
 pub spell-word : (word : List ℕ) → ReadsAs word (symbol word) → (rest : List Tok) → Spelling (atom word ∷ []) (SpellsWord word) rest
 spell-word word is rest = record {
   all = symbol word ∷ rest;
-  tokens = record { are = (rest, (symbol word, is, refl), refl) };
+  tokens = record { are = (rest, (symbol word, refl, is, refl), refl) };
   spells = (unknown, refl);
 }
 
@@ -91,7 +91,7 @@ spell-flag word is false rest = spell-nothing rest
 pub spell-name : (n : Name) → IsName n → (rest : List Tok) → Spelling (name_shape n ∷ []) (SpellsName (erase_name n)) rest
 spell-name n is rest = record {
   all = symbol n.text ∷ rest;
-  tokens = record { are = (rest, (symbol n.text, λ text apart. identifier_is_symbol n.text text is apart, refl), refl) };
+  tokens = record { are = (rest, (symbol n.text, refl, λ text apart. identifier_is_symbol n.text text is apart, refl), refl) };
   spells = (is, refl);
 }
 
@@ -131,7 +131,7 @@ spell-row items Spells rest s = record {
 pub spell-behind : (word : List ℕ) → ReadsAs word (symbol word) → (items : List Sexp) (Spells : List Placed → List Placed → Type 0) (rest : List Tok) → Spelling items Spells rest → Spelling (atom word ∷ items) (BehindWord word Spells) rest
 spell-behind word is items Spells rest s = record {
   all = symbol word ∷ s.all;
-  tokens = record { are = (s.all, (symbol word, is, refl), s.tokens.are) };
+  tokens = record { are = (s.all, (symbol word, refl, is, refl), s.tokens.are) };
   spells = (unplaced s.all, (unknown, refl), s.spells);
 }
 
@@ -152,6 +152,6 @@ regrouped ys zs {xs} {all} {mid} {rest} t u = subst (λ items. ItemTokens items 
 pub spell-constant : (name : Name) → is_identifier (36 ∷ name.text) ≡ true → (rest : List Tok) → Spelling (constant_shape name ∷ []) (SpellsConstant (erase_name name)) rest
 spell-constant name is rest = record {
   all = symbol (36 ∷ name.text) ∷ rest;
-  tokens = record { are = (rest, (symbol (36 ∷ name.text), λ text apart. identifier_is_symbol (36 ∷ name.text) text is apart, refl), refl) };
+  tokens = record { are = (rest, (symbol (36 ∷ name.text), refl, λ text apart. identifier_is_symbol (36 ∷ name.text) text is apart, refl), refl) };
   spells = (is, refl);
 }

@@ -8,6 +8,7 @@ pub mod Lines
 pub mod Looks
 pub mod NameShapes
 pub mod ReadBack
+pub mod AnyTokens
 pub mod SexpView
 pub mod SameSexp
 pub mod FaultTexts

@@ -1,9 +1,9 @@
 -- How a written S-expression reads back: which tokens its atoms are the texts of.
-use Rattle.std.specs.Prelude.{[], ◌≡◌, ℕ, List, ◌∷◌, ◌++◌, false}
+use Rattle.std.specs.Prelude.{[], ◌≡◌, ℕ, List, ◌∷◌, ◌++◌, false, true, ◌||◌}
 use Rattle.isle_base.specs.Place.{Placed, unknown}
 use Rattle.isle_base.specs.Pieces.{Piece, in_symbol}
 use Rattle.isle_base.specs.Skips.{Skip, begins_with}
-use Rattle.isle_base.specs.Token.{Tok, lparen, rparen, at_sign}
+use Rattle.isle_base.specs.Token.{Tok, lparen, rparen, at_sign, is_int, is_symbol}
 use Rattle.isle_printer_layout.specs.Sexp.{Sexp, Sexps, atom, binding, row, none, more}
 
 -- no byte of a symbol stands here
@@ -14,12 +14,19 @@ Separated text = begins_with in_symbol text ≡ false
 abbrev pub ReadsAs : List ℕ → Tok → Type 0
 ReadsAs text token = (rest : List ℕ) → Separated rest → Piece (text ++ rest) token rest
 
--- The tokens of an S-expression: `all` begins with them, and `rest` follows.
+-- a symbol or an integer
+abbrev pub IsWordToken : Tok → Type 0
+IsWordToken token = (is_symbol token || is_int token) ≡ true
+
+-- The tokens of an S-expression: `all` begins with them, and `rest` follows. An atom, and the name
+-- of a binding, is a symbol or an integer.
 abbrev mutual
   pub TokensOf : Sexp → List Tok → List Tok → Type 0
-  TokensOf (atom text) all rest = (token : Tok) × ReadsAs text token × (all ≡ token ∷ rest)
+  TokensOf (atom text) all rest =
+      (token : Tok) × IsWordToken token × ReadsAs text token × (all ≡ token ∷ rest)
   TokensOf (binding name s) all rest =
-      (token : Tok) × (mid : List Tok) × ReadsAs name token × (all ≡ token ∷ at_sign ∷ mid) × TokensOf s mid rest
+      (token : Tok) × (mid : List Tok) × IsWordToken token × ReadsAs name token
+      × (all ≡ token ∷ at_sign ∷ mid) × TokensOf s mid rest
   TokensOf (row items) all rest = (mid : List Tok) × (all ≡ lparen ∷ mid) × TokensOfItems items mid (rparen ∷ rest)
 
   pub TokensOfItems : Sexps → List Tok → List Tok → Type 0

@@ -1,5 +1,5 @@
 -- The parts of a shape have fewer nodes than the shape.
-use Rattle.std.specs.Prelude.{ℕ, max, ◌+◌, ◌≤◌, List, [], ◌∷◌}
+use Rattle.std.specs.Prelude.{max, ◌+◌, ◌≤◌, List, [], ◌∷◌}
 use Rattle.std.proofs.Common.{arith}
 use denote.Param.Weighed.{most}
 use Rattle.isle_printer_layout.specs.declared.printer.shape.Node.{Node}

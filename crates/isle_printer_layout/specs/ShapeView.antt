@@ -1,5 +1,5 @@
 -- One node of a shape, whose parts are seen as S-expressions, as an S-expression.
-use Rattle.std.specs.Prelude.{List, map, string_bytes}
+use Rattle.std.specs.Prelude.{string_bytes}
 use Rattle.isle_printer_layout.specs.declared.printer.shape.Node.{Node}
 use Rattle.isle_printer_layout.specs.Sexp.{Sexp, atom, binding, row_of}
 

@@ -1,6 +1,6 @@
 -- The texts of operators, and names with a mark, are symbols.
-use Rattle.std.proofs.Common.{◌≡◌, ◌≢◌, ℕ, List, [], ◌∷◌, ◌++◌, true, refl, ◌∙◌}
-use Rattle.std.proofs.lemmas.Bool.{and_from}
+use Rattle.std.proofs.Common.{◌≡◌, ◌≢◌, ℕ, List, [], ◌∷◌, ◌++◌, Bool, true, false, ◌⊎◌, inl, inr, refl, sym, ap, subst, ◌∙◌}
+use Rattle.std.proofs.lemmas.Bool.{false≢true, and_from}
 use Rattle.std.proofs.lemmas.List.Folds.{list_all-append}
 use Rattle.std.specs.List.{list_all}
 use Rattle.isle_base.specs.Literals.{begins_literal}
@@ -16,10 +16,14 @@ use Rattle.isle_ast_specs.specs.SpecGrammar.{field_mark, discriminator_mark, exp
 use Rattle.isle_ast_names.specs.Writable.{IsName}
 use Rattle.isle_printer_layout.specs.ReadBack.{ReadsAs}
 use Rattle.isle_printer_layout.proofs.NumberAtoms.{begins_with-append}
-use Rattle.isle_printer_layout.proofs.ReadBackLaw.{ReadsAs-symbol}
+use Rattle.isle_printer_layout.proofs.ReadBackLaw.{ReadsAs-symbol, ReadsAs-minus}
 use Rattle.isle_ast_specs.specs.declared.ast.specs.SpecOp.TheVariants as op
 
--- The text of each operator but `-` reads as a symbol.
+-- The text of each operator reads as a symbol. `-` is one where no byte of a symbol follows it.
+
+abbrev is_minus : SpecOp → Bool
+is_minus op.Sub = true
+is_minus _ = false
 
 operator_begins : (operator : SpecOp) → operator ≢ op.Sub → begins_with begins_symbol (operator_text operator) ≡ true
 unfolding in_symbol begins_symbol is_blank begins_literal
@@ -31,8 +35,16 @@ unfolding in_symbol is_blank
 operator_bytes op.Sub = refl
 operator_bytes _ = refl
 
-pub operator-ReadsAs : (operator : SpecOp) → operator ≢ op.Sub → ReadsAs (operator_text operator) (symbol (operator_text operator))
-operator-ReadsAs operator other = ReadsAs-symbol (operator_text operator) (operator_begins operator other) (operator_bytes operator)
+minus_or_other : (operator : SpecOp) → (operator ≡ op.Sub) ⊎ (operator ≢ op.Sub)
+minus_or_other op.Sub = inl refl
+minus_or_other _ = inr (λ same. false≢true (ap is_minus same))
+
+pub operator-ReadsAs : (operator : SpecOp) → ReadsAs (operator_text operator) (symbol (operator_text operator))
+operator-ReadsAs operator =
+    elim (minus_or_other operator) [
+      | inl minus ↦ subst (λ o. ReadsAs (operator_text o) (symbol (operator_text o))) (sym minus) ReadsAs-minus
+      | inr other ↦ ReadsAs-symbol (operator_text operator) (operator_begins operator other) (operator_bytes operator)
+    ]
 
 -- bytes of a symbol behind an identifier
 identifier_behind-ReadsAs : (text behind : List ℕ) → is_identifier text ≡ true → list_all in_symbol behind ≡ true → ReadsAs (text ++ behind) (symbol (text ++ behind))

@@ -28,9 +28,8 @@
 //! A spec expression E is an integer, a bit vector, `true` or `false`, a variable, `(as E MODEL)`,
 //! `(:I E)`, `(I? E)`, `(OPERATOR E..)`, `(switch E (E E)..)`, `(match E ((I I..) E)..)`, `(let ((I
 //! E)..) E)`, `(with (I..) E)`, `(macro (I..) E)`, `(I! E..)`, `(I.I E..)` or `(struct (I E)..)`. A
-//! bit vector is `#b` and binary digits, or `#x` and hexadecimal ones, below 2^128. No text has the
-//! operator `-`, which begins a number. In `(I.I E..)` the first name holds no dot, and both
-//! together are no operator.
+//! bit vector is `#b` and binary digits, or `#x` and hexadecimal ones, below 2^128. In `(I.I E..)`
+//! the first name holds no dot, and both together are no operator.
 //!
 //! A name that would be read as a word of its definition wants what is read: a term of a
 //! declaration that is the word of a flag wants that flag, or a later one, to be set; a term of an
@@ -67,7 +66,7 @@ ghost use Rattle.isle_ast.specs.Erased.{erase};
 ghost use Rattle.isle_ast.specs.Grammar.{SpellsDefinition, SpellsDefinitions};
 ghost use Rattle.isle_ast.specs.MacroArgs.{definitions_have_macro_arg};
 ghost use Rattle.isle_ast.specs.ModelGrammar.{SpellsForm, SpellsInstantiation, SpellsModel};
-ghost use Rattle.isle_ast.specs.Spelt.{Spells};
+ghost use Rattle.isle_ast.specs.Spelt.{IsSpelt, Spells, WasSpelt};
 ghost use Rattle.isle_ast.specs.TermGrammar.{SpellsAttribute, SpellsConversion, SpellsDeclaration};
 ghost use Rattle.isle_ast.specs.TermGrammar.{SpellsExtern};
 ghost use Rattle.isle_ast.specs.Tree.{Attribute, Conversion, Declaration, Definition};
@@ -141,6 +140,13 @@ pub fn spelt_trees_are_writable()
         → SpellsDefinitions ds all → AreWritable ds }
     ensures no_macro_args { (ds : List Definition) (all : List Placed)
         → SpellsDefinitions ds all → definitions_have_macro_arg ds ≡ false }
+{}
+
+/// A law, which runs no code: a text that spelt a tree before a lone `-` was a symbol spells the
+/// same tree now.
+pub fn earlier_texts_stay()
+    ensures { (place : ℕ → Pos) (text : List ℕ) (ds : List Definition)
+        → WasSpelt place text ds → IsSpelt place text ds }
 {}
 
 /// A law, which runs no code: positions play no part in what is writable. A tree is writable

@@ -143,24 +143,19 @@ variant_name_decided enum case = (
 
 -- operators
 
-abbrev is_sub : SpecOp → Bool
-is_sub op.Sub = true
-is_sub _ = false
-
 abbrev is_switch : SpecOp → Bool
 is_switch op.Switch = true
 is_switch _ = false
 
 operator_decided : {P Q : Type 0} (operator : SpecOp) (x y : Bool) → Decides x P → Decides y Q →
-    Decides (by_operator operator x y) ((operator ≢ op.Sub) × ((operator ≡ op.Switch) × P ⊎ (operator ≢ op.Switch) × Q))
-operator_decided op.Sub x y p q = (λ e. absurd (false≢true e), λ h. absurd (h.0 refl))
+    Decides (by_operator operator x y) ((operator ≡ op.Switch) × P ⊎ (operator ≢ op.Switch) × Q)
 operator_decided op.Switch x y p q = (
-  λ e. (λ same. false≢true (ap is_sub same), inl (refl, p.0 e)),
-  λ h. elim h.1 [ inl k ↦ p.1 k.1 | inr k ↦ absurd (k.0 refl) ],
+  λ e. inl (refl, p.0 e),
+  λ h. elim h [ inl k ↦ p.1 k.1 | inr k ↦ absurd (k.0 refl) ],
 )
 operator_decided operator x y p q = (
-  λ e. (λ same. false≢true (ap is_sub same), inr (λ same. false≢true (ap is_switch same), q.0 e)),
-  λ h. elim h.1 [ inl k ↦ absurd (false≢true (ap is_switch k.0)) | inr k ↦ q.1 k.1 ],
+  λ e. inr (λ same. false≢true (ap is_switch same), q.0 e),
+  λ h. elim h [ inl k ↦ absurd (false≢true (ap is_switch k.0)) | inr k ↦ q.1 k.1 ],
 )
 
 -- spec expressions

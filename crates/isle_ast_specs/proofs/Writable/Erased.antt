@@ -51,8 +51,8 @@ mutual
   spec-erased (op_spec operator args _) =
       let row = specs-erased args in
       let cases = cases-erased args in (
-        λ h. (h.0, elim h.1 [ inl c ↦ inl (c.0, cases.0 c.1) | inr c ↦ inr (c.0, row.0 c.1) ]),
-        λ h. (h.0, elim h.1 [ inl c ↦ inl (c.0, cases.1 c.1) | inr c ↦ inr (c.0, row.1 c.1) ]),
+        λ h. elim h [ inl c ↦ inl (c.0, cases.0 c.1) | inr c ↦ inr (c.0, row.0 c.1) ],
+        λ h. elim h [ inl c ↦ inl (c.0, cases.1 c.1) | inr c ↦ inr (c.0, row.1 c.1) ],
       )
   spec-erased (match_spec x arms _) =
       let value = spec-erased x in

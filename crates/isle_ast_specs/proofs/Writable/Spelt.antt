@@ -93,12 +93,6 @@ variant-spelt name variant place s = record {
 plain_is_no_switch : (operator : SpecOp) → is_plain_operator operator ≡ true → operator ≢ op.Switch
 plain_is_no_switch operator h e = false≢true (sym (ap is_plain_operator e) ∙ h)
 
-plain_is_no_minus : (operator : SpecOp) → is_plain_operator operator ≡ true → operator ≢ op.Sub
-plain_is_no_minus operator h e = false≢true (sym (ap is_plain_operator e) ∙ h)
-
-switch_is_no_minus : (operator : SpecOp) → operator ≡ op.Switch → operator ≢ op.Sub
-switch_is_no_minus operator h e = let same : op.Switch ≡ op.Sub = sym h ∙ e in cc
-
 mutual
   pub spec-spelt : (x : SpecNode) (all rest : List Placed) → SpellsSpec x all rest → IsWritableSpec x
   spec-spelt (int_spec val _) all rest s = s.1.0
@@ -112,8 +106,8 @@ mutual
   spec-spelt (discriminator_spec variant x _) all rest s = (s.1.3.1.0, spec-spelt x s.1.3.0 s.1.1 s.1.3.2)
   spec-spelt (op_spec operator args _) all rest s =
       elim s.1.3.2 [
-        | inl h ↦ (plain_is_no_minus operator h.0, inr (plain_is_no_switch operator h.0, specs-spelt args s.1.3.0 s.1.1 h.1))
-        | inr h ↦ (switch_is_no_minus operator h.0, inl (h.0, cases-spelt args s.1.3.0 s.1.1 h.1))
+        | inl h ↦ inr (plain_is_no_switch operator h.0, specs-spelt args s.1.3.0 s.1.1 h.1)
+        | inr h ↦ inl (h.0, cases-spelt args s.1.3.0 s.1.1 h.1)
       ]
   spec-spelt (match_spec x arms _) all rest s =
       let parts = s.1.3.2 in

@@ -1,11 +1,12 @@
 //! What `Display` writes of an error.
-ghost use Rattle.std.specs.Prelude.{◌≡◌, ◌+◌, ◌^◌, ◌<◌, ◌≤◌, ◌-◌, ◌==◌, if◌then◌else◌, true, ◌++◌, [], ◌∷◌};
+ghost use Rattle.std.specs.Prelude.{◌≡◌, ◌+◌, ◌^◌, ◌<◌, ◌≤◌, ◌-◌, ◌==◌, if◌then◌else◌, not, true, ◌++◌, [], ◌∷◌};
 ghost use Rattle.std.specs.Prelude.{codes, length, slice_index};
 ghost use Rattle.std.specs.Fmt.{WritesStyledOnOk, decimal};
 ghost use Rattle.std.specs.List.{flat_map, list_all};
 ghost use Rattle.isle_base.specs.Diagnostic.{error_text, found_text, label_text, message};
 ghost use Rattle.isle_base.specs.Labels.{all_fit, error_fits, labels, span_fits};
-ghost use Rattle.isle_base.specs.Lines.{line, line_ends, line_text, column};
+ghost use Rattle.isle_base.specs.Bytes.{line_feed};
+ghost use Rattle.isle_base.specs.Lines.{has_line_feed, line, line_ends, line_text, column};
 
 use crate::error::{Error, Span};
 use crate::files::{Files, LineMap};
@@ -105,7 +106,7 @@ fn write_labels<W: fmt::Write>(
     Ok(())
 }
 
-/// Writes one place: its file, line and column, and the line itself.
+/// Writes one place: its file, line and column, and the line itself, with a line feed in any case.
 fn write_label<W: fmt::Write>(f: &mut fmt::Formatter<W>, files: &Files, span: &Span) -> fmt::Result
     requires { span_fits files.now span.now ≡ true }
     ensures { WritesStyledOnOk W.write_str_gives f.old result (label_text files.now span.now) f.new }
@@ -115,7 +116,16 @@ fn write_label<W: fmt::Write>(f: &mut fmt::Formatter<W>, files: &Files, span: &S
     let text = files.file_text(pos.file).unwrap();
     let line_map = files.file_line_map(pos.file).unwrap();
     let line = source_line(text, line_map, pos.offset);
-    write_place(f, name, line.number + 1, line.column + 1, line.text)
+    write_place(f, name, line.number + 1, line.column + 1, line.text)?;
+    write_line_end(f, line.is_last)
+}
+
+/// Writes the line feed that the last line of a text lacks.
+fn write_line_end<W: fmt::Write>(f: &mut fmt::Formatter<W>, is_last: bool) -> fmt::Result
+    ensures { WritesStyledOnOk W.write_str_gives f.old result
+        (if is_last then line_feed ∷ [] else []) f.new }
+{
+    if is_last { f.write_str("\n") } else { Ok(()) }
 }
 
 /// Writes a file's name, a line and a column, and the line itself.
@@ -179,6 +189,8 @@ struct SourceLine<'a> {
     column: usize,
     /// The line, with its line feed if it has one.
     text: &'a str,
+    /// Whether it is the last line, which has none.
+    is_last: bool,
 }
 
 /// Finds the line of a text on which an offset lies.
@@ -188,6 +200,7 @@ fn source_line<'a>(text: &'a str, line_map: &LineMap, offset: usize) -> SourceLi
     ensures small { result.number < 2 ^ 63 }
     ensures column { result.column ≡ column text.now offset }
     ensures text { result.text.now ≡ line_text text.now (line text.now offset) }
+    ensures last { result.is_last ≡ not (has_line_feed text.now (line text.now offset)) }
 {
     let number = line_map.line(offset);
     let begin = line_begin(line_map, number);
@@ -196,6 +209,7 @@ fn source_line<'a>(text: &'a str, line_map: &LineMap, offset: usize) -> SourceLi
         number,
         column: offset - begin,
         text: &text[begin..end],
+        is_last: line_map.get(number).is_none(),
     }
 }
 

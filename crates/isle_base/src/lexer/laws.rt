@@ -3,11 +3,12 @@
 ghost use Rattle.std.specs.Prelude.{◌≡◌, ◌↔◌, ℕ, List, IsTrue, Some};
 ghost use Rattle.isle_base.specs.declared.error.Error.{Error};
 ghost use Rattle.std.specs.declared.cmp.Ordering.TheVariants.{Equal};
-ghost use Rattle.isle_base.specs.Lexing.{HasOneLexing};
+ghost use Rattle.isle_base.specs.EarlierLexing.{earlier_lexes};
+ghost use Rattle.isle_base.specs.Lexing.{HasOneLexing, lexes};
 ghost use Rattle.isle_base.specs.Place.{Placed};
 ghost use Rattle.isle_base.specs.PositionOrder.{IsInRange, position_cmp, position_hash};
 ghost use Rattle.isle_base.specs.Steps.{Refuses, RefuseAlike, Takes};
-ghost use Rattle.isle_base.specs.Token.{Feed};
+ghost use Rattle.isle_base.specs.Token.{Feed, Lexeme, end};
 ghost use Rattle.isle_base.specs.TokenView.{token_of};
 
 use crate::lexer::{Pos, Token};
@@ -29,6 +30,13 @@ pub fn positions_are_ordered()
 /// A law, which runs no code: each text has tokens and an ending, and just one of each.
 pub fn one_lexing()
     ensures { (text : List ℕ) → HasOneLexing text }
+{}
+
+/// A law, which runs no code: a text that had tokens up to its end before a lone `-` was a symbol
+/// has the same tokens now.
+pub fn earlier_tokens_stay()
+    ensures { (text : List ℕ) (tokens : List Lexeme)
+        → earlier_lexes text tokens end → lexes text tokens end }
 {}
 
 /// A law, which runs no code: two tokens are equal exactly if they are the same one.

@@ -1,10 +1,11 @@
 //! Integer literals.
 
-ghost use Rattle.std.specs.Prelude.{◌≡◌, ◌+◌, ◌<◌, ◌≤◌, true, drop, length};
+ghost use Rattle.std.specs.Prelude.{◌≡◌, ◌+◌, ◌<◌, ◌≤◌, false, true, drop, length};
 ghost use Rattle.std.specs.List.{prefix_len};
 ghost use Rattle.isle_base.specs.Literals.{begins_literal, behind_minus, behind_prefix, digits_of};
 ghost use Rattle.isle_base.specs.Literals.{has_minus, in_literal, prefix_radix, radix_at};
 ghost use Rattle.isle_base.specs.Literals.{radix_of as letter_radix};
+ghost use Rattle.isle_base.specs.Pieces.{is_lone_minus};
 ghost use Rattle.isle_base.specs.Reads.{EndsLiteral, HasSign, IsRadix, ReadsLiteral, WritesNumber};
 ghost use Rattle.isle_base.specs.Skips.{begins_with};
 
@@ -143,6 +144,7 @@ fn sign_end(bytes: &[u8], from: usize) -> usize
 pub(crate) fn literal_at(bytes: &[u8], from: usize) -> Result<(i128, usize), Reason>
     requires within { from < length bytes.now }
     requires begins { begins_with begins_literal (drop from bytes.now) ≡ true }
+    requires whole { is_lone_minus (drop from bytes.now) ≡ false }
     ensures { ReadsLiteral bytes.now from result }
 {
     let minus = minus_at(bytes, from);
@@ -162,6 +164,7 @@ pub(crate) fn literal_at(bytes: &[u8], from: usize) -> Result<(i128, usize), Rea
 pub fn integer_end(bytes: &[u8], from: usize) -> Option<usize>
     requires within { from < length bytes.now }
     requires begins { begins_with begins_literal (drop from bytes.now) ≡ true }
+    requires whole { is_lone_minus (drop from bytes.now) ≡ false }
     ensures { EndsLiteral bytes.now from result }
 {
     match literal_at(bytes, from) {

@@ -1,8 +1,10 @@
 //! The next token of a text.
 
-ghost use Rattle.std.specs.Prelude.{◌≡◌, ◌+◌, ◌^◌, ◌<◌, ◌≤◌, true, drop, length, IfOk, IsUtf8};
+ghost use Rattle.std.specs.Prelude.{◌≡◌, ◌+◌, ◌^◌, ◌<◌, ◌≤◌, false, true, drop, length};
+ghost use Rattle.std.specs.Prelude.{IfOk, IsUtf8};
 ghost use Rattle.isle_base.specs.Literals.{begins_literal as starts_literal};
-ghost use Rattle.isle_base.specs.Pieces.{begins_symbol};
+ghost use Rattle.isle_base.specs.Literals.{has_minus};
+ghost use Rattle.isle_base.specs.Pieces.{is_lone_minus, symbol_here};
 ghost use Rattle.isle_base.specs.Reads.{Finds, FindsHere, IsUnskipped};
 ghost use Rattle.isle_base.specs.Skips.{begins_with};
 ghost use Rattle.isle_base.specs.Steps.{RefusesAt};
@@ -61,7 +63,7 @@ pub(crate) enum Found {
 fn symbol_at(alloc: Global, src: &str, start: usize) -> Result<Found, AllocError>
     requires within { start < length src.now }
     requires text { IsUtf8 (drop start src.now) }
-    requires begins { begins_with begins_symbol (drop start src.now) ≡ true }
+    requires begins { symbol_here (drop start src.now) ≡ true }
     ensures { IfOk result (FindsHere src.now start) }
 {
     let end = symbol_end(src.as_bytes(), start);
@@ -74,11 +76,36 @@ fn symbol_at(alloc: Global, src: &str, start: usize) -> Result<Found, AllocError
 fn integer_at(bytes: &[u8], start: usize) -> Found
     requires within { start < length bytes.now }
     requires begins { begins_with starts_literal (drop start bytes.now) ≡ true }
+    requires whole { is_lone_minus (drop start bytes.now) ≡ false }
     ensures { FindsHere bytes.now start result }
 {
     match literal_at(bytes, start) {
         Ok((value, end)) => Found::Token(start, Token::Int(value), end),
         Err(reason) => Found::Fault(start, reason),
+    }
+}
+
+/// Tells whether the `-` at an offset is a symbol by itself: no byte of a symbol follows it.
+pub fn is_lone_minus_at(bytes: &[u8], at: usize) -> bool
+    requires within { at < length bytes.now }
+    requires minus { has_minus (drop at bytes.now) ≡ true }
+    ensures { result ≡ is_lone_minus (drop at bytes.now) }
+{
+    symbol_end(bytes, at + 1) == at + 1
+}
+
+/// Reads what begins with the `-` at an offset: a symbol, or a literal.
+#[inline(never)]
+fn from_minus_at(alloc: Global, src: &str, start: usize) -> Result<Found, AllocError>
+    requires within { start < length src.now }
+    requires text { IsUtf8 (drop start src.now) }
+    requires minus { has_minus (drop start src.now) ≡ true }
+    ensures { IfOk result (FindsHere src.now start) }
+{
+    if is_lone_minus_at(src.as_bytes(), start) {
+        symbol_at(alloc, src, start)
+    } else {
+        Ok(integer_at(src.as_bytes(), start))
     }
 }
 
@@ -95,7 +122,8 @@ fn token_at(alloc: Global, src: &str, start: usize) -> Result<Found, AllocError>
         b')' => Ok(Found::Token(start, Token::RParen, start + 1)),
         b'@' => Ok(Found::Token(start, Token::At, start + 1)),
         FORM_FEED => Ok(Found::Fault(start, Reason::FormFeed)),
-        b'-' | b'0'..=b'9' => Ok(integer_at(src.as_bytes(), start)),
+        b'-' => from_minus_at(alloc, src, start),
+        b'0'..=b'9' => Ok(integer_at(src.as_bytes(), start)),
         _ => symbol_at(alloc, src, start),
     }
 }

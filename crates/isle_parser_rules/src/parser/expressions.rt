@@ -10,7 +10,7 @@ ghost use Rattle.isle_parser_rules.specs.Closed.{closed};
 ghost use Rattle.isle_parser_rules.specs.ExpressionReaders.{expression, expression_inside};
 ghost use Rattle.isle_parser_rules.specs.ExpressionReaders.{let_behind, let_definition};
 ghost use Rattle.isle_parser_rules.specs.ExpressionReaders.{integer_expression, let_definitions};
-ghost use Rattle.isle_parser_rules.specs.ExpressionReaders.{symbol_expression};
+ghost use Rattle.isle_parser_rules.specs.ExpressionReaders.{symbol_expression, term_behind};
 
 use crate::parser::names::parse_const;
 use isle_ast_rules::ast::{Expr, LetDef};
@@ -22,7 +22,7 @@ use std::alloc::Global;
 // a frame of its own, and what is read stands in few places.
 
 #[cycle(expression)]
-#[tactic(auto, using(crate::proofs::ExpressionParts::expression_is), unfolding(crate::specs::ExpressionReaders::expression_step, crate::specs::ExpressionReaders::integer_expression, isle_parser_cursor::specs::Reading::in_parentheses, crate::specs::Closed::closed))]
+#[tactic(auto, using(crate::proofs::ExpressionParts::expression_is), unfolding(crate::specs::ExpressionReaders::expression_step, crate::specs::ExpressionReaders::integer_expression, crate::specs::ExpressionReaders::expression_inside, crate::specs::ExpressionReaders::let_behind, crate::specs::ExpressionReaders::term_behind, isle_parser_cursor::specs::Reading::in_parentheses, crate::specs::Closed::closed))]
 pub(super) fn parse_expr(cursor: &mut Cursor, alloc: Global) -> Result<Expr, Stop>
     ensures same { source cursor.new ≡ source cursor.old }
     ensures gives { Gives expression_of (expression (tokens cursor.old)) result cursor.new }
@@ -30,7 +30,10 @@ pub(super) fn parse_expr(cursor: &mut Cursor, alloc: Global) -> Result<Expr, Sto
     let pos = cursor.pos();
     if cursor.is_lparen() {
         cursor.expect_lparen(alloc)?;
-        return parse_expr_behind_lparen(cursor, alloc, pos);
+        if cursor.eat_sym_str(alloc, "let")? {
+            return parse_let(cursor, alloc, pos);
+        }
+        return parse_term(cursor, alloc, pos);
     }
     if cursor.is_sym() {
         return parse_expr_symbol(cursor, alloc, pos);
@@ -86,9 +89,8 @@ fn parse_expr_symbol(cursor: &mut Cursor, alloc: Global, pos: Pos) -> Result<Exp
 }
 
 /// `let` or a term, what stands behind it, and `)`. The `(` stood at this position.
-#[cycle(expression)]
 #[inline(never)]
-#[tactic(auto, unfolding(crate::specs::ExpressionReaders::expression_inside, crate::specs::ExpressionReaders::let_behind, crate::specs::Closed::closed))]
+#[tactic(auto, unfolding(crate::specs::ExpressionReaders::expression_inside, crate::specs::ExpressionReaders::let_behind, crate::specs::ExpressionReaders::term_behind, crate::specs::Closed::closed))]
 pub(super) fn parse_expr_behind_lparen(
     cursor: &mut Cursor,
     alloc: Global,
@@ -101,6 +103,18 @@ pub(super) fn parse_expr_behind_lparen(
     if cursor.eat_sym_str(alloc, "let")? {
         return parse_let(cursor, alloc, pos);
     }
+    parse_term(cursor, alloc, pos)
+}
+
+/// A term's name, its arguments, and `)`. The `(` stood at this position.
+#[cycle(expression)]
+#[inline(never)]
+#[tactic(auto, unfolding(crate::specs::ExpressionReaders::term_behind, crate::specs::Closed::closed))]
+fn parse_term(cursor: &mut Cursor, alloc: Global, pos: Pos) -> Result<Expr, Stop>
+    ensures same { source cursor.new ≡ source cursor.old }
+    ensures gives { Gives expression_of (closed (term_behind pos expression) (tokens cursor.old))
+        result cursor.new }
+{
     let sym = cursor.parse_ident(alloc)?;
     let args = parse_exprs(cursor, alloc)?;
     cursor.expect_rparen(alloc)?;
@@ -134,7 +148,7 @@ fn boxed(alloc: Global, expr: Expr) -> Result<Box<Expr>, Stop>
 
 /// Expressions, up to the closing parenthesis.
 #[cycle(expression)]
-#[inline(never)]
+#[inline(always)]
 fn parse_exprs(cursor: &mut Cursor, alloc: Global) -> Result<Vec<Expr>, Stop>
     ensures same { source cursor.new ≡ source cursor.old }
     ensures gives { Gives

@@ -1,15 +1,18 @@
 //! Patterns: what a rule, a condition or an extractor matches.
 
 ghost use Rattle.std.specs.Prelude.{◌≡◌, ◌++◌, [], ◌∷◌, IfErr, IfOk};
+ghost use Rattle.isle_ast_names.specs.TreeView.{optional_name_of};
 ghost use Rattle.isle_ast_rules.specs.TreeView.{pattern_of, patterns_of};
 ghost use Rattle.isle_parser_cursor.specs.Outcomes.{Gives, IsRefusal, source, tokens};
 ghost use Rattle.isle_parser_cursor.specs.Reading.{closes, in_parentheses, many};
 ghost use Rattle.isle_parser_cursor.specs.declared.cursor.Stop.TheVariants.{Memory};
-ghost use Rattle.isle_parser_rules.specs.PatternReaders.{integer_pattern, is_fixed, pattern};
-ghost use Rattle.isle_parser_rules.specs.PatternReaders.{pattern_inside};
+ghost use Rattle.isle_parser_rules.specs.Appended.{appended};
+ghost use Rattle.isle_parser_rules.specs.PatternReaders.{group_node, integer_pattern, is_fixed};
+ghost use Rattle.isle_parser_rules.specs.PatternReaders.{pattern, pattern_head, pattern_inside};
 ghost use Rattle.isle_parser_rules.specs.PatternReaders.{symbol_pattern, variable_pattern};
 
 use crate::parser::names::{parse_const, take_at};
+use isle_ast_names::ast::Ident;
 use isle_ast_rules::ast::Pattern;
 use isle_base::lexer::Pos;
 use isle_parser_cursor::cursor::{Cursor, Stop};
@@ -125,27 +128,54 @@ fn boxed(alloc: Global, pattern: Pattern) -> Result<Box<Pattern>, Stop>
 /// `and` or a term, and patterns, in parentheses. The `(` stands at this position.
 #[cycle(pattern)]
 #[inline(never)]
-#[tactic(auto, unfolding(crate::specs::PatternReaders::pattern_inside, isle_parser_cursor::specs::Reading::in_parentheses))]
+#[tactic(auto, using(crate::proofs::PatternParts::group_is), unfolding(crate::specs::PatternReaders::pattern_group))]
 fn parse_pattern_parens(cursor: &mut Cursor, alloc: Global, pos: Pos) -> Result<Pattern, Stop>
     ensures same { source cursor.new ≡ source cursor.old }
     ensures gives { Gives pattern_of
         (in_parentheses (pattern_inside pos pattern) (tokens cursor.old)) result cursor.new }
 {
-    cursor.expect_lparen(alloc)?;
-    if cursor.eat_sym_str(alloc, "and")? {
-        let subpats = parse_patterns(cursor, alloc)?;
-        cursor.expect_rparen(alloc)?;
-        return Ok(Pattern::And { subpats, pos });
-    }
-    let sym = cursor.parse_ident(alloc)?;
+    let sym = parse_pattern_head(cursor, alloc)?;
     let args = parse_patterns(cursor, alloc)?;
     cursor.expect_rparen(alloc)?;
-    Ok(Pattern::Term { sym, args, pos })
+    Ok(group(sym, args, pos))
+}
+
+/// `(`, and `and` or the name of a term: no name where it is `and`.
+#[inline(never)]
+#[tactic(auto, unfolding(crate::specs::PatternReaders::pattern_head))]
+fn parse_pattern_head(cursor: &mut Cursor, alloc: Global) -> Result<Option<Ident>, Stop>
+    ensures same { source cursor.new ≡ source cursor.old }
+    ensures gives { Gives optional_name_of (pattern_head (tokens cursor.old)) result cursor.new }
+{
+    cursor.expect_lparen(alloc)?;
+    if cursor.eat_sym_str(alloc, "and")? {
+        return Ok(None);
+    }
+    let sym = cursor.parse_ident(alloc)?;
+    Ok(Some(sym))
+}
+
+/// These patterns behind the name of a term, or behind `and`.
+fn group(sym: Option<Ident>, patterns: Vec<Pattern>, pos: Pos) -> Pattern
+    ensures { pattern_of result
+        ≡ group_node pos (optional_name_of sym) (patterns_of patterns.items) }
+{
+    match sym {
+        Some(sym) => Pattern::Term {
+            sym,
+            args: patterns,
+            pos,
+        },
+        None => Pattern::And {
+            subpats: patterns,
+            pos,
+        },
+    }
 }
 
 /// Patterns, up to the closing parenthesis.
 #[cycle(pattern)]
-#[inline(never)]
+#[inline(always)]
 fn parse_patterns(cursor: &mut Cursor, alloc: Global) -> Result<Vec<Pattern>, Stop>
     ensures same { source cursor.new ≡ source cursor.old }
     ensures gives { Gives
@@ -153,18 +183,67 @@ fn parse_patterns(cursor: &mut Cursor, alloc: Global) -> Result<Vec<Pattern>, St
 {
     let mut patterns = Vec::new(alloc);
     while !cursor.is_rparen() {
-        let pattern = parse_pattern(cursor, alloc)?;
-        push_pattern(&mut patterns, pattern)?;
+        append_pattern(cursor, alloc, &mut patterns)?;
     }
     Ok(patterns)
 }
 
-/// Appends a pattern.
+/// A pattern, which is appended to these.
+#[cycle(pattern)]
 #[inline(never)]
-fn push_pattern(patterns: &mut Vec<Pattern>, pattern: Pattern) -> Result<(), Stop>
-    ensures items { IfOk result (λ _. patterns.new.items ≡ patterns.old.items ++ pattern ∷ []) }
+#[tactic(auto, using(crate::proofs::PatternParts::group_ahead), unfolding(crate::specs::PatternReaders::pattern_group, crate::specs::Appended::appended))]
+fn append_pattern(
+    cursor: &mut Cursor,
+    alloc: Global,
+    patterns: &mut Vec<Pattern>,
+) -> Result<(), Stop>
+    ensures same { source cursor.new ≡ source cursor.old }
+    ensures gives { Gives
+        (λ _. patterns_of patterns.new.items)
+        (appended pattern (patterns_of patterns.old.items) (tokens cursor.old)) result cursor.new }
+{
+    if !cursor.is_lparen() {
+        return append_single_pattern(cursor, alloc, patterns);
+    }
+    let pos = cursor.pos();
+    let sym = parse_pattern_head(cursor, alloc)?;
+    let args = parse_patterns(cursor, alloc)?;
+    cursor.expect_rparen(alloc)?;
+    push_group(patterns, sym, args, pos)
+}
+
+/// The same, of a pattern that is mostly not in parentheses.
+#[cycle(pattern)]
+#[inline(never)]
+#[tactic(auto, unfolding(crate::specs::Appended::appended))]
+fn append_single_pattern(
+    cursor: &mut Cursor,
+    alloc: Global,
+    patterns: &mut Vec<Pattern>,
+) -> Result<(), Stop>
+    ensures same { source cursor.new ≡ source cursor.old }
+    ensures gives { Gives
+        (λ _. patterns_of patterns.new.items)
+        (appended pattern (patterns_of patterns.old.items) (tokens cursor.old)) result cursor.new }
+{
+    let pattern = parse_pattern(cursor, alloc)?;
+    patterns.push(pattern)?;
+    Ok(())
+}
+
+/// Appends a pattern in parentheses.
+#[inline(never)]
+fn push_group(
+    patterns: &mut Vec<Pattern>,
+    sym: Option<Ident>,
+    args: Vec<Pattern>,
+    pos: Pos,
+) -> Result<(), Stop>
+    ensures items { IfOk result (λ _. patterns_of patterns.new.items
+        ≡ patterns_of patterns.old.items
+        ++ group_node pos (optional_name_of sym) (patterns_of args.items) ∷ []) }
     ensures memory { IfErr result (λ e. e ≡ Memory) }
 {
-    patterns.push(pattern)?;
+    patterns.push(group(sym, args, pos))?;
     Ok(())
 }

@@ -1,6 +1,6 @@
 -- Models, as the code reads them: a model that is one word, and the fields of a struct.
 use Rattle.std.proofs.Common.{◌≡◌, List, [], ◌∷◌, Some, None, refl, sym, ap, rules}
-use Rattle.std.specs.Prelude.{codes, false, map, true}
+use Rattle.std.specs.Prelude.{map}
 use Rattle.std.specs.Global.{Vec}
 use Rattle.isle_base.specs.declared.lexer.Pos.{Pos}
 use Rattle.isle_base.specs.Place.{Placed}
@@ -8,14 +8,14 @@ use Rattle.isle_base.specs.Token.{Tok, lparen, rparen, symbol, integer, at_sign}
 use Rattle.isle_ast_specs.specs.declared.ast.ModelType.TheVariants.{Struct}
 use Rattle.isle_ast_specs.specs.declared.ast.ModelField.{ModelField}
 use Rattle.isle_ast_specs.specs.declared.ast.ModelType.{the_lemmas}
-use Rattle.isle_ast_names.specs.Tree.{Name}
 use Rattle.isle_ast_specs.specs.Tree.{ModelFieldRow, TypeModel, model_field, struct_model}
 use Rattle.isle_ast_specs.specs.TreeView.{model_row_of, single_model_field_of, single_model_fields_of, type_model_of}
 use Rattle.isle_ast_names.specs.TreeView.{name_of}
 use Rattle.isle_parser_cursor.specs.declared.cursor.Stop.{Stop}
 use Rattle.isle_parser_cursor.specs.Outcomes.{Source, Stops}
-use Rattle.isle_parser_cursor.specs.Reading.{closes, flag, in_parentheses, many, take, text}
-use Rattle.isle_parser_specs.specs.ModelReaders.{model_ahead, model_field_inside, model_fields, model_inside, model_step, model_type, model_word, struct_inside}
+use Rattle.isle_parser_cursor.specs.Reading.{take, text}
+use Rattle.isle_parser_specs.specs.ModelReaders.{model_ahead, model_fields, model_step, model_type, model_word}
+use Rattle.isle_parser_specs.specs.StructParts.{field_of}
 use Rattle.isle_parser_cursor.proofs.Readers.{done_is}
 use Rattle.isle_parser_specs.proofs.Reading.Models.{model_type-unfolds}
 use Rattle.isle_parser_cursor.specs.declared.cursor.Stop.TheVariants as stops
@@ -65,21 +65,14 @@ word_stops all s stops.Memory h = tt
 pub model_type_is : (all : List Placed) → model_type all ≡ model_step model_type all
 model_type_is all = model_type-unfolds all
 
-abbrev pub field_pair : ModelField → Name × TypeModel
-field_pair f = (name_of f.name, type_model_of f.ty)
-
 field_seen : (f : ModelField) → single_model_field_of f ≡ record { name = name_of f.name; ty = type_model_of f.ty }
 field_seen f = search (rules, the_lemmas)
 
 -- the row of the fields, from the code's list
-pub fields_seen : (fs : List ModelField) → model_fields (map field_pair fs) ≡ model_row_of (single_model_fields_of fs)
+pub fields_seen : (fs : List ModelField) → model_fields (map field_of fs) ≡ model_row_of (single_model_fields_of fs)
 fields_seen [] = refl
 fields_seen (f ∷ fs) = rw (field_seen f) (ap (λ (r : ModelFieldRow). model_field (name_of f.name) (type_model_of f.ty) r) (fields_seen fs))
 
-struct_seen : (v : Vec ModelField) → type_model_of (Struct v) ≡ struct_model (model_row_of (single_model_fields_of v.items))
+-- a struct, by its row
+pub struct_seen : (v : Vec ModelField) → type_model_of (Struct v) ≡ struct_model (model_row_of (single_model_fields_of v.items))
 struct_seen v = search (rules, the_lemmas)
-
--- a struct behind its word
-pub struct_read : (all named inner rest : List Placed) (v : Vec ModelField) → flag (codes "bv") all ≡ Some (false, named) → flag (codes "struct") named ≡ Some (true, inner) → many closes (in_parentheses (model_field_inside model_type)) inner ≡ Some (map field_pair v.items, rest) → model_inside model_type all ≡ Some (type_model_of (Struct v), rest)
-unfolding model_inside struct_inside
-struct_read all named inner rest v e f g = rw (e, f, g, fields_seen v.items, struct_seen v) refl

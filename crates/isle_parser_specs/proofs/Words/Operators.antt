@@ -8,7 +8,7 @@ use Rattle.std.proofs.lemmas.Slice.Eq.{bytes_eq-Decides}
 use Rattle.isle_ast_specs.specs.declared.ast.specs.SpecOp.{SpecOp}
 use Rattle.isle_ast_specs.specs.Operators.{is_operator_text, operator_text, operators}
 use Rattle.isle_ast_specs.specs.SpecGrammar.{is_plain_operator}
-use Rattle.isle_parser_specs.specs.SpecWords.{in_table, named_row, head_of, head_word, identified, keyword_head, operator_head, operator_of}
+use Rattle.isle_parser_specs.specs.SpecWords.{in_table, named_row, head_of, head_word, identified, keyword_head, operator_head, operator_of, other_head}
 use Rattle.isle_parser_cursor.proofs.SameBytes.{other_bytes}
 use Rattle.isle_parser_cursor.proofs.Readers.{chosen}
 use Rattle.isle_parser_specs.proofs.Words.Texts.{some_is}
@@ -35,13 +35,11 @@ operator_is text o e = named_is (filter is_plain_operator operators) text o refl
 -- each plain operator is found by its text
 operator_found : (o : SpecOp) → is_plain_operator o ≡ true → operator_of (operator_text o) ≡ Some o
 unfolding operator_of
-operator_found op.Sub e = absurd cc
 operator_found op.Switch e = absurd cc
 operator_found _ e = refl
 
 pub operator_head_found : (o : SpecOp) → is_plain_operator o ≡ true → head_of (operator_text o) ≡ Some (operator_head o)
-unfolding head_of head_word keyword_head operator_of identified
-operator_head_found op.Sub e = absurd cc
+unfolding head_of head_word other_head keyword_head operator_of identified
 operator_head_found op.Switch e = absurd cc
 operator_head_found _ e = refl
 
@@ -65,16 +63,15 @@ not_found : (text : List ℕ) (o : SpecOp) → is_plain_operator o ≡ true → 
 not_found text o plain e = other_bytes text (operator_text o) (λ is.
     let clash : None ≡ Some o = sym e ∙ ap operator_of is ∙ operator_found o plain in cc)
 
-each_fails : (text : List ℕ) → operator_of text ≡ None → bytes_eq text (codes "-") ≡ false → bytes_eq text (codes "switch") ≡ false → (o : SpecOp) → bytes_eq text (operator_text o) ≡ false
-each_fails text e minus switch op.Sub = minus
-each_fails text e minus switch op.Switch = switch
-each_fails text e minus switch o = not_found text o refl e
+each_fails : (text : List ℕ) → operator_of text ≡ None → bytes_eq text (codes "switch") ≡ false → (o : SpecOp) → bytes_eq text (operator_text o) ≡ false
+each_fails text e switch op.Switch = switch
+each_fails text e switch o = not_found text o refl e
 
 none_passes : (passes : SpecOp → Bool) (os : List SpecOp) → ((o : SpecOp) → passes o ≡ false) → list_any passes os ≡ false
 none_passes passes [] h = refl
 none_passes passes (o ∷ os) h = rw (h o) (none_passes passes os h)
 
--- what is not found is the text of no operator, but `-` and `switch` may be
-pub no_operator_text : (text : List ℕ) → operator_of text ≡ None → (text ≡ codes "-" → ⊥) → (text ≡ codes "switch" → ⊥) → is_operator_text text ≡ false
-no_operator_text text e minus switch =
-    none_passes (λ o. bytes_eq text (operator_text o)) operators (each_fails text e (other_bytes text (codes "-") minus) (other_bytes text (codes "switch") switch))
+-- what is not found is the text of no operator, but `switch` may be
+pub no_operator_text : (text : List ℕ) → operator_of text ≡ None → (text ≡ codes "switch" → ⊥) → is_operator_text text ≡ false
+no_operator_text text e switch =
+    none_passes (λ o. bytes_eq text (operator_text o)) operators (each_fails text e (other_bytes text (codes "switch") switch))

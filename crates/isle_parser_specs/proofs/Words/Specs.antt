@@ -15,7 +15,7 @@ use Rattle.isle_ast_specs.specs.Operators.{is_operator_text, operator_text}
 use Rattle.isle_ast_specs.specs.Tree.{SpecNode, bit_vector_spec, bool_spec, var_spec}
 use Rattle.isle_ast_names.specs.Words.{bool_word, is_bool_word}
 use Rattle.isle_ast_specs.specs.SpecGrammar.{SpellsSpec}
-use Rattle.isle_parser_specs.specs.SpecWords.{IsHead, SpecHead, are_identifiers, around, as_head, before_last, begins_bit_vector, behind_mark, binary_or_other, bit_vector_at, bit_vector_of, discriminator_head, expansion_head, field_head, head_of, head_word, hexadecimal_or_plain, identified, keyword_head, let_head, macro_head, match_head, operator_head, operator_of, plain_word, struct_head, switch_head, variant_head, with_head, word_of}
+use Rattle.isle_parser_specs.specs.SpecWords.{IsHead, SpecHead, are_identifiers, around, as_head, before_last, begins_bit_vector, behind_mark, binary_or_other, bit_vector_at, bit_vector_of, discriminator_head, expansion_head, field_head, head_of, head_word, hexadecimal_or_plain, identified, keyword_head, let_head, macro_head, match_head, operator_head, operator_of, other_head, plain_word, struct_head, switch_head, variant_head, with_head, word_of}
 use Rattle.isle_parser_cursor.proofs.SameBytes.{other_bytes}
 use Rattle.isle_parser_cursor.proofs.Readers.{bind_some, chosen, chosen_some}
 use Rattle.isle_parser_specs.proofs.Words.BitVectors.{IsMade, bit_vector_is, bit_vector_made}
@@ -52,7 +52,7 @@ variant_is : (text : List ℕ) (head : SpecHead) → operator_of text ≡ None �
 variant_is text head none e names =
     let m = mapped_some (λ (names : List ℕ × List ℕ). variant_head names.0 names.1) (around 46 text) head e in
     let parts = around_is 46 text m.0 m.1 in
-    let no = no_operator_text text none (dotted_not text m.0 (codes "-") m.1 refl) (dotted_not text m.0 (codes "switch") m.1 refl) in
+    let no = no_operator_text text none (dotted_not text m.0 (codes "switch") m.1 refl) in
     let both = and_parts (is_identifier m.0.0) (is_identifier m.0.1) (ap are_identifiers m.2 ∙ names) in
     subst (λ (h : SpecHead). IsHead h text) m.2 (both.0, both.1, parts.1, no, parts.0)
 
@@ -68,7 +68,7 @@ named_is make found text head is e names =
     subst (λ (h : SpecHead). IsHead h text) m.2 (is m.0 m.1 (ap are_identifiers m.2 ∙ names))
 
 head_word_is : (text : List ℕ) (head : SpecHead) → head_word text ≡ Some head → are_identifiers head ≡ true → IsHead head text
-unfolding head_word
+unfolding head_word other_head
 head_word_is text head e names =
     elim (or_is (keyword_head text) _ head e) [
       | inl keyword ↦ keyword_is text head keyword
@@ -133,13 +133,13 @@ not_bits name rest p =
     subst (λ (t : List ℕ). begins_bit_vector (t ++ rest) ≡ false) (sym p.split) (rw n refl)
 
 discriminator_found : (name : List ℕ) → is_identifier name ≡ true → head_of (name ++ 63 ∷ []) ≡ Some (discriminator_head name)
-unfolding head_of head_word
+unfolding head_of head_word other_head
 discriminator_found name e =
     rw (no_keyword (before_last 63) (name ++ 63 ∷ []) name (before_last_made 63 name) refl refl refl refl refl refl refl, not_bits name (63 ∷ []) (identifier_text name e), before_last_made 63 name)
     (accepted (discriminator_head name) e)
 
 expansion_found : (name : List ℕ) → is_identifier name ≡ true → head_of (name ++ 33 ∷ []) ≡ Some (expansion_head name)
-unfolding head_of head_word
+unfolding head_of head_word other_head
 expansion_found name e =
     rw (no_keyword (before_last 33) (name ++ 33 ∷ []) name (before_last_made 33 name) refl refl refl refl refl refl refl, not_bits name (33 ∷ []) (identifier_text name e), before_last_other 63 33 name refl, before_last_made 33 name)
     (accepted (expansion_head name) e)
@@ -154,7 +154,7 @@ exclamation_behind byte name p =
     subst (λ (t : List ℕ). before_last 33 (byte ∷ t) ≡ None) (sym p.split) (rw (no_exclamation_mark (p.first ∷ p.others) p.plain) refl)
 
 field_found : (name : List ℕ) → is_identifier name ≡ true → head_of (58 ∷ name) ≡ Some (field_head name)
-unfolding head_of head_word keyword_head operator_of
+unfolding head_of head_word other_head keyword_head operator_of
 field_found name e =
     let p = identifier_text name e in
     rw (question_behind 58 name p, exclamation_behind 58 name p) (accepted (field_head name) e)
@@ -166,7 +166,7 @@ not_field name rest p =
     subst (λ (t : List ℕ). behind_mark (codes ":") (t ++ rest) ≡ None) (sym p.split) (rw n refl)
 
 variant_found : (enum case : List ℕ) → is_identifier enum ≡ true → is_identifier case ≡ true → list_all (is_other 46) enum ≡ true → is_operator_text (enum ++ 46 ∷ case) ≡ false → head_of (enum ++ 46 ∷ case) ≡ Some (variant_head enum case)
-unfolding head_of head_word
+unfolding head_of head_word other_head
 variant_found enum case e f dots none =
     let p = identifier_text enum e in
     let q = identifier_text case f in
@@ -178,7 +178,7 @@ word_found : (text word : List ℕ) (head : SpecHead) → head_of word ≡ Some 
 word_found text word head e is = ap head_of is ∙ e
 
 words_found : (head_of (codes "switch") ≡ Some switch_head) × (head_of (codes "let") ≡ Some let_head) × (head_of (codes "with") ≡ Some with_head) × (head_of (codes "match") ≡ Some match_head) × (head_of (codes "struct") ≡ Some struct_head) × (head_of (codes "macro") ≡ Some macro_head) × (head_of (codes "as") ≡ Some as_head)
-unfolding head_of head_word keyword_head identified
+unfolding head_of head_word other_head keyword_head identified
 words_found = (refl, refl, refl, refl, refl, refl, refl)
 
 pub is_head : (text : List ℕ) (head : SpecHead) → IsHead head text → head_of text ≡ Some head

@@ -1,33 +1,70 @@
 //! Models of types.
 
-ghost use Rattle.std.specs.Prelude.{◌≡◌, map, option_map};
-ghost use Rattle.isle_ast_names.specs.TreeView.{name_of};
+ghost use Rattle.std.specs.Prelude.{◌≡◌, ◌++◌, ◌∷◌, ◌<◌, [], IfErr, IfNone, IfOk, length, map};
+ghost use Rattle.std.specs.Prelude.{option_map};
 ghost use Rattle.isle_ast_specs.specs.TreeView.{type_model_of};
+ghost use Rattle.isle_base.specs.Token.{rparen};
 ghost use Rattle.isle_parser_cursor.specs.Outcomes.{Gives, IsPlace, source, tokens};
-ghost use Rattle.isle_parser_cursor.specs.Reading.{closes, in_parentheses, many};
-ghost use Rattle.isle_parser_specs.specs.ModelReaders.{model_field_inside, model_ahead};
-ghost use Rattle.isle_parser_specs.specs.ModelReaders.{model_inside, model_type, model_word};
+ghost use Rattle.isle_parser_cursor.specs.Reading.{closes, many};
+ghost use Rattle.isle_parser_cursor.specs.declared.cursor.Stop.TheVariants.{Memory};
+ghost use Rattle.isle_parser_specs.specs.ModelReaders.{model_ahead, model_type, model_word};
+ghost use Rattle.isle_parser_specs.specs.ModelReaders.{named_inside};
 ghost use Rattle.isle_parser_specs.specs.ModelReaders.{tagged_type, tagged_types, width};
+ghost use Rattle.isle_parser_specs.specs.StructParts.{AppendsField, BeginsField, HasModel};
+ghost use Rattle.isle_parser_specs.specs.StructParts.{HasStruct, both_closed, field, field_of};
+ghost use Rattle.isle_parser_specs.specs.StructParts.{field_with, model_front};
 
+use isle_ast_names::ast::Ident;
 use isle_ast_specs::ast::{ModelField, ModelType};
 use isle_base::lexer::{Pos, Token};
 use isle_parser_cursor::cursor::{Cursor, Stop};
 use std::alloc::Global;
 
+// How deep a nest goes is bound by the frames of one ring: the fields of a struct, and one field. So a
+// field stands in its list before its struct is read, and all else has a frame of its own.
+
 /// A model of a type.
-#[cycle(model_type)]
-#[tactic(auto, using(crate::proofs::Words::Models::model_type_is), unfolding(crate::specs::ModelReaders::model_step, isle_parser_cursor::specs::Reading::in_parentheses))]
+#[tactic(auto, using(crate::proofs::StructParts::front_is), unfolding(crate::specs::StructParts::struct_rest))]
 pub fn parse_model_type(cursor: &mut Cursor, alloc: Global) -> Result<ModelType, Stop>
     ensures same { source cursor.new ≡ source cursor.old }
     ensures gives { Gives type_model_of (model_type (tokens cursor.old)) result cursor.new }
 {
-    let place = cursor.place();
-    if !cursor.is_lparen() {
-        return parse_model_word(cursor, alloc);
+    match parse_model_front(cursor, alloc)? {
+        Some(ty) => Ok(ty),
+        None => {
+            let fields = parse_model_fields(cursor, alloc)?;
+            cursor.expect_rparen(alloc)?;
+            Ok(ModelType::Struct(fields))
+        }
     }
+}
+
+/// A model that is no struct, or `(struct`, for which there is none.
+#[inline(never)]
+#[tactic(auto, unfolding(crate::specs::StructParts::model_front, crate::specs::StructParts::inside_front, crate::specs::StructParts::struct_front, crate::specs::StructParts::whole, crate::specs::StructParts::bit_vector))]
+fn parse_model_front(cursor: &mut Cursor, alloc: Global) -> Result<Option<ModelType>, Stop>
+    ensures same { source cursor.new ≡ source cursor.old }
+    ensures gives { Gives
+        (option_map type_model_of) (model_front (tokens cursor.old)) result cursor.new }
+    ensures shorter { IfOk result (λ front. IfNone front
+        (length (tokens cursor.new) < length (tokens cursor.old))) }
+{
+    if !cursor.is_lparen() {
+        return Ok(Some(parse_model_word(cursor, alloc)?));
+    }
+    let place = cursor.place();
     cursor.expect_lparen(alloc)?;
-    let ty = parse_model_inside(cursor, alloc, place)?;
-    cursor.close(alloc, ty)
+    if cursor.eat_sym_str(alloc, "bv")? {
+        let width = parse_width(cursor, alloc, place)?;
+        cursor.expect_rparen(alloc)?;
+        return Ok(Some(ModelType::BitVec(width)));
+    }
+    if cursor.eat_sym_str(alloc, "struct")? {
+        return Ok(None);
+    }
+    let ty = parse_model_named(cursor, alloc, place)?;
+    cursor.expect_rparen(alloc)?;
+    Ok(Some(ty))
 }
 
 /// The model that the word ahead stands for.
@@ -48,6 +85,7 @@ fn model_ahead(cursor: &Cursor) -> Option<ModelType>
 }
 
 /// A model that is one word.
+#[inline(never)]
 fn parse_model_word(cursor: &mut Cursor, alloc: Global) -> Result<ModelType, Stop>
     ensures same { source cursor.new ≡ source cursor.old }
     ensures gives { Gives type_model_of (model_word (tokens cursor.old)) result cursor.new }
@@ -68,23 +106,17 @@ fn parse_model_word(cursor: &mut Cursor, alloc: Global) -> Result<ModelType, Sto
     }
 }
 
-/// `bv`, `struct` or `named`, and what stands behind the word. The `(` stood at this place.
-#[cycle(model_type)]
-#[tactic(auto, unfolding(crate::specs::ModelReaders::model_inside, crate::specs::ModelReaders::struct_inside, crate::specs::ModelReaders::named_inside))]
-fn parse_model_inside(cursor: &mut Cursor, alloc: Global, place: Pos) -> Result<ModelType, Stop>
+/// `named`, and the name behind it. The model's `(` stood at this place.
+#[inline(never)]
+#[tactic(auto, unfolding(crate::specs::ModelReaders::named_inside))]
+fn parse_model_named(cursor: &mut Cursor, alloc: Global, place: Pos) -> Result<ModelType, Stop>
     requires { IsPlace (source cursor.old) place }
     ensures same { source cursor.new ≡ source cursor.old }
-    ensures gives { Gives type_model_of (model_inside model_type (tokens cursor.old)) result
-        cursor.new }
+    ensures gives { Gives type_model_of (named_inside (tokens cursor.old)) result cursor.new }
 {
-    if cursor.eat_sym_str(alloc, "bv")? {
-        return Ok(ModelType::BitVec(parse_width(cursor, alloc, place)?));
-    }
-    if cursor.eat_sym_str(alloc, "struct")? {
-        return Ok(ModelType::Struct(parse_model_fields(cursor, alloc)?));
-    }
     if cursor.eat_sym_str(alloc, "named")? {
-        return Ok(ModelType::Named(cursor.parse_ident(alloc)?));
+        let name = cursor.parse_ident(alloc)?;
+        return Ok(ModelType::Named(name));
     }
     Err(cursor.refuse_at(
         place,
@@ -96,6 +128,7 @@ fn parse_model_inside(cursor: &mut Cursor, alloc: Global, place: Pos) -> Result<
 }
 
 /// The number of bits of a bit vector, if it is known. The model's `(` stood at this place.
+#[inline(never)]
 #[tactic(auto, unfolding(crate::specs::ModelReaders::width, crate::specs::ModelReaders::number))]
 fn parse_width(cursor: &mut Cursor, alloc: Global, place: Pos) -> Result<Option<usize>, Stop>
     requires { IsPlace (source cursor.old) place }
@@ -122,34 +155,106 @@ fn parse_width(cursor: &mut Cursor, alloc: Global, place: Pos) -> Result<Option<
 }
 
 /// The fields of a struct, up to the closing parenthesis.
-#[cycle(model_type)]
+#[cycle(model_fields)]
+#[inline(always)]
 fn parse_model_fields(cursor: &mut Cursor, alloc: Global) -> Result<Vec<ModelField>, Stop>
     ensures same { source cursor.new ≡ source cursor.old }
     ensures gives { Gives
-        (λ fs. map
-        (λ f. (name_of f.name, type_model_of f.ty)) fs.items)
-        (many closes (in_parentheses (model_field_inside model_type)) (tokens cursor.old)) result
-        cursor.new }
+        (λ fs. map field_of fs.items) (many closes field (tokens cursor.old)) result cursor.new }
 {
     let mut fields = Vec::new(alloc);
     while !cursor.is_rparen() {
-        fields.push(parse_model_field(cursor, alloc)?)?;
+        append_model_field(cursor, alloc, &mut fields)?;
     }
     Ok(fields)
 }
 
-#[cycle(model_type)]
-#[tactic(auto, unfolding(crate::specs::ModelReaders::model_field_inside, isle_parser_cursor::specs::Reading::in_parentheses))]
-fn parse_model_field(cursor: &mut Cursor, alloc: Global) -> Result<ModelField, Stop>
+/// A field, which is appended to these.
+#[cycle(model_fields)]
+#[inline(never)]
+fn append_model_field(
+    cursor: &mut Cursor,
+    alloc: Global,
+    fields: &mut Vec<ModelField>,
+) -> Result<(), Stop>
     ensures same { source cursor.new ≡ source cursor.old }
-    ensures gives { Gives
-        (λ f. (name_of f.name, type_model_of f.ty))
-        (in_parentheses (model_field_inside model_type) (tokens cursor.old)) result cursor.new }
+    ensures gives { AppendsField result
+        fields.old.items (tokens cursor.old) fields.new.items cursor.new }
+{
+    if begin_model_field(cursor, alloc, fields)? {
+        let inner = parse_model_fields(cursor, alloc)?;
+        return end_model_field(cursor, alloc, fields, inner);
+    }
+    Ok(())
+}
+
+/// Appends a field whose model is no struct, or the front of one up to `(struct`: tells which.
+#[inline(never)]
+#[tactic(auto, using(crate::proofs::StructParts::field_is), unfolding(crate::specs::StructParts::field_in_parts))]
+fn begin_model_field(
+    cursor: &mut Cursor,
+    alloc: Global,
+    fields: &mut Vec<ModelField>,
+) -> Result<bool, Stop>
+    ensures same { source cursor.new ≡ source cursor.old }
+    ensures gives { BeginsField result
+        fields.old.items (tokens cursor.old) fields.new.items cursor.new }
 {
     cursor.expect_lparen(alloc)?;
     let name = cursor.parse_ident(alloc)?;
-    let ty = parse_model_type(cursor, alloc)?;
-    cursor.close(alloc, ModelField { name, ty })
+    match parse_model_front(cursor, alloc)? {
+        Some(ty) => {
+            push_model_field(fields, name, ty)?;
+            cursor.expect_rparen(alloc)?;
+            Ok(false)
+        }
+        None => {
+            push_model_field(fields, name, ModelType::Unit)?;
+            Ok(true)
+        }
+    }
+}
+
+/// Appends a field.
+#[inline(never)]
+fn push_model_field(fields: &mut Vec<ModelField>, name: Ident, ty: ModelType) -> Result<(), Stop>
+    ensures items { IfOk result (λ _. fields.new.items
+        ≡ fields.old.items ++ field_with name ty ∷ []) }
+    ensures memory { IfErr result (λ e. e ≡ Memory) }
+{
+    fields.push(ModelField { name, ty })?;
+    Ok(())
+}
+
+/// The end of a field whose model is a struct of these fields: the last one of its list gets them.
+#[inline(never)]
+#[tactic(auto, unfolding(crate::specs::StructParts::both_closed))]
+fn end_model_field(
+    cursor: &mut Cursor,
+    alloc: Global,
+    fields: &mut Vec<ModelField>,
+    inner: Vec<ModelField>,
+) -> Result<(), Stop>
+    ensures same { source cursor.new ≡ source cursor.old }
+    ensures gives { Gives (λ _. rparen) (both_closed (tokens cursor.old)) result cursor.new }
+    ensures items { IfOk result (λ _.
+        HasStruct fields.old.items fields.new.items inner.items) }
+{
+    cursor.expect_rparen(alloc)?;
+    cursor.expect_rparen(alloc)?;
+    set_last_model(fields, ModelType::Struct(inner))
+}
+
+/// Puts this model in the place of that of the last field.
+fn set_last_model(fields: &mut Vec<ModelField>, ty: ModelType) -> Result<(), Stop>
+    ensures items { IfOk result (λ _.
+        HasModel fields.old.items fields.new.items ty) }
+    ensures memory { IfErr result (λ e. e ≡ Memory) }
+{
+    if let Some(last) = fields.pop() {
+        return push_model_field(fields, last.name, ty);
+    }
+    Ok(())
 }
 
 /// Models behind this word, in parentheses.

@@ -1,8 +1,8 @@
 //! The operators of spec expressions, by their texts.
 //!
 //! The operators stand by the length of their texts, and in the order of the type. So a text is
-//! compared with those of its own length alone. `-`, which no symbol is, and `switch`, which is a
-//! head of its own, are none of them.
+//! compared with those of its own length alone. `switch`, which is a head of its own, is none of
+//! them.
 
 ghost use Rattle.std.specs.Prelude.{◌≡◌, map};
 ghost use Rattle.isle_parser_specs.specs.OperatorRows.{rows_of_length};
@@ -11,9 +11,10 @@ ghost use Rattle.isle_parser_specs.specs.SpecWords.{in_table, operator_of};
 use isle_ast_specs::ast::SpecOp;
 
 /// The operators whose texts have one byte.
-const OF_ONE: [(&str, SpecOp); 5] = [
+const OF_ONE: [(&str, SpecOp); 6] = [
     ("=", SpecOp::Eq),
     ("+", SpecOp::Add),
+    ("-", SpecOp::Sub),
     ("*", SpecOp::Mul),
     ("<", SpecOp::Lt),
     (">", SpecOp::Gt),

@@ -1,24 +1,25 @@
 //! Single symbols of spec expressions: the heads behind a `(`, and the words that are expressions
 //! by themselves.
 
-ghost use Rattle.std.specs.Prelude.{◌≡◌, ◌≤◌, option_map, string_bytes, Some, None, if◌then◌else◌};
-ghost use Rattle.std.specs.Prelude.{codes};
-ghost use Rattle.isle_ast_names.specs.Identifier.{is_identifier};
+ghost use Rattle.std.specs.Prelude.{◌≡◌, ◌≤◌, ◌<◌, IfErr, IfOk, Some, None, codes, option_map};
+ghost use Rattle.std.specs.Prelude.{string_bytes};
 ghost use Rattle.isle_ast_specs.specs.TreeView.{spec_of};
-ghost use Rattle.isle_parser_cursor.specs.Outcomes.{Gives, IsPlace, IsRefusal, source, tokens};
+ghost use Rattle.isle_parser_cursor.specs.Outcomes.{Gives, IsPlace, IsRefusal, Judges};
+ghost use Rattle.isle_parser_cursor.specs.Outcomes.{source, tokens};
 ghost use Rattle.isle_parser_specs.specs.SpecReaders.{spec_word};
-ghost use Rattle.isle_parser_specs.specs.SpecFormHeads.{Finds, head_view, word_view};
-ghost use Rattle.isle_parser_specs.specs.SpecWords.{around, before_last, begins_bit_vector};
-ghost use Rattle.isle_parser_specs.specs.SpecWords.{behind_mark, bit_vector_of, head_of};
-ghost use Rattle.isle_parser_specs.specs.SpecWords.{head_word, hexadecimal_or_plain};
-ghost use Rattle.isle_parser_specs.specs.SpecWords.{operator_of, plain_word, spec_head, word_of};
+ghost use Rattle.isle_parser_specs.specs.SpecFormHeads.{Finds, head_view};
+ghost use Rattle.isle_parser_specs.specs.SpecWords.{are_identifiers, around, before_last};
+ghost use Rattle.isle_parser_specs.specs.SpecWords.{begins_bit_vector, behind_mark, bit_vector_of};
+ghost use Rattle.isle_parser_specs.specs.SpecWords.{head_of, head_word, hexadecimal_or_plain};
+ghost use Rattle.isle_parser_specs.specs.SpecWords.{operator_of, other_head, plain_word, spec_head};
+ghost use Rattle.isle_parser_specs.specs.SpecWords.{variant_head, word_of};
 
 use crate::parser::operators::operator_of;
 use isle_ast_names::ast::Ident;
 use isle_ast_specs::ast::{SpecExpr, SpecOp};
 use isle_base::lexer::Pos;
 use isle_parser_cursor::cursor::{Cursor, Stop};
-use std::alloc::Global;
+use std::alloc::{AllocError, Global};
 
 /// The first word in parentheses, with the names in it.
 #[derive(Drop)]
@@ -49,36 +50,6 @@ pub(super) enum Head {
     Variant(String, String),
 }
 
-/// What a word is as a head, with the texts that are to be names.
-enum HeadWord<'a> {
-    /// `switch`
-    Switch,
-    /// `let`
-    Let,
-    /// `with`
-    With,
-    /// `match`
-    Match,
-    /// `struct`
-    Struct,
-    /// `macro`
-    Macro,
-    /// `as`
-    As,
-    /// What stands before a `?`.
-    Discriminator(&'a str),
-    /// What stands before a `!`.
-    Expansion(&'a str),
-    /// An operator.
-    Operator(SpecOp),
-    /// What stands behind a `:`.
-    Field(&'a str),
-    /// What stands on both sides of the first dot.
-    Variant(&'a str, &'a str),
-    /// No head.
-    Other,
-}
-
 /// The head that the symbol ahead is. The `(` before it stood at `start`.
 pub(super) fn parse_spec_head(cursor: &mut Cursor, alloc: Global, start: Pos) -> Result<Head, Stop>
     requires { IsPlace (source cursor.old) start }
@@ -90,7 +61,7 @@ pub(super) fn parse_spec_head(cursor: &mut Cursor, alloc: Global, start: Pos) ->
     }
     let place = cursor.place();
     let word = cursor.expect_symbol(alloc)?;
-    spec_head(cursor, alloc, start, place, &word)
+    spec_head(cursor, alloc, start, place, word)
 }
 
 /// The head that this word is, which stood at `place`. The names of a variant stand at the `(`.
@@ -100,43 +71,43 @@ fn spec_head(
     alloc: Global,
     start: Pos,
     place: Pos,
-    word: &str,
+    word: String,
 ) -> Result<Head, Stop>
     requires start { IsPlace (source cursor.now) start }
     requires place { IsPlace (source cursor.now) place }
-    ensures { Finds head_view (head_of word.now) (source cursor.now) result }
+    ensures { Finds head_view (head_of (string_bytes word)) (source cursor.now) result }
 {
-    match head_word(word) {
-        HeadWord::Switch => Ok(Head::Switch),
-        HeadWord::Let => Ok(Head::Let),
-        HeadWord::With => Ok(Head::With),
-        HeadWord::Match => Ok(Head::Match),
-        HeadWord::Struct => Ok(Head::Struct),
-        HeadWord::Macro => Ok(Head::Macro),
-        HeadWord::As => Ok(Head::As),
-        HeadWord::Discriminator(variant) => {
-            Ok(Head::Discriminator(identifier(cursor, alloc, place, variant)?))
+    match head_word(word, alloc)? {
+        Some(head) => {
+            check_names(cursor, alloc, start, place, &head)?;
+            Ok(head)
         }
-        HeadWord::Expansion(name) => Ok(Head::Expansion(identifier(cursor, alloc, place, name)?)),
-        HeadWord::Operator(op) => Ok(Head::Operator(op)),
-        HeadWord::Field(field) => Ok(Head::Field(identifier(cursor, alloc, place, field)?)),
-        HeadWord::Variant(name, variant) => {
-            let name = identifier(cursor, alloc, start, name)?;
-            let variant = identifier(cursor, alloc, start, variant)?;
-            Ok(Head::Variant(name, variant))
-        }
-        HeadWord::Other => Err(unexpected_spec(cursor, alloc, start)),
+        None => Err(unexpected_spec(cursor, alloc, start)),
     }
 }
 
-/// This text, which stood at this place, where it is an identifier.
-fn identifier(cursor: &Cursor, alloc: Global, place: Pos, text: &str) -> Result<String, Stop>
-    requires { IsPlace (source cursor.now) place }
-    ensures { Finds string_bytes (if is_identifier text.now then Some text.now else None)
-        (source cursor.now) result }
+/// Refuses the names in a head that are no identifiers.
+fn check_names(
+    cursor: &Cursor,
+    alloc: Global,
+    start: Pos,
+    place: Pos,
+    head: &Head,
+) -> Result<(), Stop>
+    requires start { IsPlace (source cursor.now) start }
+    requires place { IsPlace (source cursor.now) place }
+    ensures { Judges (are_identifiers (head_view head.now)) (source cursor.now) result }
 {
-    cursor.check_identifier(alloc, place, text)?;
-    Ok(String::from_str(alloc, text)?)
+    match head {
+        Head::Discriminator(name) | Head::Expansion(name) | Head::Field(name) => {
+            cursor.check_identifier(alloc, place, name)
+        }
+        Head::Variant(name, variant) => {
+            cursor.check_identifier(alloc, start, name)?;
+            cursor.check_identifier(alloc, start, variant)
+        }
+        _ => Ok(()),
+    }
 }
 
 /// Refuses the spec expression that begins at this place.
@@ -233,62 +204,95 @@ fn plain_word(
 }
 
 /// The head that this word is, whatever the names in it are: the first of these. A bit vector is
-/// none.
+/// none. A name is in the memory of the word.
 #[tactic(auto, unfolding(crate::specs::SpecWords::head_word, crate::specs::SpecWords::keyword_head))]
-fn head_word(word: &str) -> HeadWord<'_>
-    ensures { word_view result ≡ head_word word.now }
+fn head_word(word: String, alloc: Global) -> Result<Option<Head>, AllocError>
+    ensures { IfOk result (λ head. option_map head_view head ≡ head_word (string_bytes word)) }
 {
-    match word {
-        "switch" => HeadWord::Switch,
-        "let" => HeadWord::Let,
-        "with" => HeadWord::With,
-        "match" => HeadWord::Match,
-        "struct" => HeadWord::Struct,
-        "macro" => HeadWord::Macro,
-        "as" => HeadWord::As,
-        _ => {
-            if begins_bit_vector(word) {
-                HeadWord::Other
-            } else if let Some(variant) = before_question_mark(word) {
-                HeadWord::Discriminator(variant)
-            } else if let Some(name) = before_exclamation_mark(word) {
-                HeadWord::Expansion(name)
-            } else if let Some(op) = operator_of(word) {
-                HeadWord::Operator(op)
-            } else if let Some(field) = behind_colon(word) {
-                HeadWord::Field(field)
-            } else if let Some((name, variant)) = around_dot(word) {
-                HeadWord::Variant(name, variant)
-            } else {
-                HeadWord::Other
-            }
-        }
+    match word.as_str() {
+        "switch" => Ok(Some(Head::Switch)),
+        "let" => Ok(Some(Head::Let)),
+        "with" => Ok(Some(Head::With)),
+        "match" => Ok(Some(Head::Match)),
+        "struct" => Ok(Some(Head::Struct)),
+        "macro" => Ok(Some(Head::Macro)),
+        "as" => Ok(Some(Head::As)),
+        _ => other_head(word, alloc),
     }
 }
 
-fn before_question_mark(word: &str) -> Option<&str>
-    ensures { option_map (λ front. front.now) result ≡ before_last 63 word.now }
+/// The same of a word that is no keyword.
+#[tactic(auto, unfolding(crate::specs::SpecWords::other_head))]
+fn other_head(word: String, alloc: Global) -> Result<Option<Head>, AllocError>
+    ensures { IfOk result (λ head. option_map head_view head ≡ other_head (string_bytes word)) }
 {
-    word.strip_suffix('?')
+    if begins_bit_vector(&word) {
+        return Ok(None);
+    }
+    let word = match before_last(word, '?') {
+        Ok(variant) => return Ok(Some(Head::Discriminator(variant))),
+        Err(word) => word,
+    };
+    let word = match before_last(word, '!') {
+        Ok(name) => return Ok(Some(Head::Expansion(name))),
+        Err(word) => word,
+    };
+    if let Some(op) = operator_of(&word) {
+        return Ok(Some(Head::Operator(op)));
+    }
+    match behind_colon(word) {
+        Ok(field) => Ok(Some(Head::Field(field))),
+        Err(word) => variant_head(word, alloc),
+    }
 }
 
-fn before_exclamation_mark(word: &str) -> Option<&str>
-    ensures { option_map (λ front. front.now) result ≡ before_last 33 word.now }
+/// The text before this mark, which is its last character, in its memory. A text that ends
+/// otherwise is given back.
+fn before_last(mut word: String, mark: char) -> Result<String, String>
+    requires { mark < 128 }
+    ensures front { IfOk result (λ front. before_last mark (string_bytes word)
+        ≡ Some (string_bytes front)) }
+    ensures none { IfErr result (λ _. before_last mark (string_bytes word) ≡ None) }
+    ensures same { IfErr result (λ same. same ≡ word) }
 {
-    word.strip_suffix('!')
+    match word.strip_suffix(mark) {
+        Some(front) => {
+            let len = front.len();
+            word.truncate(len);
+            Ok(word)
+        }
+        None => Err(word),
+    }
 }
 
-fn behind_colon(word: &str) -> Option<&str>
-    ensures { option_map (λ rest. rest.now) result ≡ behind_mark (codes ":") word.now }
+/// The text behind a colon, in its memory. A text that begins otherwise is given back.
+fn behind_colon(mut word: String) -> Result<String, String>
+    ensures rest { IfOk result (λ rest. behind_mark (codes ":") (string_bytes word)
+        ≡ Some (string_bytes rest)) }
+    ensures none { IfErr result (λ _. behind_mark (codes ":") (string_bytes word) ≡ None) }
+    ensures same { IfErr result (λ same. same ≡ word) }
 {
-    word.strip_prefix(':')
+    if word.starts_with(':') {
+        word.remove(0);
+        return Ok(word);
+    }
+    Err(word)
 }
 
-/// The texts before and behind the first dot.
-fn around_dot(word: &str) -> Option<(&str, &str)>
-    ensures { option_map (λ parts. (parts.0.now, parts.1.now)) result ≡ around 46 word.now }
+/// The texts before and behind the first dot. The first one is in the memory of the whole text.
+fn variant_head(mut word: String, alloc: Global) -> Result<Option<Head>, AllocError>
+    ensures { IfOk result (λ head. option_map head_view head
+        ≡ option_map (λ names. variant_head names.0 names.1) (around 46 (string_bytes word))) }
 {
-    word.split_once('.')
+    match word.split_once('.') {
+        Some((name, variant)) => {
+            let len = name.len();
+            let variant = String::from_str(alloc, variant)?;
+            word.truncate(len);
+            Ok(Some(Head::Variant(word, variant)))
+        }
+        None => Ok(None),
+    }
 }
 
 fn binary_digits(word: &str) -> Option<&str>

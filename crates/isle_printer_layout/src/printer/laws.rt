@@ -4,10 +4,11 @@ ghost use Rattle.std.specs.Prelude.{◌≡◌, ◌≤◌, ◌<◌, ◌+◌, ◌^
 ghost use Rattle.isle_base.specs.Lexing.{lexes};
 ghost use Rattle.isle_base.specs.Place.{nowhere, placed};
 ghost use Rattle.isle_base.specs.Token.{Tok, Lexeme, end};
+ghost use Rattle.isle_printer_layout.specs.AnyTokens.{AnyTokensOf};
 ghost use Rattle.isle_printer_layout.specs.Choices.{Choice, IsWithin, IsLeast, IsLayout, render};
 ghost use Rattle.isle_printer_layout.specs.Layout.{layout};
 ghost use Rattle.isle_printer_layout.specs.Lengths.{record_of};
-ghost use Rattle.isle_printer_layout.specs.ReadBack.{TokensOf, unplaced};
+ghost use Rattle.isle_printer_layout.specs.ReadBack.{unplaced};
 ghost use Rattle.isle_printer_layout.specs.Sexp.{Sexp};
 ghost use Rattle.isle_printer_layout.specs.SexpView.{sexp_of};
 
@@ -36,7 +37,7 @@ pub fn rules_give_least_choice()
 /// A law, which runs no code: the text of an S-expression whose atoms are the texts of tokens lexes
 /// to just these tokens, for every choice of broken lists, and so at every width.
 pub fn rendered_text_lexes()
-    ensures { (s : Sexp) (c : Choice s) (level : ℕ) (tokens : List Tok) → TokensOf s tokens []
+    ensures { (s : Sexp) (c : Choice s) (level : ℕ) (tokens : List Tok) → AnyTokensOf s tokens []
         → (l : List Lexeme) × lexes (render s c level) l end
         × (placed nowhere l ≡ unplaced tokens) }
 {}

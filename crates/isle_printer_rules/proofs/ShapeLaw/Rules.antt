@@ -66,7 +66,7 @@ spell-binding n is bound Spells rest s =
     let reads : ReadsAs n.text (symbol n.text) = λ text apart. identifier_is_symbol n.text text is.name apart in
     record {
       all = symbol n.text ∷ at_sign ∷ s.all;
-      tokens = record { are = (s.tokens.are.0, (symbol n.text, s.all, reads, refl, s.tokens.are.1), s.tokens.are.2) };
+      tokens = record { are = (s.tokens.are.0, (symbol n.text, s.all, refl, reads, refl, s.tokens.are.1), s.tokens.are.2) };
       spells = (
         (symbol n.text, unplaced (at_sign ∷ s.all), refl),
         unplaced (at_sign ∷ s.all),
@@ -174,7 +174,7 @@ spell-priority : (prio : Option ℤ) → IfSome prio (IsSigned 63) → (rest : L
 spell-priority None fits rest = spell-nothing rest
 spell-priority (Some z) fits rest = record {
   all = integer z ∷ rest;
-  tokens = record { are = (rest, (integer z, signed_decimal-ReadsAs z fits, refl), refl) };
+  tokens = record { are = (rest, (integer z, refl, signed_decimal-ReadsAs z fits, refl), refl) };
   spells = (fits, (unknown, refl));
 }
 

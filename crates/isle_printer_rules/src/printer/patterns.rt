@@ -1,12 +1,15 @@
 //! The S-expressions of patterns.
 
-ghost use Rattle.std.specs.Prelude.{◌≡◌, ◌++◌, IfOk, OnOk};
+ghost use Rattle.std.specs.Prelude.{◌≡◌, ◌++◌, [], ◌∷◌, IfOk, OnOk};
 ghost use Rattle.isle_ast_rules.specs.TreeView.{pattern_of, pattern_row_of, patterns_of};
+ghost use Rattle.isle_printer_layout.specs.Sexp.{row_of};
 ghost use Rattle.isle_printer_rules.specs.RuleShapes.{pattern_shape, pattern_shapes};
 
 use isle_ast_rules::ast::Pattern;
 use isle_printer_layout::printer::Shape;
-use isle_printer_layout::printer::names::{begun, boolean, constant, integer, name, push_name};
+use isle_printer_layout::printer::names::{
+    begun, boolean, constant, integer, name, push_atom, push_name,
+};
 use std::alloc::{AllocError, Global};
 
 /// The S-expression of a pattern. That of a macro's argument stands for nothing.
@@ -55,7 +58,70 @@ fn push_patterns<'src>(
         ++ pattern_shapes (pattern_row_of (patterns_of nodes.now.items))) }
 {
     for node in nodes {
-        items.push(pattern(node, alloc)?)?;
+        push_pattern(node, items, alloc)?;
     }
+    Ok(())
+}
+
+/// Appends a pattern.
+// How deep a nest goes is bound by the frames of this ring. So a list is appended as it is made, and
+// what is no list has a frame of its own.
+#[cycle(patterns)]
+#[inline(never)]
+fn push_pattern<'src>(
+    node: &'src Pattern,
+    items: &mut Vec<Shape<'src>>,
+    alloc: Global,
+) -> Result<(), AllocError>
+    ensures { OnOk result (items.new.items
+        ≡ items.old.items ++ pattern_shape (pattern_of node.now) ∷ []) }
+{
+    match node {
+        Pattern::Term { sym, args, pos: _ } => {
+            let mut inner = Vec::new(alloc);
+            push_name(&mut inner, sym)?;
+            push_patterns(args, &mut inner, alloc)?;
+            push_list(items, inner)
+        }
+        Pattern::And { subpats, pos: _ } => {
+            let mut inner = Vec::new(alloc);
+            push_atom(&mut inner, "and")?;
+            push_patterns(subpats, &mut inner, alloc)?;
+            push_list(items, inner)
+        }
+        Pattern::Var { .. }
+        | Pattern::BindPattern { .. }
+        | Pattern::ConstBool { .. }
+        | Pattern::ConstInt { .. }
+        | Pattern::ConstPrim { .. }
+        | Pattern::Wildcard { .. }
+        | Pattern::MacroArg { .. } => push_single_pattern(node, items, alloc),
+    }
+}
+
+/// The same, of a pattern that is mostly no list.
+#[cycle(patterns)]
+#[inline(never)]
+fn push_single_pattern<'src>(
+    node: &'src Pattern,
+    items: &mut Vec<Shape<'src>>,
+    alloc: Global,
+) -> Result<(), AllocError>
+    ensures { OnOk result (items.new.items
+        ≡ items.old.items ++ pattern_shape (pattern_of node.now) ∷ []) }
+{
+    items.push(pattern(node, alloc)?)?;
+    Ok(())
+}
+
+/// Appends the list of these items.
+#[inline(never)]
+pub(super) fn push_list<'src>(
+    items: &mut Vec<Shape<'src>>,
+    inner: Vec<Shape<'src>>,
+) -> Result<(), AllocError>
+    ensures { OnOk result (items.new.items ≡ items.old.items ++ row_of inner.entry.items ∷ []) }
+{
+    items.push(Shape::list(inner))?;
     Ok(())
 }

@@ -18,7 +18,7 @@ use Rattle.isle_printer_layout.proofs.WordSymbols.{word-struct, word-bv, word-na
 spell-number : (n : ℕ) → n < 2 ^ 64 → (rest : List Tok) → Spelling (number_shape n ∷ []) (SpellsNumber n) rest
 spell-number n fits rest = record {
   all = integer (pos n) ∷ rest;
-  tokens = record { are = (rest, (integer (pos n), λ rest apart. decimal-ReadsAs n (omega arith) rest apart, refl), refl) };
+  tokens = record { are = (rest, (integer (pos n), refl, λ rest apart. decimal-ReadsAs n (omega arith) rest apart, refl), refl) };
   spells = (fits, (unknown, refl));
 }
 

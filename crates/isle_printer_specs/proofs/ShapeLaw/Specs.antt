@@ -37,7 +37,7 @@ spell-bit_vector val width is rest =
 spell-marked : (mark : List ℕ → List ℕ) (n : Name) → IsName n → ReadsAs (mark n.text) (symbol (mark n.text)) → (rest : List Tok) → Spelling (atom (mark n.text) ∷ []) (SpellsMarked mark (erase_name n)) rest
 spell-marked mark n is reads rest = record {
   all = symbol (mark n.text) ∷ rest;
-  tokens = record { are = (rest, (symbol (mark n.text), reads, refl), refl) };
+  tokens = record { are = (rest, (symbol (mark n.text), refl, reads, refl), refl) };
   spells = (is, refl);
 }
 
@@ -103,20 +103,19 @@ variant-test enum case is = record {
   variant_position = refl;
 }
 
-plain-test : (operator : SpecOp) → operator ≢ op.Sub → operator ≢ op.Switch → is_plain_operator operator ≡ true
-plain-test op.Sub no_minus no_switch = absurd (no_minus refl)
-plain-test op.Switch no_minus no_switch = absurd (no_switch refl)
-plain-test _ no_minus no_switch = refl
+plain-test : (operator : SpecOp) → operator ≢ op.Switch → is_plain_operator operator ≡ true
+plain-test op.Switch no_switch = absurd (no_switch refl)
+plain-test _ no_switch = refl
 
 -- what stands behind an operator
 abbrev SpellsArguments : SpecOp → SpecRow → List Placed → List Placed → Type 0
 SpellsArguments operator args inner close =
     (is_plain_operator operator ≡ true) × SpellsSpecs args inner close ⊎ (operator ≡ op.Switch) × SpellsCases args inner close
 
-plain-arguments : (operator : SpecOp) (args : SpecRow) {rest : List Tok} → operator ≢ op.Sub → operator ≢ op.Switch
+plain-arguments : (operator : SpecOp) (args : SpecRow) {rest : List Tok} → operator ≢ op.Switch
     → Spelling (spec_shapes args) (SpellsSpecs (erase_specs args)) rest → Spelling (spec_shapes args) (SpellsArguments operator (erase_specs args)) rest
-plain-arguments operator args no_minus no_switch s =
-    record { all = s.all; tokens = s.tokens; spells = inl (plain-test operator no_minus no_switch, s.spells) }
+plain-arguments operator args no_switch s =
+    record { all = s.all; tokens = s.tokens; spells = inl (plain-test operator no_switch, s.spells) }
 
 switch-arguments : (operator : SpecOp) (args : SpecRow) {rest : List Tok} → operator ≡ op.Switch
     → Spelling (spec_shapes args) (SpellsCases (erase_specs args)) rest → Spelling (spec_shapes args) (SpellsArguments operator (erase_specs args)) rest
@@ -141,12 +140,12 @@ mutual
       spell-row_turn second (spell-marked discriminator_mark variant is.0 (discriminator-ReadsAs variant is.0) second.all)
   spell-spec (op_spec operator args _) is rest =
       placed
-      (spell-form (operator_text operator) (operator-ReadsAs operator is.0) (spec_shapes args)
+      (spell-form (operator_text operator) (operator-ReadsAs operator) (spec_shapes args)
       (SpellsArguments operator (erase_specs args))
       rest
-      (elim is.1 [
+      (elim is [
         | inl h ↦ switch-arguments operator args h.0 (spell-cases args h.1 (rparen ∷ rest))
-        | inr h ↦ plain-arguments operator args is.0 h.0 (spell-specs args h.1 (rparen ∷ rest))
+        | inr h ↦ plain-arguments operator args h.0 (spell-specs args h.1 (rparen ∷ rest))
       ]))
   spell-spec (match_spec x arms _) is rest =
       let second = spell-arms arms is.1 (rparen ∷ rest) in

@@ -74,8 +74,8 @@ mutual
   tidy-spec (discriminator_spec variant x _) is =
       tidy-form (discriminator_mark variant.text) (plain-symbol _ (discriminator-ReadsAs variant is.0)) _ (tidy-item (tidy-spec x is.1))
   tidy-spec (op_spec operator args _) is =
-      tidy-form (operator_text operator) (plain-symbol _ (operator-ReadsAs operator is.0)) (spec_shapes args)
-      (elim is.1 [
+      tidy-form (operator_text operator) (plain-symbol _ (operator-ReadsAs operator)) (spec_shapes args)
+      (elim is [
         | inl h ↦ tidy-cases args h.1
         | inr h ↦ tidy-specs args h.1
       ])

@@ -1,15 +1,18 @@
 //! The S-expressions of models of types.
 
-ghost use Rattle.std.specs.Prelude.{◌≡◌, ◌++◌, map, IfOk, OnOk, codes};
+ghost use Rattle.std.specs.Prelude.{◌≡◌, ◌++◌, [], ◌∷◌, map, IfOk, OnOk, codes};
 ghost use Rattle.isle_ast_specs.specs.TreeView.{model_row_of, single_model_field_of};
 ghost use Rattle.isle_ast_specs.specs.TreeView.{single_model_fields_of, type_model_of};
 ghost use Rattle.isle_printer_layout.specs.NameShapes.{form_shape};
+ghost use Rattle.isle_printer_layout.specs.Sexp.{row_of};
 ghost use Rattle.isle_printer_specs.specs.SpecShapes.{model_field_shape, model_field_shapes};
 ghost use Rattle.isle_printer_specs.specs.SpecShapes.{model_shape, width_shape};
 
 use isle_ast_specs::ast::{ModelField, ModelType};
 use isle_printer_layout::printer::Shape;
-use isle_printer_layout::printer::names::{begun, headed, name, number, pair};
+use isle_printer_layout::printer::names::{
+    begun, headed, name, number, pair, push_atom, push_name,
+};
 use std::alloc::{AllocError, Global};
 
 /// The S-expression of a model.
@@ -40,14 +43,97 @@ fn struct_model<'src>(
         (model_field_shapes (model_row_of (single_model_fields_of fields.now.items)))) }
 {
     let mut items = begun(alloc, "struct")?;
-    for field in fields {
-        items.push(model_field(field, alloc)?)?;
-    }
+    push_fields(fields, &mut items, alloc)?;
     Ok(Shape::list(items))
 }
 
-/// The S-expression of a field of a struct model.
+/// Appends fields of a struct model.
 #[cycle(model_types)]
+fn push_fields<'src>(
+    fields: &'src Vec<ModelField>,
+    items: &mut Vec<Shape<'src>>,
+    alloc: Global,
+) -> Result<(), AllocError>
+    ensures { OnOk result (items.new.items
+        ≡ items.old.items
+        ++ model_field_shapes (model_row_of (single_model_fields_of fields.now.items))) }
+{
+    for field in fields {
+        push_field(field, items, alloc)?;
+    }
+    Ok(())
+}
+
+/// Appends a field of a struct model.
+// How deep a nest goes is bound by the frames of this ring. So a list is appended as it is made, and
+// what is no list has a frame of its own.
+#[cycle(model_types)]
+fn push_field<'src>(
+    field: &'src ModelField,
+    items: &mut Vec<Shape<'src>>,
+    alloc: Global,
+) -> Result<(), AllocError>
+    ensures { OnOk result (items.new.items
+        ≡ items.old.items ++ model_field_shape (single_model_field_of field.now) ∷ []) }
+{
+    let mut pair = Vec::new(alloc);
+    push_name(&mut pair, &field.name)?;
+    push_model(&field.ty, &mut pair, alloc)?;
+    push_list(items, pair)
+}
+
+/// Appends a model.
+#[cycle(model_types)]
+fn push_model<'src>(
+    ty: &'src ModelType,
+    items: &mut Vec<Shape<'src>>,
+    alloc: Global,
+) -> Result<(), AllocError>
+    ensures { OnOk result (items.new.items
+        ≡ items.old.items ++ model_shape (type_model_of ty.now) ∷ []) }
+{
+    match ty {
+        ModelType::Struct(fields) => {
+            let mut inner = Vec::new(alloc);
+            push_atom(&mut inner, "struct")?;
+            push_fields(fields, &mut inner, alloc)?;
+            push_list(items, inner)
+        }
+        ModelType::Unspecified
+        | ModelType::Auto
+        | ModelType::Int
+        | ModelType::Bool
+        | ModelType::Unit
+        | ModelType::BitVec(_)
+        | ModelType::Named(_) => push_single_model(ty, items, alloc),
+    }
+}
+
+/// The same, of a model that is mostly no struct.
+#[cycle(model_types)]
+#[inline(never)]
+fn push_single_model<'src>(
+    ty: &'src ModelType,
+    items: &mut Vec<Shape<'src>>,
+    alloc: Global,
+) -> Result<(), AllocError>
+    ensures { OnOk result (items.new.items
+        ≡ items.old.items ++ model_shape (type_model_of ty.now) ∷ []) }
+{
+    items.push(model_type(ty, alloc)?)?;
+    Ok(())
+}
+
+/// Appends the list of these items.
+#[inline(never)]
+fn push_list<'src>(items: &mut Vec<Shape<'src>>, inner: Vec<Shape<'src>>) -> Result<(), AllocError>
+    ensures { OnOk result (items.new.items ≡ items.old.items ++ row_of inner.entry.items ∷ []) }
+{
+    items.push(Shape::list(inner))?;
+    Ok(())
+}
+
+/// The S-expression of a field of a struct model.
 pub fn model_field<'src>(field: &'src ModelField, alloc: Global) -> Result<Shape<'src>, AllocError>
     ensures { IfOk result (λ s. s ≡ model_field_shape (single_model_field_of field.now)) }
 {

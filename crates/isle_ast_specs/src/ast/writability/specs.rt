@@ -44,7 +44,6 @@ pub fn is_writable_spec(expr: &SpecExpr) -> bool
         SpecExpr::Field { field, x, .. } => is_name(field) && is_writable_spec(x),
         SpecExpr::Discriminator { variant, x, .. } => is_name(variant) && is_writable_spec(x),
         SpecExpr::Op { op, args, .. } => match op {
-            SpecOp::Sub => false,
             SpecOp::Switch => are_writable_cases(args),
             _ => are_writable_specs(args),
         },

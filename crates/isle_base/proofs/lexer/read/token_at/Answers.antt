@@ -15,11 +15,11 @@ symbol_at-requires-clause-begins c =
 
 pub integer_at-requires-clause-begins : goal.integer_at-requires-clause-begins
 integer_at-requires-clause-begins c =
-    let bytes = c.as_bytes-in-45.result.now in
+    let bytes = c.as_bytes-in-48-to-57.result.now in
     let byte = get_or bytes c.args.start 0 in
-    let same = ap (λ xs. get_or xs c.args.start 0) (c.as_bytes-in-45.ensures.value ∙ sym c.as_bytes.ensures.value) in
+    let same = ap (λ xs. get_or xs c.args.start 0) (c.as_bytes-in-48-to-57.ensures.value ∙ sym c.as_bytes.ensures.value) in
     let literal = literal_one byte (λ no_minus. (grind (arith, same, no_minus), grind (arith, same, no_minus))) in
-    ap (begins_with begins_literal) (drop_more bytes c.args.start 0 (omega (arith, c.requires.within, c.as_bytes-in-45.ensures.len))) ∙ literal
+    ap (begins_with begins_literal) (drop_more bytes c.args.start 0 (omega (arith, c.requires.within, c.as_bytes-in-48-to-57.ensures.len))) ∙ literal
 
 pub returns-in-12 : goal.returns-in-12
 returns-in-12 c =

@@ -14,17 +14,21 @@ use Rattle.isle_parser_cursor.proofs.Names.{name_shrinks}
 use Rattle.isle_parser_rules.proofs.Reading.Expressions.{expression_shrinks, let_definition_shrinks, let_definitions_shrink}
 use Rattle.isle_parser_rules.proofs.parser.expressions.+expression.Goals as goal
 
-pub parse_expr_behind_lparen-parse_let-requires : goal.parse_expr_behind_lparen-parse_let-requires
-parse_expr_behind_lparen-parse_let-requires t c =
-    (omega (arith, flag_shorter (codes "let") (tokens c.args.cursor.now) (tokens c.eat_sym_str.new.self) c.in_ok-eat_sym_str.field-0 c.in_ok-eat_sym_str.ensures.gives), tt)
+pub parse_expr-parse_let-requires : goal.parse_expr-parse_let-requires
+parse_expr-parse_let-requires t c =
+    (omega (arith, expect_shorter is_lparen (tokens c.args.cursor.now) (tokens c.expect_lparen.new.self) lparen c.in_ok-expect_lparen.ensures.gives, flag_shorter (codes "let") (tokens c.expect_lparen.new.self) (tokens c.eat_sym_str.new.self) c.in_ok-eat_sym_str.field-0 c.in_ok-eat_sym_str.ensures.gives), tt)
+
+pub parse_expr-parse_term-requires : goal.parse_expr-parse_term-requires
+parse_expr-parse_term-requires t c =
+    (omega (arith, expect_shorter is_lparen (tokens c.args.cursor.now) (tokens c.expect_lparen.new.self) lparen c.in_ok-expect_lparen.ensures.gives, flag_shorter (codes "let") (tokens c.expect_lparen.new.self) (tokens c.eat_sym_str.new.self) c.in_ok-eat_sym_str.field-0 c.in_ok-eat_sym_str.ensures.gives), tt)
 
 pub parse_let-parse_expr-requires : goal.parse_let-parse_expr-requires
 parse_let-parse_expr-requires t c =
     (omega (arith, let_definitions_shrink (tokens c.args.cursor.now) (tokens c.parse_letdefs.new.cursor) (single_lets_of c.in_ok-defs.defs.items) c.in_ok-defs.ensures.gives), tt)
 
-pub parse_expr_behind_lparen-parse_exprs-requires : goal.parse_expr_behind_lparen-parse_exprs-requires
-parse_expr_behind_lparen-parse_exprs-requires t c =
-    (omega (arith, flag_shorter (codes "let") (tokens c.args.cursor.now) (tokens c.eat_sym_str.new.self) c.in_ok-eat_sym_str.field-0 c.in_ok-eat_sym_str.ensures.gives, name_shrinks (tokens c.eat_sym_str.new.self) (tokens c.parse_ident.new.self) (name_of c.in_ok-sym.sym) c.in_ok-sym.ensures.gives), tt)
+pub parse_term-parse_exprs-requires : goal.parse_term-parse_exprs-requires
+parse_term-parse_exprs-requires t c =
+    (omega (arith, name_shrinks (tokens c.args.cursor.now) (tokens c.parse_ident.new.self) (name_of c.in_ok-sym.sym) c.in_ok-sym.ensures.gives), tt)
 
 pub parse_letdef-parse_expr-requires : goal.parse_letdef-parse_expr-requires
 parse_letdef-parse_expr-requires t c =

@@ -9,11 +9,11 @@ use Rattle.isle_parser_rules.proofs.parser.expressions.+expression.Given as goal
 abbrev pub decreases-parse_expr : goal.decreases-parse_expr
 decreases-parse_expr l = 3 * length (tokens l.cursor.now)
 
-abbrev pub decreases-parse_expr_behind_lparen : goal.decreases-parse_expr_behind_lparen
-decreases-parse_expr_behind_lparen l = 3 * length (tokens l.cursor.now) + 2
-
 abbrev pub decreases-parse_let : goal.decreases-parse_let
 decreases-parse_let l = 3 * length (tokens l.cursor.now) + 1
+
+abbrev pub decreases-parse_term : goal.decreases-parse_term
+decreases-parse_term l = 3 * length (tokens l.cursor.now) + 1
 
 abbrev pub decreases-parse_exprs : goal.decreases-parse_exprs
 decreases-parse_exprs l = 3 * length (tokens l.cursor.now) + 1

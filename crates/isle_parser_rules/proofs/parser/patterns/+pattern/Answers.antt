@@ -1,26 +1,26 @@
-use Rattle.std.proofs.Common.{◌≡◌, [], ◌∷◌, ◌++◌, sym, ◌∙◌, arith}
+use Rattle.std.proofs.Common.{sym, ◌∙◌, arith}
 use Rattle.std.specs.Prelude.{codes}
 use Rattle.std.proofs.lemmas.Result.{err_from_is_err_and}
-use Rattle.std.proofs.lemmas.List.{map_push}
-use Rattle.isle_ast_names.specs.TreeView.{name_of}
-use Rattle.isle_ast_rules.specs.TreeView.{pattern_of, patterns_of}
-use Rattle.isle_base.specs.Token.{at_sign, lparen}
+use Rattle.isle_ast_names.specs.TreeView.{name_of, optional_name_of}
+use Rattle.isle_ast_rules.specs.TreeView.{patterns_of}
+use Rattle.isle_base.specs.Token.{at_sign}
 use Rattle.isle_parser_cursor.specs.Outcomes.{source, tokens}
 use Rattle.isle_parser_rules.specs.PatternReaders.{pattern}
-use Rattle.isle_parser_cursor.specs.Reading.{closes, is_at, is_lparen, many}
+use Rattle.isle_parser_cursor.specs.Reading.{closes, is_at, many}
 use Rattle.isle_parser_cursor.proofs.Lengths.{expect_shorter, flag_shorter}
 use Rattle.isle_parser_cursor.proofs.Loops.{loop_push, loop_stops, loop_end}
 use Rattle.isle_parser_cursor.proofs.Names.{name_shrinks}
+use Rattle.isle_parser_rules.proofs.PatternParts.{appended_none, appended_some, head_shorter}
 use Rattle.isle_parser_rules.proofs.Reading.Patterns.{pattern_shrinks}
 use Rattle.isle_parser_rules.proofs.parser.patterns.+pattern.Goals as goal
 
 pub parse_pattern_parens-parse_patterns-requires : goal.parse_pattern_parens-parse_patterns-requires
 parse_pattern_parens-parse_patterns-requires t c =
-    (omega (arith, expect_shorter is_lparen (tokens c.args.cursor.now) (tokens c.expect_lparen.new.self) lparen c.in_ok-expect_lparen.ensures.gives, flag_shorter (codes "and") (tokens c.expect_lparen.new.self) (tokens c.eat_sym_str.new.self) c.in_ok-eat_sym_str.field-0 c.in_ok-eat_sym_str.ensures.gives), tt)
+    (omega (arith, head_shorter (tokens c.args.cursor.now) (tokens c.parse_pattern_head.new.cursor) (optional_name_of c.in_ok-sym.sym) c.in_ok-sym.ensures.gives), tt)
 
-pub parse_pattern_parens-parse_patterns-requires-2 : goal.parse_pattern_parens-parse_patterns-requires-2
-parse_pattern_parens-parse_patterns-requires-2 t c =
-    (omega (arith, expect_shorter is_lparen (tokens c.args.cursor.now) (tokens c.expect_lparen.new.self) lparen c.in_ok-expect_lparen.ensures.gives, flag_shorter (codes "and") (tokens c.expect_lparen.new.self) (tokens c.eat_sym_str.new.self) c.in_ok-eat_sym_str.field-0 c.in_ok-eat_sym_str.ensures.gives, name_shrinks (tokens c.eat_sym_str.new.self) (tokens c.parse_ident.new.self) (name_of c.in_ok-sym.sym) c.in_ok-sym.ensures.gives), tt)
+pub append_pattern-parse_patterns-requires : goal.append_pattern-parse_patterns-requires
+append_pattern-parse_patterns-requires t c =
+    (omega (arith, head_shorter (tokens c.args.cursor.now) (tokens c.parse_pattern_head.new.cursor) (optional_name_of c.in_ok-sym.sym) c.in_ok-sym.ensures.gives), tt)
 
 pub parse_pattern_symbol-parse_pattern_variable-requires : goal.parse_pattern_symbol-parse_pattern_variable-requires
 parse_pattern_symbol-parse_pattern_variable-requires t c =
@@ -30,22 +30,24 @@ pub parse_pattern_variable-parse_pattern-requires : goal.parse_pattern_variable-
 parse_pattern_variable-parse_pattern-requires t c =
     (omega (arith, name_shrinks (tokens c.args.cursor.now) (tokens c.parse_ident.new.self) (name_of c.in_ok-var.var) c.in_ok-var.ensures.gives, expect_shorter is_at (tokens c.parse_ident.new.self) (tokens c.take_at.new.cursor) at_sign c.in_ok-take_at.ensures.gives), tt)
 
-pub parse_patterns-returns-in_err-pattern-clause-gives : goal.parse_patterns-returns-in_err-pattern-clause-gives
-parse_patterns-returns-in_err-pattern-clause-gives t c =
+pub parse_patterns-returns-in_err-append_pattern-clause-gives : goal.parse_patterns-returns-in_err-append_pattern-clause-gives
+parse_patterns-returns-in_err-append_pattern-clause-gives t c =
     let p = err_from_is_err_and c.from_residual.result c.from_residual.ensures.1 in
-    rw (p.1, p.2) (loop_stops pattern closes pattern_shrinks (patterns_of c.loop-alloc.patterns.items) (tokens c.loop-alloc.cursor) (many closes pattern (tokens c.args.cursor.now)) (source c.parse_pattern.new.cursor) c.in_err-pattern.field-0.0 (sym c.loop-alloc-test.ensures) c.in_err-pattern.ensures.gives c.loop-alloc.invariant.so_far)
+    let none = appended_none pattern (patterns_of c.loop-alloc.patterns.items) (tokens c.loop-alloc.cursor) (source c.append_pattern.new.cursor) c.in_err-append_pattern.field-0.0 c.in_err-append_pattern.ensures.gives in
+    rw (p.1, p.2) (loop_stops pattern closes pattern_shrinks (patterns_of c.loop-alloc.patterns.items) (tokens c.loop-alloc.cursor) (many closes pattern (tokens c.args.cursor.now)) (source c.append_pattern.new.cursor) c.in_err-append_pattern.field-0.0 (sym c.loop-alloc-test.ensures) none c.loop-alloc.invariant.so_far)
 
 pub parse_patterns-loop-alloc-smaller : goal.parse_patterns-loop-alloc-smaller
-parse_patterns-loop-alloc-smaller t c = pattern_shrinks (tokens c.loop-alloc.cursor) (tokens c.parse_pattern.new.cursor) (pattern_of c.in_ok-pattern.pattern) c.in_ok-pattern.ensures.gives
+parse_patterns-loop-alloc-smaller t c =
+    let a = appended_some pattern (patterns_of c.loop-alloc.patterns.items) (patterns_of c.append_pattern.new.patterns.items) (tokens c.loop-alloc.cursor) (tokens c.append_pattern.new.cursor) c.in_ok-append_pattern.ensures.gives in
+    pattern_shrinks (tokens c.loop-alloc.cursor) (tokens c.append_pattern.new.cursor) a.0 a.1
 
 pub parse_patterns-loop-alloc-preserved : goal.parse_patterns-loop-alloc-preserved
 parse_patterns-loop-alloc-preserved t c =
-    let x = c.in_ok-pattern.pattern in
-    let e : patterns_of c.push_pattern.new.patterns.items ≡ patterns_of c.loop-alloc.patterns.items ++ pattern_of x ∷ [] = rw c.in_ok-push_pattern.ensures.items (map_push _ c.loop-alloc.patterns.items x) in
-    let less = pattern_shrinks (tokens c.loop-alloc.cursor) (tokens c.parse_pattern.new.cursor) (pattern_of x) c.in_ok-pattern.ensures.gives in
+    let a = appended_some pattern (patterns_of c.loop-alloc.patterns.items) (patterns_of c.append_pattern.new.patterns.items) (tokens c.loop-alloc.cursor) (tokens c.append_pattern.new.cursor) c.in_ok-append_pattern.ensures.gives in
+    let less = pattern_shrinks (tokens c.loop-alloc.cursor) (tokens c.append_pattern.new.cursor) a.0 a.1 in
     record {
-      same = c.in_ok-pattern.ensures.same ∙ c.loop-alloc.invariant.same;
-      so_far = rw e (loop_push pattern closes pattern_shrinks (patterns_of c.loop-alloc.patterns.items) (tokens c.loop-alloc.cursor) (tokens c.parse_pattern.new.cursor) (pattern_of x) (many closes pattern (tokens c.args.cursor.now)) (sym c.loop-alloc-test.ensures) c.in_ok-pattern.ensures.gives c.loop-alloc.invariant.so_far);
+      same = c.in_ok-append_pattern.ensures.same ∙ c.loop-alloc.invariant.same;
+      so_far = rw (sym a.2) (loop_push pattern closes pattern_shrinks (patterns_of c.loop-alloc.patterns.items) (tokens c.loop-alloc.cursor) (tokens c.append_pattern.new.cursor) a.0 (many closes pattern (tokens c.args.cursor.now)) (sym c.loop-alloc-test.ensures) a.1 c.loop-alloc.invariant.so_far);
       shorter = omega (arith, less, c.loop-alloc.invariant.shorter);
     }
 

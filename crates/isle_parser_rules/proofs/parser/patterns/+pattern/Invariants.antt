@@ -7,19 +7,25 @@ use Rattle.isle_parser_cursor.proofs.Loops.{behind_front}
 use Rattle.isle_parser_rules.proofs.parser.patterns.+pattern.Given as goal
 
 abbrev pub decreases-parse_pattern : goal.decreases-parse_pattern
-decreases-parse_pattern l = 3 * length (tokens l.cursor.now) + 2
+decreases-parse_pattern l = 5 * length (tokens l.cursor.now) + 2
 
 abbrev pub decreases-parse_pattern_parens : goal.decreases-parse_pattern_parens
-decreases-parse_pattern_parens l = 3 * length (tokens l.cursor.now) + 1
+decreases-parse_pattern_parens l = 5 * length (tokens l.cursor.now) + 1
 
 abbrev pub decreases-parse_pattern_symbol : goal.decreases-parse_pattern_symbol
-decreases-parse_pattern_symbol l = 3 * length (tokens l.cursor.now) + 1
+decreases-parse_pattern_symbol l = 5 * length (tokens l.cursor.now) + 1
 
 abbrev pub decreases-parse_pattern_variable : goal.decreases-parse_pattern_variable
-decreases-parse_pattern_variable l = 3 * length (tokens l.cursor.now)
+decreases-parse_pattern_variable l = 5 * length (tokens l.cursor.now)
 
 abbrev pub decreases-parse_patterns : goal.decreases-parse_patterns
-decreases-parse_patterns l = 3 * length (tokens l.cursor.now) + 3
+decreases-parse_patterns l = 5 * length (tokens l.cursor.now) + 5
+
+abbrev pub decreases-append_pattern : goal.decreases-append_pattern
+decreases-append_pattern l = 5 * length (tokens l.cursor.now) + 4
+
+abbrev pub decreases-append_single_pattern : goal.decreases-append_single_pattern
+decreases-append_single_pattern l = 5 * length (tokens l.cursor.now) + 3
 
 -- what was read, with what is still read, is the whole row
 abbrev pub invariant-parse_patterns-loop-alloc : goal.invariant-parse_patterns-loop-alloc
