@@ -4,3 +4,4 @@ pub mod MatchingSpecs
 pub mod MatchingDefinitions
 pub mod ReadingLaw
 pub mod Tidying
+pub mod Formatted

@@ -14,8 +14,7 @@ ghost use Rattle.isle_syntax.specs.Format.{IsRefused, SpellsTree};
 pub mod laws;
 mod reading;
 
-use isle_document_items::reader::read_document;
-use isle_document_layout::tidy_document;
+use isle_document_layout::tidy_text;
 use isle_syntax::lexer::Fault;
 use reading::read_through;
 use std::alloc::Global;
@@ -55,8 +54,8 @@ pub fn tidy(alloc: Global, text: &str, width: usize) -> Result<String, Fault>
     ensures never_failed { result ≢ Err Failed }
 {
     read_through(alloc, text)?;
-    match read_document(alloc, text)? {
-        Some(document) => Ok(tidy_document(alloc, &document, width)?),
+    match tidy_text(alloc, text, width)? {
+        Some(answer) => Ok(answer),
         None => unreachable!(),
     }
 }

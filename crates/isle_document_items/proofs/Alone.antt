@@ -6,6 +6,7 @@ use Rattle.isle_base.specs.Pieces.{Piece, in_symbol}
 use Rattle.isle_base.specs.Skips.{Longest}
 use Rattle.isle_base.specs.Token.{Tok, lparen, rparen, symbol, integer, at_sign, is_int, is_symbol}
 use Rattle.isle_base.proofs.Complete.{Piece-shorter}
+use Rattle.isle_base.proofs.Minus.{symbol_here_alone}
 use Rattle.isle_document_items.proofs.Words.{same_ends}
 
 minus_front : (b : ℕ) (bs rest : List ℕ) → behind_minus (b ∷ bs ++ rest) ≡ behind_minus (b ∷ bs) ++ rest
@@ -79,7 +80,7 @@ alone [] rest (symbol name) h p = absurd (omega (arith, Piece-shorter rest (symb
 alone [] rest (integer value) h p = absurd (omega (arith, Piece-shorter rest (integer value) rest p))
 alone (b ∷ bs) rest (symbol name) h p =
     let same : b ∷ bs ≡ name = (same_ends (b ∷ bs) name rest rest p.1.split refl).0 in
-    (p.0, subst (λ xs. Longest in_symbol xs name []) (sym same) (run_alone in_symbol (b ∷ bs ++ rest) name rest p.1))
+    (symbol_here_alone b bs rest p.0, subst (λ xs. Longest in_symbol xs name []) (sym same) (run_alone in_symbol (b ∷ bs ++ rest) name rest p.1))
 alone (b ∷ bs) rest (integer value) h p = literal_alone b bs rest (Some value) p
 
 pub word_alone : (bytes text rest : List ℕ) (token : Tok) → (is_symbol token || is_int token) ≡ true → Piece text token rest → text ≡ bytes ++ rest → Piece bytes token []

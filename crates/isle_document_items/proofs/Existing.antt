@@ -8,7 +8,7 @@ use Rattle.isle_base.specs.Pieces.{Piece}
 use Rattle.isle_base.specs.Place.{Placed, placed}
 use Rattle.isle_base.specs.Skips.{Skip, nothing, blank, line_comment, block_comment, Inside, ends, byte, nested, Longest, is_blank, opens, begins_with}
 use Rattle.isle_base.specs.Token.{Tok, lparen, rparen, symbol, integer, at_sign, Lexeme, end}
-use Rattle.isle_base.proofs.Bytes.{symbol_not_blank, literal_not_blank}
+use Rattle.isle_base.proofs.Bytes.{symbol_not_blank, symbol_stays, literal_not_blank}
 use Rattle.isle_document_items.specs.Closings.{is_closing}
 use Rattle.isle_document_items.specs.Gaps.{Before, at_start, behind_opening, behind as behind', gap_of, kept, kind_of}
 use Rattle.isle_document_items.specs.Grammar.{Spells, SpellsItems, IsDocument}
@@ -109,7 +109,7 @@ has_word text after rest rparen bare p h = cc
 has_word text after rest at_sign bare p h = has_along text (64 ∷ after) rest p (has_item sign (64 ∷ after) after rest (at_blank after) refl h)
 has_word [] after rest (symbol name) bare p h = let begins = p.0 in cc
 has_word (b ∷ text) after rest (symbol name) bare p h =
-    has_item (word name) (b ∷ text) after rest (symbol_not_blank b p.0) (symbol name, refl, p, p.1.split) h
+    has_item (word name) (b ∷ text) after rest (symbol_not_blank b (symbol_stays b text p.0)) (symbol name, refl, p, p.1.split) h
 has_word [] after rest (integer value) bare p h = let begins = p.begins in cc
 has_word (b ∷ text) after rest (integer value) bare p h =
     let split = literal_split (b ∷ text) p.run after p.longest.split in

@@ -34,7 +34,8 @@ piece_form text rparen rest h p = cc
 piece_form text at_sign rest h p = cc
 piece_form [] (symbol name) rest h p = let begins = p.0 in cc
 piece_form (b ∷ tail) (symbol name) rest h p =
-    word_form b tail (bytes.symbol_ne_close b p.0) (bytes.symbol_ne_semicolon b p.0) (bytes.symbol_ne_at b p.0) (bytes.symbol_ne_open b p.0)
+    let stays = bytes.symbol_stays b tail p.0 in
+    word_form b tail (bytes.symbol_ne_close b stays) (bytes.symbol_ne_semicolon b stays) (bytes.symbol_ne_at b stays) (bytes.symbol_ne_open b stays)
 piece_form [] (integer value) rest h p = let begins = p.begins in cc
 piece_form (b ∷ tail) (integer value) rest h p =
     word_form b tail (bytes.literal_ne_close b p.begins) (bytes.literal_ne_semicolon b p.begins) (bytes.literal_ne_at b p.begins) (bytes.literal_ne_open b p.begins)

@@ -26,14 +26,14 @@ parenthesis_no_literal = refl
 no_note : (text inner : List ℕ) → text ≡ 59 ∷ inner → Faulty text → ⊥
 no_note text inner e (unclosed {inner = other} d never) = absurd (omega (arith, one_first text inner (59 ∷ other) 59 40 e d))
 no_note text inner e (form_feed {after = after} d) = absurd (omega (arith, one_first text inner after 59 12 e d))
-no_note text inner e (literal l) = no_literal_at 59 text inner semicolon_no_literal e l.begins
+no_note text inner e (literal l whole) = no_literal_at 59 text inner semicolon_no_literal e l.begins
 
 no_remark : (text inner rest : List ℕ) → text ≡ 40 ∷ 59 ∷ inner → Inside inner rest → Faulty text → ⊥
 no_remark text inner rest e i (unclosed {inner = other} d never) =
     let same : inner ≡ other = ap (drop 2) (sym e ∙ d) in
     never rest (subst (λ xs. Inside xs rest) same i)
 no_remark text inner rest e i (form_feed {after = after} d) = absurd (omega (arith, one_first text (59 ∷ inner) after 40 12 e d))
-no_remark text inner rest e i (literal l) = no_literal_at 40 text (59 ∷ inner) parenthesis_no_literal e l.begins
+no_remark text inner rest e i (literal l whole) = no_literal_at 40 text (59 ∷ inner) parenthesis_no_literal e l.begins
 
 -- no item stands at a fault
 pub faulty_spells_none : (text : List ℕ) → Faulty text → SpellsNone text

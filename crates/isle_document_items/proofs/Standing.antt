@@ -5,7 +5,7 @@ use Rattle.std.proofs.lemmas.Bool.{both_ways, eqb-true, ne_eqb}
 use Rattle.std.proofs.lemmas.List.{drop-drop, take-append-drop, drop_more}
 use Rattle.std.proofs.lemmas.Str.{IsUtf8-drop, IsCharBoundary-after_ascii}
 use Rattle.isle_base.specs.Literals.{Literal}
-use Rattle.isle_base.specs.Pieces.{Piece, in_symbol, begins_symbol}
+use Rattle.isle_base.specs.Pieces.{Piece, in_symbol, symbol_here}
 use Rattle.isle_base.specs.Skips.{Skip, nothing, line_comment, block_comment, Inside, Longest, begins_with, in_line, is_blank, opens}
 use Rattle.isle_base.specs.Reads.{IsUnskipped}
 use Rattle.isle_base.proofs.Bytes.{opens_not}
@@ -30,7 +30,7 @@ split_at text from to h =
     let behind : drop (to - from) (drop from text) ≡ drop to text = drop-drop (to - from) from text ∙ ap (λ n. drop n text) count in
     sym (take-append-drop (to - from) (drop from text)) ∙ ap (λ xs. take (to - from) (drop from text) ++ xs) behind
 
-pub symbol_stands : (text : List ℕ) (from to : ℕ) → from ≤ length text → begins_with begins_symbol (drop from text) ≡ true → to ≡ from + prefix_len in_symbol (drop from text) → IsUtf8 (drop from text) → Stands text (word (take (to - from) (drop from text))) from to
+pub symbol_stands : (text : List ℕ) (from to : ℕ) → from ≤ length text → symbol_here (drop from text) ≡ true → to ≡ from + prefix_len in_symbol (drop from text) → IsUtf8 (drop from text) → Stands text (word (take (to - from) (drop from text))) from to
 symbol_stands text from to within begins e utf8 =
     let name = take (to - from) (drop from text) in
     let long = symbol_longest text from to name e refl in

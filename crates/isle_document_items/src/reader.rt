@@ -3,8 +3,8 @@
 ghost use Rattle.std.specs.Prelude.{◌≡◌, ◌==◌, ◌+◌, ◌-◌, ◌<◌, ◌≤◌, IfOk, IfSome, IsUtf8, Ok, None};
 ghost use Rattle.std.specs.Prelude.{drop, false, length, take, true};
 ghost use Rattle.std.specs.List.{prefix_len};
-ghost use Rattle.isle_base.specs.Literals.{begins_literal};
-ghost use Rattle.isle_base.specs.Pieces.{begins_symbol};
+ghost use Rattle.isle_base.specs.Literals.{begins_literal, has_minus};
+ghost use Rattle.isle_base.specs.Pieces.{is_lone_minus, symbol_here};
 ghost use Rattle.isle_base.specs.Skips.{begins_with, is_blank, opens};
 ghost use Rattle.isle_base.specs.Bytes.{semicolon};
 ghost use Rattle.isle_document_items.specs.Closings.{is_closing};
@@ -19,12 +19,12 @@ ghost use Rattle.isle_document_items.specs.declared.reader.Stop.TheVariants as s
 use crate::document::{Document, Entry, Gap, Item};
 use crate::gaps::{Preceding, gap_of, kept};
 use isle_base::lexer::{blank_end, line_comment_end, symbol_end};
-use isle_base::pieces::{block_comment_end, integer_end, opens_at};
+use isle_base::pieces::{block_comment_end, integer_end, is_lone_minus_at, opens_at};
 use std::alloc::{AllocError, AllocFailed, Global};
 
 /// Why reading stops.
 #[derive(Drop)]
-pub(crate) enum Stop {
+pub enum Stop {
     /// No document has what was read.
     Refused,
     /// A growth of memory was refused.
@@ -49,7 +49,7 @@ impl<T: Drop> From<AllocFailed<T>> for Stop {
 
 /// What stands behind blanks.
 #[derive(Drop)]
-pub(crate) enum Step<'src> {
+pub enum Step<'src> {
     /// An item with the gap before it, what the next one follows, and the offset behind the item.
     More(Entry<'src>, Preceding, usize),
     /// The end of the items, at this offset.
@@ -71,7 +71,7 @@ fn part<'src>(text: &'src str, from: usize, to: usize) -> &'src str
 fn symbol_at<'src>(text: &'src str, start: usize) -> (Item<'src>, usize)
     requires within { start < length text.now }
     requires first { IsUtf8 (drop start text.now) }
-    requires begins { begins_with begins_symbol (drop start text.now) ≡ true }
+    requires begins { symbol_here (drop start text.now) ≡ true }
     ensures { Stands text.now (item_of result.0) start result.1 }
 {
     let end = symbol_end(text.as_bytes(), start);
@@ -83,11 +83,26 @@ fn integer_at<'src>(text: &'src str, start: usize) -> Result<(Item<'src>, usize)
     requires within { start < length text.now }
     requires first { IsUtf8 (drop start text.now) }
     requires begins { begins_with begins_literal (drop start text.now) ≡ true }
+    requires whole { is_lone_minus (drop start text.now) ≡ false }
     ensures { FindsItem text.now start result }
 {
     match integer_end(text.as_bytes(), start) {
         Some(end) => Ok((Item::Word(part(text, start, end)), end)),
         None => Err(Stop::Refused),
+    }
+}
+
+/// Reads what begins with the `-` at an offset: a symbol, or an integer.
+fn minus_at<'src>(text: &'src str, start: usize) -> Result<(Item<'src>, usize), Stop>
+    requires within { start < length text.now }
+    requires first { IsUtf8 (drop start text.now) }
+    requires minus { has_minus (drop start text.now) ≡ true }
+    ensures { FindsItem text.now start result }
+{
+    if is_lone_minus_at(text.as_bytes(), start) {
+        Ok(symbol_at(text, start))
+    } else {
+        integer_at(text, start)
     }
 }
 
@@ -163,7 +178,8 @@ fn plain_at<'src>(text: &'src str, start: usize) -> Result<(Item<'src>, usize), 
         b';' => Ok(note_at(text, start)),
         b'@' => Ok((Item::Sign, start + 1)),
         b'\x0c' => Err(Stop::Refused),
-        b'-' | b'0'..=b'9' => integer_at(text, start),
+        b'-' => minus_at(text, start),
+        b'0'..=b'9' => integer_at(text, start),
         _ => Ok(symbol_at(text, start)),
     }
 }
@@ -200,9 +216,12 @@ fn item_at<'src>(text: &'src str, start: usize, alloc: Global) -> Result<(Item<'
     }
 }
 
-/// Reads what stands behind the blanks at an offset.
+/// Reads what stands behind the blanks at an offset: an item, whole, with the gap that is kept
+/// before it, where it follows this; or the end of the items, at a `)` or at the end of the text.
+///
+/// `Refused` comes where neither stands there, and `Memory` where a growth was refused.
 #[cycle(reading)]
-fn step_at<'src>(
+pub fn step_at<'src>(
     text: &'src str,
     from: usize,
     preceding: Preceding,

@@ -36,8 +36,8 @@ head_of (symbol name) b bs is p = record {
   first = b;
   further = bs;
   is = refl;
-  no_blank = bytes.symbol_not_blank b p.0;
-  no_semicolon = bytes.symbol_ne_semicolon b p.0;
+  no_blank = bytes.symbol_not_blank b (bytes.symbol_stays b bs p.0);
+  no_semicolon = bytes.symbol_ne_semicolon b (bytes.symbol_stays b bs p.0);
 }
 head_of (integer value) b bs is p = record {
   first = b;

@@ -5,3 +5,4 @@ pub mod Keeps
 pub mod EntrySizes
 pub mod WrittenPieces
 pub mod OneLineLists
+pub mod Streams

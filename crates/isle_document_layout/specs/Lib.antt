@@ -4,3 +4,4 @@ pub mod OneLine
 pub mod Spacing
 pub mod Tidy
 pub mod Written
+pub mod Tidied

@@ -3,8 +3,10 @@
 
 pub mod laws;
 pub mod spacing;
+mod streaming;
 mod writing;
 
+pub use streaming::tidy_text;
 pub use writing::tidy_document;
 
 #[cfg(test)]

@@ -64,7 +64,7 @@ fn room_behind_list(document: &Document, room: usize) -> usize
 }
 
 /// Gives what an item leaves of the room of a line.
-fn room_behind_item(item: &Item, room: usize) -> usize
+pub(crate) fn room_behind_item(item: &Item, room: usize) -> usize
     ensures { result ≡ left_behind room (item_of item.now) }
 {
     match item {
@@ -112,7 +112,7 @@ fn put_entries(
 
 /// Appends an item, where the line has this room left.
 #[cycle(put)]
-fn put_item(
+pub(crate) fn put_item(
     item: &Item,
     width: usize,
     room: usize,

@@ -1,3 +1,4 @@
 pub mod Counts
 pub mod Prints
 pub mod PrintedDocuments
+pub mod PrintedDefinitions
