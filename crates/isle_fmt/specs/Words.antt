@@ -1,10 +1,7 @@
 -- The words of the command line: `isle-fmt [WIDTH]`.
-use Rattle.std.specs.Prelude.{ℕ, ◌^◌, ◌<◌, List, [], ◌∷◌}
-use Rattle.std.specs.Str.Parse.{IsNumeral, digits_value}
-
--- one decimal digit or more, of a number that fits `usize`
-abbrev pub IsWidth : List ℕ → Type 0
-IsWidth word = IsNumeral 10 word × (digits_value 10 word < 2 ^ 64)
+use Rattle.std.specs.Prelude.{ℕ, List, [], ◌∷◌}
+use Rattle.std.specs.Str.Parse.{digits_value}
+use Rattle.isle_program.specs.Words.{IsWidth}
 
 -- there is no word, or one, which is a width
 abbrev pub GiveWidth : List (List ℕ) → Type 0

@@ -3,8 +3,9 @@
 
 mod program;
 
+use isle_program::words::taken_words;
 pub use program::run;
-use program::{report, taken_words};
+use program::{Failure, report};
 use std::process::ExitCode;
 
 fn main(rt: HostRuntime) -> ExitCode {
@@ -16,7 +17,7 @@ fn main(rt: HostRuntime) -> ExitCode {
             &mut rt.stdout(),
             &mut rt.stderr(),
         ),
-        Err(failure) => report(&failure, &mut rt.stderr()),
+        Err(fault) => report(&Failure::from(fault), &mut rt.stderr()),
     };
     ExitCode::from(status)
 }

@@ -1,34 +1,26 @@
 //! The program's work, over any reader and any two writers.
 
-ghost use Rattle.std.specs.Prelude.{◌≡◌, ◌≢◌, ◌<◌, ◌≤◌, drop, length, map, string_bytes, IfOk, IfErr};
-ghost use Rattle.std.specs.Prelude.{OnOk, false};
-ghost use Rattle.std.specs.Option.{SomeIff};
-ghost use Rattle.std.specs.Io.{StartsWith, appended_bytes};
-ghost use Rattle.std.specs.Io.KnownBytes.{Appends, Consumes, IsAtEnd, Keeps};
-ghost use Rattle.std.specs.Str.Parse.{digits_value};
-ghost use Rattle.isle_parser_cursor.specs.Outcomes.{RefusesIn};
+ghost use Rattle.std.specs.Prelude.{◌≡◌, ◌≢◌, ◌≤◌, map, string_bytes, IfOk, IfErr, OnOk};
+ghost use Rattle.std.specs.Io.KnownBytes.{Keeps};
 ghost use Rattle.isle_syntax.specs.Format.{IsFormatted, IsRefused};
-ghost use Rattle.isle_fmt.specs.Failure.{Explains, IsDiagnostic, IsFormatFailure, IsReadFailure};
-ghost use Rattle.isle_fmt.specs.Failure.{IsRefusal, IsWordsFailure, refusal_text, status_of};
-ghost use Rattle.isle_fmt.specs.Failure.{text_of};
-ghost use Rattle.isle_fmt.specs.Streams.{AppendsBeginning, ReadsText, Writes, WritesBeginning};
-ghost use Rattle.isle_fmt.specs.Words.{GiveWidth, IsWidth, given_width};
+ghost use Rattle.isle_program.specs.Streams.{AppendsBeginning, ReadsText, Writes, WritesBeginning};
+ghost use Rattle.isle_fmt.specs.Failure.{Explains, IsDiagnostic, IsFormatFailure, IsRefusal};
+ghost use Rattle.isle_fmt.specs.Failure.{read_failure, status_of, text_of, words_failure};
+ghost use Rattle.isle_fmt.specs.Words.{GiveWidth, given_width};
 ghost use Rattle.isle_fmt.specs.declared.program.Failure.TheVariants.{Memory};
 
-use isle_syntax::error::{Error, Errors};
-use isle_syntax::files::Files;
+use isle_program::diagnostics::diagnostic;
+use isle_program::streams::{ReadFault, read_text, write_whole};
+use isle_program::words::{WordsFault, parsed_width};
 use isle_syntax::lexer::Fault;
-use std::alloc::{AllocError, AllocFailed, Global};
-use std::env::{Env, FillError};
-use std::io::{ErrorKind, Read, Write};
-use std::rc::Rc;
-use std::{env, io};
+use std::alloc::{AllocError, Global};
+use std::io::{Read, Write};
+
+/// The name that stands for standard input.
+const INPUT_NAME: &str = "<stdin>";
 
 /// The width of the output where the command line gives none, in bytes.
 const DEFAULT_WIDTH: usize = 78;
-
-/// How many bytes one read asks for at most.
-const READ_LEN: usize = 64 * 1024;
 
 /// Why the program writes no formatted text.
 #[derive(Debug, Drop)]
@@ -53,11 +45,25 @@ impl From<AllocError> for Failure {
     }
 }
 
-impl<T: Drop> From<AllocFailed<T>> for Failure {
-    ghost from_gives = { λ _ failure. failure ≡ Memory };
+impl From<ReadFault> for Failure {
+    ghost from_gives = { λ fault failure. failure ≡ read_failure fault };
 
-    fn from(_error: AllocFailed<T>) -> Failure {
-        Failure::Memory
+    fn from(fault: ReadFault) -> Failure {
+        match fault {
+            ReadFault::Unreadable => Failure::Input,
+            ReadFault::Memory => Failure::Memory,
+        }
+    }
+}
+
+impl From<WordsFault> for Failure {
+    ghost from_gives = { λ fault failure. failure ≡ words_failure fault };
+
+    fn from(fault: WordsFault) -> Failure {
+        match fault {
+            WordsFault::NotUtf8 => Failure::Usage,
+            WordsFault::Memory => Failure::Memory,
+        }
     }
 }
 
@@ -180,29 +186,6 @@ pub fn report<E: Write>(failure: &Failure, faults: &mut E) -> u8
     failure.status()
 }
 
-/// The words of the command line, without the program's name.
-///
-/// A word that isn't UTF-8 is a usage error. The program's name may be any bytes.
-pub fn taken_words<R: Env + AllocGlobal>(rt: &R) -> Result<Vec<String>, Failure>
-    ensures { IfErr result IsWordsFailure }
-{
-    match env::args(&(Unnamed(rt), rt.alloc())) {
-        Ok(args) => Ok(behind_first(args.collect(rt.alloc())?)),
-        Err(error) if error.kind() == ErrorKind::OutOfMemory => Err(Failure::Memory),
-        Err(_) => Err(Failure::Usage),
-    }
-}
-
-/// The arguments behind the first, which is the program's name.
-fn behind_first(mut args: Vec<String>) -> Vec<String>
-    ensures { result.items ≡ drop 1 args.items }
-{
-    if !args.is_empty() {
-        drop(args.remove(0));
-    }
-    args
-}
-
 /// The width that the words give.
 fn width_of(words: &[String]) -> Result<usize, Failure>
     ensures ok { IfOk result (λ width. GiveWidth (map string_bytes words.now)
@@ -217,56 +200,6 @@ fn width_of(words: &[String]) -> Result<usize, Failure>
     }
 }
 
-/// The number that a word of decimal digits writes.
-fn parsed_width(word: &str) -> Option<usize>
-    ensures { SomeIff result (IsWidth word.now) (digits_value 10 word.now) }
-{
-    if word.starts_with('+') {
-        return None;
-    }
-    word.parse::<usize>().ok()
-}
-
-/// Reads a text in UTF-8 to its end.
-fn read_text<R: Read>(alloc: Global, input: &mut R) -> Result<String, Failure>
-    ensures consumed { IfOk result (λ text.
-        Consumes (R.remaining input.old) (R.remaining input.new) (string_bytes text)) }
-    ensures ended { OnOk result (IsAtEnd (R.remaining input.new)) }
-    ensures err { IfErr result IsReadFailure }
-{
-    let mut bytes = Vec::new(alloc);
-    let mut buffer = [0; READ_LEN];
-    for _ in 0..u64::MAX {
-        if !read_more(input, &mut buffer, &mut bytes)? {
-            return String::from_utf8(bytes).map_err(|_| Failure::Input);
-        }
-    }
-    Err(Failure::Input)
-}
-
-/// Reads once, and tells whether there may be more. A read that is interrupted gives nothing.
-fn read_more<R: Read>(
-    input: &mut R,
-    buffer: &mut [u8],
-    bytes: &mut Vec<u8>,
-) -> Result<bool, Failure>
-    requires { 0 < length buffer.old }
-    ensures grows { OnOk result (StartsWith bytes.new.items bytes.old.items) }
-    ensures consumed { OnOk result (Consumes (R.remaining input.old) (R.remaining input.new)
-        (appended_bytes bytes.old.items bytes.new.items)) }
-    ensures ended { result ≡ Ok false → IsAtEnd (R.remaining input.new) }
-    ensures err { IfErr result IsReadFailure }
-{
-    match input.read(buffer) {
-        Ok(n) => {
-            bytes.extend_from_slice(&buffer[..n])?;
-            Ok(n != 0)
-        }
-        Err(error) if error.kind() == ErrorKind::Interrupted => Ok(true),
-        Err(_) => Err(Failure::Input),
-    }
-}
-
 /// The formatted text, or why there is none.
 fn answer_to(alloc: Global, text: &str, width: usize) -> Result<String, Failure>
     ensures ok { IfOk result (λ answer. IsFormatted width text.now (string_bytes answer)) }
@@ -274,66 +207,11 @@ fn answer_to(alloc: Global, text: &str, width: usize) -> Result<String, Failure>
 {
     match isle_syntax::format(alloc, text, width) {
         Ok(answer) => Ok(answer),
-        Err(Fault::Error(error)) => Err(Failure::Refused(diagnostic(alloc, text, error)?)),
+        Err(Fault::Error(error)) => {
+            Err(Failure::Refused(diagnostic(alloc, INPUT_NAME, text, error)?))
+        }
         Err(Fault::Failed) => unreachable!(),
         Err(Fault::Memory) => Err(Failure::Memory),
-    }
-}
-
-/// What is shown of a refused text: the message, and the place with its line.
-fn diagnostic(alloc: Global, text: &str, error: Error) -> Result<String, AllocError>
-    requires { RefusesIn 0 (length text.now) error }
-    ensures { IfOk result (λ shown. string_bytes shown ≡ refusal_text text.now error) }
-{
-    let name = String::from_str(alloc, "<stdin>")?;
-    let source = String::from_str(alloc, text)?;
-    let files = Files::from_names_and_contents(alloc, vec![in alloc; (name, source)]?)?;
-    let errors = Errors::new(vec![in alloc; error]?, Rc::new(alloc, files)?);
-    errors.to_string(alloc)
-}
-
-/// Writes bytes in as many calls as the writer needs, and flushes it.
-///
-/// A call that is interrupted is made again. After another fault the writer has a beginning of the
-/// bytes, which is why this isn't std's `write_all`: that one doesn't tell what a fault leaves.
-fn write_whole<W: Write>(writer: &mut W, bytes: &[u8]) -> io::Result<()>
-    ensures ok { OnOk result (Appends (W.contents writer.old) (W.contents writer.new) bytes.now) }
-    ensures part { AppendsBeginning (W.contents writer.old) (W.contents writer.new) bytes.now }
-{
-    let mut written = 0;
-    for _ in 0..u64::MAX {
-        if written >= bytes.len() {
-            return writer.flush();
-        }
-        match writer.write(&bytes[written..]) {
-            Ok(0) => return Err(io::Error::from(ErrorKind::WriteZero)),
-            Ok(n) => written += n,
-            Err(error) if error.kind() == ErrorKind::Interrupted => {}
-            Err(error) => return Err(error),
-        }
-    }
-    Err(io::Error::from(ErrorKind::WriteZero))
-}
-
-/// A command line whose first word, the program's name, is empty: nothing asks for it, and it need
-/// not be UTF-8.
-#[derive(Drop)]
-struct Unnamed<'a, R>(&'a R);
-
-impl<R: Env> Env for Unnamed<'_, R> {
-    fn arg(&self, i: usize, buf: &mut [u8]) -> Result<usize, FillError> {
-        if i == 0 {
-            return Ok(0);
-        }
-        self.0.arg(i, buf)
-    }
-
-    fn var(&self, name: &str, buf: &mut [u8]) -> Result<usize, FillError> {
-        self.0.var(name, buf)
-    }
-
-    fn var_at(&self, i: usize, buf: &mut [u8]) -> Result<usize, FillError> {
-        self.0.var_at(i, buf)
     }
 }
 

@@ -1,2 +1,2 @@
-pub mod StreamLemmas
+pub mod FailureLemmas
 pub mod TreeLemmas

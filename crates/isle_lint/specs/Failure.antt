@@ -1,16 +1,17 @@
 -- Why the program doesn't tell what it finds: what each reason says, its status, and what standard error gets.
-use Rattle.std.specs.Prelude.{◌≡◌, ◌≢◌, ◌⊎◌, ℕ, List, [], ◌∷◌, Bool, true, false, length, Option, codes, string_bytes}
+use Rattle.std.specs.Prelude.{◌≡◌, ◌≢◌, ◌⊎◌, ℕ, List, [], Bool, true, false, Option, codes, string_bytes}
 use Rattle.std.specs.declared.alloc.Global.{Global}
 use Rattle.std.specs.declared.string.String.{String}
 use Rattle.std.specs.Io.KnownBytes.{Keeps}
-use Rattle.isle_base.specs.declared.error.Error.{Error}
-use Rattle.isle_base.specs.Diagnostic.{report_text}
-use Rattle.isle_parser_cursor.specs.Outcomes.{RefusesIn}
+use Rattle.isle_program.specs.Diagnostics as diagnostics
+use Rattle.isle_program.specs.Streams.{ReadsText, Writes, WritesBeginning}
+use Rattle.isle_program.specs.declared.streams.ReadFault.{ReadFault}
+use Rattle.isle_program.specs.declared.streams.ReadFault.TheVariants as read_faults
+use Rattle.isle_program.specs.declared.words.WordsFault.{WordsFault}
+use Rattle.isle_program.specs.declared.words.WordsFault.TheVariants as words_faults
 use Rattle.isle_lint.specs.declared.program.Failure.{Failure}
 use Rattle.isle_lint.specs.declared.program.Failure.TheVariants as failures
 use Rattle.isle_lint.specs.Linted.{IsClean, IsLinted, IsRefused}
-use Rattle.isle_lint.specs.Shown.{standard_input}
-use Rattle.isle_lint.specs.Streams.{ReadsText, Writes, WritesBeginning}
 
 abbrev pub status_of : Failure → ℕ
 status_of (failures.Refused _) = 1
@@ -19,13 +20,9 @@ status_of failures.Input = 3
 status_of failures.Memory = 4
 status_of failures.Output = 5
 
--- what an error of a text shows, under the name `<stdin>`
-abbrev pub refusal_text : List ℕ → Error → List ℕ
-refusal_text text e = report_text (record { errors = e ∷ []; files = standard_input text })
-
--- this shows a refusal of the text, at one of its bytes or at its end
+-- this shows a refusal of the text, at one of its bytes or at its end, under the name `<stdin>`
 abbrev pub IsRefusal : List ℕ → List ℕ → Type 0
-IsRefusal text shown = (e : Error) × RefusesIn 0 (length text) e × (shown ≡ refusal_text text e)
+IsRefusal text shown = diagnostics.IsRefusal (codes "<stdin>") text shown
 
 -- what standard error gets
 abbrev pub text_of : Failure → List ℕ
@@ -42,21 +39,15 @@ pub record IsDiagnostic (status : ℕ) (text : List ℕ) : Type 0 where
   pub memory : status ≡ 4 → text ≡ codes "isle-lint: out of memory\n"
   pub output : status ≡ 5 → text ≡ codes "isle-lint: output failed\n"
 
--- a word of the command line isn't UTF-8, or memory was refused
-abbrev pub IsWordsFailure : Failure → Type 0
-IsWordsFailure (failures.Refused _) = ⊥
-IsWordsFailure failures.Usage = Unit {0}
-IsWordsFailure failures.Input = ⊥
-IsWordsFailure failures.Memory = Unit {0}
-IsWordsFailure failures.Output = ⊥
+-- what a fault of the words of the command line is to the program
+abbrev pub words_failure : WordsFault → Failure
+words_failure words_faults.NotUtf8 = failures.Usage
+words_failure words_faults.Memory = failures.Memory
 
--- the input could not be read, or memory was refused
-abbrev pub IsReadFailure : Failure → Type 0
-IsReadFailure (failures.Refused _) = ⊥
-IsReadFailure failures.Usage = ⊥
-IsReadFailure failures.Input = Unit {0}
-IsReadFailure failures.Memory = Unit {0}
-IsReadFailure failures.Output = ⊥
+-- what a fault of reading is to it
+abbrev pub read_failure : ReadFault → Failure
+read_failure read_faults.Unreadable = failures.Input
+read_failure read_faults.Memory = failures.Memory
 
 -- the text is refused, with its diagnostic, or memory was refused
 abbrev pub IsLintFailure : Failure → List ℕ → Type 0

@@ -1,4 +1,3 @@
 pub mod Failure
 pub mod Linted
 pub mod Shown
-pub mod Streams

@@ -4,11 +4,12 @@ use Rattle.std.specs.List.{flat_map}
 use Rattle.isle_base.specs.Diagnostic.{found_text, label_text}
 use Rattle.isle_base.specs.declared.error.Span.{Span}
 use Rattle.isle_base.specs.Source.{Source}
+use Rattle.isle_program.specs.Diagnostics.{only_file}
 use Rattle.isle_lint_rules.specs.Finding.{Found, before}
 
 -- the one file, with this text
 abbrev pub standard_input : List ℕ → List Source
-standard_input text = record { name = codes "<stdin>"; text = text } ∷ []
+standard_input text = only_file (codes "<stdin>") text
 
 -- the offset at which a finding is shown: its own, if it is not the greatest number
 abbrev pub shown_offset : Found → ℕ

@@ -1,40 +1,37 @@
 //! The program's work, over any reader and any two writers.
 
-ghost use Rattle.std.specs.Prelude.{◌≡◌, ◌≢◌, ◌<◌, ◌≤◌, ◌++◌, [], drop, length, map, string_bytes};
-ghost use Rattle.std.specs.Prelude.{IfOk, IfErr, MatchOption, OnOk, List, Err, codes, false, true};
-ghost use Rattle.std.specs.Io.{StartsWith, appended_bytes};
-ghost use Rattle.std.specs.Io.KnownBytes.{Appends, Consumes, IsAtEnd, Keeps};
+ghost use Rattle.std.specs.Prelude.{◌≡◌, ◌≢◌, ◌<◌, ◌≤◌, ◌++◌, [], length, map, string_bytes};
+ghost use Rattle.std.specs.Prelude.{IfOk, IfErr, MatchOption, OnOk, List, Err, codes, true};
+ghost use Rattle.std.specs.Io.KnownBytes.{Keeps};
 ghost use Rattle.std.specs.List.{flat_map};
 ghost use Rattle.isle_ast.specs.TreeView.{definitions_of};
-ghost use Rattle.isle_base.specs.Diagnostic.{error_text, report_text};
+ghost use Rattle.isle_base.specs.Diagnostic.{error_text};
 ghost use Rattle.isle_base.specs.Labels.{all_fit, error_fits};
 ghost use Rattle.isle_base.specs.Source.{Source};
 ghost use Rattle.isle_base.specs.Steps.{IfError};
 ghost use Rattle.isle_base.specs.declared.lexer.Fault.TheVariants.{Failed};
 ghost use Rattle.isle_parser_cursor.specs.Outcomes.{RefusesIn};
+ghost use Rattle.isle_program.specs.Streams.{AppendsBeginning, ReadsText, WritesBeginning};
 ghost use Rattle.isle_lint_rules.specs.Finding.{before, finding_of};
 ghost use Rattle.isle_lint.specs.Failure.{Explains, FindsOrRefuses, IsDiagnostic, IsLintFailure};
-ghost use Rattle.isle_lint.specs.Failure.{IsReadFailure, IsWordsFailure, Tells, refusal_text};
-ghost use Rattle.isle_lint.specs.Failure.{status_of, text_of};
+ghost use Rattle.isle_lint.specs.Failure.{Tells, read_failure, status_of, text_of, words_failure};
 ghost use Rattle.isle_lint.specs.Linted.{IsClean, IsLinted, IsRefused, IsTreeOf};
-ghost use Rattle.isle_lint.specs.Shown.{finding_text, findings_text, standard_input};
-ghost use Rattle.isle_lint.specs.Streams.{AppendsBeginning, ReadsText, WritesBeginning};
+ghost use Rattle.isle_lint.specs.Shown.{finding_text, findings_text};
 ghost use Rattle.isle_lint.specs.declared.program.Failure.TheVariants.{Memory};
 
 use isle_lint_rules::{Finding, findings};
+use isle_program::diagnostics::{diagnostic, shown_errors};
+use isle_program::streams::{ReadFault, read_text, write_whole};
+use isle_program::words::WordsFault;
 use isle_syntax::ast::Def;
-use isle_syntax::error::{Error, Errors, Span};
-use isle_syntax::files::Files;
+use isle_syntax::error::{Error, Span};
 use isle_syntax::lexer::{Fault, Lexer, Pos};
 use isle_syntax::parser::parse;
-use std::alloc::{AllocError, AllocFailed, Global};
-use std::env::{Env, FillError};
-use std::io::{ErrorKind, Read, Write};
-use std::rc::Rc;
-use std::{env, io};
+use std::alloc::{AllocError, Global};
+use std::io::{Read, Write};
 
-/// How many bytes one read asks for at most.
-const READ_LEN: usize = 64 * 1024;
+/// The name that stands for standard input.
+const INPUT_NAME: &str = "<stdin>";
 
 /// Why the program doesn't tell what it finds.
 #[derive(Debug, Drop)]
@@ -59,11 +56,25 @@ impl From<AllocError> for Failure {
     }
 }
 
-impl<T: Drop> From<AllocFailed<T>> for Failure {
-    ghost from_gives = { λ _ failure. failure ≡ Memory };
+impl From<ReadFault> for Failure {
+    ghost from_gives = { λ fault failure. failure ≡ read_failure fault };
 
-    fn from(_error: AllocFailed<T>) -> Failure {
-        Failure::Memory
+    fn from(fault: ReadFault) -> Failure {
+        match fault {
+            ReadFault::Unreadable => Failure::Input,
+            ReadFault::Memory => Failure::Memory,
+        }
+    }
+}
+
+impl From<WordsFault> for Failure {
+    ghost from_gives = { λ fault failure. failure ≡ words_failure fault };
+
+    fn from(fault: WordsFault) -> Failure {
+        match fault {
+            WordsFault::NotUtf8 => Failure::Usage,
+            WordsFault::Memory => Failure::Memory,
+        }
     }
 }
 
@@ -197,69 +208,6 @@ pub fn report<E: Write>(failure: &Failure, faults: &mut E) -> u8
     failure.status()
 }
 
-/// The words of the command line, without the program's name.
-///
-/// A word that isn't UTF-8 is a usage error. The program's name may be any bytes.
-pub fn taken_words<R: Env + AllocGlobal>(rt: &R) -> Result<Vec<String>, Failure>
-    ensures { IfErr result IsWordsFailure }
-{
-    match env::args(&(Unnamed(rt), rt.alloc())) {
-        Ok(args) => Ok(behind_first(args.collect(rt.alloc())?)),
-        Err(error) if error.kind() == ErrorKind::OutOfMemory => Err(Failure::Memory),
-        Err(_) => Err(Failure::Usage),
-    }
-}
-
-/// The arguments behind the first, which is the program's name.
-fn behind_first(mut args: Vec<String>) -> Vec<String>
-    ensures { result.items ≡ drop 1 args.items }
-{
-    if !args.is_empty() {
-        drop(args.remove(0));
-    }
-    args
-}
-
-/// Reads a text in UTF-8 to its end.
-fn read_text<R: Read>(alloc: Global, input: &mut R) -> Result<String, Failure>
-    ensures consumed { IfOk result (λ text.
-        Consumes (R.remaining input.old) (R.remaining input.new) (string_bytes text)) }
-    ensures ended { OnOk result (IsAtEnd (R.remaining input.new)) }
-    ensures err { IfErr result IsReadFailure }
-{
-    let mut bytes = Vec::new(alloc);
-    let mut buffer = [0; READ_LEN];
-    for _ in 0..u64::MAX {
-        if !read_more(input, &mut buffer, &mut bytes)? {
-            return String::from_utf8(bytes).map_err(|_| Failure::Input);
-        }
-    }
-    Err(Failure::Input)
-}
-
-/// Reads once, and tells whether there may be more. A read that is interrupted gives nothing.
-fn read_more<R: Read>(
-    input: &mut R,
-    buffer: &mut [u8],
-    bytes: &mut Vec<u8>,
-) -> Result<bool, Failure>
-    requires { 0 < length buffer.old }
-    ensures grows { OnOk result (StartsWith bytes.new.items bytes.old.items) }
-    ensures consumed { OnOk result (Consumes (R.remaining input.old) (R.remaining input.new)
-        (appended_bytes bytes.old.items bytes.new.items)) }
-    ensures ended { result ≡ Ok false → IsAtEnd (R.remaining input.new) }
-    ensures err { IfErr result IsReadFailure }
-{
-    match input.read(buffer) {
-        Ok(n) => {
-            bytes.extend_from_slice(&buffer[..n])?;
-            Ok(n != 0)
-        }
-        Err(error) if error.kind() == ErrorKind::Interrupted => Ok(true),
-        Err(_) => Err(Failure::Input),
-    }
-}
-
 /// What is found in a text, as it is shown; None where nothing is found; or why the text is none
 /// of ISLE.
 fn answer_to(alloc: Global, text: &str) -> Result<Option<String>, Failure>
@@ -269,7 +217,9 @@ fn answer_to(alloc: Global, text: &str) -> Result<Option<String>, Failure>
 {
     match read_defs(alloc, text) {
         Ok(defs) => Ok(told(alloc, text, &defs)?),
-        Err(Fault::Error(error)) => Err(Failure::Refused(refusal(alloc, text, error)?)),
+        Err(Fault::Error(error)) => {
+            Err(Failure::Refused(diagnostic(alloc, INPUT_NAME, text, error)?))
+        }
         Err(Fault::Failed) => unreachable!(),
         Err(Fault::Memory) => Err(Failure::Memory),
     }
@@ -306,7 +256,7 @@ fn shown(alloc: Global, text: &str, found: &[Finding]) -> Result<String, AllocEr
         (λ shown. string_bytes shown ≡ findings_text text.now (map finding_of found.now)) }
 {
     let errors = errors_of(alloc, found)?;
-    diagnostic(alloc, text, errors)
+    shown_errors(alloc, INPUT_NAME, text, errors)
 }
 
 /// Findings as errors.
@@ -349,70 +299,4 @@ fn message_of(alloc: Global, finding: &Finding) -> Result<String, AllocError>
     msg.push_str(finding.name)?;
     msg.push_str("'")?;
     Ok(msg)
-}
-
-/// What is shown of a refused text: the message, and the place with its line.
-fn refusal(alloc: Global, text: &str, error: Error) -> Result<String, AllocError>
-    requires { RefusesIn 0 (length text.now) error }
-    ensures { IfOk result (λ shown. string_bytes shown ≡ refusal_text text.now error) }
-{
-    diagnostic(alloc, text, vec![in alloc; error]?)
-}
-
-/// What is shown of errors in a text: the messages, and the places with their lines.
-fn diagnostic(alloc: Global, text: &str, errors: Vec<Error>) -> Result<String, AllocError>
-    requires { all_fit (standard_input text.now) errors.items ≡ true }
-    ensures { IfOk result (λ shown. string_bytes shown
-        ≡ report_text (record { errors = errors.items; files = standard_input text.now })) }
-{
-    let name = String::from_str(alloc, "<stdin>")?;
-    let source = String::from_str(alloc, text)?;
-    let files = Files::from_names_and_contents(alloc, vec![in alloc; (name, source)]?)?;
-    let errors = Errors::new(errors, Rc::new(alloc, files)?);
-    errors.to_string(alloc)
-}
-
-/// Writes bytes in as many calls as the writer needs, and flushes it.
-///
-/// A call that is interrupted is made again. After another fault the writer has a beginning of the
-/// bytes, which is why this isn't std's `write_all`: that one doesn't tell what a fault leaves.
-fn write_whole<W: Write>(writer: &mut W, bytes: &[u8]) -> io::Result<()>
-    ensures ok { OnOk result (Appends (W.contents writer.old) (W.contents writer.new) bytes.now) }
-    ensures part { AppendsBeginning (W.contents writer.old) (W.contents writer.new) bytes.now }
-{
-    let mut written = 0;
-    for _ in 0..u64::MAX {
-        if written >= bytes.len() {
-            return writer.flush();
-        }
-        match writer.write(&bytes[written..]) {
-            Ok(0) => return Err(io::Error::from(ErrorKind::WriteZero)),
-            Ok(n) => written += n,
-            Err(error) if error.kind() == ErrorKind::Interrupted => {}
-            Err(error) => return Err(error),
-        }
-    }
-    Err(io::Error::from(ErrorKind::WriteZero))
-}
-
-/// A command line whose first word, the program's name, is empty: nothing asks for it, and it need
-/// not be UTF-8.
-#[derive(Drop)]
-struct Unnamed<'a, R>(&'a R);
-
-impl<R: Env> Env for Unnamed<'_, R> {
-    fn arg(&self, i: usize, buf: &mut [u8]) -> Result<usize, FillError> {
-        if i == 0 {
-            return Ok(0);
-        }
-        self.0.arg(i, buf)
-    }
-
-    fn var(&self, name: &str, buf: &mut [u8]) -> Result<usize, FillError> {
-        self.0.var(name, buf)
-    }
-
-    fn var_at(&self, i: usize, buf: &mut [u8]) -> Result<usize, FillError> {
-        self.0.var_at(i, buf)
-    }
 }

@@ -35,9 +35,17 @@ GiveWidth words width names =
 abbrev pub GivesTask : List (List ℕ) → Task → Type 0
 GivesTask words task = GiveWidth words task.width (map string_bytes task.names.now) × AreNames (map string_bytes task.names.now)
 
+-- they are no width and names, and no names alone
+abbrev pub GiveNoTask : List (List ℕ) → Type 0
+GiveNoTask words = (task : Task) → GivesTask words task → ⊥
+
 -- What the words ask for: `--help` or `--version` alone, or to tidy, with `--check` or not, a width or none, and
 -- names of files.
 abbrev pub AskFor : List (List ℕ) → Request → Type 0
 AskFor words requests.Help = words ≡ codes "--help" ∷ []
 AskFor words requests.Version = words ≡ codes "--version" ∷ []
 AskFor words (requests.Tidy task) = (behind : List (List ℕ)) × (words ≡ check_word task.check ++ behind) × GivesTask behind task
+
+-- they ask for nothing: they are none of the usage
+abbrev pub AskForNothing : List (List ℕ) → Type 0
+AskForNothing words = (request : Request) → AskFor words request → ⊥

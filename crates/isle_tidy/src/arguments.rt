@@ -1,7 +1,9 @@
 //! The words of the command line.
 
-ghost use Rattle.std.specs.Prelude.{◌≡◌, ◌↔◌, IfSome, IsTrue, [], ◌∷◌, codes, map, string_bytes};
-ghost use Rattle.isle_tidy.specs.Arguments.{AreNames, AskFor, GivesTask, IsName};
+ghost use Rattle.std.specs.Prelude.{◌≡◌, ◌≢◌, ◌↔◌, IfNone, IfSome, IsTrue, List, ℕ, [], ◌∷◌, codes};
+ghost use Rattle.std.specs.Prelude.{map, string_bytes};
+ghost use Rattle.isle_tidy.specs.Arguments.{AreNames, AskFor, AskForNothing, GiveNoTask, GivesTask};
+ghost use Rattle.isle_tidy.specs.Arguments.{IsName};
 
 use isle_program::words::parsed_width;
 
@@ -32,7 +34,8 @@ pub struct Task<'a> {
 
 /// Gives what the words ask for, if they are words of the usage.
 pub fn asked_for(words: &[String]) -> Option<Request<'_>>
-    ensures { IfSome result (AskFor (map string_bytes words.now)) }
+    ensures some { IfSome result (AskFor (map string_bytes words.now)) }
+    ensures none { IfNone result (AskForNothing (map string_bytes words.now)) }
 {
     if is_only(words, "--help") {
         return Some(Request::Help);
@@ -58,8 +61,10 @@ fn is_only(words: &[String], word: &str) -> bool
 
 /// Gives the words behind `--check`, where it comes first.
 fn behind_check(words: &[String]) -> Option<&[String]>
-    ensures { IfSome result (λ behind. map string_bytes words.now
+    ensures some { IfSome result (λ behind. map string_bytes words.now
         ≡ codes "--check" ∷ map string_bytes behind.now) }
+    ensures none { IfNone result ((behind : List (List ℕ))
+        → map string_bytes words.now ≢ codes "--check" ∷ behind) }
 {
     match words {
         [first, behind @ ..] if first.as_str() == "--check" => Some(behind),
@@ -71,6 +76,7 @@ fn behind_check(words: &[String]) -> Option<&[String]>
 fn task_of(check: bool, words: &[String]) -> Option<Task<'_>>
     ensures check { IfSome result (λ task. task.check ≡ check) }
     ensures words { IfSome result (GivesTask (map string_bytes words.now)) }
+    ensures none { IfNone result (GiveNoTask (map string_bytes words.now)) }
 {
     match words {
         [] => Some(Task {
@@ -87,8 +93,9 @@ fn task_of(check: bool, words: &[String]) -> Option<Task<'_>>
 
 /// Gives the task on these files, if each word may be the name of one.
 fn named(check: bool, width: usize, names: &[String]) -> Option<Task<'_>>
-    ensures { IfSome result (λ task. (task.check ≡ check) × (task.width ≡ width)
+    ensures some { IfSome result (λ task. (task.check ≡ check) × (task.width ≡ width)
         × (task.names.now ≡ names.now) × AreNames (map string_bytes names.now)) }
+    ensures none { IfNone result (¬ (AreNames (map string_bytes names.now))) }
 {
     if are_names(names) {
         Some(Task {

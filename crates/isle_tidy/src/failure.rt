@@ -1,6 +1,8 @@
 //! Why the program, or its work on one file, fails.
 
-ghost use Rattle.std.specs.Prelude.{◌≤◌};
+ghost use Rattle.std.specs.Prelude.{◌≡◌};
+ghost use Rattle.isle_tidy.specs.Failure.{read_failure, status_of, text_of};
+ghost use Rattle.isle_tidy.specs.declared.failure.Failure.TheVariants.{Memory};
 
 use isle_program::streams::ReadFault;
 use std::alloc::{AllocError, AllocFailed};
@@ -21,18 +23,24 @@ pub enum Failure {
 }
 
 impl From<AllocError> for Failure {
+    ghost from_gives = { λ _ failure. failure ≡ Memory };
+
     fn from(_error: AllocError) -> Failure {
         Failure::Memory
     }
 }
 
 impl<T: Drop> From<AllocFailed<T>> for Failure {
+    ghost from_gives = { λ _ failure. failure ≡ Memory };
+
     fn from(_error: AllocFailed<T>) -> Failure {
         Failure::Memory
     }
 }
 
 impl From<ReadFault> for Failure {
+    ghost from_gives = { λ fault failure. failure ≡ read_failure fault };
+
     fn from(fault: ReadFault) -> Failure {
         match fault {
             ReadFault::Unreadable => Failure::Input,
@@ -44,8 +52,7 @@ impl From<ReadFault> for Failure {
 impl Failure {
     /// The status that the program ends with.
     pub fn status(&self) -> u8
-        ensures least { 1 ≤ result }
-        ensures greatest { result ≤ 5 }
+        ensures { result ≡ status_of self.now }
     {
         match self {
             Failure::Refused(_) => 1,
@@ -57,7 +64,9 @@ impl Failure {
     }
 
     /// What goes to standard error where no file is named.
-    pub fn text(&self) -> &str {
+    pub fn text(&self) -> &str
+        ensures { result.now ≡ text_of self.now }
+    {
         match self {
             Failure::Refused(diagnostic) => diagnostic.as_str(),
             Failure::Usage => USAGE,

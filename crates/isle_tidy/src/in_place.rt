@@ -1,5 +1,8 @@
 //! Tidying files in place: whole or not at all.
 
+ghost use Rattle.std.specs.Prelude.{IfErr};
+ghost use Rattle.isle_tidy.specs.Failure.{IsFileFailure};
+
 use crate::failure::Failure;
 use crate::program::tidied;
 use isle_program::streams::{read_text, write_whole};
@@ -23,7 +26,9 @@ pub fn tidy_file<R: Files + AllocGlobal>(
     name: &str,
     width: usize,
     check: bool,
-) -> Result<bool, Failure> {
+) -> Result<bool, Failure>
+    ensures { IfErr result IsFileFailure }
+{
     let target = fs::canonicalize(rt, name).map_err(unreadable)?;
     let path = target.as_str();
     let metadata = rt.metadata(path).map_err(unreadable)?;
@@ -47,7 +52,9 @@ pub fn tidy_file<R: Files + AllocGlobal>(
 }
 
 /// What an error of the system is, where a file is read.
-fn unreadable(error: io::Error) -> Failure {
+fn unreadable(error: io::Error) -> Failure
+    ensures { IsFileFailure result }
+{
     if error.kind() == ErrorKind::OutOfMemory {
         Failure::Memory
     } else {
@@ -61,7 +68,9 @@ fn replace<R: Files + AllocGlobal>(
     path: &str,
     old: &Metadata,
     bytes: &[u8],
-) -> Result<(), Failure> {
+) -> Result<(), Failure>
+    ensures { IfErr result IsFileFailure }
+{
     // Whoever may not write the file may not replace it either.
     match OpenOptions::new().write(true).open(rt, path) {
         Ok(file) => drop(file),
@@ -78,7 +87,9 @@ fn replace<R: Files + AllocGlobal>(
 }
 
 /// Makes a new, empty file beside another one, and gives its name.
-fn new_beside<R: Files + AllocGlobal>(rt: &R, path: &str) -> Result<(String, R::File), Failure> {
+fn new_beside<R: Files + AllocGlobal>(rt: &R, path: &str) -> Result<(String, R::File), Failure>
+    ensures { IfErr result IsFileFailure }
+{
     for number in 0..NAMES {
         let name = format!(in rt.alloc(); "{path}.isle-tidy-{number}")?;
         let made = OpenOptions::new()

@@ -1,4 +1,8 @@
 use super::*;
+use isle_program::words::taken_words;
+use std::env::{Env, FillError};
+use std::io;
+use std::io::ErrorKind;
 use std::process::Abort;
 use std::test::Fail;
 
@@ -365,7 +369,7 @@ fn takes_the_words(rt: HostRuntime) -> Result<(), Fail> {
     let words: &[&[u8]] = &[b"isle-fmt", b"5", &[255]];
     assert!(rt;
         matches!(
-            taken_words(&CommandLine { alloc, words }),
+            taken_words(&CommandLine { alloc, words }).map_err(Failure::from),
             Err(Failure::Usage)
         )
     );

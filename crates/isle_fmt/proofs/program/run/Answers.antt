@@ -1,4 +1,4 @@
-use Rattle.isle_fmt.proofs.StreamLemmas.{refused-told, told-text}
+use Rattle.isle_fmt.proofs.FailureLemmas.{refused-told, told-text}
 use Rattle.isle_fmt.proofs.program.run.Goals as goal
 
 pub returns-in-Err-clause-refused : goal.returns-in-Err-clause-refused

@@ -1,4 +1,4 @@
-use Rattle.isle_lint.proofs.StreamLemmas.{refused-told}
+use Rattle.isle_lint.proofs.FailureLemmas.{refused-told}
 use Rattle.isle_lint.proofs.program.run.Goals as goal
 
 pub returns-in-Err-clause-found_or_refused : goal.returns-in-Err-clause-found_or_refused

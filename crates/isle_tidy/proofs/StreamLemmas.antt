@@ -1,0 +1,55 @@
+-- Two writes taken together, and what is said of a failure.
+use Rattle.std.proofs.Common.{◌≡◌, ◌++◌, ℕ, ◌+◌, min, List, length, take, Option, Result, Ok, Err, IfErr, string_bytes, subst, sym, ◌∙◌, inl, arith}
+use Rattle.std.proofs.KnownBytes.{Appends-trans}
+use Rattle.std.proofs.Math.Seq.{take-append-add}
+use Rattle.std.proofs.lemmas.List.{take-append-le, take_min}
+use Rattle.std.specs.Io.KnownBytes.{Appends}
+use Rattle.isle_program.specs.Streams.{AppendsBeginning}
+use Rattle.isle_tidy.specs.declared.arguments.Task.{Task}
+use Rattle.isle_tidy.specs.declared.failure.Failure.{Failure}
+use Rattle.isle_tidy.specs.declared.failure.Failure.TheVariants as failures
+use Rattle.isle_tidy.specs.Doing.{Explains, FindsInput}
+use Rattle.isle_tidy.specs.Failure.{status_of, text_of}
+
+-- a beginning of the front is one of the whole
+pub AppendsBeginning-front : (a b : Option (List ℕ)) (xs ys : List ℕ) → AppendsBeginning a b xs → AppendsBeginning a b (xs ++ ys)
+AppendsBeginning-front a b xs ys front =
+    let n = min front.0 (length xs) in
+    (n, subst (Appends a b) (sym (take-append-le n xs ys (omega arith) ∙ take_min front.0 xs)) front.1)
+
+-- the front was written, and then a beginning of what is behind it
+pub AppendsBeginning-behind : (a b c : Option (List ℕ)) (xs ys : List ℕ) → Appends a b xs → AppendsBeginning b c ys → AppendsBeginning a c (xs ++ ys)
+AppendsBeginning-behind a b c xs ys front rest =
+    (length xs + rest.0, subst (Appends a c) (sym (take-append-add xs ys rest.0)) (Appends-trans a b c _ _ front rest.1))
+
+-- the same of what a call answers that writes the front, or what is behind it
+pub cut-front : (a b : Option (List ℕ)) (xs ys : List ℕ) (failure : Failure) → (failure ≡ failures.Output) × AppendsBeginning a b xs → (failure ≡ failures.Output) × AppendsBeginning a b (xs ++ ys)
+cut-front a b xs ys failure said = (said.0, AppendsBeginning-front a b xs ys said.1)
+
+pub cut-behind : {T : Type 0} (a b c : Option (List ℕ)) (xs ys : List ℕ) (result : Result T Failure) → Appends a b xs
+    → IfErr result (λ failure. (failure ≡ failures.Output) × AppendsBeginning b c ys) → IfErr result (λ failure. (failure ≡ failures.Output) × AppendsBeginning a c (xs ++ ys))
+cut-behind a b c xs ys (Ok x) front said = tt
+cut-behind a b c xs ys (Err failure) front said = (said.0, AppendsBeginning-behind a b c xs ys front said.1)
+
+-- What status 1 says, of a failure that ends with it.
+module _ (task : Task) (input input' output output' faults faults' : Option (List ℕ)) where
+  found_by : (failure : Failure) → Explains failure task.check task.width input input' output output' → AppendsBeginning faults faults' (text_of failure) → status_of failure ≡ 1 → FindsInput task input input' output output' faults faults'
+  found_by (failures.Refused diagnostic) why told one =
+      let read = why.0 in
+      inl (
+        record {
+          text = read.text;
+          consumed = read.consumed;
+          ended = read.ended;
+          utf8 = read.utf8;
+          holds = (read.holds.0, (string_bytes diagnostic, read.holds.1, told));
+        },
+        why.1,
+      )
+  found_by failures.Usage why told one = absurd (cc)
+  found_by failures.Input why told one = absurd (cc)
+  found_by failures.Memory why told one = absurd (cc)
+  found_by failures.Output why told one = absurd (cc)
+
+  pub found-by : (status : ℕ) (failure : Failure) → Explains failure task.check task.width input input' output output' → AppendsBeginning faults faults' (text_of failure) → status ≡ status_of failure → status ≡ 1 → FindsInput task input input' output output' faults faults'
+  found-by status failure why told is one = found_by failure why told (sym is ∙ one)
