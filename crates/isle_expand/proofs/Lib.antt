@@ -1,0 +1,4 @@
+pub mod ExpansionLemmas
+pub mod FailureLemmas
+pub mod TreeLemmas
+pub mod WritableLemmas

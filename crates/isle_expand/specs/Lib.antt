@@ -1,0 +1,5 @@
+pub mod Expansion
+pub mod Failure
+pub mod Trees
+pub mod Unwritable
+pub mod Words
