@@ -67,8 +67,8 @@ pub fn try_check(text: &str) -> Result<(), Fault> {
 /// Gives the diagnostic of a text, with this name for its file, or `None` where the text is one of
 /// ISLE.
 ///
-/// It is upstream's plain text: the message; file, line and column, counted from 1, with the line
-/// itself; and an empty line.
+/// It is upstream's plain text, with a line feed behind a source line that has none: the message;
+/// file, line and column, counted from 1, with the line itself; and an empty line.
 ///
 /// ```
 /// let shown = isle_syntax::diagnostic("a.isle", "(decl pure () T)\n").unwrap();

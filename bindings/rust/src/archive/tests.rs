@@ -67,7 +67,7 @@ fn tells_a_refusal_into_a_slice_of_every_length() {
 fn shows_a_refusal_into_a_slice_of_every_length() {
     let shown = b"parse error: Unexpected token LParen\na.isle:2:12: (decl pure () T)\n\n";
     at_every_length(shown, |into| diagnostic(b"a.isle", REFUSED, into));
-    let shown = b"parse error: Unexpected EOF\n:1:6: (decl\n";
+    let shown = b"parse error: Unexpected EOF\n:1:6: (decl\n\n";
     at_every_length(shown, |into| diagnostic(b"", b"(decl", into));
 }
 
