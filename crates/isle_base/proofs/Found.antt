@@ -1,5 +1,5 @@
 -- What the private calls of the lexer find, joined.
-use Rattle.std.proofs.Common.{◌≡◌, ℕ, ◌+◌, ◌-◌, ◌<◌, ◌≤◌, List, ◌∷◌, true, false, Result, Ok, Err, IfOk, length, drop, take, get_or, IsUtf8, refl, sym, ap, subst, ◌∙◌, eqb, arith, length-drop}
+use Rattle.std.proofs.Common.{◌≡◌, ℕ, ◌+◌, ◌-◌, ◌<◌, ◌≤◌, List, ◌∷◌, true, false, length, drop, take, get_or, IsUtf8, refl, sym, ap, subst, ◌∙◌, eqb, arith, length-drop}
 use Rattle.std.specs.List.{prefix_len}
 use Rattle.std.specs.Str.{IsCharBoundary}
 use Rattle.std.proofs.lemmas.Bool.{ne_eqb}
@@ -13,7 +13,7 @@ use Rattle.isle_base.specs.Pieces.{in_symbol, symbol_here, Piece}
 use Rattle.isle_base.specs.Reads.{IsUnskipped, Finds, FindsHere}
 use Rattle.isle_base.specs.Skips.{Skip, Longest, is_blank, begins_with}
 use Rattle.isle_base.specs.Token.{symbol}
-use Rattle.isle_base.specs.TokenView.{token_of}
+use Rattle.isle_base.specs.TokenView.{token_of_ref}
 use Rattle.isle_base.proofs.Bytes.{symbol_else}
 use Rattle.isle_base.proofs.Complete.{Piece-shorter}
 use Rattle.isle_base.proofs.Minus.{begins_here}
@@ -41,15 +41,11 @@ symbol_begins bytes at short unskipped no_open no_close no_at no_feed no_literal
 pub feed_here : (bytes : List ℕ) (at : ℕ) → at < length bytes → get_or bytes at 0 ≡ 12 → Faulty (drop at bytes)
 feed_here bytes at short is = form_feed (drop_more bytes at 0 short ∙ ap (λ b. b ∷ drop (at + 1) bytes) is)
 
-found_behind : (text : List ℕ) (from start : ℕ) → Skip (drop from text) (drop start text) → start < length text → IsUtf8 (drop from text) → (f : Found) → FindsHere text start f → Finds text from f
+pub found_behind : (text : List ℕ) (from start : ℕ) → Skip (drop from text) (drop start text) → start < length text → IsUtf8 (drop from text) → (f : Found) → FindsHere text start f → Finds text from f
 found_behind text from start s short utf8 (founds.Token at token after) f =
     let skip = subst (λ n. Skip (drop from text) (drop n text)) (sym f.0) s in
-    let piece = subst (λ n. Piece (drop n text) (token_of token) (drop after text)) (sym f.0) f.1 in
-    (skip, piece, omega (arith, f.2, Piece-shorter (drop at text) (token_of token) (drop after text) piece, length-drop at text, length-drop after text), f.2, Piece-utf8 (drop at text) (token_of token) (drop after text) piece (Skip-utf8 skip utf8))
+    let piece = subst (λ n. Piece (drop n text) (token_of_ref token) (drop after text)) (sym f.0) f.1 in
+    (skip, piece, omega (arith, f.2, Piece-shorter (drop at text) (token_of_ref token) (drop after text) piece, length-drop at text, length-drop after text), f.2, Piece-utf8 (drop at text) (token_of_ref token) (drop after text) piece (Skip-utf8 skip utf8))
 found_behind text from start s short utf8 founds.End f = elim f [ ]
 found_behind text from start s short utf8 (founds.Fault at reason) f =
     (subst (λ n. Skip (drop from text) (drop n text)) (sym f.0) s, subst (λ n. Faulty (drop n text)) (sym f.0) f.1, omega (arith, f.0))
-
-pub found_all : {E : Type 0} (text : List ℕ) (from start : ℕ) (r : Result Found E) → Skip (drop from text) (drop start text) → start < length text → IsUtf8 (drop from text) → IfOk r (FindsHere text start) → IfOk r (Finds text from)
-found_all text from start (Ok f) s short utf8 h = found_behind text from start s short utf8 f h
-found_all text from start (Err e) s short utf8 h = tt

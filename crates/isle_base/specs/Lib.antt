@@ -12,6 +12,7 @@ pub mod Place
 pub mod PositionOrder
 pub mod PrettyLine
 pub mod Reads
+pub mod ScannerView
 pub mod Skips
 pub mod Source
 pub mod Steps

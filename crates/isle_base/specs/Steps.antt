@@ -7,10 +7,11 @@ use Rattle.isle_base.specs.declared.lexer.Fault.{Fault}
 use Rattle.isle_base.specs.declared.lexer.Fault.TheVariants as faults
 use Rattle.isle_base.specs.declared.lexer.Pos.{Pos}
 use Rattle.isle_base.specs.declared.lexer.Token.{Token}
+use Rattle.isle_base.specs.declared.scanner.TokenRef.{TokenRef}
 use Rattle.isle_base.specs.Lexing.{lexes}
 use Rattle.isle_base.specs.Place.{Placed, in_file, placed_at}
 use Rattle.isle_base.specs.Token.{Lexeme, Ending, end, fault, Feed}
-use Rattle.isle_base.specs.TokenView.{token_of}
+use Rattle.isle_base.specs.TokenView.{token_of, token_of_ref}
 
 abbrev pub failed_by : List Lexeme → Ending → Bool
 failed_by [] (fault _) = true
@@ -49,6 +50,9 @@ current_pos feed = in_file feed.file (offset_by feed.coming feed.ending feed.siz
 -- a token with its position, as the code hands it out
 abbrev pub placed_of : Pos × Token → Placed
 placed_of x = record { pos = x.0; token = token_of x.1 }
+
+abbrev pub placed_ref : Pos × TokenRef → Placed
+placed_ref x = record { pos = x.0; token = token_of_ref x.1 }
 
 -- a parse error whose span is the one byte at this position
 abbrev pub RefusesAt : Pos → Error → Type 0

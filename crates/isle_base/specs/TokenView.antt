@@ -2,6 +2,8 @@
 use Rattle.std.specs.Prelude.{string_bytes}
 use Rattle.isle_base.specs.declared.lexer.Token.{Token}
 use Rattle.isle_base.specs.declared.lexer.Token.TheVariants.{LParen, RParen, Symbol, Int, At}
+use Rattle.isle_base.specs.declared.scanner.TokenRef.{TokenRef}
+use Rattle.isle_base.specs.declared.scanner.TokenRef.TheVariants as refs
 use Rattle.isle_base.specs.Token.{Tok, lparen, rparen, symbol, integer, at_sign}
 
 abbrev pub token_of : Token → Tok
@@ -10,3 +12,11 @@ token_of RParen = rparen
 token_of (Symbol text) = symbol (string_bytes text)
 token_of (Int value) = integer value
 token_of At = at_sign
+
+-- a token that borrows its text
+abbrev pub token_of_ref : TokenRef → Tok
+token_of_ref refs.LParen = lparen
+token_of_ref refs.RParen = rparen
+token_of_ref (refs.Symbol text) = symbol text.now
+token_of_ref (refs.Int value) = integer value
+token_of_ref refs.At = at_sign

@@ -6,6 +6,7 @@ ghost use Rattle.isle_base.specs.Diagnostic.{fault_text};
 ghost use Rattle.isle_base.specs.Lexing.{lexes};
 ghost use Rattle.isle_base.specs.Steps.{IfError, IsWithin, Refuses, RefusesStart, Rises, Takes};
 ghost use Rattle.isle_base.specs.Steps.{current_pos, is_at_end, is_failed, lookahead, placed_of};
+ghost use Rattle.isle_base.specs.Steps.{placed_ref};
 ghost use Rattle.isle_base.specs.Token.{is_int, is_symbol};
 ghost use Rattle.isle_base.specs.TokenView.{token_of};
 ghost use Rattle.isle_base.specs.declared.lexer.Fault.TheVariants as faults;
@@ -20,8 +21,8 @@ pub(crate) mod scan;
 use crate::error::Error;
 use crate::error::show::write_message;
 use crate::files::Files;
+use crate::scanner::{Scanner, TokenRef};
 pub use lanes::{blank_end, line_comment_end, symbol_end};
-use read::{Found, error, read};
 use std::alloc::{AllocError, AllocFailed, Global};
 use std::fmt;
 use std::marker::Model;
@@ -188,11 +189,9 @@ impl Clone for Token {
 /// and the length of its text.
 #[derive(Debug, Drop)]
 pub struct Lexer<'src> {
-    src: &'src str,
-    /// Behind the token ahead; without one, the end of the text, or the fault's first byte.
-    pos: Pos,
+    pub(crate) scanner: Scanner<'src>,
+    /// The token that the scanner has ahead, with its own text.
     lookahead: Option<(Pos, Token)>,
-    failed: bool,
 }
 
 impl<'src> Model for Lexer<'src> {
@@ -200,9 +199,9 @@ impl<'src> Model for Lexer<'src> {
 
     ghost Value = { Feed };
 
-    ghost use Rattle.isle_base.specs.LexerView.{feed_of, IsLexer};
+    ghost use Rattle.isle_base.specs.LexerView.{IsLexer};
 
-    ghost view = { feed_of };
+    ghost view = { λ a. a.scanner };
 
     ghost invariant = { IsLexer };
 }
@@ -212,10 +211,8 @@ impl<'src> Clone for Lexer<'src> {
 
     fn clone(&self) -> Result<Lexer<'src>, AllocError> {
         Ok(Lexer {
-            src: self.src,
-            pos: self.pos,
+            scanner: self.scanner.copied(),
             lookahead: self.lookahead.clone()?,
-            failed: self.failed,
         })
     }
 }
@@ -238,24 +235,9 @@ impl<'src> Lexer<'src> {
         ensures refused { IfErr result (IfError (RefusesStart file src.now)) }
         ensures never_failed { result ≢ Err Failed }
     {
-        match read(alloc, src, 0)? {
-            Found::Token(start, token, end) => Ok(Lexer {
-                src,
-                pos: Pos::new(file, end),
-                lookahead: Some((Pos::new(file, start), token)),
-                failed: false,
-            }),
-            Found::End => Ok(Lexer {
-                src,
-                pos: Pos::new(file, src.len()),
-                lookahead: None,
-                failed: false,
-            }),
-            Found::Fault(at, reason) => {
-                let refusal = error(alloc, Pos::new(file, at), reason)?;
-                Err(Fault::Error(refusal))
-            }
-        }
+        let scanner = Scanner::new(alloc, file, src)?;
+        let lookahead = owned(alloc, scanner.peek())?;
+        Ok(Lexer { scanner, lookahead })
     }
 
     /// Gets the lexer's current source position: the byte offset behind the token ahead.
@@ -266,7 +248,7 @@ impl<'src> Lexer<'src> {
         ensures value { result ≡ current_pos self.now }
         ensures within { IsWithin self.now }
     {
-        self.pos
+        self.scanner.pos()
     }
 
     /// Hands out the token ahead with the position of its first byte, and reads one token further.
@@ -287,30 +269,20 @@ impl<'src> Lexer<'src> {
         ensures memory { result ≡ Err Memory
             → (is_failed self.old ≡ false) × (is_at_end self.old ≡ false) × (self.new ≡ self.old) }
     {
-        if self.failed {
-            return Err(Fault::Failed);
-        }
-        if self.lookahead.is_none() {
-            return Ok(None);
-        }
-        let file = self.pos.file;
-        match read(alloc, self.src, self.pos.offset)? {
-            Found::Token(start, token, end) => {
-                self.pos = Pos::new(file, end);
-                Ok(self.lookahead.replace((Pos::new(file, start), token)))
+        let mut scanner = self.scanner.copied();
+        match scanner.next(alloc) {
+            Ok(None) => Ok(None),
+            Ok(Some(_)) => {
+                let lookahead = owned(alloc, scanner.peek())?;
+                self.scanner = scanner;
+                Ok(std::mem::replace(&mut self.lookahead, lookahead))
             }
-            Found::End => {
-                self.pos = Pos::new(file, self.src.len());
-                Ok(self.lookahead.take())
-            }
-            Found::Fault(at, reason) => {
-                let pos = Pos::new(file, at);
-                let error = error(alloc, pos, reason)?;
-                self.pos = pos;
+            Err(Fault::Error(error)) => {
+                self.scanner = scanner;
                 self.lookahead = None;
-                self.failed = true;
-                Err(Fault::Error(error))
+                Err(Fault::from(error))
             }
+            Err(fault) => Err(fault),
         }
     }
 
@@ -322,6 +294,8 @@ impl<'src> Lexer<'src> {
         ensures within { IsWithin self.now }
         ensures rising { Rises 0 self.now.coming }
     {
+        // No offset is past the end of the text.
+        self.scanner.peek();
         self.lookahead.as_ref()
     }
 
@@ -329,6 +303,17 @@ impl<'src> Lexer<'src> {
     pub fn eof(&self) -> bool
         ensures { result ≡ is_at_end self.now }
     {
-        self.lookahead.is_none() && !self.failed
+        self.scanner.eof()
+    }
+}
+
+/// The token ahead of a scanner, with its own text.
+fn owned(alloc: Global, ahead: Option<&(Pos, TokenRef)>) -> Result<Option<(Pos, Token)>, AllocError>
+    ensures { IfOk result (λ owned. option_map placed_of owned
+        ≡ option_map (λ x. placed_ref x.now) ahead.entry) }
+{
+    match ahead {
+        None => Ok(None),
+        Some((pos, token)) => Ok(Some((*pos, token.to_token(alloc)?))),
     }
 }

@@ -5,3 +5,4 @@ pub mod error;
 pub mod files;
 pub mod lexer;
 pub mod pieces;
+pub mod scanner;

@@ -10,10 +10,11 @@ ghost use Rattle.isle_base.specs.Skips.{begins_with};
 ghost use Rattle.isle_base.specs.Steps.{RefusesAt};
 
 use crate::error::{Error, Span};
+use crate::lexer::Pos;
 use crate::lexer::lanes::{FORM_FEED, symbol_end};
 use crate::lexer::literal::literal_at;
 use crate::lexer::scan::skip_end;
-use crate::lexer::{Pos, Token};
+use crate::scanner::TokenRef;
 use std::alloc::{AllocError, Global};
 
 /// Why a text is refused.
@@ -48,10 +49,10 @@ impl Reason {
 }
 
 /// What is found in a text from an offset on, behind blanks and comments.
-#[derive(Drop)]
-pub(crate) enum Found {
+#[derive(Clone, Copy)]
+pub(crate) enum Found<'src> {
     /// A token: the offset of its first byte, itself, and the offset after its last.
-    Token(usize, Token, usize),
+    Token(usize, TokenRef<'src>, usize),
     /// The end of the text.
     End,
     /// A fault: the offset of its first byte, and why the text is refused.
@@ -60,27 +61,26 @@ pub(crate) enum Found {
 
 /// Reads the symbol at an offset.
 #[inline(always)]
-fn symbol_at(alloc: Global, src: &str, start: usize) -> Result<Found, AllocError>
+fn symbol_at<'src>(src: &'src str, start: usize) -> Found<'src>
     requires within { start < length src.now }
     requires text { IsUtf8 (drop start src.now) }
     requires begins { symbol_here (drop start src.now) ≡ true }
-    ensures { IfOk result (FindsHere src.now start) }
+    ensures { FindsHere src.now start result }
 {
     let end = symbol_end(src.as_bytes(), start);
-    let name = String::from_str(alloc, &src[start..end])?;
-    Ok(Found::Token(start, Token::Symbol(name), end))
+    Found::Token(start, TokenRef::Symbol(&src[start..end]), end)
 }
 
 /// Reads the literal at an offset.
 #[inline(never)]
-fn integer_at(bytes: &[u8], start: usize) -> Found
+fn integer_at<'src>(bytes: &[u8], start: usize) -> Found<'src>
     requires within { start < length bytes.now }
     requires begins { begins_with starts_literal (drop start bytes.now) ≡ true }
     requires whole { is_lone_minus (drop start bytes.now) ≡ false }
     ensures { FindsHere bytes.now start result }
 {
     match literal_at(bytes, start) {
-        Ok((value, end)) => Found::Token(start, Token::Int(value), end),
+        Ok((value, end)) => Found::Token(start, TokenRef::Int(value), end),
         Err(reason) => Found::Fault(start, reason),
     }
 }
@@ -96,52 +96,52 @@ pub fn is_lone_minus_at(bytes: &[u8], at: usize) -> bool
 
 /// Reads what begins with the `-` at an offset: a symbol, or a literal.
 #[inline(never)]
-fn from_minus_at(alloc: Global, src: &str, start: usize) -> Result<Found, AllocError>
+fn from_minus_at<'src>(src: &'src str, start: usize) -> Found<'src>
     requires within { start < length src.now }
     requires text { IsUtf8 (drop start src.now) }
     requires minus { has_minus (drop start src.now) ≡ true }
-    ensures { IfOk result (FindsHere src.now start) }
+    ensures { FindsHere src.now start result }
 {
     if is_lone_minus_at(src.as_bytes(), start) {
-        symbol_at(alloc, src, start)
+        symbol_at(src, start)
     } else {
-        Ok(integer_at(src.as_bytes(), start))
+        integer_at(src.as_bytes(), start)
     }
 }
 
 /// Reads the token at an offset at which no blank and no comment begins.
 #[inline(always)]
-fn token_at(alloc: Global, src: &str, start: usize) -> Result<Found, AllocError>
+fn token_at<'src>(src: &'src str, start: usize) -> Found<'src>
     requires within { start < length src.now }
     requires text { IsUtf8 (drop start src.now) }
     requires unskipped { IsUnskipped (drop start src.now) }
-    ensures { IfOk result (FindsHere src.now start) }
+    ensures { FindsHere src.now start result }
 {
     match src.as_bytes()[start] {
-        b'(' => Ok(Found::Token(start, Token::LParen, start + 1)),
-        b')' => Ok(Found::Token(start, Token::RParen, start + 1)),
-        b'@' => Ok(Found::Token(start, Token::At, start + 1)),
-        FORM_FEED => Ok(Found::Fault(start, Reason::FormFeed)),
-        b'-' => from_minus_at(alloc, src, start),
-        b'0'..=b'9' => Ok(integer_at(src.as_bytes(), start)),
-        _ => symbol_at(alloc, src, start),
+        b'(' => Found::Token(start, TokenRef::LParen, start + 1),
+        b')' => Found::Token(start, TokenRef::RParen, start + 1),
+        b'@' => Found::Token(start, TokenRef::At, start + 1),
+        FORM_FEED => Found::Fault(start, Reason::FormFeed),
+        b'-' => from_minus_at(src, start),
+        b'0'..=b'9' => integer_at(src.as_bytes(), start),
+        _ => symbol_at(src, start),
     }
 }
 
 /// Finds what a text has from an offset on.
 #[inline(always)]
-pub(crate) fn read(alloc: Global, src: &str, from: usize) -> Result<Found, AllocError>
+pub(crate) fn read<'src>(src: &'src str, from: usize) -> Found<'src>
     requires within { from ≤ length src.now }
     requires text { IsUtf8 (drop from src.now) }
-    ensures { IfOk result (Finds src.now from) }
+    ensures { Finds src.now from result }
 {
     match skip_end(src.as_bytes(), from) {
-        Err(at) => Ok(Found::Fault(at, Reason::UnclosedComment)),
+        Err(at) => Found::Fault(at, Reason::UnclosedComment),
         Ok(start) => {
             if start < src.len() {
-                token_at(alloc, src, start)
+                token_at(src, start)
             } else {
-                Ok(Found::End)
+                Found::End
             }
         }
     }

@@ -1,4 +1,4 @@
-use Rattle.std.proofs.Common.{◌≡◌, ◌+◌, ◌≤◌, drop, length, subst, refl, ◌∙◌, arith}
+use Rattle.std.proofs.Common.{◌≡◌, ◌+◌, ◌≤◌, drop, length, subst, refl, arith}
 use Rattle.std.specs.List.{prefix_len}
 use Rattle.std.proofs.lemmas.Str.{IsCharBoundary-from_drop}
 use Rattle.isle_base.specs.Pieces.{in_symbol}
@@ -18,4 +18,4 @@ pub returns : goal.returns
 returns c =
     let stop = subst (λ xs. c.symbol_end-end.result ≡ c.args.start + prefix_len in_symbol (drop c.args.start xs)) c.as_bytes.ensures.value c.symbol_end-end.ensures.end in
     let within = subst (λ xs. c.symbol_end-end.result ≤ length xs) c.as_bytes.ensures.value c.symbol_end-end.ensures.within in
-    (refl, (c.requires.begins, symbol_longest c.args.src.now c.args.start c.symbol_end-end.result _ stop (c.in_ok-name.ensures.ok ∙ c.range.ensures.value)), within)
+    (refl, (c.requires.begins, symbol_longest c.args.src.now c.args.start c.symbol_end-end.result _ stop c.range.ensures.value), within)
