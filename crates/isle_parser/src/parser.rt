@@ -27,6 +27,7 @@ mod types;
 use crate::parser::definitions::parse_def;
 use isle_ast::ast::Def;
 use isle_base::lexer::{Fault, Lexer};
+use isle_base::scanner::Scanner;
 use isle_parser_cursor::cursor::{Cursor, Stop};
 use std::alloc::{AllocError, Global};
 
@@ -131,7 +132,7 @@ impl<'src> Parser<'src> {
     {
         Parser {
             cursor: Cursor {
-                lexer,
+                lexer: Scanner::from(lexer),
                 disable_pos: false,
             },
             refused: false,
@@ -146,7 +147,7 @@ impl<'src> Parser<'src> {
     {
         Parser {
             cursor: Cursor {
-                lexer,
+                lexer: Scanner::from(lexer),
                 disable_pos: true,
             },
             refused: false,

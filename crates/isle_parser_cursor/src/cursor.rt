@@ -5,7 +5,7 @@ ghost use Rattle.std.specs.Prelude.{false};
 ghost use Rattle.isle_ast_names.specs.Words.{is_constant};
 ghost use Rattle.isle_base.specs.Steps.{IsWithin, Rises, is_at_end, is_failed};
 ghost use Rattle.isle_base.specs.Token.{at_sign, integer, is_int, is_symbol, lparen, rparen};
-ghost use Rattle.isle_base.specs.TokenView.{token_of};
+ghost use Rattle.isle_base.specs.TokenView.{token_of_ref};
 ghost use Rattle.isle_parser_cursor.specs.Outcomes.{Gives, IsLexerRefusal, IsPlace, IsRefusal};
 ghost use Rattle.isle_parser_cursor.specs.Outcomes.{IsRefusalAt};
 ghost use Rattle.isle_parser_cursor.specs.Outcomes.{placing, source, tokens};
@@ -18,16 +18,17 @@ ghost use Rattle.isle_parser_cursor.specs.declared.cursor.Stop.TheVariants.{Memo
 mod names;
 
 use isle_base::error::{Error, Span};
-use isle_base::lexer::{Fault, Lexer, Pos, Token};
+use isle_base::lexer::{Fault, Pos};
+use isle_base::scanner::{Scanner, TokenRef};
 use std::alloc::{AllocError, AllocFailed, Global};
 
-/// The tokens that a lexer has still to give.
+/// The tokens that a lexer has still to give, which borrow their texts.
 ///
 /// It says why it refuses a token, and where; what the tokens mean is for those who read them.
 #[derive(Debug, Drop)]
 pub struct Cursor<'src> {
     /// What gives the tokens.
-    pub lexer: Lexer<'src>,
+    pub lexer: Scanner<'src>,
     /// Whether the default position is put in place of each.
     pub disable_pos: bool,
 }
@@ -89,8 +90,8 @@ impl<'src> Cursor<'src> {
     }
 
     /// The token ahead.
-    pub fn ahead(&self) -> Option<&Token>
-        ensures { option_map (λ t. token_of t.now) result ≡ token_ahead (tokens self.now) }
+    pub fn ahead(&self) -> Option<&TokenRef<'src>>
+        ensures { option_map (λ t. token_of_ref t.now) result ≡ token_ahead (tokens self.now) }
     {
         self.lexer.peek().map(|(_, token)| token)
     }
@@ -99,14 +100,14 @@ impl<'src> Cursor<'src> {
     pub fn is_lparen(&self) -> bool
         ensures { result ≡ is_ahead is_lparen (tokens self.now) }
     {
-        matches!(self.ahead(), Some(Token::LParen))
+        matches!(self.ahead(), Some(TokenRef::LParen))
     }
 
     /// Tells whether `)` is ahead.
     pub fn is_rparen(&self) -> bool
         ensures { result ≡ is_ahead is_rparen (tokens self.now) }
     {
-        matches!(self.ahead(), Some(Token::RParen))
+        matches!(self.ahead(), Some(TokenRef::RParen))
     }
 
     /// Tells whether this word is ahead, as a symbol.
@@ -114,7 +115,7 @@ impl<'src> Cursor<'src> {
         ensures { result ≡ is_ahead (is_word word.now) (tokens self.now) }
     {
         match self.ahead() {
-            Some(Token::Symbol(text)) => text.as_str() == word,
+            Some(TokenRef::Symbol(text)) => *text == word,
             _ => false,
         }
     }
@@ -123,21 +124,21 @@ impl<'src> Cursor<'src> {
     pub fn is_sym(&self) -> bool
         ensures { result ≡ is_ahead is_symbol (tokens self.now) }
     {
-        matches!(self.ahead(), Some(Token::Symbol(_)))
+        matches!(self.ahead(), Some(TokenRef::Symbol(_)))
     }
 
     /// Tells whether an integer is ahead.
     pub fn is_int(&self) -> bool
         ensures { result ≡ is_ahead is_int (tokens self.now) }
     {
-        matches!(self.ahead(), Some(Token::Int(_)))
+        matches!(self.ahead(), Some(TokenRef::Int(_)))
     }
 
     /// Tells whether `@` is ahead.
     pub fn is_at(&self) -> bool
         ensures { result ≡ is_ahead is_at (tokens self.now) }
     {
-        matches!(self.ahead(), Some(Token::At))
+        matches!(self.ahead(), Some(TokenRef::At))
     }
 
     /// Tells whether a constant is ahead: a symbol that begins with `$`.
@@ -145,7 +146,7 @@ impl<'src> Cursor<'src> {
         ensures { result ≡ is_ahead is_const (tokens self.now) }
     {
         match self.ahead() {
-            Some(Token::Symbol(text)) => begins_constant(text),
+            Some(TokenRef::Symbol(text)) => begins_constant(text),
             _ => false,
         }
     }
@@ -189,9 +190,9 @@ impl<'src> Cursor<'src> {
 
     /// Takes off the token ahead.
     #[inline(always)]
-    pub fn take(&mut self, alloc: Global) -> Result<Token, Stop>
+    pub fn take(&mut self, alloc: Global) -> Result<TokenRef<'src>, Stop>
         ensures same { source self.new ≡ source self.old }
-        ensures gives { Gives token_of (take (tokens self.old)) result self.new }
+        ensures gives { Gives token_of_ref (take (tokens self.old)) result self.new }
         ensures goes_on { OnOk result (is_failed self.new.lexer ≡ false) }
     {
         match self.lexer.next(alloc) {
@@ -209,9 +210,9 @@ impl<'src> Cursor<'src> {
 
     /// Takes off the token ahead where it is wanted, and refuses it otherwise.
     #[inline(always)]
-    pub fn take_if(&mut self, alloc: Global, is_wanted: bool) -> Result<Token, Stop>
+    pub fn take_if(&mut self, alloc: Global, is_wanted: bool) -> Result<TokenRef<'src>, Stop>
         ensures same { source self.new ≡ source self.old }
-        ensures gives { Gives token_of (take_if is_wanted (tokens self.old)) result self.new }
+        ensures gives { Gives token_of_ref (take_if is_wanted (tokens self.old)) result self.new }
         ensures goes_on { OnOk result (is_failed self.new.lexer ≡ false) }
     {
         if !is_wanted {
@@ -265,17 +266,26 @@ impl<'src> Cursor<'src> {
         Ok(())
     }
 
-    /// Takes off a symbol, and gives its text.
+    /// Takes off a symbol, and gives its text, which isn't copied.
     #[tactic(auto, unfolding(crate::specs::Reading::text))]
+    pub fn expect_word(&mut self, alloc: Global) -> Result<&'src str, Stop>
+        ensures same { source self.new ≡ source self.old }
+        ensures gives { Gives (λ text. text.now) (text (tokens self.old)) result self.new }
+    {
+        let is_wanted = self.is_sym();
+        match self.take_if(alloc, is_wanted)? {
+            TokenRef::Symbol(text) => Ok(text),
+            _ => unreachable!(),
+        }
+    }
+
+    /// Takes off a symbol, and gives its text, which is copied.
     pub fn expect_symbol(&mut self, alloc: Global) -> Result<String, Stop>
         ensures same { source self.new ≡ source self.old }
         ensures gives { Gives string_bytes (text (tokens self.old)) result self.new }
     {
-        let is_wanted = self.is_sym();
-        match self.take_if(alloc, is_wanted)? {
-            Token::Symbol(text) => Ok(text),
-            _ => unreachable!(),
-        }
+        let text = self.expect_word(alloc)?;
+        Ok(String::from_str(alloc, text)?)
     }
 
     /// Takes off an integer.
@@ -286,7 +296,7 @@ impl<'src> Cursor<'src> {
     {
         let is_wanted = self.is_int();
         match self.take_if(alloc, is_wanted)? {
-            Token::Int(value) => Ok(value),
+            TokenRef::Int(value) => Ok(value),
             _ => unreachable!(),
         }
     }
@@ -323,14 +333,14 @@ pub fn begins_constant(text: &str) -> bool
 }
 
 /// The message about a token that is not expected, or about the end.
-fn unexpected_message(alloc: Global, token: Option<&Token>) -> Result<String, AllocError> {
+fn unexpected_message(alloc: Global, token: Option<&TokenRef>) -> Result<String, AllocError> {
     match token {
         None => String::from_str(alloc, "Unexpected EOF"),
-        Some(Token::LParen) => String::from_str(alloc, "Unexpected token LParen"),
-        Some(Token::RParen) => String::from_str(alloc, "Unexpected token RParen"),
-        Some(Token::At) => String::from_str(alloc, "Unexpected token At"),
-        Some(Token::Int(value)) => format!(in alloc; "Unexpected token Int({value})"),
-        Some(Token::Symbol(text)) => format!(in alloc; "Unexpected token Symbol(\"{text}\")"),
+        Some(TokenRef::LParen) => String::from_str(alloc, "Unexpected token LParen"),
+        Some(TokenRef::RParen) => String::from_str(alloc, "Unexpected token RParen"),
+        Some(TokenRef::At) => String::from_str(alloc, "Unexpected token At"),
+        Some(TokenRef::Int(value)) => format!(in alloc; "Unexpected token Int({value})"),
+        Some(TokenRef::Symbol(text)) => format!(in alloc; "Unexpected token Symbol(\"{text}\")"),
     }
 }
 

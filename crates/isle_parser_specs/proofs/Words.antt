@@ -1,5 +1,4 @@
 pub mod Texts
-pub mod Cuts
 pub mod BitVectors
 pub mod Marks
 pub mod Operators

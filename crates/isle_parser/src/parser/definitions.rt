@@ -35,8 +35,8 @@ fn parse_keyword_form(cursor: &mut Cursor, alloc: Global) -> Result<Def, Stop>
     ensures gives { Gives definition_of (keyword_form (tokens cursor.old)) result cursor.new }
 {
     let place = cursor.place();
-    let word = cursor.expect_symbol(alloc)?;
-    parse_behind(cursor, alloc, place, &word)
+    let word = cursor.expect_word(alloc)?;
+    parse_behind(cursor, alloc, place, word)
 }
 
 /// What stands behind this keyword, which stood at this place.

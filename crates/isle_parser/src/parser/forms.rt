@@ -105,8 +105,8 @@ fn parse_tag(cursor: &mut Cursor, alloc: Global) -> Result<Ident, Stop>
 {
     cursor.expect_lparen(alloc)?;
     let place = cursor.place();
-    let word = cursor.expect_symbol(alloc)?;
-    if word.as_str() != "tag" {
+    let word = cursor.expect_word(alloc)?;
+    if word != "tag" {
         return Err(cursor.refuse_at(
             place,
             format!(in alloc; "Not a valid instantiate attribute: {word}"),

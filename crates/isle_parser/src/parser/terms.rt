@@ -117,8 +117,8 @@ fn parse_attr_kind_inside(cursor: &mut Cursor, alloc: Global) -> Result<AttrKind
     ensures gives { Gives kind_of (kind_inside (tokens cursor.old)) result cursor.new }
 {
     let place = cursor.place();
-    let word = cursor.expect_symbol(alloc)?;
-    match word.as_str() {
+    let word = cursor.expect_word(alloc)?;
+    match word {
         "veri" => parse_attr_kind_veri(cursor, alloc),
         "tag" => Ok(AttrKind::Tag(cursor.parse_ident(alloc)?)),
         _ => Err(cursor.refuse_at(place, format!(in alloc; "Not a valid attribute: {word}"))),
@@ -131,8 +131,8 @@ fn parse_attr_kind_veri(cursor: &mut Cursor, alloc: Global) -> Result<AttrKind, 
     ensures gives { Gives kind_of (veri_kind (tokens cursor.old)) result cursor.new }
 {
     let place = cursor.place();
-    let word = cursor.expect_symbol(alloc)?;
-    match word.as_str() {
+    let word = cursor.expect_word(alloc)?;
+    match word {
         "chain" => Ok(AttrKind::Chain),
         "priority" => Ok(AttrKind::Priority),
         _ => Err(cursor.refuse_at(

@@ -33,9 +33,9 @@ impl<'src> Cursor<'src> {
     {
         let place = self.place();
         let pos = self.pos();
-        let text = self.expect_symbol(alloc)?;
-        self.check_identifier(alloc, place, &text)?;
-        Ok(Ident(text, pos))
+        let text = self.expect_word(alloc)?;
+        self.check_identifier(alloc, place, text)?;
+        Ok(Ident(String::from_str(alloc, text)?, pos))
     }
 
     /// An identifier where a symbol is ahead. A symbol that isn't one is refused at this place, as
@@ -55,11 +55,11 @@ impl<'src> Cursor<'src> {
             return Ok(None);
         }
         let pos = self.pos();
-        let text = self.expect_symbol(alloc)?;
-        if is_identifier(&text) {
-            return Ok(Some(Ident(text, pos)));
+        let text = self.expect_word(alloc)?;
+        if is_identifier(text) {
+            return Ok(Some(Ident(String::from_str(alloc, text)?, pos)));
         }
-        let message = identifier_message(alloc, &text)?;
+        let message = identifier_message(alloc, text)?;
         Err(self.refuse_at(place, format!(in alloc; "Invalid {what}: {message}")))
     }
 

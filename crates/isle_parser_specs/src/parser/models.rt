@@ -16,7 +16,8 @@ ghost use Rattle.isle_parser_specs.specs.StructParts.{field_with, model_front};
 
 use isle_ast_names::ast::Ident;
 use isle_ast_specs::ast::{ModelField, ModelType};
-use isle_base::lexer::{Pos, Token};
+use isle_base::lexer::Pos;
+use isle_base::scanner::TokenRef;
 use isle_parser_cursor::cursor::{Cursor, Stop};
 use std::alloc::Global;
 
@@ -72,7 +73,7 @@ fn model_ahead(cursor: &Cursor) -> Option<ModelType>
     ensures { option_map type_model_of result ≡ model_ahead (tokens cursor.now) }
 {
     match cursor.ahead() {
-        Some(Token::Symbol(text)) => match text.as_str() {
+        Some(TokenRef::Symbol(text)) => match *text {
             "!" => Some(ModelType::Unspecified),
             "_" => Some(ModelType::Auto),
             "Bool" => Some(ModelType::Bool),

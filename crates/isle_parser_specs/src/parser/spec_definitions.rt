@@ -101,8 +101,8 @@ fn parse_clause(cursor: &mut Cursor, alloc: Global, place: Pos) -> Result<Clause
     ensures gives { Gives clause_of (clause (tokens cursor.old)) result cursor.new }
 {
     cursor.expect_lparen(alloc)?;
-    let word = cursor.expect_symbol(alloc)?;
-    let clause = parse_behind_clause_word(cursor, alloc, place, &word)?;
+    let word = cursor.expect_word(alloc)?;
+    let clause = parse_behind_clause_word(cursor, alloc, place, word)?;
     cursor.close(alloc, clause)
 }
 

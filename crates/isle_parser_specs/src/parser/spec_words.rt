@@ -60,7 +60,7 @@ pub(super) fn parse_spec_head(cursor: &mut Cursor, alloc: Global, start: Pos) ->
         return Err(unexpected_spec(cursor, alloc, start));
     }
     let place = cursor.place();
-    let word = cursor.expect_symbol(alloc)?;
+    let word = cursor.expect_word(alloc)?;
     spec_head(cursor, alloc, start, place, word)
 }
 
@@ -71,11 +71,11 @@ fn spec_head(
     alloc: Global,
     start: Pos,
     place: Pos,
-    word: String,
+    word: &str,
 ) -> Result<Head, Stop>
     requires start { IsPlace (source cursor.now) start }
     requires place { IsPlace (source cursor.now) place }
-    ensures { Finds head_view (head_of (string_bytes word)) (source cursor.now) result }
+    ensures { Finds head_view (head_of word.now) (source cursor.now) result }
 {
     match head_word(word, alloc)? {
         Some(head) => {
@@ -126,7 +126,7 @@ pub(super) fn parse_spec_word(cursor: &mut Cursor, alloc: Global) -> Result<Spec
 {
     let place = cursor.place();
     let pos = cursor.pos();
-    let word = cursor.expect_symbol(alloc)?;
+    let word = cursor.expect_word(alloc)?;
     spec_word(cursor, alloc, place, pos, word)
 }
 
@@ -137,12 +137,12 @@ fn spec_word(
     alloc: Global,
     place: Pos,
     pos: Pos,
-    word: String,
+    word: &str,
 ) -> Result<SpecExpr, Stop>
     requires { IsPlace (source cursor.now) place }
-    ensures { Finds spec_of (word_of pos (string_bytes word)) (source cursor.now) result }
+    ensures { Finds spec_of (word_of pos word.now) (source cursor.now) result }
 {
-    match binary_digits(&word) {
+    match binary_digits(word) {
         Some(digits) => match bit_vector_of(digits, 2, 1) {
             Some((val, width)) => Ok(SpecExpr::ConstBitVec { val, width, pos }),
             None => Err(cursor.refuse_at(
@@ -161,14 +161,14 @@ fn hexadecimal_or_plain(
     alloc: Global,
     place: Pos,
     pos: Pos,
-    word: String,
+    word: &str,
 ) -> Result<SpecExpr, Stop>
     requires { IsPlace (source cursor.now) place }
     ensures { Finds spec_of
-        (hexadecimal_or_plain pos (string_bytes word)
-        (behind_mark (codes "#x") (string_bytes word))) (source cursor.now) result }
+        (hexadecimal_or_plain pos word.now (behind_mark (codes "#x") word.now))
+        (source cursor.now) result }
 {
-    match hexadecimal_digits(&word) {
+    match hexadecimal_digits(word) {
         Some(digits) => match bit_vector_of(digits, 16, 4) {
             Some((val, width)) => Ok(SpecExpr::ConstBitVec { val, width, pos }),
             None => Err(cursor.refuse_at(
@@ -187,29 +187,29 @@ fn plain_word(
     alloc: Global,
     place: Pos,
     pos: Pos,
-    word: String,
+    word: &str,
 ) -> Result<SpecExpr, Stop>
     requires { IsPlace (source cursor.now) place }
-    ensures { Finds spec_of (plain_word pos (string_bytes word)) (source cursor.now) result }
+    ensures { Finds spec_of (plain_word pos word.now) (source cursor.now) result }
 {
-    match word.as_str() {
+    match word {
         "true" => Ok(SpecExpr::ConstBool { val: true, pos }),
         "false" => Ok(SpecExpr::ConstBool { val: false, pos }),
         _ => {
-            cursor.check_identifier(alloc, place, &word)?;
-            let var = Ident(word, pos);
+            cursor.check_identifier(alloc, place, word)?;
+            let var = Ident(String::from_str(alloc, word)?, pos);
             Ok(SpecExpr::Var { var, pos })
         }
     }
 }
 
 /// The head that this word is, whatever the names in it are: the first of these. A bit vector is
-/// none. A name is in the memory of the word.
+/// none.
 #[tactic(auto, unfolding(crate::specs::SpecWords::head_word, crate::specs::SpecWords::keyword_head))]
-fn head_word(word: String, alloc: Global) -> Result<Option<Head>, AllocError>
-    ensures { IfOk result (λ head. option_map head_view head ≡ head_word (string_bytes word)) }
+fn head_word(word: &str, alloc: Global) -> Result<Option<Head>, AllocError>
+    ensures { IfOk result (λ head. option_map head_view head ≡ head_word word.now) }
 {
-    match word.as_str() {
+    match word {
         "switch" => Ok(Some(Head::Switch)),
         "let" => Ok(Some(Head::Let)),
         "with" => Ok(Some(Head::With)),
@@ -223,73 +223,59 @@ fn head_word(word: String, alloc: Global) -> Result<Option<Head>, AllocError>
 
 /// The same of a word that is no keyword.
 #[tactic(auto, unfolding(crate::specs::SpecWords::other_head))]
-fn other_head(word: String, alloc: Global) -> Result<Option<Head>, AllocError>
-    ensures { IfOk result (λ head. option_map head_view head ≡ other_head (string_bytes word)) }
+fn other_head(word: &str, alloc: Global) -> Result<Option<Head>, AllocError>
+    ensures { IfOk result (λ head. option_map head_view head ≡ other_head word.now) }
 {
-    if begins_bit_vector(&word) {
+    if begins_bit_vector(word) {
         return Ok(None);
     }
-    let word = match before_last(word, '?') {
-        Ok(variant) => return Ok(Some(Head::Discriminator(variant))),
-        Err(word) => word,
-    };
-    let word = match before_last(word, '!') {
-        Ok(name) => return Ok(Some(Head::Expansion(name))),
-        Err(word) => word,
-    };
-    if let Some(op) = operator_of(&word) {
+    if let Some(variant) = before_last(word, '?') {
+        return Ok(Some(Head::Discriminator(String::from_str(alloc, variant)?)));
+    }
+    if let Some(name) = before_last(word, '!') {
+        return Ok(Some(Head::Expansion(String::from_str(alloc, name)?)));
+    }
+    if let Some(op) = operator_of(word) {
         return Ok(Some(Head::Operator(op)));
     }
     match behind_colon(word) {
-        Ok(field) => Ok(Some(Head::Field(field))),
-        Err(word) => variant_head(word, alloc),
+        Some(field) => Ok(Some(Head::Field(String::from_str(alloc, field)?))),
+        None => variant_head(word, alloc),
     }
 }
 
-/// The text before this mark, which is its last character, in its memory. A text that ends
-/// otherwise is given back.
-fn before_last(mut word: String, mark: char) -> Result<String, String>
+/// The text before this mark, where that is its last character.
+fn before_last(word: &str, mark: char) -> Option<&str>
     requires { mark < 128 }
-    ensures front { IfOk result (λ front. before_last mark (string_bytes word)
-        ≡ Some (string_bytes front)) }
-    ensures none { IfErr result (λ _. before_last mark (string_bytes word) ≡ None) }
-    ensures same { IfErr result (λ same. same ≡ word) }
+    ensures { option_map (λ front. front.now) result ≡ before_last mark word.now }
 {
-    match word.strip_suffix(mark) {
-        Some(front) => {
-            let len = front.len();
-            word.truncate(len);
-            Ok(word)
-        }
-        None => Err(word),
-    }
+    word.strip_suffix(mark)
 }
 
-/// The text behind a colon, in its memory. A text that begins otherwise is given back.
-fn behind_colon(mut word: String) -> Result<String, String>
-    ensures rest { IfOk result (λ rest. behind_mark (codes ":") (string_bytes word)
-        ≡ Some (string_bytes rest)) }
-    ensures none { IfErr result (λ _. behind_mark (codes ":") (string_bytes word) ≡ None) }
-    ensures same { IfErr result (λ same. same ≡ word) }
+/// The text behind a colon.
+fn behind_colon(word: &str) -> Option<&str>
+    ensures { option_map (λ rest. rest.now) result ≡ behind_mark (codes ":") word.now }
 {
-    if word.starts_with(':') {
-        word.remove(0);
-        return Ok(word);
-    }
-    Err(word)
+    word.strip_prefix(':')
 }
 
-/// The texts before and behind the first dot. The first one is in the memory of the whole text.
-fn variant_head(mut word: String, alloc: Global) -> Result<Option<Head>, AllocError>
+/// The texts before and behind the first dot.
+fn around_dot(word: &str) -> Option<(&str, &str)>
+    ensures { option_map (λ parts. (parts.0.now, parts.1.now)) result ≡ around 46 word.now }
+{
+    word.split_once('.')
+}
+
+/// The variant whose enum stands before the first dot, and its name behind it.
+fn variant_head(word: &str, alloc: Global) -> Result<Option<Head>, AllocError>
     ensures { IfOk result (λ head. option_map head_view head
-        ≡ option_map (λ names. variant_head names.0 names.1) (around 46 (string_bytes word))) }
+        ≡ option_map (λ names. variant_head names.0 names.1) (around 46 word.now)) }
 {
-    match word.split_once('.') {
+    match around_dot(word) {
         Some((name, variant)) => {
-            let len = name.len();
+            let name = String::from_str(alloc, name)?;
             let variant = String::from_str(alloc, variant)?;
-            word.truncate(len);
-            Ok(Some(Head::Variant(word, variant)))
+            Ok(Some(Head::Variant(name, variant)))
         }
         None => Ok(None),
     }

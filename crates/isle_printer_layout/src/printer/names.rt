@@ -16,7 +16,7 @@ use std::alloc::{AllocError, Global};
 pub fn names<'src>(alloc: Global, idents: &'src [Ident]) -> Result<Shape<'src>, AllocError>
     ensures { IfOk result (λ s. s ≡ row_of (name_shapes (names_of idents.now))) }
 {
-    let mut items = Vec::new(alloc);
+    let mut items = Vec::with_capacity(alloc, idents.len())?;
     push_names(&mut items, idents)?;
     Ok(Shape::list(items))
 }
@@ -29,7 +29,7 @@ pub fn headed_names<'src>(
 ) -> Result<Shape<'src>, AllocError>
     ensures { IfOk result (λ s. s ≡ headed_shape (name_of head.now) (names_of idents.now)) }
 {
-    let mut items = Vec::new(alloc);
+    let mut items = Vec::with_capacity(alloc, idents.len() + 1)?;
     push_name(&mut items, head)?;
     push_names(&mut items, idents)?;
     Ok(Shape::list(items))
@@ -43,7 +43,7 @@ pub fn pair<'src>(
 ) -> Result<Shape<'src>, AllocError>
     ensures { IfOk result (λ s. s ≡ row_of (first.entry ∷ second.entry ∷ [])) }
 {
-    let mut items = Vec::new(alloc);
+    let mut items = Vec::with_capacity(alloc, 2)?;
     items.push(first)?;
     items.push(second)?;
     Ok(Shape::list(items))

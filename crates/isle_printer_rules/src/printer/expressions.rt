@@ -19,7 +19,7 @@ pub fn expression<'src>(node: &'src Expr, alloc: Global) -> Result<Shape<'src>, 
 {
     match node {
         Expr::Term { sym, args, pos: _ } => {
-            let mut items = Vec::new(alloc);
+            let mut items = Vec::with_capacity(alloc, args.len() + 1)?;
             push_name(&mut items, sym)?;
             push_expressions(args, &mut items, alloc)?;
             Ok(Shape::list(items))
@@ -60,7 +60,7 @@ fn let_definitions<'src>(nodes: &'src Vec<LetDef>, alloc: Global) -> Result<Shap
     ensures { IfOk result (λ s. s
         ≡ row_of (let_shapes (let_row_of (single_lets_of nodes.now.items)))) }
 {
-    let mut items = Vec::new(alloc);
+    let mut items = Vec::with_capacity(alloc, nodes.len())?;
     for node in nodes {
         items.push(let_definition(node, alloc)?)?;
     }
@@ -72,7 +72,7 @@ fn let_definitions<'src>(nodes: &'src Vec<LetDef>, alloc: Global) -> Result<Shap
 pub fn let_definition<'src>(node: &'src LetDef, alloc: Global) -> Result<Shape<'src>, AllocError>
     ensures { IfOk result (λ s. s ≡ let_shape (single_let_of node.now)) }
 {
-    let mut items = Vec::new(alloc);
+    let mut items = Vec::with_capacity(alloc, 3)?;
     push_name(&mut items, &node.var)?;
     push_name(&mut items, &node.ty)?;
     items.push(expression(&node.val, alloc)?)?;

@@ -31,7 +31,7 @@ pub fn pattern<'src>(node: &'src Pattern, alloc: Global) -> Result<Shape<'src>, 
         Pattern::ConstInt { val, pos: _ } => integer(alloc, *val),
         Pattern::ConstPrim { val, pos: _ } => constant(alloc, val),
         Pattern::Term { sym, args, pos: _ } => {
-            let mut items = Vec::new(alloc);
+            let mut items = Vec::with_capacity(alloc, args.len() + 1)?;
             push_name(&mut items, sym)?;
             push_patterns(args, &mut items, alloc)?;
             Ok(Shape::list(items))
@@ -78,7 +78,7 @@ fn push_pattern<'src>(
 {
     match node {
         Pattern::Term { sym, args, pos: _ } => {
-            let mut inner = Vec::new(alloc);
+            let mut inner = Vec::with_capacity(alloc, args.len() + 1)?;
             push_name(&mut inner, sym)?;
             push_patterns(args, &mut inner, alloc)?;
             push_list(items, inner)

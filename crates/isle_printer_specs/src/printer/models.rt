@@ -76,7 +76,7 @@ fn push_field<'src>(
     ensures { OnOk result (items.new.items
         ≡ items.old.items ++ model_field_shape (single_model_field_of field.now) ∷ []) }
 {
-    let mut pair = Vec::new(alloc);
+    let mut pair = Vec::with_capacity(alloc, 2)?;
     push_name(&mut pair, &field.name)?;
     push_model(&field.ty, &mut pair, alloc)?;
     push_list(items, pair)

@@ -231,7 +231,7 @@ pub fn specs_behind<'src>(
     ensures { IfOk result (λ s. s
         ≡ row_of (head.entry ∷ spec_shapes (spec_row_of (specs_of nodes.now.items)))) }
 {
-    let mut items = Vec::new(alloc);
+    let mut items = Vec::with_capacity(alloc, nodes.len() + 1)?;
     items.push(head)?;
     for node in nodes {
         items.push(spec(node, alloc)?)?;
@@ -275,7 +275,7 @@ fn spec_lets<'src>(
     ensures { IfOk result (λ s. s
         ≡ row_of (spec_let_shapes (spec_let_row_of (single_spec_lets_of nodes.now.items)))) }
 {
-    let mut items = Vec::new(alloc);
+    let mut items = Vec::with_capacity(alloc, nodes.len())?;
     for node in nodes {
         let value = spec(&node.1, alloc)?;
         items.push(pair(alloc, name(&node.0), value)?)?;

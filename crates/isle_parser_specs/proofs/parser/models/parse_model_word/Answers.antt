@@ -1,7 +1,7 @@
 use Rattle.std.proofs.Common.{sym}
 use Rattle.std.proofs.lemmas.Result.{err_from_is_err_and}
 use Rattle.isle_ast_specs.specs.TreeView.{type_model_of}
-use Rattle.isle_base.specs.TokenView.{token_of}
+use Rattle.isle_base.specs.TokenView.{token_of_ref}
 use Rattle.isle_parser_cursor.specs.Outcomes.{source, tokens}
 use Rattle.isle_parser_specs.specs.ModelReaders.{model_word}
 use Rattle.isle_parser_cursor.proofs.Ahead.{stopped}
@@ -15,7 +15,7 @@ returns-in_err-take-in-Some-clause-gives c =
 
 pub returns-in_ok-take-in-Some-clause-gives : goal.returns-in_ok-take-in-Some-clause-gives
 returns-in_ok-take-in-Some-clause-gives c =
-    word_taken (tokens c.args.cursor.now) (tokens c.take.new.self) (type_model_of c.in-Some.ty) (token_of c.in_ok-take-in-Some.field-0) (sym c.in-Some.ensures) c.in_ok-take-in-Some.ensures.gives
+    word_taken (tokens c.args.cursor.now) (tokens c.take.new.self) (type_model_of c.in-Some.ty) (token_of_ref c.in_ok-take-in-Some.field-0) (sym c.in-Some.ensures) c.in_ok-take-in-Some.ensures.gives
 
 pub returns-in-None-clause-gives : goal.returns-in-None-clause-gives
 returns-in-None-clause-gives c =
