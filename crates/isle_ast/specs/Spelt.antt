@@ -1,6 +1,6 @@
 -- Which definitions a text spells.
 use Rattle.std.specs.Prelude.{◌≡◌, ℕ, List}
-use Rattle.isle_base.specs.declared.lexer.Pos.{Pos}
+use Rattle.isle_base_errors.specs.declared.pos.Pos.{Pos}
 use Rattle.isle_base.specs.EarlierLexing.{earlier_lexes}
 use Rattle.isle_base.specs.Lexing.{lexes}
 use Rattle.isle_base.specs.Token.{Feed, Lexeme, end}

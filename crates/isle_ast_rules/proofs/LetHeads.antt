@@ -2,7 +2,7 @@
 use Rattle.std.proofs.Common.{◌≡◌, ◌++◌, rules, Global}
 use Rattle.std.specs.declared.vec.Vec.{Vec}
 use Rattle.std.specs.declared.boxed.Box.{Box}
-use Rattle.isle_base.specs.declared.lexer.Pos.{Pos}
+use Rattle.isle_base_errors.specs.declared.pos.Pos.{Pos}
 use Rattle.isle_ast_rules.specs.declared.ast.Expr.{Expr, the_lemmas}
 use Rattle.isle_ast_rules.specs.declared.ast.Expr.TheVariants.{Let}
 use Rattle.isle_ast_rules.specs.declared.ast.LetDef.{LetDef}

@@ -1,6 +1,6 @@
 -- Patterns, expressions and rules as pure values. The fields are those of the types of the code.
 use Rattle.std.specs.Prelude.{ℕ, ℤ, List, Bool, Option}
-use Rattle.isle_base.specs.declared.lexer.Pos.{Pos}
+use Rattle.isle_base_errors.specs.declared.pos.Pos.{Pos}
 use Rattle.isle_ast_names.specs.Tree.{Name}
 
 -- what a rule, a condition or an extractor matches

@@ -1,6 +1,6 @@
 -- The patterns, expressions and rules of the code, as pure values.
 use Rattle.std.specs.Prelude.{[], List, ◌∷◌, map}
-use Rattle.isle_base.specs.declared.lexer.Pos.{Pos}
+use Rattle.isle_base_errors.specs.declared.pos.Pos.{Pos}
 use Rattle.isle_ast_names.specs.Tree.{Name}
 use Rattle.isle_ast_rules.specs.Tree.{PatternNode, var_pattern, bind_pattern, bool_pattern, int_pattern, constant_pattern, term_pattern, wildcard_pattern, and_pattern, macro_arg_pattern, PatternRow, no_pattern, more_pattern, Expression, term_expression, var_expression, bool_expression, int_expression, constant_expression, let_expression, ExpressionRow, no_expression, more_expression, LetRow, no_let, more_let, Condition, RuleDefinition, ExtractorDefinition}
 use Rattle.isle_ast_names.specs.TreeView.{name_of, names_of, optional_name_of}

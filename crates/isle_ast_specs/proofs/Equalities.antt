@@ -6,7 +6,7 @@ use Rattle.std.specs.Option.{option_eq}
 use Rattle.std.specs.Ordering.{int_eq}
 use Rattle.std.specs.String.{string_eq}
 use lib.Pointwise.{pointwise}
-use Rattle.isle_base.specs.declared.lexer.Pos.{Pos}
+use Rattle.isle_base_errors.specs.declared.pos.Pos.{Pos}
 use Rattle.isle_ast_names.specs.declared.ast.Ident.{Ident}
 use Rattle.isle_ast_names.specs.TreeView.{name_of, names_of, optional_name_of}
 

@@ -1,7 +1,7 @@
 -- Which specs are the same when they are erased: they are of one kind, and their parts are the same
 -- when these are erased.
 use Rattle.std.proofs.Common.{◌≡◌, ℕ, ℤ, List, Bool, eqb, false, refl, true≢false}
-use Rattle.isle_base.specs.declared.lexer.Pos.{Pos}
+use Rattle.isle_base_errors.specs.declared.pos.Pos.{Pos}
 use Rattle.isle_base.specs.Place.{unknown}
 use Rattle.isle_ast_specs.specs.declared.ast.specs.SpecOp.{SpecOp}
 use Rattle.isle_ast_names.specs.Erased.{erase_name, erase_names}

@@ -2,7 +2,7 @@
 use Rattle.std.proofs.Common.{◌≡◌, List, [], ◌∷◌, map, refl, ap, ◌∙◌, rules, Global}
 use Rattle.std.specs.declared.vec.Vec.{Vec}
 use Rattle.std.specs.declared.boxed.Box.{Box}
-use Rattle.isle_base.specs.declared.lexer.Pos.{Pos}
+use Rattle.isle_base_errors.specs.declared.pos.Pos.{Pos}
 use Rattle.isle_ast_names.specs.declared.ast.Ident.{Ident}
 use Rattle.isle_ast_specs.specs.declared.ast.specs.SpecExpr.{SpecExpr, the_lemmas}
 use Rattle.isle_ast_specs.specs.declared.ast.specs.SpecExpr.TheVariants.{Let}

@@ -3,7 +3,7 @@
 use Rattle.std.specs.Prelude.{◌≡◌, ℕ, nat_eq, List, [], ◌∷◌, ◌++◌, Bool, true, false, not, ◌⊎◌, codes}
 use Rattle.std.specs.List.{list_all}
 use Rattle.isle_base.specs.Bytes.{exclamation_mark, dot, colon, question_mark}
-use Rattle.isle_base.specs.declared.lexer.Pos.{Pos}
+use Rattle.isle_base_errors.specs.declared.pos.Pos.{Pos}
 use Rattle.isle_base.specs.Place.{Placed}
 use Rattle.isle_base.specs.Token.{symbol}
 use Rattle.isle_ast_specs.specs.declared.ast.specs.SpecOp.{SpecOp}

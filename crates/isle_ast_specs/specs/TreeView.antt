@@ -7,7 +7,7 @@ use Rattle.isle_ast_specs.specs.declared.ast.ModelField.{ModelField}
 use Rattle.isle_ast_names.specs.Tree.{Name}
 use Rattle.isle_ast_specs.specs.Tree.{TypeModel, unspecified_model, auto_model, int_model, bool_model, unit_model, bit_vector_model, struct_model, named_model, ModelFieldRow, no_model_field, model_field, SpecNode, int_spec, bit_vector_spec, bool_spec, var_spec, as_spec, field_spec, discriminator_spec, op_spec, match_spec, let_spec, with_spec, macro_spec, expand_spec, pair_spec, enum_spec, struct_spec, SpecRow, no_spec, more_spec, ArmRow, no_arm, more_arm, SpecLetRow, no_spec_let, more_spec_let, FieldInitRow, no_field_init, more_field_init, ModifiedState, SpecDefinition, SpecMacroDefinition, StateDefinition}
 use Rattle.isle_ast_names.specs.TreeView.{name_of, names_of, optional_name_of}
-use Rattle.isle_base.specs.declared.lexer.Pos.{Pos}
+use Rattle.isle_base_errors.specs.declared.pos.Pos.{Pos}
 use Rattle.isle_ast_names.specs.declared.ast.Ident.{Ident}
 use Rattle.isle_ast_specs.specs.declared.ast.specs.SpecExpr.{SpecExpr}
 use Rattle.isle_ast_specs.specs.declared.ast.specs.SpecExpr.TheOpen.{SpecExpr-F, Arm-F, FieldInit-F}

@@ -1,11 +1,11 @@
 -- When errors can be shown.
 use Rattle.std.proofs.Common.{◌≡◌, ◌+◌, ◌^◌, ◌<◌, true, [], ◌∷◌, arith}
 use Rattle.std.proofs.lemmas.Bool.Decides.{nat_tests}
-use Rattle.isle_base.specs.declared.error.Error.{Error}
-use Rattle.isle_base.specs.declared.error.Error.TheVariants.{ParseError, TypeError, UnreachableError, OverlapError, RecursionError, ShadowedError}
-use Rattle.isle_base.specs.declared.lexer.Pos.{Pos}
-use Rattle.isle_base.specs.Labels.{all_fit}
-use Rattle.isle_base.specs.Source.{Source}
+use Rattle.isle_base_errors.specs.declared.error.Error.{Error}
+use Rattle.isle_base_errors.specs.declared.error.Error.TheVariants.{ParseError, TypeError, UnreachableError, OverlapError, RecursionError, ShadowedError}
+use Rattle.isle_base_errors.specs.declared.pos.Pos.{Pos}
+use Rattle.isle_base_errors.specs.Labels.{all_fit}
+use Rattle.isle_base_errors.specs.Source.{Source}
 use Rattle.isle_base.specs.Steps.{RefusesAt}
 
 -- the refusal of a text can be shown with that text as the only file

@@ -8,12 +8,8 @@ pub mod Utf8
 pub mod Found
 pub mod LabelLemmas
 pub mod LaneLemmas
-pub mod LineLemmas
 pub mod Numbers
 pub mod Places
-pub mod PositionOrders
-pub mod Shown
-pub mod SourceLemmas
 pub mod Stepping
 pub mod Values
 pub mod Earlier

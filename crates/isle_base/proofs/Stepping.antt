@@ -1,8 +1,8 @@
 -- What the calls of a lexer do to what it has still to give.
 use Rattle.std.proofs.Common.{◌≡◌, ℕ, zero, suc, ◌-◌, ◌≤◌, List, [], ◌∷◌, Bool, true, false, Option, Some, None, IfSome, is_some, length, drop, refl, sym, ap, subst, arith, length-drop}
-use Rattle.isle_base.specs.declared.error.Error.{Error}
+use Rattle.isle_base_errors.specs.declared.error.Error.{Error}
 use Rattle.isle_base.specs.declared.scanner.Scanner.TheInside.{Inside}
-use Rattle.isle_base.specs.declared.lexer.Pos.{Pos}
+use Rattle.isle_base_errors.specs.declared.pos.Pos.{Pos}
 use Rattle.isle_base.specs.declared.scanner.TokenRef.{TokenRef}
 use Rattle.isle_base.specs.declared.lexer.read.Found.TheVariants as founds
 use Rattle.isle_base.specs.declared.lexer.read.Reason.{Reason}

@@ -1,11 +1,9 @@
 -- The bytes that the definitions name: codes of characters, each under the name of its character.
 use Rattle.std.specs.Prelude.{ℕ}
+pub use Rattle.isle_base_errors.specs.Bytes.{line_feed}
 
 abbrev pub tab : ℕ
 tab = 9
-
-abbrev pub line_feed : ℕ
-line_feed = 10
 
 abbrev pub form_feed : ℕ
 form_feed = 12

@@ -1,11 +1,11 @@
 -- What the calls of a lexer answer, by what it has still to give. A lexer is failed where no token is
 -- to come and a fault is: its text was refused by an earlier call.
 use Rattle.std.specs.Prelude.{◌≡◌, ◌≤◌, ◌<◌, ◌^◌, ℕ, ◌+◌, Bool, true, false, List, [], ◌∷◌, Option, Some, None}
-use Rattle.isle_base.specs.declared.error.Error.{Error}
-use Rattle.isle_base.specs.declared.error.Error.TheVariants.{ParseError}
+use Rattle.isle_base_errors.specs.declared.error.Error.{Error}
+use Rattle.isle_base_errors.specs.declared.error.Error.TheVariants.{ParseError}
 use Rattle.isle_base.specs.declared.lexer.Fault.{Fault}
 use Rattle.isle_base.specs.declared.lexer.Fault.TheVariants as faults
-use Rattle.isle_base.specs.declared.lexer.Pos.{Pos}
+use Rattle.isle_base_errors.specs.declared.pos.Pos.{Pos}
 use Rattle.isle_base.specs.declared.lexer.Token.{Token}
 use Rattle.isle_base.specs.declared.scanner.TokenRef.{TokenRef}
 use Rattle.isle_base.specs.Lexing.{lexes}

@@ -1,8 +1,8 @@
 //! Lexer for the ISLE language.
 
-ghost use Rattle.std.specs.Prelude.{◌≡◌, ◌≢◌, ◌↔◌, Err, IfErr, IfOk, IfSome, IsTrue, None, Ok};
+ghost use Rattle.std.specs.Prelude.{◌≡◌, ◌≢◌, Err, IfErr, IfOk, IfSome, None, Ok};
 ghost use Rattle.std.specs.Prelude.{Some, false, length, option_map, true};
-ghost use Rattle.isle_base.specs.Diagnostic.{fault_text};
+ghost use Rattle.isle_base.specs.FaultText.{fault_text};
 ghost use Rattle.isle_base.specs.Lexing.{lexes};
 ghost use Rattle.isle_base.specs.Steps.{IfError, IsWithin, Refuses, RefusesStart, Rises, Takes};
 ghost use Rattle.isle_base.specs.Steps.{current_pos, is_at_end, is_failed, lookahead, placed_of};
@@ -18,10 +18,10 @@ pub(crate) mod literal;
 pub(crate) mod read;
 pub(crate) mod scan;
 
-use crate::error::Error;
-use crate::error::show::write_message;
-use crate::files::Files;
 use crate::scanner::{Scanner, TokenRef};
+use isle_base_errors::error::Error;
+use isle_base_errors::messages::write_message;
+pub use isle_base_errors::pos::Pos;
 pub use lanes::{blank_end, line_comment_end, symbol_end};
 use std::alloc::{AllocError, AllocFailed, Global};
 use std::fmt;
@@ -80,54 +80,6 @@ impl<T: Drop> From<AllocFailed<T>> for Fault {
 
     fn from(_error: AllocFailed<T>) -> Fault {
         Fault::Memory
-    }
-}
-
-/// A source position.
-///
-/// The default position, file 0 at offset 0, stands for an unknown place. Positions are ordered by
-/// file, then by offset.
-#[derive(Clone, Copy, Debug, Default, PartialEq, Eq, PartialOrd, Ord, Hash)]
-pub struct Pos {
-    /// The number of the file, from 0.
-    pub file: usize,
-    /// The byte offset in the file, from 0.
-    pub offset: usize,
-}
-
-impl Pos {
-    ghost use Rattle.std.specs.Prelude.{◌<◌, IfOk, length, string_bytes};
-    ghost use Rattle.isle_base.specs.PrettyLine.{pretty_line};
-    ghost use Rattle.isle_base.specs.Source.{source_at};
-
-    /// Makes the position of a byte offset in a file.
-    pub fn new(file: usize, offset: usize) -> Self
-        ensures file { result.file ≡ file }
-        ensures offset { result.offset ≡ offset }
-    {
-        Self { file, offset }
-    }
-
-    /// Tells whether this is the default position, which stands for an unknown place.
-    pub fn is_unknown(&self) -> bool
-        ensures { IsTrue result ↔ (self.now ≡ record { file = 0; offset = 0 }) }
-    {
-        *self == Self::default()
-    }
-
-    /// Gives the position as text: the file's name, the word `line` and the line, which is
-    /// counted from 0 here.
-    ///
-    /// It asks that the file is known; `Files::file_name` is the test. It refuses only where
-    /// memory runs out.
-    pub fn pretty_print_line(&self, alloc: Global, files: &Files) -> Result<String, AllocError>
-        requires { self.now.file < length files.now }
-        ensures { IfOk result (λ text. string_bytes text
-            ≡ pretty_line (source_at files.now self.now.file) self.now.offset) }
-    {
-        let name = files.file_name(self.file).unwrap();
-        let line = files.file_line_map(self.file).unwrap().line(self.offset);
-        format!(in alloc; "{name} line {line}")
     }
 }
 

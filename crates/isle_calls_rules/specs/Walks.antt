@@ -1,7 +1,7 @@
 -- What is gathered of the terms of a tree.
 use Rattle.std.specs.Prelude.{ℕ, List, [], ◌∷◌, Bool, Option, None, Some}
 use Rattle.std.specs.Str.{bytes_eq}
-use Rattle.isle_base.specs.declared.lexer.Pos.{Pos}
+use Rattle.isle_base_errors.specs.declared.pos.Pos.{Pos}
 use Rattle.isle_ast_names.specs.Tree.{Name}
 
 -- the position of the last term, if there is one

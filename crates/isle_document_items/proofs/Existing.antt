@@ -1,7 +1,7 @@
 -- A text whose parentheses match, up to its end, has a document.
 use Rattle.std.proofs.Common.{◌≡◌, ℕ, List, [], ◌∷◌, ◌++◌, true, false, is_some, refl, sym, ap, subst, ◌∙◌, eqb, append_assoc}
 use Rattle.std.proofs.lemmas.Bool.{cond_both, eqb-true}
-use Rattle.isle_base.specs.declared.lexer.Pos.{Pos}
+use Rattle.isle_base_errors.specs.declared.pos.Pos.{Pos}
 use Rattle.isle_base.specs.Lexing.{Lexes, lexes}
 use Rattle.isle_base.specs.Literals.{behind_minus, behind_prefix, prefix_radix}
 use Rattle.isle_base.specs.Pieces.{Piece}

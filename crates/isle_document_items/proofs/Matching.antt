@@ -1,6 +1,6 @@
 -- The tokens of a text with a document: their parentheses match.
 use Rattle.std.proofs.Common.{◌≡◌, ℕ, ◌-◌, List, [], ◌∷◌, ◌++◌, ◌||◌, true, false, length, refl, sym, ap, subst, ◌∙◌, append_assoc, append-nil}
-use Rattle.isle_base.specs.declared.lexer.Pos.{Pos}
+use Rattle.isle_base_errors.specs.declared.pos.Pos.{Pos}
 use Rattle.isle_base.specs.Lexing.{Lexes, lexes}
 use Rattle.isle_base.specs.Pieces.{Piece}
 use Rattle.isle_base.specs.Place.{Placed, placed}

@@ -1,7 +1,7 @@
 //! Laws of documents, which run no code.
 
 ghost use Rattle.std.specs.Prelude.{◌≡◌, ℕ, List, []};
-ghost use Rattle.isle_base.specs.declared.lexer.Pos.{Pos};
+ghost use Rattle.isle_base_errors.specs.declared.pos.Pos.{Pos};
 ghost use Rattle.isle_base.specs.Lexing.{lexes};
 ghost use Rattle.isle_base.specs.Place.{placed};
 ghost use Rattle.isle_base.specs.Token.{Lexeme, end};

@@ -1,10 +1,10 @@
 -- What is said of a text, put together from what its parts promise.
 use Rattle.std.proofs.Common.{◌≡◌, ◌⊎◌, inl, inr, ℕ, ◌+◌, ◌-◌, ◌^◌, List, [], ◌∷◌, Result, Ok, Err, IfOk, codes, refl, subst, ap, ◌∙◌}
 use Rattle.std.specs.Prelude.{min}
-use Rattle.isle_base.specs.declared.error.Error.{Error}
-use Rattle.isle_base.specs.declared.error.Span.{Span}
-use Rattle.isle_base.specs.declared.lexer.Pos.{Pos}
-use Rattle.isle_base.specs.Diagnostic.{report_text}
+use Rattle.isle_base_errors.specs.declared.error.Error.{Error}
+use Rattle.isle_base_errors.specs.declared.error.Span.{Span}
+use Rattle.isle_base_errors.specs.declared.pos.Pos.{Pos}
+use Rattle.isle_base_errors.specs.Diagnostic.{report_text}
 use Rattle.isle_program.specs.Diagnostics.{only_file}
 use Rattle.isle_base.specs.Place.{in_file, nowhere, placed}
 use Rattle.isle_ast_rules.specs.Tree.{RuleDefinition}

@@ -1,9 +1,9 @@
 -- What the program writes of a text: the print of its expansion, or why there is none.
 use Rattle.std.specs.Prelude.{◌≡◌, ◌⊎◌, ℕ, ◌+◌, ◌-◌, ◌^◌, min, List, codes, string_bytes}
 use Rattle.isle_base.specs.Place.{in_file, nowhere}
-use Rattle.isle_base.specs.declared.error.Error.{Error}
-use Rattle.isle_base.specs.declared.error.Error.TheVariants.{TypeError}
-use Rattle.isle_base.specs.declared.lexer.Pos.{Pos}
+use Rattle.isle_base_errors.specs.declared.error.Error.{Error}
+use Rattle.isle_base_errors.specs.declared.error.Error.TheVariants.{TypeError}
+use Rattle.isle_base_errors.specs.declared.pos.Pos.{Pos}
 use Rattle.isle_ast_rules.specs.Tree.{RuleDefinition}
 use Rattle.isle_ast.specs.Erased.{erase}
 use Rattle.isle_ast.specs.Spelt.{IsSpelt}

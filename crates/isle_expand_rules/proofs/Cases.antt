@@ -1,6 +1,6 @@
 -- What a term expands to, by whether its symbol means a macro.
 use Rattle.std.proofs.Common.{◌≡◌, ◌==◌, ◌↔◌, ℕ, zero, suc, List, [], ◌∷◌, length, map, Bool, true, false, Option, None, Some, option_map, option_and_then, if◌then◌else◌, refl, ap, sym, subst, ◌∙◌, bytes_eq, eqb-true, eq-eqb}
-use Rattle.isle_base.specs.declared.lexer.Pos.{Pos}
+use Rattle.isle_base_errors.specs.declared.pos.Pos.{Pos}
 use Rattle.isle_ast_names.specs.Tree.{Name}
 use Rattle.isle_ast_rules.specs.Tree.{PatternNode, PatternRow, term_pattern}
 use Rattle.isle_ast_rules.specs.Templates.{plug}

@@ -1,7 +1,7 @@
 -- Rows, conditions and definitions that are expanded one after another.
 use Rattle.std.proofs.Common.{◌≡◌, ℕ, ◌+◌, ◌<◌, ◌≤◌, List, [], ◌∷◌, ◌++◌, length, get_or, drop, Option, None, Some, refl, ap, sym, ◌∙◌, append_assoc}
 use Rattle.std.proofs.lemmas.List.{drop_all, drop_more, map-append}
-use Rattle.isle_base.specs.declared.lexer.Pos.{Pos}
+use Rattle.isle_base_errors.specs.declared.pos.Pos.{Pos}
 use Rattle.isle_ast_names.specs.Tree.{Name}
 use Rattle.isle_ast_rules.specs.Tree.{PatternNode, PatternRow, term_pattern}
 use Rattle.isle_ast_rules.specs.declared.ast.Pattern.{Pattern}

@@ -1,6 +1,6 @@
 -- What a term expands to, by whether its symbol means a macro.
 use Rattle.std.specs.Prelude.{◌≡◌, ℕ, List, Some, length}
-use Rattle.isle_base.specs.declared.lexer.Pos.{Pos}
+use Rattle.isle_base_errors.specs.declared.pos.Pos.{Pos}
 use Rattle.isle_ast_names.specs.Tree.{Name}
 use Rattle.isle_ast_rules.specs.Tree.{PatternNode, term_pattern, PatternRow}
 use Rattle.isle_ast_rules.specs.Templates.{plug}

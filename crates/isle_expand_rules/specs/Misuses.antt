@@ -1,6 +1,6 @@
 -- Where a misuse stands, and what is said of it.
 use Rattle.std.specs.Prelude.{ℕ, List, ◌++◌, codes, decimal, string_bytes}
-use Rattle.isle_base.specs.declared.lexer.Pos.{Pos}
+use Rattle.isle_base_errors.specs.declared.pos.Pos.{Pos}
 use Rattle.isle_expand_rules.specs.declared.misuse.Misuse.{Misuse}
 use Rattle.isle_expand_rules.specs.declared.misuse.Misuse.TheVariants as misuses
 

@@ -1,7 +1,7 @@
 //! Laws of expansions, for all definitions, which run no code.
 
 ghost use Rattle.std.specs.Prelude.{◌≡◌, ◌↔◌, List, None, Some};
-ghost use Rattle.isle_base.specs.declared.lexer.Pos.{Pos};
+ghost use Rattle.isle_base_errors.specs.declared.pos.Pos.{Pos};
 ghost use Rattle.isle_ast_names.specs.Tree.{Name};
 ghost use Rattle.isle_ast.specs.Tree.{Definition};
 ghost use Rattle.isle_ast_rules.specs.Tree.{PatternNode, PatternRow, term_pattern};

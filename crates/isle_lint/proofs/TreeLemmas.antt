@@ -3,7 +3,7 @@ use Rattle.std.proofs.Common.{◌≡◌, ℕ, length, List, [], ◌∷◌, map, 
 use Rattle.std.proofs.lemmas.List.{length-map}
 use Rattle.std.proofs.lemmas.List.Sorted.{length_permutation}
 use Rattle.std.specs.List.Sorted.{IsPermutation}
-use Rattle.isle_base.specs.declared.error.Error.{Error}
+use Rattle.isle_base_errors.specs.declared.error.Error.{Error}
 use Rattle.isle_base.specs.declared.lexer.Fault.{Fault}
 use Rattle.isle_base.specs.Lexing.{lexes}
 use Rattle.isle_base.specs.Place.{in_file, placed}

@@ -2,7 +2,7 @@
 use Rattle.std.specs.Prelude.{◌≡◌, ◌≢◌, ℕ, List, [], map}
 use Rattle.std.specs.List.Sorted.{IsPermutation, IsSortedByKey}
 use Rattle.isle_base.specs.Place.{in_file}
-use Rattle.isle_base.specs.PositionOrder.{position_cmp}
+use Rattle.isle_base_errors.specs.PositionOrder.{position_cmp}
 use Rattle.isle_ast.specs.Spelt.{IsSpelt}
 use Rattle.isle_ast.specs.Tree.{Definition}
 use Rattle.isle_lint_rules.specs.declared.finding.Finding.{Finding}

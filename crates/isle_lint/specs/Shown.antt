@@ -1,9 +1,9 @@
 -- The text that shows findings: an error for each, in the file `<stdin>`.
 use Rattle.std.specs.Prelude.{ℕ, ◌+◌, ◌-◌, ◌^◌, min, List, [], ◌∷◌, ◌++◌, length, codes}
 use Rattle.std.specs.List.{flat_map}
-use Rattle.isle_base.specs.Diagnostic.{found_text, label_text}
-use Rattle.isle_base.specs.declared.error.Span.{Span}
-use Rattle.isle_base.specs.Source.{Source}
+use Rattle.isle_base_errors.specs.Diagnostic.{found_text, label_text}
+use Rattle.isle_base_errors.specs.declared.error.Span.{Span}
+use Rattle.isle_base_errors.specs.Source.{Source}
 use Rattle.isle_program.specs.Diagnostics.{only_file}
 use Rattle.isle_lint_rules.specs.Finding.{Found, before}
 

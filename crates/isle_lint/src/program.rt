@@ -5,9 +5,9 @@ ghost use Rattle.std.specs.Prelude.{IfOk, IfErr, MatchOption, OnOk, List, Err, c
 ghost use Rattle.std.specs.Io.KnownBytes.{Keeps};
 ghost use Rattle.std.specs.List.{flat_map};
 ghost use Rattle.isle_ast.specs.TreeView.{definitions_of};
-ghost use Rattle.isle_base.specs.Diagnostic.{error_text};
-ghost use Rattle.isle_base.specs.Labels.{all_fit, error_fits};
-ghost use Rattle.isle_base.specs.Source.{Source};
+ghost use Rattle.isle_base_errors.specs.Diagnostic.{error_text};
+ghost use Rattle.isle_base_errors.specs.Labels.{all_fit, error_fits};
+ghost use Rattle.isle_base_errors.specs.Source.{Source};
 ghost use Rattle.isle_base.specs.Steps.{IfError};
 ghost use Rattle.isle_base.specs.declared.lexer.Fault.TheVariants.{Failed};
 ghost use Rattle.isle_parser_cursor.specs.Outcomes.{RefusesIn};

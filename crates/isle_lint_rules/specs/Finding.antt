@@ -3,8 +3,8 @@ use Rattle.std.specs.Prelude.{ℕ, List, map, codes}
 use Rattle.std.specs.Cmp.Lexicographic.{slice_cmp}
 use Rattle.std.specs.Ordering.{nat_cmp, on, then_cmp}
 use Rattle.std.specs.declared.cmp.Ordering.{Ordering}
-use Rattle.isle_base.specs.PositionOrder.{position_cmp}
-use Rattle.isle_base.specs.declared.lexer.Pos.{Pos}
+use Rattle.isle_base_errors.specs.PositionOrder.{position_cmp}
+use Rattle.isle_base_errors.specs.declared.pos.Pos.{Pos}
 use Rattle.isle_ast_names.specs.Tree.{Name}
 use Rattle.isle_lint_rules.specs.declared.finding.Kind.{Kind}
 use Rattle.isle_lint_rules.specs.declared.finding.Kind.TheVariants as kinds

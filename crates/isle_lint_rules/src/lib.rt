@@ -8,7 +8,7 @@
 
 ghost use Rattle.std.specs.Prelude.{◌≡◌, ◌++◌, IfOk, OnOk, map};
 ghost use Rattle.std.specs.List.Sorted.{IsPermutation, IsSortedByKey};
-ghost use Rattle.isle_base.specs.PositionOrder.{position_cmp};
+ghost use Rattle.isle_base_errors.specs.PositionOrder.{position_cmp};
 ghost use Rattle.isle_ast.specs.TreeView.{definitions_of};
 ghost use Rattle.isle_lint_rules.specs.Finding.{finding_cmp, finding_of};
 ghost use Rattle.isle_lint_rules.specs.Findings.{findings_in, repeated_in};

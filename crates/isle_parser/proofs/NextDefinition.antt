@@ -4,10 +4,10 @@ use Rattle.isle_ast.specs.Grammar.{SpellsDefinition}
 use Rattle.isle_ast.specs.MacroArgs.{definition_has_macro_arg}
 use Rattle.isle_ast.specs.Tree.{Definition}
 use Rattle.isle_ast.proofs.NoMacroArgs.{spelt_definition_has_no_macro_arg}
-use Rattle.isle_base.specs.declared.error.Error.{Error}
+use Rattle.isle_base_errors.specs.declared.error.Error.{Error}
 use Rattle.isle_base.specs.declared.lexer.Fault.{Fault}
 use Rattle.isle_base.specs.declared.lexer.Fault.TheVariants as faults
-use Rattle.isle_base.specs.declared.lexer.Pos.{Pos}
+use Rattle.isle_base_errors.specs.declared.pos.Pos.{Pos}
 use Rattle.isle_base.specs.Place.{Placed, in_file, placed}
 use Rattle.isle_base.specs.Steps.{IfError, Rises, ended_by, failed_by, is_at_end, is_failed}
 use Rattle.isle_base.specs.Token.{Ending, Feed, Lexeme, Tok, end, fault}

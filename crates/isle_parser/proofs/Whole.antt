@@ -2,8 +2,8 @@
 use Rattle.std.proofs.Common.{◌≡◌, ℕ, true, false, List, [], ◌∷◌, Some, None, Result, Ok, Err, refl, sym, ap, subst, ◌∙◌}
 use Rattle.std.specs.Global.{Vec}
 use Rattle.std.specs.Prelude.{IfOk, IfErr}
-use Rattle.isle_base.specs.declared.error.Error.{Error}
-use Rattle.isle_base.specs.declared.lexer.Pos.{Pos}
+use Rattle.isle_base_errors.specs.declared.error.Error.{Error}
+use Rattle.isle_base_errors.specs.declared.pos.Pos.{Pos}
 use Rattle.isle_base.specs.Place.{Placed, in_file, nowhere, placed}
 use Rattle.isle_base.specs.Steps.{IfError, ended_by, is_at_end}
 use Rattle.isle_base.specs.Token.{Lexeme, Ending, end, fault, Feed}

@@ -4,7 +4,7 @@ use Rattle.isle_ast.specs.Grammar.{SpellsDefinition}
 use Rattle.isle_ast.specs.Tree.{Definition}
 use Rattle.isle_ast.specs.TreeView.{definition_of}
 use Rattle.isle_ast.specs.declared.ast.Def.{Def}
-use Rattle.isle_base.specs.declared.error.Error.{Error}
+use Rattle.isle_base_errors.specs.declared.error.Error.{Error}
 use Rattle.isle_base.specs.declared.lexer.Fault.{Fault}
 use Rattle.isle_base.specs.Place.{Placed}
 use Rattle.isle_base.specs.Steps.{is_at_end, is_failed}

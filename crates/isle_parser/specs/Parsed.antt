@@ -1,9 +1,9 @@
 -- What the parsers answer, by what a lexer has still to give.
 use Rattle.std.specs.Prelude.{◌≡◌, ℕ, List, Result, Ok, Err, true, false}
 use Rattle.std.specs.Global.{Vec}
-use Rattle.isle_base.specs.declared.error.Error.{Error}
+use Rattle.isle_base_errors.specs.declared.error.Error.{Error}
 use Rattle.isle_base.specs.declared.lexer.Fault.{Fault}
-use Rattle.isle_base.specs.declared.lexer.Pos.{Pos}
+use Rattle.isle_base_errors.specs.declared.pos.Pos.{Pos}
 use Rattle.isle_base.specs.Steps.{is_failed, IfError}
 use Rattle.isle_base.specs.Token.{Feed}
 use Rattle.isle_ast.specs.Tree.{Definition}

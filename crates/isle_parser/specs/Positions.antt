@@ -1,7 +1,7 @@
 -- The positions in definitions.
 use Rattle.std.specs.Prelude.{[], ◌≡◌, ◌⊎◌, ℕ, List, ◌∷◌}
 use Rattle.std.specs.List.{AllByRecursion}
-use Rattle.isle_base.specs.declared.lexer.Pos.{Pos}
+use Rattle.isle_base_errors.specs.declared.pos.Pos.{Pos}
 use Rattle.isle_base.specs.Place.{in_file, unknown}
 use Rattle.isle_base.specs.Token.{Lexeme}
 use Rattle.isle_ast.specs.Tree.{NamedField, IndexedField, FieldList, unit_fields, struct_fields, tuple_fields, EnumVariant, TypeContent, primitive_type, enum_type, struct_type, AttributeTarget, term_target, rule_target, AttributeKind, chain_kind, priority_kind, tag_kind, TermSignature, ModelContent, type_model, const_model, ExternDefinition, extern_extractor, extern_constructor, extern_const, Definition, type_def, rule, extractor, decl, attr, spec, spec_macro, model, state, form, instantiation, external, converter}

@@ -1,7 +1,7 @@
 -- What lies ahead of a cursor, by what its lexer has still to give.
 use Rattle.std.proofs.Common.{◌≡◌, ℕ, ◌≤◌, Bool, true, false, List, [], ◌∷◌, Option, None, Some, Err, refl, sym, ap, subst, ◌∙◌, arith}
-use Rattle.isle_base.specs.declared.error.Error.{Error}
-use Rattle.isle_base.specs.declared.lexer.Pos.{Pos}
+use Rattle.isle_base_errors.specs.declared.error.Error.{Error}
+use Rattle.isle_base_errors.specs.declared.pos.Pos.{Pos}
 use Rattle.isle_base.specs.Place.{Placed, in_file, unknown, nowhere, placed}
 use Rattle.isle_base.specs.Steps.{AreWithin, EndsWithin, IsWithin, Refuses, RefusesAt, ended_by, failed_by, first_placed, is_at_end, is_failed, lookahead}
 use Rattle.isle_base.specs.Token.{Lexeme, Ending, end, fault, Feed}

@@ -1,6 +1,6 @@
 -- Identifiers are read as the grammar spells them.
 use Rattle.std.proofs.Common.{◌≡◌, ℕ, cond, List, [], ◌∷◌, length, Some, None, refl, ap, ◌∙◌, arith}
-use Rattle.isle_base.specs.declared.lexer.Pos.{Pos}
+use Rattle.isle_base_errors.specs.declared.pos.Pos.{Pos}
 use Rattle.isle_base.specs.Place.{Placed}
 use Rattle.isle_base.specs.Token.{Tok, lparen, rparen, symbol, integer, at_sign, is_symbol}
 use Rattle.isle_ast_names.specs.Words.{SpellsName, SpellsAll, InParentheses}

@@ -1,12 +1,12 @@
 -- What a call that reads answers, by the tokens that its lexer has still to give.
 use Rattle.std.specs.Prelude.{◌≡◌, ℕ, ◌+◌, ◌≤◌, ◌<◌, ◌^◌, List, Bool, true, false, Option, Some, None, Result, Ok, Err}
-use Rattle.isle_base.specs.declared.lexer.Pos.{Pos}
+use Rattle.isle_base_errors.specs.declared.pos.Pos.{Pos}
 use Rattle.isle_base.specs.Place.{Placed, in_file, nowhere, placed}
 use Rattle.isle_base.specs.Steps.{RefusesAt}
 use Rattle.isle_base.specs.Token.{Ending, fault}
 use Rattle.isle_parser_cursor.specs.declared.cursor.Cursor.{Cursor}
 use Rattle.isle_parser_cursor.specs.declared.cursor.Stop.{Stop}
-use Rattle.isle_base.specs.declared.error.Error.{Error}
+use Rattle.isle_base_errors.specs.declared.error.Error.{Error}
 use Rattle.isle_parser_cursor.specs.declared.cursor.Stop.TheVariants as stops
 
 -- the position of an offset: the unknown place, where positions are not kept

@@ -1,7 +1,7 @@
 -- What is made of what stands in parentheses, with the closing one behind it.
 use Rattle.std.proofs.Common.{◌≡◌, false, List, Option, Some, None, refl}
 use Rattle.std.specs.Prelude.{codes}
-use Rattle.isle_base.specs.declared.lexer.Pos.{Pos}
+use Rattle.isle_base_errors.specs.declared.pos.Pos.{Pos}
 use Rattle.isle_base.specs.Place.{Placed}
 use Rattle.isle_base.specs.Token.{Tok}
 use Rattle.isle_parser_cursor.specs.Reading.{◌>>=◌, expect, flag, is_rparen}

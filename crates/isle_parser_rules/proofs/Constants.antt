@@ -2,7 +2,7 @@
 use Rattle.std.proofs.Common.{◌≡◌, ℕ, false, ◌==◌, List, [], ◌∷◌, Some, None, refl, ap}
 use Rattle.std.proofs.lemmas.Bool.{ne_eqb}
 use Rattle.isle_ast_names.specs.Tree.{Name}
-use Rattle.isle_base.specs.declared.lexer.Pos.{Pos}
+use Rattle.isle_base_errors.specs.declared.pos.Pos.{Pos}
 use Rattle.isle_base.specs.Place.{Placed}
 use Rattle.isle_parser_cursor.specs.declared.cursor.Stop.{Stop}
 use Rattle.isle_parser_cursor.specs.Outcomes.{IsRefusal, Source, Stops}

@@ -1,7 +1,7 @@
 -- Expressions, as the code reads them.
 use Rattle.std.proofs.Common.{◌≡◌, List, Some, refl, rules}
 use Rattle.std.specs.Prelude.{ℤ}
-use Rattle.isle_base.specs.declared.lexer.Pos.{Pos}
+use Rattle.isle_base_errors.specs.declared.pos.Pos.{Pos}
 use Rattle.isle_base.specs.Place.{Placed}
 use Rattle.isle_ast_rules.specs.Tree.{int_expression}
 use Rattle.isle_ast_rules.specs.declared.ast.Expr.{the_lemmas}

@@ -1,6 +1,6 @@
 -- Reading of expressions: the right sides of rules.
 use Rattle.std.specs.Prelude.{ℕ, zero, suc, List, length, true, false, Some, None, if◌then◌else◌, codes}
-use Rattle.isle_base.specs.declared.lexer.Pos.{Pos}
+use Rattle.isle_base_errors.specs.declared.pos.Pos.{Pos}
 use Rattle.isle_base.specs.Token.{is_int, is_symbol}
 use Rattle.isle_ast_rules.specs.Tree.{Expression, term_expression, var_expression, bool_expression, int_expression, constant_expression, let_expression}
 use Rattle.isle_ast_rules.specs.TreeView.{SingleLet, expression_row_of, let_row_of}

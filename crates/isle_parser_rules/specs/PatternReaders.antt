@@ -1,6 +1,6 @@
 -- Reading of patterns: the left sides of rules.
 use Rattle.std.specs.Prelude.{ℕ, zero, suc, List, Bool, ◌||◌, length, true, false, Option, Some, None, if◌then◌else◌, codes}
-use Rattle.isle_base.specs.declared.lexer.Pos.{Pos}
+use Rattle.isle_base_errors.specs.declared.pos.Pos.{Pos}
 use Rattle.isle_base.specs.Place.{Placed}
 use Rattle.isle_base.specs.Token.{is_int, is_symbol}
 use Rattle.isle_ast_names.specs.Tree.{Name}

@@ -1,6 +1,6 @@
 -- Reading of rules and extractors: what stands behind the keywords `rule` and `extractor`.
 use Rattle.std.specs.Prelude.{[], ℕ, zero, suc, ℤ, List, ◌∷◌, length, Option, Some, None, if◌then◌else◌, codes}
-use Rattle.isle_base.specs.declared.lexer.Pos.{Pos}
+use Rattle.isle_base_errors.specs.declared.pos.Pos.{Pos}
 use Rattle.isle_base.specs.Place.{Placed}
 use Rattle.isle_base.specs.Token.{is_int}
 use Rattle.isle_ast_rules.specs.Tree.{wildcard_pattern, Expression, Condition, RuleDefinition, ExtractorDefinition}

@@ -1,6 +1,6 @@
 -- The positions in models of types, in spec expressions and in the definitions made of them.
 use Rattle.std.specs.List.{AllByRecursion}
-use Rattle.isle_base.specs.declared.lexer.Pos.{Pos}
+use Rattle.isle_base_errors.specs.declared.pos.Pos.{Pos}
 use Rattle.isle_ast_specs.specs.Tree.{TypeModel, unspecified_model, auto_model, int_model, bool_model, unit_model, bit_vector_model, struct_model, named_model, ModelFieldRow, no_model_field, model_field, ModifiedState, SpecDefinition, SpecMacroDefinition, StateDefinition, SpecNode, int_spec, bit_vector_spec, bool_spec, var_spec, as_spec, field_spec, discriminator_spec, op_spec, match_spec, let_spec, with_spec, macro_spec, expand_spec, pair_spec, enum_spec, struct_spec, SpecRow, no_spec, more_spec, ArmRow, no_arm, more_arm, SpecLetRow, no_spec_let, more_spec_let, FieldInitRow, no_field_init, more_field_init}
 use Rattle.isle_parser_cursor.specs.Positions.{OfName, OfNames, OfOptionalName}
 

@@ -1,6 +1,6 @@
 -- Reading of spec expressions.
 use Rattle.std.specs.Prelude.{ℕ, zero, suc, List, ◌∷◌, length, Some, None, if◌then◌else◌}
-use Rattle.isle_base.specs.declared.lexer.Pos.{Pos}
+use Rattle.isle_base_errors.specs.declared.pos.Pos.{Pos}
 use Rattle.isle_base.specs.Token.{is_int, is_symbol}
 use Rattle.isle_ast_specs.specs.TreeView.{SingleArm, SingleFieldInit, spec_row_of, arm_row_of, field_init_row_of, spec_let_row_of}
 use Rattle.isle_ast_names.specs.Tree.{Name}

@@ -5,7 +5,7 @@ use Rattle.std.specs.List.{list_all}
 use Rattle.std.specs.Option.{is_some, option_or}
 use Rattle.std.specs.Str.{bytes_eq}
 use Rattle.std.specs.Str.Parse.{digits_value, without_leading_plus}
-use Rattle.isle_base.specs.declared.lexer.Pos.{Pos}
+use Rattle.isle_base_errors.specs.declared.pos.Pos.{Pos}
 use Rattle.isle_ast_specs.specs.declared.ast.specs.SpecOp.{SpecOp}
 use Rattle.isle_ast_names.specs.Identifier.{is_identifier}
 use Rattle.isle_ast_specs.specs.Operators.{operator_text, is_operator_text, operators}

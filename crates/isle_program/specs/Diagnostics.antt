@@ -1,8 +1,8 @@
 -- What is shown of the errors of a text.
 use Rattle.std.specs.Prelude.{◌≡◌, ℕ, List, [], ◌∷◌, length}
-use Rattle.isle_base.specs.declared.error.Error.{Error}
-use Rattle.isle_base.specs.Diagnostic.{report_text}
-use Rattle.isle_base.specs.Source.{Source}
+use Rattle.isle_base_errors.specs.declared.error.Error.{Error}
+use Rattle.isle_base_errors.specs.Diagnostic.{report_text}
+use Rattle.isle_base_errors.specs.Source.{Source}
 use Rattle.isle_parser_cursor.specs.Outcomes.{RefusesIn}
 
 -- the one file, with this name and this text

@@ -1,8 +1,8 @@
 //! What is shown of the errors of a text.
 
 ghost use Rattle.std.specs.Prelude.{◌≡◌, length, string_bytes, true, IfOk};
-ghost use Rattle.isle_base.specs.Diagnostic.{report_text};
-ghost use Rattle.isle_base.specs.Labels.{all_fit};
+ghost use Rattle.isle_base_errors.specs.Diagnostic.{report_text};
+ghost use Rattle.isle_base_errors.specs.Labels.{all_fit};
 ghost use Rattle.isle_parser_cursor.specs.Outcomes.{RefusesIn};
 ghost use Rattle.isle_program.specs.Diagnostics.{only_file, refusal_text};
 

@@ -4,7 +4,7 @@ use Rattle.isle_ast.specs.Grammar.{SpellsDefinition}
 use Rattle.isle_ast.specs.Tree.{Definition}
 use Rattle.isle_base.specs.Lexing.{lexes}
 use Rattle.isle_base.specs.Steps.{is_at_end, is_failed}
-use Rattle.isle_base.specs.declared.error.Error.{Error}
+use Rattle.isle_base_errors.specs.declared.error.Error.{Error}
 use Rattle.isle_parser.specs.NextDefinition.{has_failed}
 use Rattle.isle_parser.specs.declared.parser.Parser.{Parser}
 use Rattle.isle_parser_cursor.specs.Outcomes.{RefusesIn, source, tokens}

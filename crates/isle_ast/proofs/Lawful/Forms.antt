@@ -1,6 +1,6 @@
 -- The relations of signatures, forms and instantiations keep the laws.
 use Rattle.std.proofs.Common.{[], ◌≡◌, List, codes, map, Option, None, Some, refl}
-use Rattle.isle_base.specs.declared.lexer.Pos.{Pos}
+use Rattle.isle_base_errors.specs.declared.pos.Pos.{Pos}
 use Rattle.isle_base.specs.Place.{Placed, unknown}
 use Rattle.isle_ast_names.specs.Tree.{Name}
 use Rattle.isle_ast.specs.Tree.{TermSignature, FormDefinition, TermInstantiation}

@@ -1,6 +1,6 @@
 -- The relations of the definitions of types keep the laws.
 use Rattle.std.proofs.Common.{◌≡◌, ℕ, ◌+◌, List, [], ◌∷◌, Bool, codes, map, refl, sym, subst, ◌∙◌, ◌⊎◌, inl, inr}
-use Rattle.isle_base.specs.declared.lexer.Pos.{Pos}
+use Rattle.isle_base_errors.specs.declared.pos.Pos.{Pos}
 use Rattle.isle_base.specs.Place.{Placed, unknown}
 use Rattle.isle_base.specs.Token.{lparen, symbol}
 use Rattle.isle_ast_names.specs.Tree.{Name}

@@ -40,7 +40,7 @@
 //! for it, and the expression of a rule is no term named `if`.
 
 ghost use Rattle.std.specs.Prelude.{◌≡◌, ◌↔◌, ℕ, List, IsTrue, false};
-ghost use Rattle.isle_base.specs.declared.lexer.Pos.{Pos};
+ghost use Rattle.isle_base_errors.specs.declared.pos.Pos.{Pos};
 ghost use Rattle.isle_base.specs.Place.{Placed, nowhere};
 ghost use Rattle.isle_base.specs.Token.{Feed};
 ghost use Rattle.isle_ast_names.specs.Parts.{AreParts, IsByParts};

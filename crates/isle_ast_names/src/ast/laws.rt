@@ -4,7 +4,7 @@ ghost use Rattle.std.specs.Prelude.{◌≡◌, ◌↔◌, ◌++◌, ℕ, List, I
 ghost use Rattle.std.specs.List.{list_all};
 ghost use Rattle.std.specs.declared.cmp.Ordering.TheVariants.{Equal};
 ghost use Rattle.isle_base.specs.Pieces.{begins_symbol, in_symbol, Piece};
-ghost use Rattle.isle_base.specs.PositionOrder.{IsInRange};
+ghost use Rattle.isle_base_errors.specs.PositionOrder.{IsInRange};
 ghost use Rattle.isle_base.specs.Skips.{begins_with};
 ghost use Rattle.isle_base.specs.Token.{symbol};
 ghost use Rattle.isle_ast_names.specs.Identifier.{is_identifier};

@@ -1,7 +1,7 @@
 -- The relations of expressions keep the laws.
 use Rattle.std.proofs.Common.{◌≡◌, ℤ, List, Bool, false, codes, refl}
 use Rattle.std.specs.Str.{bytes_eq}
-use Rattle.isle_base.specs.declared.lexer.Pos.{Pos}
+use Rattle.isle_base_errors.specs.declared.pos.Pos.{Pos}
 use Rattle.isle_base.specs.Place.{Placed, unknown}
 use Rattle.isle_base.specs.Token.{symbol}
 use Rattle.isle_ast_names.specs.Numbers.{SpellsInteger}

@@ -1,6 +1,6 @@
 -- The relations of models of types keep the laws.
 use Rattle.std.proofs.Common.{◌≡◌, ℕ, pos, ◌<◌, ◌^◌, List, codes, map, Option, None, Some, refl}
-use Rattle.isle_base.specs.declared.lexer.Pos.{Pos}
+use Rattle.isle_base_errors.specs.declared.pos.Pos.{Pos}
 use Rattle.isle_base.specs.Place.{Placed}
 use Rattle.isle_base.specs.Token.{integer}
 use Rattle.isle_ast_names.specs.Numbers.{SpellsNumber}

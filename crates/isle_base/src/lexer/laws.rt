@@ -1,31 +1,16 @@
 //! Laws of positions and of lexing, which run no code.
 
-ghost use Rattle.std.specs.Prelude.{◌≡◌, ◌↔◌, ℕ, List, IsTrue, Some};
-ghost use Rattle.isle_base.specs.declared.error.Error.{Error};
-ghost use Rattle.std.specs.declared.cmp.Ordering.TheVariants.{Equal};
+ghost use Rattle.std.specs.Prelude.{◌≡◌, ◌↔◌, ℕ, List, IsTrue};
+ghost use Rattle.isle_base_errors.specs.declared.error.Error.{Error};
 ghost use Rattle.isle_base.specs.EarlierLexing.{earlier_lexes};
 ghost use Rattle.isle_base.specs.Lexing.{HasOneLexing, lexes};
 ghost use Rattle.isle_base.specs.Place.{Placed};
-ghost use Rattle.isle_base.specs.PositionOrder.{IsInRange, position_cmp, position_hash};
 ghost use Rattle.isle_base.specs.Steps.{Refuses, RefuseAlike, Takes};
 ghost use Rattle.isle_base.specs.Token.{Feed, Lexeme, end};
 ghost use Rattle.isle_base.specs.TokenView.{token_of};
 
-use crate::lexer::{Pos, Token};
-use std::hash::Hash;
-
-/// A law, which runs no code: positions are ordered by file, then by offset, and their order, their
-/// equality and their hash agree. Two compare as equal exactly if they are the same position.
-pub fn positions_are_ordered()
-    ensures order { (a b : Pos) → ⟦<Pos as Ord>⟧.cmp a b ≡ position_cmp a b }
-    ensures partial_order { (a b : Pos)
-        → ⟦<Pos as PartialOrd>⟧.partial_cmp a b ≡ Some (position_cmp a b) }
-    ensures equality { (a b : Pos) → IsTrue (⟦<Pos as PartialEq>⟧.eq a b) ↔ (a ≡ b) }
-    ensures equal_in_order { (a b : Pos) → (position_cmp a b ≡ Equal) ↔ (a ≡ b) }
-    ensures hash { (a : Pos) → ⟦<Pos as Hash>⟧.hash_input a ≡ position_hash a }
-    ensures equal_in_hash { (a b : Pos) → IsInRange a → IsInRange b
-        → (position_hash a ≡ position_hash b) ↔ (a ≡ b) }
-{}
+use crate::lexer::Token;
+pub use isle_base_errors::laws::positions_are_ordered;
 
 /// A law, which runs no code: each text has tokens and an ending, and just one of each.
 pub fn one_lexing()

@@ -9,12 +9,12 @@ ghost use Rattle.isle_base.specs.Reads.{Finds, FindsHere, IsUnskipped};
 ghost use Rattle.isle_base.specs.Skips.{begins_with};
 ghost use Rattle.isle_base.specs.Steps.{RefusesAt};
 
-use crate::error::{Error, Span};
 use crate::lexer::Pos;
 use crate::lexer::lanes::{FORM_FEED, symbol_end};
 use crate::lexer::literal::literal_at;
 use crate::lexer::scan::skip_end;
 use crate::scanner::TokenRef;
+use isle_base_errors::error::{Error, Span};
 use std::alloc::{AllocError, Global};
 
 /// Why a text is refused.

@@ -4,7 +4,7 @@ use Rattle.std.specs.Global.{Vec}
 use Rattle.std.specs.Prelude.{codes, IfOk}
 use Rattle.std.specs.List.{AllByRecursion}
 use Rattle.isle_base.specs.declared.lexer.Fault.{Fault}
-use Rattle.isle_base.specs.declared.lexer.Pos.{Pos}
+use Rattle.isle_base_errors.specs.declared.pos.Pos.{Pos}
 use Rattle.isle_base.specs.Place.{Placed, in_file, placed, unknown}
 use Rattle.isle_base.specs.Steps.{Rises}
 use Rattle.isle_base.specs.Token.{Tok, Lexeme, Feed}

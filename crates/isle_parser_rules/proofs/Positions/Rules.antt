@@ -1,7 +1,7 @@
 -- The positions in patterns, expressions, rules and extractors are those of their tokens.
 use Rattle.std.proofs.Common.{◌≡◌, inl, inr, ℕ, List, ◌∷◌, Option, None, Some, refl}
 use Rattle.std.specs.Prelude.{ℤ}
-use Rattle.isle_base.specs.declared.lexer.Pos.{Pos}
+use Rattle.isle_base_errors.specs.declared.pos.Pos.{Pos}
 use Rattle.isle_base.specs.Place.{Placed}
 use Rattle.isle_base.specs.Token.{symbol}
 use Rattle.isle_ast_names.specs.Numbers.{SpellsPriority}

@@ -4,7 +4,7 @@ use Rattle.std.specs.Prelude.{codes}
 use Rattle.std.specs.Str.{bytes_eq, is_utf8}
 use Rattle.std.proofs.lemmas.Str.{chars-IsAscii}
 use Rattle.std.proofs.lemmas.Bool.{and_right}
-use Rattle.isle_base.specs.declared.lexer.Pos.{Pos}
+use Rattle.isle_base_errors.specs.declared.pos.Pos.{Pos}
 use Rattle.isle_base.specs.Place.{Placed}
 use Rattle.isle_ast_names.specs.Identifier.{is_identifier}
 use Rattle.isle_ast_rules.specs.Tree.{PatternNode, wildcard_pattern, Expression, term_expression, var_expression, bool_expression, int_expression, constant_expression, let_expression, Condition}

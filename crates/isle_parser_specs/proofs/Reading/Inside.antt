@@ -1,7 +1,7 @@
 -- What stands in the parentheses of a spec expression.
 use Rattle.std.proofs.Common.{◌≡◌, ◌⊎◌, List, Bool, true, false, sym, subst}
 use Rattle.std.specs.Prelude.{codes}
-use Rattle.isle_base.specs.declared.lexer.Pos.{Pos}
+use Rattle.isle_base_errors.specs.declared.pos.Pos.{Pos}
 use Rattle.isle_base.specs.Place.{Placed}
 use Rattle.isle_ast_specs.specs.Operators.{operator_text}
 use Rattle.isle_ast_specs.specs.Tree.{SpecNode, int_spec, bit_vector_spec, bool_spec, var_spec, as_spec, field_spec, discriminator_spec, op_spec, match_spec, let_spec, with_spec, macro_spec, expand_spec, pair_spec, enum_spec, struct_spec}

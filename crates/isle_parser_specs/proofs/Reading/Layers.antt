@@ -1,6 +1,6 @@
 -- A spec expression is one layer, whose parts are spec expressions: layers past the number of tokens change nothing.
 use Rattle.std.proofs.Common.{◌≡◌, ℕ, zero, suc, ◌<◌, Bool, cond, List, [], length, Option, Some, None, refl, ap, ◌∙◌, arith}
-use Rattle.isle_base.specs.declared.lexer.Pos.{Pos}
+use Rattle.isle_base_errors.specs.declared.pos.Pos.{Pos}
 use Rattle.isle_base.specs.Place.{Placed}
 use Rattle.isle_base.specs.Token.{is_int, is_symbol}
 use Rattle.isle_ast_specs.specs.Tree.{SpecNode, int_spec}

@@ -2,7 +2,7 @@
 use Rattle.std.proofs.Common.{◌≡◌, ◌<◌, true, false, List, length, Option, Some, None, sym, ◌∙◌, refl, rules, arith}
 use Rattle.std.specs.Global.{Box, Vec}
 use Rattle.std.specs.Prelude.{ℕ, ℤ}
-use Rattle.isle_base.specs.declared.lexer.Pos.{Pos}
+use Rattle.isle_base_errors.specs.declared.pos.Pos.{Pos}
 use Rattle.isle_base.specs.Place.{Placed}
 use Rattle.isle_base.specs.Token.{is_int, is_symbol}
 use Rattle.isle_ast_specs.specs.declared.ast.specs.SpecExpr.{the_lemmas, SpecExpr}

@@ -1,7 +1,7 @@
 -- Readers of spec expressions leave fewer tokens, or no more, and an expression is one layer, whose parts
 -- are expressions. This follows from how they read alone, and not from the grammar.
 use Rattle.std.proofs.Common.{◌≡◌, ℕ, zero, suc, ◌≤◌, ◌<◌, inl, inr, Bool, cond, List, [], ◌∷◌, length, Some, None, ap, arith}
-use Rattle.isle_base.specs.declared.lexer.Pos.{Pos}
+use Rattle.isle_base_errors.specs.declared.pos.Pos.{Pos}
 use Rattle.isle_base.specs.Place.{Placed}
 use Rattle.isle_base.specs.Token.{is_int, is_symbol}
 use Rattle.isle_ast_specs.specs.Tree.{SpecNode, int_spec}

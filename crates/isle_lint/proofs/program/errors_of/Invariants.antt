@@ -1,8 +1,8 @@
 use Rattle.std.proofs.Common.{◌≡◌, ◌++◌, ◌<◌, List, drop, length, map, true}
 use Rattle.std.specs.List.{flat_map}
-use Rattle.isle_base.specs.Diagnostic.{error_text}
-use Rattle.isle_base.specs.Labels.{all_fit}
-use Rattle.isle_base.specs.Source.{Source}
+use Rattle.isle_base_errors.specs.Diagnostic.{error_text}
+use Rattle.isle_base_errors.specs.Labels.{all_fit}
+use Rattle.isle_base_errors.specs.Source.{Source}
 use Rattle.isle_lint_rules.specs.Finding.{finding_of}
 use Rattle.isle_lint.specs.Shown.{finding_text}
 use Rattle.isle_lint.proofs.program.errors_of.Given as goal

@@ -1,0 +1,11 @@
+-- The text that shows a fault.
+use Rattle.std.specs.Prelude.{ℕ, List, codes}
+use Rattle.isle_base_errors.specs.Diagnostic.{message}
+use Rattle.isle_base.specs.declared.lexer.Fault.{Fault}
+use Rattle.isle_base.specs.declared.lexer.Fault.TheVariants as faults
+
+-- why a lexer, a parser or the formatter gives no answer
+abbrev pub fault_text : Fault → List ℕ
+fault_text (faults.Error e) = message e
+fault_text faults.Failed = codes "the text was refused before"
+fault_text faults.Memory = codes "out of memory"

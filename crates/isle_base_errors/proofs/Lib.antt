@@ -1,0 +1,4 @@
+pub mod LineLemmas
+pub mod PositionOrders
+pub mod Shown
+pub mod SourceLemmas

@@ -1,0 +1,8 @@
+//! The lowest part of the base: source files, positions in them, and errors.
+#![tactic(auto)]
+
+pub mod error;
+pub mod files;
+pub mod laws;
+pub mod messages;
+pub mod pos;
