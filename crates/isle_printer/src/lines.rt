@@ -19,7 +19,8 @@ use std::alloc::Global;
 /// unless it is the first.
 ///
 /// It adds a look for each node of the definition's S-expression where all is written, and never
-/// more. What holds the argument of a macro has no S-expression, and counts none.
+/// more. It takes none away, also where a growth was refused. What holds the argument of a macro
+/// has no S-expression, and counts none.
 pub fn put_definition(
     alloc: Global,
     def: &Def,
@@ -39,6 +40,7 @@ pub fn put_definition(
         (looks.new.count ≡ looks.old.count + nodes_of_definition (definition_of def.now)) }
     ensures at_most { looks.new.count
         ≤ looks.old.count + nodes_of_definition (definition_of def.now) }
+    ensures none_taken { looks.old.count ≤ looks.new.count }
 {
     let shape = shape(alloc, def)?;
     if !out.is_empty() {

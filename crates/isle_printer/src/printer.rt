@@ -74,8 +74,8 @@ pub fn print(alloc: Global, defs: &[Def], width: usize) -> Result<String, PrintF
 /// Prints definitions as `print` does, and counts the nodes of S-expressions that it looks at.
 ///
 /// Where it answers a text, it adds as many looks as the definitions' S-expressions have nodes, and
-/// never more, whatever it answers. A definition that holds the argument of a macro has no
-/// S-expression, and counts none.
+/// never more, whatever it answers. It takes none away, and adds none where it answers `MacroArg`.
+/// A definition that holds the argument of a macro has no S-expression, and counts none.
 pub fn print_counted(
     alloc: Global,
     defs: &[Def],
@@ -104,6 +104,8 @@ pub fn print_counted(
         (λ _. looks.new.count ≡ looks.old.count + nodes_of_definitions (definitions_of defs.now)) }
     ensures at_most { looks.new.count
         ≤ looks.old.count + nodes_of_definitions (definitions_of defs.now) }
+    ensures none_taken { looks.old.count ≤ looks.new.count }
+    ensures unlooked { IsErrOf result MacroArg → looks.new.count ≡ looks.old.count }
 {
     if any_has_macro_arg(defs) {
         return Err(PrintFault::MacroArg);
@@ -169,6 +171,7 @@ fn put_definitions(
         (looks.new.count ≡ looks.old.count + nodes_of_definitions (definitions_of defs.now)) }
     ensures at_most { looks.new.count
         ≤ looks.old.count + nodes_of_definitions (definitions_of defs.now) }
+    ensures none_taken { looks.old.count ≤ looks.new.count }
 {
     for def in defs {
         put_definition(alloc, def, width, looks, out)?;

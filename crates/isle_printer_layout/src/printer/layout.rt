@@ -20,7 +20,8 @@ use std::alloc::AllocError;
 
 /// Appends the layout of a shape, at a width and a level, where the line has this room left.
 ///
-/// It adds a look for each node where all is written, and never more than there are nodes.
+/// It adds a look for each node where all is written, and never more than there are nodes. It takes
+/// none away, also where a growth was refused.
 #[cycle(put)]
 pub fn put(
     shape: &Shape,
@@ -35,6 +36,7 @@ pub fn put(
         ≡ string_bytes out.old ++ layout_in width shape.now room level) }
     ensures at_least { OnOk result (looks.old.count + nodes shape.now ≤ looks.new.count) }
     ensures at_most { looks.new.count ≤ looks.old.count + nodes shape.now }
+    ensures none_taken { looks.old.count ≤ looks.new.count }
 {
     match shape.look(looks) {
         (Node::Borrowed(text), _) => {
@@ -89,6 +91,7 @@ fn put_broken(
     ensures at_least { OnOk result
         (looks.old.count + nodes_of_items (sexps items.now) ≤ looks.new.count) }
     ensures at_most { looks.new.count ≤ looks.old.count + nodes_of_items (sexps items.now) }
+    ensures none_taken { looks.old.count ≤ looks.new.count }
 {
     match items {
         [] => {
@@ -126,6 +129,7 @@ fn put_flat(shape: &Shape, looks: &mut Looks, out: &mut String) -> Result<(), Al
     ensures written { OnOk result (string_bytes out.new ≡ string_bytes out.old ++ flat shape.now) }
     ensures at_least { OnOk result (looks.old.count + nodes shape.now ≤ looks.new.count) }
     ensures at_most { looks.new.count ≤ looks.old.count + nodes shape.now }
+    ensures none_taken { looks.old.count ≤ looks.new.count }
 {
     match shape.look(looks).0 {
         Node::Borrowed(text) => {
@@ -154,6 +158,7 @@ fn put_flat_items(items: &[Shape], looks: &mut Looks, out: &mut String) -> Resul
     ensures at_least { OnOk result
         (looks.old.count + nodes_of_items (sexps items.now) ≤ looks.new.count) }
     ensures at_most { looks.new.count ≤ looks.old.count + nodes_of_items (sexps items.now) }
+    ensures none_taken { looks.old.count ≤ looks.new.count }
 {
     match items {
         [] => {
@@ -179,11 +184,12 @@ fn put_flat_items(items: &[Shape], looks: &mut Looks, out: &mut String) -> Resul
 /// each item 1 more than the item.
 ///
 /// Each node that is examined adds one to the looks: a node at least, and at most one more than the
-/// room. Where the answer is true, each node was examined once. No memory is taken.
+/// room. No node is examined twice, and where the answer is true, each was. No memory is taken.
 pub fn fits(sexpr: &SExpr, room: usize, looks: &mut Looks) -> bool
     ensures answer { IsTrue result ↔ (counted (sexp_of sexpr.now) ≤ room) }
     ensures at_most { looks.new.count ≤ looks.old.count + room + 1 }
     ensures at_least { looks.old.count + 1 ≤ looks.new.count }
+    ensures once { looks.new.count ≤ looks.old.count + nodes (sexp_of sexpr.now) }
     ensures exact { IsTrue result → looks.new.count ≡ looks.old.count + nodes (sexp_of sexpr.now) }
 {
     room_left(sexpr, room, looks).is_some()
@@ -200,6 +206,7 @@ fn room_left(sexpr: &SExpr, room: usize, looks: &mut Looks) -> Option<usize>
         (looks.new.count ≤ looks.old.count + room + 1)
         (λ left. looks.new.count + left ≤ looks.old.count + room + 1) }
     ensures at_least { looks.old.count + 1 ≤ looks.new.count }
+    ensures once { looks.new.count ≤ looks.old.count + nodes (sexp_of sexpr.now) }
     ensures exact { IfSome result
         (λ left. looks.new.count ≡ looks.old.count + nodes (sexp_of sexpr.now)) }
 {

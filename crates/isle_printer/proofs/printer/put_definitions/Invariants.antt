@@ -1,7 +1,7 @@
 -- What is written is the printed text of the definitions so far. An argument of a macro is in what
 -- is left, if there is one. The looks so far, and the nodes that are left, are the looks at first
 -- and all nodes.
-use Rattle.std.proofs.Common.{◌≡◌, ◌+◌, drop, string_bytes, take}
+use Rattle.std.proofs.Common.{◌≡◌, ◌≤◌, ◌+◌, drop, string_bytes, take}
 use Rattle.isle_ast.specs.MacroArgs.{definitions_have_macro_arg}
 use Rattle.isle_ast.specs.TreeView.{definitions_of}
 use Rattle.isle_printer.specs.Printed.{printed_text}
@@ -17,4 +17,5 @@ invariant-loop-def l = record {
   looks :
       l.looks.count + nodes_of_definitions (definitions_of (drop l.def-index l.defs))
       ≡ l.fn.looks.count + nodes_of_definitions (definitions_of l.defs);
+  none_taken : l.fn.looks.count ≤ l.looks.count;
 }
