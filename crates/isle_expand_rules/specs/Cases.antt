@@ -14,7 +14,8 @@ ExpandRow ds ps qs = (depth : ℕ) × (expand_row ps (known depth (macros_in ds)
 
 -- a use: the arguments expand, as many as the macro has parameters, the template expands, and q is
 -- that with these arguments in their places
-pub record UseExpands (ds : List Definition) (m : MacroNode) (args : PatternRow) (q : PatternNode) : Type 0 where
+pub record UseExpands (ds : List Definition) (m : MacroNode) (args : PatternRow) (q : PatternNode)
+    : Type 0 where
   pub row : PatternRow
   pub template : PatternNode
   pub arguments : ExpandRow ds args row
@@ -23,7 +24,8 @@ pub record UseExpands (ds : List Definition) (m : MacroNode) (args : PatternRow)
   pub whole : plug template (row_list row) ≡ Some q
 
 -- a term that is no use: the arguments expand, and q is the term with these
-pub record TermExpands (ds : List Definition) (term : Name) (args : PatternRow) (place : Pos) (q : PatternNode) : Type 0 where
+pub record TermExpands (ds : List Definition) (term : Name) (args : PatternRow) (place : Pos)
+    (q : PatternNode) : Type 0 where
   pub row : PatternRow
   pub arguments : ExpandRow ds args row
   pub whole : q ≡ term_pattern term row place
