@@ -1,4 +1,5 @@
 pub mod Alone
+pub mod Entries
 pub mod Existing
 pub mod GapLemmas
 pub mod InlineLemmas

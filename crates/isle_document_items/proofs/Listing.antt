@@ -1,5 +1,5 @@
 -- Items one behind the other, and the items of a list.
-use Rattle.std.proofs.Common.{◌≡◌, ℕ, ◌+◌, ◌<◌, ◌≤◌, List, [], ◌∷◌, ◌++◌, Bool, true, false, not, Result, Ok, Err, drop, length, get_or, IsUtf8, lit<, refl, sym, ap, subst, ◌∙◌, eqb, arith, length-drop, ⊎_elim}
+use Rattle.std.proofs.Common.{◌≡◌, ℕ, ◌+◌, ◌<◌, ◌≤◌, List, [], ◌∷◌, Bool, true, false, not, Option, Result, Ok, Err, drop, length, get_or, IsUtf8, lit<, refl, sym, ap, subst, ◌∙◌, eqb, arith, length-drop, ⊎_elim}
 use Rattle.std.specs.Result.{IsErrAnd}
 use Rattle.std.proofs.lemmas.Bool.{and_parts, both_ways, eqb-true}
 use Rattle.std.proofs.Math.Nat.{eq-or-lt_of_le}
@@ -8,34 +8,21 @@ use Rattle.isle_base.specs.Skips.{Longest, is_blank, opens}
 use Rattle.isle_base.proofs.Runs.{Longest-unique}
 use Rattle.isle_document_items.specs.declared.document.Entry.{Entry}
 use Rattle.isle_document_items.specs.Closings.{is_closing}
-use Rattle.isle_document_items.specs.declared.document.Item.{Item}
 use Rattle.isle_document_items.specs.declared.reader.Step.{Step}
 use Rattle.isle_document_items.specs.declared.reader.Stop.{Stop}
 use Rattle.isle_document_items.specs.declared.reader.Stop.TheVariants as stops
-use Rattle.isle_document_items.specs.Finds.{EndItems, FindsGap, FindsItem, FindsItems, FindsStep, SpellsNone, SpellsNoItems, Stands, opens_row}
+use Rattle.isle_document_items.specs.Finds.{EndItems, FindsGap, FindsItem, FindsItems, FindsRow, FindsStep, SpellsNone, SpellsNoItems, Stands, opens_row}
 use Rattle.isle_document_items.specs.Gaps.{Before, at_start, behind_opening, behind as behind', gap_of, kept, kind_of}
 use Rattle.isle_document_items.specs.Grammar.{Spells, SpellsItems, IsDocument}
 use Rattle.isle_document_items.specs.Items.{ItemNode, word, sign, note, remark, row, Items, no_item, more_items}
-use Rattle.isle_document_items.specs.ItemsView.{item_of, items_of}
+use Rattle.isle_document_items.specs.ItemsCode.{join, join_none}
+use Rattle.isle_document_items.proofs.Entries.{join_assoc}
 use Rattle.isle_document_items.proofs.Marks.{Spells-form, closing_spells_none, row_form}
 use Rattle.isle_document_items.proofs.Standing.{tail_utf8}
 use Rattle.isle_document_items.proofs.Unique.{Spells-unique, SpellsItems-unique}
 use Rattle.isle_document_items.proofs.Reading.{Longest-skip}
 use Rattle.isle_base.proofs.Utf8.{Skip-utf8}
 use Rattle.isle_document_items.specs.declared.document.Gap.{Gap}
-
--- entries, and then items
-abbrev pub items_before : List Entry → Items → Items
-items_before [] items = items
-items_before (e ∷ es) items = more_items e.gap (item_of e.item) (items_before es items)
-
-pub items_before-none : (es : List Entry) → items_before es no_item ≡ items_of es
-items_before-none [] = refl
-items_before-none (e ∷ es) = ap (more_items e.gap (item_of e.item)) (items_before-none es)
-
-pub items_before-push : (es : List Entry) (e : Entry) (items : Items) → items_before (es ++ e ∷ []) items ≡ items_before es (more_items e.gap (item_of e.item) items)
-items_before-push [] e items = refl
-items_before-push (d ∷ es) e items = ap (more_items d.gap (item_of d.item)) (items_before-push es e items)
 
 -- behind an item that stands here, the items go on
 pub goes_on : (before : Before) (items : Items) (text blanks from after rest : List ℕ) (item : ItemNode) → Longest is_blank text blanks from → Spells item from after → SpellsItems before items text rest → is_closing rest ≡ true → (others : Items) × SpellsItems (behind' item) others after rest
@@ -118,13 +105,14 @@ pub short_here : (text : List ℕ) (at : ℕ) → at ≤ length text → is_clos
 short_here text at within unended =
     ⊎_elim (λ all. absurd (both_ways (is_closing (drop at text)) unended (ap is_closing (drop_all at text (omega arith))))) (λ less. less) (eq-or-lt_of_le within)
 
--- the entry that a step finds goes behind the others
-pub read_more : (first before next : Before) (text : List ℕ) (from start to : ℕ) (all : List ℕ) (blanks : List ℕ) (es : List Entry) (entry : Entry) → Longest is_blank (drop from text) blanks (drop start text) → entry.gap ≡ kept before (kind_of (item_of entry.item)) (gap_of blanks) → next ≡ behind' (item_of entry.item) → Spells (item_of entry.item) (drop start text) (drop to text)
-    → ((items : Items) (rest : List ℕ) → SpellsItems before items (drop from text) rest → SpellsItems first (items_before es items) all rest)
-    → (items : Items) (rest : List ℕ) → SpellsItems next items (drop to text) rest → SpellsItems first (items_before (es ++ entry ∷ []) items) all rest
-read_more first before next text from start to all blanks es entry l gap same s read items rest more =
-    subst (λ xs. SpellsItems first xs all rest) (sym (items_before-push es entry items))
-    (read (more_items entry.gap (item_of entry.item) items) rest (blanks, drop start text, drop to text, l, gap, s, subst (λ b. SpellsItems b items (drop to text) rest) same more))
+-- what a step finds goes behind the items so far
+pub read_more : (first before next : Before) (text : List ℕ) (from start to : ℕ) (all : List ℕ) (blanks : List ℕ) (done : Items) (item : ItemNode) → Longest is_blank (drop from text) blanks (drop start text) → next ≡ behind' item → Spells item (drop start text) (drop to text)
+    → ((items : Items) (rest : List ℕ) → SpellsItems before items (drop from text) rest → SpellsItems first (join done items) all rest)
+    → (items : Items) (rest : List ℕ) → SpellsItems next items (drop to text) rest → SpellsItems first (join (join done (more_items (kept before (kind_of item) (gap_of blanks)) item no_item)) items) all rest
+read_more first before next text from start to all blanks done item l same s read items rest more =
+    let gap = kept before (kind_of item) (gap_of blanks) in
+    subst (λ xs. SpellsItems first xs all rest) (sym (join_assoc done (more_items gap item no_item) items))
+    (read (more_items gap item items) rest (blanks, drop start text, drop to text, l, refl, s, subst (λ b. SpellsItems b items (drop to text) rest) same more))
 
 pub all_more : (first before next : Before) (text : List ℕ) (from start to : ℕ) (all : List ℕ) (blanks : List ℕ) (item : ItemNode) → Longest is_blank (drop from text) blanks (drop start text) → next ≡ behind' item → Spells item (drop start text) (drop to text)
     → ((items : Items) (rest : List ℕ) → SpellsItems first items all rest → is_closing rest ≡ true → (others : Items) × SpellsItems before others (drop from text) rest)
@@ -134,27 +122,40 @@ all_more first before next text from start to all blanks item l same s complete 
     let further = goes_on before here.0 (drop from text) blanks (drop start text) (drop to text) rest item l s here.1 closed in
     (further.0, subst (λ b. SpellsItems b further.0 (drop to text) rest) (sym same) further.1)
 
--- where the steps end, the items are the entries
-pub read_all : (first before : Before) (text : List ℕ) (from at to : ℕ) (es : List Entry) → from ≤ at → ((items : Items) (rest : List ℕ) → SpellsItems before items (drop at text) rest → SpellsItems first (items_before es items) (drop from text) rest) → EndItems before text no_item at to → EndItems first text (items_of es) from to
-read_all first before text from at to es further read e =
-    (subst (λ xs. SpellsItems first xs (drop from text) (drop to text)) (items_before-none es) (read no_item (drop to text) e.0), e.1, omega (arith, e.2), e.3, e.4)
+-- where the steps end, the items are those so far
+pub read_all : (first before : Before) (text : List ℕ) (from at to : ℕ) (done : Items) → from ≤ at → ((items : Items) (rest : List ℕ) → SpellsItems before items (drop at text) rest → SpellsItems first (join done items) (drop from text) rest) → EndItems before text no_item at to → EndItems first text done from to
+read_all first before text from at to done further read e =
+    (subst (λ xs. SpellsItems first xs (drop from text) (drop to text)) (join_none done) (read no_item (drop to text) e.0), e.1, omega (arith, e.2), e.3, e.4)
 
 pub refused_all : (first before : Before) (text : List ℕ) (from at : ℕ) → ((items : Items) (rest : List ℕ) → SpellsItems first items (drop from text) rest → is_closing rest ≡ true → (others : Items) × SpellsItems before others (drop at text) rest) → SpellsNoItems before (drop at text) → SpellsNoItems first (drop from text)
 refused_all first before text from at complete never items rest s closed =
     let here = complete items rest s closed in never here.0 rest here.1 closed
 
 -- what stops inside stops the whole
-pub row_stops : (text : List ℕ) (at : ℕ) (stop : Stop) (r : Result (Item × ℕ) Stop) → at < length text → opens_row (drop at text) ≡ true → FindsItems behind_opening text (at + 1) (Err stop) → IsErrAnd r (λ s. s ≡ stop) → FindsItem text at r
-row_stops text at stop (Ok x) short opened h e = elim e [ ]
-row_stops text at stops.Refused (Err stops.Refused) short opened h e = row_refused text at short opened h
-row_stops text at stops.Memory (Err stops.Refused) short opened h e = cc
-row_stops text at stop (Err stops.Memory) short opened h e = tt
+pub row_stops : (text : List ℕ) (at : ℕ) (gap : Gap) (old mid new end : List Entry) (stop : Stop) (r : Result (Option ℕ × ℕ) Stop) → at < length text → opens_row (drop at text) ≡ true → FindsItems behind_opening text (at + 1) old mid (Err stop) → IsErrAnd r (λ s. s ≡ stop) → FindsRow text at gap new end r
+row_stops text at gap old mid new end stop (Ok x) short opened h e = elim e [ ]
+row_stops text at gap old mid new end stops.Refused (Err stops.Refused) short opened h e = row_refused text at short opened h
+row_stops text at gap old mid new end stops.Memory (Err stops.Refused) short opened h e = cc
+row_stops text at gap old mid new end stop (Err stops.Memory) short opened h e = tt
 
-pub step_stops : (before : Before) (text : List ℕ) (from to : ℕ) (gap : Gap) (stop : Stop) (r : Result Step Stop) → FindsGap text from gap to → is_closing (drop to text) ≡ false → FindsItem text to (Err stop) → IsErrAnd r (λ s. s ≡ stop) → FindsStep before text from r
-step_stops before text from to gap stop (Ok x) g unended h e = elim e [ ]
-step_stops before text from to gap stops.Refused (Err stops.Refused) g unended h e = none_here before (drop from text) g.0 (drop to text) g.1 unended h
-step_stops before text from to gap stops.Memory (Err stops.Refused) g unended h e = cc
-step_stops before text from to gap stop (Err stops.Memory) g unended h e = tt
+-- no item stands here, or there is no memory
+abbrev pub Stops : List ℕ → ℕ → Stop → Type 0
+Stops text at stops.Refused = SpellsNone (drop at text)
+Stops text at stops.Memory = Unit {0}
+
+pub row_stop : (text : List ℕ) (at : ℕ) (gap : Gap) (old new : List Entry) (stop : Stop) → FindsRow text at gap old new (Err stop) → Stops text at stop
+row_stop text at gap old new stops.Refused h = h
+row_stop text at gap old new stops.Memory h = tt
+
+pub item_stop : (text : List ℕ) (at : ℕ) (stop : Stop) → FindsItem text at (Err stop) → Stops text at stop
+item_stop text at stops.Refused h = h
+item_stop text at stops.Memory h = tt
+
+pub step_stops : (before : Before) (text : List ℕ) (from to : ℕ) (gap : Gap) (old new : List Entry) (stop : Stop) (r : Result Step Stop) → FindsGap text from gap to → is_closing (drop to text) ≡ false → Stops text to stop → IsErrAnd r (λ s. s ≡ stop) → FindsStep before text from old new r
+step_stops before text from to gap old new stop (Ok x) g unended h e = elim e [ ]
+step_stops before text from to gap old new stops.Refused (Err stops.Refused) g unended h e = none_here before (drop from text) g.0 (drop to text) g.1 unended h
+step_stops before text from to gap old new stops.Memory (Err stops.Refused) g unended h e = cc
+step_stops before text from to gap old new stop (Err stops.Memory) g unended h e = tt
 
 -- items that end before the text does are those of no document
 pub no_document : (text : List ℕ) (to : ℕ) (items : Items) → EndItems at_start text items 0 to → (to ≡ length text → ⊥) → (document : Items) → IsDocument text document → ⊥

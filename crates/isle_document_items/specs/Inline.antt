@@ -46,3 +46,7 @@ recorded fits n = if fits && nat_lt n (2 ^ 64) then Some n else None
 -- the counted length of the list of these items, where they may stand on one line
 abbrev pub length_on_one_line : Items → Option ℕ
 length_on_one_line items = recorded (are_inline items) (1 + counted_items items)
+
+-- what an item behind a gap adds to the counted length of its list, where the list may stand on one line
+abbrev pub added_length : Gap → ItemNode → Option ℕ
+added_length gap item = recorded (is_beside gap && is_inline item) (1 + counted item)

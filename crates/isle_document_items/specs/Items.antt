@@ -1,5 +1,5 @@
 -- The document of a text as pure values: what is written, in order, and the gap before each.
-use Rattle.std.specs.Prelude.{ℕ, ◌+◌, List}
+use Rattle.std.specs.Prelude.{ℕ, List}
 use Rattle.isle_document_items.specs.declared.document.Gap.{Gap}
 
 mutual
@@ -17,16 +17,3 @@ mutual
   pub data Items : Type 0 where
     no_item : Items
     more_items : Gap → ItemNode → Items → Items
-
--- how many items there are, those of the rows among them
-abbrev mutual
-  pub size_of_item : ItemNode → ℕ
-  size_of_item (word text) = 1
-  size_of_item sign = 1
-  size_of_item (note text) = 1
-  size_of_item (remark text) = 1
-  size_of_item (row items) = 1 + size_of_items items
-
-  pub size_of_items : Items → ℕ
-  size_of_items no_item = 0
-  size_of_items (more_items gap item items) = size_of_item item + size_of_items items

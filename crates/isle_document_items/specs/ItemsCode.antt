@@ -61,7 +61,7 @@ abbrev pub join : Items → Items → Items
 join no_item after = after
 join (more_items gap item items) after = more_items gap item (join items after)
 
-join_none : (items : Items) → join items no_item ≡ items
+pub join_none : (items : Items) → join items no_item ≡ items
 join_none no_item = refl
 join_none (more_items gap item items) = ap (more_items gap item) (join_none items)
 

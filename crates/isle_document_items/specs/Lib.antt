@@ -5,7 +5,6 @@ pub mod Grammar
 pub mod Inline
 pub mod Items
 pub mod ItemsCode
-pub mod ItemsFall
 pub mod ItemsView
 pub mod Matched
 pub mod PrecedingView

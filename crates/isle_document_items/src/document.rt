@@ -1,11 +1,10 @@
 //! The document of a text: its tokens and comments as they are written, and the gaps between them.
 
-ghost use Rattle.std.specs.Prelude.{◌≡◌, ◌+◌, ◌&&◌, ◌↔◌, ℕ, Bool, IsTrue, true};
+ghost use Rattle.std.specs.Prelude.{◌≡◌, ◌+◌, ◌&&◌, ℕ, Bool};
 ghost use Rattle.std.specs.List.{list_all};
 ghost use Rattle.isle_base.specs.Skips.{in_line};
-ghost use Rattle.isle_document_items.specs.Inline.{counted, is_beside, is_inline};
-ghost use Rattle.isle_document_items.specs.Inline.{length_on_one_line, recorded};
-ghost use Rattle.isle_document_items.specs.ItemsView.{item_of, items_of};
+ghost use Rattle.isle_document_items.specs.Inline.{counted, is_beside, is_inline, recorded};
+ghost use Rattle.isle_document_items.specs.ItemsView.{AreMeasured, item_of, items_of};
 
 use isle_base::lexer::line_comment_end;
 use std::marker::Model;
@@ -21,9 +20,8 @@ pub enum Gap {
     Apart,
 }
 
-/// An item of a document. Each text is borrowed from the source.
-#[cycle(document)]
-#[derive(Debug, Drop)]
+/// An item of a document that is no list. Each text is borrowed from the source.
+#[derive(Clone, Copy, Debug)]
 pub enum Item<'src> {
     /// A symbol or an integer, as it is written.
     Word(&'src str),
@@ -33,31 +31,28 @@ pub enum Item<'src> {
     Note(&'src str),
     /// A block comment: what follows its `(;`, with the `;)` that ends it.
     Remark(&'src str),
-    /// A list in parentheses.
-    Row(Document<'src>),
 }
 
-/// An item, with the gap before it.
-#[cycle(document)]
-#[derive(Debug, Drop)]
-pub struct Entry<'src> {
-    /// What stands between the item and what is before it.
-    pub gap: Gap,
-    /// The item.
-    pub item: Item<'src>,
+/// A piece of a document, in the order of the text: an item that is no list, or a parenthesis.
+#[derive(Clone, Copy, Debug)]
+pub enum Entry<'src> {
+    /// An item that is no list, with the gap before it.
+    Plain(Gap, Item<'src>),
+    /// The `(` of a list, with the gap before it, and the counted length of the list on one line,
+    /// if it may stand on one.
+    Open(Gap, Option<usize>),
+    /// The `)` of a list.
+    Close,
 }
 
-/// Items in order: those of a whole text, or of a list.
-#[cycle(document)]
+/// The items of a text in order.
 #[derive(Debug, Drop)]
 pub struct Document<'src> {
     entries: Vec<Entry<'src>>,
-    /// The counted length of the list of the items on one line, if they may stand on one.
-    inline_length: Option<usize>,
 }
 
 impl<'src> Model for Document<'src> {
-    ghost use Rattle.isle_document_items.specs.Items.{Items, size_of_items};
+    ghost use Rattle.isle_document_items.specs.Items.{Items};
 
     ghost Value = { Items };
 
@@ -69,49 +64,26 @@ impl<'src> Model for Document<'src> {
 
     ghost view = { λ a. items_of a.entries.items };
 
-    ghost use Rattle.std.specs.Prelude.{◌≡◌};
-    ghost use Rattle.isle_document_items.specs.Inline.{length_on_one_line};
+    ghost use Rattle.isle_document_items.specs.ItemsView.{AreMeasured};
 
-    ghost invariant = { λ a. a.inline_length ≡ length_on_one_line (items_of a.entries.items) };
-
-    ghost size = { size_of_items };
-
-    ghost use Rattle.isle_document_items.specs.ItemsFall.{items_fall};
-
-    ghost size_decreases = { λ a h. items_fall a.entries.items };
+    ghost invariant = { λ a. AreMeasured a.entries.items };
 }
 
 impl<'src> Document<'src> {
     /// Makes the document of these entries.
-    pub fn new(entries: Vec<Entry<'src>>) -> Document<'src>
+    pub(crate) fn new(entries: Vec<Entry<'src>>) -> Document<'src>
+        requires { AreMeasured entries.items }
         ensures { result ≡ items_of entries.entry.items }
     {
-        let mut length = Some(1);
-        for entry in &entries {
-            length = with_entry(length, entry);
-        }
-        Document {
-            entries,
-            inline_length: length,
-        }
+        Document { entries }
     }
 
     /// Gives the entries in order.
     pub fn entries(&self) -> &[Entry<'src>]
-        ensures { items_of result.now ≡ self.now }
+        ensures items { items_of result.now ≡ self.now }
+        ensures measured { AreMeasured result.now }
     {
         &self.entries
-    }
-
-    /// Gives the counted length of the list of these items on one line: 1, and for each item 1 more
-    /// than the item, which counts its bytes.
-    ///
-    /// There is none where something forces a break: a line comment, a block comment with a line
-    /// end in it, or a gap that isn't beside. Nor is there one past the greatest number.
-    pub fn inline_length(&self) -> Option<usize>
-        ensures { result ≡ length_on_one_line self.now }
-    {
-        self.inline_length
     }
 }
 
@@ -123,7 +95,7 @@ fn is_in_line(text: &str) -> bool
 }
 
 /// Gives the counted length of an item on one line, if it may stand on one.
-fn item_length(item: &Item) -> Option<usize>
+pub(crate) fn item_length(item: &Item) -> Option<usize>
     ensures { result ≡ recorded (is_inline (item_of item.now)) (counted (item_of item.now)) }
 {
     match item {
@@ -137,21 +109,24 @@ fn item_length(item: &Item) -> Option<usize>
                 None
             }
         }
-        Item::Row(document) => document.inline_length,
     }
 }
 
-/// Gives the length with an entry more.
-fn with_entry(length: Option<usize>, entry: &Entry) -> Option<usize>
-    ensures { (fits : Bool) (n : ℕ) → length ≡ recorded fits n → result
-        ≡ recorded (fits && (is_beside entry.now.gap && is_inline (item_of entry.now.item)))
-        (n + (1 + counted (item_of entry.now.item))) }
+/// Gives what an item of this length on one line adds to that of its list.
+pub(crate) fn entry_length(gap: Gap, length: Option<usize>) -> Option<usize>
+    ensures { (fits : Bool) (n : ℕ) → length ≡ recorded fits n
+        → result ≡ recorded (is_beside gap && fits) (1 + n) }
 {
-    match entry.gap {
-        Gap::Beside => {
-            let one_more = length?.checked_add(1)?;
-            one_more.checked_add(item_length(&entry.item)?)
-        }
+    match gap {
+        Gap::Beside => length?.checked_add(1),
         Gap::Below | Gap::Apart => None,
     }
+}
+
+/// Gives the sum of two lengths, if there are both.
+pub(crate) fn sum(first: Option<usize>, second: Option<usize>) -> Option<usize>
+    ensures { (fits more : Bool) (n m : ℕ) → first ≡ recorded fits n → second ≡ recorded more m
+        → result ≡ recorded (fits && more) (n + m) }
+{
+    first?.checked_add(second?)
 }

@@ -3,6 +3,7 @@
 ghost use Rattle.std.specs.Prelude.{◌≡◌};
 ghost use Rattle.isle_document_items.specs.Gaps.{behind as place_behind, gap_of as gap_in};
 ghost use Rattle.isle_document_items.specs.Gaps.{further as once_further, kept as gap_kept, kind_of};
+ghost use Rattle.isle_document_items.specs.Gaps.{code_kind, comment_kind, sign_kind};
 ghost use Rattle.isle_document_items.specs.Gaps.{not_apart as no_empty_line};
 ghost use Rattle.isle_document_items.specs.Gaps.{not_beside as on_new_line};
 ghost use Rattle.isle_document_items.specs.Gaps.{only_apart as empty_line_alone};
@@ -38,7 +39,6 @@ impl Preceding {
             Item::Sign => Preceding::Sign,
             Item::Note(_) => Preceding::Note,
             Item::Remark(_) => Preceding::Remark,
-            Item::Row(_) => Preceding::Code,
         }
     }
 }
@@ -97,18 +97,36 @@ fn not_beside(gap: Gap) -> Gap
     }
 }
 
-/// Gives what a document keeps of the gap before an item.
+/// Gives what a document keeps of the gap before an item that is no list.
 pub fn kept(preceding: Preceding, item: &Item, gap: Gap) -> Gap
     ensures { result ≡ gap_kept (before_of preceding) (kind_of (item_of item.now)) gap }
 {
-    let is_comment = matches!(item, Item::Note(_) | Item::Remark(_));
+    match item {
+        Item::Word(_) | Item::Sign => kept_before_code(preceding, gap),
+        Item::Note(_) | Item::Remark(_) => kept_before_comment(preceding, gap),
+    }
+}
+
+/// Gives what a document keeps of the gap before a word, a sign or a list.
+pub(crate) fn kept_before_code(preceding: Preceding, gap: Gap) -> Gap
+    ensures code { result ≡ gap_kept (before_of preceding) code_kind gap }
+    ensures sign { result ≡ gap_kept (before_of preceding) sign_kind gap }
+{
+    match preceding {
+        Preceding::Start | Preceding::Opening => Gap::Beside,
+        Preceding::Remark => gap,
+        Preceding::Note | Preceding::Sign | Preceding::Code => only_apart(gap),
+    }
+}
+
+/// Gives what a document keeps of the gap before a comment.
+fn kept_before_comment(preceding: Preceding, gap: Gap) -> Gap
+    ensures { result ≡ gap_kept (before_of preceding) comment_kind gap }
+{
     match preceding {
         Preceding::Start => Gap::Beside,
-        Preceding::Opening if is_comment => not_apart(gap),
-        Preceding::Opening => Gap::Beside,
-        Preceding::Note if is_comment => not_beside(gap),
-        Preceding::Remark => gap,
-        Preceding::Sign | Preceding::Code if is_comment => gap,
-        Preceding::Note | Preceding::Sign | Preceding::Code => only_apart(gap),
+        Preceding::Opening => not_apart(gap),
+        Preceding::Note => not_beside(gap),
+        Preceding::Remark | Preceding::Sign | Preceding::Code => gap,
     }
 }

@@ -8,16 +8,16 @@ ghost use Rattle.isle_base.specs.Pieces.{is_lone_minus, symbol_here};
 ghost use Rattle.isle_base.specs.Skips.{begins_with, is_blank, opens};
 ghost use Rattle.isle_base.specs.Bytes.{semicolon};
 ghost use Rattle.isle_document_items.specs.Closings.{is_closing};
-ghost use Rattle.isle_document_items.specs.Finds.{FindsItem, FindsItems, FindsStep, Stands};
-ghost use Rattle.isle_document_items.specs.Finds.{FindsGap, opens_row};
+ghost use Rattle.isle_document_items.specs.Finds.{FindsItem, FindsItems, FindsRow, FindsStep};
+ghost use Rattle.isle_document_items.specs.Finds.{FindsGap, Stands, opens_row};
 ghost use Rattle.isle_document_items.specs.Grammar.{IsDocument};
 ghost use Rattle.isle_document_items.specs.Items.{Items};
 ghost use Rattle.isle_document_items.specs.ItemsView.{item_of};
 ghost use Rattle.isle_document_items.specs.PrecedingView.{before_of};
 ghost use Rattle.isle_document_items.specs.declared.reader.Stop.TheVariants as stops;
 
-use crate::document::{Document, Entry, Gap, Item};
-use crate::gaps::{Preceding, gap_of, kept};
+use crate::document::{Document, Entry, Gap, Item, entry_length, item_length, sum};
+use crate::gaps::{Preceding, gap_of, kept, kept_before_code};
 use isle_base::lexer::{blank_end, line_comment_end, symbol_end};
 use isle_base::pieces::{block_comment_end, integer_end, is_lone_minus_at, opens_at};
 use std::alloc::{AllocError, AllocFailed, Global};
@@ -49,9 +49,10 @@ impl<T: Drop> From<AllocFailed<T>> for Stop {
 
 /// What stands behind blanks.
 #[derive(Drop)]
-pub enum Step<'src> {
-    /// An item with the gap before it, what the next one follows, and the offset behind the item.
-    More(Entry<'src>, Preceding, usize),
+pub enum Step {
+    /// An item: what the next one follows, the length that it adds to its list's on one line, if
+    /// that may stand on one, and the offset behind the item.
+    More(Preceding, Option<usize>, usize),
     /// The end of the items, at this offset.
     End(usize),
 }
@@ -165,6 +166,7 @@ fn gap_at(bytes: &[u8], from: usize) -> (Gap, usize)
 }
 
 /// Reads the item at an offset, which is no list.
+#[inline(always)]
 fn plain_at<'src>(text: &'src str, start: usize) -> Result<(Item<'src>, usize), Stop>
     requires within { start < length text.now }
     requires first { IsUtf8 (drop start text.now) }
@@ -184,86 +186,96 @@ fn plain_at<'src>(text: &'src str, start: usize) -> Result<(Item<'src>, usize), 
     }
 }
 
-/// Reads the list whose `(` is at an offset.
+/// Reads the list whose `(` is at an offset, and appends its entries, of which the first has this
+/// gap. Gives its length on one line, and the offset behind it.
 #[cycle(reading)]
-fn row_at<'src>(text: &'src str, start: usize, alloc: Global) -> Result<(Item<'src>, usize), Stop>
+#[inline(always)]
+fn row_at<'src>(
+    text: &'src str,
+    start: usize,
+    gap: Gap,
+    alloc: Global,
+    entries: &mut Vec<Entry<'src>>,
+) -> Result<(Option<usize>, usize), Stop>
     requires within { start < length text.now }
     requires first { IsUtf8 (drop start text.now) }
     requires row { opens_row (drop start text.now) ≡ true }
-    ensures { FindsItem text.now start result }
+    ensures { FindsRow text.now start gap entries.old.items entries.new.items result }
 {
-    let (inner, end) = items_at(text, start + 1, Preceding::Opening, alloc)?;
+    let opening = entries.len();
+    entries.push(Entry::Open(gap, None))?;
+    let (length, end) = items_at(text, start + 1, Preceding::Opening, alloc, entries)?;
     if end == text.len() {
-        Err(Stop::Refused)
-    } else {
-        Ok((Item::Row(inner), end + 1))
+        return Err(Stop::Refused);
     }
+    entries[opening] = Entry::Open(gap, length);
+    entries.push(Entry::Close)?;
+    Ok((length, end + 1))
 }
 
-/// Reads the item at an offset.
-#[cycle(reading)]
-fn item_at<'src>(text: &'src str, start: usize, alloc: Global) -> Result<(Item<'src>, usize), Stop>
-    requires within { start < length text.now }
-    requires first { IsUtf8 (drop start text.now) }
-    requires not_blank { begins_with is_blank (drop start text.now) ≡ false }
-    requires no_end { is_closing (drop start text.now) ≡ false }
-    ensures { FindsItem text.now start result }
-{
-    if opens_row_at(text.as_bytes(), start) {
-        row_at(text, start, alloc)
-    } else {
-        plain_at(text, start)
-    }
-}
-
-/// Reads what stands behind the blanks at an offset: an item, whole, with the gap that is kept
-/// before it, where it follows this; or the end of the items, at a `)` or at the end of the text.
+/// Reads what stands behind the blanks at an offset: an item, whole, whose entries it appends, with
+/// the gap that is kept before it, where it follows this; or the end of the items, at a `)` or at
+/// the end of the text.
 ///
-/// `Refused` comes where neither stands there, and `Memory` where a growth was refused.
+/// `Refused` comes where neither stands there, and `Memory` where a growth was refused. Some entries
+/// of the item may have been appended then.
 #[cycle(reading)]
+#[inline(always)]
 pub fn step_at<'src>(
     text: &'src str,
     from: usize,
     preceding: Preceding,
     alloc: Global,
-) -> Result<Step<'src>, Stop>
+    entries: &mut Vec<Entry<'src>>,
+) -> Result<Step, Stop>
     requires within { from ≤ length text.now }
     requires first { IsUtf8 (drop from text.now) }
-    ensures { FindsStep (before_of preceding) text.now from result }
+    ensures { FindsStep (before_of preceding) text.now from entries.old.items entries.new.items
+        result }
 {
     let (gap, start) = gap_at(text.as_bytes(), from);
     if closes_at(text.as_bytes(), start) {
         return Ok(Step::End(start));
     }
-    let (item, end) = item_at(text, start, alloc)?;
+    if opens_row_at(text.as_bytes(), start) {
+        let gap = kept_before_code(preceding, gap);
+        let (length, end) = row_at(text, start, gap, alloc, entries)?;
+        return Ok(Step::More(Preceding::Code, entry_length(gap, length), end));
+    }
+    let (item, end) = plain_at(text, start)?;
     let gap = kept(preceding, &item, gap);
-    let next = Preceding::behind(&item);
-    Ok(Step::More(Entry { gap, item }, next, end))
+    entries.push(Entry::Plain(gap, item))?;
+    let length = entry_length(gap, item_length(&item));
+    Ok(Step::More(Preceding::behind(&item), length, end))
 }
 
-/// Reads items from an offset up to where they end, the first of which follows this.
+/// Reads items from an offset up to where they end, the first of which follows this, and appends
+/// their entries. Gives the length on one line of the list of them, and the offset of their end.
 #[cycle(reading)]
+#[inline(never)]
 fn items_at<'src>(
     text: &'src str,
     from: usize,
     first: Preceding,
     alloc: Global,
-) -> Result<(Document<'src>, usize), Stop>
+    entries: &mut Vec<Entry<'src>>,
+) -> Result<(Option<usize>, usize), Stop>
     requires within { from ≤ length text.now }
     requires first { IsUtf8 (drop from text.now) }
-    ensures { FindsItems (before_of first) text.now from result }
+    ensures { FindsItems (before_of first) text.now from entries.old.items entries.new.items
+        result }
 {
-    let mut entries = Vec::new(alloc);
+    let mut length = Some(1);
     let mut preceding = first;
     let mut at = from;
     loop {
-        match step_at(text, at, preceding, alloc)? {
-            Step::More(entry, next, end) => {
-                entries.push(entry)?;
+        match step_at(text, at, preceding, alloc, entries)? {
+            Step::More(next, more, end) => {
+                length = sum(length, more);
                 preceding = next;
                 at = end;
             }
-            Step::End(end) => return Ok((Document::new(entries), end)),
+            Step::End(end) => return Ok((length, end)),
         }
     }
 }
@@ -283,10 +295,11 @@ pub fn read_document<'src>(
     ensures refused { result ≡ Ok None
         → (document : Items) → IsDocument text.now document → ⊥ }
 {
-    match items_at(text, 0, Preceding::Start, alloc) {
-        Ok((document, end)) => {
+    let mut entries = Vec::new(alloc);
+    match items_at(text, 0, Preceding::Start, alloc, &mut entries) {
+        Ok((_, end)) => {
             if end == text.len() {
-                Ok(Some(document))
+                Ok(Some(Document::new(entries)))
             } else {
                 Ok(None)
             }

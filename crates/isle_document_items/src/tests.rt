@@ -1,4 +1,4 @@
-use crate::document::{Document, Entry, Gap, Item};
+use crate::document::{Entry, Gap, Item};
 use crate::gaps::{Preceding, gap_of, kept};
 use crate::reader::read_document;
 use std::alloc::AllocError;
@@ -9,13 +9,13 @@ fn reads_each_kind_of_item(rt: HostRuntime) -> Result<(), AllocError> {
     let document = read_document(alloc, "-0x10; n\n\n(é@(; r ;)\n)")?;
     let shown = format!(in alloc; "{document:?}")?;
     let want = "Some(Document { entries: [\
-        Entry { gap: Beside, item: Word(\"-0x10\") }, \
-        Entry { gap: Beside, item: Note(\" n\") }, \
-        Entry { gap: Apart, item: Row(Document { entries: [\
-        Entry { gap: Beside, item: Word(\"é\") }, \
-        Entry { gap: Beside, item: Sign }, \
-        Entry { gap: Beside, item: Remark(\" r ;)\") }\
-        ], inline_length: Some(14) }) }], inline_length: None })";
+        Plain(Beside, Word(\"-0x10\")), \
+        Plain(Beside, Note(\" n\")), \
+        Open(Apart, Some(14)), \
+        Plain(Beside, Word(\"é\")), \
+        Plain(Beside, Sign), \
+        Plain(Beside, Remark(\" r ;)\")), \
+        Close] })";
     assert_eq!(&rt; shown.as_str(), want);
     Ok(())
 }
@@ -31,14 +31,27 @@ fn refuses_what_is_no_document(rt: HostRuntime) -> Result<(), AllocError> {
 
 #[test]
 fn counts_what_is_on_one_line(rt: HostRuntime) -> Result<(), AllocError> {
-    let entry = Entry {
-        gap: Gap::Beside,
-        item: Item::Word("ab"),
-    };
-    let document = Document::new(vec![in rt.alloc(); entry]?);
-    assert_eq!(&rt; document.inline_length(), Some(4));
-    assert_eq!(&rt; document.entries().len(), 1);
+    for (text, want) in [
+        ("(ab)", Some(4)),
+        ("(a (b) @)", Some(9)),
+        ("(a\n\nb)", None),
+    ] {
+        let document = read_document(rt.alloc(), text)?;
+        let length = match &document {
+            Some(read) => length_at_start(read.entries()),
+            None => None,
+        };
+        assert_eq!(&rt; length, want);
+    }
     Ok(())
+}
+
+/// Gives the length of a list that stands first.
+fn length_at_start(entries: &[Entry]) -> Option<usize> {
+    match entries.first() {
+        Some(Entry::Open(_, length)) => *length,
+        _ => None,
+    }
 }
 
 #[test]

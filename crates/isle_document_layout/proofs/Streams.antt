@@ -1,17 +1,20 @@
 -- Tidying a text item by item: what is written so far, and then the items to come, is the tidy text
 -- of its document.
-use Rattle.std.proofs.Common.{◌≡◌, ℕ, ◌<◌, ◌≤◌, List, [], ◌++◌, drop, length, refl, sym, ap, subst, arith, length-drop}
+use Rattle.std.proofs.Common.{◌≡◌, ℕ, ◌<◌, ◌≤◌, List, [], ◌∷◌, ◌++◌, Option, drop, length, refl, sym, ap, subst, arith, length-drop}
 use Rattle.isle_document_items.specs.declared.document.Entry.{Entry}
+use Rattle.isle_document_items.specs.declared.document.Gap.{Gap}
 use Rattle.isle_document_items.specs.declared.gaps.Preceding.{Preceding}
 use Rattle.isle_document_items.specs.declared.reader.Step.TheVariants as steps
 use Rattle.std.specs.Prelude.{Ok}
 use Rattle.std.proofs.lemmas.List.{drop_all}
 use Rattle.isle_document_items.specs.Finds.{EndItems, FindsStep, SpellsNoItems}
-use Rattle.isle_document_items.specs.Gaps.{Before, behind}
+use Rattle.isle_document_items.specs.Gaps.{Before, behind, gap_of, kept, kind_of}
 use Rattle.isle_document_items.specs.Grammar.{SpellsItems, IsDocument}
-use Rattle.isle_document_items.specs.Items.{Items, no_item, more_items}
-use Rattle.isle_document_items.specs.ItemsView.{item_of}
+use Rattle.isle_document_items.specs.Items.{ItemNode, Items, no_item, more_items}
+use Rattle.isle_document_items.specs.ItemsCode.{Right}
+use Rattle.isle_document_items.specs.ItemsView.{AreMeasured, read_entries}
 use Rattle.isle_document_items.specs.PrecedingView.{before_of}
+use Rattle.isle_document_items.proofs.Entries.{Appends-whole}
 use Rattle.isle_document_items.proofs.Listing.{goes_on}
 use Rattle.isle_document_items.proofs.Unique.{SpellsItems-unique}
 use Rattle.isle_document_layout.specs.declared.spacing.How.TheVariants.{Broken}
@@ -28,6 +31,14 @@ level_of_text Blank = refl
 level_of_text OneLine = refl
 level_of_text TwoLines = refl
 
+abbrev first_count : Items → ℕ
+first_count no_item = 0
+first_count (more_items gap item items) = 1
+
+not_empty : (entries : List Entry) (gap : Gap) (item : ItemNode) → read_entries entries ≡ (more_items gap item no_item, []) → 0 < length entries
+not_empty [] gap item r = absurd (omega (arith, ap (λ (x : Right). first_count x.0) r))
+not_empty (e ∷ es) gap item r = omega arith
+
 -- What is known where the items that follow `before` are read from an offset on: whatever is spelt from
 -- there to the end of the text is the rest of a document, of whose tidy text this much is written; and each
 -- document of the text goes on there.
@@ -37,24 +48,35 @@ pub record IsWritten (width : ℕ) (text : List ℕ) (before : Before) (at room 
       → IsTidyTextOf width text (written ++ put_items width Broken before items room 0 0)
   pub all : (document : Items) → IsDocument text document → (items : Items) × SpellsItems before items (drop at text) []
 
--- one entry more
-pub one_more : (width : ℕ) (text : List ℕ) (preceding next : Preceding) (at to room left : ℕ) (entry : Entry) (old new : List ℕ)
+-- one item more
+pub one_more : (width : ℕ) (text : List ℕ) (preceding next : Preceding) (at to room left : ℕ) (long : Option ℕ) (none entries : List Entry) (old new : List ℕ)
     → IsWritten width text (before_of preceding) at room old
-    → FindsStep (before_of preceding) text at (Ok (steps.More entry next to))
-    → ((items : Items) → old ++ put_items width Broken (before_of preceding) (more_items entry.gap (item_of entry.item) items) room 0 0 ≡ new ++ put_items width Broken (behind (item_of entry.item)) items left 0 0)
+    → FindsStep (before_of preceding) text at none entries (Ok (steps.More next long to))
+    → none ≡ []
+    → ((gap : Gap) (item : ItemNode) (items : Items) → read_entries entries ≡ (more_items gap item no_item, [])
+    → old ++ put_items width Broken (before_of preceding) (more_items gap item items) room 0 0 ≡ new ++ put_items width Broken (behind item) items left 0 0)
     → IsWritten width text (before_of next) to left new
-one_more width text preceding next at to room left entry old new so_far found put =
-    let item = item_of entry.item in
+one_more width text preceding next at to room left long none entries old new so_far found empty put =
+    let item = found.2 in
+    let gap = kept (before_of preceding) (kind_of item) (gap_of found.0) in
+    let whole = Appends-whole (more_items gap item no_item) none entries empty found.8 in
     let from = drop found.1 text in
     subst (λ before. IsWritten width text before to left new) (sym found.5)
     (record {
       read = λ items more.
-          subst (IsTidyTextOf width text) (put items)
-          (so_far.read (more_items entry.gap item items) (found.0, from, drop to text, found.2, found.4, found.6.0, more));
+          subst (IsTidyTextOf width text) (put gap item items whole.0)
+          (so_far.read (more_items gap item items) (found.0, from, drop to text, found.3, refl, found.6.0, more));
       all = λ document is.
           let here = so_far.all document is in
-          goes_on (before_of preceding) here.0 (drop at text) found.0 from (drop to text) [] item found.2 found.6.0 here.1 refl;
+          goes_on (before_of preceding) here.0 (drop at text) found.0 from (drop to text) [] item found.3 found.6.0 here.1 refl;
     })
+
+-- what a step appends to nothing is measured, and begins an item
+pub begun : (text : List ℕ) (before : Before) (next : Preceding) (at to : ℕ) (long : Option ℕ) (none entries : List Entry) → FindsStep before text at none entries (Ok (steps.More next long to)) → none ≡ [] → (0 < length entries) × AreMeasured entries
+begun text before next at to long none entries found empty =
+    let item = found.2 in
+    let whole = Appends-whole (more_items (kept before (kind_of item) (gap_of found.0)) item no_item) none entries empty found.8 in
+    (not_empty entries (kept before (kind_of item) (gap_of found.0)) item whole.0, whole.1)
 
 -- the end of the text
 pub all_written : (width : ℕ) (text : List ℕ) (before : Before) (at to room : ℕ) (written answer : List ℕ) → IsWritten width text before at room written

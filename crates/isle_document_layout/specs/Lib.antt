@@ -1,5 +1,6 @@
 pub mod Documents
 pub mod KindView
+pub mod ListEnds
 pub mod OneLine
 pub mod Spacing
 pub mod Tidy

@@ -1,13 +1,14 @@
 //! What the layout writes between items: nothing, a space or line ends.
 
-ghost use Rattle.std.specs.Prelude.{◌≡◌, ◌≤◌, ◌++◌, OnOk, string_bytes, string_len};
+ghost use Rattle.std.specs.Prelude.{◌≡◌, ◌≤◌, ◌++◌, List, OnOk, string_bytes, string_len};
+ghost use Rattle.isle_document_items.specs.declared.document.Entry.{Entry};
 ghost use Rattle.isle_document_items.specs.Gaps.{kind_of};
-ghost use Rattle.isle_document_items.specs.ItemsView.{item_of};
+ghost use Rattle.isle_document_items.specs.ItemsView.{gap_in, item_in};
 ghost use Rattle.isle_document_items.specs.PrecedingView.{before_of};
 ghost use Rattle.isle_document_layout.specs.KindView.{item_kind_of};
 ghost use Rattle.isle_document_layout.specs.Spacing as table;
 
-use isle_document_items::document::{Gap, Item};
+use isle_document_items::document::{Entry, Gap, Item};
 use isle_document_items::gaps::Preceding;
 use std::alloc::AllocError;
 
@@ -44,14 +45,24 @@ pub(crate) enum ItemKind {
     Comment,
 }
 
-/// Gives the kind of an item.
-pub(crate) fn kind_of_item(item: &Item) -> ItemKind
-    ensures { item_kind_of result ≡ kind_of (item_of item.now) }
+/// Gives the kind of the item that an entry begins.
+pub(crate) fn kind_of_entry(entry: &Entry) -> ItemKind
+    ensures { (rest : List Entry) → item_kind_of result ≡ kind_of (item_in entry.now rest) }
 {
-    match item {
-        Item::Word(_) | Item::Row(_) => ItemKind::Code,
-        Item::Sign => ItemKind::Sign,
-        Item::Note(_) | Item::Remark(_) => ItemKind::Comment,
+    match entry {
+        Entry::Plain(_, Item::Word(_)) | Entry::Open(_, _) | Entry::Close => ItemKind::Code,
+        Entry::Plain(_, Item::Sign) => ItemKind::Sign,
+        Entry::Plain(_, Item::Note(_) | Item::Remark(_)) => ItemKind::Comment,
+    }
+}
+
+/// Gives the gap before an entry.
+pub(crate) fn gap_before(entry: &Entry) -> Gap
+    ensures { result ≡ gap_in entry.now }
+{
+    match entry {
+        Entry::Plain(gap, _) | Entry::Open(gap, _) => *gap,
+        Entry::Close => Gap::Beside,
     }
 }
 
@@ -163,6 +174,7 @@ pub(crate) fn level_behind(here: usize, level: usize, space: Space) -> usize
 }
 
 /// Appends a space, where lines are indented to a level.
+#[inline(always)]
 pub(crate) fn put_space(space: Space, level: usize, out: &mut String) -> Result<(), AllocError>
     ensures written { OnOk result
         (string_bytes out.new ≡ string_bytes out.old ++ table.space_text level space) }

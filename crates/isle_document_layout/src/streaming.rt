@@ -1,16 +1,20 @@
 //! Tidying a text as it is read, one item after another.
 
-ghost use Rattle.std.specs.Prelude.{◌≡◌, ◌++◌, IfOk, IfSome, None, Ok, string_bytes};
+ghost use Rattle.std.specs.Prelude.{◌≡◌, ◌<◌, ◌++◌, [], IfOk, IfSome, None, Ok, length};
+ghost use Rattle.std.specs.Prelude.{string_bytes};
+ghost use Rattle.isle_document_items.specs.declared.document.Gap.{Gap};
 ghost use Rattle.isle_document_items.specs.Gaps.{behind};
 ghost use Rattle.isle_document_items.specs.Grammar.{IsDocument};
-ghost use Rattle.isle_document_items.specs.Items.{Items, more_items};
-ghost use Rattle.isle_document_items.specs.ItemsView.{item_of};
+ghost use Rattle.isle_document_items.specs.Items.{ItemNode, Items, more_items, no_item};
+ghost use Rattle.isle_document_items.specs.ItemsView.{AreMeasured, read_entries};
 ghost use Rattle.isle_document_items.specs.PrecedingView.{before_of};
 ghost use Rattle.isle_document_layout.specs.Tidied.{IsTidyTextOf};
 ghost use Rattle.isle_document_layout.specs.Tidy.{put_items};
 ghost use Rattle.isle_document_layout.specs.declared.spacing.How.TheVariants.{Broken};
 
-use crate::spacing::{How, kind_of_item, put_space, room_behind, space_at_end, space_before};
+use crate::spacing::{
+    How, gap_before, kind_of_entry, put_space, room_behind, space_at_end, space_before,
+};
 use crate::writing::{put_item, room_behind_item};
 use isle_document_items::document::Entry;
 use isle_document_items::gaps::Preceding;
@@ -29,13 +33,15 @@ pub fn tidy_text(alloc: Global, text: &str, width: usize) -> Result<Option<Strin
         → (document : Items) → IsDocument text.now document → ⊥ }
 {
     let mut answer = String::new(alloc);
+    let mut entries = Vec::new(alloc);
     let mut preceding = Preceding::Start;
     let mut room = width;
     let mut at = 0;
     loop {
-        match step_at(text, at, preceding, alloc) {
-            Ok(Step::More(entry, next, end)) => {
-                room = put_entry(&entry, width, preceding, room, &mut answer)?;
+        entries.clear();
+        match step_at(text, at, preceding, alloc, &mut entries) {
+            Ok(Step::More(next, _, end)) => {
+                room = put_entry(&entries, width, preceding, room, &mut answer)?;
                 preceding = next;
                 at = end;
             }
@@ -52,24 +58,32 @@ pub fn tidy_text(alloc: Global, text: &str, width: usize) -> Result<Option<Strin
     }
 }
 
-/// Appends an item of a text behind its space, where the line has this room left, and gives what is
-/// left behind the item.
+/// Appends the item of a text that has these entries behind its space, where the line has this room
+/// left, and gives what is left behind the item.
 fn put_entry(
-    entry: &Entry,
+    entries: &[Entry],
     width: usize,
     preceding: Preceding,
     room: usize,
     out: &mut String,
 ) -> Result<usize, AllocError>
-    ensures { IfOk result (λ left. (items : Items)
+    requires begun { 0 < length entries.now }
+    requires measured { AreMeasured entries.now }
+    ensures { IfOk result (λ left. (gap : Gap) (item : ItemNode) (items : Items)
+        → read_entries entries.now ≡ (more_items gap item no_item, [])
         → string_bytes out.old ++ put_items width Broken (before_of preceding)
-        (more_items entry.now.gap (item_of entry.now.item) items) room 0 0
-        ≡ string_bytes out.new
-        ++ put_items width Broken (behind (item_of entry.now.item)) items left 0 0) }
+        (more_items gap item items) room 0 0
+        ≡ string_bytes out.new ++ put_items width Broken (behind item) items left 0 0) }
 {
-    let space = space_before(How::Broken, preceding, kind_of_item(&entry.item), entry.gap);
+    let entry = &entries[0];
+    let space = space_before(
+        How::Broken,
+        preceding,
+        kind_of_entry(entry),
+        gap_before(entry),
+    );
     put_space(space, 0, out)?;
     let left = room_behind(width, room, space);
-    put_item(&entry.item, width, left, 0, out)?;
-    Ok(room_behind_item(&entry.item, left))
+    put_item(entries, 0, width, left, 0, out)?;
+    Ok(room_behind_item(entry, left))
 }
