@@ -6,7 +6,6 @@ pub mod Complete
 pub mod Exists
 pub mod Utf8
 pub mod Found
-pub mod LabelLemmas
 pub mod LaneLemmas
 pub mod Numbers
 pub mod Places

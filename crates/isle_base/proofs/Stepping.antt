@@ -1,5 +1,5 @@
 -- What the calls of a lexer do to what it has still to give.
-use Rattle.std.proofs.Common.{◌≡◌, ℕ, zero, suc, ◌-◌, ◌≤◌, List, [], ◌∷◌, Bool, true, false, Option, Some, None, IfSome, is_some, length, drop, refl, sym, ap, subst, arith, length-drop}
+use Rattle.std.proofs.Common.{◌≡◌, ℕ, zero, suc, ◌-◌, ◌≤◌, List, [], ◌∷◌, Bool, true, false, Option, Some, None, IfSome, is_some, length, drop, refl, sym, ap, subst, ◌∙◌, arith, length-drop}
 use Rattle.isle_base_errors.specs.declared.error.Error.{Error}
 use Rattle.isle_base.specs.declared.scanner.Scanner.TheInside.{Inside}
 use Rattle.isle_base_errors.specs.declared.pos.Pos.{Pos}
@@ -153,7 +153,23 @@ pub shown_taken : (old new : Feed) (o : Option (Pos × TokenRef)) → is_some o 
 shown_taken old new None some h = absurd cc
 shown_taken old new (Some x) some h = first_taken old new (placed_ref x) h
 
+ahead_parts : (text : List ℕ) (pos : Pos) (o : Option (Pos × TokenRef)) (failed : Bool) → is_some (lookahead (feed_parts text pos o failed)) ≡ true → IsAhead text pos o failed → (is_some o ≡ true) × (failed ≡ false)
+ahead_parts text pos None failed some h = absurd cc
+ahead_parts text pos (Some x) failed some h = (refl, h.2)
+
 -- a token is shown, so there is one, and the scanner isn't failed
-pub shown_ahead : (text : List ℕ) (pos : Pos) (o : Option (Pos × TokenRef)) (failed : Bool) → is_some (lookahead (feed_parts text pos o failed)) ≡ true → IsAhead text pos o failed → (is_some o ≡ true) × (failed ≡ false)
-shown_ahead text pos None failed some h = absurd cc
-shown_ahead text pos (Some x) failed some h = (refl, h.2)
+pub record Shown (a : Inside) (now : Feed) : Type 0 where
+  pub some : is_some a.lookahead ≡ true
+  pub live : a.failed ≡ false
+  pub ahead : IsAhead a.src.now a.pos a.lookahead false
+  pub same : feed_parts a.src.now a.pos a.lookahead false ≡ now
+
+pub shown_ahead : (a : Inside) (now : Feed) → feed_of a ≡ now → is_some (lookahead now) ≡ true → IsScanner a → Shown a now
+shown_ahead a now view some h =
+    let parts = ahead_parts a.src.now a.pos a.lookahead a.failed (subst (λ f. is_some (lookahead f) ≡ true) (sym view) some) h.ahead in
+    record {
+      some = parts.0;
+      live = parts.1;
+      ahead = subst (IsAhead a.src.now a.pos a.lookahead) parts.1 h.ahead;
+      same = ap (feed_parts a.src.now a.pos a.lookahead) (sym parts.1) ∙ view;
+    }

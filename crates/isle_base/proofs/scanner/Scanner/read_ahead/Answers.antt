@@ -1,43 +1,40 @@
-use Rattle.std.proofs.Common.{◌≡◌, Some, None, true, is_some, length, ap, refl, sym, subst, ◌∙◌}
+use Rattle.std.proofs.Common.{◌≡◌, Some, None, true, length, refl, sym, subst}
 use Rattle.isle_base.specs.Place.{in_file}
 use Rattle.isle_base.specs.Reads.{Finds}
-use Rattle.isle_base.specs.ScannerView.{IsAhead}
-use Rattle.isle_base.specs.Steps.{RefusesAt, lookahead}
+use Rattle.isle_base.specs.Steps.{RefusesAt}
 use Rattle.isle_base.proofs.Stepping.{feed_parts, next_token, next_end, next_fault, takes_along, refuses_along, shown_ahead, shown_taken}
 use Rattle.isle_base.proofs.scanner.Scanner.read_ahead.Goals as goal
 
 pub returns-in-Token-clause-token : goal.returns-in-Token-clause-token
 returns-in-Token-clause-token c =
     let old = c.self.inside in
-    let parts = shown_ahead old.src.now old.pos old.lookahead old.failed (subst (λ f. is_some (lookahead f) ≡ true) (sym c.self.view_is) c.requires) c.self.invariant.ahead in
-    let ahead = subst (IsAhead old.src.now old.pos old.lookahead) parts.1 c.self.invariant.ahead in
+    let known = shown_ahead old c.args.self.now c.self.view_is c.requires c.self.invariant in
     let found = subst (Finds old.src.now old.pos.offset) c.in-Token.is c.read.ensures in
     let pos : in_file old.pos.file c.in-Token.end ≡ c.new-self-inside.result = sym (λ i. record { file = c.new-self-inside.ensures.file i; offset = c.new-self-inside.ensures.offset i }) in
     let shown : in_file old.pos.file c.in-Token.start ≡ c.new.result = sym (λ i. record { file = c.new.ensures.file i; offset = c.new.ensures.offset i }) in
-    shown_taken _ _ old.lookahead parts.0
-    (takes_along (ap (feed_parts old.src.now old.pos old.lookahead) (sym parts.1) ∙ c.self.view_is) refl
-    (λ i. feed_parts old.src.now (pos i) (Some (shown i, c.in-Token.token)) (sym parts.1 i))
-    (next_token old.src.now old.pos old.lookahead c.in-Token.start c.in-Token.end c.in-Token.token parts.0 ahead found))
+    shown_taken _ _ old.lookahead known.some
+    (takes_along known.same refl
+    (λ i. feed_parts old.src.now (pos i) (Some (shown i, c.in-Token.token)) (sym known.live i))
+    (next_token old.src.now old.pos old.lookahead c.in-Token.start c.in-Token.end c.in-Token.token known.some known.ahead found))
 
 pub returns-in-End-clause-token : goal.returns-in-End-clause-token
 returns-in-End-clause-token c =
     let old = c.self.inside in
-    let parts = shown_ahead old.src.now old.pos old.lookahead old.failed (subst (λ f. is_some (lookahead f) ≡ true) (sym c.self.view_is) c.requires) c.self.invariant.ahead in
-    let ahead = subst (IsAhead old.src.now old.pos old.lookahead) parts.1 c.self.invariant.ahead in
+    let known = shown_ahead old c.args.self.now c.self.view_is c.requires c.self.invariant in
     let found = subst (Finds old.src.now old.pos.offset) c.in-End.is c.read.ensures in
     let pos : in_file old.pos.file (length old.src.now) ≡ c.new-self-inside-in-End.result = sym (λ i. record { file = c.new-self-inside-in-End.ensures.file i; offset = c.new-self-inside-in-End.ensures.offset i }) in
-    shown_taken _ _ old.lookahead parts.0
-    (takes_along (ap (feed_parts old.src.now old.pos old.lookahead) (sym parts.1) ∙ c.self.view_is) refl
-    (λ i. feed_parts old.src.now (pos i) None (sym parts.1 i))
-    (next_end old.src.now old.pos old.lookahead parts.0 ahead found))
+    shown_taken _ _ old.lookahead known.some
+    (takes_along known.same refl
+    (λ i. feed_parts old.src.now (pos i) None (sym known.live i))
+    (next_end old.src.now old.pos old.lookahead known.some known.ahead found))
 
 pub returns-in_ok-error-in-Fault-clause-refused : goal.returns-in_ok-error-in-Fault-clause-refused
 returns-in_ok-error-in-Fault-clause-refused c =
     let old = c.self.inside in
-    let parts = shown_ahead old.src.now old.pos old.lookahead old.failed (subst (λ f. is_some (lookahead f) ≡ true) (sym c.self.view_is) c.requires) c.self.invariant.ahead in
+    let known = shown_ahead old c.args.self.now c.self.view_is c.requires c.self.invariant in
     let found = subst (Finds old.src.now old.pos.offset) c.in-Fault.is c.read.ensures in
     let pos : c.new-pos.result ≡ in_file old.pos.file c.in-Fault.at = λ i. record { file = c.new-pos.ensures.file i; offset = c.new-pos.ensures.offset i } in
     let refuses = subst (λ p. RefusesAt p c.in_ok-error-in-Fault.error) pos c.in_ok-error-in-Fault.ensures in
-    refuses_along (ap (feed_parts old.src.now old.pos old.lookahead) (sym parts.1) ∙ c.self.view_is)
+    refuses_along known.same
     (λ i. feed_parts old.src.now (sym pos i) None true)
-    (next_fault old.src.now old.pos old.lookahead c.in-Fault.at c.in-Fault.reason c.in_ok-error-in-Fault.error parts.0 found refuses)
+    (next_fault old.src.now old.pos old.lookahead c.in-Fault.at c.in-Fault.reason c.in_ok-error-in-Fault.error known.some found refuses)
