@@ -1,6 +1,5 @@
 -- What the calls of a lexer do to what it has still to give.
 use Rattle.std.proofs.Common.{◌≡◌, ℕ, zero, suc, ◌-◌, ◌≤◌, List, [], ◌∷◌, Bool, true, false, Option, Some, None, IfSome, is_some, length, drop, refl, sym, ap, subst, ◌∙◌, arith, length-drop}
-use Rattle.isle_base_errors.specs.declared.error.Error.{Error}
 use Rattle.isle_base.specs.declared.scanner.Scanner.TheInside.{Inside}
 use Rattle.isle_base_errors.specs.declared.pos.Pos.{Pos}
 use Rattle.isle_base.specs.declared.scanner.TokenRef.{TokenRef}
@@ -11,7 +10,7 @@ use Rattle.isle_base.specs.ScannerView.{computed_from, coming_of, ending_of, fee
 use Rattle.isle_base.specs.Lexing.{Lexes, lexes}
 use Rattle.isle_base.specs.Place.{Placed, in_file, placed_at}
 use Rattle.isle_base.specs.Reads.{Finds}
-use Rattle.isle_base.specs.Steps.{Refuses, RefusesAt, Takes, first_placed, lookahead, placed_ref, AreWithin, EndsWithin, IsWithin, Rises}
+use Rattle.isle_base.specs.Steps.{FacesFault, Takes, first_placed, lookahead, placed_ref, AreWithin, EndsWithin, IsWithin, Rises}
 use Rattle.isle_base.specs.Token.{Lexeme, Ending, end, fault, Feed}
 use Rattle.isle_base.specs.TokenView.{token_of_ref}
 use Rattle.isle_base.proofs.Complete.{Lexes-unique, Skip-le, Piece-shorter}
@@ -120,28 +119,22 @@ next_end text pos (Some x) some ahead f =
       same = ap (λ e. record { file = pos.file; coming = []; ending = e; size = length text }) (sym same.1);
     }
 
--- the token ahead is lost, and the text is refused
-pub next_fault : (text : List ℕ) (pos : Pos) (o : Option (Pos × TokenRef)) (at : ℕ) (reason : Reason) (e : Error) → is_some o ≡ true → Finds text pos.offset (founds.Fault at reason) → RefusesAt (in_file pos.file at) e → Refuses (feed_parts text pos o false) e (feed_parts text (in_file pos.file at) None true)
-next_fault text pos None at reason e some f refuses = cc
-next_fault text pos (Some x) at reason e some f refuses =
+-- a fault is behind the token ahead
+pub faces_fault : (text : List ℕ) (pos : Pos) (o : Option (Pos × TokenRef)) (at : ℕ) (reason : Reason) → is_some o ≡ true → Finds text pos.offset (founds.Fault at reason) → FacesFault (feed_parts text pos o false) at
+faces_fault text pos None at reason some f = cc
+faces_fault text pos (Some x) at reason some f =
     let same = computed_as text pos.offset [] (fault at) (found_fault text pos.offset at reason f) in
     record {
       last = record { offset = x.0.offset; token = token_of_ref x.1; after = pos.offset };
       coming = ap (λ xs. record { offset = x.0.offset; token = token_of_ref x.1; after = pos.offset } ∷ xs) same.0;
-      offset = at;
       ending = same.1;
-      error = refuses;
-      failed = ap (λ e. record { file = pos.file; coming = []; ending = e; size = length text }) (sym same.1);
+      within = f.2;
     }
 
 pub takes_along : {old other new further : Feed} {o p : Option (Pos × TokenRef)} → old ≡ other → o ≡ p → new ≡ further → IfSome o (λ x. Takes old (placed_ref x) new) → IfSome p (λ x. Takes other (placed_ref x) further)
 takes_along {old = old} {other = other} {new = new} {further = further} {o = o} {p = p} e f g h =
     subst (λ f. IfSome p (λ x. Takes f (placed_ref x) further)) e
     (subst (λ q. IfSome q (λ x. Takes old (placed_ref x) further)) f (subst (λ f. IfSome o (λ x. Takes old (placed_ref x) f)) g h))
-
-pub refuses_along : {old other new further : Feed} {error : Error} → old ≡ other → new ≡ further → Refuses old error new → Refuses other error further
-refuses_along {old = old} {other = other} {new = new} {further = further} {error = error} e g h =
-    subst (λ x. Refuses x error further) e (subst (λ x. Refuses old error x) g h)
 
 -- what is taken is what was shown ahead
 first_taken : (old new : Feed) (x : Placed) → Takes old x new → IfSome (lookahead old) (λ y. Takes old y new)

@@ -72,6 +72,13 @@ pub record Takes (old : Feed) (x : Placed) (new : Feed) : Type 0 where
   pub goes_on : is_failed new ≡ false
   pub same : new ≡ record old { coming = new.coming }
 
+-- One token stands before a fault, which begins at this offset.
+pub record FacesFault (feed : Feed) (offset : ℕ) : Type 0 where
+  pub last : Lexeme
+  pub coming : feed.coming ≡ last ∷ []
+  pub ending : feed.ending ≡ fault offset
+  pub within : offset < feed.size
+
 -- One token stands before a fault: the token is lost, and the lexer is failed.
 pub record Refuses (old : Feed) (e : Error) (new : Feed) : Type 0 where
   pub last : Lexeme

@@ -4,14 +4,15 @@
 //! tokens of a scanner, so no text is copied but those that the tree keeps.
 
 ghost use Rattle.std.specs.Prelude.{◌≡◌, ◌≢◌, Err, IfErr, IfOk, IfSome, None, Ok, is_some};
-ghost use Rattle.std.specs.Prelude.{false, length, option_map, true};
+ghost use Rattle.std.specs.Prelude.{false, length, option_map, true, ℕ};
 ghost use Rattle.isle_base.specs.Lexing.{lexes};
-ghost use Rattle.isle_base.specs.Steps.{IfError, IsWithin, Refuses, RefusesStart, Rises, Takes};
+ghost use Rattle.isle_base.specs.Steps.{FacesFault, IfError, IsWithin, Refuses, RefusesStart, Rises};
+ghost use Rattle.isle_base.specs.Steps.{Takes};
 ghost use Rattle.isle_base.specs.Steps.{current_pos, is_at_end, is_failed, lookahead, placed_ref};
 ghost use Rattle.isle_base.specs.TokenView.{token_of, token_of_ref};
 ghost use Rattle.isle_base.specs.declared.lexer.Fault.TheVariants.{Failed, Memory};
 
-use crate::lexer::read::{Found, error, read};
+use crate::lexer::read::{Found, Reason, error, read};
 use crate::lexer::{Fault, Lexer, Pos, Token};
 use std::alloc::{AllocError, Global};
 use std::marker::Model;
@@ -164,19 +165,39 @@ impl<'src> Scanner<'src> {
         let Some(shown) = self.lookahead else {
             return Ok(None);
         };
-        self.read_ahead(alloc)?;
-        Ok(Some(shown))
+        match self.read_ahead() {
+            Ok(()) => Ok(Some(shown)),
+            Err((at, reason)) => Err(self.refuse(alloc, at, reason)),
+        }
     }
 
-    /// Reads one token further, and forgets the one ahead.
+    /// Hands out the token ahead as `next` does, and makes no error: where no token is ahead, or a
+    /// fault follows it, it answers `None` and does nothing.
+    #[inline(always)]
+    pub fn step(&mut self) -> Option<(Pos, TokenRef<'src>)>
+        ensures token { IfSome result (λ x. Takes self.old (placed_ref x) self.new) }
+        ensures same { result ≡ None → self.new ≡ self.old }
+        ensures fault { result ≡ None → is_some (lookahead self.old) ≡ true
+            → (at : ℕ) × FacesFault self.old at }
+    {
+        let Some(shown) = self.lookahead else {
+            return None;
+        };
+        match self.read_ahead() {
+            Ok(()) => Some(shown),
+            Err(_) => None,
+        }
+    }
+
+    /// Reads one token further, and forgets the one ahead. Where a fault follows, it does nothing,
+    /// and says where the fault begins, and why the text is refused.
     #[inline(never)]
-    fn read_ahead(&mut self, alloc: Global) -> Result<(), Fault>
+    fn read_ahead(&mut self) -> Result<(), (usize, Reason)>
         requires { is_some (lookahead self.old) ≡ true }
         ensures token { IfOk result (λ _. IfSome (lookahead self.old)
             (λ x. Takes self.old x self.new)) }
-        ensures refused { IfErr result (IfError (λ e. Refuses self.old e self.new)) }
-        ensures never_failed { result ≢ Err Failed }
-        ensures memory { result ≡ Err Memory → self.new ≡ self.old }
+        ensures fault { IfErr result (λ fault. FacesFault self.old fault.0) }
+        ensures same { IfErr result (λ _. self.new ≡ self.old) }
     {
         let file = self.pos.file;
         match read(self.src, self.pos.offset) {
@@ -190,14 +211,27 @@ impl<'src> Scanner<'src> {
                 self.lookahead = None;
                 Ok(())
             }
-            Found::Fault(at, reason) => {
-                let pos = Pos::new(file, at);
-                let error = error(alloc, pos, reason)?;
+            Found::Fault(at, reason) => Err((at, reason)),
+        }
+    }
+
+    /// Refuses the text at the fault that follows the token ahead, and forgets that token.
+    #[inline(never)]
+    fn refuse(&mut self, alloc: Global, at: usize, reason: Reason) -> Fault
+        requires { FacesFault self.old at }
+        ensures refused { IfError (λ e. Refuses self.old e self.new) result }
+        ensures never_failed { result ≢ Failed }
+        ensures memory { result ≡ Memory → self.new ≡ self.old }
+    {
+        let pos = Pos::new(self.pos.file, at);
+        match error(alloc, pos, reason) {
+            Ok(error) => {
                 self.pos = pos;
                 self.lookahead = None;
                 self.failed = true;
-                Err(Fault::Error(error))
+                Fault::Error(error)
             }
+            Err(_) => Fault::Memory,
         }
     }
 

@@ -195,6 +195,19 @@ impl<'src> Cursor<'src> {
         ensures gives { Gives token_of_ref (take (tokens self.old)) result self.new }
         ensures goes_on { OnOk result (is_failed self.new.lexer ≡ false) }
     {
+        match self.lexer.step() {
+            Some((_, token)) => Ok(token),
+            None => self.take_or_refuse(alloc),
+        }
+    }
+
+    /// Takes off the token ahead, or tells why there is none to take, or why none follows it.
+    #[inline(never)]
+    fn take_or_refuse(&mut self, alloc: Global) -> Result<TokenRef<'src>, Stop>
+        ensures same { source self.new ≡ source self.old }
+        ensures gives { Gives token_of_ref (take (tokens self.old)) result self.new }
+        ensures goes_on { OnOk result (is_failed self.new.lexer ≡ false) }
+    {
         match self.lexer.next(alloc) {
             Ok(Some((_, token))) => Ok(token),
             Ok(None) => Err(self.unexpected(alloc)),

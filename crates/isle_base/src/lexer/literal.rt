@@ -141,6 +141,7 @@ fn sign_end(bytes: &[u8], from: usize) -> usize
 }
 
 /// Reads the integer literal at an offset: its value, and the offset behind it.
+#[inline(never)]
 pub(crate) fn literal_at(bytes: &[u8], from: usize) -> Result<(i128, usize), Reason>
     requires within { from < length bytes.now }
     requires begins { begins_with begins_literal (drop from bytes.now) ≡ true }

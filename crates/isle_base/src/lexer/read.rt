@@ -72,7 +72,7 @@ fn symbol_at<'src>(src: &'src str, start: usize) -> Found<'src>
 }
 
 /// Reads the literal at an offset.
-#[inline(never)]
+#[inline(always)]
 fn integer_at<'src>(bytes: &[u8], start: usize) -> Found<'src>
     requires within { start < length bytes.now }
     requires begins { begins_with starts_literal (drop start bytes.now) ≡ true }
@@ -95,7 +95,7 @@ pub fn is_lone_minus_at(bytes: &[u8], at: usize) -> bool
 }
 
 /// Reads what begins with the `-` at an offset: a symbol, or a literal.
-#[inline(never)]
+#[inline(always)]
 fn from_minus_at<'src>(src: &'src str, start: usize) -> Found<'src>
     requires within { start < length src.now }
     requires text { IsUtf8 (drop start src.now) }

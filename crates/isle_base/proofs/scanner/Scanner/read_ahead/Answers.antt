@@ -1,8 +1,8 @@
-use Rattle.std.proofs.Common.{◌≡◌, Some, None, true, length, refl, sym, subst}
+use Rattle.std.proofs.Common.{◌≡◌, Some, None, length, refl, sym, subst}
 use Rattle.isle_base.specs.Place.{in_file}
 use Rattle.isle_base.specs.Reads.{Finds}
-use Rattle.isle_base.specs.Steps.{RefusesAt}
-use Rattle.isle_base.proofs.Stepping.{feed_parts, next_token, next_end, next_fault, takes_along, refuses_along, shown_ahead, shown_taken}
+use Rattle.isle_base.specs.Steps.{FacesFault}
+use Rattle.isle_base.proofs.Stepping.{feed_parts, next_token, next_end, faces_fault, takes_along, shown_ahead, shown_taken}
 use Rattle.isle_base.proofs.scanner.Scanner.read_ahead.Goals as goal
 
 pub returns-in-Token-clause-token : goal.returns-in-Token-clause-token
@@ -28,13 +28,9 @@ returns-in-End-clause-token c =
     (λ i. feed_parts old.src.now (pos i) None (sym known.live i))
     (next_end old.src.now old.pos old.lookahead known.some known.ahead found))
 
-pub returns-in_ok-error-in-Fault-clause-refused : goal.returns-in_ok-error-in-Fault-clause-refused
-returns-in_ok-error-in-Fault-clause-refused c =
+pub returns-in-Fault-clause-fault : goal.returns-in-Fault-clause-fault
+returns-in-Fault-clause-fault c =
     let old = c.self.inside in
     let known = shown_ahead old c.args.self.now c.self.view_is c.requires c.self.invariant in
     let found = subst (Finds old.src.now old.pos.offset) c.in-Fault.is c.read.ensures in
-    let pos : c.new-pos.result ≡ in_file old.pos.file c.in-Fault.at = λ i. record { file = c.new-pos.ensures.file i; offset = c.new-pos.ensures.offset i } in
-    let refuses = subst (λ p. RefusesAt p c.in_ok-error-in-Fault.error) pos c.in_ok-error-in-Fault.ensures in
-    refuses_along known.same
-    (λ i. feed_parts old.src.now (sym pos i) None true)
-    (next_fault old.src.now old.pos old.lookahead c.in-Fault.at c.in-Fault.reason c.in_ok-error-in-Fault.error known.some found refuses)
+    subst (λ f. FacesFault f c.in-Fault.at) known.same (faces_fault old.src.now old.pos old.lookahead c.in-Fault.at c.in-Fault.reason known.some found)

@@ -2,7 +2,7 @@ use Rattle.std.proofs.Common.{Ok, Err, ap}
 use Rattle.isle_parser_cursor.specs.Outcomes.{placing, source, tokens}
 use Rattle.isle_parser_cursor.specs.Reading.{take}
 use Rattle.isle_parser_cursor.proofs.Ahead.{end_taken, fault_taken, handed_on, refused_within}
-use Rattle.isle_parser_cursor.proofs.cursor.Cursor.take.Goals as goal
+use Rattle.isle_parser_cursor.proofs.cursor.Cursor.take_or_refuse.Goals as goal
 
 pub returns-in-Err-Error-clause-gives : goal.returns-in-Err-Error-clause-gives
 returns-in-Err-Error-clause-gives c =
