@@ -10,7 +10,7 @@ ghost use Rattle.isle_printer.specs.PrintedNodes.{nodes_of_definition};
 ghost use Rattle.isle_printer_layout.specs.declared.printer.sexpr.PrintFault.TheVariants.{MacroArg};
 ghost use Rattle.isle_printer_layout.specs.declared.printer.sexpr.PrintFault.TheVariants.{Memory};
 
-use crate::printer::definitions::shape;
+use crate::printer::definitions::pieces_of;
 use isle_ast::ast::Def;
 use isle_printer_layout::printer::{Looks, PrintFault, put};
 use std::alloc::Global;
@@ -42,11 +42,11 @@ pub fn put_definition(
         ≤ looks.old.count + nodes_of_definition (definition_of def.now) }
     ensures none_taken { looks.old.count ≤ looks.new.count }
 {
-    let shape = shape(alloc, def)?;
+    let pieces = pieces_of(alloc, def)?;
     if !out.is_empty() {
         out.push('\n')?;
     }
-    put(&shape, width, width, 0, looks, out)?;
+    put(pieces, width, looks, out)?;
     out.push('\n')?;
     Ok(())
 }

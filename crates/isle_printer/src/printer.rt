@@ -32,8 +32,7 @@ ghost use Rattle.isle_printer_layout.specs.declared.printer.sexpr.PrintFault.The
 
 use crate::lines::put_definition;
 use isle_ast::ast::Def;
-use isle_printer_layout::printer::put;
-use isle_printer_layout::printer::shape::shape_of;
+use isle_printer_layout::printer::{Tape, put, put_sexpr};
 pub use isle_printer_layout::printer::{Looks, PrintFault, SExpr, fits};
 use std::alloc::Global;
 pub use to_sexpr::ToSExpr;
@@ -135,9 +134,10 @@ pub fn print_node<N: ToSExpr>(alloc: Global, node: &N, width: usize) -> Result<S
     ensures refused { IsErrOf result MacroArg → N.meaning node.now ≡ None }
 {
     let sexpr = node.to_sexpr(alloc)?;
-    let shape = shape_of(&sexpr, alloc)?;
+    let mut tape = Tape::new(alloc)?;
+    put_sexpr(&sexpr, &mut tape)?;
     let mut out = String::new(alloc);
-    put(&shape, width, width, 0, &mut Looks::new(), &mut out)?;
+    put(tape.pieces(), width, &mut Looks::new(), &mut out)?;
     Ok(out)
 }
 

@@ -8,5 +8,5 @@ pub mod ReadBackLaw
 pub mod ShortLines
 pub mod WordSymbols
 pub mod Spellings
-pub mod Sizes
 pub mod SameLists
+mod PieceLemmas

@@ -12,6 +12,5 @@ pub mod AnyTokens
 pub mod SexpView
 pub mod SameSexp
 pub mod FaultTexts
-pub mod ShapeView
-pub mod ShapeSizes
+pub mod Pieces
 pub mod ShortLines

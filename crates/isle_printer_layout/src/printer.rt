@@ -8,9 +8,11 @@ mod layout;
 mod looks;
 pub mod names;
 mod sexpr;
-pub mod shape;
+mod sexprs;
+mod tape;
 
 pub use layout::{fits, put};
 pub use looks::Looks;
 pub use sexpr::{PrintFault, SExpr};
-pub use shape::Shape;
+pub use sexprs::{put_sexpr, sexpr_of};
+pub use tape::{Pieces, Tape};

@@ -1,7 +1,5 @@
 -- The tokens of the shape of a writable definition spell it, erased.
-use Rattle.std.proofs.Common.{◌≡◌, ℕ, ◌+◌, List, [], ◌∷◌, ◌++◌, map, codes, Bool, true, false, ◌||◌, not, Option, None, Some, inr, refl}
-use Rattle.std.proofs.lemmas.Slice.Eq.{bytes_eq-Decides}
-use Rattle.std.specs.Str.{bytes_eq}
+use Rattle.std.proofs.Common.{ℕ, ◌+◌, List, [], ◌∷◌, ◌++◌, map, codes, Bool, true, false, Option, None, Some, inr, refl}
 use Rattle.isle_base.specs.Place.{Placed, unknown}
 use Rattle.isle_base.specs.Token.{Tok, rparen}
 use Rattle.isle_ast_specs.specs.Erased.{erase_spec, erase_model}

@@ -1,17 +1,17 @@
 //! The S-expressions of definitions.
 
-ghost use Rattle.std.specs.Prelude.{◌≡◌, IfOk, IsErrOf, true, false};
+ghost use Rattle.std.specs.Prelude.{◌≡◌, [], ◌∷◌, IfOk, IsErrOf, OnOk, true, false};
 ghost use Rattle.isle_ast.specs.MacroArgs.{definition_has_macro_arg};
 ghost use Rattle.isle_ast.specs.TreeView.{definition_of};
 ghost use Rattle.isle_printer.specs.DefinitionShapes.{definition_shape};
+ghost use Rattle.isle_printer_layout.specs.Pieces.{before, nothing};
 ghost use Rattle.isle_printer_layout.specs.declared.printer.sexpr.PrintFault.TheVariants.{MacroArg};
 ghost use Rattle.isle_printer_layout.specs.declared.printer.sexpr.PrintFault.TheVariants.{Memory};
 
 use super::to_sexpr::ToSExpr;
 use super::{models, terms, types};
 use isle_ast::ast::Def;
-use isle_printer_layout::printer::shape::sexpr_of;
-use isle_printer_layout::printer::{PrintFault, SExpr, Shape};
+use isle_printer_layout::printer::{Pieces, PrintFault, SExpr, Tape, sexpr_of};
 use isle_printer_rules::printer::rules;
 use isle_printer_specs::printer::definitions as specs;
 use std::alloc::{AllocError, Global};
@@ -37,14 +37,15 @@ impl ToSExpr for Def {
             ≡ None }
         ensures memory { IsErrOf result Memory → definition_has_macro_arg (definition_of self.now) ≡ false }
     {
-        Ok(sexpr_of(&shape(alloc, self)?, alloc)?)
+        Ok(sexpr_of(pieces_of(alloc, self)?, alloc)?)
     }
 }
 
-/// The S-expression of a definition, unless it holds the argument of a macro.
-pub(crate) fn shape<'src>(alloc: Global, def: &'src Def) -> Result<Shape<'src>, PrintFault>
+/// The pieces of a definition's S-expression, unless it holds the argument of a macro.
+pub(crate) fn pieces_of<'src>(alloc: Global, def: &'src Def) -> Result<Pieces<'src>, PrintFault>
     ensures plain { IfOk result (λ _. definition_has_macro_arg (definition_of def.now) ≡ false) }
-    ensures made { IfOk result (λ s. s ≡ definition_shape (definition_of def.now)) }
+    ensures made { IfOk result
+        (λ pieces. pieces ≡ before (definition_shape (definition_of def.now) ∷ []) nothing) }
     ensures refused { IsErrOf result MacroArg
         → definition_has_macro_arg (definition_of def.now) ≡ true }
     ensures memory { IsErrOf result Memory
@@ -53,27 +54,30 @@ pub(crate) fn shape<'src>(alloc: Global, def: &'src Def) -> Result<Shape<'src>, 
     if def.has_macro_arg() {
         return Err(PrintFault::MacroArg);
     }
-    Ok(definition(alloc, def)?)
+    let mut tape = Tape::new(alloc)?;
+    definition(def, &mut tape)?;
+    Ok(tape.pieces())
 }
 
-/// The S-expression of a definition.
-fn definition<'src>(alloc: Global, def: &'src Def) -> Result<Shape<'src>, AllocError>
-    ensures { IfOk result (λ s. s ≡ definition_shape (definition_of def.now)) }
+/// Puts the S-expression of a definition.
+fn definition<'src>(def: &'src Def, tape: &mut Tape<'src>) -> Result<(), AllocError>
+    ensures { OnOk result
+        (tape.new ≡ before (definition_shape (definition_of def.now) ∷ []) tape.old) }
 {
     match def {
         Def::Pragma(pragma) => match *pragma {},
-        Def::TypeDef(ty) => types::type_definition(alloc, ty),
-        Def::Rule(rule) => rules::rule(alloc, rule),
-        Def::Extractor(extractor) => rules::extractor(alloc, extractor),
-        Def::Decl(decl) => terms::declaration(alloc, decl),
-        Def::Attr(attr) => terms::attribute(alloc, attr),
-        Def::Spec(spec) => specs::spec_definition(alloc, spec),
-        Def::SpecMacro(definition) => specs::spec_macro(alloc, definition),
-        Def::Model(model) => models::model(alloc, model),
-        Def::State(state) => specs::state(alloc, state),
-        Def::Form(form) => terms::form(alloc, form),
-        Def::Instantiation(instantiation) => terms::instantiation(alloc, instantiation),
-        Def::Extern(external) => terms::external(alloc, external),
-        Def::Converter(converter) => terms::conversion(alloc, converter),
+        Def::TypeDef(ty) => types::type_definition(ty, tape),
+        Def::Rule(rule) => rules::rule(rule, tape),
+        Def::Extractor(extractor) => rules::extractor(extractor, tape),
+        Def::Decl(decl) => terms::declaration(decl, tape),
+        Def::Attr(attr) => terms::attribute(attr, tape),
+        Def::Spec(spec) => specs::spec_definition(spec, tape),
+        Def::SpecMacro(definition) => specs::spec_macro(definition, tape),
+        Def::Model(model) => models::model(model, tape),
+        Def::State(state) => specs::state(state, tape),
+        Def::Form(form) => terms::form(form, tape),
+        Def::Instantiation(instantiation) => terms::instantiation(instantiation, tape),
+        Def::Extern(external) => terms::external(external, tape),
+        Def::Converter(converter) => terms::conversion(converter, tape),
     }
 }

@@ -2,8 +2,7 @@
 
 use super::to_sexpr::ToSExpr;
 use isle_ast::ast::{Expr, LetDef};
-use isle_printer_layout::printer::shape::sexpr_of;
-use isle_printer_layout::printer::{PrintFault, SExpr};
+use isle_printer_layout::printer::{PrintFault, SExpr, Tape, sexpr_of};
 use isle_printer_rules::printer::expressions::{expression, let_definition};
 use std::alloc::Global;
 
@@ -15,7 +14,9 @@ impl ToSExpr for Expr {
     ghost meaning = { λ x. Some (expression_shape (expression_of x)) };
 
     fn to_sexpr(&self, alloc: Global) -> Result<SExpr, PrintFault> {
-        Ok(sexpr_of(&expression(self, alloc)?, alloc)?)
+        let mut tape = Tape::new(alloc)?;
+        expression(self, &mut tape)?;
+        Ok(sexpr_of(tape.pieces(), alloc)?)
     }
 }
 
@@ -27,6 +28,8 @@ impl ToSExpr for LetDef {
     ghost meaning = { λ d. Some (let_shape (single_let_of d)) };
 
     fn to_sexpr(&self, alloc: Global) -> Result<SExpr, PrintFault> {
-        Ok(sexpr_of(&let_definition(self, alloc)?, alloc)?)
+        let mut tape = Tape::new(alloc)?;
+        let_definition(self, &mut tape)?;
+        Ok(sexpr_of(tape.pieces(), alloc)?)
     }
 }

@@ -1,17 +1,20 @@
 //! The S-expressions of models of types, of what holds them, and of their definitions.
 
-ghost use Rattle.std.specs.Prelude.{◌≡◌, ◌++◌, map, IfOk, OnOk};
+ghost use Rattle.std.specs.Prelude.{◌≡◌, [], ◌∷◌, codes, map, OnOk};
 ghost use Rattle.isle_ast.specs.TreeView.{model_content_of, model_definition_of, signature_of};
 ghost use Rattle.isle_ast.specs.TreeView.{signatures_of};
 ghost use Rattle.isle_printer.specs.DefinitionShapes.{model_content_shape, model_definition_shape};
 ghost use Rattle.isle_printer.specs.DefinitionShapes.{signature_shape};
+ghost use Rattle.isle_ast_specs.specs.TreeView.{type_model_of};
+ghost use Rattle.isle_printer_layout.specs.NameShapes.{form_shape};
+ghost use Rattle.isle_printer_layout.specs.Pieces.{before};
+ghost use Rattle.isle_printer_specs.specs.SpecShapes.{model_shape};
 
 use super::to_sexpr::ToSExpr;
 use isle_ast::ast::{Model, ModelField, ModelType, ModelValue, Signature};
-use isle_printer_layout::printer::names::{begun, headed, pair, push_name};
-use isle_printer_layout::printer::shape::sexpr_of;
-use isle_printer_layout::printer::{PrintFault, SExpr, Shape};
-use isle_printer_specs::printer::models::{model_field, model_type, push_models};
+use isle_printer_layout::printer::names::name;
+use isle_printer_layout::printer::{PrintFault, SExpr, Tape, sexpr_of};
+use isle_printer_specs::printer::models::{each_model, model_field, model_type};
 use isle_printer_specs::printer::specs::spec;
 use std::alloc::{AllocError, Global};
 
@@ -23,7 +26,9 @@ impl ToSExpr for ModelType {
     ghost meaning = { λ m. Some (model_shape (type_model_of m)) };
 
     fn to_sexpr(&self, alloc: Global) -> Result<SExpr, PrintFault> {
-        Ok(sexpr_of(&model_type(self, alloc)?, alloc)?)
+        let mut tape = Tape::new(alloc)?;
+        model_type(self, &mut tape)?;
+        Ok(sexpr_of(tape.pieces(), alloc)?)
     }
 }
 
@@ -35,7 +40,9 @@ impl ToSExpr for ModelField {
     ghost meaning = { λ f. Some (model_field_shape (single_model_field_of f)) };
 
     fn to_sexpr(&self, alloc: Global) -> Result<SExpr, PrintFault> {
-        Ok(sexpr_of(&model_field(self, alloc)?, alloc)?)
+        let mut tape = Tape::new(alloc)?;
+        model_field(self, &mut tape)?;
+        Ok(sexpr_of(tape.pieces(), alloc)?)
     }
 }
 
@@ -47,7 +54,9 @@ impl ToSExpr for Model {
     ghost meaning = { λ m. Some (model_definition_shape (model_definition_of m)) };
 
     fn to_sexpr(&self, alloc: Global) -> Result<SExpr, PrintFault> {
-        Ok(sexpr_of(&model(alloc, self)?, alloc)?)
+        let mut tape = Tape::new(alloc)?;
+        model(self, &mut tape)?;
+        Ok(sexpr_of(tape.pieces(), alloc)?)
     }
 }
 
@@ -59,7 +68,9 @@ impl ToSExpr for ModelValue {
     ghost meaning = { λ v. Some (model_content_shape (model_content_of v)) };
 
     fn to_sexpr(&self, alloc: Global) -> Result<SExpr, PrintFault> {
-        Ok(sexpr_of(&model_value(alloc, self)?, alloc)?)
+        let mut tape = Tape::new(alloc)?;
+        model_value(self, &mut tape)?;
+        Ok(sexpr_of(tape.pieces(), alloc)?)
     }
 }
 
@@ -71,52 +82,88 @@ impl ToSExpr for Signature {
     ghost meaning = { λ s. Some (signature_shape (signature_of s)) };
 
     fn to_sexpr(&self, alloc: Global) -> Result<SExpr, PrintFault> {
-        Ok(sexpr_of(&signature(alloc, self)?, alloc)?)
+        let mut tape = Tape::new(alloc)?;
+        signature(self, &mut tape)?;
+        Ok(sexpr_of(tape.pieces(), alloc)?)
     }
 }
 
-/// The S-expression of the model of a type.
-pub(super) fn model<'src>(alloc: Global, model: &'src Model) -> Result<Shape<'src>, AllocError>
-    ensures { IfOk result (λ s. s
-        ≡ model_definition_shape (model_definition_of model.now)) }
+/// Puts the S-expression of the model of a type.
+pub(super) fn model<'src>(model: &'src Model, tape: &mut Tape<'src>) -> Result<(), AllocError>
+    ensures { OnOk result
+        (tape.new ≡ before (model_definition_shape (model_definition_of model.now) ∷ []) tape.old) }
 {
-    let mut items = begun(alloc, "model")?;
-    push_name(&mut items, &model.name)?;
-    items.push(model_value(alloc, &model.val)?)?;
-    Ok(Shape::list(items))
+    let outer = tape.close()?;
+    model_value(&model.val, tape)?;
+    name(&model.name, tape)?;
+    tape.atom("model")?;
+    tape.open(outer)
 }
 
-/// The S-expression of what a model is given by.
-fn model_value<'src>(alloc: Global, value: &'src ModelValue) -> Result<Shape<'src>, AllocError>
-    ensures { IfOk result (λ s. s ≡ model_content_shape (model_content_of value.now)) }
+/// Puts the S-expression of what a model is given by.
+fn model_value<'src>(value: &'src ModelValue, tape: &mut Tape<'src>) -> Result<(), AllocError>
+    ensures { OnOk result
+        (tape.new ≡ before (model_content_shape (model_content_of value.now) ∷ []) tape.old) }
 {
+    let outer = tape.close()?;
     match value {
-        ModelValue::TypeValue(ty) => headed(alloc, "type", model_type(ty, alloc)?),
-        ModelValue::ConstValue(value) => headed(alloc, "const", spec(value, alloc)?),
+        ModelValue::TypeValue(ty) => {
+            model_type(ty, tape)?;
+            tape.atom("type")?;
+        }
+        ModelValue::ConstValue(value) => {
+            spec(value, tape)?;
+            tape.atom("const")?;
+        }
     }
+    tape.open(outer)
 }
 
-/// The S-expression of a signature.
-fn signature<'src>(alloc: Global, signature: &'src Signature) -> Result<Shape<'src>, AllocError>
-    ensures { IfOk result (λ s. s ≡ signature_shape (signature_of signature.now)) }
+/// Puts the S-expression of a signature.
+fn signature<'src>(signature: &'src Signature, tape: &mut Tape<'src>) -> Result<(), AllocError>
+    ensures { OnOk result
+        (tape.new ≡ before (signature_shape (signature_of signature.now) ∷ []) tape.old) }
 {
-    let mut args = begun(alloc, "args")?;
-    push_models(&mut args, alloc, &signature.args)?;
-    let ret = headed(alloc, "ret", model_type(&signature.ret, alloc)?)?;
-    pair(alloc, Shape::list(args), ret)
+    let outer = tape.close()?;
+    returned(&signature.ret, tape)?;
+    arguments(&signature.args, tape)?;
+    tape.open(outer)
 }
 
-/// Appends signatures.
-pub(super) fn push_signatures<'src>(
-    items: &mut Vec<Shape<'src>>,
-    alloc: Global,
+/// Puts the list of `args` and models.
+fn arguments<'src>(args: &'src [ModelType], tape: &mut Tape<'src>) -> Result<(), AllocError>
+    ensures { OnOk result (tape.new
+        ≡ before
+        (form_shape (codes "args") (map model_shape (map type_model_of args.now)) ∷ []) tape.old) }
+{
+    let outer = tape.close()?;
+    each_model(args, tape)?;
+    tape.atom("args")?;
+    tape.open(outer)
+}
+
+/// Puts the list of `ret` and a model.
+fn returned<'src>(ret: &'src ModelType, tape: &mut Tape<'src>) -> Result<(), AllocError>
+    ensures { OnOk result (tape.new
+        ≡ before
+        (form_shape (codes "ret") (model_shape (type_model_of ret.now) ∷ []) ∷ []) tape.old) }
+{
+    let outer = tape.close()?;
+    model_type(ret, tape)?;
+    tape.atom("ret")?;
+    tape.open(outer)
+}
+
+/// Puts the S-expressions of signatures.
+pub(super) fn each_signature<'src>(
     signatures: &'src [Signature],
+    tape: &mut Tape<'src>,
 ) -> Result<(), AllocError>
-    ensures { OnOk result (items.new.items
-        ≡ items.old.items ++ map signature_shape (signatures_of signatures.now)) }
+    ensures { OnOk result
+        (tape.new ≡ before (map signature_shape (signatures_of signatures.now)) tape.old) }
 {
-    for each in signatures {
-        items.push(signature(alloc, each)?)?;
+    for at in (0..signatures.len()).rev() {
+        signature(&signatures[at], tape)?;
     }
     Ok(())
 }

@@ -2,8 +2,7 @@
 
 use super::to_sexpr::ToSExpr;
 use isle_ast::ast::Pattern;
-use isle_printer_layout::printer::shape::sexpr_of;
-use isle_printer_layout::printer::{PrintFault, SExpr};
+use isle_printer_layout::printer::{PrintFault, SExpr, Tape, sexpr_of};
 use isle_printer_rules::printer::patterns::pattern;
 use std::alloc::Global;
 
@@ -30,6 +29,8 @@ impl ToSExpr for Pattern {
         if self.has_macro_arg() {
             return Err(PrintFault::MacroArg);
         }
-        Ok(sexpr_of(&pattern(self, alloc)?, alloc)?)
+        let mut tape = Tape::new(alloc)?;
+        pattern(self, &mut tape)?;
+        Ok(sexpr_of(tape.pieces(), alloc)?)
     }
 }

@@ -2,8 +2,7 @@
 
 use super::to_sexpr::ToSExpr;
 use isle_ast::ast::{Extractor, IfLet, Rule};
-use isle_printer_layout::printer::shape::sexpr_of;
-use isle_printer_layout::printer::{PrintFault, SExpr};
+use isle_printer_layout::printer::{PrintFault, SExpr, Tape, sexpr_of};
 use isle_printer_rules::printer::rules::{condition, extractor, rule};
 use std::alloc::Global;
 
@@ -31,7 +30,9 @@ impl ToSExpr for IfLet {
         if self.has_macro_arg() {
             return Err(PrintFault::MacroArg);
         }
-        Ok(sexpr_of(&condition(alloc, self)?, alloc)?)
+        let mut tape = Tape::new(alloc)?;
+        condition(self, &mut tape)?;
+        Ok(sexpr_of(tape.pieces(), alloc)?)
     }
 }
 
@@ -58,7 +59,9 @@ impl ToSExpr for Rule {
         if self.has_macro_arg() {
             return Err(PrintFault::MacroArg);
         }
-        Ok(sexpr_of(&rule(alloc, self)?, alloc)?)
+        let mut tape = Tape::new(alloc)?;
+        rule(self, &mut tape)?;
+        Ok(sexpr_of(tape.pieces(), alloc)?)
     }
 }
 
@@ -86,6 +89,8 @@ impl ToSExpr for Extractor {
         if self.has_macro_arg() {
             return Err(PrintFault::MacroArg);
         }
-        Ok(sexpr_of(&extractor(alloc, self)?, alloc)?)
+        let mut tape = Tape::new(alloc)?;
+        extractor(self, &mut tape)?;
+        Ok(sexpr_of(tape.pieces(), alloc)?)
     }
 }

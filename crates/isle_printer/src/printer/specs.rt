@@ -3,8 +3,7 @@
 
 use super::to_sexpr::ToSExpr;
 use isle_ast::ast::{Arm, FieldInit, Modifies, Spec, SpecExpr, SpecMacro, SpecOp, State};
-use isle_printer_layout::printer::shape::sexpr_of;
-use isle_printer_layout::printer::{PrintFault, SExpr};
+use isle_printer_layout::printer::{PrintFault, SExpr, Tape, sexpr_of};
 use isle_printer_specs::printer::definitions::{modifies, spec_definition, spec_macro, state};
 use isle_printer_specs::printer::operators::operator;
 use isle_printer_specs::printer::specs::{arm, field_init, spec};
@@ -17,7 +16,9 @@ impl ToSExpr for SpecOp {
     ghost meaning = { λ op. Some (operator_shape op) };
 
     fn to_sexpr(&self, alloc: Global) -> Result<SExpr, PrintFault> {
-        Ok(sexpr_of(&operator(self), alloc)?)
+        let mut tape = Tape::new(alloc)?;
+        operator(self, &mut tape)?;
+        Ok(sexpr_of(tape.pieces(), alloc)?)
     }
 }
 
@@ -29,7 +30,9 @@ impl ToSExpr for SpecExpr {
     ghost meaning = { λ x. Some (spec_shape (spec_of x)) };
 
     fn to_sexpr(&self, alloc: Global) -> Result<SExpr, PrintFault> {
-        Ok(sexpr_of(&spec(self, alloc)?, alloc)?)
+        let mut tape = Tape::new(alloc)?;
+        spec(self, &mut tape)?;
+        Ok(sexpr_of(tape.pieces(), alloc)?)
     }
 }
 
@@ -41,7 +44,9 @@ impl ToSExpr for Arm {
     ghost meaning = { λ a. Some (arm_shape (single_arm_of a)) };
 
     fn to_sexpr(&self, alloc: Global) -> Result<SExpr, PrintFault> {
-        Ok(sexpr_of(&arm(self, alloc)?, alloc)?)
+        let mut tape = Tape::new(alloc)?;
+        arm(self, &mut tape)?;
+        Ok(sexpr_of(tape.pieces(), alloc)?)
     }
 }
 
@@ -53,7 +58,9 @@ impl ToSExpr for FieldInit {
     ghost meaning = { λ f. Some (field_init_shape (single_field_init_of f)) };
 
     fn to_sexpr(&self, alloc: Global) -> Result<SExpr, PrintFault> {
-        Ok(sexpr_of(&field_init(self, alloc)?, alloc)?)
+        let mut tape = Tape::new(alloc)?;
+        field_init(self, &mut tape)?;
+        Ok(sexpr_of(tape.pieces(), alloc)?)
     }
 }
 
@@ -65,7 +72,9 @@ impl ToSExpr for Spec {
     ghost meaning = { λ s. Some (spec_definition_shape (spec_definition_of s)) };
 
     fn to_sexpr(&self, alloc: Global) -> Result<SExpr, PrintFault> {
-        Ok(sexpr_of(&spec_definition(alloc, self)?, alloc)?)
+        let mut tape = Tape::new(alloc)?;
+        spec_definition(self, &mut tape)?;
+        Ok(sexpr_of(tape.pieces(), alloc)?)
     }
 }
 
@@ -77,7 +86,9 @@ impl ToSExpr for Modifies {
     ghost meaning = { λ m. Some (modifies_shape (modified_of m)) };
 
     fn to_sexpr(&self, alloc: Global) -> Result<SExpr, PrintFault> {
-        Ok(sexpr_of(&modifies(alloc, self)?, alloc)?)
+        let mut tape = Tape::new(alloc)?;
+        modifies(self, &mut tape)?;
+        Ok(sexpr_of(tape.pieces(), alloc)?)
     }
 }
 
@@ -89,7 +100,9 @@ impl ToSExpr for SpecMacro {
     ghost meaning = { λ m. Some (spec_macro_shape (spec_macro_of m)) };
 
     fn to_sexpr(&self, alloc: Global) -> Result<SExpr, PrintFault> {
-        Ok(sexpr_of(&spec_macro(alloc, self)?, alloc)?)
+        let mut tape = Tape::new(alloc)?;
+        spec_macro(self, &mut tape)?;
+        Ok(sexpr_of(tape.pieces(), alloc)?)
     }
 }
 
@@ -101,6 +114,8 @@ impl ToSExpr for State {
     ghost meaning = { λ s. Some (state_shape (state_of s)) };
 
     fn to_sexpr(&self, alloc: Global) -> Result<SExpr, PrintFault> {
-        Ok(sexpr_of(&state(alloc, self)?, alloc)?)
+        let mut tape = Tape::new(alloc)?;
+        state(self, &mut tape)?;
+        Ok(sexpr_of(tape.pieces(), alloc)?)
     }
 }

@@ -1,6 +1,6 @@
 //! The S-expressions of the definitions that speak of terms.
 
-ghost use Rattle.std.specs.Prelude.{◌≡◌, ◌++◌, map, IfOk, OnOk};
+ghost use Rattle.std.specs.Prelude.{◌≡◌, [], ◌∷◌, codes, map, OnOk};
 ghost use Rattle.isle_ast.specs.TreeView.{attribute_of, conversion_of, declaration_of, extern_of};
 ghost use Rattle.isle_ast.specs.TreeView.{form_of, instantiation_of, kind_of, signatures_of};
 ghost use Rattle.isle_ast.specs.TreeView.{target_of};
@@ -10,17 +10,17 @@ ghost use Rattle.isle_printer.specs.DefinitionShapes.{declaration_shape, extern_
 ghost use Rattle.isle_printer.specs.DefinitionShapes.{form_definition_shape, instance_shapes};
 ghost use Rattle.isle_printer.specs.DefinitionShapes.{instantiation_shape, kind_shape, tag_shape};
 ghost use Rattle.isle_printer.specs.DefinitionShapes.{target_shape};
+ghost use Rattle.isle_printer_layout.specs.NameShapes.{form_shape};
+ghost use Rattle.isle_printer_layout.specs.Pieces.{before};
+ghost use Rattle.isle_printer_layout.specs.Sexp.{atom};
 
-use super::models::push_signatures;
+use super::models::each_signature;
 use super::to_sexpr::ToSExpr;
 use isle_ast::ast::{
     Attr, AttrKind, AttrTarget, Converter, Decl, Extern, Form, Ident, Instantiation, Signature,
 };
-use isle_printer_layout::printer::names::{
-    begun, constant, headed, name, names, push_atom, push_flag, push_name,
-};
-use isle_printer_layout::printer::shape::sexpr_of;
-use isle_printer_layout::printer::{PrintFault, SExpr, Shape};
+use isle_printer_layout::printer::names::{constant, flag, name, names};
+use isle_printer_layout::printer::{PrintFault, SExpr, Tape, sexpr_of};
 use std::alloc::{AllocError, Global};
 
 impl ToSExpr for Decl {
@@ -31,7 +31,9 @@ impl ToSExpr for Decl {
     ghost meaning = { λ d. Some (declaration_shape (declaration_of d)) };
 
     fn to_sexpr(&self, alloc: Global) -> Result<SExpr, PrintFault> {
-        Ok(sexpr_of(&declaration(alloc, self)?, alloc)?)
+        let mut tape = Tape::new(alloc)?;
+        declaration(self, &mut tape)?;
+        Ok(sexpr_of(tape.pieces(), alloc)?)
     }
 }
 
@@ -43,7 +45,9 @@ impl ToSExpr for Form {
     ghost meaning = { λ f. Some (form_definition_shape (form_of f)) };
 
     fn to_sexpr(&self, alloc: Global) -> Result<SExpr, PrintFault> {
-        Ok(sexpr_of(&form(alloc, self)?, alloc)?)
+        let mut tape = Tape::new(alloc)?;
+        form(self, &mut tape)?;
+        Ok(sexpr_of(tape.pieces(), alloc)?)
     }
 }
 
@@ -55,7 +59,9 @@ impl ToSExpr for Instantiation {
     ghost meaning = { λ i. Some (instantiation_shape (instantiation_of i)) };
 
     fn to_sexpr(&self, alloc: Global) -> Result<SExpr, PrintFault> {
-        Ok(sexpr_of(&instantiation(alloc, self)?, alloc)?)
+        let mut tape = Tape::new(alloc)?;
+        instantiation(self, &mut tape)?;
+        Ok(sexpr_of(tape.pieces(), alloc)?)
     }
 }
 
@@ -67,7 +73,9 @@ impl ToSExpr for Extern {
     ghost meaning = { λ e. Some (extern_shape (extern_of e)) };
 
     fn to_sexpr(&self, alloc: Global) -> Result<SExpr, PrintFault> {
-        Ok(sexpr_of(&external(alloc, self)?, alloc)?)
+        let mut tape = Tape::new(alloc)?;
+        external(self, &mut tape)?;
+        Ok(sexpr_of(tape.pieces(), alloc)?)
     }
 }
 
@@ -79,7 +87,9 @@ impl ToSExpr for Converter {
     ghost meaning = { λ c. Some (conversion_shape (conversion_of c)) };
 
     fn to_sexpr(&self, alloc: Global) -> Result<SExpr, PrintFault> {
-        Ok(sexpr_of(&conversion(alloc, self)?, alloc)?)
+        let mut tape = Tape::new(alloc)?;
+        conversion(self, &mut tape)?;
+        Ok(sexpr_of(tape.pieces(), alloc)?)
     }
 }
 
@@ -91,7 +101,9 @@ impl ToSExpr for AttrKind {
     ghost meaning = { λ k. Some (kind_shape (kind_of k)) };
 
     fn to_sexpr(&self, alloc: Global) -> Result<SExpr, PrintFault> {
-        Ok(sexpr_of(&attribute_kind(alloc, self)?, alloc)?)
+        let mut tape = Tape::new(alloc)?;
+        attribute_kind(self, &mut tape)?;
+        Ok(sexpr_of(tape.pieces(), alloc)?)
     }
 }
 
@@ -103,102 +115,102 @@ impl ToSExpr for Attr {
     ghost meaning = { λ a. Some (attribute_shape (attribute_of a)) };
 
     fn to_sexpr(&self, alloc: Global) -> Result<SExpr, PrintFault> {
-        Ok(sexpr_of(&attribute(alloc, self)?, alloc)?)
+        let mut tape = Tape::new(alloc)?;
+        attribute(self, &mut tape)?;
+        Ok(sexpr_of(tape.pieces(), alloc)?)
     }
 }
 
-/// The S-expression of a declaration.
-pub(super) fn declaration<'src>(alloc: Global, decl: &'src Decl) -> Result<Shape<'src>, AllocError>
-    ensures { IfOk result (λ s. s ≡ declaration_shape (declaration_of decl.now)) }
+/// Puts the S-expression of a declaration.
+pub(super) fn declaration<'src>(decl: &'src Decl, tape: &mut Tape<'src>) -> Result<(), AllocError>
+    ensures { OnOk result
+        (tape.new ≡ before (declaration_shape (declaration_of decl.now) ∷ []) tape.old) }
 {
-    let mut items = begun(alloc, "decl")?;
-    push_flag(&mut items, "pure", decl.pure)?;
-    push_flag(&mut items, "multi", decl.multi)?;
-    push_flag(&mut items, "partial", decl.partial)?;
-    push_flag(&mut items, "rec", decl.rec)?;
-    push_name(&mut items, &decl.term)?;
-    items.push(names(alloc, &decl.arg_tys)?)?;
-    push_name(&mut items, &decl.ret_ty)?;
-    Ok(Shape::list(items))
+    let outer = tape.close()?;
+    name(&decl.ret_ty, tape)?;
+    names(&decl.arg_tys, tape)?;
+    name(&decl.term, tape)?;
+    flag("rec", decl.rec, tape)?;
+    flag("partial", decl.partial, tape)?;
+    flag("multi", decl.multi, tape)?;
+    flag("pure", decl.pure, tape)?;
+    tape.atom("decl")?;
+    tape.open(outer)
 }
 
-/// The S-expression of a form.
-pub(super) fn form<'src>(alloc: Global, form: &'src Form) -> Result<Shape<'src>, AllocError>
-    ensures { IfOk result (λ s. s ≡ form_definition_shape (form_of form.now)) }
+/// Puts the S-expression of a form.
+pub(super) fn form<'src>(form: &'src Form, tape: &mut Tape<'src>) -> Result<(), AllocError>
+    ensures { OnOk result
+        (tape.new ≡ before (form_definition_shape (form_of form.now) ∷ []) tape.old) }
 {
-    let mut items = begun(alloc, "form")?;
-    push_name(&mut items, &form.name)?;
-    push_signatures(&mut items, alloc, &form.signatures)?;
-    Ok(Shape::list(items))
+    let outer = tape.close()?;
+    each_signature(&form.signatures, tape)?;
+    name(&form.name, tape)?;
+    tape.atom("form")?;
+    tape.open(outer)
 }
 
-/// The S-expression of an instantiation.
+/// Puts the S-expression of an instantiation.
 pub(super) fn instantiation<'src>(
-    alloc: Global,
     instantiation: &'src Instantiation,
-) -> Result<Shape<'src>, AllocError>
-    ensures { IfOk result (λ s. s
-        ≡ instantiation_shape (instantiation_of instantiation.now)) }
+    tape: &mut Tape<'src>,
+) -> Result<(), AllocError>
+    ensures { OnOk result (tape.new
+        ≡ before (instantiation_shape (instantiation_of instantiation.now) ∷ []) tape.old) }
 {
-    let mut items = begun(alloc, "instantiate")?;
-    push_name(&mut items, &instantiation.term)?;
-    push_instance(
-        &mut items,
-        alloc,
-        &instantiation.form,
-        &instantiation.signatures,
-    )?;
-    push_tags(&mut items, alloc, &instantiation.tags)?;
-    Ok(Shape::list(items))
+    let outer = tape.close()?;
+    each_tag(&instantiation.tags, tape)?;
+    instance(&instantiation.form, &instantiation.signatures, tape)?;
+    name(&instantiation.term, tape)?;
+    tape.atom("instantiate")?;
+    tape.open(outer)
 }
 
-/// Appends the form if there is one, else the signatures.
-fn push_instance<'src>(
-    items: &mut Vec<Shape<'src>>,
-    alloc: Global,
+/// Puts the S-expression of the form if there is one, else those of the signatures.
+fn instance<'src>(
     form: &'src Option<Ident>,
     signatures: &'src [Signature],
+    tape: &mut Tape<'src>,
 ) -> Result<(), AllocError>
-    ensures { OnOk result (items.new.items
-        ≡ items.old.items
-        ++ instance_shapes (optional_name_of form.now) (signatures_of signatures.now)) }
+    ensures { OnOk result (tape.new
+        ≡ before (instance_shapes (optional_name_of form.now) (signatures_of signatures.now))
+        tape.old) }
 {
     match form {
-        Some(form) => push_name(items, form),
-        None => push_signatures(items, alloc, signatures),
+        Some(form) => name(form, tape),
+        None => each_signature(signatures, tape),
     }
 }
 
-/// Appends tags.
-fn push_tags<'src>(
-    items: &mut Vec<Shape<'src>>,
-    alloc: Global,
-    tags: &'src [Ident],
-) -> Result<(), AllocError>
-    ensures { OnOk result (items.new.items
-        ≡ items.old.items ++ map tag_shape (names_of tags.now)) }
+/// Puts the S-expressions of tags.
+fn each_tag<'src>(tags: &'src [Ident], tape: &mut Tape<'src>) -> Result<(), AllocError>
+    ensures { OnOk result (tape.new ≡ before (map tag_shape (names_of tags.now)) tape.old) }
 {
-    for each in tags {
-        items.push(tag(alloc, each)?)?;
+    for at in (0..tags.len()).rev() {
+        tag(&tags[at], tape)?;
     }
     Ok(())
 }
 
-/// The S-expression of a tag.
-fn tag<'src>(alloc: Global, tag: &'src Ident) -> Result<Shape<'src>, AllocError>
-    ensures { IfOk result (λ s. s ≡ tag_shape (name_of tag.now)) }
+/// Puts the S-expression of a tag.
+fn tag<'src>(tag: &'src Ident, tape: &mut Tape<'src>) -> Result<(), AllocError>
+    ensures { OnOk result (tape.new ≡ before (tag_shape (name_of tag.now) ∷ []) tape.old) }
 {
-    headed(alloc, "tag", name(tag))
+    let outer = tape.close()?;
+    name(tag, tape)?;
+    tape.atom("tag")?;
+    tape.open(outer)
 }
 
-/// The S-expression of a term or a constant that is defined outside.
+/// Puts the S-expression of a term or a constant that is defined outside.
 pub(super) fn external<'src>(
-    alloc: Global,
     external: &'src Extern,
-) -> Result<Shape<'src>, AllocError>
-    ensures { IfOk result (λ s. s ≡ extern_shape (extern_of external.now)) }
+    tape: &mut Tape<'src>,
+) -> Result<(), AllocError>
+    ensures { OnOk result
+        (tape.new ≡ before (extern_shape (extern_of external.now) ∷ []) tape.old) }
 {
-    let mut items = begun(alloc, "extern")?;
+    let outer = tape.close()?;
     match external {
         Extern::Extractor {
             term,
@@ -206,89 +218,99 @@ pub(super) fn external<'src>(
             pos: _,
             infallible,
         } => {
-            push_atom(&mut items, "extractor")?;
-            push_flag(&mut items, "infallible", *infallible)?;
-            push_name(&mut items, term)?;
-            push_name(&mut items, func)?;
+            name(func, tape)?;
+            name(term, tape)?;
+            flag("infallible", *infallible, tape)?;
+            tape.atom("extractor")?;
         }
         Extern::Constructor { term, func, pos: _ } => {
-            push_atom(&mut items, "constructor")?;
-            push_name(&mut items, term)?;
-            push_name(&mut items, func)?;
+            name(func, tape)?;
+            name(term, tape)?;
+            tape.atom("constructor")?;
         }
-        Extern::Const { name, ty, pos: _ } => {
-            push_atom(&mut items, "const")?;
-            items.push(constant(alloc, name)?)?;
-            push_name(&mut items, ty)?;
+        Extern::Const {
+            name: ident,
+            ty,
+            pos: _,
+        } => {
+            name(ty, tape)?;
+            constant(ident, tape)?;
+            tape.atom("const")?;
         }
     }
-    Ok(Shape::list(items))
+    tape.atom("extern")?;
+    tape.open(outer)
 }
 
-/// The S-expression of a conversion.
+/// Puts the S-expression of a conversion.
 pub(super) fn conversion<'src>(
-    alloc: Global,
     converter: &'src Converter,
-) -> Result<Shape<'src>, AllocError>
-    ensures { IfOk result (λ s. s ≡ conversion_shape (conversion_of converter.now)) }
-{
-    let mut items = begun(alloc, "convert")?;
-    push_name(&mut items, &converter.inner_ty)?;
-    push_name(&mut items, &converter.outer_ty)?;
-    push_name(&mut items, &converter.term)?;
-    Ok(Shape::list(items))
-}
-
-/// The S-expression of what an attribute says.
-fn attribute_kind<'src>(alloc: Global, kind: &'src AttrKind) -> Result<Shape<'src>, AllocError>
-    ensures { IfOk result (λ s. s ≡ kind_shape (kind_of kind.now)) }
-{
-    match kind {
-        AttrKind::Chain => headed(alloc, "veri", Shape::atom("chain")),
-        AttrKind::Priority => headed(alloc, "veri", Shape::atom("priority")),
-        AttrKind::Tag(name) => tag(alloc, name),
-    }
-}
-
-/// The S-expression of an attribute.
-pub(super) fn attribute<'src>(alloc: Global, attr: &'src Attr) -> Result<Shape<'src>, AllocError>
-    ensures { IfOk result (λ s. s ≡ attribute_shape (attribute_of attr.now)) }
-{
-    let mut items = begun(alloc, "attr")?;
-    push_target(&mut items, &attr.target)?;
-    push_kinds(&mut items, alloc, &attr.kinds)?;
-    Ok(Shape::list(items))
-}
-
-/// Appends what an attribute speaks of.
-fn push_target<'src>(
-    items: &mut Vec<Shape<'src>>,
-    target: &'src AttrTarget,
+    tape: &mut Tape<'src>,
 ) -> Result<(), AllocError>
-    ensures { OnOk result (items.new.items
-        ≡ items.old.items ++ target_shape (target_of target.now)) }
+    ensures { OnOk result
+        (tape.new ≡ before (conversion_shape (conversion_of converter.now) ∷ []) tape.old) }
+{
+    let outer = tape.close()?;
+    name(&converter.term, tape)?;
+    name(&converter.outer_ty, tape)?;
+    name(&converter.inner_ty, tape)?;
+    tape.atom("convert")?;
+    tape.open(outer)
+}
+
+/// Puts the S-expression of an attribute.
+pub(super) fn attribute<'src>(attr: &'src Attr, tape: &mut Tape<'src>) -> Result<(), AllocError>
+    ensures { OnOk result
+        (tape.new ≡ before (attribute_shape (attribute_of attr.now) ∷ []) tape.old) }
+{
+    let outer = tape.close()?;
+    each_kind(&attr.kinds, tape)?;
+    target(&attr.target, tape)?;
+    tape.atom("attr")?;
+    tape.open(outer)
+}
+
+/// Puts the S-expressions of what an attribute speaks of.
+fn target<'src>(target: &'src AttrTarget, tape: &mut Tape<'src>) -> Result<(), AllocError>
+    ensures { OnOk result (tape.new ≡ before (target_shape (target_of target.now)) tape.old) }
 {
     match target {
-        AttrTarget::Term(name) => push_name(items, name),
-        AttrTarget::Rule(name) => {
-            push_atom(items, "rule")?;
-            push_name(items, name)?;
-            Ok(())
+        AttrTarget::Term(term) => name(term, tape),
+        AttrTarget::Rule(rule) => {
+            name(rule, tape)?;
+            tape.atom("rule")
         }
     }
 }
 
-/// Appends what an attribute says.
-fn push_kinds<'src>(
-    items: &mut Vec<Shape<'src>>,
-    alloc: Global,
-    kinds: &'src [AttrKind],
-) -> Result<(), AllocError>
-    ensures { OnOk result (items.new.items
-        ≡ items.old.items ++ map kind_shape (map kind_of kinds.now)) }
+/// Puts the S-expressions of what an attribute says.
+fn each_kind<'src>(kinds: &'src [AttrKind], tape: &mut Tape<'src>) -> Result<(), AllocError>
+    ensures { OnOk result (tape.new ≡ before (map kind_shape (map kind_of kinds.now)) tape.old) }
 {
-    for kind in kinds {
-        items.push(attribute_kind(alloc, kind)?)?;
+    for at in (0..kinds.len()).rev() {
+        attribute_kind(&kinds[at], tape)?;
     }
     Ok(())
+}
+
+/// Puts the S-expression of one thing that an attribute says.
+fn attribute_kind<'src>(kind: &'src AttrKind, tape: &mut Tape<'src>) -> Result<(), AllocError>
+    ensures { OnOk result (tape.new ≡ before (kind_shape (kind_of kind.now) ∷ []) tape.old) }
+{
+    match kind {
+        AttrKind::Chain => verification("chain", tape),
+        AttrKind::Priority => verification("priority", tape),
+        AttrKind::Tag(name) => tag(name, tape),
+    }
+}
+
+/// Puts the list of `veri` and a word.
+fn verification<'src>(word: &'src str, tape: &mut Tape<'src>) -> Result<(), AllocError>
+    ensures { OnOk result (tape.new
+        ≡ before (form_shape (codes "veri") (atom word.now ∷ []) ∷ []) tape.old) }
+{
+    let outer = tape.close()?;
+    tape.atom(word)?;
+    tape.atom("veri")?;
+    tape.open(outer)
 }

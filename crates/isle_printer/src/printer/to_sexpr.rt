@@ -2,8 +2,7 @@
 
 use isle_ast::ast::Ident;
 use isle_printer_layout::printer::names::name;
-use isle_printer_layout::printer::shape::sexpr_of;
-use isle_printer_layout::printer::{PrintFault, SExpr};
+use isle_printer_layout::printer::{PrintFault, SExpr, Tape, sexpr_of};
 use std::alloc::Global;
 
 /// A node of the tree that has an S-expression.
@@ -36,6 +35,8 @@ impl ToSExpr for Ident {
     ghost meaning = { λ i. Some (name_shape (name_of i)) };
 
     fn to_sexpr(&self, alloc: Global) -> Result<SExpr, PrintFault> {
-        Ok(sexpr_of(&name(self), alloc)?)
+        let mut tape = Tape::new(alloc)?;
+        name(self, &mut tape)?;
+        Ok(sexpr_of(tape.pieces(), alloc)?)
     }
 }

@@ -1,17 +1,17 @@
 //! The S-expressions of type definitions and their parts.
 
-ghost use Rattle.std.specs.Prelude.{◌≡◌, ◌++◌, map, IfOk, OnOk};
+ghost use Rattle.std.specs.Prelude.{◌≡◌, [], ◌∷◌, map, OnOk};
 ghost use Rattle.isle_ast.specs.TreeView.{fields_of, indexed_field_of, named_field_of};
 ghost use Rattle.isle_ast.specs.TreeView.{type_content_of, type_definition_of, variant_of};
 ghost use Rattle.isle_printer.specs.DefinitionShapes.{field_shapes, indexed_field_shape};
 ghost use Rattle.isle_printer.specs.DefinitionShapes.{named_field_shape, type_content_shape};
 ghost use Rattle.isle_printer.specs.DefinitionShapes.{type_shape, variant_shape};
+ghost use Rattle.isle_printer_layout.specs.Pieces.{before};
 
 use super::to_sexpr::ToSExpr;
 use isle_ast::ast::{Fields, StructField, TupleField, TypeDef, TypeValue, Variant};
-use isle_printer_layout::printer::names::{begun, headed, name, pair, push_flag, push_name};
-use isle_printer_layout::printer::shape::sexpr_of;
-use isle_printer_layout::printer::{PrintFault, SExpr, Shape};
+use isle_printer_layout::printer::names::{flag, name};
+use isle_printer_layout::printer::{PrintFault, SExpr, Tape, sexpr_of};
 use std::alloc::{AllocError, Global};
 
 impl ToSExpr for TypeDef {
@@ -22,7 +22,9 @@ impl ToSExpr for TypeDef {
     ghost meaning = { λ t. Some (type_shape (type_definition_of t)) };
 
     fn to_sexpr(&self, alloc: Global) -> Result<SExpr, PrintFault> {
-        Ok(sexpr_of(&type_definition(alloc, self)?, alloc)?)
+        let mut tape = Tape::new(alloc)?;
+        type_definition(self, &mut tape)?;
+        Ok(sexpr_of(tape.pieces(), alloc)?)
     }
 }
 
@@ -34,7 +36,9 @@ impl ToSExpr for TypeValue {
     ghost meaning = { λ v. Some (type_content_shape (type_content_of v)) };
 
     fn to_sexpr(&self, alloc: Global) -> Result<SExpr, PrintFault> {
-        Ok(sexpr_of(&type_value(alloc, self)?, alloc)?)
+        let mut tape = Tape::new(alloc)?;
+        type_value(self, &mut tape)?;
+        Ok(sexpr_of(tape.pieces(), alloc)?)
     }
 }
 
@@ -46,7 +50,9 @@ impl ToSExpr for Variant {
     ghost meaning = { λ v. Some (variant_shape (variant_of v)) };
 
     fn to_sexpr(&self, alloc: Global) -> Result<SExpr, PrintFault> {
-        Ok(sexpr_of(&variant(alloc, self)?, alloc)?)
+        let mut tape = Tape::new(alloc)?;
+        variant(self, &mut tape)?;
+        Ok(sexpr_of(tape.pieces(), alloc)?)
     }
 }
 
@@ -58,7 +64,9 @@ impl ToSExpr for StructField {
     ghost meaning = { λ f. Some (named_field_shape (named_field_of f)) };
 
     fn to_sexpr(&self, alloc: Global) -> Result<SExpr, PrintFault> {
-        Ok(sexpr_of(&struct_field(alloc, self)?, alloc)?)
+        let mut tape = Tape::new(alloc)?;
+        struct_field(self, &mut tape)?;
+        Ok(sexpr_of(tape.pieces(), alloc)?)
     }
 }
 
@@ -70,118 +78,121 @@ impl ToSExpr for TupleField {
     ghost meaning = { λ f. Some (indexed_field_shape (indexed_field_of f)) };
 
     fn to_sexpr(&self, alloc: Global) -> Result<SExpr, PrintFault> {
-        Ok(sexpr_of(&name(&self.ty), alloc)?)
+        let mut tape = Tape::new(alloc)?;
+        name(&self.ty, &mut tape)?;
+        Ok(sexpr_of(tape.pieces(), alloc)?)
     }
 }
 
-/// The S-expression of a type definition.
+/// Puts the S-expression of a type definition.
 pub(super) fn type_definition<'src>(
-    alloc: Global,
     ty: &'src TypeDef,
-) -> Result<Shape<'src>, AllocError>
-    ensures { IfOk result (λ s. s ≡ type_shape (type_definition_of ty.now)) }
+    tape: &mut Tape<'src>,
+) -> Result<(), AllocError>
+    ensures { OnOk result
+        (tape.new ≡ before (type_shape (type_definition_of ty.now) ∷ []) tape.old) }
 {
-    let mut items = begun(alloc, "type")?;
-    push_name(&mut items, &ty.name)?;
-    push_flag(&mut items, "extern", ty.is_extern)?;
-    push_flag(&mut items, "nodebug", ty.is_nodebug)?;
-    items.push(type_value(alloc, &ty.ty)?)?;
-    Ok(Shape::list(items))
+    let outer = tape.close()?;
+    type_value(&ty.ty, tape)?;
+    flag("nodebug", ty.is_nodebug, tape)?;
+    flag("extern", ty.is_extern, tape)?;
+    name(&ty.name, tape)?;
+    tape.atom("type")?;
+    tape.open(outer)
 }
 
-/// The S-expression of what a type consists of.
-fn type_value<'src>(alloc: Global, value: &'src TypeValue) -> Result<Shape<'src>, AllocError>
-    ensures { IfOk result (λ s. s ≡ type_content_shape (type_content_of value.now)) }
+/// Puts the S-expression of what a type consists of.
+fn type_value<'src>(value: &'src TypeValue, tape: &mut Tape<'src>) -> Result<(), AllocError>
+    ensures { OnOk result
+        (tape.new ≡ before (type_content_shape (type_content_of value.now) ∷ []) tape.old) }
 {
+    let outer = tape.close()?;
     match value {
-        TypeValue::Primitive(primitive, _) => headed(alloc, "primitive", name(primitive)),
+        TypeValue::Primitive(primitive, _) => {
+            name(primitive, tape)?;
+            tape.atom("primitive")?;
+        }
         TypeValue::Enum(variants, _) => {
-            let mut items = begun(alloc, "enum")?;
-            push_variants(&mut items, alloc, variants)?;
-            Ok(Shape::list(items))
+            each_variant(variants, tape)?;
+            tape.atom("enum")?;
         }
         TypeValue::Struct(fields, _) => {
-            let mut items = begun(alloc, "struct")?;
-            push_fields(&mut items, alloc, fields)?;
-            Ok(Shape::list(items))
+            each_field(fields, tape)?;
+            tape.atom("struct")?;
         }
     }
+    tape.open(outer)
 }
 
-/// The S-expression of a variant: a list, even where the variant has no fields.
-fn variant<'src>(alloc: Global, variant: &'src Variant) -> Result<Shape<'src>, AllocError>
-    ensures { IfOk result (λ s. s ≡ variant_shape (variant_of variant.now)) }
+/// Puts the S-expression of a variant: a list, even where the variant has no fields.
+fn variant<'src>(variant: &'src Variant, tape: &mut Tape<'src>) -> Result<(), AllocError>
+    ensures { OnOk result
+        (tape.new ≡ before (variant_shape (variant_of variant.now) ∷ []) tape.old) }
 {
-    let mut items = Vec::new(alloc);
-    push_name(&mut items, &variant.name)?;
-    push_fields(&mut items, alloc, &variant.fields)?;
-    Ok(Shape::list(items))
+    let outer = tape.close()?;
+    each_field(&variant.fields, tape)?;
+    name(&variant.name, tape)?;
+    tape.open(outer)
 }
 
-/// Appends the variants of an enum type.
-fn push_variants<'src>(
-    items: &mut Vec<Shape<'src>>,
-    alloc: Global,
-    variants: &'src [Variant],
-) -> Result<(), AllocError>
-    ensures { OnOk result (items.new.items
-        ≡ items.old.items ++ map variant_shape (map variant_of variants.now)) }
+/// Puts the S-expressions of the variants of an enum type.
+fn each_variant<'src>(variants: &'src [Variant], tape: &mut Tape<'src>) -> Result<(), AllocError>
+    ensures { OnOk result
+        (tape.new ≡ before (map variant_shape (map variant_of variants.now)) tape.old) }
 {
-    for each in variants {
-        items.push(variant(alloc, each)?)?;
+    for at in (0..variants.len()).rev() {
+        variant(&variants[at], tape)?;
     }
     Ok(())
 }
 
-/// Appends the fields of a variant or of a struct type: nothing where there are none.
-fn push_fields<'src>(
-    items: &mut Vec<Shape<'src>>,
-    alloc: Global,
-    fields: &'src Fields,
-) -> Result<(), AllocError>
-    ensures { OnOk result (items.new.items
-        ≡ items.old.items ++ field_shapes (fields_of fields.now)) }
+/// Puts the S-expressions of the fields of a variant or of a struct type: nothing where there are
+/// none.
+fn each_field<'src>(fields: &'src Fields, tape: &mut Tape<'src>) -> Result<(), AllocError>
+    ensures { OnOk result (tape.new ≡ before (field_shapes (fields_of fields.now)) tape.old) }
 {
     match fields {
         Fields::Unit => Ok(()),
-        Fields::Struct(fields) => push_struct_fields(items, alloc, &fields.fields),
-        Fields::Tuple(fields) => push_tuple_fields(items, alloc, &fields.fields),
+        Fields::Struct(fields) => each_struct_field(&fields.fields, tape),
+        Fields::Tuple(fields) => each_tuple_field(&fields.fields, tape),
     }
 }
 
-/// Appends fields that have names.
-fn push_struct_fields<'src>(
-    items: &mut Vec<Shape<'src>>,
-    alloc: Global,
+/// Puts the S-expressions of fields that have names.
+fn each_struct_field<'src>(
     fields: &'src [StructField],
+    tape: &mut Tape<'src>,
 ) -> Result<(), AllocError>
-    ensures { OnOk result (items.new.items
-        ≡ items.old.items ++ map named_field_shape (map named_field_of fields.now)) }
+    ensures { OnOk result
+        (tape.new ≡ before (map named_field_shape (map named_field_of fields.now)) tape.old) }
 {
-    for field in fields {
-        items.push(struct_field(alloc, field)?)?;
+    for at in (0..fields.len()).rev() {
+        struct_field(&fields[at], tape)?;
     }
     Ok(())
 }
 
-/// Appends fields that are known by their places.
-fn push_tuple_fields<'src>(
-    items: &mut Vec<Shape<'src>>,
-    alloc: Global,
+/// Puts the S-expressions of fields that are known by their places.
+fn each_tuple_field<'src>(
     fields: &'src [TupleField],
+    tape: &mut Tape<'src>,
 ) -> Result<(), AllocError>
-    ensures { OnOk result (items.new.items
-        ≡ items.old.items ++ map indexed_field_shape (map indexed_field_of fields.now)) }
+    ensures { OnOk result
+        (tape.new ≡ before (map indexed_field_shape (map indexed_field_of fields.now)) tape.old) }
 {
-    for field in fields {
-        push_name(items, &field.ty)?;
+    for at in (0..fields.len()).rev() {
+        name(&fields[at].ty, tape)?;
     }
     Ok(())
 }
 
-/// The S-expression of a field that has a name.
-fn struct_field<'src>(alloc: Global, field: &'src StructField) -> Result<Shape<'src>, AllocError>
-    ensures { IfOk result (λ s. s ≡ named_field_shape (named_field_of field.now)) }
+/// Puts the S-expression of a field that has a name.
+fn struct_field<'src>(field: &'src StructField, tape: &mut Tape<'src>) -> Result<(), AllocError>
+    ensures { OnOk result
+        (tape.new ≡ before (named_field_shape (named_field_of field.now) ∷ []) tape.old) }
 {
-    pair(alloc, name(&field.name), name(&field.ty))
+    let outer = tape.close()?;
+    name(&field.ty, tape)?;
+    name(&field.name, tape)?;
+    tape.open(outer)
 }

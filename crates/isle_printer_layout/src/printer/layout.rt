@@ -2,66 +2,103 @@
 //!
 //! Columns count the bytes written on a line, its indentation apart. The functions are given the
 //! room that the width leaves of the line, and the level of indentation. A node is looked at where
-//! it is written: its record says whether it fits.
+//! it is written: the record of a list says whether it fits.
 
 ghost use Rattle.std.specs.Prelude.{◌≡◌, ◌≤◌, ◌<◌, ◌+◌, ◌++◌, ◌↔◌, ℕ, IsTrue, OnOk, IfSome};
 ghost use Rattle.std.specs.Prelude.{MatchOption, string_bytes, string_len};
 ghost use Rattle.isle_printer_layout.specs.Flat.{flat, counted};
-ghost use Rattle.isle_printer_layout.specs.Layout.{layout_in, layout_broken, new_line};
+ghost use Rattle.isle_printer_layout.specs.Layout.{layout, layout_in, layout_broken, new_line};
 ghost use Rattle.isle_printer_layout.specs.Lengths.{record_of};
 ghost use Rattle.isle_printer_layout.specs.Looks.{nodes, nodes_of_items};
+ghost use Rattle.isle_printer_layout.specs.Pieces.{Fits, HasFirst, around, behind, first};
+ghost use Rattle.isle_printer_layout.specs.Pieces.{put_piece};
 ghost use Rattle.isle_printer_layout.specs.Sexp.{row, sexps};
 ghost use Rattle.isle_printer_layout.specs.SexpView.{sexp_of};
 
 use super::looks::Looks;
 use super::sexpr::SExpr;
-use super::shape::{Node, Shape};
+use super::tape::{Piece, Pieces};
 use std::alloc::AllocError;
 
-/// Appends the layout of a shape, at a width and a level, where the line has this room left.
+/// Appends the layout, at a width, of the S-expression that is made, from the start of a line on.
 ///
 /// It adds a look for each node where all is written, and never more than there are nodes. It takes
 /// none away, also where a growth was refused.
-#[cycle(put)]
 pub fn put(
-    shape: &Shape,
+    mut pieces: Pieces,
+    width: usize,
+    looks: &mut Looks,
+    out: &mut String,
+) -> Result<(), AllocError>
+    requires { HasFirst pieces.0 }
+    ensures written { OnOk result (string_bytes out.new
+        ≡ string_bytes out.old ++ layout width (first pieces.entry.0)) }
+    ensures at_least { OnOk result
+        (looks.old.count + nodes (first pieces.entry.0) ≤ looks.new.count) }
+    ensures at_most { looks.new.count ≤ looks.old.count + nodes (first pieces.entry.0) }
+    ensures none_taken { looks.old.count ≤ looks.new.count }
+{
+    match pieces.look(looks) {
+        Some(piece) => put_node(piece, &mut pieces, width, width, 0, looks, out),
+        None => unreachable!(),
+    }
+}
+
+/// Appends the layout of the S-expression that a piece begins, at a width and a level, where the
+/// line has this room left, and takes its other pieces off.
+///
+/// The node was looked at. It adds a look for each other one.
+#[cycle(put)]
+fn put_node(
+    piece: Piece,
+    pieces: &mut Pieces,
     width: usize,
     room: usize,
     level: usize,
     looks: &mut Looks,
     out: &mut String,
 ) -> Result<(), AllocError>
-    requires { level ≤ string_len out.old }
-    ensures written { OnOk result (string_bytes out.new
-        ≡ string_bytes out.old ++ layout_in width shape.now room level) }
-    ensures at_least { OnOk result (looks.old.count + nodes shape.now ≤ looks.new.count) }
-    ensures at_most { looks.new.count ≤ looks.old.count + nodes shape.now }
+    requires nested { level ≤ string_len out.old }
+    requires node { HasFirst (put_piece piece pieces.old).0 }
+    requires fits { Fits piece pieces.old }
+    ensures written { OnOk result (string_bytes out.new ≡ string_bytes out.old
+        ++ layout_in width (first (put_piece piece.entry pieces.old).0) room level) }
+    ensures rest { OnOk result (pieces.new ≡ (
+      behind (put_piece piece.entry pieces.old).0,
+      (put_piece piece.entry pieces.old).1,
+    )) }
+    ensures at_least { OnOk result (looks.old.count
+        + nodes (first (put_piece piece.entry pieces.old).0) ≤ looks.new.count + 1) }
+    ensures at_most { looks.new.count + 1
+        ≤ looks.old.count + nodes (first (put_piece piece.entry pieces.old).0) }
     ensures none_taken { looks.old.count ≤ looks.new.count }
 {
-    match shape.look(looks) {
-        (Node::Borrowed(text), _) => {
+    match piece {
+        Piece::Borrowed(text) => {
             out.push_str(text)?;
             Ok(())
         }
-        (Node::Made(text), _) => {
-            out.push_str(text)?;
+        Piece::Owned(text) => {
+            out.push_str(&text)?;
             Ok(())
         }
-        (Node::Binding(name, inner), _) => {
+        Piece::Name(name) => {
             out.push_str(name)?;
             out.push_str(" @ ")?;
             let left = room.saturating_sub(name.len()).saturating_sub(3);
-            put(inner, width, left, level, looks, out)?;
-            Ok(())
-        }
-        (Node::List(items), length) => {
-            if fits_in(length, room) {
-                put_flat_items(items, looks, out)?;
-            } else {
-                put_broken(items, width, room, level, looks, out)?;
+            match pieces.look(looks) {
+                Some(inner) => put_node(inner, pieces, width, left, level, looks, out),
+                None => unreachable!(),
             }
-            Ok(())
         }
+        Piece::Open(length) => {
+            if fits_in(length, room) {
+                put_flat_items(pieces, looks, out)
+            } else {
+                put_broken(pieces, width, room, level, looks, out)
+            }
+        }
+        Piece::Close => unreachable!(),
     }
 }
 
@@ -75,10 +112,11 @@ fn fits_in(length: Option<usize>, room: usize) -> bool
     }
 }
 
-/// Appends a broken list of these items, at a width and a level, where the line has this room left.
+/// Appends a broken list, whose items are the next pieces, at a width and a level, where the line
+/// has this room left, and takes its pieces off.
 #[cycle(put)]
 fn put_broken(
-    items: &[Shape],
+    pieces: &mut Pieces,
     width: usize,
     room: usize,
     level: usize,
@@ -87,29 +125,27 @@ fn put_broken(
 ) -> Result<(), AllocError>
     requires { level ≤ string_len out.old }
     ensures written { OnOk result (string_bytes out.new
-        ≡ string_bytes out.old ++ layout_broken width (sexps items.now) room level) }
+        ≡ string_bytes out.old ++ layout_broken width (sexps pieces.old.0) room level) }
+    ensures rest { OnOk result (pieces.new ≡ around pieces.old.1) }
     ensures at_least { OnOk result
-        (looks.old.count + nodes_of_items (sexps items.now) ≤ looks.new.count) }
-    ensures at_most { looks.new.count ≤ looks.old.count + nodes_of_items (sexps items.now) }
+        (looks.old.count + nodes_of_items (sexps pieces.old.0) ≤ looks.new.count) }
+    ensures at_most { looks.new.count ≤ looks.old.count + nodes_of_items (sexps pieces.old.0) }
     ensures none_taken { looks.old.count ≤ looks.new.count }
 {
-    match items {
-        [] => {
-            out.push_str("()")?;
-            Ok(())
-        }
-        [first, rest @ ..] => {
-            out.push('(')?;
-            put(first, width, room.saturating_sub(1), level, looks, out)?;
-            for item in rest {
-                put_new_line(level + 1, out)?;
-                put(item, width, width, level + 1, looks, out)?;
-            }
-            put_new_line(level, out)?;
-            out.push(')')?;
-            Ok(())
-        }
+    let Some(first) = pieces.look(looks) else {
+        out.push_str("()")?;
+        return Ok(());
+    };
+    out.push('(')?;
+    let left = room.saturating_sub(1);
+    put_node(first, pieces, width, left, level, looks, out)?;
+    while let Some(item) = pieces.look(looks) {
+        put_new_line(level + 1, out)?;
+        put_node(item, pieces, width, width, level + 1, looks, out)?;
     }
+    put_new_line(level, out)?;
+    out.push(')')?;
+    Ok(())
 }
 
 /// Appends a line end and the indentation of the next line, four spaces for each level.
@@ -123,59 +159,77 @@ fn put_new_line(level: usize, out: &mut String) -> Result<(), AllocError>
     Ok(())
 }
 
-/// Appends a shape on one line.
+/// Appends, on one line, the S-expression that a piece begins, and takes its other pieces off.
 #[cycle(put_flat)]
-fn put_flat(shape: &Shape, looks: &mut Looks, out: &mut String) -> Result<(), AllocError>
-    ensures written { OnOk result (string_bytes out.new ≡ string_bytes out.old ++ flat shape.now) }
-    ensures at_least { OnOk result (looks.old.count + nodes shape.now ≤ looks.new.count) }
-    ensures at_most { looks.new.count ≤ looks.old.count + nodes shape.now }
+fn put_flat(
+    piece: Piece,
+    pieces: &mut Pieces,
+    looks: &mut Looks,
+    out: &mut String,
+) -> Result<(), AllocError>
+    requires node { HasFirst (put_piece piece pieces.old).0 }
+    requires fits { Fits piece pieces.old }
+    ensures written { OnOk result (string_bytes out.new
+        ≡ string_bytes out.old ++ flat (first (put_piece piece.entry pieces.old).0)) }
+    ensures rest { OnOk result (pieces.new ≡ (
+      behind (put_piece piece.entry pieces.old).0,
+      (put_piece piece.entry pieces.old).1,
+    )) }
+    ensures at_least { OnOk result (looks.old.count
+        + nodes (first (put_piece piece.entry pieces.old).0) ≤ looks.new.count + 1) }
+    ensures at_most { looks.new.count + 1
+        ≤ looks.old.count + nodes (first (put_piece piece.entry pieces.old).0) }
     ensures none_taken { looks.old.count ≤ looks.new.count }
 {
-    match shape.look(looks).0 {
-        Node::Borrowed(text) => {
+    match piece {
+        Piece::Borrowed(text) => {
             out.push_str(text)?;
             Ok(())
         }
-        Node::Made(text) => {
-            out.push_str(text)?;
+        Piece::Owned(text) => {
+            out.push_str(&text)?;
             Ok(())
         }
-        Node::Binding(name, inner) => {
+        Piece::Name(name) => {
             out.push_str(name)?;
             out.push_str(" @ ")?;
-            put_flat(inner, looks, out)?;
-            Ok(())
+            match pieces.look(looks) {
+                Some(inner) => put_flat(inner, pieces, looks, out),
+                None => unreachable!(),
+            }
         }
-        Node::List(items) => put_flat_items(items, looks, out),
+        Piece::Open(_) => put_flat_items(pieces, looks, out),
+        Piece::Close => unreachable!(),
     }
 }
 
-/// Appends a list of these items on one line.
+/// Appends on one line a list, whose items are the next pieces, and takes its pieces off.
 #[cycle(put_flat)]
-fn put_flat_items(items: &[Shape], looks: &mut Looks, out: &mut String) -> Result<(), AllocError>
-    ensures written { OnOk result
-        (string_bytes out.new ≡ string_bytes out.old ++ flat (row (sexps items.now))) }
+fn put_flat_items(
+    pieces: &mut Pieces,
+    looks: &mut Looks,
+    out: &mut String,
+) -> Result<(), AllocError>
+    ensures written { OnOk result (string_bytes out.new
+        ≡ string_bytes out.old ++ flat (row (sexps pieces.old.0))) }
+    ensures rest { OnOk result (pieces.new ≡ around pieces.old.1) }
     ensures at_least { OnOk result
-        (looks.old.count + nodes_of_items (sexps items.now) ≤ looks.new.count) }
-    ensures at_most { looks.new.count ≤ looks.old.count + nodes_of_items (sexps items.now) }
+        (looks.old.count + nodes_of_items (sexps pieces.old.0) ≤ looks.new.count) }
+    ensures at_most { looks.new.count ≤ looks.old.count + nodes_of_items (sexps pieces.old.0) }
     ensures none_taken { looks.old.count ≤ looks.new.count }
 {
-    match items {
-        [] => {
-            out.push_str("()")?;
-            Ok(())
-        }
-        [first, rest @ ..] => {
-            out.push('(')?;
-            put_flat(first, looks, out)?;
-            for item in rest {
-                out.push(' ')?;
-                put_flat(item, looks, out)?;
-            }
-            out.push(')')?;
-            Ok(())
-        }
+    let Some(first) = pieces.look(looks) else {
+        out.push_str("()")?;
+        return Ok(());
+    };
+    out.push('(')?;
+    put_flat(first, pieces, looks, out)?;
+    while let Some(item) = pieces.look(looks) {
+        out.push(' ')?;
+        put_flat(item, pieces, looks, out)?;
     }
+    out.push(')')?;
+    Ok(())
 }
 
 /// Tells whether an S-expression's counted length is at most the room.

@@ -1,187 +1,114 @@
-//! The S-expressions of names, flags, words and numbers, and of lists that begin with them.
+//! Names, flags, words and numbers, put before what is made.
 
-ghost use Rattle.std.specs.Prelude.{◌≡◌, ◌++◌, [], ◌∷◌, IfOk, OnOk};
+ghost use Rattle.std.specs.Prelude.{◌≡◌, ◌++◌, [], ◌∷◌, OnOk};
 ghost use Rattle.isle_ast_names.specs.TreeView.{name_of, names_of};
 ghost use Rattle.isle_ast_names.specs.Words.{bool_word};
-ghost use Rattle.isle_printer_layout.specs.NameShapes.{constant_shape, flag_shape, form_shape};
-ghost use Rattle.isle_printer_layout.specs.NameShapes.{headed_shape, integer_shape, name_shape};
-ghost use Rattle.isle_printer_layout.specs.NameShapes.{name_shapes, number_shape};
+ghost use Rattle.isle_printer_layout.specs.NameShapes.{constant_shape, flag_shape, headed_shape};
+ghost use Rattle.isle_printer_layout.specs.NameShapes.{integer_shape, name_shape, name_shapes};
+ghost use Rattle.isle_printer_layout.specs.NameShapes.{number_shape};
+ghost use Rattle.isle_printer_layout.specs.Pieces.{before};
 ghost use Rattle.isle_printer_layout.specs.Sexp.{atom, row_of};
 
-use super::shape::Shape;
+use super::tape::Tape;
 use isle_ast_names::ast::Ident;
-use std::alloc::{AllocError, Global};
+use std::alloc::AllocError;
 
-/// The list of several names.
-pub fn names<'src>(alloc: Global, idents: &'src [Ident]) -> Result<Shape<'src>, AllocError>
-    ensures { IfOk result (λ s. s ≡ row_of (name_shapes (names_of idents.now))) }
+/// Puts the list of several names.
+pub fn names<'src>(idents: &'src [Ident], tape: &mut Tape<'src>) -> Result<(), AllocError>
+    ensures { OnOk result
+        (tape.new ≡ before (row_of (name_shapes (names_of idents.now)) ∷ []) tape.old) }
 {
-    let mut items = Vec::with_capacity(alloc, idents.len())?;
-    push_names(&mut items, idents)?;
-    Ok(Shape::list(items))
+    let outer = tape.close()?;
+    each_name(idents, tape)?;
+    tape.open(outer)
 }
 
-/// The list of a name and several more.
+/// Puts the list of a name and several more.
 pub fn headed_names<'src>(
-    alloc: Global,
     head: &'src Ident,
     idents: &'src [Ident],
-) -> Result<Shape<'src>, AllocError>
-    ensures { IfOk result (λ s. s ≡ headed_shape (name_of head.now) (names_of idents.now)) }
-{
-    let mut items = Vec::with_capacity(alloc, idents.len() + 1)?;
-    push_name(&mut items, head)?;
-    push_names(&mut items, idents)?;
-    Ok(Shape::list(items))
-}
-
-/// The list of two items.
-pub fn pair<'src>(
-    alloc: Global,
-    first: Shape<'src>,
-    second: Shape<'src>,
-) -> Result<Shape<'src>, AllocError>
-    ensures { IfOk result (λ s. s ≡ row_of (first.entry ∷ second.entry ∷ [])) }
-{
-    let mut items = Vec::with_capacity(alloc, 2)?;
-    items.push(first)?;
-    items.push(second)?;
-    Ok(Shape::list(items))
-}
-
-/// The list of a word and one item.
-pub fn headed<'src>(
-    alloc: Global,
-    word: &'src str,
-    item: Shape<'src>,
-) -> Result<Shape<'src>, AllocError>
-    ensures { IfOk result (λ s. s ≡ form_shape word.now (item.entry ∷ [])) }
-{
-    let mut items = begun(alloc, word)?;
-    items.push(item)?;
-    Ok(Shape::list(items))
-}
-
-/// The list of a word and two items.
-pub fn headed_pair<'src>(
-    alloc: Global,
-    word: &'src str,
-    first: Shape<'src>,
-    second: Shape<'src>,
-) -> Result<Shape<'src>, AllocError>
-    ensures { IfOk result (λ s. s
-        ≡ form_shape word.now (first.entry ∷ second.entry ∷ [])) }
-{
-    let mut items = begun(alloc, word)?;
-    items.push(first)?;
-    items.push(second)?;
-    Ok(Shape::list(items))
-}
-
-/// The items of a list that begins with a word.
-pub fn begun<'src>(alloc: Global, word: &'src str) -> Result<Vec<Shape<'src>>, AllocError>
-    ensures { IfOk result (λ items. items.items ≡ atom word.now ∷ []) }
-{
-    let mut items = Vec::new(alloc);
-    push_atom(&mut items, word)?;
-    Ok(items)
-}
-
-/// Appends a flag's word where the flag is set.
-pub fn push_flag<'src>(
-    items: &mut Vec<Shape<'src>>,
-    word: &'src str,
-    is_set: bool,
+    tape: &mut Tape<'src>,
 ) -> Result<(), AllocError>
-    ensures { OnOk result (items.new.items
-        ≡ items.old.items ++ flag_shape word.now is_set) }
+    ensures { OnOk result (tape.new
+        ≡ before (headed_shape (name_of head.now) (names_of idents.now) ∷ []) tape.old) }
+{
+    let outer = tape.close()?;
+    each_name(idents, tape)?;
+    name(head, tape)?;
+    tape.open(outer)
+}
+
+/// Puts a flag's word where the flag is set.
+pub fn flag<'src>(word: &'src str, is_set: bool, tape: &mut Tape<'src>) -> Result<(), AllocError>
+    ensures { OnOk result (tape.new ≡ before (flag_shape word.now is_set) tape.old) }
 {
     if is_set {
-        push_atom(items, word)?;
+        tape.atom(word)?;
     }
     Ok(())
 }
 
-/// Appends the atom of a text.
-pub fn push_atom<'src>(items: &mut Vec<Shape<'src>>, text: &'src str) -> Result<(), AllocError>
-    ensures { OnOk result (items.new.items
-        ≡ items.old.items ++ atom text.now ∷ []) }
+/// Puts names.
+pub fn each_name<'src>(idents: &'src [Ident], tape: &mut Tape<'src>) -> Result<(), AllocError>
+    ensures { OnOk result (tape.new ≡ before (name_shapes (names_of idents.now)) tape.old) }
 {
-    items.push(Shape::atom(text))?;
-    Ok(())
-}
-
-/// Appends a name.
-pub fn push_name<'src>(items: &mut Vec<Shape<'src>>, ident: &'src Ident) -> Result<(), AllocError>
-    ensures { OnOk result (items.new.items
-        ≡ items.old.items ++ name_shape (name_of ident.now) ∷ []) }
-{
-    items.push(name(ident))?;
-    Ok(())
-}
-
-/// Appends names.
-pub fn push_names<'src>(
-    items: &mut Vec<Shape<'src>>,
-    idents: &'src [Ident],
-) -> Result<(), AllocError>
-    ensures { OnOk result (items.new.items
-        ≡ items.old.items ++ name_shapes (names_of idents.now)) }
-{
-    for ident in idents {
-        push_name(items, ident)?;
+    for at in (0..idents.len()).rev() {
+        name(&idents[at], tape)?;
     }
     Ok(())
 }
 
-/// The atom of a name.
-pub fn name<'src>(ident: &'src Ident) -> Shape<'src>
-    ensures { result ≡ name_shape (name_of ident.now) }
+/// Puts a name.
+pub fn name<'src>(ident: &'src Ident, tape: &mut Tape<'src>) -> Result<(), AllocError>
+    ensures { OnOk result (tape.new ≡ before (name_shape (name_of ident.now) ∷ []) tape.old) }
 {
-    Shape::atom(&ident.0)
+    tape.atom(&ident.0)
 }
 
-/// The atom of the name of a constant, with its `$`.
-pub fn constant<'src>(alloc: Global, ident: &Ident) -> Result<Shape<'src>, AllocError>
-    ensures { IfOk result (λ s. s ≡ constant_shape (name_of ident.now)) }
+/// Puts the name of a constant, with its `$`.
+pub fn constant(ident: &Ident, tape: &mut Tape) -> Result<(), AllocError>
+    ensures { OnOk result (tape.new ≡ before (constant_shape (name_of ident.now) ∷ []) tape.old) }
 {
-    joined(alloc, "$", &ident.0)
+    joined("$", &ident.0, tape)
 }
 
-/// The atom of two texts, one behind the other.
-pub fn joined<'src>(alloc: Global, front: &str, back: &str) -> Result<Shape<'src>, AllocError>
-    ensures { IfOk result (λ s. s ≡ atom (front.now ++ back.now)) }
+/// Puts the atom of two texts, one behind the other.
+#[inline(never)]
+pub fn joined(front: &str, back: &str, tape: &mut Tape) -> Result<(), AllocError>
+    ensures { OnOk result (tape.new ≡ before (atom (front.now ++ back.now) ∷ []) tape.old) }
 {
-    let mut text = String::from_str(alloc, front)?;
+    let mut text = String::from_str(tape.alloc(), front)?;
     text.push_str(back)?;
-    Ok(Shape::made(text))
+    tape.owned(text)
 }
 
-/// The atom of a number in decimal.
-pub fn number<'src>(alloc: Global, value: usize) -> Result<Shape<'src>, AllocError>
-    ensures { IfOk result (λ s. s ≡ number_shape value) }
+/// Puts a number in decimal.
+#[inline(never)]
+pub fn number(value: usize, tape: &mut Tape) -> Result<(), AllocError>
+    ensures { OnOk result (tape.new ≡ before (number_shape value ∷ []) tape.old) }
 {
-    Ok(Shape::made(value.to_string(alloc)?))
+    tape.owned(value.to_string(tape.alloc())?)
 }
 
-/// The atom of a signed integer in decimal. The least one is written without its sign, which is how
-/// it is read.
-pub fn integer<'src>(alloc: Global, value: i128) -> Result<Shape<'src>, AllocError>
-    ensures { IfOk result (λ s. s ≡ integer_shape value) }
+/// Puts a signed integer in decimal. The least one is written without its sign, which is how it is
+/// read.
+#[inline(never)]
+pub fn integer(value: i128, tape: &mut Tape) -> Result<(), AllocError>
+    ensures { OnOk result (tape.new ≡ before (integer_shape value ∷ []) tape.old) }
 {
     if value == i128::MIN {
-        return Ok(Shape::atom("170141183460469231731687303715884105728"));
+        return tape.atom("170141183460469231731687303715884105728");
     }
-    Ok(Shape::made(value.to_string(alloc)?))
+    tape.owned(value.to_string(tape.alloc())?)
 }
 
-/// The atom of a boolean.
-pub fn boolean<'src>(value: bool) -> Shape<'src>
-    ensures { result ≡ atom (bool_word value) }
+/// Puts a boolean.
+pub fn boolean(value: bool, tape: &mut Tape) -> Result<(), AllocError>
+    ensures { OnOk result (tape.new ≡ before (atom (bool_word value) ∷ []) tape.old) }
 {
     if value {
-        Shape::atom("true")
+        tape.atom("true")
     } else {
-        Shape::atom("false")
+        tape.atom("false")
     }
 }

@@ -1,80 +1,83 @@
-//! The S-expressions of expressions and of the definitions of a `let`.
+//! The S-expressions of expressions and of the definitions of a `let`, put before what is made.
 
-ghost use Rattle.std.specs.Prelude.{◌≡◌, ◌∷◌, [], ◌++◌, IfOk, OnOk};
+ghost use Rattle.std.specs.Prelude.{◌≡◌, [], ◌∷◌, OnOk};
 ghost use Rattle.isle_ast_rules.specs.TreeView.{expression_of, expression_row_of, expressions_of};
 ghost use Rattle.isle_ast_rules.specs.TreeView.{let_row_of, single_let_of, single_lets_of};
+ghost use Rattle.isle_printer_layout.specs.Pieces.{before};
 ghost use Rattle.isle_printer_rules.specs.RuleShapes.{expression_shape, expression_shapes};
 ghost use Rattle.isle_printer_rules.specs.RuleShapes.{let_shape, let_shapes};
-ghost use Rattle.isle_printer_layout.specs.Sexp.{row_of};
 
 use isle_ast_rules::ast::{Expr, LetDef};
-use isle_printer_layout::printer::Shape;
-use isle_printer_layout::printer::names::{begun, boolean, constant, integer, name, push_name};
-use std::alloc::{AllocError, Global};
+use isle_printer_layout::printer::Tape;
+use isle_printer_layout::printer::names::{boolean, constant, integer, name};
+use std::alloc::AllocError;
 
-/// The S-expression of an expression.
+/// Puts the S-expression of an expression.
 #[cycle(expressions)]
-pub fn expression<'src>(node: &'src Expr, alloc: Global) -> Result<Shape<'src>, AllocError>
-    ensures { IfOk result (λ s. s ≡ expression_shape (expression_of node.now)) }
+pub fn expression<'src>(node: &'src Expr, tape: &mut Tape<'src>) -> Result<(), AllocError>
+    ensures { OnOk result
+        (tape.new ≡ before (expression_shape (expression_of node.now) ∷ []) tape.old) }
 {
     match node {
         Expr::Term { sym, args, pos: _ } => {
-            let mut items = Vec::with_capacity(alloc, args.len() + 1)?;
-            push_name(&mut items, sym)?;
-            push_expressions(args, &mut items, alloc)?;
-            Ok(Shape::list(items))
+            let outer = tape.close()?;
+            each_expression(args, tape)?;
+            name(sym, tape)?;
+            tape.open(outer)
         }
-        Expr::Var { name: var, pos: _ } => Ok(name(var)),
-        Expr::ConstBool { val, pos: _ } => Ok(boolean(*val)),
-        Expr::ConstInt { val, pos: _ } => integer(alloc, *val),
-        Expr::ConstPrim { val, pos: _ } => constant(alloc, val),
+        Expr::Var { name: var, pos: _ } => name(var, tape),
+        Expr::ConstBool { val, pos: _ } => boolean(*val, tape),
+        Expr::ConstInt { val, pos: _ } => integer(*val, tape),
+        Expr::ConstPrim { val, pos: _ } => constant(val, tape),
         Expr::Let { defs, body, pos: _ } => {
-            let mut items = begun(alloc, "let")?;
-            items.push(let_definitions(defs, alloc)?)?;
-            items.push(expression(body, alloc)?)?;
-            Ok(Shape::list(items))
+            let outer = tape.close()?;
+            expression(body, tape)?;
+            let around = tape.close()?;
+            each_let_definition(defs, tape)?;
+            tape.open(around)?;
+            tape.atom("let")?;
+            tape.open(outer)
         }
     }
 }
 
-/// Appends expressions.
+/// Puts the S-expressions of expressions.
 #[cycle(expressions)]
-fn push_expressions<'src>(
-    nodes: &'src Vec<Expr>,
-    items: &mut Vec<Shape<'src>>,
-    alloc: Global,
-) -> Result<(), AllocError>
-    ensures { OnOk result (items.new.items
-        ≡ items.old.items
-        ++ expression_shapes (expression_row_of (expressions_of nodes.now.items))) }
+fn each_expression<'src>(nodes: &'src Vec<Expr>, tape: &mut Tape<'src>) -> Result<(), AllocError>
+    ensures { OnOk result (tape.new
+        ≡ before (expression_shapes (expression_row_of (expressions_of nodes.now.items)))
+        tape.old) }
 {
-    for node in nodes {
-        items.push(expression(node, alloc)?)?;
+    for at in (0..nodes.len()).rev() {
+        expression(&nodes[at], tape)?;
     }
     Ok(())
 }
 
-/// The list of the definitions of a `let`.
+/// Puts the S-expressions of the definitions of a `let`.
 #[cycle(expressions)]
-fn let_definitions<'src>(nodes: &'src Vec<LetDef>, alloc: Global) -> Result<Shape<'src>, AllocError>
-    ensures { IfOk result (λ s. s
-        ≡ row_of (let_shapes (let_row_of (single_lets_of nodes.now.items)))) }
+fn each_let_definition<'src>(
+    nodes: &'src Vec<LetDef>,
+    tape: &mut Tape<'src>,
+) -> Result<(), AllocError>
+    ensures { OnOk result (tape.new
+        ≡ before (let_shapes (let_row_of (single_lets_of nodes.now.items))) tape.old) }
 {
-    let mut items = Vec::with_capacity(alloc, nodes.len())?;
-    for node in nodes {
-        items.push(let_definition(node, alloc)?)?;
+    for at in (0..nodes.len()).rev() {
+        let_definition(&nodes[at], tape)?;
     }
-    Ok(Shape::list(items))
+    Ok(())
 }
 
-/// The S-expression of a definition of a `let`.
+/// Puts the S-expression of a definition of a `let`.
 #[cycle(expressions)]
-pub fn let_definition<'src>(node: &'src LetDef, alloc: Global) -> Result<Shape<'src>, AllocError>
-    ensures { IfOk result (λ s. s ≡ let_shape (single_let_of node.now)) }
+pub fn let_definition<'src>(node: &'src LetDef, tape: &mut Tape<'src>) -> Result<(), AllocError>
+    ensures { OnOk result
+        (tape.new ≡ before (let_shape (single_let_of node.now) ∷ []) tape.old) }
 {
-    let mut items = Vec::with_capacity(alloc, 3)?;
-    push_name(&mut items, &node.var)?;
-    push_name(&mut items, &node.ty)?;
-    items.push(expression(&node.val, alloc)?)?;
-    Ok(Shape::list(items))
+    let outer = tape.close()?;
+    expression(&node.val, tape)?;
+    name(&node.ty, tape)?;
+    name(&node.var, tape)?;
+    tape.open(outer)
 }

@@ -1,127 +1,58 @@
-//! The S-expressions of patterns.
+//! The S-expressions of patterns, put before what is made.
 
-ghost use Rattle.std.specs.Prelude.{◌≡◌, ◌++◌, [], ◌∷◌, IfOk, OnOk};
+ghost use Rattle.std.specs.Prelude.{◌≡◌, [], ◌∷◌, OnOk};
 ghost use Rattle.isle_ast_rules.specs.TreeView.{pattern_of, pattern_row_of, patterns_of};
-ghost use Rattle.isle_printer_layout.specs.Sexp.{row_of};
+ghost use Rattle.isle_printer_layout.specs.Pieces.{before};
 ghost use Rattle.isle_printer_rules.specs.RuleShapes.{pattern_shape, pattern_shapes};
 
 use isle_ast_rules::ast::Pattern;
-use isle_printer_layout::printer::Shape;
-use isle_printer_layout::printer::names::{
-    begun, boolean, constant, integer, name, push_atom, push_name,
-};
-use std::alloc::{AllocError, Global};
+use isle_printer_layout::printer::Tape;
+use isle_printer_layout::printer::names::{boolean, constant, integer, name};
+use std::alloc::AllocError;
 
-/// The S-expression of a pattern. That of a macro's argument stands for nothing.
+/// Puts the S-expression of a pattern. That of a macro's argument stands for nothing.
 #[cycle(patterns)]
-pub fn pattern<'src>(node: &'src Pattern, alloc: Global) -> Result<Shape<'src>, AllocError>
-    ensures { IfOk result (λ s. s ≡ pattern_shape (pattern_of node.now)) }
+pub fn pattern<'src>(node: &'src Pattern, tape: &mut Tape<'src>) -> Result<(), AllocError>
+    ensures { OnOk result (tape.new ≡ before (pattern_shape (pattern_of node.now) ∷ []) tape.old) }
 {
     match node {
-        Pattern::Var { var, pos: _ } => Ok(name(var)),
+        Pattern::Var { var, pos: _ } => name(var, tape),
         Pattern::BindPattern {
             var,
             subpat,
             pos: _,
         } => {
-            let bound = pattern(subpat, alloc)?;
-            Shape::binding(alloc, &var.0, bound)
+            pattern(subpat, tape)?;
+            tape.binding(&var.0)
         }
-        Pattern::ConstBool { val, pos: _ } => Ok(boolean(*val)),
-        Pattern::ConstInt { val, pos: _ } => integer(alloc, *val),
-        Pattern::ConstPrim { val, pos: _ } => constant(alloc, val),
+        Pattern::ConstBool { val, pos: _ } => boolean(*val, tape),
+        Pattern::ConstInt { val, pos: _ } => integer(*val, tape),
+        Pattern::ConstPrim { val, pos: _ } => constant(val, tape),
         Pattern::Term { sym, args, pos: _ } => {
-            let mut items = Vec::with_capacity(alloc, args.len() + 1)?;
-            push_name(&mut items, sym)?;
-            push_patterns(args, &mut items, alloc)?;
-            Ok(Shape::list(items))
+            let outer = tape.close()?;
+            each_pattern(args, tape)?;
+            name(sym, tape)?;
+            tape.open(outer)
         }
-        Pattern::Wildcard { pos: _ } => Ok(Shape::atom("_")),
+        Pattern::Wildcard { pos: _ } => tape.atom("_"),
         Pattern::And { subpats, pos: _ } => {
-            let mut items = begun(alloc, "and")?;
-            push_patterns(subpats, &mut items, alloc)?;
-            Ok(Shape::list(items))
+            let outer = tape.close()?;
+            each_pattern(subpats, tape)?;
+            tape.atom("and")?;
+            tape.open(outer)
         }
-        Pattern::MacroArg { index: _, pos: _ } => Ok(Shape::atom("")),
+        Pattern::MacroArg { index: _, pos: _ } => tape.atom(""),
     }
 }
 
-/// Appends patterns.
+/// Puts the S-expressions of patterns.
 #[cycle(patterns)]
-fn push_patterns<'src>(
-    nodes: &'src Vec<Pattern>,
-    items: &mut Vec<Shape<'src>>,
-    alloc: Global,
-) -> Result<(), AllocError>
-    ensures { OnOk result (items.new.items
-        ≡ items.old.items
-        ++ pattern_shapes (pattern_row_of (patterns_of nodes.now.items))) }
+fn each_pattern<'src>(nodes: &'src Vec<Pattern>, tape: &mut Tape<'src>) -> Result<(), AllocError>
+    ensures { OnOk result (tape.new
+        ≡ before (pattern_shapes (pattern_row_of (patterns_of nodes.now.items))) tape.old) }
 {
-    for node in nodes {
-        push_pattern(node, items, alloc)?;
+    for at in (0..nodes.len()).rev() {
+        pattern(&nodes[at], tape)?;
     }
-    Ok(())
-}
-
-/// Appends a pattern.
-// How deep a nest goes is bound by the frames of this ring. So a list is appended as it is made, and
-// what is no list has a frame of its own.
-#[cycle(patterns)]
-#[inline(never)]
-fn push_pattern<'src>(
-    node: &'src Pattern,
-    items: &mut Vec<Shape<'src>>,
-    alloc: Global,
-) -> Result<(), AllocError>
-    ensures { OnOk result (items.new.items
-        ≡ items.old.items ++ pattern_shape (pattern_of node.now) ∷ []) }
-{
-    match node {
-        Pattern::Term { sym, args, pos: _ } => {
-            let mut inner = Vec::with_capacity(alloc, args.len() + 1)?;
-            push_name(&mut inner, sym)?;
-            push_patterns(args, &mut inner, alloc)?;
-            push_list(items, inner)
-        }
-        Pattern::And { subpats, pos: _ } => {
-            let mut inner = Vec::new(alloc);
-            push_atom(&mut inner, "and")?;
-            push_patterns(subpats, &mut inner, alloc)?;
-            push_list(items, inner)
-        }
-        Pattern::Var { .. }
-        | Pattern::BindPattern { .. }
-        | Pattern::ConstBool { .. }
-        | Pattern::ConstInt { .. }
-        | Pattern::ConstPrim { .. }
-        | Pattern::Wildcard { .. }
-        | Pattern::MacroArg { .. } => push_single_pattern(node, items, alloc),
-    }
-}
-
-/// The same, of a pattern that is mostly no list.
-#[cycle(patterns)]
-#[inline(never)]
-fn push_single_pattern<'src>(
-    node: &'src Pattern,
-    items: &mut Vec<Shape<'src>>,
-    alloc: Global,
-) -> Result<(), AllocError>
-    ensures { OnOk result (items.new.items
-        ≡ items.old.items ++ pattern_shape (pattern_of node.now) ∷ []) }
-{
-    items.push(pattern(node, alloc)?)?;
-    Ok(())
-}
-
-/// Appends the list of these items.
-#[inline(never)]
-pub(super) fn push_list<'src>(
-    items: &mut Vec<Shape<'src>>,
-    inner: Vec<Shape<'src>>,
-) -> Result<(), AllocError>
-    ensures { OnOk result (items.new.items ≡ items.old.items ++ row_of inner.entry.items ∷ []) }
-{
-    items.push(Shape::list(inner))?;
     Ok(())
 }

@@ -1,45 +1,46 @@
 //! The atoms of bit vectors: digits in a radix, behind zeros up to the width.
 
-ghost use Rattle.std.specs.Prelude.{◌≡◌, ◌≤◌, ◌<◌, [], ◌∷◌, ◌++◌, replicate, string_bytes, IfOk};
-ghost use Rattle.std.specs.Prelude.{OnOk};
+ghost use Rattle.std.specs.Prelude.{◌≡◌, ◌≤◌, ◌<◌, [], ◌∷◌, ◌++◌, replicate, string_bytes, OnOk};
 ghost use Rattle.std.specs.Char.{digit_char};
+ghost use Rattle.isle_printer_layout.specs.Pieces.{before};
 ghost use Rattle.isle_printer_layout.specs.Sexp.{atom};
 ghost use Rattle.isle_printer_specs.specs.SpecShapes.{bit_vector_text, radix_text, zero_padded};
 
-use isle_printer_layout::printer::Shape;
-use std::alloc::{AllocError, Global};
+use isle_printer_layout::printer::Tape;
+use std::alloc::AllocError;
 
-/// The atom of a bit vector of this value and width: in hexadecimal where four divides the width,
-/// else in binary.
-pub fn bit_vector<'src>(alloc: Global, val: u128, width: usize) -> Result<Shape<'src>, AllocError>
-    ensures { IfOk result (λ s. s ≡ atom (bit_vector_text val width)) }
+/// Puts the atom of a bit vector of this value and width: in hexadecimal where four divides the
+/// width, else in binary.
+pub fn bit_vector(val: u128, width: usize, tape: &mut Tape) -> Result<(), AllocError>
+    ensures { OnOk result
+        (tape.new ≡ before (atom (bit_vector_text val width) ∷ []) tape.old) }
 {
     if width % 4 == 0 {
-        marked_digits(alloc, "#x", 16, val, width / 4)
+        marked_digits("#x", 16, val, width / 4, tape)
     } else {
-        marked_digits(alloc, "#b", 2, val, width)
+        marked_digits("#b", 2, val, width, tape)
     }
 }
 
-/// The atom of a mark and the digits of a number behind it, so many at least.
-fn marked_digits<'src>(
-    alloc: Global,
+/// Puts the atom of a mark and the digits of a number behind it, so many at least.
+fn marked_digits(
     mark: &str,
     radix: u32,
     val: u128,
     least: usize,
-) -> Result<Shape<'src>, AllocError>
+    tape: &mut Tape,
+) -> Result<(), AllocError>
     requires low { 2 ≤ radix }
     requires high { radix ≤ 16 }
-    ensures { IfOk result (λ s. s
-        ≡ atom (mark.now ++ zero_padded least (radix_text radix val))) }
+    ensures { OnOk result (tape.new
+        ≡ before (atom (mark.now ++ zero_padded least (radix_text radix val)) ∷ []) tape.old) }
 {
-    let mut digits = String::new(alloc);
+    let mut digits = String::new(tape.alloc());
     push_digits(&mut digits, radix, val)?;
-    let mut text = String::from_str(alloc, mark)?;
+    let mut text = String::from_str(tape.alloc(), mark)?;
     push_zeros(&mut text, least.saturating_sub(digits.len()))?;
     text.push_str(&digits)?;
-    Ok(Shape::made(text))
+    tape.owned(text)
 }
 
 /// Appends so many zeros.

@@ -1,97 +1,109 @@
 //! The S-expressions of specs, of their macros and of states.
 
-ghost use Rattle.std.specs.Prelude.{◌≡◌, ◌++◌, map, IfOk, OnOk};
+ghost use Rattle.std.specs.Prelude.{◌≡◌, [], ◌∷◌, map, OnOk};
 ghost use Rattle.isle_ast_specs.specs.TreeView.{modified_of, spec_definition_of, spec_macro_of};
 ghost use Rattle.isle_ast_specs.specs.TreeView.{specs_of, state_of};
+ghost use Rattle.isle_printer_layout.specs.Pieces.{before};
 ghost use Rattle.isle_printer_specs.specs.SpecShapes.{clause_shape, modifies_shape};
 ghost use Rattle.isle_printer_specs.specs.SpecShapes.{spec_definition_shape, spec_macro_shape};
 ghost use Rattle.isle_printer_specs.specs.SpecShapes.{state_shape};
 
 use super::models::model_type;
-use super::specs::{spec, specs_behind};
+use super::specs::{each_spec, spec};
 use isle_ast_specs::ast::{Modifies, Spec, SpecExpr, SpecMacro, State};
-use isle_printer_layout::printer::Shape;
-use isle_printer_layout::printer::names::{begun, headed, headed_names, push_name};
-use std::alloc::{AllocError, Global};
+use isle_printer_layout::printer::Tape;
+use isle_printer_layout::printer::names::{headed_names, name};
+use std::alloc::AllocError;
 
-/// The S-expression of a spec: a clause for each kind that says something, and one for each state
-/// that is changed.
-pub fn spec_definition<'src>(alloc: Global, spec: &'src Spec) -> Result<Shape<'src>, AllocError>
-    ensures { IfOk result (λ s. s ≡ spec_definition_shape (spec_definition_of spec.now)) }
+/// Puts the S-expression of a spec: a clause for each kind that says something, and one for each
+/// state that is changed.
+pub fn spec_definition<'src>(spec: &'src Spec, tape: &mut Tape<'src>) -> Result<(), AllocError>
+    ensures { OnOk result (tape.new
+        ≡ before (spec_definition_shape (spec_definition_of spec.now) ∷ []) tape.old) }
 {
-    let mut items = begun(alloc, "spec")?;
-    items.push(headed_names(alloc, &spec.term, &spec.args)?)?;
-    push_clause(&mut items, alloc, "provide", &spec.provides)?;
-    push_clause(&mut items, alloc, "require", &spec.requires_)?;
-    push_clause(&mut items, alloc, "match", &spec.matches)?;
-    push_modifies(&mut items, alloc, &spec.modifies)?;
-    Ok(Shape::list(items))
+    let outer = tape.close()?;
+    each_modifies(&spec.modifies, tape)?;
+    clause(&spec.matches, "match", tape)?;
+    clause(&spec.requires_, "require", tape)?;
+    clause(&spec.provides, "provide", tape)?;
+    headed_names(&spec.term, &spec.args, tape)?;
+    tape.atom("spec")?;
+    tape.open(outer)
 }
 
-/// Appends a clause where there are spec expressions for it.
-fn push_clause<'src>(
-    items: &mut Vec<Shape<'src>>,
-    alloc: Global,
+/// Puts a clause where there are spec expressions for it.
+fn clause<'src>(
+    specs: &'src [SpecExpr],
     word: &'src str,
-    specs: &'src Vec<SpecExpr>,
+    tape: &mut Tape<'src>,
 ) -> Result<(), AllocError>
-    ensures { OnOk result (items.new.items
-        ≡ items.old.items ++ clause_shape word.now (specs_of specs.now.items)) }
+    ensures { OnOk result
+        (tape.new ≡ before (clause_shape word.now (specs_of specs.now)) tape.old) }
 {
     if specs.is_empty() {
         return Ok(());
     }
-    items.push(specs_behind(specs, Shape::atom(word), alloc)?)?;
-    Ok(())
+    let outer = tape.close()?;
+    each_spec(specs, tape)?;
+    tape.atom(word)?;
+    tape.open(outer)
 }
 
-/// Appends what a term changes.
-fn push_modifies<'src>(
-    items: &mut Vec<Shape<'src>>,
-    alloc: Global,
-    states: &'src [Modifies],
-) -> Result<(), AllocError>
-    ensures { OnOk result (items.new.items
-        ≡ items.old.items ++ map modifies_shape (map modified_of states.now)) }
+/// Puts what a term changes.
+fn each_modifies<'src>(states: &'src [Modifies], tape: &mut Tape<'src>) -> Result<(), AllocError>
+    ensures { OnOk result
+        (tape.new ≡ before (map modifies_shape (map modified_of states.now)) tape.old) }
 {
-    for each in states {
-        items.push(modifies(alloc, each)?)?;
+    for at in (0..states.len()).rev() {
+        modifies(&states[at], tape)?;
     }
     Ok(())
 }
 
-/// The S-expression of a state that is changed, and of the condition if there is one.
-pub fn modifies<'src>(alloc: Global, modifies: &'src Modifies) -> Result<Shape<'src>, AllocError>
-    ensures { IfOk result (λ s. s ≡ modifies_shape (modified_of modifies.now)) }
+/// Puts the S-expression of a state that is changed, and of the condition if there is one.
+pub fn modifies<'src>(modifies: &'src Modifies, tape: &mut Tape<'src>) -> Result<(), AllocError>
+    ensures { OnOk result
+        (tape.new ≡ before (modifies_shape (modified_of modifies.now) ∷ []) tape.old) }
 {
-    let mut items = begun(alloc, "modifies")?;
-    push_name(&mut items, &modifies.state)?;
+    let outer = tape.close()?;
     if let Some(cond) = &modifies.cond {
-        push_name(&mut items, cond)?;
+        name(cond, tape)?;
     }
-    Ok(Shape::list(items))
+    name(&modifies.state, tape)?;
+    tape.atom("modifies")?;
+    tape.open(outer)
 }
 
-/// The S-expression of a macro of spec expressions.
+/// Puts the S-expression of a macro of spec expressions.
 pub fn spec_macro<'src>(
-    alloc: Global,
     definition: &'src SpecMacro,
-) -> Result<Shape<'src>, AllocError>
-    ensures { IfOk result (λ s. s ≡ spec_macro_shape (spec_macro_of definition.now)) }
+    tape: &mut Tape<'src>,
+) -> Result<(), AllocError>
+    ensures { OnOk result (tape.new
+        ≡ before (spec_macro_shape (spec_macro_of definition.now) ∷ []) tape.old) }
 {
-    let mut items = begun(alloc, "macro")?;
-    items.push(headed_names(alloc, &definition.name, &definition.params)?)?;
-    items.push(spec(&definition.body, alloc)?)?;
-    Ok(Shape::list(items))
+    let outer = tape.close()?;
+    spec(&definition.body, tape)?;
+    headed_names(&definition.name, &definition.params, tape)?;
+    tape.atom("macro")?;
+    tape.open(outer)
 }
 
-/// The S-expression of a state.
-pub fn state<'src>(alloc: Global, state: &'src State) -> Result<Shape<'src>, AllocError>
-    ensures { IfOk result (λ s. s ≡ state_shape (state_of state.now)) }
+/// Puts the S-expression of a state.
+pub fn state<'src>(state: &'src State, tape: &mut Tape<'src>) -> Result<(), AllocError>
+    ensures { OnOk result
+        (tape.new ≡ before (state_shape (state_of state.now) ∷ []) tape.old) }
 {
-    let mut items = begun(alloc, "state")?;
-    push_name(&mut items, &state.name)?;
-    items.push(headed(alloc, "type", model_type(&state.ty, alloc)?)?)?;
-    items.push(headed(alloc, "default", spec(&state.default, alloc)?)?)?;
-    Ok(Shape::list(items))
+    let outer = tape.close()?;
+    let inner = tape.close()?;
+    spec(&state.default, tape)?;
+    tape.atom("default")?;
+    tape.open(inner)?;
+    let inner = tape.close()?;
+    model_type(&state.ty, tape)?;
+    tape.atom("type")?;
+    tape.open(inner)?;
+    name(&state.name, tape)?;
+    tape.atom("state")?;
+    tape.open(outer)
 }

@@ -1,17 +1,19 @@
 //! The S-expressions of the operators of spec expressions.
 
-ghost use Rattle.std.specs.Prelude.{◌≡◌};
+ghost use Rattle.std.specs.Prelude.{◌≡◌, [], ◌∷◌, OnOk};
 ghost use Rattle.isle_ast_specs.specs.Operators.{operator_text};
+ghost use Rattle.isle_printer_layout.specs.Pieces.{before};
 ghost use Rattle.isle_printer_specs.specs.SpecShapes.{operator_shape};
 
 use isle_ast_specs::ast::SpecOp;
-use isle_printer_layout::printer::Shape;
+use isle_printer_layout::printer::Tape;
+use std::alloc::AllocError;
 
-/// The atom of an operator.
-pub fn operator<'src>(op: &'src SpecOp) -> Shape<'src>
-    ensures { result ≡ operator_shape op.now }
+/// Puts the atom of an operator.
+pub fn operator<'src>(op: &'src SpecOp, tape: &mut Tape<'src>) -> Result<(), AllocError>
+    ensures { OnOk result (tape.new ≡ before (operator_shape op.now ∷ []) tape.old) }
 {
-    Shape::atom(text(op))
+    tape.atom(text(op))
 }
 
 /// The text of an operator.

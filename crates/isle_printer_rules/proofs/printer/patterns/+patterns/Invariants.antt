@@ -1,10 +1,10 @@
--- What is made, and then the patterns that are left, is what there was and all patterns.
-use Rattle.std.proofs.Common.{◌≡◌, ◌++◌, drop}
+-- The patterns that are put are the last ones.
+use Rattle.std.proofs.Common.{◌≡◌, drop}
 use Rattle.isle_ast_rules.specs.TreeView.{pattern_row_of, patterns_of}
+use Rattle.isle_printer_layout.specs.Pieces.{before}
 use Rattle.isle_printer_rules.specs.RuleShapes.{pattern_shapes}
 use Rattle.isle_printer_rules.proofs.printer.patterns.+patterns.Given as goal
 
-abbrev pub invariant-push_patterns-loop-node : goal.invariant-push_patterns-loop-node
-invariant-push_patterns-loop-node l =
-    l.items.items ++ pattern_shapes (pattern_row_of (patterns_of (drop l.node-index l.node-items)))
-    ≡ l.fn.items.items ++ pattern_shapes (pattern_row_of (patterns_of l.node-items))
+abbrev pub invariant-each_pattern-loop-at : goal.invariant-each_pattern-loop-at
+invariant-each_pattern-loop-at l =
+    l.tape ≡ before (pattern_shapes (pattern_row_of (patterns_of (drop l.at l.nodes.items)))) l.fn.tape

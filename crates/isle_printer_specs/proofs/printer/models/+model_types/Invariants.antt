@@ -1,10 +1,10 @@
--- What is made, and then the fields that are left, is what there was and all fields.
-use Rattle.std.proofs.Common.{◌≡◌, ◌++◌, drop}
+-- The fields that are put are the last ones.
+use Rattle.std.proofs.Common.{◌≡◌, drop}
 use Rattle.isle_ast_specs.specs.TreeView.{model_row_of, single_model_fields_of}
+use Rattle.isle_printer_layout.specs.Pieces.{before}
 use Rattle.isle_printer_specs.specs.SpecShapes.{model_field_shapes}
 use Rattle.isle_printer_specs.proofs.printer.models.+model_types.Given as goal
 
-abbrev pub invariant-push_fields-loop-field : goal.invariant-push_fields-loop-field
-invariant-push_fields-loop-field l =
-    l.items.items ++ model_field_shapes (model_row_of (single_model_fields_of (drop l.field-index l.field-items)))
-    ≡ l.fn.items.items ++ model_field_shapes (model_row_of (single_model_fields_of l.field-items))
+abbrev pub invariant-each_field-loop-at : goal.invariant-each_field-loop-at
+invariant-each_field-loop-at l =
+    l.tape ≡ before (model_field_shapes (model_row_of (single_model_fields_of (drop l.at l.fields)))) l.fn.tape

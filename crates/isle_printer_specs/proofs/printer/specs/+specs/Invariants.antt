@@ -1,26 +1,22 @@
--- What is made, and then what is left, is what stands in front and all.
-use Rattle.std.proofs.Common.{◌≡◌, ◌++◌, ◌∷◌, codes, drop}
+-- The nodes that are put are the last ones. A list that is begun has what was made around it.
+use Rattle.std.proofs.Common.{◌≡◌, ◌∷◌, drop}
 use Rattle.isle_ast_specs.specs.TreeView.{arm_row_of, field_init_row_of, single_arms_of, single_field_inits_of, single_spec_lets_of, spec_let_row_of, spec_row_of, specs_of}
-use Rattle.isle_printer_layout.specs.Sexp.{atom}
+use Rattle.isle_printer_layout.specs.Pieces.{before}
 use Rattle.isle_printer_specs.specs.SpecShapes.{arm_shapes, field_init_shapes, spec_let_shapes, spec_shapes}
 use Rattle.isle_printer_specs.proofs.printer.specs.+specs.Given as goal
 
-abbrev pub invariant-specs_behind-loop-node : goal.invariant-specs_behind-loop-node
-invariant-specs_behind-loop-node l =
-    l.items.items ++ spec_shapes (spec_row_of (specs_of (drop l.node-index l.node-items)))
-    ≡ l.fn.head ∷ spec_shapes (spec_row_of (specs_of l.node-items))
+abbrev pub invariant-each_spec-loop-at : goal.invariant-each_spec-loop-at
+invariant-each_spec-loop-at l =
+    l.tape ≡ before (spec_shapes (spec_row_of (specs_of (drop l.at l.nodes)))) l.fn.tape
 
-abbrev pub invariant-arms_behind-loop-node : goal.invariant-arms_behind-loop-node
-invariant-arms_behind-loop-node l =
-    l.items.items ++ arm_shapes (arm_row_of (single_arms_of (drop l.node-index l.node-items)))
-    ≡ l.fn.items.items ++ arm_shapes (arm_row_of (single_arms_of l.node-items))
+abbrev pub invariant-each_arm-loop-at : goal.invariant-each_arm-loop-at
+invariant-each_arm-loop-at l =
+    l.tape ≡ before (arm_shapes (arm_row_of (single_arms_of (drop l.at l.nodes)))) l.fn.tape
 
-abbrev pub invariant-spec_lets-loop-node : goal.invariant-spec_lets-loop-node
-invariant-spec_lets-loop-node l =
-    l.items.items ++ spec_let_shapes (spec_let_row_of (single_spec_lets_of (drop l.node-index l.node-items)))
-    ≡ spec_let_shapes (spec_let_row_of (single_spec_lets_of l.node-items))
+abbrev pub invariant-spec_lets-loop-at : goal.invariant-spec_lets-loop-at
+invariant-spec_lets-loop-at l =
+    l.tape ≡ (spec_let_shapes (spec_let_row_of (single_spec_lets_of (drop l.at l.nodes))), l.fn.tape.0 ∷ l.fn.tape.1)
 
-abbrev pub invariant-field_inits-loop-node : goal.invariant-field_inits-loop-node
-invariant-field_inits-loop-node l =
-    l.items.items ++ field_init_shapes (field_init_row_of (single_field_inits_of (drop l.node-index l.node-items)))
-    ≡ atom (codes "struct") ∷ field_init_shapes (field_init_row_of (single_field_inits_of l.node-items))
+abbrev pub invariant-field_inits-loop-at : goal.invariant-field_inits-loop-at
+invariant-field_inits-loop-at l =
+    l.tape ≡ (field_init_shapes (field_init_row_of (single_field_inits_of (drop l.at l.nodes))), l.fn.tape.0 ∷ l.fn.tape.1)

@@ -1,0 +1,9 @@
+-- The fields that are put are the last ones.
+use Rattle.std.proofs.Common.{◌≡◌, drop, map}
+use Rattle.isle_ast.specs.TreeView.{indexed_field_of}
+use Rattle.isle_printer.specs.DefinitionShapes.{indexed_field_shape}
+use Rattle.isle_printer_layout.specs.Pieces.{before}
+use Rattle.isle_printer.proofs.printer.types.each_tuple_field.Given as goal
+
+abbrev pub invariant-loop-at : goal.invariant-loop-at
+invariant-loop-at l = l.tape ≡ before (map indexed_field_shape (map indexed_field_of (drop l.at l.fields))) l.fn.tape
