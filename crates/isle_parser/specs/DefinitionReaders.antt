@@ -45,22 +45,26 @@ conversion all = do
 abbrev pub pragma : Reader Definition
 pragma all = None
 
+-- what is read of one kind, as a definition of that kind
+unfoldable pub as_definition : {A : Type 0} → (A → Definition) → Reader A → Reader Definition
+as_definition kind read all = read all >>= λ x. Some (kind x.0, x.1)
+
 -- what stands behind this keyword
 unfoldable pub behind : List ℕ → Reader Definition
 behind word all =
-    if bytes_eq word (codes "type") then (type_definition all >>= λ t. Some (type_def t.0, t.1))
-    else (if bytes_eq word (codes "decl") then (declaration all >>= λ d. Some (decl d.0, d.1))
-    else (if bytes_eq word (codes "attr") then (attribute all >>= λ a. Some (attr a.0, a.1))
-    else (if bytes_eq word (codes "spec") then (spec_definition all >>= λ s. Some (spec s.0, s.1))
-    else (if bytes_eq word (codes "macro") then (spec_macro_definition all >>= λ m. Some (spec_macro m.0, m.1))
-    else (if bytes_eq word (codes "model") then (model_definition all >>= λ m. Some (model m.0, m.1))
-    else (if bytes_eq word (codes "state") then (state_definition all >>= λ s. Some (state s.0, s.1))
-    else (if bytes_eq word (codes "form") then (form_definition all >>= λ f. Some (form f.0, f.1))
-    else (if bytes_eq word (codes "instantiate") then (instantiation_of_term all >>= λ i. Some (instantiation i.0, i.1))
-    else (if bytes_eq word (codes "rule") then (rule_definition all >>= λ r. Some (rule r.0, r.1))
-    else (if bytes_eq word (codes "extractor") then (extractor_definition all >>= λ e. Some (extractor e.0, e.1))
-    else (if bytes_eq word (codes "extern") then (extern_definition all >>= λ e. Some (external e.0, e.1))
-    else (if bytes_eq word (codes "convert") then (conversion all >>= λ c. Some (converter c.0, c.1))
+    if bytes_eq word (codes "type") then as_definition type_def type_definition all
+    else (if bytes_eq word (codes "decl") then as_definition decl declaration all
+    else (if bytes_eq word (codes "attr") then as_definition attr attribute all
+    else (if bytes_eq word (codes "spec") then as_definition spec spec_definition all
+    else (if bytes_eq word (codes "macro") then as_definition spec_macro spec_macro_definition all
+    else (if bytes_eq word (codes "model") then as_definition model model_definition all
+    else (if bytes_eq word (codes "state") then as_definition state state_definition all
+    else (if bytes_eq word (codes "form") then as_definition form form_definition all
+    else (if bytes_eq word (codes "instantiate") then as_definition instantiation instantiation_of_term all
+    else (if bytes_eq word (codes "rule") then as_definition rule rule_definition all
+    else (if bytes_eq word (codes "extractor") then as_definition extractor extractor_definition all
+    else (if bytes_eq word (codes "extern") then as_definition external extern_definition all
+    else (if bytes_eq word (codes "convert") then as_definition converter conversion all
     else None))))))))))))
 
 -- a keyword, and what stands behind it

@@ -15,7 +15,7 @@ use Rattle.isle_ast.specs.TermGrammar.{SpellsDeclaration, SpellsAttribute, Spell
 use Rattle.isle_ast.specs.TypeGrammar.{SpellsTypeDefinition}
 use Rattle.isle_parser_cursor.specs.Reading.{Reader, ◌>>=◌, is_ahead, ends, pos_ahead, text, flag}
 use Rattle.isle_parser_cursor.specs.NameReaders.{name, names}
-use Rattle.isle_parser.specs.DefinitionReaders.{declaration, conversion, behind, keyword_form, definition, definitions}
+use Rattle.isle_parser.specs.DefinitionReaders.{declaration, conversion, as_definition, behind, keyword_form, definition, definitions}
 use Rattle.isle_parser.specs.FormReaders.{form_definition, instantiation_of_term}
 use Rattle.isle_parser.specs.ModelReaders.{model_definition}
 use Rattle.isle_parser_rules.specs.RuleReaders.{rule_definition, extractor_definition}
@@ -221,7 +221,7 @@ keyword_chosen {A = A} {all = all} {inner = inner} {rest = rest} {w = w} {x = x}
     ]
 
 keyword_form_sound : Sound SpellsKeyword keyword_form
-unfolding keyword_form behind
+unfolding keyword_form behind as_definition
 keyword_form_sound all rest x e =
     let w = bind_some (text all) (λ word. behind word.0 word.1) (x, rest) e in
     keyword_chosen (codes "type") SpellsTypeDefinition type_definition type_def _ type_definition_sound w.1 (λ y h. h)
@@ -240,7 +240,7 @@ keyword_form_sound all rest x e =
     (λ h. absurd (nothing h)))))))))))))) w.2
 
 keyword_form_complete : CompleteClosed SpellsKeyword keyword_form
-unfolding keyword_form behind
+unfolding keyword_form behind as_definition
 keyword_form_complete (type_def x) all rest closed h = rw (word_read h.1, type_definition_complete x h.0 rest h.2) refl
 keyword_form_complete (rule x) all rest closed h = rw (word_read h.1, rule_complete x h.0 rest h.2) refl
 keyword_form_complete (extractor x) all rest closed h = rw (word_read h.1, extractor_complete x h.0 rest closed h.2) refl

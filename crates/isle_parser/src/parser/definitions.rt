@@ -1,10 +1,23 @@
 //! Definitions.
 
-ghost use Rattle.std.specs.Prelude.{◌≡◌, OnOk, false};
+ghost use Rattle.std.specs.Prelude.{◌≡◌, None, OnOk, false};
+ghost use Rattle.isle_ast.specs.Tree.{attr, converter, decl, external, extractor, form};
+ghost use Rattle.isle_ast.specs.Tree.{instantiation, model, rule, spec, spec_macro, state};
+ghost use Rattle.isle_ast.specs.Tree.{type_def};
 ghost use Rattle.isle_ast.specs.TreeView.{definition_of};
 ghost use Rattle.isle_base.specs.Steps.{is_failed};
-ghost use Rattle.isle_parser.specs.DefinitionReaders.{behind, definition, keyword_form};
+ghost use Rattle.isle_parser.specs.DefinitionReaders.{as_definition, behind, conversion};
+ghost use Rattle.isle_parser.specs.DefinitionReaders.{declaration, definition, keyword_form};
+ghost use Rattle.isle_parser.specs.DefinitionReaders.{pragma};
+ghost use Rattle.isle_parser.specs.FormReaders.{form_definition, instantiation_of_term};
+ghost use Rattle.isle_parser.specs.ModelReaders.{model_definition};
+ghost use Rattle.isle_parser.specs.TermReaders.{attribute, extern_definition};
+ghost use Rattle.isle_parser.specs.TypeReaders.{type_definition};
 ghost use Rattle.isle_parser_cursor.specs.Outcomes.{Gives, IsPlace, source, tokens};
+ghost use Rattle.isle_parser_rules.specs.RuleReaders.{extractor_definition, rule_definition};
+ghost use Rattle.isle_parser_specs.specs.SpecDefinitionReaders.{spec_definition};
+ghost use Rattle.isle_parser_specs.specs.SpecDefinitionReaders.{spec_macro_definition};
+ghost use Rattle.isle_parser_specs.specs.SpecDefinitionReaders.{state_definition};
 
 use crate::parser::forms::{parse_form, parse_instantiation};
 use crate::parser::models::parse_model;
@@ -39,7 +52,8 @@ fn parse_keyword_form(cursor: &mut Cursor, alloc: Global) -> Result<Def, Stop>
     parse_behind(cursor, alloc, place, word)
 }
 
-/// What stands behind this keyword, which stood at this place.
+/// What stands behind this keyword, which stood at this place. Each kind of definition is made in a
+/// call of its own, so that no frame holds the nodes of all kinds.
 #[tactic(auto, unfolding(crate::specs::DefinitionReaders::behind))]
 fn parse_behind(cursor: &mut Cursor, alloc: Global, place: Pos, word: &str) -> Result<Def, Stop>
     requires { IsPlace (source cursor.old) place }
@@ -47,20 +61,167 @@ fn parse_behind(cursor: &mut Cursor, alloc: Global, place: Pos, word: &str) -> R
     ensures gives { Gives definition_of (behind word.now (tokens cursor.old)) result cursor.new }
 {
     match word {
-        "pragma" => Ok(Def::Pragma(parse_pragma(cursor, alloc)?)),
-        "type" => Ok(Def::TypeDef(parse_type(cursor, alloc)?)),
-        "decl" => Ok(Def::Decl(parse_decl(cursor, alloc)?)),
-        "attr" => Ok(Def::Attr(parse_attr(cursor, alloc)?)),
-        "spec" => Ok(Def::Spec(parse_spec(cursor, alloc)?)),
-        "macro" => Ok(Def::SpecMacro(parse_spec_macro(cursor, alloc)?)),
-        "model" => Ok(Def::Model(parse_model(cursor, alloc)?)),
-        "state" => Ok(Def::State(parse_state(cursor, alloc)?)),
-        "form" => Ok(Def::Form(parse_form(cursor, alloc)?)),
-        "instantiate" => Ok(Def::Instantiation(parse_instantiation(cursor, alloc)?)),
-        "rule" => Ok(Def::Rule(parse_rule(cursor, alloc)?)),
-        "extractor" => Ok(Def::Extractor(parse_etor(cursor, alloc)?)),
-        "extern" => Ok(Def::Extern(parse_extern(cursor, alloc)?)),
-        "convert" => Ok(Def::Converter(parse_converter(cursor, alloc)?)),
-        _ => Err(cursor.refuse_at(place, format!(in alloc; "Unexpected identifier: {word}"))),
+        "pragma" => parse_pragma_def(cursor, alloc),
+        "type" => parse_type_def(cursor, alloc),
+        "decl" => parse_decl_def(cursor, alloc),
+        "attr" => parse_attr_def(cursor, alloc),
+        "spec" => parse_spec_def(cursor, alloc),
+        "macro" => parse_spec_macro_def(cursor, alloc),
+        "model" => parse_model_def(cursor, alloc),
+        "state" => parse_state_def(cursor, alloc),
+        "form" => parse_form_def(cursor, alloc),
+        "instantiate" => parse_instantiation_def(cursor, alloc),
+        "rule" => parse_rule_def(cursor, alloc),
+        "extractor" => parse_etor_def(cursor, alloc),
+        "extern" => parse_extern_def(cursor, alloc),
+        "convert" => parse_converter_def(cursor, alloc),
+        _ => refuse_keyword(cursor, alloc, place, word),
     }
+}
+
+#[inline(never)]
+fn parse_pragma_def(cursor: &mut Cursor, alloc: Global) -> Result<Def, Stop>
+    ensures same { source cursor.new ≡ source cursor.old }
+    ensures gives { Gives definition_of (pragma (tokens cursor.old)) result cursor.new }
+{
+    Ok(Def::Pragma(parse_pragma(cursor, alloc)?))
+}
+
+#[tactic(auto, unfolding(crate::specs::DefinitionReaders::as_definition))]
+#[inline(never)]
+fn parse_type_def(cursor: &mut Cursor, alloc: Global) -> Result<Def, Stop>
+    ensures same { source cursor.new ≡ source cursor.old }
+    ensures gives { Gives definition_of
+        (as_definition type_def type_definition (tokens cursor.old)) result cursor.new }
+{
+    Ok(Def::TypeDef(parse_type(cursor, alloc)?))
+}
+
+#[tactic(auto, unfolding(crate::specs::DefinitionReaders::as_definition))]
+#[inline(never)]
+fn parse_decl_def(cursor: &mut Cursor, alloc: Global) -> Result<Def, Stop>
+    ensures same { source cursor.new ≡ source cursor.old }
+    ensures gives { Gives definition_of
+        (as_definition decl declaration (tokens cursor.old)) result cursor.new }
+{
+    Ok(Def::Decl(parse_decl(cursor, alloc)?))
+}
+
+#[tactic(auto, unfolding(crate::specs::DefinitionReaders::as_definition))]
+#[inline(never)]
+fn parse_attr_def(cursor: &mut Cursor, alloc: Global) -> Result<Def, Stop>
+    ensures same { source cursor.new ≡ source cursor.old }
+    ensures gives { Gives definition_of
+        (as_definition attr attribute (tokens cursor.old)) result cursor.new }
+{
+    Ok(Def::Attr(parse_attr(cursor, alloc)?))
+}
+
+#[tactic(auto, unfolding(crate::specs::DefinitionReaders::as_definition))]
+#[inline(never)]
+fn parse_spec_def(cursor: &mut Cursor, alloc: Global) -> Result<Def, Stop>
+    ensures same { source cursor.new ≡ source cursor.old }
+    ensures gives { Gives definition_of
+        (as_definition spec spec_definition (tokens cursor.old)) result cursor.new }
+{
+    Ok(Def::Spec(parse_spec(cursor, alloc)?))
+}
+
+#[tactic(auto, unfolding(crate::specs::DefinitionReaders::as_definition))]
+#[inline(never)]
+fn parse_spec_macro_def(cursor: &mut Cursor, alloc: Global) -> Result<Def, Stop>
+    ensures same { source cursor.new ≡ source cursor.old }
+    ensures gives { Gives definition_of
+        (as_definition spec_macro spec_macro_definition (tokens cursor.old)) result cursor.new }
+{
+    Ok(Def::SpecMacro(parse_spec_macro(cursor, alloc)?))
+}
+
+#[tactic(auto, unfolding(crate::specs::DefinitionReaders::as_definition))]
+#[inline(never)]
+fn parse_model_def(cursor: &mut Cursor, alloc: Global) -> Result<Def, Stop>
+    ensures same { source cursor.new ≡ source cursor.old }
+    ensures gives { Gives definition_of
+        (as_definition model model_definition (tokens cursor.old)) result cursor.new }
+{
+    Ok(Def::Model(parse_model(cursor, alloc)?))
+}
+
+#[tactic(auto, unfolding(crate::specs::DefinitionReaders::as_definition))]
+#[inline(never)]
+fn parse_state_def(cursor: &mut Cursor, alloc: Global) -> Result<Def, Stop>
+    ensures same { source cursor.new ≡ source cursor.old }
+    ensures gives { Gives definition_of
+        (as_definition state state_definition (tokens cursor.old)) result cursor.new }
+{
+    Ok(Def::State(parse_state(cursor, alloc)?))
+}
+
+#[tactic(auto, unfolding(crate::specs::DefinitionReaders::as_definition))]
+#[inline(never)]
+fn parse_form_def(cursor: &mut Cursor, alloc: Global) -> Result<Def, Stop>
+    ensures same { source cursor.new ≡ source cursor.old }
+    ensures gives { Gives definition_of
+        (as_definition form form_definition (tokens cursor.old)) result cursor.new }
+{
+    Ok(Def::Form(parse_form(cursor, alloc)?))
+}
+
+#[tactic(auto, unfolding(crate::specs::DefinitionReaders::as_definition))]
+#[inline(never)]
+fn parse_instantiation_def(cursor: &mut Cursor, alloc: Global) -> Result<Def, Stop>
+    ensures same { source cursor.new ≡ source cursor.old }
+    ensures gives { Gives definition_of
+        (as_definition instantiation instantiation_of_term (tokens cursor.old)) result cursor.new }
+{
+    Ok(Def::Instantiation(parse_instantiation(cursor, alloc)?))
+}
+
+#[tactic(auto, unfolding(crate::specs::DefinitionReaders::as_definition))]
+#[inline(never)]
+fn parse_rule_def(cursor: &mut Cursor, alloc: Global) -> Result<Def, Stop>
+    ensures same { source cursor.new ≡ source cursor.old }
+    ensures gives { Gives definition_of
+        (as_definition rule rule_definition (tokens cursor.old)) result cursor.new }
+{
+    Ok(Def::Rule(parse_rule(cursor, alloc)?))
+}
+
+#[tactic(auto, unfolding(crate::specs::DefinitionReaders::as_definition))]
+#[inline(never)]
+fn parse_etor_def(cursor: &mut Cursor, alloc: Global) -> Result<Def, Stop>
+    ensures same { source cursor.new ≡ source cursor.old }
+    ensures gives { Gives definition_of
+        (as_definition extractor extractor_definition (tokens cursor.old)) result cursor.new }
+{
+    Ok(Def::Extractor(parse_etor(cursor, alloc)?))
+}
+
+#[tactic(auto, unfolding(crate::specs::DefinitionReaders::as_definition))]
+#[inline(never)]
+fn parse_extern_def(cursor: &mut Cursor, alloc: Global) -> Result<Def, Stop>
+    ensures same { source cursor.new ≡ source cursor.old }
+    ensures gives { Gives definition_of
+        (as_definition external extern_definition (tokens cursor.old)) result cursor.new }
+{
+    Ok(Def::Extern(parse_extern(cursor, alloc)?))
+}
+
+#[tactic(auto, unfolding(crate::specs::DefinitionReaders::as_definition))]
+#[inline(never)]
+fn parse_converter_def(cursor: &mut Cursor, alloc: Global) -> Result<Def, Stop>
+    ensures same { source cursor.new ≡ source cursor.old }
+    ensures gives { Gives definition_of
+        (as_definition converter conversion (tokens cursor.old)) result cursor.new }
+{
+    Ok(Def::Converter(parse_converter(cursor, alloc)?))
+}
+
+/// Refuses this word, which stood at this place: it begins no definition.
+#[inline(never)]
+fn refuse_keyword(cursor: &Cursor, alloc: Global, place: Pos, word: &str) -> Result<Def, Stop>
+    requires { IsPlace (source cursor.now) place }
+    ensures { Gives definition_of None result cursor.now }
+{
+    Err(cursor.refuse_at(place, format!(in alloc; "Unexpected identifier: {word}")))
 }

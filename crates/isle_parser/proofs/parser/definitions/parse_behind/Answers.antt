@@ -1,8 +1,8 @@
-use Rattle.isle_parser_cursor.specs.Outcomes.{source, tokens}
+use Rattle.isle_parser_cursor.specs.Outcomes.{tokens}
 use Rattle.isle_parser.proofs.Keywords.{keyword_refused}
 use Rattle.isle_parser.proofs.parser.definitions.parse_behind.Goals as goal
 
 pub returns-in_default-clause-gives : goal.returns-in_default-clause-gives
 returns-in_default-clause-gives c =
     let d = c.in_default in
-    keyword_refused c.args.word.now (tokens c.args.cursor.now) (source c.args.cursor.now) c.refuse_at.result d.not-type d.not-decl d.not-attr d.not-spec d.not-macro d.not-model d.not-state d.not-form d.not-instantiate d.not-rule d.not-extractor d.not-extern d.not-convert c.refuse_at.ensures
+    rw (keyword_refused c.args.word.now (tokens c.args.cursor.now) d.not-type d.not-decl d.not-attr d.not-spec d.not-macro d.not-model d.not-state d.not-form d.not-instantiate d.not-rule d.not-extractor d.not-extern d.not-convert) c.refuse_keyword.ensures
