@@ -47,10 +47,11 @@ fn put_next(
     ensures refused { IfErr result (IfError (RefusesNext parser.old.cursor)) }
     ensures failed { IsErrOf result Failed ↔ (has_failed parser.old ≡ true) }
 {
-    let Some(def) = parser.next_def(alloc)? else {
+    let next = parser.next_def(alloc)?;
+    let Some(def) = &next else {
         return Ok(false);
     };
-    match put_definition(alloc, &def, width, &mut Looks::new(), answer) {
+    match put_definition(alloc, def, width, &mut Looks::new(), answer) {
         Ok(()) => Ok(true),
         Err(PrintFault::MacroArg) => unreachable!(),
         Err(PrintFault::Memory) => Err(Fault::Memory),
