@@ -59,6 +59,3 @@ pub fn tidy(alloc: Global, text: &str, width: usize) -> Result<String, Fault>
         None => unreachable!(),
     }
 }
-
-#[cfg(test)]
-mod tests;

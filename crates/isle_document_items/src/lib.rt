@@ -6,5 +6,3 @@ pub mod document;
 pub mod gaps;
 pub mod laws;
 pub mod reader;
-#[cfg(test)]
-mod tests;

@@ -8,6 +8,3 @@ mod writing;
 
 pub use streaming::tidy_text;
 pub use writing::tidy_document;
-
-#[cfg(test)]
-mod tests;

@@ -65,6 +65,3 @@ pub fn expanded(alloc: Global, defs: &[Def]) -> Result<Vec<Def>, ExpandFault>
         Err(refusal) => Err(fault_of(refusal, alloc, &macros)),
     }
 }
-
-#[cfg(test)]
-mod tests;

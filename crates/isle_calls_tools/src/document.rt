@@ -1,7 +1,12 @@
-use crate::document::{Entry, Gap, Item};
-use crate::gaps::{Preceding, gap_of, kept};
-use crate::reader::read_document;
+//! The document of a text, and its tidy text.
+
+use isle_document::tidy;
+use isle_document_items::document::{Entry, Gap, Item};
+use isle_document_items::gaps::{Preceding, gap_of, kept};
+use isle_document_items::reader::read_document;
+use isle_document_layout::tidy_document;
 use std::alloc::AllocError;
+use std::test::Fail;
 
 #[test]
 fn reads_each_kind_of_item(rt: HostRuntime) -> Result<(), AllocError> {
@@ -60,4 +65,34 @@ fn keeps_gaps(rt: HostRuntime) {
     let note = Item::Note("");
     assert_eq!(&rt; Preceding::behind(&note), Preceding::Note);
     assert_eq!(&rt; kept(Preceding::Note, &note, Gap::Beside), Gap::Below);
+}
+
+#[test]
+fn lays_out_comments(rt: HostRuntime) -> Result<(), Fail> {
+    let alloc = rt.alloc();
+    let text = "(alu (op x) ; dest\nz\n\n(; two ;) y)";
+    let Some(document) = read_document(alloc, text)? else {
+        return Err(Fail::from("no document"));
+    };
+    assert_eq!(rt;
+        tidy_document(alloc, &document, 78)?.as_str(),
+        "(alu\n    (op x) ; dest\n    z\n\n    (; two ;) y\n)\n"
+    );
+    Ok(())
+}
+
+#[test]
+fn keeps_comments_beside_what_they_were(rt: HostRuntime) -> Result<(), Fail> {
+    let text = "; one\r\n(decl  foo ; two\n (A)\n B)(; three ;)\n\n\n(convert A\tB 0x10)";
+    let tidied = tidy(rt.alloc(), text, 78).ok();
+    assert!(rt; tidied.is_none());
+    let text = "; one\r\n(decl  foo ; two\n (A)\n B)(; three ;)\n\n\n(convert A\tB c)";
+    let Ok(answer) = tidy(rt.alloc(), text, 78) else {
+        return Err(Fail::new("the text is refused"));
+    };
+    assert_eq!(rt;
+        answer.as_str(),
+        "; one\n(decl\n    foo ; two\n    (A)\n    B\n) (; three ;)\n\n(convert A B c)\n"
+    );
+    Ok(())
 }

@@ -1,7 +1,0 @@
-use Rattle.std.proofs.Common.{◌≡◌, drop}
-use Rattle.isle_ast.specs.MacroArgs.{definitions_have_macro_arg}
-use Rattle.isle_ast.specs.TreeView.{definitions_of}
-use Rattle.isle_expand_rules.proofs.tests.have_macro_arg.Given as goal
-
-abbrev pub invariant-loop-def : goal.invariant-loop-def
-invariant-loop-def l = definitions_have_macro_arg (definitions_of (drop l.def-index l.defs)) ≡ definitions_have_macro_arg (definitions_of l.defs)
