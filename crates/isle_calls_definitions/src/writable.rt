@@ -178,6 +178,7 @@ fn words_of_flags_want_flags(rt: HostRuntime) -> Result<(), AllocError> {
         ("a b", none, false),
         ("pure", none, false),
         ("pure", pure, true),
+        ("pure", multi, true),
         ("pure", rec, true),
         ("multi", pure, false),
         ("multi", multi, true),

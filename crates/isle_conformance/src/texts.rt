@@ -34,7 +34,8 @@ impl Tally {
         }
     }
 
-    /// Adds a text.
+    /// Adds a text. It is wrong where the calls do not agree on it, and where what is shown of a
+    /// refused one is no parse error.
     fn add(&mut self, alloc: Global, text: &str) -> Result<(), AllocError> {
         let shown = refusal_of(alloc, text)?;
         let is_accepted = shown.as_str() == "accepted";
@@ -44,7 +45,8 @@ impl Tally {
             self.add_shown(&shown);
         }
         self.count = self.count.saturating_add(1);
-        let is_right = is_read(alloc, text) && is_formatted(alloc, text, is_accepted);
+        let is_told = is_accepted || shown.starts_with("parse error: ");
+        let is_right = is_told && is_read(alloc, text) && is_formatted(alloc, text, is_accepted);
         if !is_right && self.wrong.is_none() {
             self.wrong = Some(text.to_string(alloc)?);
         }
