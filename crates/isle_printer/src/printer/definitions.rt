@@ -8,7 +8,7 @@ ghost use Rattle.isle_printer_layout.specs.Pieces.{before, nothing};
 ghost use Rattle.isle_printer_layout.specs.declared.printer.sexpr.PrintFault.TheVariants.{MacroArg};
 ghost use Rattle.isle_printer_layout.specs.declared.printer.sexpr.PrintFault.TheVariants.{Memory};
 
-use super::to_sexpr::ToSExpr;
+use super::to_sexpr::{Put, ToSExpr, pieces_by_tape};
 use super::{models, terms, types};
 use isle_ast::ast::Def;
 use isle_printer_layout::printer::{Pieces, PrintFault, SExpr, Tape, sexpr_of};
@@ -41,6 +41,17 @@ impl ToSExpr for Def {
     }
 }
 
+impl Put for Def {
+    ghost use Rattle.isle_ast.specs.TreeView.{definition_of};
+    ghost use Rattle.isle_printer.specs.DefinitionShapes.{definition_shape};
+
+    ghost shape = { λ d. definition_shape (definition_of d) };
+
+    fn put<'src>(&'src self, tape: &mut Tape<'src>) -> Result<(), AllocError> {
+        definition(self, tape)
+    }
+}
+
 /// The pieces of a definition's S-expression, unless it holds the argument of a macro.
 pub(crate) fn pieces_of<'src>(alloc: Global, def: &'src Def) -> Result<Pieces<'src>, PrintFault>
     ensures plain { IfOk result (λ _. definition_has_macro_arg (definition_of def.now) ≡ false) }
@@ -54,9 +65,7 @@ pub(crate) fn pieces_of<'src>(alloc: Global, def: &'src Def) -> Result<Pieces<'s
     if def.has_macro_arg() {
         return Err(PrintFault::MacroArg);
     }
-    let mut tape = Tape::new(alloc)?;
-    definition(def, &mut tape)?;
-    Ok(tape.pieces())
+    Ok(pieces_by_tape(def, alloc)?)
 }
 
 /// Puts the S-expression of a definition.

@@ -10,10 +10,10 @@ ghost use Rattle.isle_printer_layout.specs.NameShapes.{form_shape};
 ghost use Rattle.isle_printer_layout.specs.Pieces.{before};
 ghost use Rattle.isle_printer_specs.specs.SpecShapes.{model_shape};
 
-use super::to_sexpr::ToSExpr;
+use super::to_sexpr::{Put, ToSExpr, sexpr_by_tape};
 use isle_ast::ast::{Model, ModelField, ModelType, ModelValue, Signature};
 use isle_printer_layout::printer::names::name;
-use isle_printer_layout::printer::{PrintFault, SExpr, Tape, sexpr_of};
+use isle_printer_layout::printer::{PrintFault, SExpr, Tape};
 use isle_printer_specs::printer::models::{each_model, model_field, model_type};
 use isle_printer_specs::printer::specs::spec;
 use std::alloc::{AllocError, Global};
@@ -26,9 +26,18 @@ impl ToSExpr for ModelType {
     ghost meaning = { λ m. Some (model_shape (type_model_of m)) };
 
     fn to_sexpr(&self, alloc: Global) -> Result<SExpr, PrintFault> {
-        let mut tape = Tape::new(alloc)?;
-        model_type(self, &mut tape)?;
-        Ok(sexpr_of(tape.pieces(), alloc)?)
+        Ok(sexpr_by_tape(self, alloc)?)
+    }
+}
+
+impl Put for ModelType {
+    ghost use Rattle.isle_ast_specs.specs.TreeView.{type_model_of};
+    ghost use Rattle.isle_printer_specs.specs.SpecShapes.{model_shape};
+
+    ghost shape = { λ m. model_shape (type_model_of m) };
+
+    fn put<'src>(&'src self, tape: &mut Tape<'src>) -> Result<(), AllocError> {
+        model_type(self, tape)
     }
 }
 
@@ -40,9 +49,18 @@ impl ToSExpr for ModelField {
     ghost meaning = { λ f. Some (model_field_shape (single_model_field_of f)) };
 
     fn to_sexpr(&self, alloc: Global) -> Result<SExpr, PrintFault> {
-        let mut tape = Tape::new(alloc)?;
-        model_field(self, &mut tape)?;
-        Ok(sexpr_of(tape.pieces(), alloc)?)
+        Ok(sexpr_by_tape(self, alloc)?)
+    }
+}
+
+impl Put for ModelField {
+    ghost use Rattle.isle_ast_specs.specs.TreeView.{single_model_field_of};
+    ghost use Rattle.isle_printer_specs.specs.SpecShapes.{model_field_shape};
+
+    ghost shape = { λ f. model_field_shape (single_model_field_of f) };
+
+    fn put<'src>(&'src self, tape: &mut Tape<'src>) -> Result<(), AllocError> {
+        model_field(self, tape)
     }
 }
 
@@ -54,9 +72,18 @@ impl ToSExpr for Model {
     ghost meaning = { λ m. Some (model_definition_shape (model_definition_of m)) };
 
     fn to_sexpr(&self, alloc: Global) -> Result<SExpr, PrintFault> {
-        let mut tape = Tape::new(alloc)?;
-        model(self, &mut tape)?;
-        Ok(sexpr_of(tape.pieces(), alloc)?)
+        Ok(sexpr_by_tape(self, alloc)?)
+    }
+}
+
+impl Put for Model {
+    ghost use Rattle.isle_ast.specs.TreeView.{model_definition_of};
+    ghost use Rattle.isle_printer.specs.DefinitionShapes.{model_definition_shape};
+
+    ghost shape = { λ m. model_definition_shape (model_definition_of m) };
+
+    fn put<'src>(&'src self, tape: &mut Tape<'src>) -> Result<(), AllocError> {
+        model(self, tape)
     }
 }
 
@@ -68,9 +95,18 @@ impl ToSExpr for ModelValue {
     ghost meaning = { λ v. Some (model_content_shape (model_content_of v)) };
 
     fn to_sexpr(&self, alloc: Global) -> Result<SExpr, PrintFault> {
-        let mut tape = Tape::new(alloc)?;
-        model_value(self, &mut tape)?;
-        Ok(sexpr_of(tape.pieces(), alloc)?)
+        Ok(sexpr_by_tape(self, alloc)?)
+    }
+}
+
+impl Put for ModelValue {
+    ghost use Rattle.isle_ast.specs.TreeView.{model_content_of};
+    ghost use Rattle.isle_printer.specs.DefinitionShapes.{model_content_shape};
+
+    ghost shape = { λ v. model_content_shape (model_content_of v) };
+
+    fn put<'src>(&'src self, tape: &mut Tape<'src>) -> Result<(), AllocError> {
+        model_value(self, tape)
     }
 }
 
@@ -82,9 +118,18 @@ impl ToSExpr for Signature {
     ghost meaning = { λ s. Some (signature_shape (signature_of s)) };
 
     fn to_sexpr(&self, alloc: Global) -> Result<SExpr, PrintFault> {
-        let mut tape = Tape::new(alloc)?;
-        signature(self, &mut tape)?;
-        Ok(sexpr_of(tape.pieces(), alloc)?)
+        Ok(sexpr_by_tape(self, alloc)?)
+    }
+}
+
+impl Put for Signature {
+    ghost use Rattle.isle_ast.specs.TreeView.{signature_of};
+    ghost use Rattle.isle_printer.specs.DefinitionShapes.{signature_shape};
+
+    ghost shape = { λ s. signature_shape (signature_of s) };
+
+    fn put<'src>(&'src self, tape: &mut Tape<'src>) -> Result<(), AllocError> {
+        signature(self, tape)
     }
 }
 

@@ -1,10 +1,10 @@
 //! The S-expressions of patterns.
 
-use super::to_sexpr::ToSExpr;
+use super::to_sexpr::{Put, ToSExpr, sexpr_by_tape};
 use isle_ast::ast::Pattern;
-use isle_printer_layout::printer::{PrintFault, SExpr, Tape, sexpr_of};
+use isle_printer_layout::printer::{PrintFault, SExpr, Tape};
 use isle_printer_rules::printer::patterns::pattern;
-use std::alloc::Global;
+use std::alloc::{AllocError, Global};
 
 impl ToSExpr for Pattern {
     ghost use Rattle.std.specs.Prelude.{◌≡◌, IfOk, IsErrOf, None, Some, false};
@@ -29,8 +29,17 @@ impl ToSExpr for Pattern {
         if self.has_macro_arg() {
             return Err(PrintFault::MacroArg);
         }
-        let mut tape = Tape::new(alloc)?;
-        pattern(self, &mut tape)?;
-        Ok(sexpr_of(tape.pieces(), alloc)?)
+        Ok(sexpr_by_tape(self, alloc)?)
+    }
+}
+
+impl Put for Pattern {
+    ghost use Rattle.isle_ast_rules.specs.TreeView.{pattern_of};
+    ghost use Rattle.isle_printer_rules.specs.RuleShapes.{pattern_shape};
+
+    ghost shape = { λ p. pattern_shape (pattern_of p) };
+
+    fn put<'src>(&'src self, tape: &mut Tape<'src>) -> Result<(), AllocError> {
+        pattern(self, tape)
     }
 }

@@ -1,10 +1,10 @@
 //! The S-expressions of rules, their conditions, and extractors.
 
-use super::to_sexpr::ToSExpr;
+use super::to_sexpr::{Put, ToSExpr, sexpr_by_tape};
 use isle_ast::ast::{Extractor, IfLet, Rule};
-use isle_printer_layout::printer::{PrintFault, SExpr, Tape, sexpr_of};
+use isle_printer_layout::printer::{PrintFault, SExpr, Tape};
 use isle_printer_rules::printer::rules::{condition, extractor, rule};
-use std::alloc::Global;
+use std::alloc::{AllocError, Global};
 
 impl ToSExpr for IfLet {
     ghost use Rattle.std.specs.Prelude.{◌≡◌, IfOk, IsErrOf, None, Some, false};
@@ -30,9 +30,18 @@ impl ToSExpr for IfLet {
         if self.has_macro_arg() {
             return Err(PrintFault::MacroArg);
         }
-        let mut tape = Tape::new(alloc)?;
-        condition(self, &mut tape)?;
-        Ok(sexpr_of(tape.pieces(), alloc)?)
+        Ok(sexpr_by_tape(self, alloc)?)
+    }
+}
+
+impl Put for IfLet {
+    ghost use Rattle.isle_ast_rules.specs.TreeView.{condition_of};
+    ghost use Rattle.isle_printer_rules.specs.RuleShapes.{condition_shape};
+
+    ghost shape = { λ c. condition_shape (condition_of c) };
+
+    fn put<'src>(&'src self, tape: &mut Tape<'src>) -> Result<(), AllocError> {
+        condition(self, tape)
     }
 }
 
@@ -59,9 +68,18 @@ impl ToSExpr for Rule {
         if self.has_macro_arg() {
             return Err(PrintFault::MacroArg);
         }
-        let mut tape = Tape::new(alloc)?;
-        rule(self, &mut tape)?;
-        Ok(sexpr_of(tape.pieces(), alloc)?)
+        Ok(sexpr_by_tape(self, alloc)?)
+    }
+}
+
+impl Put for Rule {
+    ghost use Rattle.isle_ast_rules.specs.TreeView.{rule_of};
+    ghost use Rattle.isle_printer_rules.specs.RuleShapes.{rule_shape};
+
+    ghost shape = { λ r. rule_shape (rule_of r) };
+
+    fn put<'src>(&'src self, tape: &mut Tape<'src>) -> Result<(), AllocError> {
+        rule(self, tape)
     }
 }
 
@@ -89,8 +107,17 @@ impl ToSExpr for Extractor {
         if self.has_macro_arg() {
             return Err(PrintFault::MacroArg);
         }
-        let mut tape = Tape::new(alloc)?;
-        extractor(self, &mut tape)?;
-        Ok(sexpr_of(tape.pieces(), alloc)?)
+        Ok(sexpr_by_tape(self, alloc)?)
+    }
+}
+
+impl Put for Extractor {
+    ghost use Rattle.isle_ast_rules.specs.TreeView.{extractor_of};
+    ghost use Rattle.isle_printer_rules.specs.RuleShapes.{extractor_shape};
+
+    ghost shape = { λ e. extractor_shape (extractor_of e) };
+
+    fn put<'src>(&'src self, tape: &mut Tape<'src>) -> Result<(), AllocError> {
+        extractor(self, tape)
     }
 }

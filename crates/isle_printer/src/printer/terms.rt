@@ -15,12 +15,12 @@ ghost use Rattle.isle_printer_layout.specs.Pieces.{before};
 ghost use Rattle.isle_printer_layout.specs.Sexp.{atom};
 
 use super::models::each_signature;
-use super::to_sexpr::ToSExpr;
+use super::to_sexpr::{Put, ToSExpr, sexpr_by_tape};
 use isle_ast::ast::{
     Attr, AttrKind, AttrTarget, Converter, Decl, Extern, Form, Ident, Instantiation, Signature,
 };
 use isle_printer_layout::printer::names::{constant, flag, name, names};
-use isle_printer_layout::printer::{PrintFault, SExpr, Tape, sexpr_of};
+use isle_printer_layout::printer::{PrintFault, SExpr, Tape};
 use std::alloc::{AllocError, Global};
 
 impl ToSExpr for Decl {
@@ -31,9 +31,18 @@ impl ToSExpr for Decl {
     ghost meaning = { λ d. Some (declaration_shape (declaration_of d)) };
 
     fn to_sexpr(&self, alloc: Global) -> Result<SExpr, PrintFault> {
-        let mut tape = Tape::new(alloc)?;
-        declaration(self, &mut tape)?;
-        Ok(sexpr_of(tape.pieces(), alloc)?)
+        Ok(sexpr_by_tape(self, alloc)?)
+    }
+}
+
+impl Put for Decl {
+    ghost use Rattle.isle_ast.specs.TreeView.{declaration_of};
+    ghost use Rattle.isle_printer.specs.DefinitionShapes.{declaration_shape};
+
+    ghost shape = { λ d. declaration_shape (declaration_of d) };
+
+    fn put<'src>(&'src self, tape: &mut Tape<'src>) -> Result<(), AllocError> {
+        declaration(self, tape)
     }
 }
 
@@ -45,9 +54,18 @@ impl ToSExpr for Form {
     ghost meaning = { λ f. Some (form_definition_shape (form_of f)) };
 
     fn to_sexpr(&self, alloc: Global) -> Result<SExpr, PrintFault> {
-        let mut tape = Tape::new(alloc)?;
-        form(self, &mut tape)?;
-        Ok(sexpr_of(tape.pieces(), alloc)?)
+        Ok(sexpr_by_tape(self, alloc)?)
+    }
+}
+
+impl Put for Form {
+    ghost use Rattle.isle_ast.specs.TreeView.{form_of};
+    ghost use Rattle.isle_printer.specs.DefinitionShapes.{form_definition_shape};
+
+    ghost shape = { λ f. form_definition_shape (form_of f) };
+
+    fn put<'src>(&'src self, tape: &mut Tape<'src>) -> Result<(), AllocError> {
+        form(self, tape)
     }
 }
 
@@ -59,9 +77,18 @@ impl ToSExpr for Instantiation {
     ghost meaning = { λ i. Some (instantiation_shape (instantiation_of i)) };
 
     fn to_sexpr(&self, alloc: Global) -> Result<SExpr, PrintFault> {
-        let mut tape = Tape::new(alloc)?;
-        instantiation(self, &mut tape)?;
-        Ok(sexpr_of(tape.pieces(), alloc)?)
+        Ok(sexpr_by_tape(self, alloc)?)
+    }
+}
+
+impl Put for Instantiation {
+    ghost use Rattle.isle_ast.specs.TreeView.{instantiation_of};
+    ghost use Rattle.isle_printer.specs.DefinitionShapes.{instantiation_shape};
+
+    ghost shape = { λ i. instantiation_shape (instantiation_of i) };
+
+    fn put<'src>(&'src self, tape: &mut Tape<'src>) -> Result<(), AllocError> {
+        instantiation(self, tape)
     }
 }
 
@@ -73,9 +100,18 @@ impl ToSExpr for Extern {
     ghost meaning = { λ e. Some (extern_shape (extern_of e)) };
 
     fn to_sexpr(&self, alloc: Global) -> Result<SExpr, PrintFault> {
-        let mut tape = Tape::new(alloc)?;
-        external(self, &mut tape)?;
-        Ok(sexpr_of(tape.pieces(), alloc)?)
+        Ok(sexpr_by_tape(self, alloc)?)
+    }
+}
+
+impl Put for Extern {
+    ghost use Rattle.isle_ast.specs.TreeView.{extern_of};
+    ghost use Rattle.isle_printer.specs.DefinitionShapes.{extern_shape};
+
+    ghost shape = { λ e. extern_shape (extern_of e) };
+
+    fn put<'src>(&'src self, tape: &mut Tape<'src>) -> Result<(), AllocError> {
+        external(self, tape)
     }
 }
 
@@ -87,9 +123,18 @@ impl ToSExpr for Converter {
     ghost meaning = { λ c. Some (conversion_shape (conversion_of c)) };
 
     fn to_sexpr(&self, alloc: Global) -> Result<SExpr, PrintFault> {
-        let mut tape = Tape::new(alloc)?;
-        conversion(self, &mut tape)?;
-        Ok(sexpr_of(tape.pieces(), alloc)?)
+        Ok(sexpr_by_tape(self, alloc)?)
+    }
+}
+
+impl Put for Converter {
+    ghost use Rattle.isle_ast.specs.TreeView.{conversion_of};
+    ghost use Rattle.isle_printer.specs.DefinitionShapes.{conversion_shape};
+
+    ghost shape = { λ c. conversion_shape (conversion_of c) };
+
+    fn put<'src>(&'src self, tape: &mut Tape<'src>) -> Result<(), AllocError> {
+        conversion(self, tape)
     }
 }
 
@@ -101,9 +146,18 @@ impl ToSExpr for AttrKind {
     ghost meaning = { λ k. Some (kind_shape (kind_of k)) };
 
     fn to_sexpr(&self, alloc: Global) -> Result<SExpr, PrintFault> {
-        let mut tape = Tape::new(alloc)?;
-        attribute_kind(self, &mut tape)?;
-        Ok(sexpr_of(tape.pieces(), alloc)?)
+        Ok(sexpr_by_tape(self, alloc)?)
+    }
+}
+
+impl Put for AttrKind {
+    ghost use Rattle.isle_ast.specs.TreeView.{kind_of};
+    ghost use Rattle.isle_printer.specs.DefinitionShapes.{kind_shape};
+
+    ghost shape = { λ k. kind_shape (kind_of k) };
+
+    fn put<'src>(&'src self, tape: &mut Tape<'src>) -> Result<(), AllocError> {
+        attribute_kind(self, tape)
     }
 }
 
@@ -115,9 +169,18 @@ impl ToSExpr for Attr {
     ghost meaning = { λ a. Some (attribute_shape (attribute_of a)) };
 
     fn to_sexpr(&self, alloc: Global) -> Result<SExpr, PrintFault> {
-        let mut tape = Tape::new(alloc)?;
-        attribute(self, &mut tape)?;
-        Ok(sexpr_of(tape.pieces(), alloc)?)
+        Ok(sexpr_by_tape(self, alloc)?)
+    }
+}
+
+impl Put for Attr {
+    ghost use Rattle.isle_ast.specs.TreeView.{attribute_of};
+    ghost use Rattle.isle_printer.specs.DefinitionShapes.{attribute_shape};
+
+    ghost shape = { λ a. attribute_shape (attribute_of a) };
+
+    fn put<'src>(&'src self, tape: &mut Tape<'src>) -> Result<(), AllocError> {
+        attribute(self, tape)
     }
 }
 

@@ -8,10 +8,10 @@ ghost use Rattle.isle_printer.specs.DefinitionShapes.{named_field_shape, type_co
 ghost use Rattle.isle_printer.specs.DefinitionShapes.{type_shape, variant_shape};
 ghost use Rattle.isle_printer_layout.specs.Pieces.{before};
 
-use super::to_sexpr::ToSExpr;
+use super::to_sexpr::{Put, ToSExpr, sexpr_by_tape};
 use isle_ast::ast::{Fields, StructField, TupleField, TypeDef, TypeValue, Variant};
 use isle_printer_layout::printer::names::{flag, name};
-use isle_printer_layout::printer::{PrintFault, SExpr, Tape, sexpr_of};
+use isle_printer_layout::printer::{PrintFault, SExpr, Tape};
 use std::alloc::{AllocError, Global};
 
 impl ToSExpr for TypeDef {
@@ -22,9 +22,18 @@ impl ToSExpr for TypeDef {
     ghost meaning = { λ t. Some (type_shape (type_definition_of t)) };
 
     fn to_sexpr(&self, alloc: Global) -> Result<SExpr, PrintFault> {
-        let mut tape = Tape::new(alloc)?;
-        type_definition(self, &mut tape)?;
-        Ok(sexpr_of(tape.pieces(), alloc)?)
+        Ok(sexpr_by_tape(self, alloc)?)
+    }
+}
+
+impl Put for TypeDef {
+    ghost use Rattle.isle_ast.specs.TreeView.{type_definition_of};
+    ghost use Rattle.isle_printer.specs.DefinitionShapes.{type_shape};
+
+    ghost shape = { λ t. type_shape (type_definition_of t) };
+
+    fn put<'src>(&'src self, tape: &mut Tape<'src>) -> Result<(), AllocError> {
+        type_definition(self, tape)
     }
 }
 
@@ -36,9 +45,18 @@ impl ToSExpr for TypeValue {
     ghost meaning = { λ v. Some (type_content_shape (type_content_of v)) };
 
     fn to_sexpr(&self, alloc: Global) -> Result<SExpr, PrintFault> {
-        let mut tape = Tape::new(alloc)?;
-        type_value(self, &mut tape)?;
-        Ok(sexpr_of(tape.pieces(), alloc)?)
+        Ok(sexpr_by_tape(self, alloc)?)
+    }
+}
+
+impl Put for TypeValue {
+    ghost use Rattle.isle_ast.specs.TreeView.{type_content_of};
+    ghost use Rattle.isle_printer.specs.DefinitionShapes.{type_content_shape};
+
+    ghost shape = { λ v. type_content_shape (type_content_of v) };
+
+    fn put<'src>(&'src self, tape: &mut Tape<'src>) -> Result<(), AllocError> {
+        type_value(self, tape)
     }
 }
 
@@ -50,9 +68,18 @@ impl ToSExpr for Variant {
     ghost meaning = { λ v. Some (variant_shape (variant_of v)) };
 
     fn to_sexpr(&self, alloc: Global) -> Result<SExpr, PrintFault> {
-        let mut tape = Tape::new(alloc)?;
-        variant(self, &mut tape)?;
-        Ok(sexpr_of(tape.pieces(), alloc)?)
+        Ok(sexpr_by_tape(self, alloc)?)
+    }
+}
+
+impl Put for Variant {
+    ghost use Rattle.isle_ast.specs.TreeView.{variant_of};
+    ghost use Rattle.isle_printer.specs.DefinitionShapes.{variant_shape};
+
+    ghost shape = { λ v. variant_shape (variant_of v) };
+
+    fn put<'src>(&'src self, tape: &mut Tape<'src>) -> Result<(), AllocError> {
+        variant(self, tape)
     }
 }
 
@@ -64,9 +91,18 @@ impl ToSExpr for StructField {
     ghost meaning = { λ f. Some (named_field_shape (named_field_of f)) };
 
     fn to_sexpr(&self, alloc: Global) -> Result<SExpr, PrintFault> {
-        let mut tape = Tape::new(alloc)?;
-        struct_field(self, &mut tape)?;
-        Ok(sexpr_of(tape.pieces(), alloc)?)
+        Ok(sexpr_by_tape(self, alloc)?)
+    }
+}
+
+impl Put for StructField {
+    ghost use Rattle.isle_ast.specs.TreeView.{named_field_of};
+    ghost use Rattle.isle_printer.specs.DefinitionShapes.{named_field_shape};
+
+    ghost shape = { λ f. named_field_shape (named_field_of f) };
+
+    fn put<'src>(&'src self, tape: &mut Tape<'src>) -> Result<(), AllocError> {
+        struct_field(self, tape)
     }
 }
 
@@ -78,9 +114,18 @@ impl ToSExpr for TupleField {
     ghost meaning = { λ f. Some (indexed_field_shape (indexed_field_of f)) };
 
     fn to_sexpr(&self, alloc: Global) -> Result<SExpr, PrintFault> {
-        let mut tape = Tape::new(alloc)?;
-        name(&self.ty, &mut tape)?;
-        Ok(sexpr_of(tape.pieces(), alloc)?)
+        Ok(sexpr_by_tape(self, alloc)?)
+    }
+}
+
+impl Put for TupleField {
+    ghost use Rattle.isle_ast.specs.TreeView.{indexed_field_of};
+    ghost use Rattle.isle_printer.specs.DefinitionShapes.{indexed_field_shape};
+
+    ghost shape = { λ f. indexed_field_shape (indexed_field_of f) };
+
+    fn put<'src>(&'src self, tape: &mut Tape<'src>) -> Result<(), AllocError> {
+        name(&self.ty, tape)
     }
 }
 
