@@ -165,7 +165,7 @@ impl<'src> Scanner<'src> {
         let Some(shown) = self.lookahead else {
             return Ok(None);
         };
-        match self.read_ahead() {
+        match self.advance() {
             Ok(()) => Ok(Some(shown)),
             Err((at, reason)) => Err(self.refuse(alloc, at, reason)),
         }
@@ -183,16 +183,30 @@ impl<'src> Scanner<'src> {
         let Some(shown) = self.lookahead else {
             return None;
         };
-        match self.read_ahead() {
-            Ok(()) => Some(shown),
-            Err(_) => None,
+        if self.read_ahead() {
+            Some(shown)
+        } else {
+            None
         }
+    }
+
+    /// Reads one token further, and forgets the one ahead. Where a fault follows, it does nothing.
+    /// It tells whether it read one: that is an answer in a register, as `advance`'s is not.
+    #[inline(never)]
+    fn read_ahead(&mut self) -> bool
+        requires { is_some (lookahead self.old) ≡ true }
+        ensures token { result ≡ true → IfSome (lookahead self.old)
+            (λ x. Takes self.old x self.new) }
+        ensures fault { result ≡ false → (at : ℕ) × FacesFault self.old at }
+        ensures same { result ≡ false → self.new ≡ self.old }
+    {
+        self.advance().is_ok()
     }
 
     /// Reads one token further, and forgets the one ahead. Where a fault follows, it does nothing,
     /// and says where the fault begins, and why the text is refused.
-    #[inline(never)]
-    fn read_ahead(&mut self) -> Result<(), (usize, Reason)>
+    #[inline(always)]
+    fn advance(&mut self) -> Result<(), (usize, Reason)>
         requires { is_some (lookahead self.old) ≡ true }
         ensures token { IfOk result (λ _. IfSome (lookahead self.old)
             (λ x. Takes self.old x self.new)) }

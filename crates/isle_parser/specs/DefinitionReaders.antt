@@ -2,7 +2,7 @@
 use Rattle.std.specs.Prelude.{ℕ, List, Some, None, if◌then◌else◌, codes}
 use Rattle.std.specs.Str.{bytes_eq}
 use Rattle.isle_ast.specs.Tree.{Declaration, Conversion, Definition, type_def, rule, extractor, decl, attr, spec, spec_macro, model, state, form, instantiation, external, converter}
-use Rattle.isle_parser_cursor.specs.Reading.{Reader, ◌>>=◌, text, flag, pos_ahead, ends, in_parentheses, many}
+use Rattle.isle_parser_cursor.specs.Reading.{Reader, ◌>>=◌, text, flag, pos_ahead, ends, expect, in_parentheses, is_rparen, many}
 use Rattle.isle_parser_cursor.specs.NameReaders.{name, names}
 use Rattle.isle_parser.specs.FormReaders.{form_definition, instantiation_of_term}
 use Rattle.isle_parser.specs.ModelReaders.{model_definition}
@@ -48,6 +48,13 @@ pragma all = None
 -- what is read of one kind, as a definition of that kind
 unfoldable pub as_definition : {A : Type 0} → (A → Definition) → Reader A → Reader Definition
 as_definition kind read all = read all >>= λ x. Some (kind x.0, x.1)
+
+-- what is read, and `)`
+unfoldable pub closed : {A : Type 0} → Reader A → Reader A
+closed read all = do
+  x ← read all
+  rest ← expect is_rparen x.1
+  Some (x.0, rest.1)
 
 -- what stands behind this keyword
 unfoldable pub behind : List ℕ → Reader Definition

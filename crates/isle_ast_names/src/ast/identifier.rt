@@ -7,9 +7,11 @@
 //! the rule of upstream's parser, which asks Rust for letters and numbers, with the tables of the
 //! crate `unicode`.
 
-ghost use Rattle.std.specs.Prelude.{◌≡◌, drop, slice_get};
+ghost use Rattle.std.specs.Prelude.{◌≡◌, ◌||◌, ◌==◌, drop, slice_get};
+ghost use Rattle.std.specs.Char.{is_ascii_digit};
 ghost use Rattle.std.specs.List.{list_all};
 ghost use Rattle.std.specs.Str.{chars};
+ghost use Rattle.isle_base.specs.Bytes.{dollar, dot, underscore};
 ghost use Rattle.isle_base.specs.Skips.{begins_with};
 ghost use Rattle.isle_ast_names.specs.Identifier.{begins_identifier, continues_identifier};
 ghost use Rattle.isle_ast_names.specs.Identifier.{continues_in_ascii, is_ascii_identifier};
@@ -94,10 +96,20 @@ fn continue_in_ascii(text: &str) -> bool
 }
 
 /// Tells whether a byte is an ASCII character that may stand in an identifier behind the first one.
+/// Most are letters, on which one comparison decides.
 fn continues_in_ascii(byte: u8) -> bool
     ensures { result ≡ continues_in_ascii byte }
 {
-    byte.is_ascii_alphanumeric() || byte == b'_' || byte == b'.' || byte == b'$'
+    byte.is_ascii_alphabetic() || is_ascii_digit_or_sign(byte)
+}
+
+/// Tells whether a byte is an ASCII digit, `_`, `.` or `$`. As a call of its own it is asked of no
+/// letter.
+#[inline(never)]
+fn is_ascii_digit_or_sign(byte: u8) -> bool
+    ensures { result ≡ (is_ascii_digit byte || byte == underscore || byte == dot || byte == dollar) }
+{
+    byte.is_ascii_digit() || byte == b'_' || byte == b'.' || byte == b'$'
 }
 
 /// Tells whether a text is an identifier, whatever its characters are.

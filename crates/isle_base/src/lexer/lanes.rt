@@ -165,6 +165,7 @@ fn run_end<C: Class>(bytes: &[u8], from: usize) -> usize
 ///
 /// `from` and the answer are byte offsets into `bytes`, from 0. It asks that `from` is at most the
 /// length. `bytes` needn't be UTF-8, and no memory is taken.
+#[inline(always)]
 pub fn symbol_end(bytes: &[u8], from: usize) -> usize
     requires { from ≤ length bytes.now }
     ensures end { result ≡ from + prefix_len in_symbol (drop from bytes.now) }

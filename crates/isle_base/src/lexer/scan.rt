@@ -1,7 +1,8 @@
 //! What stands between the tokens of a text: blanks and comments.
 
-ghost use Rattle.std.specs.Prelude.{◌≡◌, ◌≤◌, drop, length};
-ghost use Rattle.isle_base.specs.Skips.{closes, opens};
+ghost use Rattle.std.specs.Prelude.{◌≡◌, ◌≤◌, ◌+◌, drop, length};
+ghost use Rattle.std.specs.List.{prefix_len};
+ghost use Rattle.isle_base.specs.Skips.{closes, is_blank, opens};
 ghost use Rattle.isle_base.specs.Reads.{EndsComment, EndsSkip, ShowsByte};
 
 use crate::lexer::lanes::{blank_end, line_comment_end};
@@ -60,6 +61,19 @@ pub fn block_comment_end(bytes: &[u8], from: usize) -> Option<usize>
     Some(at)
 }
 
+/// Finds where blanks end. Most blanks stand by themselves, and the byte behind one shows it.
+#[inline(always)]
+#[tactic(auto, unfolding(crate::specs::Skips::is_blank))]
+fn blanks_behind(bytes: &[u8], from: usize) -> usize
+    requires { from ≤ length bytes.now }
+    ensures { result ≡ from + prefix_len is_blank (drop from bytes.now) }
+{
+    if from < bytes.len() && bytes[from] > b' ' {
+        return from;
+    }
+    blank_end(bytes, from)
+}
+
 /// Finds the first byte from an offset on that belongs to no blank and no comment, or the end of
 /// the text. The error is the offset of a block comment without an end.
 #[inline(always)]
@@ -73,7 +87,7 @@ pub(crate) fn skip_end(bytes: &[u8], from: usize) -> Result<usize, usize>
             return Ok(at);
         };
         match byte {
-            b' ' | b'\t' | b'\n' | b'\r' => at = blank_end(bytes, at + 1),
+            b' ' | b'\t' | b'\n' | b'\r' => at = blanks_behind(bytes, at + 1),
             b';' => at = line_comment_end(bytes, at + 1),
             b'(' => {
                 if !opens_at(bytes, at) {

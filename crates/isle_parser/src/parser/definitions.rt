@@ -6,7 +6,7 @@ ghost use Rattle.isle_ast.specs.Tree.{instantiation, model, rule, spec, spec_mac
 ghost use Rattle.isle_ast.specs.Tree.{type_def};
 ghost use Rattle.isle_ast.specs.TreeView.{definition_of};
 ghost use Rattle.isle_base.specs.Steps.{is_failed};
-ghost use Rattle.isle_parser.specs.DefinitionReaders.{as_definition, behind, conversion};
+ghost use Rattle.isle_parser.specs.DefinitionReaders.{as_definition, behind, closed, conversion};
 ghost use Rattle.isle_parser.specs.DefinitionReaders.{declaration, definition, keyword_form};
 ghost use Rattle.isle_parser.specs.DefinitionReaders.{pragma};
 ghost use Rattle.isle_parser.specs.FormReaders.{form_definition, instantiation_of_term};
@@ -30,35 +30,39 @@ use isle_parser_rules::parser::rules::{parse_etor, parse_rule};
 use isle_parser_specs::parser::spec_definitions::{parse_spec, parse_spec_macro, parse_state};
 use std::alloc::Global;
 
-#[tactic(auto, unfolding(crate::specs::DefinitionReaders::definition, isle_parser_cursor::specs::Reading::in_parentheses))]
+#[tactic(auto, unfolding(crate::specs::DefinitionReaders::closed, crate::specs::DefinitionReaders::definition, isle_parser_cursor::specs::Reading::in_parentheses))]
 pub(super) fn parse_def(cursor: &mut Cursor, alloc: Global) -> Result<Def, Stop>
     ensures same { source cursor.new ≡ source cursor.old }
     ensures gives { Gives definition_of (definition (tokens cursor.old)) result cursor.new }
     ensures goes_on { OnOk result (is_failed cursor.new.lexer ≡ false) }
 {
     cursor.expect_lparen(alloc)?;
-    let def = parse_keyword_form(cursor, alloc)?;
-    cursor.close(alloc, def)
+    parse_keyword_form(cursor, alloc)
 }
 
-/// A keyword, and what stands behind it.
-#[tactic(auto, unfolding(crate::specs::DefinitionReaders::keyword_form))]
+/// A keyword, what stands behind it, and the closing parenthesis.
+#[tactic(auto, unfolding(crate::specs::DefinitionReaders::closed, crate::specs::DefinitionReaders::keyword_form))]
 fn parse_keyword_form(cursor: &mut Cursor, alloc: Global) -> Result<Def, Stop>
     ensures same { source cursor.new ≡ source cursor.old }
-    ensures gives { Gives definition_of (keyword_form (tokens cursor.old)) result cursor.new }
+    ensures gives { Gives definition_of
+        (closed keyword_form (tokens cursor.old)) result cursor.new }
+    ensures goes_on { OnOk result (is_failed cursor.new.lexer ≡ false) }
 {
     let place = cursor.place();
     let word = cursor.expect_word(alloc)?;
     parse_behind(cursor, alloc, place, word)
 }
 
-/// What stands behind this keyword, which stood at this place. Each kind of definition is made in a
-/// call of its own, so that no frame holds the nodes of all kinds.
-#[tactic(auto, unfolding(crate::specs::DefinitionReaders::behind))]
+/// What stands behind this keyword, which stood at this place, and the closing parenthesis. Each
+/// kind of definition is made in a call of its own, so that no frame holds the nodes of all kinds,
+/// and is closed there, so that it is handed on where it lies.
+#[tactic(auto, unfolding(crate::specs::DefinitionReaders::behind, crate::specs::DefinitionReaders::closed))]
 fn parse_behind(cursor: &mut Cursor, alloc: Global, place: Pos, word: &str) -> Result<Def, Stop>
     requires { IsPlace (source cursor.old) place }
     ensures same { source cursor.new ≡ source cursor.old }
-    ensures gives { Gives definition_of (behind word.now (tokens cursor.old)) result cursor.new }
+    ensures gives { Gives definition_of
+        (closed (behind word.now) (tokens cursor.old)) result cursor.new }
+    ensures goes_on { OnOk result (is_failed cursor.new.lexer ≡ false) }
 {
     match word {
         "pragma" => parse_pragma_def(cursor, alloc),
@@ -87,134 +91,173 @@ fn parse_pragma_def(cursor: &mut Cursor, alloc: Global) -> Result<Def, Stop>
     Ok(Def::Pragma(parse_pragma(cursor, alloc)?))
 }
 
-#[tactic(auto, unfolding(crate::specs::DefinitionReaders::as_definition))]
+#[tactic(auto, unfolding(crate::specs::DefinitionReaders::as_definition, crate::specs::DefinitionReaders::closed))]
 #[inline(never)]
 fn parse_type_def(cursor: &mut Cursor, alloc: Global) -> Result<Def, Stop>
     ensures same { source cursor.new ≡ source cursor.old }
     ensures gives { Gives definition_of
-        (as_definition type_def type_definition (tokens cursor.old)) result cursor.new }
+        (closed (as_definition type_def type_definition) (tokens cursor.old)) result cursor.new }
+    ensures goes_on { OnOk result (is_failed cursor.new.lexer ≡ false) }
 {
-    Ok(Def::TypeDef(parse_type(cursor, alloc)?))
+    let ty = parse_type(cursor, alloc)?;
+    cursor.expect_rparen(alloc)?;
+    Ok(Def::TypeDef(ty))
 }
 
-#[tactic(auto, unfolding(crate::specs::DefinitionReaders::as_definition))]
+#[tactic(auto, unfolding(crate::specs::DefinitionReaders::as_definition, crate::specs::DefinitionReaders::closed))]
 #[inline(never)]
 fn parse_decl_def(cursor: &mut Cursor, alloc: Global) -> Result<Def, Stop>
     ensures same { source cursor.new ≡ source cursor.old }
     ensures gives { Gives definition_of
-        (as_definition decl declaration (tokens cursor.old)) result cursor.new }
+        (closed (as_definition decl declaration) (tokens cursor.old)) result cursor.new }
+    ensures goes_on { OnOk result (is_failed cursor.new.lexer ≡ false) }
 {
-    Ok(Def::Decl(parse_decl(cursor, alloc)?))
+    let decl = parse_decl(cursor, alloc)?;
+    cursor.expect_rparen(alloc)?;
+    Ok(Def::Decl(decl))
 }
 
-#[tactic(auto, unfolding(crate::specs::DefinitionReaders::as_definition))]
+#[tactic(auto, unfolding(crate::specs::DefinitionReaders::as_definition, crate::specs::DefinitionReaders::closed))]
 #[inline(never)]
 fn parse_attr_def(cursor: &mut Cursor, alloc: Global) -> Result<Def, Stop>
     ensures same { source cursor.new ≡ source cursor.old }
     ensures gives { Gives definition_of
-        (as_definition attr attribute (tokens cursor.old)) result cursor.new }
+        (closed (as_definition attr attribute) (tokens cursor.old)) result cursor.new }
+    ensures goes_on { OnOk result (is_failed cursor.new.lexer ≡ false) }
 {
-    Ok(Def::Attr(parse_attr(cursor, alloc)?))
+    let attr = parse_attr(cursor, alloc)?;
+    cursor.expect_rparen(alloc)?;
+    Ok(Def::Attr(attr))
 }
 
-#[tactic(auto, unfolding(crate::specs::DefinitionReaders::as_definition))]
+#[tactic(auto, unfolding(crate::specs::DefinitionReaders::as_definition, crate::specs::DefinitionReaders::closed))]
 #[inline(never)]
 fn parse_spec_def(cursor: &mut Cursor, alloc: Global) -> Result<Def, Stop>
     ensures same { source cursor.new ≡ source cursor.old }
     ensures gives { Gives definition_of
-        (as_definition spec spec_definition (tokens cursor.old)) result cursor.new }
+        (closed (as_definition spec spec_definition) (tokens cursor.old)) result cursor.new }
+    ensures goes_on { OnOk result (is_failed cursor.new.lexer ≡ false) }
 {
-    Ok(Def::Spec(parse_spec(cursor, alloc)?))
+    let spec = parse_spec(cursor, alloc)?;
+    cursor.expect_rparen(alloc)?;
+    Ok(Def::Spec(spec))
 }
 
-#[tactic(auto, unfolding(crate::specs::DefinitionReaders::as_definition))]
+#[tactic(auto, unfolding(crate::specs::DefinitionReaders::as_definition, crate::specs::DefinitionReaders::closed))]
 #[inline(never)]
 fn parse_spec_macro_def(cursor: &mut Cursor, alloc: Global) -> Result<Def, Stop>
     ensures same { source cursor.new ≡ source cursor.old }
     ensures gives { Gives definition_of
-        (as_definition spec_macro spec_macro_definition (tokens cursor.old)) result cursor.new }
+        (closed (as_definition spec_macro spec_macro_definition) (tokens cursor.old)) result cursor.new }
+    ensures goes_on { OnOk result (is_failed cursor.new.lexer ≡ false) }
 {
-    Ok(Def::SpecMacro(parse_spec_macro(cursor, alloc)?))
+    let definition = parse_spec_macro(cursor, alloc)?;
+    cursor.expect_rparen(alloc)?;
+    Ok(Def::SpecMacro(definition))
 }
 
-#[tactic(auto, unfolding(crate::specs::DefinitionReaders::as_definition))]
+#[tactic(auto, unfolding(crate::specs::DefinitionReaders::as_definition, crate::specs::DefinitionReaders::closed))]
 #[inline(never)]
 fn parse_model_def(cursor: &mut Cursor, alloc: Global) -> Result<Def, Stop>
     ensures same { source cursor.new ≡ source cursor.old }
     ensures gives { Gives definition_of
-        (as_definition model model_definition (tokens cursor.old)) result cursor.new }
+        (closed (as_definition model model_definition) (tokens cursor.old)) result cursor.new }
+    ensures goes_on { OnOk result (is_failed cursor.new.lexer ≡ false) }
 {
-    Ok(Def::Model(parse_model(cursor, alloc)?))
+    let model = parse_model(cursor, alloc)?;
+    cursor.expect_rparen(alloc)?;
+    Ok(Def::Model(model))
 }
 
-#[tactic(auto, unfolding(crate::specs::DefinitionReaders::as_definition))]
+#[tactic(auto, unfolding(crate::specs::DefinitionReaders::as_definition, crate::specs::DefinitionReaders::closed))]
 #[inline(never)]
 fn parse_state_def(cursor: &mut Cursor, alloc: Global) -> Result<Def, Stop>
     ensures same { source cursor.new ≡ source cursor.old }
     ensures gives { Gives definition_of
-        (as_definition state state_definition (tokens cursor.old)) result cursor.new }
+        (closed (as_definition state state_definition) (tokens cursor.old)) result cursor.new }
+    ensures goes_on { OnOk result (is_failed cursor.new.lexer ≡ false) }
 {
-    Ok(Def::State(parse_state(cursor, alloc)?))
+    let state = parse_state(cursor, alloc)?;
+    cursor.expect_rparen(alloc)?;
+    Ok(Def::State(state))
 }
 
-#[tactic(auto, unfolding(crate::specs::DefinitionReaders::as_definition))]
+#[tactic(auto, unfolding(crate::specs::DefinitionReaders::as_definition, crate::specs::DefinitionReaders::closed))]
 #[inline(never)]
 fn parse_form_def(cursor: &mut Cursor, alloc: Global) -> Result<Def, Stop>
     ensures same { source cursor.new ≡ source cursor.old }
     ensures gives { Gives definition_of
-        (as_definition form form_definition (tokens cursor.old)) result cursor.new }
+        (closed (as_definition form form_definition) (tokens cursor.old)) result cursor.new }
+    ensures goes_on { OnOk result (is_failed cursor.new.lexer ≡ false) }
 {
-    Ok(Def::Form(parse_form(cursor, alloc)?))
+    let form = parse_form(cursor, alloc)?;
+    cursor.expect_rparen(alloc)?;
+    Ok(Def::Form(form))
 }
 
-#[tactic(auto, unfolding(crate::specs::DefinitionReaders::as_definition))]
+#[tactic(auto, unfolding(crate::specs::DefinitionReaders::as_definition, crate::specs::DefinitionReaders::closed))]
 #[inline(never)]
 fn parse_instantiation_def(cursor: &mut Cursor, alloc: Global) -> Result<Def, Stop>
     ensures same { source cursor.new ≡ source cursor.old }
     ensures gives { Gives definition_of
-        (as_definition instantiation instantiation_of_term (tokens cursor.old)) result cursor.new }
+        (closed (as_definition instantiation instantiation_of_term) (tokens cursor.old)) result cursor.new }
+    ensures goes_on { OnOk result (is_failed cursor.new.lexer ≡ false) }
 {
-    Ok(Def::Instantiation(parse_instantiation(cursor, alloc)?))
+    let instantiation = parse_instantiation(cursor, alloc)?;
+    cursor.expect_rparen(alloc)?;
+    Ok(Def::Instantiation(instantiation))
 }
 
-#[tactic(auto, unfolding(crate::specs::DefinitionReaders::as_definition))]
+#[tactic(auto, unfolding(crate::specs::DefinitionReaders::as_definition, crate::specs::DefinitionReaders::closed))]
 #[inline(never)]
 fn parse_rule_def(cursor: &mut Cursor, alloc: Global) -> Result<Def, Stop>
     ensures same { source cursor.new ≡ source cursor.old }
     ensures gives { Gives definition_of
-        (as_definition rule rule_definition (tokens cursor.old)) result cursor.new }
+        (closed (as_definition rule rule_definition) (tokens cursor.old)) result cursor.new }
+    ensures goes_on { OnOk result (is_failed cursor.new.lexer ≡ false) }
 {
-    Ok(Def::Rule(parse_rule(cursor, alloc)?))
+    let rule = parse_rule(cursor, alloc)?;
+    cursor.expect_rparen(alloc)?;
+    Ok(Def::Rule(rule))
 }
 
-#[tactic(auto, unfolding(crate::specs::DefinitionReaders::as_definition))]
+#[tactic(auto, unfolding(crate::specs::DefinitionReaders::as_definition, crate::specs::DefinitionReaders::closed))]
 #[inline(never)]
 fn parse_etor_def(cursor: &mut Cursor, alloc: Global) -> Result<Def, Stop>
     ensures same { source cursor.new ≡ source cursor.old }
     ensures gives { Gives definition_of
-        (as_definition extractor extractor_definition (tokens cursor.old)) result cursor.new }
+        (closed (as_definition extractor extractor_definition) (tokens cursor.old)) result cursor.new }
+    ensures goes_on { OnOk result (is_failed cursor.new.lexer ≡ false) }
 {
-    Ok(Def::Extractor(parse_etor(cursor, alloc)?))
+    let extractor = parse_etor(cursor, alloc)?;
+    cursor.expect_rparen(alloc)?;
+    Ok(Def::Extractor(extractor))
 }
 
-#[tactic(auto, unfolding(crate::specs::DefinitionReaders::as_definition))]
+#[tactic(auto, unfolding(crate::specs::DefinitionReaders::as_definition, crate::specs::DefinitionReaders::closed))]
 #[inline(never)]
 fn parse_extern_def(cursor: &mut Cursor, alloc: Global) -> Result<Def, Stop>
     ensures same { source cursor.new ≡ source cursor.old }
     ensures gives { Gives definition_of
-        (as_definition external extern_definition (tokens cursor.old)) result cursor.new }
+        (closed (as_definition external extern_definition) (tokens cursor.old)) result cursor.new }
+    ensures goes_on { OnOk result (is_failed cursor.new.lexer ≡ false) }
 {
-    Ok(Def::Extern(parse_extern(cursor, alloc)?))
+    let external = parse_extern(cursor, alloc)?;
+    cursor.expect_rparen(alloc)?;
+    Ok(Def::Extern(external))
 }
 
-#[tactic(auto, unfolding(crate::specs::DefinitionReaders::as_definition))]
+#[tactic(auto, unfolding(crate::specs::DefinitionReaders::as_definition, crate::specs::DefinitionReaders::closed))]
 #[inline(never)]
 fn parse_converter_def(cursor: &mut Cursor, alloc: Global) -> Result<Def, Stop>
     ensures same { source cursor.new ≡ source cursor.old }
     ensures gives { Gives definition_of
-        (as_definition converter conversion (tokens cursor.old)) result cursor.new }
+        (closed (as_definition converter conversion) (tokens cursor.old)) result cursor.new }
+    ensures goes_on { OnOk result (is_failed cursor.new.lexer ≡ false) }
 {
-    Ok(Def::Converter(parse_converter(cursor, alloc)?))
+    let converter = parse_converter(cursor, alloc)?;
+    cursor.expect_rparen(alloc)?;
+    Ok(Def::Converter(converter))
 }
 
 /// Refuses this word, which stood at this place: it begins no definition.

@@ -138,14 +138,50 @@ fn put_broken(
     };
     out.push('(')?;
     let left = room.saturating_sub(1);
-    put_node(first, pieces, width, left, level, looks, out)?;
+    put_item(first, pieces, width, left, level, looks, out)?;
     while let Some(item) = pieces.look(looks) {
         put_new_line(level + 1, out)?;
-        put_node(item, pieces, width, width, level + 1, looks, out)?;
+        put_item(item, pieces, width, width, level + 1, looks, out)?;
     }
     put_new_line(level, out)?;
     out.push(')')?;
     Ok(())
+}
+
+/// Does what `put_node` does. Many items are atoms of the tree's texts, for which it makes no call.
+#[inline(always)]
+#[cycle(put)]
+fn put_item(
+    piece: Piece,
+    pieces: &mut Pieces,
+    width: usize,
+    room: usize,
+    level: usize,
+    looks: &mut Looks,
+    out: &mut String,
+) -> Result<(), AllocError>
+    requires nested { level ≤ string_len out.old }
+    requires node { HasFirst (put_piece piece pieces.old).0 }
+    requires fits { Fits piece pieces.old }
+    ensures written { OnOk result (string_bytes out.new ≡ string_bytes out.old
+        ++ layout_in width (first (put_piece piece.entry pieces.old).0) room level) }
+    ensures rest { OnOk result (pieces.new ≡ (
+      behind (put_piece piece.entry pieces.old).0,
+      (put_piece piece.entry pieces.old).1,
+    )) }
+    ensures at_least { OnOk result (looks.old.count
+        + nodes (first (put_piece piece.entry pieces.old).0) ≤ looks.new.count + 1) }
+    ensures at_most { looks.new.count + 1
+        ≤ looks.old.count + nodes (first (put_piece piece.entry pieces.old).0) }
+    ensures none_taken { looks.old.count ≤ looks.new.count }
+{
+    match piece {
+        Piece::Borrowed(text) => {
+            out.push_str(text)?;
+            Ok(())
+        }
+        piece => put_node(piece, pieces, width, room, level, looks, out),
+    }
 }
 
 /// Appends a line end and the indentation of the next line, four spaces for each level.
@@ -223,13 +259,45 @@ fn put_flat_items(
         return Ok(());
     };
     out.push('(')?;
-    put_flat(first, pieces, looks, out)?;
+    put_flat_item(first, pieces, looks, out)?;
     while let Some(item) = pieces.look(looks) {
         out.push(' ')?;
-        put_flat(item, pieces, looks, out)?;
+        put_flat_item(item, pieces, looks, out)?;
     }
     out.push(')')?;
     Ok(())
+}
+
+/// Does what `put_flat` does. Most items are atoms of the tree's texts, for which it makes no call.
+#[inline(always)]
+#[cycle(put_flat)]
+fn put_flat_item(
+    piece: Piece,
+    pieces: &mut Pieces,
+    looks: &mut Looks,
+    out: &mut String,
+) -> Result<(), AllocError>
+    requires node { HasFirst (put_piece piece pieces.old).0 }
+    requires fits { Fits piece pieces.old }
+    ensures written { OnOk result (string_bytes out.new
+        ≡ string_bytes out.old ++ flat (first (put_piece piece.entry pieces.old).0)) }
+    ensures rest { OnOk result (pieces.new ≡ (
+      behind (put_piece piece.entry pieces.old).0,
+      (put_piece piece.entry pieces.old).1,
+    )) }
+    ensures at_least { OnOk result (looks.old.count
+        + nodes (first (put_piece piece.entry pieces.old).0) ≤ looks.new.count + 1) }
+    ensures at_most { looks.new.count + 1
+        ≤ looks.old.count + nodes (first (put_piece piece.entry pieces.old).0) }
+    ensures none_taken { looks.old.count ≤ looks.new.count }
+{
+    match piece {
+        Piece::Borrowed(text) => {
+            out.push_str(text)?;
+            Ok(())
+        }
+        piece => put_flat(piece, pieces, looks, out),
+    }
 }
 
 /// Tells whether an S-expression's counted length is at most the room.

@@ -77,7 +77,9 @@ pub fn constant(ident: &Ident, tape: &mut Tape) -> Result<(), AllocError>
 pub fn joined(front: &str, back: &str, tape: &mut Tape) -> Result<(), AllocError>
     ensures { OnOk result (tape.new ≡ before (atom (front.now ++ back.now) ∷ []) tape.old) }
 {
-    let mut text = String::from_str(tape.alloc(), front)?;
+    let room = front.len().saturating_add(back.len());
+    let mut text = String::with_capacity(tape.alloc(), room)?;
+    text.push_str(front)?;
     text.push_str(back)?;
     tape.owned(text)
 }

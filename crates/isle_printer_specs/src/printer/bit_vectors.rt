@@ -9,6 +9,9 @@ ghost use Rattle.isle_printer_specs.specs.SpecShapes.{bit_vector_text, radix_tex
 use isle_printer_layout::printer::Tape;
 use std::alloc::AllocError;
 
+/// How many digits a number has at most, in any radix.
+const MOST_DIGITS: usize = 128;
+
 /// Puts the atom of a bit vector of this value and width: in hexadecimal where four divides the
 /// width, else in binary.
 pub fn bit_vector(val: u128, width: usize, tape: &mut Tape) -> Result<(), AllocError>
@@ -35,9 +38,11 @@ fn marked_digits(
     ensures { OnOk result (tape.new
         ≡ before (atom (mark.now ++ zero_padded least (radix_text radix val)) ∷ []) tape.old) }
 {
-    let mut digits = String::new(tape.alloc());
+    let mut digits = String::with_capacity(tape.alloc(), least.min(MOST_DIGITS))?;
     push_digits(&mut digits, radix, val)?;
-    let mut text = String::from_str(tape.alloc(), mark)?;
+    let room = mark.len().saturating_add(least.max(digits.len()));
+    let mut text = String::with_capacity(tape.alloc(), room)?;
+    text.push_str(mark)?;
     push_zeros(&mut text, least.saturating_sub(digits.len()))?;
     text.push_str(&digits)?;
     tape.owned(text)

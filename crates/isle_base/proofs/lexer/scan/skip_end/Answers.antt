@@ -13,7 +13,7 @@ pub loop-byte-preserved : goal.loop-byte-preserved
 loop-byte-preserved c =
     let shown = c.in-Some.ensures in
     let blank = blank_one c.in-Some.byte (λ no_space no_tab no_feed. grind (arith, no_space, no_tab, no_feed)) in
-    (run_within is_blank c.args.bytes.now (c.loop-byte.at + 1) c.blank_end-at.result (omega (arith, shown.1)) c.blank_end-at.ensures, λ rest s. c.loop-byte.invariant.1 rest (skip_blanks c.args.bytes.now c.loop-byte.at c.blank_end-at.result c.in-Some.byte shown.0 blank c.blank_end-at.ensures rest s))
+    (run_within is_blank c.args.bytes.now (c.loop-byte.at + 1) c.blanks_behind-at.result (omega (arith, shown.1)) c.blanks_behind-at.ensures, λ rest s. c.loop-byte.invariant.1 rest (skip_blanks c.args.bytes.now c.loop-byte.at c.blanks_behind-at.result c.in-Some.byte shown.0 blank c.blanks_behind-at.ensures rest s))
 
 pub loop-byte-preserved-in-59-1 : goal.loop-byte-preserved-in-59-1
 loop-byte-preserved-in-59-1 c =

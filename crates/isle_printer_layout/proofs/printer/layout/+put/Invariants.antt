@@ -9,10 +9,13 @@ use Rattle.isle_printer_layout.specs.Sexp.{sexps}
 use Rattle.isle_printer_layout.proofs.printer.layout.+put.Given as goal
 
 abbrev pub decreases-put_node : goal.decreases-put_node
-decreases-put_node l = 2 * nodes (first (put_piece l.piece l.pieces.now).0)
+decreases-put_node l = 3 * nodes (first (put_piece l.piece l.pieces.now).0)
+
+abbrev pub decreases-put_item : goal.decreases-put_item
+decreases-put_item l = 3 * nodes (first (put_piece l.piece l.pieces.now).0) + 1
 
 abbrev pub decreases-put_broken : goal.decreases-put_broken
-decreases-put_broken l = 2 * nodes_of_items (sexps l.pieces.now.0) + 1
+decreases-put_broken l = 3 * nodes_of_items (sexps l.pieces.now.0) + 2
 
 abbrev pub invariant-put_broken-loop-item : goal.invariant-put_broken-loop-item
 invariant-put_broken-loop-item l = record {

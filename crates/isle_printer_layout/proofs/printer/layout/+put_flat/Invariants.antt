@@ -8,10 +8,13 @@ use Rattle.isle_printer_layout.specs.Sexp.{row, sexps}
 use Rattle.isle_printer_layout.proofs.printer.layout.+put_flat.Given as goal
 
 abbrev pub decreases-put_flat : goal.decreases-put_flat
-decreases-put_flat l = 2 * nodes (first (put_piece l.piece l.pieces.now).0)
+decreases-put_flat l = 3 * nodes (first (put_piece l.piece l.pieces.now).0)
+
+abbrev pub decreases-put_flat_item : goal.decreases-put_flat_item
+decreases-put_flat_item l = 3 * nodes (first (put_piece l.piece l.pieces.now).0) + 1
 
 abbrev pub decreases-put_flat_items : goal.decreases-put_flat_items
-decreases-put_flat_items l = 2 * nodes_of_items (sexps l.pieces.now.0) + 1
+decreases-put_flat_items l = 3 * nodes_of_items (sexps l.pieces.now.0) + 2
 
 abbrev pub invariant-put_flat_items-loop-item : goal.invariant-put_flat_items-loop-item
 invariant-put_flat_items-loop-item l = record {

@@ -3,7 +3,7 @@ use Rattle.isle_base.specs.Place.{in_file}
 use Rattle.isle_base.specs.Reads.{Finds}
 use Rattle.isle_base.specs.Steps.{FacesFault}
 use Rattle.isle_base.proofs.Stepping.{feed_parts, next_token, next_end, faces_fault, takes_along, shown_ahead, shown_taken}
-use Rattle.isle_base.proofs.scanner.Scanner.read_ahead.Goals as goal
+use Rattle.isle_base.proofs.scanner.Scanner.advance.Goals as goal
 
 pub returns-in-Token-clause-token : goal.returns-in-Token-clause-token
 returns-in-Token-clause-token c =
