@@ -43,7 +43,7 @@ pub fn refusal(alloc: Global, case: &Case) -> Result<String, AllocError> {
 }
 
 /// What `parse` answers of a text in file 0.
-fn parsed(alloc: Global, text: &str) -> Result<Vec<Def>, Fault> {
+pub fn parsed(alloc: Global, text: &str) -> Result<Vec<Def>, Fault> {
     parse(alloc, Lexer::new(alloc, 0, text)?)
 }
 

@@ -7,8 +7,9 @@
 //!
 //! The answer of a case is what Debug shows of the call's, with each position as `FILE:OFFSET`. A
 //! lexer is of the text, in the file FILE, after READ calls of `next`. A number that is left out is
-//! 0. Each of many texts is also read by a lexer and formatted at the widths 0, 1 and the greatest: it
-//! is formatted where it is accepted, and else refused at a place in it, or the answer is `wrong`.
+//! 0. Each of many texts is also read by a lexer, parsed and formatted at the widths 0, 1 and the
+//! greatest: it is parsed and formatted where it is accepted, and else refused at a place in it, or
+//! the answer is `wrong`.
 //!
 //! | Case | The answer |
 //! |---|---|

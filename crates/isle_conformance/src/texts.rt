@@ -1,7 +1,7 @@
 //! Texts that are cut or damaged, all of a case at once.
 
 use crate::case::Case;
-use crate::errors::refusal_of;
+use crate::errors::{parsed, refusal_of};
 use isle_syntax::error::Error;
 use isle_syntax::format;
 use isle_syntax::lexer::{Fault, Lexer};
@@ -34,8 +34,8 @@ impl Tally {
         }
     }
 
-    /// Adds a text. It is wrong where the calls do not agree on it, and where what is shown of a
-    /// refused one is no parse error.
+    /// Adds a text. It is wrong where `parse` and `format` do not agree on it, where a call refuses
+    /// it and not at a place in it, and where what is shown of a refused one is no parse error.
     fn add(&mut self, alloc: Global, text: &str) -> Result<(), AllocError> {
         let shown = refusal_of(alloc, text)?;
         let is_accepted = shown.as_str() == "accepted";
@@ -46,7 +46,10 @@ impl Tally {
         }
         self.count = self.count.saturating_add(1);
         let is_told = is_accepted || shown.starts_with("parse error: ");
-        let is_right = is_told && is_read(alloc, text) && is_formatted(alloc, text, is_accepted);
+        let is_right = is_told
+            && is_read(alloc, text)
+            && is_parsed(alloc, text, is_accepted)
+            && is_formatted(alloc, text, is_accepted);
         if !is_right && self.wrong.is_none() {
             self.wrong = Some(text.to_string(alloc)?);
         }
@@ -84,6 +87,14 @@ fn is_read(alloc: Global, text: &str) -> bool {
         }
     }
     false
+}
+
+/// Whether a text is parsed, if it is accepted, or else refused at a place in it.
+fn is_parsed(alloc: Global, text: &str, is_accepted: bool) -> bool {
+    match parsed(alloc, text) {
+        Ok(_) => is_accepted,
+        Err(fault) => !is_accepted && is_within(&fault, text),
+    }
 }
 
 /// Whether a text is formatted at widths from the least to the greatest, if it is accepted, or else
