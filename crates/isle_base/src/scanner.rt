@@ -183,11 +183,7 @@ impl<'src> Scanner<'src> {
         let Some(shown) = self.lookahead else {
             return None;
         };
-        if self.read_ahead() {
-            Some(shown)
-        } else {
-            None
-        }
+        if self.read_ahead() { Some(shown) } else { None }
     }
 
     /// Reads one token further, and forgets the one ahead. Where a fault follows, it does nothing.

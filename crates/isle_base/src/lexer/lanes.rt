@@ -1,8 +1,8 @@
 //! Where a symbol, blanks or a line comment end, found many bytes at a time.
 //!
 //! Which bytes these are made of is the rule of the lexer of upstream `cranelift-isle`. Most runs
-//! are a few bytes long, so the first bytes are looked at one by one, and lanes take over behind
-//! them.
+//! are a few bytes long, and how many can't be foretold, so lanes look at the first bytes too: they
+//! find the end of a short run without a branch that hangs on its length.
 
 ghost use Rattle.std.specs.Prelude.{◌≡◌, ◌+◌, ◌≤◌, ℕ, Bool, not, map, drop, length};
 ghost use Rattle.std.specs.List.{prefix_len};
@@ -15,10 +15,7 @@ use std::simd::prelude::*;
 /// The byte that may stand in comments alone.
 pub(crate) const FORM_FEED: u8 = 0x0c;
 
-/// How many bytes are looked at one by one before lanes take over. Most runs are shorter.
-const NEAR: usize = 16;
-
-/// How many bytes are looked at together from there on.
+/// How many bytes are looked at together.
 const LANES: usize = 32;
 
 /// A class of bytes, of which runs are made.
@@ -119,9 +116,9 @@ fn rest_end<C: Class>(bytes: &[u8], from: usize) -> usize
     at
 }
 
-/// Finds where a long run ends, 32 bytes at a time, and what is left byte by byte.
+/// Finds where a run ends, 32 bytes at a time, and what is left byte by byte.
 #[inline(never)]
-fn far_end<C: Class>(bytes: &[u8], from: usize) -> usize
+fn run_end<C: Class>(bytes: &[u8], from: usize) -> usize
     requires { from ≤ length bytes.now }
     ensures { result ≡ from + prefix_len C.holds (drop from bytes.now) }
 {
@@ -134,26 +131,6 @@ fn far_end<C: Class>(bytes: &[u8], from: usize) -> usize
         at += LANES;
     }
     rest_end::<C>(bytes, at)
-}
-
-/// Finds where a run ends, which may well be a short one.
-#[inline(always)]
-fn run_end<C: Class>(bytes: &[u8], from: usize) -> usize
-    requires { from ≤ length bytes.now }
-    ensures { result ≡ from + prefix_len C.holds (drop from bytes.now) }
-{
-    if bytes.len() - from < NEAR {
-        return far_end::<C>(bytes, from);
-    }
-    let near = from + NEAR;
-    let mut at = from;
-    while at < near {
-        if !C::has(bytes[at]) {
-            return at;
-        }
-        at += 1;
-    }
-    far_end::<C>(bytes, at)
 }
 
 /// Finds where a symbol ends: the offset of the first byte from `from` on that can't stand in a

@@ -1,7 +1,7 @@
 use Rattle.std.proofs.Common.{sym, ap, ◌∙◌, arith}
 use lib.Count.{count_trailing_zeros}
 use Rattle.isle_base.proofs.LaneLemmas.{run_through, run_stops}
-use Rattle.isle_base.proofs.lexer.lanes.far_end.Goals as goal
+use Rattle.isle_base.proofs.lexer.lanes.run_end.Goals as goal
 
 pub returns-then-misses-ne0 : goal.returns-then-misses-ne0
 returns-then-misses-ne0 g c =
