@@ -1,3 +1,4 @@
+use Rattle.std.proofs.Common.{rules, tests}
 use Rattle.isle_c.proofs.calls.print_of.Goals as goal
 
 pub returns-in-Err-Error-clause-err : goal.returns-in-Err-Error-clause-err
@@ -21,3 +22,6 @@ returns-in-Ok-clause-ok c =
       fewer_lines = of.fewer_lines tree spelt;
       other_widths = of.other_widths tree spelt;
     }
+
+pub returns-in-Err-Error-clause-ok : goal.returns-in-Err-Error-clause-ok
+returns-in-Err-Error-clause-ok c = search (tests, rules)

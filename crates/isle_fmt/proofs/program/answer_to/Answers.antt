@@ -1,3 +1,4 @@
+use Rattle.std.proofs.Common.{rules, tests}
 use Rattle.isle_fmt.proofs.program.answer_to.Goals as goal
 
 pub returns-in_ok-diagnostic-in-Err-Error-clause-err :
@@ -22,3 +23,6 @@ returns-in-Ok-clause-ok c =
       fewer_lines = of.fewer_lines tree spelt;
       other_widths = of.other_widths tree spelt;
     }
+
+pub returns-in-Err-Memory-clause-err : goal.returns-in-Err-Memory-clause-err
+returns-in-Err-Memory-clause-err c = search (tests, rules)

@@ -1,0 +1,7 @@
+use Rattle.std.proofs.Common.{rules, tests}
+use Rattle.isle_parser.specs.DefinitionReaders.{as_definition, closed}
+use Rattle.isle_parser.proofs.parser.definitions.parse_etor_def.Goals as goal
+
+pub returns-clause-gives : goal.returns-clause-gives
+unfolding as_definition closed
+returns-clause-gives c = search (tests, rules)

@@ -1,0 +1,7 @@
+use Rattle.std.proofs.Common.{rules, tests}
+use Rattle.isle_parser.specs.TermReaders.{extern_etor}
+use Rattle.isle_parser.proofs.parser.terms.parse_extern_extractor.Goals as goal
+
+pub returns-then-branch-clause-gives : goal.returns-then-branch-clause-gives
+unfolding extern_etor
+returns-then-branch-clause-gives c = search (tests, rules)
