@@ -9,7 +9,7 @@
 //!
 //! The work is done by a static library that is proved, the crate `isle_c` of this repository. This
 //! package hands it slices and takes the answers; it isn't proved, and its tests hold it against the
-//! rows and the program of the repository. What is promised of the answers stands in the repository's
+//! cases and the program of the repository. What is promised of the answers stands in the repository's
 //! `README.md`, and of the library's calls in `crates/isle_c/src/lib.rt`.
 //!
 //! **The tree of a text holds no comments and no blank lines, so formatting drops them.**

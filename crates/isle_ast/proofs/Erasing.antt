@@ -1,7 +1,7 @@
 -- Spelling and erasing: tokens that spell a tree spell the erased tree once they are erased too. Each
 -- tree spelt by erased tokens is such a one, and of one tree alone with the positions of the tokens.
 use Rattle.std.proofs.Common.{◌≡◌, ℕ, List, [], ◌∷◌, refl, sym, ap, subst}
-use Rattle.isle_base_errors.specs.declared.pos.Pos.{Pos}
+use Rattle.isle_base_source.specs.declared.pos.Pos.{Pos}
 use Rattle.isle_base.specs.Place.{Placed, nowhere, placed, placed_at}
 use Rattle.isle_base.specs.Token.{Lexeme, Feed}
 use Rattle.isle_ast.specs.Tree.{Definition}

@@ -21,8 +21,8 @@ use Rattle.isle_ast_names.proofs.Parts.{by_parts}
 pub names_by_parts : (n : Name) → IsByParts (SpellsName n)
 names_by_parts n = by_parts SpellsName erase_name n (name_lawful n)
 
-pub rows_by_parts : (ns : List Name) → IsByParts (SpellsAll SpellsName ns)
-rows_by_parts ns = by_parts (SpellsAll SpellsName) (map erase_name) ns (all_lawful SpellsName erase_name name_lawful ns)
+pub lists_by_parts : (ns : List Name) → IsByParts (SpellsAll SpellsName ns)
+lists_by_parts ns = by_parts (SpellsAll SpellsName) (map erase_name) ns (all_lawful SpellsName erase_name name_lawful ns)
 
 pub types_by_parts : (t : TypeDefinition) → IsByParts (SpellsTypeDefinition t)
 types_by_parts t = by_parts SpellsTypeDefinition _ t (type_lawful t)

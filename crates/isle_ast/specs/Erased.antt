@@ -1,7 +1,7 @@
 -- Definitions erased: each position is the default one, which stands for an unknown place.
 use Rattle.std.specs.Prelude.{List, map}
 use Rattle.isle_base.specs.Place.{unknown}
-use Rattle.isle_ast_specs.specs.Erased.{erase_spec, erase_spec_definition, erase_spec_macro, erase_state, erase_model}
+use Rattle.isle_ast_verification.specs.Erased.{erase_spec, erase_spec_definition, erase_spec_macro, erase_state, erase_model}
 use Rattle.isle_ast.specs.Tree.{Declaration, Conversion, NamedField, IndexedField, FieldList, unit_fields, struct_fields, tuple_fields, EnumVariant, TypeContent, primitive_type, enum_type, struct_type, TypeDefinition, AttributeTarget, term_target, rule_target, AttributeKind, chain_kind, priority_kind, tag_kind, Attribute, TermSignature, FormDefinition, TermInstantiation, ModelContent, type_model, const_model, ModelDefinition, ExternDefinition, extern_extractor, extern_constructor, extern_const, Definition, type_def, rule, extractor, decl, attr, spec, spec_macro, model, state, form, instantiation, external, converter}
 use Rattle.isle_ast_names.specs.Erased.{erase_name, erase_names, erase_optional}
 use Rattle.isle_ast_rules.specs.Erased.{erase_rule, erase_extractor}

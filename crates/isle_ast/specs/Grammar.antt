@@ -7,7 +7,7 @@ use Rattle.isle_ast.specs.Tree.{Definition, type_def, rule, extractor, decl, att
 use Rattle.isle_ast_names.specs.Words.{SpellsAll, InForm}
 use Rattle.isle_ast.specs.ModelGrammar.{SpellsForm, SpellsInstantiation, SpellsModel}
 use Rattle.isle_ast_rules.specs.RuleGrammar.{SpellsRule, SpellsExtractor}
-use Rattle.isle_ast_specs.specs.SpecDefinitionGrammar.{SpellsSpecDefinition, SpellsSpecMacro, SpellsState}
+use Rattle.isle_ast_verification.specs.SpecDefinitionGrammar.{SpellsSpecDefinition, SpellsSpecMacro, SpellsState}
 use Rattle.isle_ast.specs.TermGrammar.{SpellsDeclaration, SpellsAttribute, SpellsExtern, SpellsConversion}
 use Rattle.isle_ast.specs.TypeGrammar.{SpellsTypeDefinition}
 

@@ -4,8 +4,8 @@ use Rattle.isle_base.specs.Place.{Placed}
 use Rattle.isle_ast_names.specs.Tree.{Name}
 use Rattle.isle_ast.specs.Tree.{TermSignature, FormDefinition, TermInstantiation, ModelContent, type_model, const_model, ModelDefinition}
 use Rattle.isle_ast_names.specs.Words.{BeginsAt, SpellsAll, InParentheses, BehindWord, SpellsName, IsNonEmpty}
-use Rattle.isle_ast_specs.specs.SpecGrammar.{SpellsSpec}
-use Rattle.isle_ast_specs.specs.TypeModelGrammar.{SpellsTypeModel}
+use Rattle.isle_ast_verification.specs.SpecGrammar.{SpellsSpec}
+use Rattle.isle_ast_verification.specs.TypeModelGrammar.{SpellsTypeModel}
 
 -- `((args MODEL..) (ret MODEL))`, at the position of the token behind its `(`
 abbrev pub SpellsSignature : TermSignature → List Placed → List Placed → Type 0

@@ -1,7 +1,7 @@
 -- Which definitions a text spells.
 use Rattle.std.specs.Prelude.{◌≡◌, ℕ, List}
-use Rattle.isle_base_errors.specs.declared.pos.Pos.{Pos}
-use Rattle.isle_base.specs.EarlierLexing.{earlier_lexes}
+use Rattle.isle_base_source.specs.declared.pos.Pos.{Pos}
+use Rattle.isle_base.specs.UpstreamLexing.{upstream_lexes}
 use Rattle.isle_base.specs.Lexing.{lexes}
 use Rattle.isle_base.specs.Token.{Feed, Lexeme, end}
 use Rattle.isle_ast.specs.Grammar.{SpellsDefinitions}
@@ -22,4 +22,4 @@ IsSpelt place text ds =
 -- today's.
 abbrev pub WasSpelt : (ℕ → Pos) → List ℕ → List Definition → Type 0
 WasSpelt place text ds =
-    (tokens : List Lexeme) × earlier_lexes text tokens end × SpellsDefinitions ds (placed place tokens)
+    (tokens : List Lexeme) × upstream_lexes text tokens end × SpellsDefinitions ds (placed place tokens)

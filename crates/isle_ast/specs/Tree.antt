@@ -1,8 +1,8 @@
 -- Definitions as pure values: nothing says where they lie in memory. The fields are those of the types of the code.
 use Rattle.std.specs.Prelude.{ℕ, List, Bool, Option}
-use Rattle.isle_base_errors.specs.declared.pos.Pos.{Pos}
+use Rattle.isle_base_source.specs.declared.pos.Pos.{Pos}
 use Rattle.isle_ast_names.specs.Tree.{Name}
-use Rattle.isle_ast_specs.specs.Tree.{TypeModel, SpecNode, SpecDefinition, SpecMacroDefinition, StateDefinition}
+use Rattle.isle_ast_verification.specs.Tree.{TypeModel, SpecNode, SpecDefinition, SpecMacroDefinition, StateDefinition}
 use Rattle.isle_ast_rules.specs.Tree.{RuleDefinition, ExtractorDefinition}
 
 -- a term that is declared

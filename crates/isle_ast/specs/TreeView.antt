@@ -1,6 +1,6 @@
 -- The definitions of the code, as pure values.
 use Rattle.std.specs.Prelude.{List, map}
-use Rattle.isle_ast_specs.specs.TreeView.{spec_of, spec_definition_of, spec_macro_of, state_of, type_model_of}
+use Rattle.isle_ast_verification.specs.TreeView.{spec_of, spec_definition_of, spec_macro_of, state_of, type_model_of}
 use Rattle.isle_ast.specs.Tree.{Declaration, Conversion, NamedField, IndexedField, FieldList, unit_fields, struct_fields, tuple_fields, EnumVariant, TypeContent, primitive_type, enum_type, struct_type, TypeDefinition, AttributeTarget, term_target, rule_target, AttributeKind, chain_kind, priority_kind, tag_kind, Attribute, TermSignature, FormDefinition, TermInstantiation, ModelContent, type_model, const_model, ModelDefinition, ExternDefinition, extern_extractor, extern_constructor, extern_const, Definition, type_def, rule, extractor, decl, attr, spec, spec_macro, model, state, form, instantiation, external, converter}
 use Rattle.isle_ast_names.specs.TreeView.{name_of, names_of, optional_name_of}
 use Rattle.isle_ast.specs.declared.ast.TypeDef.{TypeDef}

@@ -1,7 +1,7 @@
 -- Which trees are written so that they read back: the conditions on each node. They name no text and
 -- no width, and positions play no part.
 use Rattle.std.specs.Prelude.{[], ◌≡◌, ◌≢◌, ℕ, ◌+◌, List, ◌∷◌, true, Option, None, Some, codes}
-use Rattle.isle_ast_specs.specs.Writable.{IsWritableSpec, IsWritableSpecDefinition, IsWritableSpecMacro, IsWritableState, IsWritableModel}
+use Rattle.isle_ast_verification.specs.Writable.{IsWritableSpec, IsWritableSpecDefinition, IsWritableSpecMacro, IsWritableState, IsWritableModel}
 use Rattle.isle_ast_names.specs.Tree.{Name}
 use Rattle.isle_ast.specs.Tree.{Declaration, Conversion, NamedField, IndexedField, FieldList, unit_fields, struct_fields, tuple_fields, EnumVariant, TypeContent, primitive_type, enum_type, struct_type, TypeDefinition, AttributeTarget, term_target, rule_target, AttributeKind, chain_kind, priority_kind, tag_kind, Attribute, TermSignature, FormDefinition, TermInstantiation, ModelContent, type_model, const_model, ModelDefinition, ExternDefinition, extern_extractor, extern_constructor, extern_const, Definition, type_def, rule, extractor, decl, attr, spec, spec_macro, model, state, form, instantiation, external, converter}
 use Rattle.isle_ast_names.specs.Words.{IsNonEmpty, demands}

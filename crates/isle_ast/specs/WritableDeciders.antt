@@ -6,7 +6,7 @@ use Rattle.isle_ast_names.specs.WritableDeciders.{is_word, is_name, are_names, i
 use Rattle.isle_ast_names.specs.Words.{demands}
 use Rattle.isle_ast.specs.TermGrammar.{term_is_no_flag}
 use Rattle.isle_ast.specs.Tree.{Declaration, Conversion, NamedField, IndexedField, FieldList, unit_fields, struct_fields, tuple_fields, EnumVariant, TypeContent, primitive_type, enum_type, struct_type, TypeDefinition, AttributeTarget, term_target, rule_target, AttributeKind, chain_kind, priority_kind, tag_kind, Attribute, TermSignature, FormDefinition, TermInstantiation, ModelContent, type_model, const_model, ModelDefinition, ExternDefinition, extern_extractor, extern_constructor, extern_const, Definition, type_def, rule, extractor, decl, attr, spec, spec_macro, model, state, form, instantiation, external, converter}
-use Rattle.isle_ast_specs.specs.WritableDeciders.{is_writable_model, is_writable_spec, is_writable_spec_definition, is_writable_spec_macro, is_writable_state}
+use Rattle.isle_ast_verification.specs.WritableDeciders.{is_writable_model, is_writable_spec, is_writable_spec_definition, is_writable_spec_macro, is_writable_state}
 use Rattle.isle_ast_rules.specs.WritableDeciders.{is_writable_rule, is_writable_extractor}
 
 -- there is no element

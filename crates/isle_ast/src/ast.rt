@@ -5,9 +5,9 @@ pub mod laws;
 mod nodes;
 mod writability;
 
-pub use isle_ast_names::ast::{Ident, identifier};
-pub use isle_ast_rules::ast::{Expr, Extractor, IfLet, LetDef, Pattern, Rule};
-pub use isle_ast_specs::ast::{
+pub use isle_ast_names::{Ident, identifier};
+pub use isle_ast_rules::{Expr, Extractor, IfLet, LetDef, Pattern, Rule};
+pub use isle_ast_verification::{
     Arm, FieldInit, ModelField, ModelType, Modifies, Spec, SpecExpr, SpecMacro, SpecOp, State,
 };
 use isle_base::lexer::Pos;
@@ -273,7 +273,6 @@ pub enum Extern {
     Const {
         /// The name, without its `$`.
         name: Ident,
-        /// The type.
         ty: Ident,
         /// The position of the constant.
         pos: Pos,

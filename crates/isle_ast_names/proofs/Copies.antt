@@ -2,16 +2,16 @@
 use Rattle.std.proofs.Common.{◌≡◌, List, [], ◌∷◌, map, Option, None, Some, string_bytes, refl, ap}
 use Rattle.std.specs.Bool.{⊤}
 use Rattle.std.specs.List.{AllZip}
-use Rattle.isle_ast_names.specs.declared.ast.Ident.{Ident}
+use Rattle.isle_ast_names.specs.declared.Ident.{Ident}
 use Rattle.isle_ast_names.specs.TreeView.{name_of, names_of, optional_name_of}
 
--- a row of copies, by what each element means
-pub copied_row : {A B : Type 0} (meaning : A → B) (xs copies : List A) → AllZip (λ x copy. meaning copy ≡ meaning x) xs copies →
+-- a list of copies, by what each element means
+pub copied_list : {A B : Type 0} (meaning : A → B) (xs copies : List A) → AllZip (λ x copy. meaning copy ≡ meaning x) xs copies →
     map meaning copies ≡ map meaning xs
-copied_row meaning [] [] h = refl
-copied_row meaning [] (c ∷ cs) h = absurd h
-copied_row meaning (x ∷ xs) [] h = absurd h
-copied_row meaning (x ∷ xs) (c ∷ cs) h = λ i. h.0 i ∷ copied_row meaning xs cs h.1 i
+copied_list meaning [] [] h = refl
+copied_list meaning [] (c ∷ cs) h = absurd h
+copied_list meaning (x ∷ xs) [] h = absurd h
+copied_list meaning (x ∷ xs) (c ∷ cs) h = λ i. h.0 i ∷ copied_list meaning xs cs h.1 i
 
 -- the text and the position are the same
 abbrev pub IsCopy : Ident → Ident → Type 0

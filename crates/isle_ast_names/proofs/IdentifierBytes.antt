@@ -8,7 +8,7 @@ use Rattle.std.proofs.lemmas.Str.{IsUtf8-from_is_utf8, encodes-chars, encode_asc
 use Rattle.std.proofs.lemmas.List.Folds.{list_all-append}
 use lib.Utf8.{encode, encodes}
 use Rattle.isle_base.specs.Literals.{begins_literal}
-use Rattle.isle_base.specs.Pieces.{in_symbol, begins_symbol, Piece}
+use Rattle.isle_base.specs.Spellings.{in_symbol, begins_symbol, Spelling}
 use Rattle.isle_base.specs.Skips.{begins_with, is_blank}
 use Rattle.isle_base.specs.Token.{symbol}
 use Rattle.isle_base.proofs.Minus.{plain_here}
@@ -152,7 +152,7 @@ identifier_in_symbol text e =
 
 -- so where a byte that ends symbols follows it, or the end of the text, it is one symbol
 pub identifier_is_symbol : (text rest : List ℕ) → is_identifier text ≡ true → begins_with in_symbol rest ≡ false →
-    Piece (text ++ rest) (symbol text) rest
+    Spelling (text ++ rest) (symbol text) rest
 identifier_is_symbol text rest e stops =
     let h = identifier_bytes text e in (
       plain_here (text ++ rest) (subst (λ bs. begins_with begins_symbol (bs ++ rest) ≡ true) (sym h.split) h.begins),

@@ -5,6 +5,6 @@ pub mod Lawful
 pub mod LawfulWords
 pub mod NameOrders
 pub mod Parts
-pub mod SameRows
+pub mod ListComparison
 pub mod SpeltWords
 pub mod Writable

@@ -3,8 +3,8 @@ use Rattle.std.proofs.Common.{◌≡◌, ℕ, List, [], ◌∷◌, drop, get_or,
 use Rattle.std.specs.Cmp.Lexicographic.{slice_cmp}
 use Rattle.std.specs.Ordering.{nat_cmp, ordering_then}
 use Rattle.std.specs.declared.cmp.Ordering.TheVariants.{Equal}
-use Rattle.isle_base_errors.proofs.PositionOrders.{both_equal, hashes_equal, numbers_equal, number_itself, then_equal}
-use Rattle.isle_base_errors.specs.PositionOrder.{IsInRange}
+use Rattle.isle_base_source.proofs.PositionOrders.{both_equal, hashes_equal, numbers_equal, number_itself, then_equal}
+use Rattle.isle_base_source.specs.PositionOrder.{IsInRange}
 use Rattle.isle_ast_names.specs.NameOrder.{name_cmp, name_hash}
 use Rattle.isle_ast_names.specs.Tree.{Name}
 

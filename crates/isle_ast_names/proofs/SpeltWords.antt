@@ -8,7 +8,7 @@ use Rattle.isle_ast_names.specs.Tree.{Name}
 use Rattle.isle_ast_names.specs.Words.{SpellsAll, SpellsName, SpellsOptional, is_bool_word}
 use Rattle.isle_ast_names.specs.Writable.{IsName, Each, IsNot}
 
--- each element of a spelt row
+-- each element of a spelt list
 pub Each-spelt : {A : Type 0} → (P : A → Type 0) (Spells : A → List Placed → List Placed → Type 0) → ((x : A) (all rest : List Placed) → Spells x all rest → P x) → (xs : List A) (all rest : List Placed) → SpellsAll Spells xs all rest → Each P xs
 Each-spelt P Spells one [] all rest s = tt
 Each-spelt P Spells one (x ∷ xs) all rest s = (one x all s.0 s.1, Each-spelt P Spells one xs s.0 rest s.2)

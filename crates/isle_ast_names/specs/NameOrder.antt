@@ -4,7 +4,7 @@ use Rattle.std.specs.Cmp.Lexicographic.{slice_cmp}
 use Rattle.std.specs.Hash.{HashWrites, str}
 use Rattle.std.specs.Ordering.{nat_cmp, on, then_cmp}
 use Rattle.std.specs.declared.cmp.Ordering.{Ordering}
-use Rattle.isle_base_errors.specs.PositionOrder.{position_hash}
+use Rattle.isle_base_source.specs.PositionOrder.{position_hash}
 use Rattle.isle_ast_names.specs.Tree.{Name}
 
 abbrev pub name_cmp : Name → Name → Ordering

@@ -1,6 +1,6 @@
 -- The names of the code, as pure values.
 use Rattle.std.specs.Prelude.{List, map, Option, None, Some, string_bytes}
-use Rattle.isle_ast_names.specs.declared.ast.Ident.{Ident}
+use Rattle.isle_ast_names.specs.declared.Ident.{Ident}
 use Rattle.isle_ast_names.specs.Tree.{Name}
 
 abbrev pub name_of : Ident → Name

@@ -4,7 +4,7 @@
 use Rattle.std.specs.Prelude.{◌≡◌, ℕ, List, [], ◌∷◌, Bool, true, false, Option, None, Some, nat_eq, ◌||◌, codes, not}
 use Rattle.std.specs.Str.{bytes_eq}
 use Rattle.isle_base.specs.Bytes.{dollar}
-use Rattle.isle_base_errors.specs.declared.pos.Pos.{Pos}
+use Rattle.isle_base_source.specs.declared.pos.Pos.{Pos}
 use Rattle.isle_base.specs.Token.{Tok, lparen, rparen, symbol}
 use Rattle.isle_base.specs.Place.{Placed}
 use Rattle.isle_ast_names.specs.Identifier.{is_identifier}

@@ -2,7 +2,7 @@
 use Rattle.std.proofs.Common.{[], ◌≡◌, List, ◌∷◌, Bool, false, ◌||◌, refl}
 use Rattle.std.specs.List.{list_any}
 use Rattle.isle_base.specs.Place.{Placed}
-use Rattle.isle_ast_rules.specs.Tree.{PatternNode, var_pattern, bind_pattern, bool_pattern, int_pattern, constant_pattern, term_pattern, wildcard_pattern, and_pattern, macro_arg_pattern, PatternRow, no_pattern, more_pattern, Condition, RuleDefinition, ExtractorDefinition}
+use Rattle.isle_ast_rules.specs.Tree.{PatternNode, var_pattern, bind_pattern, bool_pattern, int_pattern, constant_pattern, term_pattern, wildcard_pattern, and_pattern, macro_arg_pattern, PatternList, no_pattern, more_pattern, Condition, RuleDefinition, ExtractorDefinition}
 use Rattle.isle_ast_rules.specs.MacroArgs.{has_macro_arg, have_macro_arg, condition_has_macro_arg, rule_has_macro_arg, extractor_has_macro_arg}
 use Rattle.isle_ast_rules.specs.PatternGrammar.{SpellsPattern}
 use Rattle.isle_ast_rules.specs.RuleGrammar.{SpellsCondition, SpellsRule, SpellsExtractor}
@@ -31,7 +31,7 @@ mutual
   writable_pattern_has_no_macro_arg (and_pattern subpats _) h = writable_patterns_have_no_macro_arg subpats h
   writable_pattern_has_no_macro_arg (macro_arg_pattern _ _) h = absurd h
 
-  pub writable_patterns_have_no_macro_arg : (ps : PatternRow) → AreWritablePatterns ps → have_macro_arg ps ≡ false
+  pub writable_patterns_have_no_macro_arg : (ps : PatternList) → AreWritablePatterns ps → have_macro_arg ps ≡ false
   writable_patterns_have_no_macro_arg no_pattern h = refl
   writable_patterns_have_no_macro_arg (more_pattern p ps) h =
       neither (has_macro_arg p) (have_macro_arg ps) (writable_pattern_has_no_macro_arg p h.0) (writable_patterns_have_no_macro_arg ps h.1)

@@ -1,7 +1,7 @@
 -- Patterns, expressions and rules erased: each position is the default one, which stands for an unknown place.
 use Rattle.std.specs.Prelude.{map}
 use Rattle.isle_base.specs.Place.{unknown}
-use Rattle.isle_ast_rules.specs.Tree.{PatternNode, var_pattern, bind_pattern, bool_pattern, int_pattern, constant_pattern, term_pattern, wildcard_pattern, and_pattern, macro_arg_pattern, PatternRow, no_pattern, more_pattern, Expression, term_expression, var_expression, bool_expression, int_expression, constant_expression, let_expression, ExpressionRow, no_expression, more_expression, LetRow, no_let, more_let, Condition, RuleDefinition, ExtractorDefinition}
+use Rattle.isle_ast_rules.specs.Tree.{PatternNode, var_pattern, bind_pattern, bool_pattern, int_pattern, constant_pattern, term_pattern, wildcard_pattern, and_pattern, macro_arg_pattern, PatternList, no_pattern, more_pattern, Expression, term_expression, var_expression, bool_expression, int_expression, constant_expression, let_expression, ExpressionList, no_expression, more_expression, LetList, no_let, more_let, Condition, RuleDefinition, ExtractorDefinition}
 use Rattle.isle_ast_names.specs.Erased.{erase_name, erase_names, erase_optional}
 
 abbrev mutual
@@ -16,7 +16,7 @@ abbrev mutual
   erase_pattern (and_pattern subpats _) = and_pattern (erase_patterns subpats) unknown
   erase_pattern (macro_arg_pattern index _) = macro_arg_pattern index unknown
 
-  pub erase_patterns : PatternRow → PatternRow
+  pub erase_patterns : PatternList → PatternList
   erase_patterns no_pattern = no_pattern
   erase_patterns (more_pattern p ps) = more_pattern (erase_pattern p) (erase_patterns ps)
 
@@ -29,11 +29,11 @@ abbrev mutual
   erase_expression (constant_expression val _) = constant_expression (erase_name val) unknown
   erase_expression (let_expression defs body _) = let_expression (erase_lets defs) (erase_expression body) unknown
 
-  pub erase_expressions : ExpressionRow → ExpressionRow
+  pub erase_expressions : ExpressionList → ExpressionList
   erase_expressions no_expression = no_expression
   erase_expressions (more_expression x xs) = more_expression (erase_expression x) (erase_expressions xs)
 
-  pub erase_lets : LetRow → LetRow
+  pub erase_lets : LetList → LetList
   erase_lets no_let = no_let
   erase_lets (more_let var ty val _ lets) =
       more_let (erase_name var) (erase_name ty) (erase_expression val) unknown (erase_lets lets)

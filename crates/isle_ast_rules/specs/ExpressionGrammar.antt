@@ -6,7 +6,7 @@ use Rattle.isle_base.specs.Token.{symbol}
 use Rattle.isle_ast_names.specs.Identifier.{is_identifier}
 use Rattle.isle_ast_names.specs.Numbers.{SpellsInteger}
 use Rattle.isle_ast_names.specs.Tree.{Name}
-use Rattle.isle_ast_rules.specs.Tree.{Expression, term_expression, var_expression, bool_expression, int_expression, constant_expression, let_expression, ExpressionRow, no_expression, more_expression, LetRow, no_let, more_let}
+use Rattle.isle_ast_rules.specs.Tree.{Expression, term_expression, var_expression, bool_expression, int_expression, constant_expression, let_expression, ExpressionList, no_expression, more_expression, LetList, no_let, more_let}
 use Rattle.isle_ast_names.specs.Words.{SpellsWord, BeginsAt, InParentheses, BehindWord, SpellsName, is_constant, bool_word, is_bool_word, SpellsConstant}
 
 -- a variable of an expression: an identifier that isn't `true` or `false` and doesn't begin with `$`
@@ -37,13 +37,13 @@ abbrev mutual
       all
       rest
 
-  pub SpellsExpressions : ExpressionRow → List Placed → List Placed → Type 0
+  pub SpellsExpressions : ExpressionList → List Placed → List Placed → Type 0
   SpellsExpressions no_expression all rest = all ≡ rest
   SpellsExpressions (more_expression x xs) all rest =
       (mid : List Placed) × SpellsExpression x all mid × SpellsExpressions xs mid rest
 
   -- `(I I X)` for each, at its `(`: the variable, its type, its value
-  pub SpellsLets : LetRow → List Placed → List Placed → Type 0
+  pub SpellsLets : LetList → List Placed → List Placed → Type 0
   SpellsLets no_let all rest = all ≡ rest
   SpellsLets (more_let var ty val pos lets) all rest =
       (mid : List Placed)

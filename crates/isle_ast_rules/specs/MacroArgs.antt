@@ -1,7 +1,7 @@
 -- Which parts of rules are or hold the argument of a macro, which no text spells and nothing prints.
 use Rattle.std.specs.Prelude.{Bool, true, false, ◌||◌}
 use Rattle.std.specs.List.{list_any}
-use Rattle.isle_ast_rules.specs.Tree.{PatternNode, var_pattern, bind_pattern, bool_pattern, int_pattern, constant_pattern, term_pattern, wildcard_pattern, and_pattern, macro_arg_pattern, PatternRow, no_pattern, more_pattern, Condition, RuleDefinition, ExtractorDefinition}
+use Rattle.isle_ast_rules.specs.Tree.{PatternNode, var_pattern, bind_pattern, bool_pattern, int_pattern, constant_pattern, term_pattern, wildcard_pattern, and_pattern, macro_arg_pattern, PatternList, no_pattern, more_pattern, Condition, RuleDefinition, ExtractorDefinition}
 
 abbrev mutual
   pub has_macro_arg : PatternNode → Bool
@@ -15,7 +15,7 @@ abbrev mutual
   has_macro_arg (and_pattern subpats _) = have_macro_arg subpats
   has_macro_arg (macro_arg_pattern _ _) = true
 
-  pub have_macro_arg : PatternRow → Bool
+  pub have_macro_arg : PatternList → Bool
   have_macro_arg no_pattern = false
   have_macro_arg (more_pattern p ps) = has_macro_arg p || have_macro_arg ps
 

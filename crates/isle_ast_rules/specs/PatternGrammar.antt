@@ -6,7 +6,7 @@ use Rattle.isle_base.specs.Token.{symbol, at_sign}
 use Rattle.isle_ast_names.specs.Identifier.{is_identifier}
 use Rattle.isle_ast_names.specs.Numbers.{SpellsInteger}
 use Rattle.isle_ast_names.specs.Tree.{Name}
-use Rattle.isle_ast_rules.specs.Tree.{PatternNode, var_pattern, bind_pattern, bool_pattern, int_pattern, constant_pattern, term_pattern, wildcard_pattern, and_pattern, macro_arg_pattern, PatternRow, no_pattern, more_pattern}
+use Rattle.isle_ast_rules.specs.Tree.{PatternNode, var_pattern, bind_pattern, bool_pattern, int_pattern, constant_pattern, term_pattern, wildcard_pattern, and_pattern, macro_arg_pattern, PatternList, no_pattern, more_pattern}
 use Rattle.isle_ast_names.specs.Words.{SpellsToken, SpellsWord, BeginsAt, InParentheses, BehindWord, SpellsName, SpellsConstant, is_constant, is_bool_word, bool_word}
 
 -- a variable of a pattern: an identifier that isn't `_`, `true` or `false` and doesn't begin with `$`
@@ -38,7 +38,7 @@ abbrev mutual
       BeginsAt pos all × InParentheses (BehindWord (codes "and") (SpellsPatterns subpats)) all rest
   SpellsPattern (macro_arg_pattern index pos) all rest = ⊥
 
-  pub SpellsPatterns : PatternRow → List Placed → List Placed → Type 0
+  pub SpellsPatterns : PatternList → List Placed → List Placed → Type 0
   SpellsPatterns no_pattern all rest = all ≡ rest
   SpellsPatterns (more_pattern p ps) all rest =
       (mid : List Placed) × SpellsPattern p all mid × SpellsPatterns ps mid rest

@@ -1,6 +1,6 @@
 -- What is said of a node by itself: where it stands, and the symbol of its term.
 use Rattle.std.specs.Prelude.{Option, None, Some}
-use Rattle.isle_base_errors.specs.declared.pos.Pos.{Pos}
+use Rattle.isle_base_source.specs.declared.pos.Pos.{Pos}
 use Rattle.isle_ast_names.specs.Tree.{Name}
 use Rattle.isle_ast_rules.specs.Tree.{PatternNode, var_pattern, bind_pattern, bool_pattern, int_pattern, constant_pattern, term_pattern, wildcard_pattern, and_pattern, macro_arg_pattern, Expression, term_expression, var_expression, bool_expression, int_expression, constant_expression, let_expression}
 

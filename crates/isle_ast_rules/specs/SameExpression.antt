@@ -7,7 +7,7 @@ use Rattle.std.specs.Ordering.{on, int_eq}
 use Rattle.std.proofs.Common.{refl, sym, subst}
 use Rattle.std.proofs.lemmas.Bool.{true≢false, and_parts, and_from}
 use Rattle.isle_ast_names.specs.SameParts.{same_pos, same_name, pos_same, pos_self, name_same, name_self}
-use Rattle.isle_ast_rules.specs.Tree.{Expression, term_expression, var_expression, bool_expression, int_expression, constant_expression, let_expression, ExpressionRow, no_expression, more_expression, LetRow, no_let, more_let}
+use Rattle.isle_ast_rules.specs.Tree.{Expression, term_expression, var_expression, bool_expression, int_expression, constant_expression, let_expression, ExpressionList, no_expression, more_expression, LetList, no_let, more_let}
 use Rattle.isle_ast_rules.specs.TreeView.{SingleLet, expression_of, single_let_of}
 
 abbrev mutual
@@ -22,12 +22,12 @@ abbrev mutual
       same_lets ds es && (same_expression x y && same_pos p q)
   same_expression _ _ = false
 
-  pub same_expressions : ExpressionRow → ExpressionRow → Bool
+  pub same_expressions : ExpressionList → ExpressionList → Bool
   same_expressions no_expression no_expression = true
   same_expressions (more_expression x xs) (more_expression y ys) = same_expression x y && same_expressions xs ys
   same_expressions _ _ = false
 
-  pub same_lets : LetRow → LetRow → Bool
+  pub same_lets : LetList → LetList → Bool
   same_lets no_let no_let = true
   same_lets (more_let m t x p ds) (more_let n u y q es) =
       (same_name m n && (same_name t u && (same_expression x y && same_pos p q))) && same_lets ds es
@@ -74,14 +74,14 @@ mutual
       λ i. let_expression (lets_same ds es all.0 i) (expression_same x y others.0 i) (pos_same p q others.1 i)
   expression_same _ _ h = absurd (true≢false (sym h))
 
-  pub expressions_same : (xs ys : ExpressionRow) → same_expressions xs ys ≡ true → xs ≡ ys
+  pub expressions_same : (xs ys : ExpressionList) → same_expressions xs ys ≡ true → xs ≡ ys
   expressions_same no_expression no_expression h = refl
   expressions_same (more_expression x xs) (more_expression y ys) h =
       let all = and_parts (same_expression x y) (same_expressions xs ys) h in
       λ i. more_expression (expression_same x y all.0 i) (expressions_same xs ys all.1 i)
   expressions_same _ _ h = absurd (true≢false (sym h))
 
-  pub lets_same : (ds es : LetRow) → same_lets ds es ≡ true → ds ≡ es
+  pub lets_same : (ds es : LetList) → same_lets ds es ≡ true → ds ≡ es
   lets_same no_let no_let h = refl
   lets_same (more_let m t x p ds) (more_let n u y q es) h =
       let all = and_parts (same_name m n && (same_name t u && (same_expression x y && same_pos p q))) (same_lets ds es) h in
@@ -102,12 +102,12 @@ mutual
       and_from (same_lets ds ds) (same_expression x x && same_pos p p) (lets_self ds)
       (and_from (same_expression x x) (same_pos p p) (expression_self x) (pos_self p))
 
-  pub expressions_self : (xs : ExpressionRow) → same_expressions xs xs ≡ true
+  pub expressions_self : (xs : ExpressionList) → same_expressions xs xs ≡ true
   expressions_self no_expression = refl
   expressions_self (more_expression x xs) =
       and_from (same_expression x x) (same_expressions xs xs) (expression_self x) (expressions_self xs)
 
-  pub lets_self : (ds : LetRow) → same_lets ds ds ≡ true
+  pub lets_self : (ds : LetList) → same_lets ds ds ≡ true
   lets_self no_let = refl
   lets_self (more_let m t x p ds) =
       and_from (same_name m m && (same_name t t && (same_expression x x && same_pos p p))) (same_lets ds ds)

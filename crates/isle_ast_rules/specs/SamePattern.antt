@@ -8,7 +8,7 @@ use Rattle.std.proofs.Common.{refl, sym, ap, subst}
 use Rattle.std.proofs.lemmas.Bool.{true≢false, and_parts, and_from}
 use Rattle.std.proofs.lemmas.Bool.Decides.{Decides-eqb}
 use Rattle.isle_ast_names.specs.SameParts.{same_pos, same_name, pos_same, pos_self, name_same, name_self}
-use Rattle.isle_ast_rules.specs.Tree.{PatternNode, var_pattern, bind_pattern, bool_pattern, int_pattern, constant_pattern, term_pattern, wildcard_pattern, and_pattern, macro_arg_pattern, PatternRow, no_pattern, more_pattern}
+use Rattle.isle_ast_rules.specs.Tree.{PatternNode, var_pattern, bind_pattern, bool_pattern, int_pattern, constant_pattern, term_pattern, wildcard_pattern, and_pattern, macro_arg_pattern, PatternList, no_pattern, more_pattern}
 use Rattle.isle_ast_rules.specs.TreeView.{pattern_of}
 
 abbrev mutual
@@ -24,7 +24,7 @@ abbrev mutual
   same_pattern (macro_arg_pattern a p) (macro_arg_pattern b q) = nat_eq a b && same_pos p q
   same_pattern _ _ = false
 
-  pub same_patterns : PatternRow → PatternRow → Bool
+  pub same_patterns : PatternList → PatternList → Bool
   same_patterns no_pattern no_pattern = true
   same_patterns (more_pattern s ss) (more_pattern t ts) = same_pattern s t && same_patterns ss ts
   same_patterns _ _ = false
@@ -62,7 +62,7 @@ mutual
       λ i. macro_arg_pattern ((Decides-eqb a b).0 all.0 i) (pos_same p q all.1 i)
   pattern_same _ _ h = absurd (true≢false (sym h))
 
-  pub patterns_same : (ss ts : PatternRow) → same_patterns ss ts ≡ true → ss ≡ ts
+  pub patterns_same : (ss ts : PatternList) → same_patterns ss ts ≡ true → ss ≡ ts
   patterns_same no_pattern no_pattern h = refl
   patterns_same (more_pattern s ss) (more_pattern t ts) h =
       let all = and_parts (same_pattern s t) (same_patterns ss ts) h in
@@ -85,7 +85,7 @@ mutual
   pattern_self (and_pattern ss p) = and_from (same_patterns ss ss) (same_pos p p) (patterns_self ss) (pos_self p)
   pattern_self (macro_arg_pattern a p) = and_from (nat_eq a a) (same_pos p p) ((Decides-eqb a a).1 refl) (pos_self p)
 
-  pub patterns_self : (ss : PatternRow) → same_patterns ss ss ≡ true
+  pub patterns_self : (ss : PatternList) → same_patterns ss ss ≡ true
   patterns_self no_pattern = refl
   patterns_self (more_pattern s ss) =
       and_from (same_pattern s s) (same_patterns ss ss) (pattern_self s) (patterns_self ss)

@@ -3,9 +3,9 @@
 use Rattle.std.specs.Prelude.{ℕ, ◌+◌, List, [], ◌∷◌, ◌++◌, Bool, true, false, Option, None, Some, option_map, length, slice_get, nat_le, if◌then◌else◌}
 use Rattle.std.specs.List.{list_any}
 use Rattle.std.specs.Str.{bytes_eq}
-use Rattle.isle_base_errors.specs.declared.pos.Pos.{Pos}
+use Rattle.isle_base_source.specs.declared.pos.Pos.{Pos}
 use Rattle.isle_ast_names.specs.Tree.{Name}
-use Rattle.isle_ast_rules.specs.Tree.{PatternNode, var_pattern, bind_pattern, bool_pattern, int_pattern, constant_pattern, term_pattern, wildcard_pattern, and_pattern, macro_arg_pattern, PatternRow, no_pattern, more_pattern}
+use Rattle.isle_ast_rules.specs.Tree.{PatternNode, var_pattern, bind_pattern, bool_pattern, int_pattern, constant_pattern, term_pattern, wildcard_pattern, and_pattern, macro_arg_pattern, PatternList, no_pattern, more_pattern}
 
 -- the index of the first name with this text, where the first of the names has the index `i`
 abbrev pub first_from : ℕ → List ℕ → List Name → Option ℕ
@@ -48,18 +48,18 @@ abbrev mutual
   replace (bool_pattern val place) names new = bool_pattern val place
   replace (int_pattern val place) names new = int_pattern val place
   replace (constant_pattern val place) names new = constant_pattern val place
-  replace (term_pattern sym args place) names new = term_pattern sym (replace_row args names new) place
+  replace (term_pattern sym args place) names new = term_pattern sym (replace_list args names new) place
   replace (wildcard_pattern place) names new = wildcard_pattern place
-  replace (and_pattern subpats place) names new = and_pattern (replace_row subpats names new) place
+  replace (and_pattern subpats place) names new = and_pattern (replace_list subpats names new) place
   replace (macro_arg_pattern index place) names new = macro_arg_pattern index place
 
-  pub replace_row : PatternRow → List Name → (ℕ → Pos → PatternNode) → PatternRow
-  replace_row no_pattern names new = no_pattern
-  replace_row (more_pattern p ps) names new = more_pattern (replace p names new) (replace_row ps names new)
+  pub replace_list : PatternList → List Name → (ℕ → Pos → PatternNode) → PatternList
+  replace_list no_pattern names new = no_pattern
+  replace_list (more_pattern p ps) names new = more_pattern (replace p names new) (replace_list ps names new)
 
--- a pattern before a row of patterns, where both are given
-abbrev pub join : Option PatternNode → Option PatternRow → Option PatternRow
-join None row = None
+-- a pattern before a list of patterns, where both are given
+abbrev pub join : Option PatternNode → Option PatternList → Option PatternList
+join None list = None
 join (Some p) None = None
 join (Some p) (Some ps) = Some (more_pattern p ps)
 
@@ -74,14 +74,14 @@ abbrev mutual
   replace_by (int_pattern val place) names new = Some (int_pattern val place)
   replace_by (constant_pattern val place) names new = Some (constant_pattern val place)
   replace_by (term_pattern sym args place) names new =
-      option_map (λ ps. term_pattern sym ps place) (replace_row_by args names new)
+      option_map (λ ps. term_pattern sym ps place) (replace_list_by args names new)
   replace_by (wildcard_pattern place) names new = Some (wildcard_pattern place)
-  replace_by (and_pattern subpats place) names new = option_map (λ ps. and_pattern ps place) (replace_row_by subpats names new)
+  replace_by (and_pattern subpats place) names new = option_map (λ ps. and_pattern ps place) (replace_list_by subpats names new)
   replace_by (macro_arg_pattern index place) names new = Some (macro_arg_pattern index place)
 
-  pub replace_row_by : PatternRow → List Name → (ℕ → Pos → Option PatternNode) → Option PatternRow
-  replace_row_by no_pattern names new = Some no_pattern
-  replace_row_by (more_pattern p ps) names new = join (replace_by p names new) (replace_row_by ps names new)
+  pub replace_list_by : PatternList → List Name → (ℕ → Pos → Option PatternNode) → Option PatternList
+  replace_list_by no_pattern names new = Some no_pattern
+  replace_list_by (more_pattern p ps) names new = join (replace_by p names new) (replace_list_by ps names new)
 
 -- each argument of a macro becomes the pattern at its index, all at once; none if there is no pattern
 -- at one of the indices. What was put in isn't looked at again
@@ -92,14 +92,14 @@ abbrev mutual
   plug (bool_pattern val place) args = Some (bool_pattern val place)
   plug (int_pattern val place) args = Some (int_pattern val place)
   plug (constant_pattern val place) args = Some (constant_pattern val place)
-  plug (term_pattern sym parts place) args = option_map (λ ps. term_pattern sym ps place) (plug_row parts args)
+  plug (term_pattern sym parts place) args = option_map (λ ps. term_pattern sym ps place) (plug_list parts args)
   plug (wildcard_pattern place) args = Some (wildcard_pattern place)
-  plug (and_pattern subpats place) args = option_map (λ ps. and_pattern ps place) (plug_row subpats args)
+  plug (and_pattern subpats place) args = option_map (λ ps. and_pattern ps place) (plug_list subpats args)
   plug (macro_arg_pattern index _) args = slice_get args index
 
-  pub plug_row : PatternRow → List PatternNode → Option PatternRow
-  plug_row no_pattern args = Some no_pattern
-  plug_row (more_pattern p ps) args = join (plug p args) (plug_row ps args)
+  pub plug_list : PatternList → List PatternNode → Option PatternList
+  plug_list no_pattern args = Some no_pattern
+  plug_list (more_pattern p ps) args = join (plug p args) (plug_list ps args)
 
 -- the indices of the arguments of a macro in a pattern, from left to right
 abbrev mutual
@@ -109,14 +109,14 @@ abbrev mutual
   indices (bool_pattern _ _) = []
   indices (int_pattern _ _) = []
   indices (constant_pattern _ _) = []
-  indices (term_pattern _ args _) = row_indices args
+  indices (term_pattern _ args _) = list_indices args
   indices (wildcard_pattern _) = []
-  indices (and_pattern subpats _) = row_indices subpats
+  indices (and_pattern subpats _) = list_indices subpats
   indices (macro_arg_pattern index _) = index ∷ []
 
-  pub row_indices : PatternRow → List ℕ
-  row_indices no_pattern = []
-  row_indices (more_pattern p ps) = indices p ++ row_indices ps
+  pub list_indices : PatternList → List ℕ
+  list_indices no_pattern = []
+  list_indices (more_pattern p ps) = indices p ++ list_indices ps
 
 -- whether one of the indices has no pattern
 abbrev pub lacks : List PatternNode → List ℕ → Bool

@@ -2,11 +2,11 @@
 use Rattle.std.specs.Prelude.{◌≡◌, List, [], ◌∷◌, ◌++◌}
 use Rattle.std.specs.Borrow.{Bor}
 use Rattle.std.specs.Fn.{Called, Mut}
-use Rattle.isle_base_errors.specs.declared.pos.Pos.{Pos}
-use Rattle.isle_ast_names.specs.declared.ast.Ident.{Ident}
+use Rattle.isle_base_source.specs.declared.pos.Pos.{Pos}
+use Rattle.isle_ast_names.specs.declared.Ident.{Ident}
 use Rattle.isle_ast_names.specs.TreeView.{name_of}
 use Rattle.isle_ast_names.specs.Tree.{Name}
-use Rattle.isle_ast_rules.specs.Tree.{PatternNode, var_pattern, bind_pattern, bool_pattern, int_pattern, constant_pattern, term_pattern, wildcard_pattern, and_pattern, macro_arg_pattern, PatternRow, no_pattern, more_pattern, Expression, term_expression, var_expression, bool_expression, int_expression, constant_expression, let_expression, ExpressionRow, no_expression, more_expression, LetRow, no_let, more_let}
+use Rattle.isle_ast_rules.specs.Tree.{PatternNode, var_pattern, bind_pattern, bool_pattern, int_pattern, constant_pattern, term_pattern, wildcard_pattern, and_pattern, macro_arg_pattern, PatternList, no_pattern, more_pattern, Expression, term_expression, var_expression, bool_expression, int_expression, constant_expression, let_expression, ExpressionList, no_expression, more_expression, LetList, no_let, more_let}
 
 -- the positions and the symbols of the terms: a term stands before those of its arguments
 abbrev mutual
@@ -16,32 +16,32 @@ abbrev mutual
   heads (bool_pattern _ _) = []
   heads (int_pattern _ _) = []
   heads (constant_pattern _ _) = []
-  heads (term_pattern sym args place) = (place, sym) ∷ row_heads args
+  heads (term_pattern sym args place) = (place, sym) ∷ list_heads args
   heads (wildcard_pattern _) = []
-  heads (and_pattern subpats _) = row_heads subpats
+  heads (and_pattern subpats _) = list_heads subpats
   heads (macro_arg_pattern _ _) = []
 
-  pub row_heads : PatternRow → List (Pos × Name)
-  row_heads no_pattern = []
-  row_heads (more_pattern p ps) = heads p ++ row_heads ps
+  pub list_heads : PatternList → List (Pos × Name)
+  list_heads no_pattern = []
+  list_heads (more_pattern p ps) = heads p ++ list_heads ps
 
 -- the same in an expression: in a `let` those of the values stand before those of the body
 abbrev mutual
   pub expression_heads : Expression → List (Pos × Name)
-  expression_heads (term_expression sym args place) = (place, sym) ∷ expression_row_heads args
+  expression_heads (term_expression sym args place) = (place, sym) ∷ expression_list_heads args
   expression_heads (var_expression _ _) = []
   expression_heads (bool_expression _ _) = []
   expression_heads (int_expression _ _) = []
   expression_heads (constant_expression _ _) = []
-  expression_heads (let_expression defs body _) = let_row_heads defs ++ expression_heads body
+  expression_heads (let_expression defs body _) = let_list_heads defs ++ expression_heads body
 
-  pub expression_row_heads : ExpressionRow → List (Pos × Name)
-  expression_row_heads no_expression = []
-  expression_row_heads (more_expression x xs) = expression_heads x ++ expression_row_heads xs
+  pub expression_list_heads : ExpressionList → List (Pos × Name)
+  expression_list_heads no_expression = []
+  expression_list_heads (more_expression x xs) = expression_heads x ++ expression_list_heads xs
 
-  pub let_row_heads : LetRow → List (Pos × Name)
-  let_row_heads no_let = []
-  let_row_heads (more_let _ _ val _ ds) = expression_heads val ++ let_row_heads ds
+  pub let_list_heads : LetList → List (Pos × Name)
+  let_list_heads no_let = []
+  let_list_heads (more_let _ _ val _ ds) = expression_heads val ++ let_list_heads ds
 
 -- a call of f at a position and at a `&` to an identifier of that name
 pub record CalledAtHead {F : Type 0} (g : Mut F (Pos × (Bor Ident × Unit {0})) (Unit {0})) (f : F) (head : Pos × Name) (f' : F) : Type 0 where

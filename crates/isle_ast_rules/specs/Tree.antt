@@ -1,6 +1,6 @@
 -- Patterns, expressions and rules as pure values. The fields are those of the types of the code.
 use Rattle.std.specs.Prelude.{ℕ, ℤ, List, Bool, Option}
-use Rattle.isle_base_errors.specs.declared.pos.Pos.{Pos}
+use Rattle.isle_base_source.specs.declared.pos.Pos.{Pos}
 use Rattle.isle_ast_names.specs.Tree.{Name}
 
 -- what a rule, a condition or an extractor matches
@@ -11,35 +11,35 @@ mutual
     bool_pattern : (val : Bool) → Pos → PatternNode
     int_pattern : (val : ℤ) → Pos → PatternNode
     constant_pattern : (val : Name) → Pos → PatternNode
-    term_pattern : (sym : Name) → (args : PatternRow) → Pos → PatternNode
+    term_pattern : (sym : Name) → (args : PatternList) → Pos → PatternNode
     wildcard_pattern : Pos → PatternNode
-    and_pattern : (subpats : PatternRow) → Pos → PatternNode
+    and_pattern : (subpats : PatternList) → Pos → PatternNode
     macro_arg_pattern : (index : ℕ) → Pos → PatternNode
 
   -- patterns in order
-  pub data PatternRow : Type 0 where
-    no_pattern : PatternRow
-    more_pattern : PatternNode → PatternRow → PatternRow
+  pub data PatternList : Type 0 where
+    no_pattern : PatternList
+    more_pattern : PatternNode → PatternList → PatternList
 
 -- what a rule or a condition computes
 mutual
   pub data Expression : Type 0 where
-    term_expression : (sym : Name) → (args : ExpressionRow) → Pos → Expression
+    term_expression : (sym : Name) → (args : ExpressionList) → Pos → Expression
     var_expression : (name : Name) → Pos → Expression
     bool_expression : (val : Bool) → Pos → Expression
     int_expression : (val : ℤ) → Pos → Expression
     constant_expression : (val : Name) → Pos → Expression
-    let_expression : (defs : LetRow) → (body : Expression) → Pos → Expression
+    let_expression : (defs : LetList) → (body : Expression) → Pos → Expression
 
   -- expressions in order
-  pub data ExpressionRow : Type 0 where
-    no_expression : ExpressionRow
-    more_expression : Expression → ExpressionRow → ExpressionRow
+  pub data ExpressionList : Type 0 where
+    no_expression : ExpressionList
+    more_expression : Expression → ExpressionList → ExpressionList
 
   -- the definitions of a `let`, each a variable, its type, its value and a position
-  pub data LetRow : Type 0 where
-    no_let : LetRow
-    more_let : (var ty : Name) → (val : Expression) → Pos → LetRow → LetRow
+  pub data LetList : Type 0 where
+    no_let : LetList
+    more_let : (var ty : Name) → (val : Expression) → Pos → LetList → LetList
 
 -- a condition: what the expression gives matches the pattern
 pub record Condition : Type 0 where

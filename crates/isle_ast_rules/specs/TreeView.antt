@@ -1,23 +1,23 @@
 -- The patterns, expressions and rules of the code, as pure values.
 use Rattle.std.specs.Prelude.{[], List, ◌∷◌, map}
-use Rattle.isle_base_errors.specs.declared.pos.Pos.{Pos}
+use Rattle.isle_base_source.specs.declared.pos.Pos.{Pos}
 use Rattle.isle_ast_names.specs.Tree.{Name}
-use Rattle.isle_ast_rules.specs.Tree.{PatternNode, var_pattern, bind_pattern, bool_pattern, int_pattern, constant_pattern, term_pattern, wildcard_pattern, and_pattern, macro_arg_pattern, PatternRow, no_pattern, more_pattern, Expression, term_expression, var_expression, bool_expression, int_expression, constant_expression, let_expression, ExpressionRow, no_expression, more_expression, LetRow, no_let, more_let, Condition, RuleDefinition, ExtractorDefinition}
+use Rattle.isle_ast_rules.specs.Tree.{PatternNode, var_pattern, bind_pattern, bool_pattern, int_pattern, constant_pattern, term_pattern, wildcard_pattern, and_pattern, macro_arg_pattern, PatternList, no_pattern, more_pattern, Expression, term_expression, var_expression, bool_expression, int_expression, constant_expression, let_expression, ExpressionList, no_expression, more_expression, LetList, no_let, more_let, Condition, RuleDefinition, ExtractorDefinition}
 use Rattle.isle_ast_names.specs.TreeView.{name_of, names_of, optional_name_of}
-use Rattle.isle_ast_rules.specs.declared.ast.Rule.{Rule}
-use Rattle.isle_ast_rules.specs.declared.ast.IfLet.{IfLet}
-use Rattle.isle_ast_rules.specs.declared.ast.Extractor.{Extractor}
-use Rattle.isle_ast_rules.specs.declared.ast.Pattern.{Pattern}
-use Rattle.isle_ast_rules.specs.declared.ast.Pattern.TheOpen.{Pattern-F}
-use Rattle.isle_ast_rules.specs.declared.ast.Pattern.TheFolds.{fold-Pattern}
-use Rattle.isle_ast_rules.specs.declared.ast.Expr.{Expr}
-use Rattle.isle_ast_rules.specs.declared.ast.Expr.TheOpen.{Expr-F, LetDef-F}
-use Rattle.isle_ast_rules.specs.declared.ast.Expr.TheFolds.{fold-Expr, fold-LetDef}
-use Rattle.isle_ast_rules.specs.declared.ast.LetDef.{LetDef}
+use Rattle.isle_ast_rules.specs.declared.Rule.{Rule}
+use Rattle.isle_ast_rules.specs.declared.IfLet.{IfLet}
+use Rattle.isle_ast_rules.specs.declared.Extractor.{Extractor}
+use Rattle.isle_ast_rules.specs.declared.Pattern.{Pattern}
+use Rattle.isle_ast_rules.specs.declared.Pattern.TheOpen.{Pattern-F}
+use Rattle.isle_ast_rules.specs.declared.Pattern.TheFolds.{fold-Pattern}
+use Rattle.isle_ast_rules.specs.declared.Expr.{Expr}
+use Rattle.isle_ast_rules.specs.declared.Expr.TheOpen.{Expr-F, LetDef-F}
+use Rattle.isle_ast_rules.specs.declared.Expr.TheFolds.{fold-Expr, fold-LetDef}
+use Rattle.isle_ast_rules.specs.declared.LetDef.{LetDef}
 
-abbrev pub pattern_row_of : List PatternNode → PatternRow
-pattern_row_of [] = no_pattern
-pattern_row_of (p ∷ ps) = more_pattern p (pattern_row_of ps)
+abbrev pub pattern_list_of : List PatternNode → PatternList
+pattern_list_of [] = no_pattern
+pattern_list_of (p ∷ ps) = more_pattern p (pattern_list_of ps)
 
 -- one node, with the pure value of each part in its place
 abbrev pub pattern_step : Pattern-F PatternNode → PatternNode
@@ -26,9 +26,9 @@ pattern_step (Pattern-F.BindPattern var subpat place) = bind_pattern (name_of va
 pattern_step (Pattern-F.ConstBool val place) = bool_pattern val place
 pattern_step (Pattern-F.ConstInt val place) = int_pattern val place
 pattern_step (Pattern-F.ConstPrim val place) = constant_pattern (name_of val) place
-pattern_step (Pattern-F.Term sym args place) = term_pattern (name_of sym) (pattern_row_of args.items) place
+pattern_step (Pattern-F.Term sym args place) = term_pattern (name_of sym) (pattern_list_of args.items) place
 pattern_step (Pattern-F.Wildcard place) = wildcard_pattern place
-pattern_step (Pattern-F.And subpats place) = and_pattern (pattern_row_of subpats.items) place
+pattern_step (Pattern-F.And subpats place) = and_pattern (pattern_list_of subpats.items) place
 pattern_step (Pattern-F.MacroArg index place) = macro_arg_pattern index place
 
 abbrev pub pattern_of : Pattern → PatternNode
@@ -44,21 +44,21 @@ pub record SingleLet : Type 0 where
   pub val : Expression
   pub pos : Pos
 
-abbrev pub expression_row_of : List Expression → ExpressionRow
-expression_row_of [] = no_expression
-expression_row_of (x ∷ xs) = more_expression x (expression_row_of xs)
+abbrev pub expression_list_of : List Expression → ExpressionList
+expression_list_of [] = no_expression
+expression_list_of (x ∷ xs) = more_expression x (expression_list_of xs)
 
-abbrev pub let_row_of : List SingleLet → LetRow
-let_row_of [] = no_let
-let_row_of (d ∷ ds) = more_let d.var d.ty d.val d.pos (let_row_of ds)
+abbrev pub let_list_of : List SingleLet → LetList
+let_list_of [] = no_let
+let_list_of (d ∷ ds) = more_let d.var d.ty d.val d.pos (let_list_of ds)
 
 abbrev pub expression_step : Expr-F Expression SingleLet → Expression
-expression_step (Expr-F.Term sym args place) = term_expression (name_of sym) (expression_row_of args.items) place
+expression_step (Expr-F.Term sym args place) = term_expression (name_of sym) (expression_list_of args.items) place
 expression_step (Expr-F.Var name place) = var_expression (name_of name) place
 expression_step (Expr-F.ConstBool val place) = bool_expression val place
 expression_step (Expr-F.ConstInt val place) = int_expression val place
 expression_step (Expr-F.ConstPrim val place) = constant_expression (name_of val) place
-expression_step (Expr-F.Let defs body place) = let_expression (let_row_of defs.items) body.value place
+expression_step (Expr-F.Let defs body place) = let_expression (let_list_of defs.items) body.value place
 
 abbrev pub let_step : LetDef-F Expression SingleLet → SingleLet
 let_step d = record { var = name_of d.var; ty = name_of d.ty; val = d.val.value; pos = d.pos }

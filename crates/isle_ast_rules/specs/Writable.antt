@@ -6,7 +6,7 @@ use Rattle.isle_ast_names.specs.Identifier.{is_identifier}
 use Rattle.isle_ast_names.specs.Numbers.{IsSigned}
 use Rattle.isle_ast_names.specs.Tree.{Name}
 use Rattle.isle_ast_rules.specs.RuleGrammar.{is_if_expression, pattern_is_no_head}
-use Rattle.isle_ast_rules.specs.Tree.{PatternNode, var_pattern, bind_pattern, bool_pattern, int_pattern, constant_pattern, term_pattern, wildcard_pattern, and_pattern, macro_arg_pattern, PatternRow, no_pattern, more_pattern, Expression, term_expression, var_expression, bool_expression, int_expression, constant_expression, let_expression, ExpressionRow, no_expression, more_expression, LetRow, no_let, more_let, Condition, RuleDefinition, ExtractorDefinition}
+use Rattle.isle_ast_rules.specs.Tree.{PatternNode, var_pattern, bind_pattern, bool_pattern, int_pattern, constant_pattern, term_pattern, wildcard_pattern, and_pattern, macro_arg_pattern, PatternList, no_pattern, more_pattern, Expression, term_expression, var_expression, bool_expression, int_expression, constant_expression, let_expression, ExpressionList, no_expression, more_expression, LetList, no_let, more_let, Condition, RuleDefinition, ExtractorDefinition}
 use Rattle.isle_ast_names.specs.Writable.{IsName, Each, IsNot}
 
 -- a name that doesn't begin with `$`
@@ -38,7 +38,7 @@ abbrev mutual
   IsWritablePattern (and_pattern subpats _) = AreWritablePatterns subpats
   IsWritablePattern (macro_arg_pattern _ _) = ⊥
 
-  pub AreWritablePatterns : PatternRow → Type 0
+  pub AreWritablePatterns : PatternList → Type 0
   AreWritablePatterns no_pattern = Unit {0}
   AreWritablePatterns (more_pattern p ps) = IsWritablePattern p × AreWritablePatterns ps
 
@@ -59,11 +59,11 @@ abbrev mutual
   IsWritableExpression (constant_expression val _) = IsConstantName val
   IsWritableExpression (let_expression defs body _) = AreWritableLets defs × IsWritableExpression body
 
-  pub AreWritableExpressions : ExpressionRow → Type 0
+  pub AreWritableExpressions : ExpressionList → Type 0
   AreWritableExpressions no_expression = Unit {0}
   AreWritableExpressions (more_expression x xs) = IsWritableExpression x × AreWritableExpressions xs
 
-  pub AreWritableLets : LetRow → Type 0
+  pub AreWritableLets : LetList → Type 0
   AreWritableLets no_let = Unit {0}
   AreWritableLets (more_let var ty val _ lets) = IsName var × IsName ty × IsWritableExpression val × AreWritableLets lets
 

@@ -4,7 +4,7 @@ use Rattle.std.specs.List.{list_all}
 use Rattle.isle_ast_names.specs.WritableDeciders.{is_signed, is_name, are_names, is_optional_name, is_word, is_bool_name, begins_with_dollar, is_constant_name}
 use Rattle.isle_ast_names.specs.Tree.{Name}
 use Rattle.isle_ast_rules.specs.RuleGrammar.{is_if_expression, pattern_is_no_head}
-use Rattle.isle_ast_rules.specs.Tree.{PatternNode, var_pattern, bind_pattern, bool_pattern, int_pattern, constant_pattern, term_pattern, wildcard_pattern, and_pattern, macro_arg_pattern, PatternRow, no_pattern, more_pattern, Expression, term_expression, var_expression, bool_expression, int_expression, constant_expression, let_expression, ExpressionRow, no_expression, more_expression, LetRow, no_let, more_let, Condition, RuleDefinition, ExtractorDefinition}
+use Rattle.isle_ast_rules.specs.Tree.{PatternNode, var_pattern, bind_pattern, bool_pattern, int_pattern, constant_pattern, term_pattern, wildcard_pattern, and_pattern, macro_arg_pattern, PatternList, no_pattern, more_pattern, Expression, term_expression, var_expression, bool_expression, int_expression, constant_expression, let_expression, ExpressionList, no_expression, more_expression, LetList, no_let, more_let, Condition, RuleDefinition, ExtractorDefinition}
 use Rattle.isle_ast_rules.specs.TreeView.{SingleLet}
 
 abbrev pub is_optional_signed : ℕ → Option ℤ → Bool
@@ -32,7 +32,7 @@ abbrev mutual
   is_writable_pattern (and_pattern subpats _) = are_writable_patterns subpats
   is_writable_pattern (macro_arg_pattern _ _) = false
 
-  pub are_writable_patterns : PatternRow → Bool
+  pub are_writable_patterns : PatternList → Bool
   are_writable_patterns no_pattern = true
   are_writable_patterns (more_pattern p ps) = is_writable_pattern p && are_writable_patterns ps
 
@@ -46,11 +46,11 @@ abbrev mutual
   is_writable_expression (constant_expression val _) = is_constant_name val
   is_writable_expression (let_expression defs body _) = are_writable_lets defs && is_writable_expression body
 
-  pub are_writable_expressions : ExpressionRow → Bool
+  pub are_writable_expressions : ExpressionList → Bool
   are_writable_expressions no_expression = true
   are_writable_expressions (more_expression x xs) = is_writable_expression x && are_writable_expressions xs
 
-  pub are_writable_lets : LetRow → Bool
+  pub are_writable_lets : LetList → Bool
   are_writable_lets no_let = true
   are_writable_lets (more_let var ty val _ lets) =
       (is_name var && is_name ty && is_writable_expression val) && are_writable_lets lets

@@ -2,4 +2,170 @@
 //! extractors and the templates of macros. `isle_ast` has these types under its own paths.
 #![tactic(auto)]
 
-pub mod ast;
+mod clone;
+mod compare;
+mod macros;
+mod walks;
+pub mod writability;
+
+use isle_ast_names::Ident;
+use isle_base::lexer::Pos;
+
+/// A rule: what the pattern matches is rewritten to the expression, where the conditions hold.
+#[derive(Debug, PartialEq, Eq, Drop)]
+pub struct Rule {
+    /// The left side.
+    pub pattern: Pattern,
+    /// The conditions, in order.
+    pub iflets: Vec<IfLet>,
+    /// The right side.
+    pub expr: Expr,
+    /// The position of the token after the keyword.
+    pub pos: Pos,
+    /// The priority, if the rule gives one.
+    pub prio: Option<i64>,
+    /// The name, if the rule gives one.
+    pub name: Option<Ident>,
+}
+
+/// A condition of a rule, `(if-let ..)`. `(if ..)` is one whose pattern is a wildcard.
+#[derive(Debug, PartialEq, Eq, Drop)]
+pub struct IfLet {
+    /// What the value of the expression has to match.
+    pub pattern: Pattern,
+    /// The expression.
+    pub expr: Expr,
+    /// The position of the token after the keyword.
+    pub pos: Pos,
+}
+
+/// An extractor that stands for a pattern: `(extractor (A x y) (B x _ y))`.
+#[derive(Debug, PartialEq, Eq, Drop)]
+pub struct Extractor {
+    /// The term.
+    pub term: Ident,
+    /// Its parameters.
+    pub args: Vec<Ident>,
+    /// The pattern that it stands for.
+    pub template: Pattern,
+    /// The position of the token after the keyword.
+    pub pos: Pos,
+}
+
+/// A pattern: what a rule, a condition or an extractor matches. Each position is that of the
+/// pattern's first token.
+#[cycle(pattern)]
+#[derive(Debug, Drop)]
+pub enum Pattern {
+    /// A variable: the first one of its name is bound, a later one has to have the same value.
+    Var {
+        var: Ident,
+        pos: Pos,
+    },
+    /// A variable that is bound to what a pattern matches, `x @ ..`.
+    BindPattern {
+        var: Ident,
+        /// The pattern.
+        subpat: Box<Pattern>,
+        pos: Pos,
+    },
+    /// `true` or `false`.
+    ConstBool {
+        val: bool,
+        pos: Pos,
+    },
+    /// An integer.
+    ConstInt {
+        val: i128,
+        pos: Pos,
+    },
+    /// A constant that is defined outside, `$NAME`.
+    ConstPrim {
+        /// The name, without its `$`.
+        val: Ident,
+        pos: Pos,
+    },
+    /// A term or a variant of a type, and patterns for its arguments.
+    Term {
+        /// The term.
+        sym: Ident,
+        /// The patterns.
+        args: Vec<Pattern>,
+        pos: Pos,
+    },
+    /// Anything, `_`.
+    Wildcard {
+        pos: Pos,
+    },
+    /// Patterns that all have to match, `(and ..)`.
+    And {
+        /// The patterns.
+        subpats: Vec<Pattern>,
+        pos: Pos,
+    },
+    /// An argument of a macro, in a template. No text spells it.
+    MacroArg {
+        /// The place of the argument, counted from 0.
+        index: usize,
+        /// The position of what it stands for.
+        pos: Pos,
+    },
+}
+
+/// An expression: what a rule or a condition computes. Each position is that of the expression's
+/// first token.
+#[cycle(expression)]
+#[derive(Debug, Drop)]
+pub enum Expr {
+    /// A term and its arguments.
+    Term {
+        /// The term.
+        sym: Ident,
+        /// The arguments.
+        args: Vec<Expr>,
+        pos: Pos,
+    },
+    /// A variable.
+    Var {
+        name: Ident,
+        pos: Pos,
+    },
+    /// `true` or `false`.
+    ConstBool {
+        val: bool,
+        pos: Pos,
+    },
+    /// An integer.
+    ConstInt {
+        val: i128,
+        pos: Pos,
+    },
+    /// A constant that is defined outside, `$NAME`.
+    ConstPrim {
+        /// The name, without its `$`.
+        val: Ident,
+        pos: Pos,
+    },
+    /// An expression in which variables are defined, `(let ((x T ..) ..) ..)`.
+    Let {
+        /// The definitions, in order.
+        defs: Vec<LetDef>,
+        /// The expression.
+        body: Box<Expr>,
+        pos: Pos,
+    },
+}
+
+/// A variable of a `let`, with its type and its value.
+#[cycle(expression)]
+#[derive(Debug, Drop)]
+pub struct LetDef {
+    /// The name of the variable.
+    pub var: Ident,
+    /// Its type.
+    pub ty: Ident,
+    /// Its value.
+    pub val: Box<Expr>,
+    /// The position of the definition's first token.
+    pub pos: Pos,
+}

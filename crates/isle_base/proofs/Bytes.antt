@@ -1,9 +1,9 @@
--- What the first byte of a piece says about the classes of bytes.
+-- What the first byte of a spelling says about the classes of bytes.
 use Rattle.std.proofs.Common.{◌≡◌, ◌<◌, ◌≤◌, ℕ, List, [], ◌∷◌, Bool, true, false, refl, ap, ◌∙◌, arith, eqb, ⊎_elim, ◌&&◌, not, inl, inr}
 use Rattle.std.proofs.lemmas.Bool.{and_parts, or_cases, cases_Bool, cases_eq, both_ways, eqb-true}
 use Rattle.std.proofs.lemmas.Bool.Decides.{nat_tests}
 use Rattle.isle_base.specs.Literals.{begins_literal, in_literal}
-use Rattle.isle_base.specs.Pieces.{in_symbol, begins_symbol, is_lone_minus, symbol_here}
+use Rattle.isle_base.specs.Spellings.{in_symbol, begins_symbol, is_lone_minus, symbol_here}
 use Rattle.isle_base.specs.Skips.{begins_with, is_blank, opens}
 
 -- a byte of a kind is none that isn't

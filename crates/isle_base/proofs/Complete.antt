@@ -2,10 +2,10 @@
 -- list of tokens and one ending.
 use Rattle.std.proofs.Common.{◌≡◌, ℕ, zero, suc, ◌≤◌, ◌<◌, List, [], ◌∷◌, Bool, true, false, Option, Some, None, MatchOption, ℤ, length, drop, ◌&&◌, not, is_some, refl, sym, ap, subst, ⊎_elim, ◌∙◌, eqb, arith, length-append, length-drop}
 use Rattle.std.proofs.lemmas.Bool.{or_cases, cases_Bool, cond-true, cond-false, cond_both, both_ways}
-use Rattle.isle_base.specs.Computed.{First, ended, refused, found, close, literal_first, piece_first, comment_first, first, computed_by, computed}
+use Rattle.isle_base.specs.Computed.{First, ended, refused, found, close, literal_first, spelling_first, comment_first, first, computed_by, computed}
 use Rattle.isle_base.specs.Lexing.{Faulty, unclosed, form_feed, literal, Lexes}
 use Rattle.isle_base.specs.Literals.{begins_literal, in_literal, behind_minus, prefix_radix, behind_prefix, Literal}
-use Rattle.isle_base.specs.Pieces.{begins_symbol, in_symbol, is_lone_minus, symbol_here, Piece}
+use Rattle.isle_base.specs.Spellings.{begins_symbol, in_symbol, is_lone_minus, symbol_here, Spelling}
 use Rattle.isle_base.specs.Skips.{Skip, nothing, blank, line_comment, block_comment, Inside, Longest, is_blank, in_line, opens, begins_with}
 use Rattle.isle_base.specs.Token.{Tok, lparen, rparen, symbol, integer, at_sign, Lexeme, Ending, end, fault}
 use Rattle.isle_base.proofs.Bytes as bytes
@@ -23,8 +23,8 @@ close_none inner None h never = refl
 close_none inner (Some rest) h never = absurd (never h.0 h.1)
 
 -- a literal, whatever its value
-literal_computed : (b : ℕ) (rest after : List ℕ) (value : Option ℤ) → Literal (b ∷ rest) value after → is_lone_minus (b ∷ rest) ≡ false → piece_first (b ∷ rest) ≡ literal_first (b ∷ rest) after value
-unfolding piece_first
+literal_computed : (b : ℕ) (rest after : List ℕ) (value : Option ℤ) → Literal (b ∷ rest) value after → is_lone_minus (b ∷ rest) ≡ false → spelling_first (b ∷ rest) ≡ literal_first (b ∷ rest) after value
+unfolding spelling_first
 literal_computed b rest after value l whole =
     let begins = l.begins in
     let run = Longest-unique (longest in_literal (behind_prefix (behind_minus (b ∷ rest)))) l.longest in
@@ -42,14 +42,14 @@ symbol_no_literal b rest begins =
     (λ lone. lone_no_literal (begins_literal b) (is_lone_minus (b ∷ rest)) lone)
     (or_cases (begins_symbol b) (is_lone_minus (b ∷ rest)) begins)
 
-symbol_computed : (b : ℕ) (rest name after : List ℕ) → symbol_here (b ∷ rest) ≡ true → Longest in_symbol (b ∷ rest) name after → piece_first (b ∷ rest) ≡ found (b ∷ rest) (symbol name) after
-unfolding piece_first
+symbol_computed : (b : ℕ) (rest name after : List ℕ) → symbol_here (b ∷ rest) ≡ true → Longest in_symbol (b ∷ rest) name after → spelling_first (b ∷ rest) ≡ found (b ∷ rest) (symbol name) after
+unfolding spelling_first
 symbol_computed b rest name after begins l =
     let run = Longest-unique (longest in_symbol (b ∷ rest)) l in
     let stays = bytes.symbol_stays b rest begins in
     rw (bytes.symbol_ne_open b stays, bytes.symbol_ne_close b stays, bytes.symbol_ne_at b stays, bytes.symbol_ne_feed b stays, symbol_no_literal b rest begins, run.1, run.0) refl
 
--- A text that begins with a piece, or with a fault that is no comment: no skip begins there.
+-- A text that begins with a spelling, or with a fault that is no comment: no skip begins there.
 record Stands (text : List ℕ) (gives : First) : Type 0 where
   head : ℕ
   tail : List ℕ
@@ -57,7 +57,7 @@ record Stands (text : List ℕ) (gives : First) : Type 0 where
   not_blank : is_blank head ≡ false
   no_line : eqb head 59 ≡ false
   no_block : opens text ≡ false
-  computed_as : piece_first text ≡ gives
+  computed_as : spelling_first text ≡ gives
 
 literal_stands : (text after : List ℕ) (value : Option ℤ) → Literal text value after → is_lone_minus text ≡ false → Stands text (literal_first text after value)
 literal_stands [] after value l whole = let never = l.begins in cc
@@ -83,19 +83,19 @@ symbol_stands (b ∷ rest) name after begins l = record {
   computed_as = symbol_computed b rest name after begins l;
 }
 
-piece_stands : (text : List ℕ) (token : Tok) (after : List ℕ) → Piece text token after → Stands text (found text token after)
-unfolding is_blank piece_first literal_first
-piece_stands text lparen after p =
+spelling_stands : (text : List ℕ) (token : Tok) (after : List ℕ) → Spelling text token after → Stands text (found text token after)
+unfolding is_blank spelling_first literal_first
+spelling_stands text lparen after p =
     subst (λ t. Stands t (found t lparen after)) (sym p.0) (record { head = 40; tail = after; is = refl; not_blank = refl; no_line = refl; no_block = sym (ap opens p.0) ∙ p.1; computed_as = refl })
-piece_stands text rparen after p =
+spelling_stands text rparen after p =
     subst (λ t. Stands t (found t rparen after)) (sym p) (record { head = 41; tail = after; is = refl; not_blank = refl; no_line = refl; no_block = bytes.opens_not 41 after refl; computed_as = refl })
-piece_stands text at_sign after p =
+spelling_stands text at_sign after p =
     subst (λ t. Stands t (found t at_sign after)) (sym p) (record { head = 64; tail = after; is = refl; not_blank = refl; no_line = refl; no_block = bytes.opens_not 64 after refl; computed_as = refl })
-piece_stands text (symbol name) after p = symbol_stands text name after p.0 p.1
-piece_stands text (integer value) after p = literal_stands text after (Some value) p (valued_not_lone text value after p)
+spelling_stands text (symbol name) after p = symbol_stands text name after p.0 p.1
+spelling_stands text (integer value) after p = literal_stands text after (Some value) p (valued_not_lone text value after p)
 
 feed_stands : (after : List ℕ) → Stands (12 ∷ after) (refused (12 ∷ after))
-unfolding is_blank piece_first
+unfolding is_blank spelling_first
 feed_stands after = record { head = 12; tail = after; is = refl; not_blank = refl; no_line = refl; no_block = bytes.opens_not 12 after refl; computed_as = refl }
 
 unvalued_stands : (text after : List ℕ) → Literal text None after → is_lone_minus text ≡ false → Stands text (refused text)
@@ -106,10 +106,10 @@ first_stands : (text : List ℕ) (gives : First) → Stands text gives → (n : 
 unfolding first
 first_stands text gives s zero h = let short = ap length s.is in absurd (omega arith)
 first_stands text gives s (suc n) h =
-    let whole : first (suc n) (s.head ∷ s.tail) ≡ piece_first (s.head ∷ s.tail) =
+    let whole : first (suc n) (s.head ∷ s.tail) ≡ spelling_first (s.head ∷ s.tail) =
     let closed : opens (s.head ∷ s.tail) ≡ false = sym (ap opens s.is) ∙ s.no_block in
     rw (s.not_blank, s.no_line, closed) refl in
-    ap (first (suc n)) s.is ∙ whole ∙ sym (ap piece_first s.is) ∙ s.computed_as
+    ap (first (suc n)) s.is ∙ whole ∙ sym (ap spelling_first s.is) ∙ s.computed_as
 
 first_faulty : (text : List ℕ) → Faulty text → (n : ℕ) → length text ≤ n → first n text ≡ refused text
 unfolding first is_blank comment_first
@@ -197,14 +197,14 @@ literal_shorter b rest run after begins l =
     (cases_Bool (is_some (prefix_radix (b ∷ rest)))))
     (cases_Bool (eqb b 45))
 
-pub Piece-shorter : (text : List ℕ) (token : Tok) (after : List ℕ) → Piece text token after → length after < length text
-Piece-shorter text lparen after p = rw p.0 (omega arith)
-Piece-shorter text rparen after p = rw p (omega arith)
-Piece-shorter text at_sign after p = rw p (omega arith)
-Piece-shorter [] (symbol name) after p = let begins = p.0 in cc
-Piece-shorter (b ∷ rest) (symbol name) after p = run_shorter in_symbol b rest name after (bytes.symbol_stays b rest p.0) p.1
-Piece-shorter [] (integer value) after p = let begins = p.begins in cc
-Piece-shorter (b ∷ rest) (integer value) after p = literal_shorter b rest p.run after p.begins p.longest
+pub Spelling-shorter : (text : List ℕ) (token : Tok) (after : List ℕ) → Spelling text token after → length after < length text
+Spelling-shorter text lparen after p = rw p.0 (omega arith)
+Spelling-shorter text rparen after p = rw p (omega arith)
+Spelling-shorter text at_sign after p = rw p (omega arith)
+Spelling-shorter [] (symbol name) after p = let begins = p.0 in cc
+Spelling-shorter (b ∷ rest) (symbol name) after p = run_shorter in_symbol b rest name after (bytes.symbol_stays b rest p.0) p.1
+Spelling-shorter [] (integer value) after p = let begins = p.begins in cc
+Spelling-shorter (b ∷ rest) (integer value) after p = literal_shorter b rest p.run after p.begins p.longest
 
 pub Faulty-nonempty : {text : List ℕ} → Faulty text → 0 < length text
 Faulty-nonempty (unclosed e never) = rw e (omega arith)
@@ -222,10 +222,10 @@ computed_is size text [] (fault offset) l zero h = absurd (omega (arith, Skip-le
 computed_is size text [] (fault offset) l (suc n) h =
     let same : first (length text) text ≡ refused l.0 = first_skip l.1 (refused l.0) (first_faulty l.0 l.2) (length text) (omega arith) in
     rw (same, ← l.3) refl
-computed_is size text (x ∷ xs) ending l zero h = absurd (omega (arith, Skip-le l.2, Piece-shorter l.0 x.token l.1 l.3))
+computed_is size text (x ∷ xs) ending l zero h = absurd (omega (arith, Skip-le l.2, Spelling-shorter l.0 x.token l.1 l.3))
 computed_is size text (x ∷ xs) ending l (suc n) h =
-    let same : first (length text) text ≡ found l.0 x.token l.1 = first_skip l.2 (found l.0 x.token l.1) (first_stands l.0 (found l.0 x.token l.1) (piece_stands l.0 x.token l.1 l.3)) (length text) (omega arith) in
-    let short : length l.1 ≤ n = omega (arith, Skip-le l.2, Piece-shorter l.0 x.token l.1 l.3) in
+    let same : first (length text) text ≡ found l.0 x.token l.1 = first_skip l.2 (found l.0 x.token l.1) (first_stands l.0 (found l.0 x.token l.1) (spelling_stands l.0 x.token l.1 l.3)) (length text) (omega arith) in
+    let short : length l.1 ≤ n = omega (arith, Skip-le l.2, Spelling-shorter l.0 x.token l.1 l.3) in
     let more = computed_is size l.1 xs ending l.6 n short in
     rw (same, more, ← l.4, ← l.5) refl
 

@@ -2,14 +2,14 @@
 use Rattle.std.proofs.Common.{◌≡◌, ℕ, zero, suc, ◌≤◌, ◌<◌, List, [], ◌∷◌, Bool, true, false, ◌&&◌, not, ⊎_elim, sym, Option, Some, None, MatchOption, ℤ, length, drop, refl, ap, subst, eqb, arith}
 use Rattle.std.specs.List.{take_while}
 use Rattle.std.proofs.lemmas.Bool.{and_parts, cases_Bool, cond_both, eqb-true}
-use Rattle.isle_base.specs.Computed.{First, ended, refused, found, behind, close, literal_first, piece_first, comment_first, first, Computed, computed_by, computed}
+use Rattle.isle_base.specs.Computed.{First, ended, refused, found, behind, close, literal_first, spelling_first, comment_first, first, Computed, computed_by, computed}
 use Rattle.isle_base.specs.Lexing.{Faulty, unclosed, form_feed, literal, Lexes}
 use Rattle.isle_base.specs.Literals.{begins_literal, in_literal, behind_minus, behind_prefix, Literal}
-use Rattle.isle_base.specs.Pieces.{begins_symbol, in_symbol, is_lone_minus, symbol_here, Piece}
+use Rattle.isle_base.specs.Spellings.{begins_symbol, in_symbol, is_lone_minus, symbol_here, Spelling}
 use Rattle.isle_base.specs.Skips.{Skip, nothing, blank, line_comment, block_comment, Inside, is_blank, in_line, opens}
 use Rattle.isle_base.proofs.Bytes.{symbol_else}
 use Rattle.isle_base.proofs.Comments.{opens_as, Inside-shorter, close_gives}
-use Rattle.isle_base.proofs.Complete.{Skip-le, Longest-le, Piece-shorter}
+use Rattle.isle_base.proofs.Complete.{Skip-le, Longest-le, Spelling-shorter}
 use Rattle.isle_base.proofs.Minus.{begins_here, lone_here}
 use Rattle.isle_base.proofs.Runs.{longest}
 
@@ -17,7 +17,7 @@ use Rattle.isle_base.proofs.Runs.{longest}
 abbrev Sound : List ℕ → First → Type 0
 Sound text ended = Skip text []
 Sound text (refused from) = Skip text from × Faulty from
-Sound text (found from token after) = Skip text from × Piece from token after
+Sound text (found from token after) = Skip text from × Spelling from token after
 
 literal_sound : (text after : List ℕ) (value : Option ℤ) → Literal text value after → is_lone_minus text ≡ false → Sound text (literal_first text after value)
 unfolding literal_first
@@ -41,9 +41,9 @@ symbol_sound b rest plain h =
     (λ whole. begins_here b rest (plain (no_literal (begins_literal b) (is_lone_minus (b ∷ rest)) h whole)))
     (cases_Bool (is_lone_minus (b ∷ rest)))
 
-piece_sound : (b : ℕ) (rest : List ℕ) → is_blank b ≡ false → eqb b 59 ≡ false → opens (b ∷ rest) ≡ false → Sound (b ∷ rest) (piece_first (b ∷ rest))
-unfolding piece_first
-piece_sound b rest not_blank no_line no_block =
+spelling_sound : (b : ℕ) (rest : List ℕ) → is_blank b ≡ false → eqb b 59 ≡ false → opens (b ∷ rest) ≡ false → Sound (b ∷ rest) (spelling_first (b ∷ rest))
+unfolding spelling_first
+spelling_sound b rest not_blank no_line no_block =
     cond_both (eqb b 40) _ _ (Sound (b ∷ rest)) (λ e. (nothing refl, (ap (λ x. x ∷ rest) (eqb-true b 40 e), no_block))) (λ no_open.
     cond_both (eqb b 41) _ _ (Sound (b ∷ rest)) (λ e. (nothing refl, ap (λ x. x ∷ rest) (eqb-true b 41 e))) (λ no_close.
     cond_both (eqb b 64) _ _ (Sound (b ∷ rest)) (λ e. (nothing refl, ap (λ x. x ∷ rest) (eqb-true b 64 e))) (λ no_at.
@@ -91,14 +91,14 @@ first_sound (suc n) (b ∷ rest) h =
     (first_sound n (behind in_line rest) (omega (arith, Longest-le (longest in_line rest)))))
     (λ no_line. cond_both (opens (b ∷ rest)) _ _ (Sound (b ∷ rest))
     (λ is. comment_sound (first n) (b ∷ rest) (drop 1 rest) (opened b rest is) (λ after short. first_sound n after (omega arith)) (close 1 (drop 1 rest)) (close_gives 1 (drop 1 rest)))
-    (λ no_block. piece_sound b rest not_blank no_line no_block)))
+    (λ no_block. spelling_sound b rest not_blank no_line no_block)))
 
 step_sound : (more : List ℕ → Computed) (size : ℕ) (text : List ℕ) → ((after : List ℕ) → length after < length text → Lexes size after (more after).tokens (more after).ending) → (f : First) → Sound text f → Lexes size text (computed_by more size f).tokens (computed_by more size f).ending
 unfolding computed_by
 step_sound more size text h ended s = s
 step_sound more size text h (refused from) s = (from, s.0, s.1, refl)
 step_sound more size text h (found from token after) s =
-    (from, after, s.0, s.1, refl, refl, h after (omega (arith, Skip-le s.0, Piece-shorter from token after s.1)))
+    (from, after, s.0, s.1, refl, refl, h after (omega (arith, Skip-le s.0, Spelling-shorter from token after s.1)))
 
 pub computed_sound : (n size : ℕ) (text : List ℕ) → length text ≤ n → Lexes size text (computed n size text).tokens (computed n size text).ending
 unfolding computed

@@ -11,4 +11,4 @@ pub mod Numbers
 pub mod Places
 pub mod Stepping
 pub mod Values
-pub mod Earlier
+pub mod Upstream

@@ -5,7 +5,7 @@ use Rattle.std.proofs.lemmas.Bool.{and_parts, and_from, or_cases, cases_Bool, bo
 use Rattle.std.proofs.lemmas.List.{drop-drop}
 use Rattle.std.proofs.lemmas.Bool.Decides.{nat_tests}
 use Rattle.isle_base.specs.Literals.{begins_literal, in_literal, has_minus, radix_of, prefix_radix, radix_at, behind_prefix, digits_of, value_of, Literal}
-use Rattle.isle_base.specs.Pieces.{in_symbol, begins_symbol, is_lone_minus, symbol_here}
+use Rattle.isle_base.specs.Spellings.{in_symbol, begins_symbol, is_lone_minus, symbol_here}
 use Rattle.isle_base.specs.Skips.{Longest, begins_with, is_blank}
 use Rattle.isle_base.proofs.Runs.{prefix_len-yes, prefix_len-no}
 

@@ -1,10 +1,10 @@
 -- What the calls of a lexer do to what it has still to give.
 use Rattle.std.proofs.Common.{◌≡◌, ℕ, zero, suc, ◌-◌, ◌≤◌, List, [], ◌∷◌, Bool, true, false, Option, Some, None, IfSome, is_some, length, drop, refl, sym, ap, subst, ◌∙◌, arith, length-drop}
 use Rattle.isle_base.specs.declared.scanner.Scanner.TheInside.{Inside}
-use Rattle.isle_base_errors.specs.declared.pos.Pos.{Pos}
-use Rattle.isle_base.specs.declared.scanner.TokenRef.{TokenRef}
-use Rattle.isle_base.specs.declared.lexer.read.Found.TheVariants as founds
-use Rattle.isle_base.specs.declared.lexer.read.Reason.{Reason}
+use Rattle.isle_base_source.specs.declared.pos.Pos.{Pos}
+use Rattle.isle_base.specs.declared.token.TokenRef.{TokenRef}
+use Rattle.isle_base.specs.declared.scanner.read.Found.TheVariants as founds
+use Rattle.isle_base.specs.declared.scanner.read.Reason.{Reason}
 use Rattle.isle_base.specs.Computed.{First, ended, refused, found, first, Computed, computed_by, computed}
 use Rattle.isle_base.specs.ScannerView.{computed_from, coming_of, ending_of, feed_of, IsAhead, IsScanner}
 use Rattle.isle_base.specs.Lexing.{Lexes, lexes}
@@ -13,7 +13,7 @@ use Rattle.isle_base.specs.Reads.{Finds}
 use Rattle.isle_base.specs.Steps.{FacesFault, Takes, first_placed, lookahead, placed_ref, AreWithin, EndsWithin, IsWithin, Rises}
 use Rattle.isle_base.specs.Token.{Lexeme, Ending, end, fault, Feed}
 use Rattle.isle_base.specs.TokenView.{token_of_ref}
-use Rattle.isle_base.proofs.Complete.{Lexes-unique, Skip-le, Piece-shorter}
+use Rattle.isle_base.proofs.Complete.{Lexes-unique, Skip-le, Spelling-shorter}
 use Rattle.isle_base.proofs.Exists.{computed_sound}
 
 -- no offset is past the end
@@ -45,7 +45,7 @@ lexes_rise : (size : ℕ) (text : List ℕ) (xs : List Lexeme) (ending : Ending)
 lexes_rise size text [] ending h l = tt
 lexes_rise size text (x ∷ xs) ending h l =
     let skipped = Skip-le l.2 in
-    let shorter = Piece-shorter l.0 x.token l.1 l.3 in
+    let shorter = Spelling-shorter l.0 x.token l.1 l.3 in
     let more = lexes_rise size l.1 xs ending (omega (arith, skipped, shorter)) l.6 in
     (omega (arith, skipped, l.4), omega (arith, skipped, shorter, l.4, l.5), subst (λ n. Rises n xs) (sym l.5) more)
 

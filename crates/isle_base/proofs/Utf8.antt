@@ -1,4 +1,4 @@
--- What follows a skip or a piece of a text is text: no character is cut.
+-- What follows a skip or a spelling of a text is text: no character is cut.
 use Rattle.std.proofs.Common.{◌≡◌, ℕ, ◌+◌, ◌<◌, List, [], ◌∷◌, ◌++◌, Bool, true, false, cond, None, is_some, IsUtf8, length, drop, get_or, length-append, lit<, refl, sym, ap, subst, ⊎_elim, ◌∙◌, eqb, arith, append_assoc}
 use Rattle.std.specs.List.{list_all}
 use Rattle.std.proofs.lemmas.Bool.{cases_Bool, and_parts, cond-true, cond-false, cond_both, eqb-true, both_ways}
@@ -6,7 +6,7 @@ use Rattle.std.proofs.lemmas.Bool.Decides.{nat_tests}
 use Rattle.std.proofs.lemmas.List.{drop_at, get_or_at, length_push}
 use Rattle.std.proofs.lemmas.Str.{IsUtf8-nil, IsUtf8-drop, IsCharBoundary-before_ascii, IsCharBoundary-after_ascii}
 use Rattle.isle_base.specs.Literals.{in_literal, behind_minus, radix_of, prefix_radix, behind_prefix}
-use Rattle.isle_base.specs.Pieces.{in_symbol, Piece}
+use Rattle.isle_base.specs.Spellings.{in_symbol, Spelling}
 use Rattle.isle_base.specs.Skips.{Skip, nothing, blank, line_comment, block_comment, Inside, ends, byte, nested, is_blank, in_line, begins_with}
 use Rattle.isle_base.specs.Token.{Tok, lparen, rparen, symbol, integer, at_sign}
 
@@ -96,10 +96,10 @@ behind_prefix-utf8 (a ∷ b ∷ rest) utf8 =
     (λ has. let ascii = prefix_bytes a b has in behind_ascii [] rest b ascii.1 (behind_ascii [] (b ∷ rest) a ascii.0 utf8))
     (λ _. utf8)
 
-pub Piece-utf8 : (text : List ℕ) (token : Tok) (rest : List ℕ) → Piece text token rest → IsUtf8 text → IsUtf8 rest
-Piece-utf8 text lparen rest p utf8 = behind_ascii [] rest 40 (lit< tt) (subst IsUtf8 p.0 utf8)
-Piece-utf8 text rparen rest p utf8 = behind_ascii [] rest 41 (lit< tt) (subst IsUtf8 p utf8)
-Piece-utf8 text at_sign rest p utf8 = behind_ascii [] rest 64 (lit< tt) (subst IsUtf8 p utf8)
-Piece-utf8 text (symbol name) rest p utf8 = before_ascii name rest in_symbol symbol_end_ascii p.1.stops (subst IsUtf8 p.1.split utf8)
-Piece-utf8 text (integer value) rest p utf8 =
+pub Spelling-utf8 : (text : List ℕ) (token : Tok) (rest : List ℕ) → Spelling text token rest → IsUtf8 text → IsUtf8 rest
+Spelling-utf8 text lparen rest p utf8 = behind_ascii [] rest 40 (lit< tt) (subst IsUtf8 p.0 utf8)
+Spelling-utf8 text rparen rest p utf8 = behind_ascii [] rest 41 (lit< tt) (subst IsUtf8 p utf8)
+Spelling-utf8 text at_sign rest p utf8 = behind_ascii [] rest 64 (lit< tt) (subst IsUtf8 p utf8)
+Spelling-utf8 text (symbol name) rest p utf8 = before_ascii name rest in_symbol symbol_end_ascii p.1.stops (subst IsUtf8 p.1.split utf8)
+Spelling-utf8 text (integer value) rest p utf8 =
     behind_all_ascii p.run rest in_literal literal_ascii p.longest.each (subst IsUtf8 p.longest.split (behind_prefix-utf8 (behind_minus text) (behind_minus-utf8 text utf8)))

@@ -1,6 +1,6 @@
 -- The bytes that the definitions name: codes of characters, each under the name of its character.
 use Rattle.std.specs.Prelude.{ℕ}
-pub use Rattle.isle_base_errors.specs.Bytes.{line_feed}
+pub use Rattle.isle_base_source.specs.Bytes.{line_feed}
 
 abbrev pub tab : ℕ
 tab = 9

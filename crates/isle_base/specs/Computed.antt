@@ -4,7 +4,7 @@ use Rattle.std.specs.Prelude.{ℕ, zero, suc, ◌-◌, List, [], ◌∷◌, Bool
 use Rattle.std.specs.List.{prefix_len, take_while}
 use Rattle.isle_base.specs.Bytes.{form_feed, left_parenthesis, right_parenthesis, semicolon, commercial_at}
 use Rattle.isle_base.specs.Literals.{begins_literal, in_literal, has_minus, behind_minus, radix_at, behind_prefix, digits_of, value_of}
-use Rattle.isle_base.specs.Pieces.{in_symbol, is_lone_minus}
+use Rattle.isle_base.specs.Spellings.{in_symbol, is_lone_minus}
 use Rattle.isle_base.specs.Skips.{opens, is_blank, in_line}
 use Rattle.isle_base.specs.Token.{Tok, lparen, rparen, symbol, integer, at_sign, Lexeme, Ending, end, fault}
 
@@ -32,9 +32,9 @@ unfoldable pub literal_first : List ℕ → List ℕ → Option ℤ → First
 literal_first text after None = refused text
 literal_first text after (Some value) = found text (integer value) after
 
-unfoldable pub piece_first : List ℕ → First
-piece_first [] = ended
-piece_first (b ∷ rest) =
+unfoldable pub spelling_first : List ℕ → First
+spelling_first [] = ended
+spelling_first (b ∷ rest) =
     if b == left_parenthesis then found (b ∷ rest) lparen rest
     else (if b == right_parenthesis then found (b ∷ rest) rparen rest
     else (if b == commercial_at then found (b ∷ rest) at_sign rest
@@ -53,7 +53,7 @@ first (suc n) (b ∷ rest) =
     if is_blank b then first n rest
     else (if b == semicolon then first n (behind in_line rest)
     else (if opens (b ∷ rest) then comment_first (first n) (b ∷ rest) (close 1 (drop 1 rest))
-    else piece_first (b ∷ rest)))
+    else spelling_first (b ∷ rest)))
 
 -- the tokens and the ending of a text
 pub record Computed : Type 0 where

@@ -1,8 +1,8 @@
 -- The text that shows a fault.
 use Rattle.std.specs.Prelude.{ℕ, List, codes}
-use Rattle.isle_base_errors.specs.Diagnostic.{message}
-use Rattle.isle_base.specs.declared.lexer.Fault.{Fault}
-use Rattle.isle_base.specs.declared.lexer.Fault.TheVariants as faults
+use Rattle.isle_base_source.specs.Diagnostic.{message}
+use Rattle.isle_base.specs.declared.fault.Fault.{Fault}
+use Rattle.isle_base.specs.declared.fault.Fault.TheVariants as faults
 
 -- why a lexer, a parser or the formatter gives no answer
 abbrev pub fault_text : Fault → List ℕ

@@ -2,7 +2,7 @@
 use Rattle.std.specs.Prelude.{◌≡◌, ℕ, ◌-◌, List, [], ◌∷◌, false, length, None}
 use Rattle.isle_base.specs.Bytes.{form_feed as form_feed_byte, left_parenthesis, semicolon}
 use Rattle.isle_base.specs.Literals.{Literal}
-use Rattle.isle_base.specs.Pieces.{is_lone_minus, Piece}
+use Rattle.isle_base.specs.Spellings.{is_lone_minus, Spelling}
 use Rattle.isle_base.specs.Skips.{Skip, Inside}
 use Rattle.isle_base.specs.Token.{Lexeme, Ending, end, fault}
 
@@ -13,14 +13,14 @@ pub data Faulty : List ℕ → Type 0 where
   form_feed : {text after : List ℕ} → text ≡ form_feed_byte ∷ after → Faulty text
   literal : {text rest : List ℕ} → Literal text None rest → is_lone_minus text ≡ false → Faulty text
 
--- The last bytes of a text of this size are a skip, a piece, a skip, a piece and so on. They end
+-- The last bytes of a text of this size are a skip, a spelling, a skip, a spelling and so on. They end
 -- with a skip, or with a fault behind one, where lexing stops. The offset of a place is what is
 -- left of the size without the bytes from there on.
 abbrev pub Lexes : ℕ → List ℕ → List Lexeme → Ending → Type 0
 Lexes size text [] end = Skip text []
 Lexes size text [] (fault offset) = (from : List ℕ) × Skip text from × Faulty from × (offset ≡ size - length from)
 Lexes size text (x ∷ xs) ending =
-    (from : List ℕ) × (after : List ℕ) × Skip text from × Piece from x.token after
+    (from : List ℕ) × (after : List ℕ) × Skip text from × Spelling from x.token after
     × (x.offset ≡ size - length from) × (x.after ≡ size - length after) × Lexes size after xs ending
 
 -- these are the tokens of the text, and so they end

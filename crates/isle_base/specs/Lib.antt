@@ -1,11 +1,11 @@
 pub mod Bytes
 pub mod Computed
-pub mod EarlierLexing
+pub mod UpstreamLexing
 pub mod FaultText
 pub mod LexerView
 pub mod Lexing
 pub mod Literals
-pub mod Pieces
+pub mod Spellings
 pub mod Place
 pub mod Reads
 pub mod ScannerView

@@ -1,6 +1,6 @@
 -- A token with the position of its first byte, which is what a parser sees and the grammar speaks of.
 use Rattle.std.specs.Prelude.{ℕ, List, [], ◌∷◌}
-use Rattle.isle_base_errors.specs.declared.pos.Pos.{Pos}
+use Rattle.isle_base_source.specs.declared.pos.Pos.{Pos}
 use Rattle.isle_base.specs.Token.{Tok, Lexeme}
 
 pub record Placed : Type 0 where

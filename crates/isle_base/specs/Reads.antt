@@ -1,12 +1,12 @@
 -- What the private calls of the lexer find in the bytes of a text from an offset on.
 use Rattle.std.specs.Prelude.{◌≡◌, ◌⊎◌, ◌<◌, ◌≤◌, ◌+◌, ◌^◌, ℕ, ℤ, List, [], ◌∷◌, Bool, true, false, ◌&&◌, nat_lt, ◌==◌, Option, Some, None, Result, Ok, Err, length, drop, IsUtf8}
 use Rattle.isle_base.specs.Bytes.{semicolon}
-use Rattle.isle_base.specs.declared.lexer.read.Found.{Found}
-use Rattle.isle_base.specs.declared.lexer.read.Found.TheVariants as founds
-use Rattle.isle_base.specs.declared.lexer.read.Reason.{Reason}
+use Rattle.isle_base.specs.declared.scanner.read.Found.{Found}
+use Rattle.isle_base.specs.declared.scanner.read.Found.TheVariants as founds
+use Rattle.isle_base.specs.declared.scanner.read.Reason.{Reason}
 use Rattle.isle_base.specs.Lexing.{Faulty}
 use Rattle.isle_base.specs.Literals.{Literal, are_digits, number_of, signed}
-use Rattle.isle_base.specs.Pieces.{Piece}
+use Rattle.isle_base.specs.Spellings.{Spelling}
 use Rattle.isle_base.specs.Skips.{Skip, Inside, begins_with, is_blank, opens}
 use Rattle.isle_base.specs.TokenView.{token_of_ref}
 
@@ -56,14 +56,14 @@ EndsLiteral bytes from (Some at) = ((value : ℤ) × Literal (drop from bytes) (
 -- the token or the fault that stands here
 abbrev pub FindsHere : List ℕ → ℕ → Found → Type 0
 FindsHere text from (founds.Token start token after) =
-    (start ≡ from) × Piece (drop from text) (token_of_ref token) (drop after text) × (after ≤ length text)
+    (start ≡ from) × Spelling (drop from text) (token_of_ref token) (drop after text) × (after ≤ length text)
 FindsHere text from founds.End = ⊥
 FindsHere text from (founds.Fault at _) = (at ≡ from) × Faulty (drop from text)
 
 -- a token, the end of the text or a fault, behind a skip
 abbrev pub Finds : List ℕ → ℕ → Found → Type 0
 Finds text from (founds.Token start token after) =
-    Skip (drop from text) (drop start text) × Piece (drop start text) (token_of_ref token) (drop after text)
+    Skip (drop from text) (drop start text) × Spelling (drop start text) (token_of_ref token) (drop after text)
     × (start < after) × (after ≤ length text) × IsUtf8 (drop after text)
 Finds text from founds.End = Skip (drop from text) []
 Finds text from (founds.Fault at _) = Skip (drop from text) (drop at text) × Faulty (drop at text) × (at < length text)

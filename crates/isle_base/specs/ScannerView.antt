@@ -1,7 +1,7 @@
 -- What a scanner has still to give, by its fields.
 use Rattle.std.specs.Prelude.{◌≡◌, ◌≤◌, ◌<◌, ◌+◌, ◌^◌, ℕ, List, [], ◌∷◌, Bool, true, false, Option, Some, None, length, drop, IsUtf8}
-use Rattle.isle_base_errors.specs.declared.pos.Pos.{Pos}
-use Rattle.isle_base.specs.declared.scanner.TokenRef.{TokenRef}
+use Rattle.isle_base_source.specs.declared.pos.Pos.{Pos}
+use Rattle.isle_base.specs.declared.token.TokenRef.{TokenRef}
 use Rattle.isle_base.specs.declared.scanner.Scanner.TheInside.{Inside}
 use Rattle.isle_base.specs.Computed.{Computed, computed}
 use Rattle.isle_base.specs.Token.{Lexeme, Ending, end, fault, Feed}

@@ -1,13 +1,13 @@
 -- What the calls of a lexer answer, by what it has still to give. A lexer is failed where no token is
 -- to come and a fault is: its text was refused by an earlier call.
 use Rattle.std.specs.Prelude.{◌≡◌, ◌≤◌, ◌<◌, ◌^◌, ℕ, ◌+◌, Bool, true, false, List, [], ◌∷◌, Option, Some, None}
-use Rattle.isle_base_errors.specs.declared.error.Error.{Error}
-use Rattle.isle_base_errors.specs.declared.error.Error.TheVariants.{ParseError}
-use Rattle.isle_base.specs.declared.lexer.Fault.{Fault}
-use Rattle.isle_base.specs.declared.lexer.Fault.TheVariants as faults
-use Rattle.isle_base_errors.specs.declared.pos.Pos.{Pos}
-use Rattle.isle_base.specs.declared.lexer.Token.{Token}
-use Rattle.isle_base.specs.declared.scanner.TokenRef.{TokenRef}
+use Rattle.isle_base_source.specs.declared.error.Error.{Error}
+use Rattle.isle_base_source.specs.declared.error.Error.TheVariants.{ParseError}
+use Rattle.isle_base.specs.declared.fault.Fault.{Fault}
+use Rattle.isle_base.specs.declared.fault.Fault.TheVariants as faults
+use Rattle.isle_base_source.specs.declared.pos.Pos.{Pos}
+use Rattle.isle_base.specs.declared.token.Token.{Token}
+use Rattle.isle_base.specs.declared.token.TokenRef.{TokenRef}
 use Rattle.isle_base.specs.Lexing.{lexes}
 use Rattle.isle_base.specs.Place.{Placed, in_file, placed_at}
 use Rattle.isle_base.specs.Token.{Lexeme, Ending, end, fault, Feed}

@@ -1,9 +1,9 @@
 -- A token of the code, as a token of the definitions.
 use Rattle.std.specs.Prelude.{string_bytes}
-use Rattle.isle_base.specs.declared.lexer.Token.{Token}
-use Rattle.isle_base.specs.declared.lexer.Token.TheVariants.{LParen, RParen, Symbol, Int, At}
-use Rattle.isle_base.specs.declared.scanner.TokenRef.{TokenRef}
-use Rattle.isle_base.specs.declared.scanner.TokenRef.TheVariants as refs
+use Rattle.isle_base.specs.declared.token.Token.{Token}
+use Rattle.isle_base.specs.declared.token.Token.TheVariants.{LParen, RParen, Symbol, Int, At}
+use Rattle.isle_base.specs.declared.token.TokenRef.{TokenRef}
+use Rattle.isle_base.specs.declared.token.TokenRef.TheVariants as refs
 use Rattle.isle_base.specs.Token.{Tok, lparen, rparen, symbol, integer, at_sign}
 
 abbrev pub token_of : Token → Tok

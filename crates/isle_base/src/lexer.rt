@@ -1,132 +1,23 @@
 //! Lexer for the ISLE language.
 
 ghost use Rattle.std.specs.Prelude.{◌≡◌, ◌≢◌, Err, IfErr, IfOk, IfSome, None, Ok};
-ghost use Rattle.std.specs.Prelude.{Some, false, length, option_map, true};
-ghost use Rattle.isle_base.specs.FaultText.{fault_text};
+ghost use Rattle.std.specs.Prelude.{false, length, option_map, true};
 ghost use Rattle.isle_base.specs.Lexing.{lexes};
 ghost use Rattle.isle_base.specs.Steps.{IfError, IsWithin, Refuses, RefusesStart, Rises, Takes};
 ghost use Rattle.isle_base.specs.Steps.{current_pos, is_at_end, is_failed, lookahead, placed_of};
 ghost use Rattle.isle_base.specs.Steps.{placed_ref};
-ghost use Rattle.isle_base.specs.Token.{is_int, is_symbol};
-ghost use Rattle.isle_base.specs.TokenView.{token_of};
-ghost use Rattle.isle_base.specs.declared.lexer.Fault.TheVariants as faults;
-ghost use Rattle.isle_base.specs.declared.lexer.Fault.TheVariants.{Failed, Memory};
+ghost use Rattle.isle_base.specs.declared.fault.Fault.TheVariants.{Failed, Memory};
 
-mod lanes;
 pub mod laws;
-pub(crate) mod literal;
-pub(crate) mod read;
-pub(crate) mod scan;
 
-use crate::scanner::{Scanner, TokenRef};
-use isle_base_errors::error::Error;
-use isle_base_errors::messages::write_message;
-pub use isle_base_errors::pos::Pos;
-pub use lanes::{blank_end, line_comment_end, symbol_end};
-use std::alloc::{AllocError, AllocFailed, Global};
-use std::fmt;
+pub use crate::fault::Fault;
+use crate::scanner::Scanner;
+pub use crate::scanner::lanes::{blank_end, line_comment_end, symbol_end};
+pub use crate::token::Token;
+use crate::token::TokenRef;
+pub use isle_base_source::pos::Pos;
+use std::alloc::{AllocError, Global};
 use std::marker::Model;
-
-/// Why a lexer, a parser or the formatter gives no answer.
-#[derive(Debug, Drop)]
-pub enum Fault {
-    /// The text is refused, for this reason.
-    Error(Error),
-    /// The lexer had refused its text before this call.
-    Failed,
-    /// A growth of memory was refused.
-    Memory,
-}
-
-/// Writes why there is no answer: the kind and the reason of the refusal, without its place, which
-/// `Errors` shows; or that the text was refused before, or that memory ran out.
-///
-/// The text is the same whatever options the formatter has. It takes no memory, and refuses only
-/// where the formatter does.
-impl fmt::Display for Fault {
-    ghost output = { λ fault. Some (fault_text fault) };
-
-    ghost styled_output = { λ fault _. Some (fault_text fault) };
-
-    fn fmt<W: fmt::Write>(&self, f: &mut fmt::Formatter<W>) -> fmt::Result {
-        match self {
-            Fault::Error(error) => write_message(f, error),
-            Fault::Failed => f.write_str("the text was refused before"),
-            Fault::Memory => f.write_str("out of memory"),
-        }
-    }
-}
-
-impl std::error::Error for Fault {}
-
-impl From<Error> for Fault {
-    ghost from_gives = { λ error fault. fault ≡ faults.Error error };
-
-    fn from(error: Error) -> Fault {
-        Fault::Error(error)
-    }
-}
-
-impl From<AllocError> for Fault {
-    ghost from_gives = { λ _ e. e ≡ Memory };
-
-    fn from(_error: AllocError) -> Fault {
-        Fault::Memory
-    }
-}
-
-impl<T: Drop> From<AllocFailed<T>> for Fault {
-    ghost from_gives = { λ _ e. e ≡ Memory };
-
-    fn from(_error: AllocFailed<T>) -> Fault {
-        Fault::Memory
-    }
-}
-
-/// A token of ISLE source.
-#[derive(Debug, PartialEq, Eq, Drop)]
-pub enum Token {
-    /// Left parenthesis.
-    LParen,
-    /// Right parenthesis.
-    RParen,
-    /// A symbol, such as `Foo`.
-    Symbol(String),
-    /// An integer.
-    Int(i128),
-    /// The sign `@`.
-    At,
-}
-
-impl Token {
-    /// Tells whether this is an integer.
-    pub fn is_int(&self) -> bool
-        ensures { result ≡ is_int (token_of self.now) }
-    {
-        matches!(self, Token::Int(_))
-    }
-
-    /// Tells whether this is a symbol.
-    pub fn is_sym(&self) -> bool
-        ensures { result ≡ is_symbol (token_of self.now) }
-    {
-        matches!(self, Token::Symbol(_))
-    }
-}
-
-impl Clone for Token {
-    ghost is_clone = { λ a b. token_of b ≡ token_of a };
-
-    fn clone(&self) -> Result<Token, AllocError> {
-        Ok(match self {
-            Token::LParen => Token::LParen,
-            Token::RParen => Token::RParen,
-            Token::Symbol(name) => Token::Symbol(name.clone()?),
-            Token::Int(value) => Token::Int(*value),
-            Token::At => Token::At,
-        })
-    }
-}
 
 /// The lexer.
 ///
@@ -169,13 +60,21 @@ impl<'src> Clone for Lexer<'src> {
     }
 }
 
+impl<'src> From<Lexer<'src>> for Scanner<'src> {
+    ghost from_gives = { λ lexer scanner. scanner ≡ lexer };
+
+    fn from(lexer: Lexer<'src>) -> Scanner<'src> {
+        lexer.scanner
+    }
+}
+
 impl<'src> Lexer<'src> {
     /// Makes the lexer of a text, which is the file of this number, and reads the first token
     /// ahead.
     ///
-    /// It answers `Error` exactly where the text begins, after blanks and comments, with a fault:
+    /// It returns `Error` exactly where the text begins, after blanks and comments, with a fault:
     /// the error's span is the one byte at which the fault begins. `Memory` comes where a growth
-    /// was refused. It never answers `Failed`.
+    /// was refused. It never returns `Failed`.
     pub fn new(alloc: Global, file: usize, src: &'src str) -> Result<Lexer<'src>, Fault>
         // What `Ok` holds.
         ensures file { IfOk result (λ lexer. lexer.file ≡ file) }
@@ -192,7 +91,7 @@ impl<'src> Lexer<'src> {
         Ok(Lexer { scanner, lookahead })
     }
 
-    /// Gets the lexer's current source position: the byte offset behind the token ahead.
+    /// Gets the lexer's current source position: the byte offset after the token ahead.
     ///
     /// Where there is no token ahead, it is the end of the text, or the first byte of the fault if
     /// the lexer is failed.
@@ -205,9 +104,9 @@ impl<'src> Lexer<'src> {
 
     /// Hands out the token ahead with the position of its first byte, and reads one token further.
     ///
-    /// At the end of the text it answers `None`. It answers `Error` where a fault follows the token
+    /// At the end of the text it returns `None`. It returns `Error` where a fault follows the token
     /// ahead, after blanks and comments: the error's span is the one byte at which the fault
-    /// begins, the token ahead is lost, and the lexer is failed from then on. It answers `Failed`
+    /// begins, the token ahead is lost, and the lexer is failed from then on. It returns `Failed`
     /// exactly of a failed lexer. After `Memory` the lexer is as it was.
     pub fn next(&mut self, alloc: Global) -> Result<Option<(Pos, Token)>, Fault>
         // What `Ok` holds.

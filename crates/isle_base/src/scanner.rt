@@ -6,46 +6,24 @@
 ghost use Rattle.std.specs.Prelude.{◌≡◌, ◌≢◌, Err, IfErr, IfOk, IfSome, None, Ok, is_some};
 ghost use Rattle.std.specs.Prelude.{false, length, option_map, true, ℕ};
 ghost use Rattle.isle_base.specs.Lexing.{lexes};
-ghost use Rattle.isle_base.specs.Steps.{FacesFault, IfError, IsWithin, Refuses, RefusesStart, Rises};
+ghost use Rattle.isle_base.specs.Steps.{FacesFault, IfError, IsWithin, Refuses, RefusesStart};
+ghost use Rattle.isle_base.specs.Steps.{Rises};
 ghost use Rattle.isle_base.specs.Steps.{Takes};
 ghost use Rattle.isle_base.specs.Steps.{current_pos, is_at_end, is_failed, lookahead, placed_ref};
-ghost use Rattle.isle_base.specs.TokenView.{token_of, token_of_ref};
-ghost use Rattle.isle_base.specs.declared.lexer.Fault.TheVariants.{Failed, Memory};
+ghost use Rattle.isle_base.specs.TokenView.{token_of_ref};
+ghost use Rattle.isle_base.specs.declared.fault.Fault.TheVariants.{Failed, Memory};
 
-use crate::lexer::read::{Found, Reason, error, read};
-use crate::lexer::{Fault, Lexer, Pos, Token};
+pub(crate) mod lanes;
+pub(crate) mod literal;
+pub(crate) mod read;
+pub(crate) mod skips;
+
+use crate::fault::Fault;
+pub use crate::token::TokenRef;
+use isle_base_source::pos::Pos;
+use read::{Found, Reason, error, read};
 use std::alloc::{AllocError, Global};
 use std::marker::Model;
-
-/// A token of ISLE source, which borrows its text.
-#[derive(Clone, Copy, Debug)]
-pub enum TokenRef<'src> {
-    /// Left parenthesis.
-    LParen,
-    /// Right parenthesis.
-    RParen,
-    /// A symbol, such as `Foo`.
-    Symbol(&'src str),
-    /// An integer.
-    Int(i128),
-    /// The sign `@`.
-    At,
-}
-
-impl<'src> TokenRef<'src> {
-    /// Makes the token that owns its text. It refuses only where memory runs out.
-    pub fn to_token(&self, alloc: Global) -> Result<Token, AllocError>
-        ensures { IfOk result (λ token. token_of token ≡ token_of_ref self.now) }
-    {
-        Ok(match self {
-            TokenRef::LParen => Token::LParen,
-            TokenRef::RParen => Token::RParen,
-            TokenRef::Symbol(text) => Token::Symbol(String::from_str(alloc, text)?),
-            TokenRef::Int(value) => Token::Int(*value),
-            TokenRef::At => Token::At,
-        })
-    }
-}
 
 /// The scanner.
 ///
@@ -55,7 +33,7 @@ impl<'src> TokenRef<'src> {
 #[derive(Debug, Drop)]
 pub struct Scanner<'src> {
     src: &'src str,
-    /// Behind the token ahead; without one, the end of the text, or the fault's first byte.
+    /// After the token ahead; without one, the end of the text, or the fault's first byte.
     pos: Pos,
     lookahead: Option<(Pos, TokenRef<'src>)>,
     failed: bool,
@@ -78,14 +56,6 @@ impl<'src> Clone for Scanner<'src> {
 
     fn clone(&self) -> Result<Scanner<'src>, AllocError> {
         Ok(self.copied())
-    }
-}
-
-impl<'src> From<Lexer<'src>> for Scanner<'src> {
-    ghost from_gives = { λ lexer scanner. scanner ≡ lexer };
-
-    fn from(lexer: Lexer<'src>) -> Scanner<'src> {
-        lexer.scanner
     }
 }
 
@@ -135,7 +105,7 @@ impl<'src> Scanner<'src> {
         }
     }
 
-    /// Gets the byte offset behind the token ahead. Where there is none, it is the end of the text,
+    /// Gets the byte offset after the token ahead. Where there is none, it is the end of the text,
     /// or the first byte of the fault.
     pub fn pos(&self) -> Pos
         ensures value { result ≡ current_pos self.now }
@@ -172,7 +142,7 @@ impl<'src> Scanner<'src> {
     }
 
     /// Hands out the token ahead as `next` does, and makes no error: where no token is ahead, or a
-    /// fault follows it, it answers `None` and does nothing.
+    /// fault follows it, it returns `None` and does nothing.
     #[inline(always)]
     pub fn step(&mut self) -> Option<(Pos, TokenRef<'src>)>
         ensures token { IfSome result (λ x. Takes self.old (placed_ref x) self.new) }

@@ -8,7 +8,7 @@ use Rattle.isle_base.specs.Lexing.{lexes}
 use Rattle.isle_base.specs.Place.{in_file, nowhere}
 use Rattle.isle_base.specs.Steps.{IfError}
 use Rattle.isle_base.specs.Token.{Feed}
-use Rattle.isle_base.specs.declared.lexer.Fault.{Fault}
+use Rattle.isle_base.specs.declared.fault.Fault.{Fault}
 use Rattle.isle_parser.specs.Parsed.{RefusesText, RefusesWith}
 use Rattle.isle_parser.proofs.Whole.{IfError-map}
 use Rattle.isle_syntax.specs.Format.{SpellsTree}

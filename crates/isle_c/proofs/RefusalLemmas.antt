@@ -1,6 +1,6 @@
 -- A diagnostic is one of equal texts.
 use Rattle.std.proofs.Common.{◌≡◌, ℕ, List, subst}
-use Rattle.isle_base_errors.specs.declared.error.Error.{Error}
+use Rattle.isle_base_source.specs.declared.error.Error.{Error}
 use Rattle.isle_c.specs.Refusals.{IsDiagnosticOf, diagnostic_text}
 use Rattle.isle_syntax.specs.Streaming.{IsRefusedWith}
 

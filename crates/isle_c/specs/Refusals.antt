@@ -1,9 +1,9 @@
 -- What is told of a text that is refused.
 use Rattle.std.specs.Prelude.{◌≡◌, ◌≤◌, ◌+◌, ℕ, List, [], ◌∷◌, length, string_bytes}
-use Rattle.isle_base_errors.specs.declared.error.Error.{Error}
-use Rattle.isle_base_errors.specs.declared.error.Error.TheVariants.{ParseError}
-use Rattle.isle_base_errors.specs.Diagnostic.{report_text}
-use Rattle.isle_base_errors.specs.Lines.{column, line, line_begin, line_end}
+use Rattle.isle_base_source.specs.declared.error.Error.{Error}
+use Rattle.isle_base_source.specs.declared.error.Error.TheVariants.{ParseError}
+use Rattle.isle_base_source.specs.Diagnostic.{report_text}
+use Rattle.isle_base_source.specs.Lines.{column, line, line_begin, line_end}
 use Rattle.isle_base.specs.Place.{in_file}
 use Rattle.isle_base.specs.Steps.{RefusesAt}
 use Rattle.isle_c.specs.declared.Place.{Place}

@@ -3,7 +3,7 @@
 ghost use Rattle.std.specs.Prelude.{◌≡◌, ◌≢◌, ◌≤◌, ◌-◌, ◌==◌, if◌then◌else◌, Err, IfErr};
 ghost use Rattle.std.specs.Prelude.{IfOk, IsUtf8, OnOk, length, slice_index, string_bytes};
 ghost use Rattle.isle_base.specs.Steps.{IfError};
-ghost use Rattle.isle_base.specs.declared.lexer.Fault.TheVariants.{Failed};
+ghost use Rattle.isle_base.specs.declared.fault.Fault.TheVariants.{Failed};
 ghost use Rattle.isle_c.specs.NoAnswers.{IsDiagnosticFailure, IsFormatFailure, IsRefusalFailure};
 ghost use Rattle.isle_c.specs.NoAnswers.{status_of};
 ghost use Rattle.isle_c.specs.Refusals.{IsDiagnosticOf, IsRefusedAt, diagnostic_text, place_at};

@@ -1,2 +1,10 @@
-pub mod Reading
+pub mod Finds
+pub mod Fitting
+pub mod Grammar
+pub mod Matched
+pub mod Parentheses
+pub mod Refused
+pub mod Sizes
+pub mod Streams
 pub mod Tidied
+pub mod Tokens

@@ -1,39 +1,38 @@
--- What `tidy` answers.
-use Rattle.std.specs.Prelude.{◌≡◌, ◌↔◌, ℕ, List}
-use Rattle.isle_ast.specs.Spelt.{IsSpelt}
-use Rattle.isle_ast.specs.Tree.{Definition}
-use Rattle.isle_base.specs.Place.{nowhere}
-use Rattle.isle_document_items.specs.Grammar.{IsDocument}
-use Rattle.isle_document_items.specs.Items.{Items}
-use Rattle.isle_document_items.specs.Tokens.{HaveSameTokens}
-use Rattle.isle_document_layout.specs.Tidy as layout
-use Rattle.isle_syntax.specs.Format.{SpellsTree}
+-- The tidy text of a text, and what it keeps.
+use Rattle.std.specs.Prelude.{◌≡◌, ℕ, List, [], ◌∷◌, map, Option, Some, None}
+use Rattle.isle_document_layout.specs.Entries.{Entry}
+use Rattle.isle_document_layout.specs.declared.entries.Gap.{Gap}
+use Rattle.isle_document_layout.specs.declared.entries.Gap.TheVariants.{Beside, Tabbed, Below}
+use Rattle.isle_document.specs.Grammar.{IsDocument}
+use Rattle.isle_document_layout.specs.Placing.{at_most_two, placed}
+use Rattle.isle_document_layout.specs.Writing.{written}
 
--- the text has a document, and no other
-abbrev pub HasOneDocument : List ℕ → Type 0
-HasOneDocument text =
-    (document : Items) × IsDocument text document × ((other : Items) → IsDocument text other → other ≡ document)
+-- the text has a document, and this is its tidy text
+pub record IsTidyTextOf (text answer : List ℕ) : Type 0 where
+  pub document : List Entry
+  pub is_document : IsDocument text document
+  pub is_written : answer ≡ written (placed document)
 
--- what holds of the document of the text
-abbrev pub OfItsDocument : List ℕ → (Items → Type 0) → Type 0
-OfItsDocument text P = (document : Items) → IsDocument text document → P document
+-- the empty lines before an entry that begins a line
+abbrev pub empty_before : Gap → Option ℕ
+empty_before (Beside _) = None
+empty_before (Tabbed _) = None
+empty_before (Below empty _) = Some empty
 
--- this is the tidy text of the document
-abbrev pub IsTidyText : ℕ → List ℕ → Items → Type 0
-IsTidyText width answer document = answer ≡ layout.tidy width document
+-- for each entry whether it begins a line, and behind how many empty ones
+abbrev pub breaks : List Entry → List (Option ℕ)
+breaks [] = []
+breaks (e ∷ es) = empty_before e.gap ∷ breaks es
 
--- each tree that one of them spells, positions erased, the other spells too
-abbrev pub SpellSameTrees : List ℕ → List ℕ → Type 0
-SpellSameTrees text other = (tree : List Definition) → IsSpelt nowhere text tree ↔ IsSpelt nowhere other tree
+abbrev pub capped : Option ℕ → Option ℕ
+capped None = None
+capped (Some empty) = Some (at_most_two empty)
 
--- The text spells a tree, and the answer is the tidy text, at this width, of the one document that the text has.
-pub record IsTidied (width : ℕ) (text answer : List ℕ) : Type 0 where
-  pub spelt : SpellsTree text
-  pub document : HasOneDocument text
-  pub tidied : OfItsDocument text (IsTidyText width answer)
-  -- the answer has the same document, so the same tokens and the same tree
-  pub kept : OfItsDocument text (IsDocument answer)
-  pub same_tokens : HaveSameTokens text answer
-  pub same_trees : SpellSameTrees text answer
-  -- and it is its own tidy text
-  pub again : OfItsDocument answer (IsTidyText width answer)
+abbrev pub without_empty : Option ℕ → Option ℕ
+without_empty None = None
+without_empty (Some _) = Some 0
+
+-- the same lines, but for the empty ones at the start and past two
+abbrev pub capped_breaks : List (Option ℕ) → List (Option ℕ)
+capped_breaks [] = []
+capped_breaks (first ∷ more) = without_empty first ∷ map capped more

@@ -1,41 +1,54 @@
-//! Laws of tidy texts, which run no code.
+//! Laws of documents, which run no code.
 
-ghost use Rattle.std.specs.Prelude.{◌≡◌, [], List, ℕ};
-ghost use Rattle.isle_ast.specs.Grammar.{SpellsDefinitions};
-ghost use Rattle.isle_ast.specs.Tree.{Definition};
-ghost use Rattle.isle_base.specs.Place.{Placed};
-ghost use Rattle.isle_document.specs.Tidied.{HasOneDocument, IsTidyText, OfItsDocument};
-ghost use Rattle.isle_document.specs.Tidied.{SpellSameTrees};
-ghost use Rattle.isle_document_items.specs.Grammar.{IsDocument};
-ghost use Rattle.isle_document_items.specs.Items.{Items};
-ghost use Rattle.isle_document_items.specs.Matched.{Matched};
-ghost use Rattle.isle_document_layout.specs.Tidy as layout;
-ghost use Rattle.isle_printer.specs.Printed.{IsPrinted};
-ghost use Rattle.isle_syntax.specs.Format.{OfItsTree, SpellsTree};
+ghost use Rattle.std.specs.Prelude.{◌≡◌, ℕ, List, map, true};
+ghost use Rattle.isle_base.specs.Lexing.{lexes};
+ghost use Rattle.isle_base.specs.Token.{Lexeme, end};
+ghost use Rattle.isle_document_layout.specs.Entries.{Entry};
+ghost use Rattle.isle_document.specs.Grammar.{IsDocument, lexemes};
+ghost use Rattle.isle_document.specs.Matched.{tokens_match};
+ghost use Rattle.isle_document_layout.specs.Placing.{placed, tidied};
+ghost use Rattle.isle_document.specs.Tidied.{IsTidyTextOf, breaks, capped_breaks};
+ghost use Rattle.isle_document.specs.Tokens.{HaveSameTokens};
+ghost use Rattle.isle_document_layout.specs.Writing.{written};
 
-/// A law, which runs no code: the parentheses of tokens that spell definitions match. So each text
-/// that spells a tree has a document.
-pub fn spelt_tokens_match()
-    ensures { (ds : List Definition) (all : List Placed) → SpellsDefinitions ds all
-        → Matched all [] }
+/// A law, which runs no code: a text has one document at most.
+pub fn one_document()
+    ensures { (text : List ℕ) (document other : List Entry)
+        → IsDocument text document → IsDocument text other → document ≡ other }
 {}
 
-/// A law, which runs no code: at every width the tidy text of a text's document spells just the
-/// trees that the text spells, positions erased.
-pub fn tidied_text_spells_the_same_tree()
-    ensures { (width : ℕ) (text : List ℕ) (document : Items) → IsDocument text document
-        → SpellSameTrees text (layout.tidy width document) }
+/// A law, which runs no code: the text of a document that is placed has that document.
+pub fn placed_text_has_placed_document()
+    ensures { (text : List ℕ) (document : List Entry)
+        → IsDocument text document → IsDocument (written (placed document)) (placed document) }
 {}
 
-/// A law, which runs no code: what `format` answers at a width, of a text that spells a tree, has
-/// one document, and is its own tidy text at that width. So `tidy` gives it back.
-pub fn formatted_texts_are_tidy()
-    ensures document { (width : ℕ) (text answer : List ℕ) → SpellsTree text
-        → OfItsTree text (λ tree. IsPrinted width tree answer) → HasOneDocument answer }
-    ensures tidy { (width : ℕ) (text answer : List ℕ) → SpellsTree text
-        → OfItsTree text (λ tree. IsPrinted width tree answer)
-        → OfItsDocument answer (IsTidyText width answer) }
-    ensures given_back { (width : ℕ) (text answer tidied : List ℕ) → SpellsTree text
-        → OfItsTree text (λ tree. IsPrinted width tree answer)
-        → OfItsDocument answer (IsTidyText width tidied) → tidied ≡ answer }
+/// A law, which runs no code: the tidy text of a tidy text is that text.
+pub fn tidying_again_changes_nothing()
+    ensures { (text answer again : List ℕ)
+        → IsTidyTextOf text answer → IsTidyTextOf answer again → again ≡ answer }
+{}
+
+/// A law, which runs no code: the same lexemes stay in the same order, a line comment without the
+/// spaces and tabs at its end, and the same of them begin lines, with two empty lines before at
+/// most.
+pub fn lexemes_and_lines_stay()
+    ensures same_lexemes { (entries : List Entry)
+        → lexemes (placed entries) ≡ map tidied (lexemes entries) }
+    ensures same_lines { (entries : List Entry)
+        → breaks (placed entries) ≡ capped_breaks (breaks entries) }
+{}
+
+/// A law, which runs no code: the tidy text of a text has the same tokens, their offsets aside.
+pub fn same_tokens_stay()
+    ensures { (text answer : List ℕ) → IsTidyTextOf text answer → HaveSameTokens text answer }
+{}
+
+/// A law, which runs no code: a text has a document exactly if it lexes up to its end and the
+/// parentheses of its tokens match.
+pub fn matched_texts_have_documents()
+    ensures matched { (text : List ℕ) (tokens : List Lexeme) → lexes text tokens end
+        → tokens_match tokens ≡ true → (document : List Entry) × IsDocument text document }
+    ensures only { (text : List ℕ) (document : List Entry) → IsDocument text document
+        → (tokens : List Lexeme) × lexes text tokens end × (tokens_match tokens ≡ true) }
 {}

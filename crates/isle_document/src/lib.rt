@@ -1,61 +1,48 @@
-//! The document of a text of ISLE, and its tidy text: a layout that keeps every comment.
+//! The document of a text, and its tidy text: the author's lines, indented as Cranelift's authors
+//! indent.
+//!
+//! A text has a document if it lexes and its parentheses match; it need not spell definitions. The
+//! entries of a document, and where each is placed, are those of `isle_document_layout`.
 #![tactic(auto)]
 
-ghost use Rattle.std.specs.Prelude.{◌≡◌, ◌≢◌, Err, IfErr, IfOk, OnOk, length, string_bytes};
+ghost use Rattle.std.specs.Prelude.{◌≢◌, Err, IfErr, IfOk, length, string_bytes};
 ghost use Rattle.isle_base.specs.Steps.{IfError};
-ghost use Rattle.isle_base.specs.declared.lexer.Fault.TheVariants.{Failed};
-ghost use Rattle.isle_document.specs.Tidied.{HasOneDocument, IsTidyText, OfItsDocument};
-ghost use Rattle.isle_document.specs.Tidied.{SpellSameTrees};
-ghost use Rattle.isle_document_items.specs.Grammar.{IsDocument};
-ghost use Rattle.isle_document_items.specs.Tokens.{HaveSameTokens};
-ghost use Rattle.isle_parser_cursor.specs.Outcomes.{RefusesIn};
-ghost use Rattle.isle_syntax.specs.Format.{IsRefused, SpellsTree};
+ghost use Rattle.isle_base.specs.declared.fault.Fault.TheVariants.{Failed};
+ghost use Rattle.isle_document.specs.Refused.{HasNoDocument, IsRefusedFor, IsWithin};
+ghost use Rattle.isle_document.specs.Tidied.{IsTidyTextOf};
 
+mod closings;
+mod gaps;
 pub mod laws;
-mod reading;
+mod lexemes;
+mod parentheses;
+mod reader;
+pub mod tidying;
+mod writing;
 
-use isle_document_layout::tidy_text;
-use isle_syntax::lexer::Fault;
-use reading::read_through;
+use isle_base::lexer::Fault;
 use std::alloc::Global;
+use tidying::Tidying;
 
-/// Tidies a text of ISLE: lays it out at this width in bytes, and keeps every comment.
+/// Tidies a text of ISLE: keeps the author's lines and every comment, and mends columns and gaps.
 ///
-/// The answer has the same tokens as they are written (`0x10` stays `0x10`) and the same comments
-/// with the same bytes, in the same order. Each is beside, below or apart from what it was
-/// beside, below or apart from, as far as the document of the text says; so the answer spells the
-/// same tree, positions erased, and it is its own tidy text.
+/// The answer has the same lexemes as they are written (`0x10` stays `0x10`) in the same order, a
+/// line comment without the spaces and tabs at its end. The same of them begin lines. No more than
+/// two empty lines stand in a row, and none at the start. Lines end with LF, also the last.
+/// Tidying the answer gives it back.
 ///
-/// A list is on one line exactly where nothing in it forces a break (a line comment, a line end
-/// in a block comment, a comment that stood on a line of its own, an empty line) and its counted
-/// length fits what is left of the line. At most one empty line is kept between two things, and
-/// none right behind `(` nor before the text.
-///
-/// `Error` comes exactly where `parse` refuses the text: it is a parse error whose span begins in
-/// file 0, at a byte of the text or at its end. `Memory` comes where a growth was refused.
-/// `Failed` never comes.
-pub fn tidy(alloc: Global, text: &str, width: usize) -> Result<String, Fault>
-    // What `Ok` holds: the text spells a tree, and has one document.
-    ensures spelt { OnOk result (SpellsTree text.now) }
-    ensures document { OnOk result (HasOneDocument text.now) }
-    // The answer is the tidy text of that document, and has the same document.
-    ensures tidied { IfOk result (λ answer. OfItsDocument text.now
-        (IsTidyText width (string_bytes answer))) }
-    ensures kept { IfOk result (λ answer. OfItsDocument text.now
-        (IsDocument (string_bytes answer))) }
-    ensures same_tokens { IfOk result (λ answer. HaveSameTokens text.now (string_bytes answer)) }
-    ensures same_trees { IfOk result (λ answer. SpellSameTrees text.now (string_bytes answer)) }
-    ensures again { IfOk result (λ answer. OfItsDocument (string_bytes answer)
-        (IsTidyText width (string_bytes answer))) }
-
-    // When each error comes.
-    ensures refused { IfErr result (IfError (λ e.
-        IsRefused text.now × RefusesIn 0 (length text.now) e)) }
+/// `Error` comes exactly where the text has no document. It is a parse error in file 0. Its span
+/// is one byte: that at which the lexer's fault begins, the first `)` without its `(`, or a `(`
+/// without its `)` that is in no other list. `Memory` comes where a growth was refused. `Failed`
+/// never comes.
+pub fn tidy(alloc: Global, text: &str) -> Result<String, Fault>
+    ensures tidied { IfOk result (λ answer. IsTidyTextOf text.now (string_bytes answer)) }
+    ensures refused { IfErr result (IfError (λ e. HasNoDocument text.now
+        × IsRefusedFor text.now e × IsWithin (length text.now) e)) }
     ensures never_failed { result ≢ Err Failed }
 {
-    read_through(alloc, text)?;
-    match tidy_text(alloc, text, width)? {
-        Some(answer) => Ok(answer),
-        None => unreachable!(),
-    }
+    let mut tidying = Tidying::new(alloc, text)?;
+    let mut answer = String::new(alloc);
+    while tidying.put_next(&mut answer)? {}
+    Ok(answer)
 }

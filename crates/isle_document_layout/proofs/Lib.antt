@@ -1,8 +1,4 @@
-pub mod Moved
-pub mod Documents
-pub mod Spaces
-pub mod Keeps
-pub mod WrittenPieces
-pub mod OneLineLists
-pub mod Streams
-pub mod WrittenEntries
+pub mod Again
+pub mod Prints
+pub mod Stacks
+pub mod Trims

@@ -1,8 +1,8 @@
-pub mod Documents
-pub mod KindView
-pub mod ListEnds
-pub mod OneLine
-pub mod Spacing
-pub mod Tidy
-pub mod Written
-pub mod Tidied
+pub mod Entries
+pub mod EntriesView
+pub mod Heads
+pub mod PlacerView
+pub mod Placing
+pub mod Printed
+pub mod Stack
+pub mod Writing

@@ -1,10 +1,14 @@
-//! The layout of documents: the tidy text of a document at a width.
+//! Where the entries of a document are placed: the layout of `isle_document`.
+//!
+//! A document is a flat list of entries. Each is a lexeme as it is written (`(`, `)`, `@`, an atom,
+//! a line comment or a block comment) with the gap before it. The layout keeps the author's lines.
+//! It mends columns and gaps, and it knows nothing of definitions. Columns count characters.
 #![tactic(auto)]
 
+mod changes;
+pub mod columns;
+pub mod entries;
 pub mod laws;
-pub mod spacing;
-mod streaming;
-mod writing;
-
-pub use streaming::tidy_text;
-pub use writing::tidy_document;
+pub mod placer;
+pub mod placing;
+mod stack;

@@ -1,39 +1,30 @@
 -- What is said of a text, put together from what its parts promise.
 use Rattle.std.proofs.Common.{◌≡◌, ◌⊎◌, inl, inr, ℕ, ◌+◌, ◌-◌, ◌^◌, List, [], ◌∷◌, Result, Ok, Err, IfOk, codes, refl, subst, ap, ◌∙◌}
 use Rattle.std.specs.Prelude.{min}
-use Rattle.isle_base_errors.specs.declared.error.Error.{Error}
-use Rattle.isle_base_errors.specs.declared.error.Span.{Span}
-use Rattle.isle_base_errors.specs.declared.pos.Pos.{Pos}
-use Rattle.isle_base_errors.specs.Diagnostic.{report_text}
-use Rattle.isle_program.specs.Diagnostics.{only_file}
+use Rattle.isle_base_source.specs.declared.error.Error.{Error}
+use Rattle.isle_base_source.specs.declared.error.Span.{Span}
+use Rattle.isle_base_source.specs.declared.pos.Pos.{Pos}
+use Rattle.isle_base_source.specs.Diagnostic.{report_text}
+use Rattle.isle_cli.specs.Diagnostics.{only_file}
 use Rattle.isle_base.specs.Place.{in_file, nowhere, placed}
-use Rattle.isle_ast_rules.specs.Tree.{RuleDefinition}
 use Rattle.isle_ast.proofs.Writable.Spelt.{spelt_is_writable}
 use Rattle.isle_ast.specs.Erased.{erase}
 use Rattle.isle_ast.specs.Spelt.{IsSpelt}
 use Rattle.isle_ast.specs.Tree.{Definition}
 use Rattle.isle_ast.specs.Writable.{AreWritable}
 use Rattle.isle_printer.specs.Printed.{IsPrinted}
-use Rattle.isle_expand_rules.specs.Definitions.{AreExpanded}
-use Rattle.isle_expand_rules.specs.declared.misuse.Misuse.{Misuse}
-use Rattle.isle_expand_rules.specs.Misuses.{misuse_pos, misuse_text}
-use Rattle.isle_expand.proofs.WritableLemmas.{expansion-writable}
-use Rattle.isle_expand.specs.Expansion.{HasNoPrint, IsExpansionOf, IsMisused, IsPrintOfExpansion, IsShownAt, IsTypeErrorAt, IsUnwritable, shown_place, unwritable_words}
+use Rattle.isle_expansion.specs.Definitions.{AreExpanded}
+use Rattle.isle_expansion.specs.Misuses.{IsFirstMisuse, MisuseNode, misuse_pos, misuse_text}
+use Rattle.isle_expansion.proofs.Writing.{expanded_writable}
+use Rattle.isle_expand.specs.Expansion.{HasNoPrint, IsExpansionOf, IsMisused, IsPrintOfExpansion, IsShownAt, IsTypeErrorAt, shown_place}
 use Rattle.isle_expand.specs.Trees.{IsTreeOf}
-use Rattle.isle_expand.specs.Unwritable.{AreRulesWritable, IsFirstUnwritable}
 
--- a misuse is shown of a text whose tree has no expansion
-pub misuse-shown : (text shown : List ℕ) (tree : List Definition) (misuse : Misuse) → IsTreeOf text tree
-    → ((es : List Definition) → AreExpanded tree es → ⊥)
+-- the first misuse is shown of a text whose tree has no expansion
+pub misuse-shown : (text shown : List ℕ) (tree : List Definition) (misuse : MisuseNode) → IsTreeOf text tree
+    → ((es : List Definition) → AreExpanded tree es → ⊥) → IsFirstMisuse tree misuse
     → IsShownAt (misuse_text misuse) (misuse_pos misuse) text shown → HasNoPrint text shown
-misuse-shown text shown tree misuse of_text none is =
-    inr (inl (record { tree = tree; of_text = of_text; none = none; misuse = misuse; is = is }))
-
--- the first rule of an expansion that isn't writable is shown
-pub unwritable-shown : (text shown : List ℕ) (expansion : List Definition) (first : RuleDefinition) → IsExpansionOf text expansion
-    → IsFirstUnwritable expansion first → IsShownAt unwritable_words first.pos text shown → HasNoPrint text shown
-unwritable-shown text shown expansion first of_text is_first is =
-    inr (inr (record { expansion = expansion; of_text = of_text; first = first; is_first = is_first; is = is }))
+misuse-shown text shown tree misuse of_text none first is =
+    inr (record { tree = tree; of_text = of_text; none = none; misuse = misuse; first = first; is = is })
 
 -- the print of an expansion
 pub expansion-printed : (width : ℕ) (text print : List ℕ) (expansion : List Definition) → IsExpansionOf text expansion
@@ -41,13 +32,12 @@ pub expansion-printed : (width : ℕ) (text print : List ℕ) (expansion : List 
 expansion-printed width text print expansion of_text printed read_back =
     record { expansion = expansion; of_text = of_text; printed = printed; read_back = read_back }
 
--- the expansion of a text's tree is writable if its rules are, since the tree is
-pub expansion-of-text-writable : (text : List ℕ) (expansion : List Definition) → IsExpansionOf text expansion
-    → AreRulesWritable expansion → AreWritable expansion
-expansion-of-text-writable text expansion of rules =
+-- the expansion of a text's tree is writable, since the tree is
+pub expansion-of-text-writable : (text : List ℕ) (expansion : List Definition) → IsExpansionOf text expansion → AreWritable expansion
+expansion-of-text-writable text expansion of =
     let spelt = of.of_text.spelt in
     let w = spelt_is_writable of.tree (placed (in_file 0) spelt.0) spelt.2 in
-    expansion-writable of.tree expansion of.expanded w rules
+    expanded_writable of.tree expansion of.expanded w
 
 pos-same : (p : Pos) (file offset : ℕ) → p.file ≡ file → p.offset ≡ offset → p ≡ record { file = file; offset = offset }
 pos-same p file offset f o =

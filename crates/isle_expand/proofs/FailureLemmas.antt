@@ -1,6 +1,6 @@
 -- What is said of a failure, and the text that goes with its status.
 use Rattle.std.proofs.Common.{◌≡◌, ℕ, List, Option, string_bytes, refl, subst, sym, ◌∙◌}
-use Rattle.isle_program.specs.Streams.{ReadsText, AppendsBeginning, WritesBeginning}
+use Rattle.isle_cli.specs.Streams.{ReadsText, AppendsBeginning, WritesBeginning}
 use Rattle.isle_expand.specs.declared.failure.Failure.{Failure}
 use Rattle.isle_expand.specs.declared.failure.Failure.TheVariants as failures
 use Rattle.isle_expand.specs.Expansion.{HasNoPrint}

@@ -1,4 +1,3 @@
 pub mod ExpansionLemmas
 pub mod FailureLemmas
 pub mod TreeLemmas
-pub mod WritableLemmas

@@ -1,7 +1,7 @@
 -- The tree of a text, and its refusal, from what lexer and parser promise.
 use Rattle.std.proofs.Common.{◌≡◌, ℕ, length, List, [], sym, subst, arith}
-use Rattle.isle_base_errors.specs.declared.error.Error.{Error}
-use Rattle.isle_base.specs.declared.lexer.Fault.{Fault}
+use Rattle.isle_base_source.specs.declared.error.Error.{Error}
+use Rattle.isle_base.specs.declared.fault.Fault.{Fault}
 use Rattle.isle_base.specs.Lexing.{lexes}
 use Rattle.isle_base.specs.Place.{in_file, placed}
 use Rattle.isle_base.specs.Steps.{IfError, RefusesStart}

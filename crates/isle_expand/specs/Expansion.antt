@@ -1,21 +1,18 @@
 -- What the program writes of a text: the print of its expansion, or why there is none.
 use Rattle.std.specs.Prelude.{◌≡◌, ◌⊎◌, ℕ, ◌+◌, ◌-◌, ◌^◌, min, List, codes, string_bytes}
 use Rattle.isle_base.specs.Place.{in_file, nowhere}
-use Rattle.isle_base_errors.specs.declared.error.Error.{Error}
-use Rattle.isle_base_errors.specs.declared.error.Error.TheVariants.{TypeError}
-use Rattle.isle_base_errors.specs.declared.pos.Pos.{Pos}
-use Rattle.isle_ast_rules.specs.Tree.{RuleDefinition}
+use Rattle.isle_base_source.specs.declared.error.Error.{Error}
+use Rattle.isle_base_source.specs.declared.error.Error.TheVariants.{TypeError}
+use Rattle.isle_base_source.specs.declared.pos.Pos.{Pos}
 use Rattle.isle_ast.specs.Erased.{erase}
 use Rattle.isle_ast.specs.Spelt.{IsSpelt}
 use Rattle.isle_ast.specs.Tree.{Definition}
 use Rattle.isle_printer.specs.Printed.{IsPrinted}
-use Rattle.isle_program.specs.Diagnostics.{IsRefusal, refusal_text}
-use Rattle.isle_expand_rules.specs.Definitions.{AreExpanded, AreFree}
-use Rattle.isle_expand_rules.specs.declared.misuse.Misuse.{Misuse}
-use Rattle.isle_expand_rules.specs.Macros.{macros_in}
-use Rattle.isle_expand_rules.specs.Misuses.{misuse_pos, misuse_text}
+use Rattle.isle_cli.specs.Diagnostics.{IsRefusal, refusal_text}
+use Rattle.isle_expansion.specs.Definitions.{AreExpanded, AreFree}
+use Rattle.isle_expansion.specs.Macros.{macros_in}
+use Rattle.isle_expansion.specs.Misuses.{IsFirstMisuse, MisuseNode, misuse_pos, misuse_text}
 use Rattle.isle_expand.specs.Trees.{IsRefused, IsTreeOf}
-use Rattle.isle_expand.specs.Unwritable.{IsFirstUnwritable}
 
 -- These definitions are the one expansion of the text's one tree: no use of an extractor is left in them, and no
 -- extractor.
@@ -48,28 +45,15 @@ abbrev pub IsShownAt : List ℕ → Pos → (text shown : List ℕ) → Type 0
 IsShownAt words pos text shown =
     (e : Error) × IsTypeErrorAt words (shown_place pos) e × (shown ≡ refusal_text (codes "<stdin>") text e)
 
--- the text's tree has no expansion, and this shows a misuse of an extractor for which it has none
+-- the text's tree has no expansion, and this shows the first misuse of an extractor in it
 pub record IsMisused (text shown : List ℕ) : Type 0 where
   pub tree : List Definition
   pub of_text : IsTreeOf text tree
   pub none : (expansion : List Definition) → AreExpanded tree expansion → ⊥
-  pub misuse : Misuse
+  pub misuse : MisuseNode
+  pub first : IsFirstMisuse tree misuse
   pub is : IsShownAt (misuse_text misuse) (misuse_pos misuse) text shown
 
--- what is said of a rule that isn't writable
-abbrev pub unwritable_words : List ℕ
-unwritable_words = codes "Pattern expands to what reads as the rule's name or priority"
-
--- the expansion of the text's tree has a rule that isn't writable, and this shows the first one
-pub record IsUnwritable (text shown : List ℕ) : Type 0 where
-  pub expansion : List Definition
-  pub of_text : IsExpansionOf text expansion
-  pub first : RuleDefinition
-  pub is_first : IsFirstUnwritable expansion first
-  pub is : IsShownAt unwritable_words first.pos text shown
-
--- nothing is printed of the text, and this shows why: it spells no tree, or its tree has no expansion, or the
--- expansion isn't writable
+-- nothing is printed of the text, and this shows why: it spells no tree, or its tree has no expansion
 abbrev pub HasNoPrint : (text shown : List ℕ) → Type 0
-HasNoPrint text shown =
-    (IsRefused text × IsRefusal (codes "<stdin>") text shown) ⊎ (IsMisused text shown ⊎ IsUnwritable text shown)
+HasNoPrint text shown = (IsRefused text × IsRefusal (codes "<stdin>") text shown) ⊎ IsMisused text shown

@@ -1,11 +1,11 @@
 -- Why the program writes no expansion: what each reason says, its status, and what standard error gets.
 use Rattle.std.specs.Prelude.{◌≡◌, ℕ, List, Option, codes, string_bytes}
 use Rattle.std.specs.Io.KnownBytes.{Keeps}
-use Rattle.isle_program.specs.Streams.{ReadsText, WritesBeginning}
-use Rattle.isle_program.specs.declared.streams.ReadFault.{ReadFault}
-use Rattle.isle_program.specs.declared.streams.ReadFault.TheVariants as read_faults
-use Rattle.isle_program.specs.declared.words.WordsFault.{WordsFault}
-use Rattle.isle_program.specs.declared.words.WordsFault.TheVariants as words_faults
+use Rattle.isle_cli.specs.Streams.{ReadsText, WritesBeginning}
+use Rattle.isle_cli.specs.declared.streams.ReadFault.{ReadFault}
+use Rattle.isle_cli.specs.declared.streams.ReadFault.TheVariants as read_faults
+use Rattle.isle_cli.specs.declared.words.WordsFault.{WordsFault}
+use Rattle.isle_cli.specs.declared.words.WordsFault.TheVariants as words_faults
 use Rattle.isle_expand.specs.declared.failure.Failure.{Failure}
 use Rattle.isle_expand.specs.declared.failure.Failure.TheVariants as failures
 use Rattle.isle_expand.specs.Expansion.{HasNoPrint, IsPrintOfExpansion}

@@ -1,5 +1,4 @@
 pub mod Expansion
 pub mod Failure
 pub mod Trees
-pub mod Unwritable
 pub mod Words

@@ -1,7 +1,7 @@
 -- The words of the command line: `isle-expand [WIDTH]`.
 use Rattle.std.specs.Prelude.{ℕ, List, [], ◌∷◌}
 use Rattle.std.specs.Str.Parse.{digits_value}
-use Rattle.isle_program.specs.Words.{IsWidth}
+use Rattle.isle_cli.specs.Words.{IsWidth}
 
 -- there is no word, or one, which is a width
 abbrev pub GiveWidth : List (List ℕ) → Type 0

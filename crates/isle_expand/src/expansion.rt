@@ -1,29 +1,24 @@
 //! From a text to the print of its expansion.
 
-ghost use Rattle.std.specs.Prelude.{◌≡◌, IfErr, IfOk, IfSome, None, false, string_bytes};
+ghost use Rattle.std.specs.Prelude.{◌≡◌, IfErr, IfOk, false, string_bytes};
 ghost use Rattle.isle_base.specs.Place.{nowhere};
-ghost use Rattle.isle_ast_rules.specs.TreeView.{rule_of};
-ghost use Rattle.isle_ast_rules.specs.Writable.{IsWritableRule};
 ghost use Rattle.isle_ast.specs.Erased.{erase};
 ghost use Rattle.isle_ast.specs.MacroArgs.{definitions_have_macro_arg};
 ghost use Rattle.isle_ast.specs.Spelt.{IsSpelt};
-ghost use Rattle.isle_ast.specs.Tree.{rule};
-ghost use Rattle.isle_ast.specs.TreeView.{definition_of, definitions_of};
+ghost use Rattle.isle_ast.specs.TreeView.{definitions_of};
 ghost use Rattle.isle_ast.specs.Writable.{AreWritable};
 ghost use Rattle.isle_printer.specs.Printed.{IsPrinted};
-ghost use Rattle.isle_expand_rules.specs.Misuses.{misuse_pos, misuse_text};
-ghost use Rattle.isle_expand.specs.Expansion.{IsExpansionOf, IsPrintOfExpansion, IsShownAt};
-ghost use Rattle.isle_expand.specs.Expansion.{unwritable_words};
+ghost use Rattle.isle_expansion.specs.Misuses.{misuse_pos, misuse_text};
+ghost use Rattle.isle_expansion.specs.Views.{misuse_of};
+ghost use Rattle.isle_expand.specs.Expansion.{IsPrintOfExpansion, IsShownAt};
 ghost use Rattle.isle_expand.specs.Failure.{IsExpandFailure};
 ghost use Rattle.isle_expand.specs.Trees.{IsTreeOf};
-ghost use Rattle.isle_expand.specs.Unwritable.{AreRulesWritable, IsFirstUnwritable};
-ghost use Rattle.isle_expand.specs.Unwritable.{IsNoUnwritableRule};
 
 use crate::failure::Failure;
 use crate::trees::read_defs;
-use isle_expand_rules::{ExpandFault, Misuse, expanded};
-use isle_program::diagnostics::{diagnostic, shown_errors};
-use isle_syntax::ast::{Def, Rule};
+use isle_cli::diagnostics::{diagnostic, shown_errors};
+use isle_expansion::{ExpandFault, Misuse, expanded};
+use isle_syntax::ast::Def;
 use isle_syntax::error::{Error, Span};
 use isle_syntax::lexer::{Fault, Pos};
 use isle_syntax::printer::{PrintFault, print};
@@ -31,9 +26,6 @@ use std::alloc::{AllocError, Global};
 
 /// The name that stands for standard input.
 const INPUT_NAME: &str = "<stdin>";
-
-/// What is said of a rule that isn't writable once it is expanded.
-const UNWRITABLE: &str = "Pattern expands to what reads as the rule's name or priority";
 
 /// Makes the print of a text's expansion, or tells why there is none.
 pub fn printed_expansion(alloc: Global, text: &str, width: usize) -> Result<String, Failure>
@@ -65,24 +57,11 @@ fn printed_definitions(
     ensures err { IfErr result (λ failure. IsExpandFailure failure text.now) }
 {
     match expanded(alloc, defs) {
-        Ok(expansion) => print_of(alloc, text, &expansion, width),
+        Ok(expansion) => print_writable(alloc, &expansion, width),
         Err(ExpandFault::Misuse(misuse)) => {
             Err(Failure::Refused(shown_misuse(alloc, text, &misuse)?))
         }
         Err(ExpandFault::Memory) => Err(Failure::Memory),
-    }
-}
-
-/// Makes the print of a text's expansion, if that is writable.
-fn print_of(alloc: Global, text: &str, expansion: &[Def], width: usize) -> Result<String, Failure>
-    requires { IsExpansionOf text.now (definitions_of expansion.now) }
-    ensures ok { IfOk result
-        (λ answer. IsPrintOfExpansion width text.now (string_bytes answer)) }
-    ensures err { IfErr result (λ failure. IsExpandFailure failure text.now) }
-{
-    match first_unwritable(expansion) {
-        Some(rule) => Err(Failure::Refused(shown_unwritable(alloc, text, rule)?)),
-        None => print_writable(alloc, expansion, width),
     }
 }
 
@@ -102,48 +81,13 @@ fn print_writable(alloc: Global, defs: &[Def], width: usize) -> Result<String, F
     }
 }
 
-/// Finds the first rule that isn't writable.
-fn first_unwritable(defs: &[Def]) -> Option<&Rule>
-    ensures some { IfSome result
-        (λ rule. IsFirstUnwritable (definitions_of defs.now) (rule_of rule.now)) }
-    ensures none { result ≡ None → AreRulesWritable (definitions_of defs.now) }
-{
-    for def in defs {
-        if let Some(rule) = unwritable_rule(def) {
-            return Some(rule);
-        }
-    }
-    None
-}
-
-/// Gives the rule that a definition is, if it isn't writable.
-fn unwritable_rule(def: &Def) -> Option<&Rule>
-    ensures some { IfSome result (λ found. (definition_of def.now ≡ rule (rule_of found.now))
-        × (¬ (IsWritableRule (rule_of found.now)))) }
-    ensures none { result ≡ None → IsNoUnwritableRule (definition_of def.now) }
-{
-    match def {
-        Def::Rule(rule) if !def.is_writable() => Some(rule),
-        _ => None,
-    }
-}
-
 /// What is shown of a misuse of an extractor.
 fn shown_misuse(alloc: Global, text: &str, misuse: &Misuse) -> Result<String, AllocError>
-    ensures { IfOk result (λ shown. IsShownAt (misuse_text misuse.now) (misuse_pos misuse.now)
-        text.now (string_bytes shown)) }
+    ensures { IfOk result (λ shown. IsShownAt (misuse_text (misuse_of misuse.now))
+        (misuse_pos (misuse_of misuse.now)) text.now (string_bytes shown)) }
 {
     let msg = misuse.to_string(alloc)?;
     shown_at(alloc, text, msg, misuse.pos())
-}
-
-/// What is shown of a rule that isn't writable once it is expanded.
-fn shown_unwritable(alloc: Global, text: &str, rule: &Rule) -> Result<String, AllocError>
-    ensures { IfOk result (λ shown.
-        IsShownAt unwritable_words rule.now.pos text.now (string_bytes shown)) }
-{
-    let msg = String::from_str(alloc, UNWRITABLE)?;
-    shown_at(alloc, text, msg, rule.pos)
 }
 
 /// What is shown of an error at a place of a text: the message, and the place with its line.

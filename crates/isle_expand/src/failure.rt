@@ -4,8 +4,8 @@ ghost use Rattle.std.specs.Prelude.{◌≡◌};
 ghost use Rattle.isle_expand.specs.Failure.{read_failure, status_of, text_of, words_failure};
 ghost use Rattle.isle_expand.specs.declared.failure.Failure.TheVariants.{Memory};
 
-use isle_program::streams::ReadFault;
-use isle_program::words::WordsFault;
+use isle_cli::streams::ReadFault;
+use isle_cli::words::WordsFault;
 use std::alloc::{AllocError, AllocFailed};
 
 /// Why the program writes no expansion.

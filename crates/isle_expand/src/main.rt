@@ -7,7 +7,7 @@ mod program;
 mod trees;
 
 use failure::Failure;
-use isle_program::words::taken_words;
+use isle_cli::words::taken_words;
 use program::report;
 pub use program::run;
 use std::process::ExitCode;

@@ -2,15 +2,15 @@
 
 ghost use Rattle.std.specs.Prelude.{◌≡◌, ◌≢◌, ◌≤◌, map, string_bytes, IfOk, IfErr, OnOk};
 ghost use Rattle.std.specs.Io.KnownBytes.{Appends, Keeps};
-ghost use Rattle.isle_program.specs.Streams.{AppendsBeginning, ReadsText, Writes, WritesBeginning};
+ghost use Rattle.isle_cli.specs.Streams.{AppendsBeginning, ReadsText, Writes, WritesBeginning};
 ghost use Rattle.isle_expand.specs.Expansion.{HasNoPrint, IsPrintOfExpansion};
 ghost use Rattle.isle_expand.specs.Failure.{Explains, IsDiagnostic, status_of, text_of};
 ghost use Rattle.isle_expand.specs.Words.{GiveWidth, given_width};
 
 use crate::expansion::printed_expansion;
 use crate::failure::Failure;
-use isle_program::streams::{read_text, write_whole};
-use isle_program::words::parsed_width;
+use isle_cli::streams::{read_text, write_whole};
+use isle_cli::words::parsed_width;
 use std::alloc::Global;
 use std::io::{Read, Write};
 

@@ -4,7 +4,7 @@ ghost use Rattle.std.specs.Prelude.{◌≡◌, ◌≢◌, length, Err, IfErr, If
 ghost use Rattle.isle_ast.specs.MacroArgs.{definitions_have_macro_arg};
 ghost use Rattle.isle_ast.specs.TreeView.{definitions_of};
 ghost use Rattle.isle_base.specs.Steps.{IfError};
-ghost use Rattle.isle_base.specs.declared.lexer.Fault.TheVariants.{Failed};
+ghost use Rattle.isle_base.specs.declared.fault.Fault.TheVariants.{Failed};
 ghost use Rattle.isle_parser_cursor.specs.Outcomes.{RefusesIn};
 ghost use Rattle.isle_expand.specs.Trees.{IsRefused, IsTreeOf};
 

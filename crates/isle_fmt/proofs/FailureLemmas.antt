@@ -1,7 +1,7 @@
 -- What is said of a failure, and the text that goes with its status.
 use Rattle.std.proofs.Common.{◌≡◌, ℕ, List, Option, string_bytes, refl, subst, sym, ◌∙◌}
 use Rattle.isle_syntax.specs.Format.{IsRefused}
-use Rattle.isle_program.specs.Streams.{ReadsText, AppendsBeginning, WritesBeginning}
+use Rattle.isle_cli.specs.Streams.{ReadsText, AppendsBeginning, WritesBeginning}
 use Rattle.isle_fmt.specs.declared.program.Failure.{Failure}
 use Rattle.isle_fmt.specs.declared.program.Failure.TheVariants as failures
 use Rattle.isle_fmt.specs.Failure.{status_of, text_of, IsDiagnostic, IsRefusal, Explains}

@@ -2,12 +2,12 @@
 -- error gets.
 use Rattle.std.specs.Prelude.{◌≡◌, ℕ, List, Option, codes, string_bytes}
 use Rattle.std.specs.Io.KnownBytes.{Keeps}
-use Rattle.isle_program.specs.Diagnostics as diagnostics
-use Rattle.isle_program.specs.Streams.{ReadsText, WritesBeginning}
-use Rattle.isle_program.specs.declared.streams.ReadFault.{ReadFault}
-use Rattle.isle_program.specs.declared.streams.ReadFault.TheVariants as read_faults
-use Rattle.isle_program.specs.declared.words.WordsFault.{WordsFault}
-use Rattle.isle_program.specs.declared.words.WordsFault.TheVariants as words_faults
+use Rattle.isle_cli.specs.Diagnostics as diagnostics
+use Rattle.isle_cli.specs.Streams.{ReadsText, WritesBeginning}
+use Rattle.isle_cli.specs.declared.streams.ReadFault.{ReadFault}
+use Rattle.isle_cli.specs.declared.streams.ReadFault.TheVariants as read_faults
+use Rattle.isle_cli.specs.declared.words.WordsFault.{WordsFault}
+use Rattle.isle_cli.specs.declared.words.WordsFault.TheVariants as words_faults
 use Rattle.isle_syntax.specs.Format.{IsFormatted, IsRefused}
 use Rattle.isle_fmt.specs.declared.program.Failure.{Failure}
 use Rattle.isle_fmt.specs.declared.program.Failure.TheVariants as failures

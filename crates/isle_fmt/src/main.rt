@@ -3,7 +3,7 @@
 
 mod program;
 
-use isle_program::words::taken_words;
+use isle_cli::words::taken_words;
 pub use program::run;
 use program::{Failure, report};
 use std::process::ExitCode;

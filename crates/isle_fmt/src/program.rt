@@ -3,15 +3,15 @@
 ghost use Rattle.std.specs.Prelude.{◌≡◌, ◌≢◌, ◌≤◌, map, string_bytes, IfOk, IfErr, OnOk};
 ghost use Rattle.std.specs.Io.KnownBytes.{Keeps};
 ghost use Rattle.isle_syntax.specs.Format.{IsFormatted, IsRefused};
-ghost use Rattle.isle_program.specs.Streams.{AppendsBeginning, ReadsText, Writes, WritesBeginning};
+ghost use Rattle.isle_cli.specs.Streams.{AppendsBeginning, ReadsText, Writes, WritesBeginning};
 ghost use Rattle.isle_fmt.specs.Failure.{Explains, IsDiagnostic, IsFormatFailure, IsRefusal};
 ghost use Rattle.isle_fmt.specs.Failure.{read_failure, status_of, text_of, words_failure};
 ghost use Rattle.isle_fmt.specs.Words.{GiveWidth, given_width};
 ghost use Rattle.isle_fmt.specs.declared.program.Failure.TheVariants.{Memory};
 
-use isle_program::diagnostics::diagnostic;
-use isle_program::streams::{ReadFault, read_text, write_whole};
-use isle_program::words::{WordsFault, parsed_width};
+use isle_cli::diagnostics::diagnostic;
+use isle_cli::streams::{ReadFault, read_text, write_whole};
+use isle_cli::words::{WordsFault, parsed_width};
 use isle_syntax::lexer::Fault;
 use std::alloc::{AllocError, Global};
 use std::io::{Read, Write};

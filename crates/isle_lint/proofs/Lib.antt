@@ -1,2 +1,4 @@
+pub mod AllowanceLemmas
 pub mod FailureLemmas
-pub mod TreeLemmas
+pub mod ReadingLemmas
+pub mod ReportLemmas

@@ -1,3 +1,5 @@
-pub mod Failure
-pub mod Linted
-pub mod Shown
+pub mod Allowances
+pub mod Options
+pub mod Reading
+pub mod Report
+pub mod Doing

@@ -1,23 +1,24 @@
-//! `isle-lint`: tells what a lint finds in ISLE source from standard input.
+//! `isle-lint [OPTION ..] [FILE ..]`: tells what lints find in ISLE source.
 #![tactic(auto)]
 
+mod allowances;
+mod options;
 mod program;
+mod reading;
+mod report;
 
-use isle_program::words::taken_words;
+use isle_cli::failure::Failure;
+use isle_cli::program::report as report_failure;
+use isle_cli::words::taken_words;
+use program::PROGRAM;
 pub use program::run;
-use program::{Failure, report};
 use std::process::ExitCode;
 
 fn main(rt: HostRuntime) -> ExitCode {
+    let (mut input, mut output, mut faults) = (rt.stdin(), rt.stdout(), rt.stderr());
     let status = match taken_words(&rt) {
-        Ok(words) => run(
-            rt.alloc(),
-            &words,
-            &mut rt.stdin(),
-            &mut rt.stdout(),
-            &mut rt.stderr(),
-        ),
-        Err(fault) => report(&Failure::from(fault), &mut rt.stderr()),
+        Ok(words) => run(&rt, &words, &mut input, &mut output, &mut faults),
+        Err(fault) => report_failure(&PROGRAM, &Failure::from(fault), &mut faults),
     };
     ExitCode::from(status)
 }

@@ -1,4 +1,4 @@
--- The flags of a declaration: which are read, and which term can stand behind them.
+-- The flags of a declaration: which are read, and which term can stand after them.
 use Rattle.std.proofs.Common.{◌≡◌, ℕ, ◌≤◌, Bool, true, false, List, length, refl, sym, ap, ◌∙◌, arith}
 use Rattle.std.proofs.lemmas.Bool.{and_parts}
 use Rattle.std.specs.Prelude.{codes, ◌&&◌, ◌||◌, not}
@@ -8,7 +8,7 @@ use Rattle.isle_ast_names.specs.Words.{SpellsFlag, SpellsName, demands}
 use Rattle.isle_ast_names.specs.Tree.{Name}
 use Rattle.isle_ast.specs.Tree.{Declaration}
 use Rattle.isle_ast.specs.TermGrammar.{term_is_no_flag}
-use Rattle.isle_parser_cursor.specs.Reading.{is_ahead, is_word}
+use Rattle.isle_parser_cursor.specs.Reading.{is_ahead, is_symbol_of}
 use Rattle.isle_parser_cursor.proofs.Flags.{ReadsFlag, name_ahead}
 
 pub flag_shorter : (word : List ℕ) (b : Bool) (all rest : List Placed) → SpellsFlag word b all rest → length rest ≤ length all
@@ -18,7 +18,7 @@ flag_shorter word false all rest h = rw h (omega arith)
 -- ---- what is ahead
 
 -- the word of a flag isn't ahead where another flag or what follows is
-pub unset_ahead : (word other : List ℕ) (b : Bool) (all rest : List Placed) → bytes_eq other word ≡ false → SpellsFlag other b all rest → (b ≡ false → is_ahead (is_word word) rest ≡ false) → is_ahead (is_word word) all ≡ false
+pub unset_ahead : (word other : List ℕ) (b : Bool) (all rest : List Placed) → bytes_eq other word ≡ false → SpellsFlag other b all rest → (b ≡ false → is_ahead (is_symbol_of word) rest ≡ false) → is_ahead (is_symbol_of word) all ≡ false
 unset_ahead word other true all rest apart h behind = rw h.1 apart
 unset_ahead word other false all rest apart h behind = rw h (behind refl)
 
@@ -59,8 +59,8 @@ pub record ReadsFront (d : Declaration) (all m p r t rest : List Placed) : Type 
   pub term : SpellsName d.term t rest
 
 -- a word that isn't ahead, and no flag before the term: then the term is another word
-other_term : (word : List ℕ) (n : Name) (i t rest : List Placed) → SpellsName n t rest → i ≡ t → is_ahead (is_word word) i ≡ false → bytes_eq n.text word ≡ false
-other_term word n i t rest h is unset = sym (name_ahead word n t rest h) ∙ ap (is_ahead (is_word word)) (sym is) ∙ unset
+other_term : (word : List ℕ) (n : Name) (i t rest : List Placed) → SpellsName n t rest → i ≡ t → is_ahead (is_symbol_of word) i ≡ false → bytes_eq n.text word ≡ false
+other_term word n i t rest h is unset = sym (name_ahead word n t rest h) ∙ ap (is_ahead (is_symbol_of word)) (sym is) ∙ unset
 
 front_demands : (d : Declaration) (all m p r t rest : List Placed) → ReadsFront d all m p r t rest → term_is_no_flag d ≡ true
 front_demands d all m p r t rest f =
@@ -104,18 +104,19 @@ front_sound d all m p r t rest f =
 
 -- where a flag isn't set, its word isn't ahead of what follows
 pub record Unset (d : Declaration) (m p r t : List Placed) : Type 0 where
-  pub pure : d.pure ≡ false → is_ahead (is_word (codes "pure")) m ≡ false
-  pub multi : d.multi ≡ false → is_ahead (is_word (codes "multi")) p ≡ false
-  pub partial : d.partial ≡ false → is_ahead (is_word (codes "partial")) r ≡ false
-  pub rec : d.rec ≡ false → is_ahead (is_word (codes "rec")) t ≡ false
+  pub pure : d.pure ≡ false → is_ahead (is_symbol_of (codes "pure")) m ≡ false
+  pub multi : d.multi ≡ false → is_ahead (is_symbol_of (codes "multi")) p ≡ false
+  pub partial : d.partial ≡ false → is_ahead (is_symbol_of (codes "partial")) r ≡ false
+  pub rec : d.rec ≡ false → is_ahead (is_symbol_of (codes "rec")) t ≡ false
 
-term_ahead : (word : List ℕ) (n : Name) (t rest : List Placed) (any : Bool) → SpellsName n t rest → demands n.text word any ≡ true → any ≡ false → is_ahead (is_word word) t ≡ false
+term_ahead : (word : List ℕ) (n : Name) (t rest : List Placed) (any : Bool) → SpellsName n t rest → demands n.text word any ≡ true → any ≡ false → is_ahead (is_symbol_of word) t ≡ false
 term_ahead word n t rest any h demand none = name_ahead word n t rest h ∙ demand_unset n.text word any demand none
 
 pub front_unset : (d : Declaration) (all m p r t rest : List Placed) → Front d all m p r t rest → Unset d m p r t
 front_unset d all m p r t rest f =
     let text = d.term.text in
-    let umpr = and_parts (demands text (codes "pure") (d.pure || d.multi || d.partial || d.rec) && demands text (codes "multi") (d.multi || d.partial || d.rec) && demands text (codes "partial") (d.partial || d.rec)) (demands text (codes "rec") d.rec) f.demands in
+    let umpr = and_parts (demands text (codes "pure") (d.pure || d.multi || d.partial || d.rec) && demands text (codes "multi") (d.multi || d.partial || d.rec) && demands text (codes "partial")
+    (d.partial || d.rec)) (demands text (codes "rec") d.rec) f.demands in
     let ump = and_parts (demands text (codes "pure") (d.pure || d.multi || d.partial || d.rec) && demands text (codes "multi") (d.multi || d.partial || d.rec)) (demands text (codes "partial") (d.partial || d.rec)) umpr.0 in
     let um = and_parts (demands text (codes "pure") (d.pure || d.multi || d.partial || d.rec)) (demands text (codes "multi") (d.multi || d.partial || d.rec)) ump.0 in
     record {

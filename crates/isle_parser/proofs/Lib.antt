@@ -2,6 +2,6 @@ pub mod Flags
 pub mod Keywords
 pub mod Reading
 pub mod Positions
-pub mod Rows
+pub mod Lists
 pub mod Whole
 pub mod NextDefinition

@@ -4,17 +4,17 @@ use Rattle.isle_ast.specs.Grammar.{SpellsDefinition}
 use Rattle.isle_ast.specs.MacroArgs.{definition_has_macro_arg}
 use Rattle.isle_ast.specs.Tree.{Definition}
 use Rattle.isle_ast.proofs.NoMacroArgs.{spelt_definition_has_no_macro_arg}
-use Rattle.isle_base_errors.specs.declared.error.Error.{Error}
-use Rattle.isle_base.specs.declared.lexer.Fault.{Fault}
-use Rattle.isle_base.specs.declared.lexer.Fault.TheVariants as faults
-use Rattle.isle_base_errors.specs.declared.pos.Pos.{Pos}
+use Rattle.isle_base_source.specs.declared.error.Error.{Error}
+use Rattle.isle_base.specs.declared.fault.Fault.{Fault}
+use Rattle.isle_base.specs.declared.fault.Fault.TheVariants as faults
+use Rattle.isle_base_source.specs.declared.pos.Pos.{Pos}
 use Rattle.isle_base.specs.Place.{Placed, in_file, placed}
 use Rattle.isle_base.specs.Steps.{IfError, Rises, ended_by, failed_by, is_at_end, is_failed}
 use Rattle.isle_base.specs.Token.{Ending, Feed, Lexeme, Tok, end, fault}
 use Rattle.isle_ast.specs.declared.ast.Def.{Def}
 use Rattle.isle_parser.specs.declared.parser.Parser.{Parser}
 use Rattle.isle_parser.specs.DefinitionReaders.{definition, definitions}
-use Rattle.isle_parser.specs.NextDefinition.{RefusesNext, SpellsNone, fault_of, has_failed}
+use Rattle.isle_parser.specs.NextDefinition.{RefusesNext, SpellsNoDefinition, fault_of, has_failed}
 use Rattle.isle_parser.specs.Parsed.{FailsAs, Parses, RefusesText, RefusesWith, SpellsOnly}
 use Rattle.isle_parser.specs.Positions.{OneHasKnownPositions, OneHasPositions}
 use Rattle.isle_parser.proofs.Positions.Definitions.{definition_known, definition_positions}
@@ -23,7 +23,7 @@ use Rattle.isle_parser.proofs.Whole.{at_end_ends, fault_spells_nothing, not_pars
 use Rattle.isle_parser_cursor.specs.declared.cursor.Cursor.{Cursor}
 use Rattle.isle_parser_cursor.specs.declared.cursor.Stop.{Stop}
 use Rattle.isle_parser_cursor.specs.declared.cursor.Stop.TheVariants as stops
-use Rattle.isle_parser_cursor.specs.Outcomes.{RefusesIn, Source, StandsAtFault, Stops, placing, source, tokens}
+use Rattle.isle_parser_cursor.specs.Outcomes.{RefusesIn, CursorSource, StandsAtFault, Stops, placing, source, tokens}
 use Rattle.isle_parser_cursor.specs.Reading.{ends, is_ahead, many}
 use Rattle.isle_parser_cursor.proofs.Loops.{behind_front, loop_begin, loop_end, loop_none, loop_push}
 use Rattle.isle_parser_cursor.proofs.Readers.{begins_node}
@@ -34,17 +34,17 @@ none_some : {A : Type 0} (x : A) → None ≡ Some x → ⊥
 none_some x e = cc
 
 -- where no definition is read, none is spelt
-spells_none : (all : List Placed) → definition all ≡ None → SpellsNone all
+spells_none : (all : List Placed) → definition all ≡ None → SpellsNoDefinition all
 spells_none all e d rest h = none_some (d, rest) (sym e ∙ definition_read d all rest h)
 
-same_fault : (s t : Source) (e : Error) → s ≡ t → StandsAtFault s e → StandsAtFault t e
-same_fault s t e is h = subst (λ (u : Source). StandsAtFault u e) is h
+same_fault : (s t : CursorSource) (e : Error) → s ≡ t → StandsAtFault s e → StandsAtFault t e
+same_fault s t e is h = subst (λ (u : CursorSource). StandsAtFault u e) is h
 
 -- the fault is in the text
-stands_within : (s : Source) (e : Error) → StandsAtFault s e → RefusesIn s.file s.size e
+stands_within : (s : CursorSource) (e : Error) → StandsAtFault s e → RefusesIn s.file s.size e
 stands_within s e h = (h.0, h.2, h.3)
 
-pub next_refused : (old new : Cursor) (stop : Stop) → is_at_end old.lexer ≡ false → source new ≡ source old → Stops (definition (tokens old)) (source new) stop → IfError (RefusesNext old) (fault_of stop)
+pub next_refused : (old new : Cursor) (stop : Stop) → is_at_end old.scanner ≡ false → source new ≡ source old → Stops (definition (tokens old)) (source new) stop → IfError (RefusesNext old) (fault_of stop)
 next_refused old new (stops.Parser e) before same h =
     record {
       because = inl (spells_none (tokens old) h.0);
@@ -65,19 +65,19 @@ next_spelt old new d e = definition_sound (tokens old) (tokens new) d e
 pub next_only : (old new : Cursor) (d : Definition) → definition (tokens old) ≡ Some (d, tokens new) → (e : Definition) (rest : List Placed) → SpellsDefinition e (tokens old) rest → (e ≡ d) × (rest ≡ tokens new)
 next_only old new d read e rest h = one_definition e d (tokens old) rest (tokens new) h (next_spelt old new d read)
 
-in_its_file : (old new : Cursor) (d : Definition) → definition (tokens old) ≡ Some (d, tokens new) → old.disable_pos ≡ false → SpellsDefinition d (placed (in_file old.lexer.file) old.lexer.coming) (tokens new)
-in_its_file old new d read keeps = subst (λ (b : Bool). SpellsDefinition d (placed (placing b old.lexer.file) old.lexer.coming) (tokens new)) keeps (next_spelt old new d read)
+in_its_file : (old new : Cursor) (d : Definition) → definition (tokens old) ≡ Some (d, tokens new) → old.disable_pos ≡ false → SpellsDefinition d (placed (in_file old.scanner.file) old.scanner.coming) (tokens new)
+in_its_file old new d read keeps = subst (λ (b : Bool). SpellsDefinition d (placed (placing b old.scanner.file) old.scanner.coming) (tokens new)) keeps (next_spelt old new d read)
 
-pub next_positions : (old new : Cursor) (d : Definition) → definition (tokens old) ≡ Some (d, tokens new) → old.disable_pos ≡ false → OneHasPositions old.lexer.file old.lexer.coming d
-next_positions old new d read keeps = definition_positions old.lexer.file old.lexer.coming d (tokens new) (in_its_file old new d read keeps)
+pub next_positions : (old new : Cursor) (d : Definition) → definition (tokens old) ≡ Some (d, tokens new) → old.disable_pos ≡ false → OneHasPositions old.scanner.file old.scanner.coming d
+next_positions old new d read keeps = definition_positions old.scanner.file old.scanner.coming d (tokens new) (in_its_file old new d read keeps)
 
-pub next_known : (old new : Cursor) (d : Definition) → Rises 0 old.lexer.coming → definition (tokens old) ≡ Some (d, tokens new) → old.disable_pos ≡ false → OneHasKnownPositions d
-next_known old new d rising read keeps = definition_known old.lexer.file old.lexer.coming d (tokens new) rising (in_its_file old new d read keeps)
+pub next_known : (old new : Cursor) (d : Definition) → Rises 0 old.scanner.coming → definition (tokens old) ≡ Some (d, tokens new) → old.disable_pos ≡ false → OneHasKnownPositions d
+next_known old new d rising read keeps = definition_known old.scanner.file old.scanner.coming d (tokens new) rising (in_its_file old new d read keeps)
 
 pub next_no_macro_arg : (old new : Cursor) (d : Definition) → definition (tokens old) ≡ Some (d, tokens new) → definition_has_macro_arg d ≡ false
 next_no_macro_arg old new d read = spelt_definition_has_no_macro_arg d (tokens old) (tokens new) (next_spelt old new d read)
 
--- ---- what the loop over the definitions answers
+-- ---- what the loop over the definitions returns
 
 -- where nothing is at its end and nothing failed, a token is ahead
 ends_not : (xs : List Lexeme) (place : ℕ → Pos) (ending : Ending) → ended_by xs ending ≡ false → failed_by xs ending ≡ false → ends (placed place xs) ≡ false
@@ -110,7 +110,7 @@ memory_no_failure is = cc
 pub found_lives : (x : Option Def) (before : Bool) → (found x ≡ refusal faults.Failed) ↔ (before ≡ true) → before ≡ false
 found_lives x before h = not_failed (found x) before (found_no_failure x) h
 
--- `Failed` is answered exactly where something had failed
+-- `Failed` is returned exactly where something had failed
 fails_as : (f : Fault) (feed : Feed) → (refusal f ≡ refusal faults.Failed) ↔ (is_failed feed ≡ true) → FailsAs feed f
 fails_as (faults.Error e) feed h = not_failed (refusal (faults.Error e)) (is_failed feed) (error_no_failure e) h
 fails_as faults.Failed feed h = h.0 refl
@@ -126,44 +126,51 @@ or_false true = refl
 or_false false = refl
 
 -- an error in the middle refuses the whole text
-loop_refused : (start now : Cursor) (front : List Definition) (e : Error) → is_failed now.lexer ≡ false → source now ≡ source start → behind_front front (many ends definition (tokens now)) ≡ definitions (tokens start) → RefusesNext now e → RefusesWith (placing start.disable_pos start.lexer.file) start.lexer e
+loop_refused : (start now : Cursor) (front : List Definition) (e : Error) → is_failed now.scanner ≡ false → source now ≡ source start
+    → behind_front front (many ends definition (tokens now)) ≡ definitions (tokens start) → RefusesNext now e → RefusesWith (placing start.disable_pos start.scanner.file) start.scanner e
 loop_refused start now front e live same so_far h =
-    let place = placing start.disable_pos start.lexer.file in
+    let place = placing start.disable_pos start.scanner.file in
     let stands = same_text (source now) (source start) e same h.stands in
     elim h.because [
       | inl none ↦
-          let here = ends_not now.lexer.coming (placing now.disable_pos now.lexer.file) now.lexer.ending h.before_end live in
+          let here = ends_not now.scanner.coming (placing now.disable_pos now.scanner.file) now.scanner.ending h.before_end live in
           let nothing = loop_none definition ends definition_shrinks front (tokens now) (definitions (tokens start)) here (definition_not_read (tokens now) none) so_far in
-          (not_parsed place start.lexer nothing, stands)
+          (not_parsed place start.scanner nothing, stands)
       | inr broken ↦
           let there = same_fault (source now) (source start) e same broken in
-          (fault_spells_nothing place start.lexer there.0 there.1, stands)
+          (fault_spells_nothing place start.scanner there.0 there.1, stands)
     ]
 
-loop_text : (start now : Parser) (front : List Definition) (f : Fault) → source now.cursor ≡ source start.cursor → behind_front front (many ends definition (tokens now.cursor)) ≡ definitions (tokens start.cursor) → (refusal f ≡ refusal faults.Failed) ↔ (has_failed now ≡ true) → IfError (RefusesNext now.cursor) f → RefusesText (placing start.cursor.disable_pos start.cursor.lexer.file) start.cursor.lexer f
+loop_text : (start now : Parser) (front : List Definition) (f : Fault) → source now.cursor ≡ source start.cursor
+    → behind_front front (many ends definition (tokens now.cursor)) ≡ definitions (tokens start.cursor) → (refusal f ≡ refusal faults.Failed) ↔ (has_failed now ≡ true)
+    → IfError (RefusesNext now.cursor) f → RefusesText (placing start.cursor.disable_pos start.cursor.scanner.file) start.cursor.scanner f
 loop_text start now front (faults.Error e) same so_far fails h =
     let live = not_failed (refusal (faults.Error e)) (has_failed now) (error_no_failure e) fails in
-    loop_refused start.cursor now.cursor front e (neither (is_failed now.cursor.lexer) now.refused live).0 same so_far h
+    loop_refused start.cursor now.cursor front e (neither (is_failed now.cursor.scanner) now.refused live).0 same so_far h
 loop_text start now front faults.Failed same so_far fails h = tt
 loop_text start now front faults.Memory same so_far fails h = tt
 
--- what the loop answers where the next definition is refused
-pub loop_stops_at : (start now : Parser) (front : List Definition) (f : Fault) → source now.cursor ≡ source start.cursor → behind_front front (many ends definition (tokens now.cursor)) ≡ definitions (tokens start.cursor) → has_failed now ≡ is_failed start.cursor.lexer → (refusal f ≡ refusal faults.Failed) ↔ (has_failed now ≡ true) → IfError (RefusesNext now.cursor) f → Parses (placing start.cursor.disable_pos start.cursor.lexer.file) start.cursor.lexer (Err f)
+-- what the loop returns where the next definition is refused
+pub loop_stops_at : (start now : Parser) (front : List Definition) (f : Fault) → source now.cursor ≡ source start.cursor
+    → behind_front front (many ends definition (tokens now.cursor)) ≡ definitions (tokens start.cursor) → has_failed now ≡ is_failed start.cursor.scanner
+    → (refusal f ≡ refusal faults.Failed) ↔ (has_failed now ≡ true) → IfError (RefusesNext now.cursor) f
+    → Parses (placing start.cursor.disable_pos start.cursor.scanner.file) start.cursor.scanner (Err f)
 loop_stops_at start now front f same so_far fails_with fails h =
     let whole = subst (λ (b : Bool). (refusal f ≡ refusal faults.Failed) ↔ (b ≡ true)) fails_with fails in
-    (loop_text start now front f same so_far fails h, fails_as f start.cursor.lexer whole)
+    (loop_text start now front f same so_far fails h, fails_as f start.cursor.scanner whole)
 
 -- at the start nothing was read
 pub loop_starts : (all : List Placed) → behind_front [] (many ends definition all) ≡ definitions all
 unfolding definitions
 loop_starts all = loop_begin (many ends definition all)
 
--- the next definition goes behind those that were read
+-- the next definition goes after those that were read
 ahead_not_ends : (passes : Tok → Bool) (all : List Placed) → is_ahead passes all ≡ true → ends all ≡ false
 ahead_not_ends passes [] h = absurd cc
 ahead_not_ends passes (x ∷ xs) h = refl
 
-pub loop_goes_on : (front : List Definition) (d : Definition) (all rest : List Placed) (total : Option (List Definition × List Placed)) → SpellsDefinition d all rest → behind_front front (many ends definition all) ≡ total → behind_front (front ++ d ∷ []) (many ends definition rest) ≡ total
+pub loop_goes_on : (front : List Definition) (d : Definition) (all rest : List Placed) (total : Option (List Definition × List Placed)) → SpellsDefinition d all rest
+    → behind_front front (many ends definition all) ≡ total → behind_front (front ++ d ∷ []) (many ends definition rest) ≡ total
 loop_goes_on front d all rest total h so_far = loop_push definition ends definition_shrinks front all rest d total (ahead_not_ends begins_node all (definition_begins d all rest h).0) (definition_read d all rest h) so_far
 
 -- the list is whole at the end
@@ -171,14 +178,15 @@ at_end_is : (xs : List Lexeme) (place : ℕ → Pos) (ending : Ending) → ended
 at_end_is [] place ending h = refl
 at_end_is (x ∷ xs) place ending h = absurd cc
 
-pub loop_whole : (start now : Cursor) (front : List Definition) → source now ≡ source start → behind_front front (many ends definition (tokens now)) ≡ definitions (tokens start) → is_at_end now.lexer ≡ true → SpellsOnly (placing start.disable_pos start.lexer.file) start.lexer front
+pub loop_whole : (start now : Cursor) (front : List Definition) → source now ≡ source start → behind_front front (many ends definition (tokens now)) ≡ definitions (tokens start)
+    → is_at_end now.scanner ≡ true → SpellsOnly (placing start.disable_pos start.scanner.file) start.scanner front
 loop_whole start now front same so_far at_end =
-    let here = at_end_is now.lexer.coming (placing now.disable_pos now.lexer.file) now.lexer.ending at_end in
+    let here = at_end_is now.scanner.coming (placing now.disable_pos now.scanner.file) now.scanner.ending at_end in
     let read = loop_end definition ends definition_shrinks front (tokens now) (definitions (tokens start)) here so_far in
-    let ending : start.lexer.ending ≡ end = sym (same_ending (source now) (source start) same) ∙ at_end_ends now.lexer at_end in
-    parsed (placing start.disable_pos start.lexer.file) start.lexer front (tokens now) read ending
+    let ending : start.scanner.ending ≡ end = sym (same_ending (source now) (source start) same) ∙ at_end_ends now.scanner at_end in
+    parsed (placing start.disable_pos start.scanner.file) start.scanner front (tokens now) read ending
 
 -- the tokens rise from the first call on
-pub risen : (start now : Parser) → (now ≡ start) ⊎ Rises 0 start.cursor.lexer.coming → Rises 0 now.cursor.lexer.coming → Rises 0 start.cursor.lexer.coming
-risen start now (inl same) h = subst (λ (p : Parser). Rises 0 p.cursor.lexer.coming) same h
+pub risen : (start now : Parser) → (now ≡ start) ⊎ Rises 0 start.cursor.scanner.coming → Rises 0 now.cursor.scanner.coming → Rises 0 start.cursor.scanner.coming
+risen start now (inl same) h = subst (λ (p : Parser). Rises 0 p.cursor.scanner.coming) same h
 risen start now (inr rising) h = rising

@@ -2,25 +2,25 @@
 use Rattle.std.proofs.Common.{◌≡◌, ℕ, true, false, List, [], ◌∷◌, Some, None, Result, Ok, Err, refl, sym, ap, subst, ◌∙◌}
 use Rattle.std.specs.Global.{Vec}
 use Rattle.std.specs.Prelude.{IfOk, IfErr}
-use Rattle.isle_base_errors.specs.declared.error.Error.{Error}
-use Rattle.isle_base_errors.specs.declared.pos.Pos.{Pos}
+use Rattle.isle_base_source.specs.declared.error.Error.{Error}
+use Rattle.isle_base_source.specs.declared.pos.Pos.{Pos}
 use Rattle.isle_base.specs.Place.{Placed, in_file, nowhere, placed}
 use Rattle.isle_base.specs.Steps.{IfError, ended_by, is_at_end}
 use Rattle.isle_base.specs.Token.{Lexeme, Ending, end, fault, Feed}
-use Rattle.isle_base.specs.declared.lexer.Fault.{Fault}
+use Rattle.isle_base.specs.declared.fault.Fault.{Fault}
 use Rattle.isle_ast.specs.Tree.{Definition}
 use Rattle.isle_ast.specs.declared.ast.Def.{Def}
 use Rattle.isle_ast.specs.Erased.{erase}
 use Rattle.isle_ast.specs.MacroArgs.{definitions_have_macro_arg}
 use Rattle.isle_ast.specs.TreeView.{definitions_of}
 use Rattle.isle_ast.specs.Spelt.{Spells}
-use Rattle.isle_parser_cursor.specs.Outcomes.{Source, RefusesIn}
+use Rattle.isle_parser_cursor.specs.Outcomes.{CursorSource, RefusesIn}
 use Rattle.isle_parser.specs.Parsed.{Parses, RefusesText, RefusesWith, SpellsOnly}
 use Rattle.isle_parser.specs.DefinitionReaders.{definitions}
 use Rattle.isle_ast.proofs.Erasing.{text_erased, text_placed}
 use Rattle.isle_ast.proofs.NoMacroArgs.{spelt_has_no_macro_arg}
 use Rattle.isle_parser.proofs.Reading.Definitions.{definitions_sound, definitions_complete, one_list}
-use Rattle.isle_base.specs.declared.lexer.Fault.TheVariants as faults
+use Rattle.isle_base.specs.declared.fault.Fault.TheVariants as faults
 
 ended : (xs : List Lexeme) (ending : Ending) → ended_by xs ending ≡ true → ending ≡ end
 ended [] end e = refl
@@ -50,11 +50,11 @@ fault_spells_nothing place feed offset e ds h =
     absurd cc
 
 -- the text is the same, so what ends it does too
-pub same_ending : (s t : Source) → s ≡ t → s.ending ≡ t.ending
-same_ending s t e = ap (λ (u : Source). u.ending) e
+pub same_ending : (s t : CursorSource) → s ≡ t → s.ending ≡ t.ending
+same_ending s t e = ap (λ (u : CursorSource). u.ending) e
 
-pub same_text : (s t : Source) (e : Error) → s ≡ t → RefusesIn s.file s.size e → RefusesIn t.file t.size e
-same_text s t e is h = subst (λ (u : Source). RefusesIn u.file u.size e) is h
+pub same_text : (s t : CursorSource) (e : Error) → s ≡ t → RefusesIn s.file s.size e → RefusesIn t.file t.size e
+same_text s t e is h = subst (λ (u : CursorSource). RefusesIn u.file u.size e) is h
 
 -- what holds of the error makes another thing hold of it
 pub IfError-map : (P Q : Error → Type 0) (f : Fault) → ((e : Error) → P e → Q e) → IfError P f → IfError Q f

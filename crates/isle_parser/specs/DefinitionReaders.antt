@@ -2,12 +2,12 @@
 use Rattle.std.specs.Prelude.{ℕ, List, Some, None, if◌then◌else◌, codes}
 use Rattle.std.specs.Str.{bytes_eq}
 use Rattle.isle_ast.specs.Tree.{Declaration, Conversion, Definition, type_def, rule, extractor, decl, attr, spec, spec_macro, model, state, form, instantiation, external, converter}
-use Rattle.isle_parser_cursor.specs.Reading.{Reader, ◌>>=◌, text, flag, pos_ahead, ends, expect, in_parentheses, is_rparen, many}
+use Rattle.isle_parser_cursor.specs.Reading.{Reader, ◌>>=◌, text, flag, pos_ahead, ends, in_parentheses, many}
 use Rattle.isle_parser_cursor.specs.NameReaders.{name, names}
 use Rattle.isle_parser.specs.FormReaders.{form_definition, instantiation_of_term}
 use Rattle.isle_parser.specs.ModelReaders.{model_definition}
 use Rattle.isle_parser_rules.specs.RuleReaders.{rule_definition, extractor_definition}
-use Rattle.isle_parser_specs.specs.SpecDefinitionReaders.{spec_definition, spec_macro_definition, state_definition}
+use Rattle.isle_parser_verification.specs.SpecDefinitionReaders.{spec_definition, spec_macro_definition, state_definition}
 use Rattle.isle_parser.specs.TermReaders.{attribute, extern_definition}
 use Rattle.isle_parser.specs.TypeReaders.{type_definition}
 
@@ -49,16 +49,9 @@ pragma all = None
 unfoldable pub as_definition : {A : Type 0} → (A → Definition) → Reader A → Reader Definition
 as_definition kind read all = read all >>= λ x. Some (kind x.0, x.1)
 
--- what is read, and `)`
-unfoldable pub closed : {A : Type 0} → Reader A → Reader A
-closed read all = do
-  x ← read all
-  rest ← expect is_rparen x.1
-  Some (x.0, rest.1)
-
--- what stands behind this keyword
-unfoldable pub behind : List ℕ → Reader Definition
-behind word all =
+-- what follows this keyword
+unfoldable pub behind_keyword : List ℕ → Reader Definition
+behind_keyword word all =
     if bytes_eq word (codes "type") then as_definition type_def type_definition all
     else (if bytes_eq word (codes "decl") then as_definition decl declaration all
     else (if bytes_eq word (codes "attr") then as_definition attr attribute all
@@ -74,11 +67,11 @@ behind word all =
     else (if bytes_eq word (codes "convert") then as_definition converter conversion all
     else None))))))))))))
 
--- a keyword, and what stands behind it
+-- a keyword, and what follows it
 unfoldable pub keyword_form : Reader Definition
 keyword_form all = do
   word ← text all
-  behind word.0 word.1
+  behind_keyword word.0 word.1
 
 unfoldable pub definition : Reader Definition
 definition = in_parentheses keyword_form

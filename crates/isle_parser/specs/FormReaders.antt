@@ -1,11 +1,11 @@
--- Reading of forms and instantiations: what stands behind the keywords `form` and `instantiate`.
+-- Reading of forms and instantiations: what follows the keywords `form` and `instantiate`.
 use Rattle.std.specs.Prelude.{[], List, Some, None, if◌then◌else◌, codes}
 use Rattle.std.specs.Str.{bytes_eq}
 use Rattle.isle_ast_names.specs.Tree.{Name}
 use Rattle.isle_ast.specs.Tree.{TermSignature, FormDefinition, TermInstantiation}
-use Rattle.isle_parser_cursor.specs.Reading.{Reader, ◌>>=◌, is_lparen, is_ahead, pos_ahead, closes, in_parentheses, many, text}
+use Rattle.isle_parser_cursor.specs.Reading.{Reader, ◌>>=◌, is_lparen, is_ahead, pos_ahead, at_rparen, in_parentheses, many, text}
 use Rattle.isle_parser_cursor.specs.NameReaders.{name}
-use Rattle.isle_parser_specs.specs.ModelReaders.{tagged_types, tagged_type}
+use Rattle.isle_parser_verification.specs.ModelReaders.{tagged_types, tagged_type}
 
 unfoldable pub tag_inside : Reader Name
 tag_inside all = do
@@ -25,7 +25,7 @@ unfoldable pub signature : Reader TermSignature
 signature = in_parentheses signature_inside
 
 unfoldable pub signatures : Reader (List TermSignature)
-signatures = many closes signature
+signatures = many at_rparen signature
 
 unfoldable pub form_definition : Reader FormDefinition
 form_definition all = do
@@ -39,4 +39,4 @@ instantiation_of_term all = do
   term ← name all
   if is_ahead is_lparen term.1
       then (signatures term.1 >>= λ gs. Some (record { term = term.0; form = None; signatures = gs.0; tags = []; pos = pos_ahead all }, gs.1))
-      else (name term.1 >>= λ f. many closes tag f.1 >>= λ ts. Some (record { term = term.0; form = Some f.0; signatures = []; tags = ts.0; pos = pos_ahead all }, ts.1))
+      else (name term.1 >>= λ f. many at_rparen tag f.1 >>= λ ts. Some (record { term = term.0; form = Some f.0; signatures = []; tags = ts.0; pos = pos_ahead all }, ts.1))

@@ -1,10 +1,10 @@
--- Reading of models of a type or a constant: what stands behind the keyword `model`.
+-- Reading of models of a type or a constant: what follows the keyword `model`.
 use Rattle.std.specs.Prelude.{Some, None, if◌then◌else◌, codes}
 use Rattle.isle_ast.specs.Tree.{ModelContent, type_model, const_model, ModelDefinition}
 use Rattle.isle_parser_cursor.specs.Reading.{Reader, ◌>>=◌, in_parentheses, flag}
 use Rattle.isle_parser_cursor.specs.NameReaders.{name}
-use Rattle.isle_parser_specs.specs.ModelReaders.{model_type}
-use Rattle.isle_parser_specs.specs.SpecReaders.{spec_expression}
+use Rattle.isle_parser_verification.specs.ModelReaders.{model_type}
+use Rattle.isle_parser_verification.specs.SpecReaders.{spec_expression}
 
 -- a model of a type that is a spec expression
 unfoldable pub const_inside : Reader ModelContent

@@ -1,40 +1,40 @@
--- What a parser answers where one definition is asked for, by what its lexer has still to give.
-use Rattle.std.specs.Prelude.{◌≡◌, ◌⊎◌, ◌||◌, List, Bool, true, false, Option, Result, IfOk, IfSome}
+-- What a parser returns where one definition is asked for, by what its lexer has still to give.
+use Rattle.std.specs.Prelude.{◌≡◌, ◌⊎◌, ◌||◌, List, Bool, false, Option, Result, IfOk, IfSome}
 use Rattle.isle_ast.specs.Grammar.{SpellsDefinition}
 use Rattle.isle_ast.specs.Tree.{Definition}
 use Rattle.isle_ast.specs.TreeView.{definition_of}
 use Rattle.isle_ast.specs.declared.ast.Def.{Def}
-use Rattle.isle_base_errors.specs.declared.error.Error.{Error}
-use Rattle.isle_base.specs.declared.lexer.Fault.{Fault}
+use Rattle.isle_base_source.specs.declared.error.Error.{Error}
+use Rattle.isle_base.specs.declared.fault.Fault.{Fault}
 use Rattle.isle_base.specs.Place.{Placed}
 use Rattle.isle_base.specs.Steps.{is_at_end, is_failed}
 use Rattle.isle_parser.specs.declared.parser.Parser.{Parser}
 use Rattle.isle_parser_cursor.specs.declared.cursor.Cursor.{Cursor}
 use Rattle.isle_parser_cursor.specs.declared.cursor.Stop.{Stop}
 use Rattle.isle_parser_cursor.specs.Outcomes.{RefusesIn, StandsAtFault, source, tokens}
-use Rattle.isle_base.specs.declared.lexer.Fault.TheVariants as faults
+use Rattle.isle_base.specs.declared.fault.Fault.TheVariants as faults
 use Rattle.isle_parser_cursor.specs.declared.cursor.Stop.TheVariants as stops
 
 -- whether the lexer had refused its text, or an earlier call of the parser was refused
 abbrev pub has_failed : Parser → Bool
-has_failed p = is_failed p.cursor.lexer || p.refused
+has_failed p = is_failed p.cursor.scanner || p.refused
 
--- what holds of the definition that is answered, where one is
+-- what holds of the definition that is returned, where one is
 abbrev pub IfFound : Result (Option Def) Fault → (Definition → Type 0) → Type 0
 IfFound r P = IfOk r (λ found. IfSome found (λ def. P (definition_of def)))
 
 -- no front of these tokens spells a definition
-abbrev pub SpellsNone : List Placed → Type 0
-SpellsNone all = (d : Definition) (rest : List Placed) → SpellsDefinition d all rest → ⊥
+abbrev pub SpellsNoDefinition : List Placed → Type 0
+SpellsNoDefinition all = (d : Definition) (rest : List Placed) → SpellsDefinition d all rest → ⊥
 
--- No front of the tokens to come spells a definition, or the error stands at the fault that ends them. It stands in
+-- No front of the tokens to come spells a definition, or the error is at the fault that ends them. It is in
 -- the text, and something was to come.
 pub record RefusesNext (old : Cursor) (e : Error) : Type 0 where
-  pub because : SpellsNone (tokens old) ⊎ StandsAtFault (source old) e
-  pub stands : RefusesIn old.lexer.file old.lexer.size e
-  pub before_end : is_at_end old.lexer ≡ false
+  pub because : SpellsNoDefinition (tokens old) ⊎ StandsAtFault (source old) e
+  pub stands : RefusesIn old.scanner.file old.scanner.size e
+  pub before_end : is_at_end old.scanner ≡ false
 
--- what a parser answers where reading stops
+-- what a parser returns where reading stops
 abbrev pub fault_of : Stop → Fault
 fault_of (stops.Parser e) = faults.Error e.value
 fault_of (stops.Lexer e) = faults.Error e.value

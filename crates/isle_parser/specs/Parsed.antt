@@ -1,9 +1,9 @@
 -- What the parsers answer, by what a lexer has still to give.
 use Rattle.std.specs.Prelude.{◌≡◌, ℕ, List, Result, Ok, Err, true, false}
 use Rattle.std.specs.Global.{Vec}
-use Rattle.isle_base_errors.specs.declared.error.Error.{Error}
-use Rattle.isle_base.specs.declared.lexer.Fault.{Fault}
-use Rattle.isle_base_errors.specs.declared.pos.Pos.{Pos}
+use Rattle.isle_base_source.specs.declared.error.Error.{Error}
+use Rattle.isle_base.specs.declared.fault.Fault.{Fault}
+use Rattle.isle_base_source.specs.declared.pos.Pos.{Pos}
 use Rattle.isle_base.specs.Steps.{is_failed, IfError}
 use Rattle.isle_base.specs.Token.{Feed}
 use Rattle.isle_ast.specs.Tree.{Definition}
@@ -11,14 +11,14 @@ use Rattle.isle_ast.specs.declared.ast.Def.{Def}
 use Rattle.isle_ast.specs.Spelt.{Spells}
 use Rattle.isle_ast.specs.TreeView.{definitions_of}
 use Rattle.isle_parser_cursor.specs.Outcomes.{RefusesIn}
-use Rattle.isle_base.specs.declared.lexer.Fault.TheVariants as faults
+use Rattle.isle_base.specs.declared.fault.Fault.TheVariants as faults
 
 -- this list of definitions is spelt, and no other is
 pub record SpellsOnly (place : ℕ → Pos) (feed : Feed) (ds : List Definition) : Type 0 where
   pub spelt : Spells place feed ds
   pub only : (es : List Definition) → Spells place feed es → es ≡ ds
 
--- no list of definitions is spelt, and the error stands in the text
+-- no list of definitions is spelt, and the error is in the text
 abbrev pub RefusesWith : (ℕ → Pos) → Feed → Error → Type 0
 RefusesWith place feed e = ((ds : List Definition) → Spells place feed ds → ⊥) × RefusesIn feed.file feed.size e
 
@@ -26,13 +26,13 @@ RefusesWith place feed e = ((ds : List Definition) → Spells place feed ds → 
 abbrev pub RefusesText : (ℕ → Pos) → Feed → Fault → Type 0
 RefusesText place feed f = IfError (RefusesWith place feed) f
 
--- whether a parser answers that its lexer was failed
+-- whether a parser returns that its lexer was failed
 abbrev pub FailsAs : Feed → Fault → Type 0
 FailsAs feed (faults.Error e) = is_failed feed ≡ false
 FailsAs feed faults.Failed = is_failed feed ≡ true
 FailsAs feed faults.Memory = is_failed feed ≡ false
 
--- what a parser answers, where positions are given by `place`
+-- what a parser returns, where positions are given by `place`
 abbrev pub Parses : (ℕ → Pos) → Feed → Result (Vec Def) Fault → Type 0
 Parses place feed (Ok defs) = SpellsOnly place feed (definitions_of defs.items)
 Parses place feed (Err e) = RefusesText place feed e × FailsAs feed e

@@ -1,12 +1,14 @@
 -- The positions in definitions.
 use Rattle.std.specs.Prelude.{[], ◌≡◌, ◌⊎◌, ℕ, List, ◌∷◌}
 use Rattle.std.specs.List.{AllByRecursion}
-use Rattle.isle_base_errors.specs.declared.pos.Pos.{Pos}
+use Rattle.isle_base_source.specs.declared.pos.Pos.{Pos}
 use Rattle.isle_base.specs.Place.{in_file, unknown}
 use Rattle.isle_base.specs.Token.{Lexeme}
-use Rattle.isle_ast.specs.Tree.{NamedField, IndexedField, FieldList, unit_fields, struct_fields, tuple_fields, EnumVariant, TypeContent, primitive_type, enum_type, struct_type, AttributeTarget, term_target, rule_target, AttributeKind, chain_kind, priority_kind, tag_kind, TermSignature, ModelContent, type_model, const_model, ExternDefinition, extern_extractor, extern_constructor, extern_const, Definition, type_def, rule, extractor, decl, attr, spec, spec_macro, model, state, form, instantiation, external, converter}
+use Rattle.isle_ast.specs.Tree.{NamedField, IndexedField, FieldList, unit_fields, struct_fields, tuple_fields, EnumVariant, TypeContent, primitive_type, enum_type, struct_type, AttributeTarget}
+use Rattle.isle_ast.specs.Tree.{term_target, rule_target, AttributeKind, chain_kind, priority_kind, tag_kind, TermSignature, ModelContent, type_model, const_model, ExternDefinition, extern_extractor}
+use Rattle.isle_ast.specs.Tree.{extern_constructor, extern_const, Definition, type_def, rule, extractor, decl, attr, spec, spec_macro, model, state, form, instantiation, external, converter}
 use Rattle.isle_parser_cursor.specs.Positions.{OfName, OfNames, OfOptionalName}
-use Rattle.isle_parser_specs.specs.Positions.{OfModel, OfSpec, OfSpecDefinition, OfSpecMacro, OfState}
+use Rattle.isle_parser_verification.specs.Positions.{OfModel, OfSpec, OfSpecDefinition, OfSpecMacro, OfState}
 use Rattle.isle_parser_rules.specs.Positions.{OfRule, OfExtractor}
 
 abbrev pub OfNamedField : (Pos → Type 0) → NamedField → Type 0
@@ -83,7 +85,7 @@ OneHasPositions file xs d = EachPosition (BeginsToken file (behind_first xs)) d
 abbrev pub HasPositions : ℕ → List Lexeme → List Definition → Type 0
 HasPositions file xs ds = AllByRecursion (OneHasPositions file xs) ds
 
--- no position in a definition is the default one, which stands for an unknown place
+-- no position in a definition is the default one, which means an unknown place
 abbrev pub OneHasKnownPositions : Definition → Type 0
 OneHasKnownPositions d = EachPosition (λ (pos : Pos). pos ≡ unknown → ⊥) d
 

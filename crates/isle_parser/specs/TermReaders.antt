@@ -1,9 +1,9 @@
--- Reading of what is said of terms: what stands behind the keywords `attr` and `extern`.
+-- Reading of what is said of terms: what follows the keywords `attr` and `extern`.
 use Rattle.std.specs.Prelude.{Some, None, if◌then◌else◌, codes}
 use Rattle.std.specs.Str.{bytes_eq}
-use Rattle.isle_base_errors.specs.declared.pos.Pos.{Pos}
+use Rattle.isle_base_source.specs.declared.pos.Pos.{Pos}
 use Rattle.isle_ast.specs.Tree.{term_target, rule_target, AttributeKind, chain_kind, priority_kind, tag_kind, Attribute, ExternDefinition, extern_extractor, extern_constructor, extern_const}
-use Rattle.isle_parser_cursor.specs.Reading.{Reader, ◌>>=◌, text, flag, pos_ahead, closes, in_parentheses, many}
+use Rattle.isle_parser_cursor.specs.Reading.{Reader, ◌>>=◌, text, flag, pos_ahead, at_rparen, in_parentheses, many}
 use Rattle.isle_parser_cursor.specs.NameReaders.{name}
 use Rattle.isle_parser_rules.specs.ConstantReaders.{constant}
 
@@ -26,7 +26,7 @@ unfoldable pub attribute : Reader Attribute
 attribute all = do
   word ← flag (codes "rule") all
   n ← name word.1
-  kinds ← many closes kind n.1
+  kinds ← many at_rparen kind n.1
   Some (
     record {
       target = (if word.0 then rule_target n.0 else term_target n.0);
@@ -50,7 +50,7 @@ extern_etor place all = do
       then (flag (codes "infallible") word.1 >>= λ i. name i.1 >>= λ term. name term.1 >>= λ func. Some (extern_extractor term.0 func.0 place i.0, func.1))
       else extern_constant word.1
 
--- `constructor`, `extractor` or `const`, and what stands behind the word
+-- `constructor`, `extractor` or `const`, and what follows the word
 unfoldable pub extern_definition : Reader ExternDefinition
 extern_definition all = do
   word ← flag (codes "constructor") all

@@ -1,13 +1,13 @@
--- Reading of types: what stands behind the keyword `type`.
+-- Reading of types: what follows the keyword `type`.
 use Rattle.std.specs.Prelude.{ℕ, ◌+◌, List, [], ◌∷◌, Bool, not, ◌||◌, Some, None, if◌then◌else◌, codes}
 use Rattle.std.specs.List.{list_any}
-use Rattle.isle_base_errors.specs.declared.pos.Pos.{Pos}
+use Rattle.isle_base_source.specs.declared.pos.Pos.{Pos}
 use Rattle.isle_base.specs.Place.{Placed}
 use Rattle.isle_base.specs.Token.{is_symbol}
 use Rattle.isle_ast_names.specs.Tree.{Name}
 use Rattle.isle_ast.specs.Tree.{NamedField, IndexedField, FieldList, unit_fields, struct_fields, tuple_fields, EnumVariant, TypeContent, primitive_type, enum_type, struct_type, TypeDefinition}
 use Rattle.isle_ast.specs.TypeGrammar.{is_extern_word, is_nodebug_word}
-use Rattle.isle_parser_cursor.specs.Reading.{Reader, ◌>>=◌, is_lparen, is_ahead, text, flag, pos_ahead, closes, in_parentheses, many}
+use Rattle.isle_parser_cursor.specs.Reading.{Reader, ◌>>=◌, is_lparen, is_ahead, text, flag, pos_ahead, at_rparen, in_parentheses, many}
 use Rattle.isle_parser_cursor.specs.NameReaders.{name}
 
 -- the name and the type of a field, at this position
@@ -31,18 +31,18 @@ numbered index (ty ∷ tys) = indexed index ty ∷ numbered (index + 1) tys
 
 -- fields that have names, at the position of the first
 abbrev pub named_fields : Reader FieldList
-named_fields all = many closes named_field all >>= λ fs. Some (struct_fields fs.0 (pos_ahead all), fs.1)
+named_fields all = many at_rparen named_field all >>= λ fs. Some (struct_fields fs.0 (pos_ahead all), fs.1)
 
 -- fields that are known by their places, at the position of the first
 abbrev pub indexed_fields : Reader FieldList
-indexed_fields all = many closes name all >>= λ tys. Some (tuple_fields (numbered 0 tys.0) (pos_ahead all), tys.1)
+indexed_fields all = many at_rparen name all >>= λ tys. Some (tuple_fields (numbered 0 tys.0) (pos_ahead all), tys.1)
 
 unfoldable pub fields : Reader FieldList
 fields all =
-    if closes all then Some (unit_fields, all)
+    if at_rparen all then Some (unit_fields, all)
     else (if is_ahead is_lparen all
-    then (many closes named_field all >>= λ fs. Some (struct_fields fs.0 (pos_ahead all), fs.1))
-    else (many closes name all >>= λ tys. Some (tuple_fields (numbered 0 tys.0) (pos_ahead all), tys.1)))
+    then (many at_rparen named_field all >>= λ fs. Some (struct_fields fs.0 (pos_ahead all), fs.1))
+    else (many at_rparen name all >>= λ tys. Some (tuple_fields (numbered 0 tys.0) (pos_ahead all), tys.1)))
 
 -- the name and the fields of a variant, at this position
 unfoldable pub variant_inside : Pos → Reader EnumVariant
@@ -66,9 +66,9 @@ struct_content place all = do
 unfoldable pub enum_content : Pos → Reader TypeContent
 enum_content place all = do
   word ← flag (codes "enum") all
-  if word.0 then (many closes variant word.1 >>= λ vs. Some (enum_type vs.0 place, vs.1)) else struct_content place word.1
+  if word.0 then (many at_rparen variant word.1 >>= λ vs. Some (enum_type vs.0 place, vs.1)) else struct_content place word.1
 
--- `primitive`, `enum` or `struct`, and what stands behind the word
+-- `primitive`, `enum` or `struct`, and what follows the word
 unfoldable pub content_inside : Pos → Reader TypeContent
 content_inside place all = do
   word ← flag (codes "primitive") all

@@ -1,7 +1,7 @@
 //! Parser for the ISLE language.
 
-ghost use Rattle.std.specs.Prelude.{◌≡◌, ◌↔◌, List, IfOk, IfErr, IsErrOf, None, Ok, OnErr, OnOk};
-ghost use Rattle.std.specs.Prelude.{true, false};
+ghost use Rattle.std.specs.Prelude.{◌≡◌, ◌↔◌, IfErr, IfOk, IsErrOf, List, None, Ok, OnErr, OnOk};
+ghost use Rattle.std.specs.Prelude.{false, true};
 ghost use Rattle.isle_ast.specs.Grammar.{SpellsDefinition};
 ghost use Rattle.isle_ast.specs.Erased.{erase};
 ghost use Rattle.isle_ast.specs.MacroArgs.{definition_has_macro_arg, definitions_have_macro_arg};
@@ -10,7 +10,7 @@ ghost use Rattle.isle_ast.specs.Tree.{Definition};
 ghost use Rattle.isle_ast.specs.TreeView.{definitions_of};
 ghost use Rattle.isle_base.specs.Place.{Placed, in_file, nowhere};
 ghost use Rattle.isle_base.specs.Steps.{IfError, Rises, is_at_end, is_failed};
-ghost use Rattle.isle_base.specs.declared.lexer.Fault.TheVariants.{Failed};
+ghost use Rattle.isle_base.specs.declared.fault.Fault.TheVariants.{Failed};
 ghost use Rattle.isle_parser.specs.NextDefinition.{IfFound, RefusesNext, fault_of, has_failed};
 ghost use Rattle.isle_parser.specs.Parsed.{Parses, RefusesText};
 ghost use Rattle.isle_parser.specs.Positions.{HasKnownPositions, HasPositions};
@@ -33,24 +33,29 @@ use std::alloc::{AllocError, Global};
 
 /// Parse the top-level ISLE definitions and return their AST.
 ///
-/// The promise: for every text and every width, want of memory aside, `parse` and
-/// `parse_without_pos` accept exactly the texts that the grammar of ISLE spells and give the one
-/// tree so spelt; two accepted texts spell the same tree, positions erased, exactly if their prints
-/// at that width are equal bytes, and such a print is accepted and prints as itself. The first half
-/// is in the clauses here, the second in those of `isle_syntax`'s `format`.
+/// The promise, out of memory aside: for every text and every width,
 ///
-/// It reads what the lexer has still to give, its lookahead first. The grammar is the one of the
+/// - `parse` and `parse_without_pos` accept exactly the texts that the grammar of ISLE spells, and
+///   return the one tree that is so spelt;
+/// - two accepted texts spell the same tree, positions erased, exactly if their prints at that
+///   width are equal bytes;
+/// - such a print is accepted, and prints as itself.
+///
+/// The first is in the clauses here, the others are in those of `isle_syntax`'s `format`.
+///
+/// It reads what the lexer still has to give, its lookahead first. The grammar is the one of the
 /// ISLE language reference, for the definitions `type`, `rule`, `extractor`, `decl`, `attr`,
 /// `spec`, `macro`, `state`, `model`, `form`, `instantiate`, `extern` and `convert`. A pragma is
-/// refused, whatever its name. The list that it answers is the only one that the tokens spell. No
-/// pattern in it is or holds the argument of a macro. Each position in it is a byte offset in the
-/// lexer's text, with the number of the lexer's file: the first byte of a token, and never of the
-/// first one.
+/// refused, whatever its name.
 ///
-/// It answers an error exactly where the tokens spell no list of definitions, or where the lexer
-/// refuses its text. The error is a parse error at one byte of the text, or at its end. Of a lexer
-/// that had refused its text before this call it answers `Failed`. `Memory` comes where a growth
-/// was refused. The lexer is gone afterwards, whatever the answer.
+/// The list that it returns is the only one that the tokens spell. No pattern in it is or holds the
+/// argument of a macro. Each position in it is a byte offset in the lexer's text, with the number
+/// of the lexer's file. It is the first byte of a token, and never of the first one.
+///
+/// It returns an error exactly where the tokens spell no list of definitions, or where the lexer
+/// refuses its text. The error is a parse error at one byte of the text, or at its end. It is
+/// `Failed` exactly if the lexer had refused its text before this call. `Memory` comes where a
+/// growth of memory was refused. The lexer is gone afterwards, whatever the result.
 pub fn parse(alloc: Global, lexer: Lexer) -> Result<Vec<Def>, Fault>
     // What `Ok` holds.
     ensures spelt { IfOk result
@@ -75,11 +80,11 @@ pub fn parse(alloc: Global, lexer: Lexer) -> Result<Vec<Def>, Fault>
 /// Parse without positional information. Provided mainly to support testing, to enable equality
 /// testing on structure alone.
 ///
-/// It answers the tree that `parse` does, with the default position in place of each. It answers an
-/// error exactly where `parse` does, want of memory aside: a parse error at one byte of the text, or
-/// at its end. `Failed` comes of a lexer that had refused its text before this call, and
-/// of no other, as from `parse`. `Memory` comes where a growth was refused. The lexer is gone
-/// afterwards, whatever the answer.
+/// It returns the tree that `parse` does, with the default position in place of each. Out of memory
+/// aside, it returns an error exactly where `parse` does. The error is a parse error at one byte of
+/// the text, or at its end. It is `Failed` exactly if the lexer had refused its text before this
+/// call. `Memory` comes where a growth of memory was refused. The lexer is gone afterwards,
+/// whatever the result.
 pub fn parse_without_pos(alloc: Global, lexer: Lexer) -> Result<Vec<Def>, Fault>
     // What `Ok` holds.
     ensures spelt { IfOk result (λ defs. Spells nowhere lexer.entry (definitions_of defs.items)) }
@@ -103,8 +108,8 @@ pub fn parse_without_pos(alloc: Global, lexer: Lexer) -> Result<Vec<Def>, Fault>
 
 /// The ISLE parser.
 ///
-/// Takes in a lexer and creates an AST. `next_def` gives its definitions one after another; `parse`
-/// gives all of them at once.
+/// Takes in a lexer and creates an AST. `next_def` returns its definitions one after another, and
+/// `parse` returns all of them at once.
 #[derive(Debug, Drop)]
 pub struct Parser<'src> {
     cursor: Cursor<'src>,
@@ -126,13 +131,13 @@ impl<'src> Clone for Parser<'src> {
 impl<'src> Parser<'src> {
     /// Construct a new parser from the given lexer. It keeps positions, and takes no memory.
     pub fn new(lexer: Lexer<'src>) -> Parser<'src>
-        ensures lexer { result.cursor.lexer ≡ lexer.entry }
+        ensures lexer { result.cursor.scanner ≡ lexer.entry }
         ensures positions { result.cursor.disable_pos ≡ false }
         ensures ready { result.refused ≡ false }
     {
         Parser {
             cursor: Cursor {
-                lexer: Scanner::from(lexer),
+                scanner: Scanner::from(lexer),
                 disable_pos: false,
             },
             refused: false,
@@ -141,13 +146,13 @@ impl<'src> Parser<'src> {
 
     /// A parser that puts the default position in place of each.
     fn new_without_pos_tracking(lexer: Lexer<'src>) -> Parser<'src>
-        ensures lexer { result.cursor.lexer ≡ lexer.entry }
+        ensures lexer { result.cursor.scanner ≡ lexer.entry }
         ensures positions { result.cursor.disable_pos ≡ true }
         ensures ready { result.refused ≡ false }
     {
         Parser {
             cursor: Cursor {
-                lexer: Scanner::from(lexer),
+                scanner: Scanner::from(lexer),
                 disable_pos: true,
             },
             refused: false,
@@ -156,22 +161,24 @@ impl<'src> Parser<'src> {
 
     /// The next definition that the tokens to come spell, or `None` at the end of the text.
     ///
-    /// It takes the tokens of that definition off, and the next call goes on behind them. No front
+    /// It takes the tokens of that definition off, and the next call goes on after them. No front
     /// of the tokens to come spells another definition. No pattern in it is or holds the argument
     /// of a macro. Each position in it is a byte offset in the lexer's text, with the number of the
-    /// lexer's file: the first byte of a token to come, and never of the first one. `None` comes
-    /// exactly where nothing is to come and the parser has not failed, and leaves it as it was.
+    /// lexer's file. It is the first byte of a token to come, and never of the first one. `None`
+    /// comes exactly where nothing is to come and the parser has not failed, and leaves the parser
+    /// as it was.
     ///
-    /// It answers an error only where no front of the tokens to come spells a definition, or where
-    /// the lexer refuses its text further on: then the error stands at that fault, and the
-    /// definition may be spelt before it. The error is a parse error at one byte of the text, or at
-    /// its end. `Memory` comes where a growth was refused. After either the parser has failed, as it
-    /// has from the first if its lexer had refused the text: it answers `Failed` then, and only
-    /// then, to each later call.
+    /// It returns an error only where no front of the tokens to come spells a definition, or where
+    /// the lexer refuses its text further on. In the second case the error is at that fault, and
+    /// the definition may be spelt before it. The error is a parse error at one byte of the text,
+    /// or at its end. `Memory` comes where a growth of memory was refused.
+    ///
+    /// After either error the parser has failed. It has failed from the first if its lexer had
+    /// refused the text. It returns `Failed` then, and only then, to each later call.
     pub fn next_def(&mut self, alloc: Global) -> Result<Option<Def>, Fault>
         // What `Ok` holds.
         ensures end { (result ≡ Ok None)
-            ↔ ((has_failed self.old ≡ false) × (is_at_end self.old.cursor.lexer ≡ true)) }
+            ↔ ((has_failed self.old ≡ false) × (is_at_end self.old.cursor.scanner ≡ true)) }
         ensures spelt { IfFound result
             (λ d. SpellsDefinition d (tokens self.old.cursor) (tokens self.new.cursor)) }
         ensures only { IfFound result
@@ -179,7 +186,7 @@ impl<'src> Parser<'src> {
             → SpellsDefinition e (tokens self.old.cursor) rest
             → (e ≡ d) × (rest ≡ tokens self.new.cursor)) }
         ensures positions { self.old.cursor.disable_pos ≡ false → IfFound result
-            (OneHasPositions self.old.cursor.lexer.file self.old.cursor.lexer.coming) }
+            (OneHasPositions self.old.cursor.scanner.file self.old.cursor.scanner.coming) }
         ensures known { self.old.cursor.disable_pos ≡ false
             → IfFound result OneHasKnownPositions }
         ensures no_macro_arg { IfFound result (λ d. definition_has_macro_arg d ≡ false) }
@@ -193,7 +200,7 @@ impl<'src> Parser<'src> {
         ensures at_end { result ≡ Ok None → self.new ≡ self.old }
         ensures ready { OnOk result (has_failed self.new ≡ false) }
         ensures stays_failed { OnErr result (has_failed self.new ≡ true) }
-        ensures rising { Rises 0 self.old.cursor.lexer.coming }
+        ensures rising { Rises 0 self.old.cursor.scanner.coming }
     {
         if self.has_failed() {
             return Err(Fault::Failed);
@@ -213,7 +220,7 @@ impl<'src> Parser<'src> {
     /// Tells whether the lexer had refused its text, or an earlier call was refused.
     fn has_failed(&self) -> bool
         ensures failed { result ≡ has_failed self.now }
-        ensures rising { Rises 0 self.now.cursor.lexer.coming }
+        ensures rising { Rises 0 self.now.cursor.scanner.coming }
     {
         self.cursor.is_failed() || self.refused
     }
@@ -221,9 +228,9 @@ impl<'src> Parser<'src> {
     /// Everything that the lexer has still to give.
     fn parse_all(&mut self, alloc: Global) -> Result<Vec<Def>, Fault>
         requires { self.old.refused ≡ false }
-        ensures parses { Parses (placing self.old.cursor.disable_pos self.old.cursor.lexer.file)
-            self.old.cursor.lexer result }
-        ensures rising { Rises 0 self.old.cursor.lexer.coming }
+        ensures parses { Parses (placing self.old.cursor.disable_pos self.old.cursor.scanner.file)
+            self.old.cursor.scanner result }
+        ensures rising { Rises 0 self.old.cursor.scanner.coming }
     {
         let mut defs = Vec::new(alloc);
         while let Some(def) = self.next_def(alloc)? {
@@ -233,7 +240,7 @@ impl<'src> Parser<'src> {
     }
 }
 
-/// What the parser answers where reading stops.
+/// What the parser returns where reading stops.
 fn fault_of(stop: Stop) -> Fault
     ensures { result ≡ fault_of stop }
 {

@@ -1,12 +1,12 @@
 -- What lies ahead of a cursor, by what its lexer has still to give.
 use Rattle.std.proofs.Common.{◌≡◌, ℕ, ◌≤◌, Bool, true, false, List, [], ◌∷◌, Option, None, Some, Err, refl, sym, ap, subst, ◌∙◌, arith}
-use Rattle.isle_base_errors.specs.declared.error.Error.{Error}
-use Rattle.isle_base_errors.specs.declared.pos.Pos.{Pos}
+use Rattle.isle_base_source.specs.declared.error.Error.{Error}
+use Rattle.isle_base_source.specs.declared.pos.Pos.{Pos}
 use Rattle.isle_base.specs.Place.{Placed, in_file, unknown, nowhere, placed}
 use Rattle.isle_base.specs.Steps.{AreWithin, EndsWithin, IsWithin, Refuses, RefusesAt, ended_by, failed_by, first_placed, is_at_end, is_failed, lookahead}
 use Rattle.isle_base.specs.Token.{Lexeme, Ending, end, fault, Feed}
 use Rattle.isle_parser_cursor.specs.declared.cursor.Stop.{Stop}
-use Rattle.isle_parser_cursor.specs.Outcomes.{IsLexerRefusal, IsPlace, IsRefusal, IsRefusalAt, Judges, Source, StandsAtFault, Stops}
+use Rattle.isle_parser_cursor.specs.Outcomes.{IsLexerRefusal, IsPlace, IsParserRefusal, IsRefusalAt, PassesOrRefuses, CursorSource, StandsAtFault, Stops}
 use Rattle.isle_parser_cursor.specs.Reading.{pos_ahead, take}
 use Rattle.isle_parser_cursor.specs.declared.cursor.Stop.TheVariants as stops
 
@@ -19,7 +19,7 @@ pub is_unknown : (pos : Pos) → pos.file ≡ 0 → pos.offset ≡ 0 → pos ≡
 is_unknown pos e f = ap (λ (n : ℕ). in_file n pos.offset) e ∙ ap (λ (n : ℕ). in_file 0 n) f
 
 -- the parser's refusal at a place
-pub refusal_at : (s : Source) (pos : Pos) (e : Stop) → IsPlace s pos → IsRefusalAt pos e → IsRefusal s e
+pub refusal_at : (s : CursorSource) (pos : Pos) (e : Stop) → IsPlace s pos → IsRefusalAt pos e → IsParserRefusal s e
 refusal_at s pos (stops.Parser e) p h =
     let is : pos ≡ in_file s.file pos.offset = ap (λ (n : ℕ). in_file n pos.offset) p.file in
     (pos.offset, p.offset, subst (λ (q : Pos). RefusesAt q e.value) is h)
@@ -27,7 +27,7 @@ refusal_at s pos (stops.Lexer e) p h = h
 refusal_at s pos stops.Memory p h = tt
 
 -- a test that isn't passed is refused at its place
-pub judged : (X : Type 0) (passed : Bool) (s : Source) (pos : Pos) (e : Stop) → false ≡ passed → IsPlace s pos → IsRefusalAt pos e → Judges {X = X} passed s (Err e)
+pub judged : (X : Type 0) (passed : Bool) (s : CursorSource) (pos : Pos) (e : Stop) → false ≡ passed → IsPlace s pos → IsRefusalAt pos e → PassesOrRefuses {X = X} passed s (Err e)
 judged X passed s pos (stops.Parser e) test p h = (sym test, refusal_at s pos (stops.Parser e) p h)
 judged X passed s pos (stops.Lexer e) test p h = h
 judged X passed s pos stops.Memory test p h = tt
@@ -40,7 +40,7 @@ first_within file (y ∷ ys) size x e h =
     rw is (refl, within)
 
 -- the token ahead begins within the text
-pub place_ahead : (feed : Feed) (s : Source) (x : Placed) → Some x ≡ lookahead feed → IsWithin feed → s.file ≡ feed.file → s.size ≡ feed.size → IsPlace s x.pos
+pub place_ahead : (feed : Feed) (s : CursorSource) (x : Placed) → Some x ≡ lookahead feed → IsWithin feed → s.file ≡ feed.file → s.size ≡ feed.size → IsPlace s x.pos
 place_ahead feed s x e h file size =
     let w = first_within feed.file feed.coming feed.size x e h.tokens in
     record { file = w.0 ∙ sym file; offset = omega (arith, w.1, size); short = omega (arith, h.short, size) }
@@ -51,16 +51,17 @@ fault_within (fault o) size offset e h =
     let is : o ≡ offset = cc in
     omega (arith, h, is)
 
--- the lexer's refusal stands within the text
-pub refused_within : (old new : Feed) (e : Error) → Refuses old e new → IsWithin new → (offset : ℕ) × (new.ending ≡ fault offset) × (offset ≤ new.size) × RefusesAt (in_file new.file offset) e
+-- the lexer's refusal is within the text
+pub refused_within : (old new : Feed) (e : Error) → Refuses old e new → IsWithin old → (offset : ℕ) × (new.ending ≡ fault offset) × (offset ≤ new.size) × RefusesAt (in_file new.file offset) e
 refused_within old new e h w =
     let is : new.ending ≡ fault h.offset = rw h.failed h.ending in
-    let within : h.offset ≤ new.size = fault_within new.ending new.size h.offset is w.ending in
+    let here : h.offset ≤ old.size = fault_within old.ending old.size h.offset h.ending w.ending in
+    let within : h.offset ≤ new.size = rw h.failed here in
     let file : new.file ≡ old.file = rw h.failed refl in
     (h.offset, is, within, rw file h.error)
 
 -- and so does what the cursor hands on of it
-pub handed_on : {Y : Type 0} (read : Option (Y × List Placed)) (s : Source) (error : Error) (e : Stop) → IsLexerRefusal error e → StandsAtFault s error → Stops read s e
+pub handed_on : {Y : Type 0} (read : Option (Y × List Placed)) (s : CursorSource) (error : Error) (e : Stop) → IsLexerRefusal error e → StandsAtFault s error → Stops read s e
 handed_on read s error (stops.Parser e) is h = absurd is
 handed_on read s error (stops.Lexer e) is h = subst (λ (x : Error). StandsAtFault s x) (sym is) h
 handed_on read s error stops.Memory is h = tt
@@ -74,18 +75,18 @@ failed_nothing [] ending e = refl
 failed_nothing (x ∷ xs) ending e = absurd cc
 
 -- where reading gives nothing, the parser's refusal stops it
-pub stopped : {Y : Type 0} (read : Option (Y × List Placed)) (s : Source) (e : Stop) → read ≡ None → IsRefusal s e → Stops read s e
+pub stopped : {Y : Type 0} (read : Option (Y × List Placed)) (s : CursorSource) (e : Stop) → read ≡ None → IsParserRefusal s e → Stops read s e
 stopped read s (stops.Parser e) none h = (none, h)
 stopped read s (stops.Lexer e) none h = absurd h
 stopped read s stops.Memory none h = tt
 
-nothing_taken : (place : ℕ → Pos) (xs : List Lexeme) (s : Source) (e : Stop) → xs ≡ [] → IsRefusal s e → Stops (take (placed place xs)) s e
+nothing_taken : (place : ℕ → Pos) (xs : List Lexeme) (s : CursorSource) (e : Stop) → xs ≡ [] → IsParserRefusal s e → Stops (take (placed place xs)) s e
 nothing_taken place xs s e is = stopped (take (placed place xs)) s e (rw is refl)
 
 -- at the end of the text there is nothing to take
-pub end_taken : (place : ℕ → Pos) (feed : Feed) (s : Source) (e : Stop) → is_at_end feed ≡ true → IsRefusal s e → Stops (take (placed place feed.coming)) s e
+pub end_taken : (place : ℕ → Pos) (feed : Feed) (s : CursorSource) (e : Stop) → is_at_end feed ≡ true → IsParserRefusal s e → Stops (take (placed place feed.coming)) s e
 end_taken place feed s e ended = nothing_taken place feed.coming s e (ended_nothing feed.coming feed.ending ended)
 
--- behind a fault there is nothing to take
-pub fault_taken : (place : ℕ → Pos) (feed : Feed) (s : Source) (e : Stop) → is_failed feed ≡ true → IsRefusal s e → Stops (take (placed place feed.coming)) s e
+-- after a fault there is nothing to take
+pub fault_taken : (place : ℕ → Pos) (feed : Feed) (s : CursorSource) (e : Stop) → is_failed feed ≡ true → IsParserRefusal s e → Stops (take (placed place feed.coming)) s e
 fault_taken place feed s e failed = nothing_taken place feed.coming s e (failed_nothing feed.coming feed.ending failed)

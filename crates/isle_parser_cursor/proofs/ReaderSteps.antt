@@ -1,13 +1,13 @@
--- Steps of a reader, taken apart: a choice by the word ahead, a node made of what was read, parentheses and rows.
+-- Steps of a reader, taken apart: a choice by the word ahead, a node made of what was read, parentheses and lists.
 use Rattle.std.proofs.Common.{◌≡◌, ◌⊎◌, inl, inr, ℕ, ◌<◌, Bool, true, false, cond, List, [], ◌∷◌, length, suc, Option, Some, None, refl, sym, ap, ◌∙◌, arith}
 use Rattle.std.specs.Str.{bytes_eq}
 use Rattle.std.proofs.lemmas.Slice.Eq.{bytes_eq-Decides}
-use Rattle.isle_base_errors.specs.declared.pos.Pos.{Pos}
+use Rattle.isle_base_source.specs.declared.pos.Pos.{Pos}
 use Rattle.isle_base.specs.Place.{Placed}
 use Rattle.isle_base.specs.Token.{Tok, lparen, rparen, symbol, integer, at_sign}
 use Rattle.isle_ast_names.specs.Words.{SpellsWord, SpellsAll, InParentheses, SpellsName, BeginsAt, IsNonEmpty}
 use Rattle.isle_ast_names.specs.Tree.{Name}
-use Rattle.isle_parser_cursor.specs.Reading.{Reader, ◌>>=◌, is_ahead, is_word, is_lparen, is_rparen, closes, flag, text, pos_ahead, in_parentheses, many}
+use Rattle.isle_parser_cursor.specs.Reading.{Reader, ◌>>=◌, is_ahead, is_symbol_of, is_lparen, is_rparen, at_rparen, flag, text, pos_ahead, in_parentheses, many}
 use Rattle.isle_parser_cursor.proofs.Flags.{ReadsFlag, flag_sound, flag_complete}
 use Rattle.isle_parser_cursor.proofs.Names.{text_sound, text_complete}
 use Rattle.isle_parser_cursor.proofs.Readers.{Spelling, Sound, Complete, Begins, begins_node, bind_some, chosen, done_is, done, many_sound, many_complete, stopping_closes, parentheses_complete}
@@ -41,13 +41,13 @@ word_is {w = w} {word = word} {all = all} {inner = inner} e is =
 pub word_read : {word : List ℕ} {all inner : List Placed} → SpellsWord word all inner → text all ≡ Some (word, inner)
 word_read {word = word} {all = all} {inner = inner} h = rw h.1 (text_complete h.0 word inner)
 
-pub word_ahead : {word : List ℕ} {all inner : List Placed} → SpellsWord word all inner → (other : List ℕ) → is_ahead (is_word other) all ≡ bytes_eq word other
+pub word_ahead : {word : List ℕ} {all inner : List Placed} → SpellsWord word all inner → (other : List ℕ) → is_ahead (is_symbol_of other) all ≡ bytes_eq word other
 word_ahead h other = rw h.1 refl
 
 -- a choice by the word ahead
 abbrev pub Chooses : {A : Type 0} → List ℕ → Reader A → Reader A → List Placed → Option (A × List Placed) → Type 0
 Chooses word with without all read =
-    ((inner : List Placed) × SpellsWord word all inner × (with inner ≡ read)) ⊎ ((is_ahead (is_word word) all ≡ false) × (without all ≡ read))
+    ((inner : List Placed) × SpellsWord word all inner × (with inner ≡ read)) ⊎ ((is_ahead (is_symbol_of word) all ≡ false) × (without all ≡ read))
 
 flag_chosen : {A : Type 0} (word : List ℕ) (with without : Reader A) (all rest : List Placed) (x : A × List Placed) (b : Bool) → ReadsFlag word b all rest → cond b (with rest) (without rest) ≡ Some x → Chooses word with without all (Some x)
 flag_chosen word with without all rest x true f e = inl (rest, f.spelt, e)
@@ -56,7 +56,7 @@ flag_chosen word with without all rest x false f e = inr ((f.unset refl).1, ap w
 pub flag_read : (word : List ℕ) (all inner : List Placed) → SpellsWord word all inner → flag word all ≡ Some (true, inner)
 flag_read word all inner h = flag_complete word true all inner (λ e. absurd cc) h
 
-pub flag_absent : (word : List ℕ) (all : List Placed) → is_ahead (is_word word) all ≡ false → flag word all ≡ Some (false, all)
+pub flag_absent : (word : List ℕ) (all : List Placed) → is_ahead (is_symbol_of word) all ≡ false → flag word all ≡ Some (false, all)
 flag_absent word all h = flag_complete word false all all (λ e. h) refl
 
 pub choice : {A : Type 0} (word : List ℕ) (with without : Reader A) (all : List Placed) {x : A × List Placed} → (flag word all >>= λ w. cond w.0 (with w.1) (without w.1)) ≡ Some x → Chooses word with without all (Some x)
@@ -66,16 +66,16 @@ choice {A = A} word with without all {x = x} e =
 
 -- ---- before `)`
 
--- complete where `)` stands behind
+-- complete where `)` stands after
 abbrev pub CompleteClosed : {A : Type 0} → Spelling A → Reader A → Type 0
-CompleteClosed {A = A} R read = (x : A) (all rest : List Placed) → closes rest ≡ true → R x all rest → read all ≡ Some (x, rest)
+CompleteClosed {A = A} R read = (x : A) (all rest : List Placed) → at_rparen rest ≡ true → R x all rest → read all ≡ Some (x, rest)
 
-pub row_sound : {A : Type 0} (R : Spelling A) (read : Reader A) → Sound R read → Sound (SpellsAll R) (many closes read)
-row_sound R read sound all rest xs e = (many_sound R read closes sound all rest xs e).0
+pub list_sound : {A : Type 0} (R : Spelling A) (read : Reader A) → Sound R read → Sound (SpellsAll R) (many at_rparen read)
+list_sound R read sound all rest xs e = (many_sound R read at_rparen sound all rest xs e).0
 
-pub row_complete : {A : Type 0} (R : Spelling A) (read : Reader A) → Complete R read → Begins R → CompleteClosed (SpellsAll R) (many closes read)
-row_complete R read complete begins xs all rest closed h =
-    many_complete R read closes (suc (length all)) (λ x i j below. complete x i j) begins stopping_closes xs all rest (omega arith) h closed
+pub list_complete : {A : Type 0} (R : Spelling A) (read : Reader A) → Complete R read → Begins R → CompleteClosed (SpellsAll R) (many at_rparen read)
+list_complete R read complete begins xs all rest closed h =
+    many_complete R read at_rparen (suc (length all)) (λ x i j below. complete x i j) begins stopping_closes xs all rest (omega arith) h closed
 
 pub enclosed_complete : {A : Type 0} (R : Spelling A) (read : Reader A) → CompleteClosed R read → (x : A) (all rest : List Placed) → InParentheses (R x) all rest → in_parentheses read all ≡ Some (x, rest)
 enclosed_complete R read complete x all rest h = parentheses_complete R read x all rest (λ inner close lt. complete x inner close) h
@@ -112,20 +112,20 @@ lparen_open (integer n) e = refl
 lparen_open at_sign e = refl
 
 -- where `(` is ahead, `)` isn't
-pub opens_not_closes : (all : List Placed) → is_ahead is_lparen all ≡ true → closes all ≡ false
+pub opens_not_closes : (all : List Placed) → is_ahead is_lparen all ≡ true → at_rparen all ≡ false
 opens_not_closes [] e = absurd cc
 opens_not_closes (x ∷ xs) e = lparen_open x.token e
 
--- a row that doesn't end at once has a node
-pub row_nonempty : {A : Type 0} (R : Spelling A) (xs : List A) (all rest : List Placed) → SpellsAll R xs all rest → closes rest ≡ true → closes all ≡ false → IsNonEmpty xs
-row_nonempty R [] all rest h closed other =
-    let same : closes all ≡ true = rw h closed in
+-- a list that doesn't end at once has a node
+pub list_nonempty : {A : Type 0} (R : Spelling A) (xs : List A) (all rest : List Placed) → SpellsAll R xs all rest → at_rparen rest ≡ true → at_rparen all ≡ false → IsNonEmpty xs
+list_nonempty R [] all rest h closed other =
+    let same : at_rparen all ≡ true = rw h closed in
     absurd cc
-row_nonempty R (x ∷ xs) all rest h closed other = tt
+list_nonempty R (x ∷ xs) all rest h closed other = tt
 
-pub row_at : {A : Type 0} (R : Spelling A) → Begins R → (xs : List A) (all rest : List Placed) → IsNonEmpty xs → SpellsAll R xs all rest → BeginsAt (pos_ahead all) all
-row_at R begins [] all rest some h = absurd some
-row_at R begins (x ∷ xs) all rest some h = begins_here all (begins x all h.0 h.1).0
+pub list_at : {A : Type 0} (R : Spelling A) → Begins R → (xs : List A) (all rest : List Placed) → IsNonEmpty xs → SpellsAll R xs all rest → BeginsAt (pos_ahead all) all
+list_at R begins [] all rest some h = absurd some
+list_at R begins (x ∷ xs) all rest some h = begins_here all (begins x all h.0 h.1).0
 
 -- a node in parentheses that keeps its position
 pub at_place : {A : Type 0} (R : Spelling A) (at : A → Pos) (x : A) (all rest : List Placed) → InParentheses (λ i j. (at x ≡ pos_ahead all) × R x i j) all rest → BeginsAt (at x) all × InParentheses (R x) all rest

@@ -1,10 +1,10 @@
 -- What it means that a reader reads a kind of node: it is sound, where what it gives is spelt, and
--- complete, where what is spelt is given. What holds of rows and of parentheses is said once, over any node.
+-- complete, where what is spelt is given. What holds of lists and of parentheses is said once, over any node.
 use Rattle.std.proofs.Common.{◌≡◌, ℕ, zero, suc, ◌≤◌, ◌<◌, Bool, true, false, cond, List, [], ◌∷◌, length, Option, Some, None, refl, sym, ap, subst, ◌∙◌, arith, ◌⊎◌, inl, inr}
 use Rattle.isle_base.specs.Place.{Placed}
 use Rattle.isle_base.specs.Token.{Tok, lparen, rparen, symbol, integer, at_sign}
 use Rattle.isle_ast_names.specs.Words.{SpellsToken, SpellsAll, InParentheses}
-use Rattle.isle_parser_cursor.specs.Reading.{Reader, ◌>>=◌, is_lparen, is_rparen, is_at, is_ahead, closes, ends, expect, in_parentheses, many, many_within}
+use Rattle.isle_parser_cursor.specs.Reading.{Reader, ◌>>=◌, is_lparen, is_rparen, is_at, is_ahead, at_rparen, ends, expect, in_parentheses, many, many_within}
 
 -- ---- steps
 
@@ -79,9 +79,9 @@ moved {A} R x y all i j e h = subst (λ (n : A). R n all j) e.0 (subst (λ (r : 
 pub one_spelling : {A : Type 0} (R : Spelling A) (read : Reader A) → Complete R read → (all : List Placed) (x y : A) (i j : List Placed) → Goes i → Goes j → R x all i → R y all j → (x ≡ y) × (i ≡ j)
 one_spelling R read complete all x y i j goes_i goes_j p q = done_is x y i j (sym (complete x all i goes_i p) ∙ complete y all j goes_j q)
 
--- ---- rows
+-- ---- lists
 
--- what ends a row begins no node, and no node goes on there
+-- what ends a list begins no node, and no node goes on there
 pub record Stopping (stop : List Placed → Bool) : Type 0 where
   pub begins : (all : List Placed) → is_ahead begins_node all ≡ true → stop all ≡ false
   pub goes : (all : List Placed) → stop all ≡ true → Goes all
@@ -111,15 +111,15 @@ rparen_not_at (symbol t) e = refl
 rparen_not_at (integer n) e = refl
 rparen_not_at at_sign e = absurd cc
 
-closes-begins : (all : List Placed) → is_ahead begins_node all ≡ true → closes all ≡ false
+closes-begins : (all : List Placed) → is_ahead begins_node all ≡ true → at_rparen all ≡ false
 closes-begins [] e = refl
 closes-begins (x ∷ xs) e = begins_not_rparen x.token e
 
-closes-goes : (all : List Placed) → closes all ≡ true → Goes all
+closes-goes : (all : List Placed) → at_rparen all ≡ true → Goes all
 closes-goes [] e = refl
 closes-goes (x ∷ xs) e = rparen_not_at x.token e
 
-pub stopping_closes : Stopping closes
+pub stopping_closes : Stopping at_rparen
 stopping_closes = record { begins = closes-begins; goes = closes-goes }
 
 ends-begins : (all : List Placed) → is_ahead begins_node all ≡ true → ends all ≡ false
@@ -133,7 +133,8 @@ ends-goes (x ∷ xs) e = absurd cc
 pub stopping_ends : Stopping ends
 stopping_ends = record { begins = ends-begins; goes = ends-goes }
 
-many_within_sound : {A : Type 0} (R : Spelling A) (read : Reader A) (stop : List Placed → Bool) → Sound R read → (n : ℕ) (all rest : List Placed) (xs : List A) → many_within n stop read all ≡ Some (xs, rest) → SpellsAll R xs all rest × (stop rest ≡ true)
+many_within_sound : {A : Type 0} (R : Spelling A) (read : Reader A) (stop : List Placed → Bool) → Sound R read → (n : ℕ) (all rest : List Placed) (xs : List A)
+    → many_within n stop read all ≡ Some (xs, rest) → SpellsAll R xs all rest × (stop rest ≡ true)
 unfolding many_within
 many_within_sound R read stop sound zero all rest xs e = absurd cc
 many_within_sound {A} R read stop sound (suc n) all rest xs e =
@@ -154,19 +155,20 @@ pub many_sound : {A : Type 0} (R : Spelling A) (read : Reader A) (stop : List Pl
 unfolding many
 many_sound R read stop sound all rest xs e = many_within_sound R read stop sound (suc (length all)) all rest xs e
 
--- behind a node of a row no node goes on
-row_goes : {A : Type 0} (R : Spelling A) (stop : List Placed → Bool) → Begins R → Stopping stop → (xs : List A) (all rest : List Placed) → SpellsAll R xs all rest → stop rest ≡ true → Goes all
-row_goes R stop begins stopping [] all rest h e = stopping.goes all (rw h e)
-row_goes R stop begins stopping (x ∷ xs) all rest h e = begins_goes all (begins x all h.0 h.1).0
+-- after a node of a list no node goes on
+list_goes : {A : Type 0} (R : Spelling A) (stop : List Placed → Bool) → Begins R → Stopping stop → (xs : List A) (all rest : List Placed) → SpellsAll R xs all rest → stop rest ≡ true → Goes all
+list_goes R stop begins stopping [] all rest h e = stopping.goes all (rw h e)
+list_goes R stop begins stopping (x ∷ xs) all rest h e = begins_goes all (begins x all h.0 h.1).0
 
-pub row_shorter : {A : Type 0} (R : Spelling A) → Begins R → (xs : List A) (all rest : List Placed) → SpellsAll R xs all rest → length rest ≤ length all
-row_shorter R begins [] all rest h = rw h (omega arith)
-row_shorter R begins (x ∷ xs) all rest h =
+pub list_shorter : {A : Type 0} (R : Spelling A) → Begins R → (xs : List A) (all rest : List Placed) → SpellsAll R xs all rest → length rest ≤ length all
+list_shorter R begins [] all rest h = rw h (omega arith)
+list_shorter R begins (x ∷ xs) all rest h =
     let one : length h.0 < length all = (begins x all h.0 h.1).1 in
-    let others : length rest ≤ length h.0 = row_shorter R begins xs h.0 rest h.2 in
+    let others : length rest ≤ length h.0 = list_shorter R begins xs h.0 rest h.2 in
     omega arith
 
-many_within_complete : {A : Type 0} (R : Spelling A) (read : Reader A) (stop : List Placed → Bool) (n : ℕ) → CompleteBelow n R read → Begins R → Stopping stop → (m : ℕ) (xs : List A) (all rest : List Placed) → length all < m → length all < n → SpellsAll R xs all rest → stop rest ≡ true → many_within m stop read all ≡ Some (xs, rest)
+many_within_complete : {A : Type 0} (R : Spelling A) (read : Reader A) (stop : List Placed → Bool) (n : ℕ) → CompleteBelow n R read → Begins R → Stopping stop
+    → (m : ℕ) (xs : List A) (all rest : List Placed) → length all < m → length all < n → SpellsAll R xs all rest → stop rest ≡ true → many_within m stop read all ≡ Some (xs, rest)
 unfolding many_within
 many_within_complete R read stop n complete begins stopping zero xs all rest lt below h e = absurd (omega arith)
 many_within_complete R read stop n complete begins stopping (suc m) [] all rest lt below h e =
@@ -176,11 +178,12 @@ many_within_complete R read stop n complete begins stopping (suc m) (x ∷ xs) a
     let b = begins x all h.0 h.1 in
     let shorter : length h.0 < length all = b.1 in
     let here : stop all ≡ false = stopping.begins all b.0 in
-    let one : read all ≡ Some (x, h.0) = complete x all h.0 below (row_goes R stop begins stopping xs h.0 rest h.2 e) h.1 in
+    let one : read all ≡ Some (x, h.0) = complete x all h.0 below (list_goes R stop begins stopping xs h.0 rest h.2 e) h.1 in
     let others : many_within m stop read h.0 ≡ Some (xs, rest) = many_within_complete R read stop n complete begins stopping m xs h.0 rest (omega arith) (omega arith) h.2 e in
     rw (here, one, others) refl
 
-pub many_complete : {A : Type 0} (R : Spelling A) (read : Reader A) (stop : List Placed → Bool) (n : ℕ) → CompleteBelow n R read → Begins R → Stopping stop → (xs : List A) (all rest : List Placed) → length all < n → SpellsAll R xs all rest → stop rest ≡ true → many stop read all ≡ Some (xs, rest)
+pub many_complete : {A : Type 0} (R : Spelling A) (read : Reader A) (stop : List Placed → Bool) (n : ℕ) → CompleteBelow n R read → Begins R → Stopping stop → (xs : List A) (all rest : List Placed)
+    → length all < n → SpellsAll R xs all rest → stop rest ≡ true → many stop read all ≡ Some (xs, rest)
 unfolding many
 many_complete R read stop n complete begins stopping xs all rest below h e = many_within_complete R read stop n complete begins stopping (suc (length all)) xs all rest (omega arith) below h e
 
@@ -232,17 +235,20 @@ parentheses_sound R read sound all rest x e =
     let close = moved SpellsToken rparen rparen b.0.1 c.0.1 rest (refl, is.1) (rparen_sound b.0.1 c.0.1 c.0.0 c.1) in
     (a.0.1, b.0.1, lparen_sound all a.0.1 a.0.0 a.1, inner, close)
 
--- what is read inside need only be complete on what stands behind the `(` and before a `)`
-pub parentheses_complete : {A : Type 0} (R : Spelling A) (read : Reader A) (x : A) (all rest : List Placed) → ((inner close : List Placed) → length inner < length all → closes close ≡ true → R x inner close → read inner ≡ Some (x, close)) → InParentheses (R x) all rest → in_parentheses read all ≡ Some (x, rest)
+-- what is read inside need only be complete on what follows the `(` and before a `)`
+pub parentheses_complete : {A : Type 0} (R : Spelling A) (read : Reader A) (x : A) (all rest : List Placed)
+    → ((inner close : List Placed) → length inner < length all → at_rparen close ≡ true → R x inner close → read inner ≡ Some (x, close)) → InParentheses (R x) all rest
+    → in_parentheses read all ≡ Some (x, rest)
 unfolding in_parentheses
 parentheses_complete R read x all rest complete h =
     let inner = h.0 in
     let close = h.1 in
     let shorter : length inner < length all = rw h.2.1 (omega arith) in
-    let closed : closes close ≡ true = rw h.4.1 refl in
+    let closed : at_rparen close ≡ true = rw h.4.1 refl in
     rw (lparen_complete all inner h.2, complete inner close shorter closed h.3, rparen_complete close rest h.4) refl
 
-pub parentheses_begin : (R : List Placed → List Placed → Type 0) → ((inner close : List Placed) → R inner close → length close ≤ length inner) → (all rest : List Placed) → InParentheses R all rest → (is_ahead begins_node all ≡ true) × (length rest < length all)
+pub parentheses_begin : (R : List Placed → List Placed → Type 0) → ((inner close : List Placed) → R inner close → length close ≤ length inner) → (all rest : List Placed) → InParentheses R all rest
+    → (is_ahead begins_node all ≡ true) × (length rest < length all)
 parentheses_begin R within all rest h =
     let le : length h.1 ≤ length h.0 = within h.0 h.1 h.3 in
     let opened : length all ≡ suc (length h.0) = rw h.2.1 refl in
@@ -262,7 +268,7 @@ many_fuel {A} read stop shrinks (suc m) (suc n) all lm ln =
     let lt : length x.1 < length all = shrinks all x.1 x.0 e in
     ap (λ (r : Option (List A × List Placed)). r >>= λ xs. Some (x.0 ∷ xs.0, xs.1)) (many_fuel read stop shrinks m n x.1 (omega arith) (omega arith))))
 
--- a row is nothing, or a node and a row
+-- a list is nothing, or a node and a list
 pub many_step : {A : Type 0} (read : Reader A) (stop : List Placed → Bool) → Shrinks read → (all : List Placed) → many stop read all ≡ cond (stop all) (Some ([], all)) (read all >>= λ x. many stop read x.1 >>= λ xs. Some (x.0 ∷ xs.0, xs.1))
 unfolding many many_within
 many_step {A} read stop shrinks all =

@@ -1,7 +1,7 @@
 -- What it means that each position of a node that is spelt is that of a token.
 use Rattle.std.proofs.Common.{◌≡◌, ◌⊎◌, inl, inr, ℕ, List, [], ◌∷◌, refl, Bool, true, false}
 use Rattle.std.specs.List.{AllByRecursion}
-use Rattle.isle_base_errors.specs.declared.pos.Pos.{Pos}
+use Rattle.isle_base_source.specs.declared.pos.Pos.{Pos}
 use Rattle.isle_base.specs.Place.{Placed}
 use Rattle.isle_base.specs.Token.{Tok}
 use Rattle.isle_ast_names.specs.Words.{SpellsToken, SpellsFlag, BeginsAt, SpellsAll, InParentheses, BehindWord, SpellsName, SpellsConstant}
@@ -16,7 +16,7 @@ Among (x ∷ xs) pos = (pos ≡ x.pos) ⊎ Among xs pos
 abbrev pub Into : List Placed → (Pos → Type 0) → Type 0
 Into all P = (pos : Pos) → Among all pos → P pos
 
--- Where the positions of all tokens are such, those of a node are, and so are those of the tokens behind it.
+-- Where the positions of all tokens are such, those of a node are, and so are those of the tokens after it.
 abbrev pub Stands : {A : Type 0} → Spelling A → ((Pos → Type 0) → A → Type 0) → Type 1
 Stands {A} R Each = (x : A) (all rest : List Placed) → R x all rest → (P : Pos → Type 0) → Into all P → Each P x × Into rest P
 
@@ -39,11 +39,11 @@ name_stands n all rest h P into = (into n.pos (rw h.1 (inl refl)), λ pos a. int
 pub constant_stands : Stands SpellsConstant OfName
 constant_stands n all rest h P into = (into n.pos (rw h.1 (inl refl)), λ pos a. into pos (rw h.1 (inr a)))
 
-pub row_stands : {A : Type 0} (R : Spelling A) (Each : (Pos → Type 0) → A → Type 0) → Stands R Each → Stands (SpellsAll R) (λ P xs. AllByRecursion (Each P) xs)
-row_stands R Each stands [] all rest h P into = (tt, same_stands h P into)
-row_stands R Each stands (x ∷ xs) all rest h P into =
+pub list_stands : {A : Type 0} (R : Spelling A) (Each : (Pos → Type 0) → A → Type 0) → Stands R Each → Stands (SpellsAll R) (λ P xs. AllByRecursion (Each P) xs)
+list_stands R Each stands [] all rest h P into = (tt, same_stands h P into)
+list_stands R Each stands (x ∷ xs) all rest h P into =
     let one = stands x all h.0 h.1 P into in
-    let others = row_stands R Each stands xs h.0 rest h.2 P one.1 in
+    let others = list_stands R Each stands xs h.0 rest h.2 P one.1 in
     ((one.0, others.0), others.1)
 
 pub enclosed_stands : {A : Type 0} (R : Spelling A) (Each : (Pos → Type 0) → A → Type 0) → Stands R Each → Stands (λ x. InParentheses (R x)) Each

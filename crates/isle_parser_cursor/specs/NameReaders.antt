@@ -1,9 +1,9 @@
--- Reading of names, alone and in rows.
+-- Reading of names, alone and in lists.
 use Rattle.std.specs.Prelude.{List, Option, Some, None, if◌then◌else◌}
 use Rattle.isle_base.specs.Token.{is_symbol}
 use Rattle.isle_ast_names.specs.Identifier.{is_identifier}
 use Rattle.isle_ast_names.specs.Tree.{Name}
-use Rattle.isle_parser_cursor.specs.Reading.{Reader, ◌>>=◌, is_ahead, text, pos_ahead, closes, in_parentheses, many}
+use Rattle.isle_parser_cursor.specs.Reading.{Reader, ◌>>=◌, is_ahead, text, pos_ahead, at_rparen, in_parentheses, many}
 
 unfoldable pub name : Reader Name
 name all = do
@@ -16,11 +16,11 @@ optional_name all = if is_ahead is_symbol all then (name all >>= λ n. Some (Som
 
 -- identifiers in parentheses
 unfoldable pub names : Reader (List Name)
-names = in_parentheses (many closes name)
+names = in_parentheses (many at_rparen name)
 
 -- a term and its parameters
 unfoldable pub head_inside : Reader (Name × List Name)
 head_inside all = do
   term ← name all
-  args ← many closes name term.1
+  args ← many at_rparen name term.1
   Some ((term.0, args.0), args.1)

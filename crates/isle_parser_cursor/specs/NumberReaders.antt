@@ -1,12 +1,8 @@
 -- Reading of integers that are within a type.
-use Rattle.std.specs.Prelude.{ℕ, ◌^◌, ℤ, pos, negsuc, Bool, Option, Some, None, nat_lt, if◌then◌else◌}
+use Rattle.std.specs.Prelude.{ℕ, ℤ, Option, Some, None, if◌then◌else◌}
 use Rattle.isle_base.specs.Token.{Tok, lparen, rparen, symbol, integer, at_sign, is_int}
+use Rattle.isle_ast_names.specs.WritableDeciders.{is_signed}
 use Rattle.isle_parser_cursor.specs.Reading.{Reader, ◌>>=◌, expect}
-
--- whether a sign and this many bits hold the value
-abbrev pub is_signed : ℕ → ℤ → Bool
-is_signed bits (pos n) = nat_lt n (2 ^ bits)
-is_signed bits (negsuc n) = nat_lt n (2 ^ bits)
 
 -- the integer of a token, where it is within the bits
 abbrev pub signed_of_token : ℕ → Tok → Option ℤ
@@ -16,8 +12,8 @@ signed_of_token bits (symbol _) = None
 signed_of_token bits (integer value) = if is_signed bits value then Some value else None
 signed_of_token bits at_sign = None
 
-unfoldable pub signed : ℕ → Reader ℤ
-signed bits all = do
+unfoldable pub integer_within : ℕ → Reader ℤ
+integer_within bits all = do
   x ← expect is_int all
   n ← signed_of_token bits x.0
   Some (n, x.1)

@@ -1,12 +1,13 @@
--- What a call that reads answers, by the tokens that its lexer has still to give.
+-- What a call that reads returns, by the tokens that its lexer has still to give.
 use Rattle.std.specs.Prelude.{◌≡◌, ℕ, ◌+◌, ◌≤◌, ◌<◌, ◌^◌, List, Bool, true, false, Option, Some, None, Result, Ok, Err}
-use Rattle.isle_base_errors.specs.declared.pos.Pos.{Pos}
+use Rattle.isle_base_source.specs.declared.pos.Pos.{Pos}
 use Rattle.isle_base.specs.Place.{Placed, in_file, nowhere, placed}
 use Rattle.isle_base.specs.Steps.{RefusesAt}
 use Rattle.isle_base.specs.Token.{Ending, fault}
 use Rattle.isle_parser_cursor.specs.declared.cursor.Cursor.{Cursor}
 use Rattle.isle_parser_cursor.specs.declared.cursor.Stop.{Stop}
-use Rattle.isle_base_errors.specs.declared.error.Error.{Error}
+use Rattle.isle_parser_cursor.specs.Reading.{Reader}
+use Rattle.isle_base_source.specs.declared.error.Error.{Error}
 use Rattle.isle_parser_cursor.specs.declared.cursor.Stop.TheVariants as stops
 
 -- the position of an offset: the unknown place, where positions are not kept
@@ -16,20 +17,20 @@ placing false file = in_file file
 
 -- the tokens to come, each at its position
 abbrev pub tokens : Cursor → List Placed
-tokens p = placed (placing p.disable_pos p.lexer.file) p.lexer.coming
+tokens p = placed (placing p.disable_pos p.scanner.file) p.scanner.coming
 
 -- what no call changes
-pub record Source : Type 0 where
+pub record CursorSource : Type 0 where
   pub file : ℕ
   pub ending : Ending
   pub size : ℕ
   pub disable_pos : Bool
 
-abbrev pub source : Cursor → Source
-source p = record { file = p.lexer.file; ending = p.lexer.ending; size = p.lexer.size; disable_pos = p.disable_pos }
+abbrev pub source : Cursor → CursorSource
+source p = record { file = p.scanner.file; ending = p.scanner.ending; size = p.scanner.size; disable_pos = p.disable_pos }
 
 -- a byte of the text, or its end, and a number is left past that
-pub record IsPlace (s : Source) (pos : Pos) : Type 0 where
+pub record IsPlace (s : CursorSource) (pos : Pos) : Type 0 where
   pub file : pos.file ≡ s.file
   pub offset : pos.offset ≤ s.size
   pub short : s.size + 1 < 2 ^ 64
@@ -46,34 +47,40 @@ IsLexerRefusal error (stops.Parser e) = ⊥
 IsLexerRefusal error (stops.Lexer e) = e.value ≡ error
 IsLexerRefusal error stops.Memory = Unit {0}
 
--- a parse error whose span is one byte of the file, or the one behind the text's end
+-- a parse error whose span is one byte of the file, or the one after the text's end
 abbrev pub RefusesIn : ℕ → ℕ → Error → Type 0
 RefusesIn file size e = (offset : ℕ) × (offset ≤ size) × RefusesAt (in_file file offset) e
 
 -- a parse error at the fault that ends the text
-abbrev pub StandsAtFault : Source → Error → Type 0
+abbrev pub StandsAtFault : CursorSource → Error → Type 0
 StandsAtFault s e = (offset : ℕ) × (s.ending ≡ fault offset) × (offset ≤ s.size) × RefusesAt (in_file s.file offset) e
 
 -- a refusal of the parser at some byte of the file, or at the text's end
-abbrev pub IsRefusal : Source → Stop → Type 0
-IsRefusal s (stops.Parser e) = RefusesIn s.file s.size e.value
-IsRefusal s (stops.Lexer e) = ⊥
-IsRefusal s stops.Memory = Unit {0}
+abbrev pub IsParserRefusal : CursorSource → Stop → Type 0
+IsParserRefusal s (stops.Parser e) = RefusesIn s.file s.size e.value
+IsParserRefusal s (stops.Lexer e) = ⊥
+IsParserRefusal s stops.Memory = Unit {0}
 
--- Where the parser refuses, reading gives nothing, and where the lexer does, it is at the fault behind the tokens.
-abbrev pub Stops : {Y : Type 0} → Option (Y × List Placed) → Source → Stop → Type 0
+-- Where the parser refuses, reading gives nothing, and where the lexer does, it is at the fault after the tokens.
+abbrev pub Stops : {Y : Type 0} → Option (Y × List Placed) → CursorSource → Stop → Type 0
 Stops read s (stops.Parser e) = (read ≡ None) × RefusesIn s.file s.size e.value
 Stops read s (stops.Lexer e) = StandsAtFault s e.value
 Stops read s stops.Memory = Unit {0}
 
--- What a call answered, seen by view, is what reading gives of the tokens that were to come.
-abbrev pub Gives : {X Y : Type 0} → (X → Y) → Option (Y × List Placed) → Result X Stop → Cursor → Type 0
-Gives view read (Ok x) new = read ≡ Some (view x, tokens new)
-Gives view read (Err e) new = Stops read (source new) e
+-- What a call returned, seen by view, is what reading gives of the tokens that were to come.
+abbrev pub MatchesRead : {X Y : Type 0} → (X → Y) → Option (Y × List Placed) → Result X Stop → Cursor → Type 0
+MatchesRead view read (Ok x) new = read ≡ Some (view x, tokens new)
+MatchesRead view read (Err e) new = Stops read (source new) e
 
--- A test of what stands at a place is passed, or the parser refuses there.
-abbrev pub Judges : {X : Type 0} → Bool → Source → Result X Stop → Type 0
-Judges passed s (Ok _) = passed ≡ true
-Judges passed s (Err (stops.Parser e)) = (passed ≡ false) × RefusesIn s.file s.size e.value
-Judges passed s (Err (stops.Lexer e)) = ⊥
-Judges passed s (Err stops.Memory) = Unit {0}
+-- A call takes off the tokens what the reader does, and its result is what was read, seen by the view. The text and
+-- its place in the sources stay as they are.
+pub record ReadsOff {X Y : Type 0} (view : X → Y) (reader : Reader Y) (old : Cursor) (result : Result X Stop) (new : Cursor) : Type 0 where
+  pub same : source new ≡ source old
+  pub gives : MatchesRead view (reader (tokens old)) result new
+
+-- A test of what is at a place is passed, or the parser refuses there.
+abbrev pub PassesOrRefuses : {X : Type 0} → Bool → CursorSource → Result X Stop → Type 0
+PassesOrRefuses passed s (Ok _) = passed ≡ true
+PassesOrRefuses passed s (Err (stops.Parser e)) = (passed ≡ false) × RefusesIn s.file s.size e.value
+PassesOrRefuses passed s (Err (stops.Lexer e)) = ⊥
+PassesOrRefuses passed s (Err stops.Memory) = Unit {0}

@@ -1,10 +1,10 @@
 -- Reading of tokens from left to right. A reader takes the tokens to come, and gives what it has read
--- with the tokens behind it, or nothing.
+-- with the tokens after it, or nothing.
 use Rattle.std.specs.Prelude.{Bool, false, ℕ, zero, suc, List, [], ◌∷◌, length, true, Option, Some, None, option_map, if◌then◌else◌}
 use Rattle.std.specs.Str.{bytes_eq}
 use Rattle.isle_base.specs.Token.{Tok, lparen, rparen, symbol, integer, at_sign, is_symbol}
 use Rattle.isle_ast_names.specs.Words.{is_constant}
-use Rattle.isle_base_errors.specs.declared.pos.Pos.{Pos}
+use Rattle.isle_base_source.specs.declared.pos.Pos.{Pos}
 use Rattle.isle_base.specs.Place.{Placed, unknown}
 
 -- a symbol that begins with `$`
@@ -44,20 +44,20 @@ is_at (symbol _) = false
 is_at (integer _) = false
 is_at at_sign = true
 
-abbrev pub text_of : Tok → Option (List ℕ)
-text_of lparen = None
-text_of rparen = None
-text_of (symbol text) = Some text
-text_of (integer _) = None
-text_of at_sign = None
+abbrev pub symbol_text : Tok → Option (List ℕ)
+symbol_text lparen = None
+symbol_text rparen = None
+symbol_text (symbol text) = Some text
+symbol_text (integer _) = None
+symbol_text at_sign = None
 
--- the token ahead, and those behind it
-abbrev pub first : List Placed → Option (Placed × List Placed)
-first [] = None
-first (x ∷ xs) = Some (x, xs)
+-- the token ahead, and those after it
+abbrev pub split_first : List Placed → Option (Placed × List Placed)
+split_first [] = None
+split_first (x ∷ xs) = Some (x, xs)
 
 abbrev pub token_ahead : List Placed → Option Tok
-token_ahead all = option_map (λ x. x.0.token) (first all)
+token_ahead all = option_map (λ x. x.0.token) (split_first all)
 
 abbrev pub is_some_that : (Tok → Bool) → Option Tok → Bool
 is_some_that passes None = false
@@ -69,7 +69,7 @@ is_ahead passes all = is_some_that passes (token_ahead all)
 
 -- takes off a token
 abbrev pub take : Reader Tok
-take all = first all >>= λ x. Some (x.0.token, x.1)
+take all = split_first all >>= λ x. Some (x.0.token, x.1)
 
 abbrev pub take_if : Bool → Reader Tok
 take_if is_wanted all = if is_wanted then take all else None
@@ -82,19 +82,19 @@ expect passes all = take_if (is_ahead passes all) all
 unfoldable pub text : Reader (List ℕ)
 text all = do
   x ← expect is_symbol all
-  t ← text_of x.0
+  t ← symbol_text x.0
   Some (t, x.1)
 
-abbrev pub is_word : List ℕ → Tok → Bool
-is_word word lparen = false
-is_word word rparen = false
-is_word word (symbol text) = bytes_eq text word
-is_word word (integer _) = false
-is_word word at_sign = false
+abbrev pub is_symbol_of : List ℕ → Tok → Bool
+is_symbol_of word lparen = false
+is_symbol_of word rparen = false
+is_symbol_of word (symbol text) = bytes_eq text word
+is_symbol_of word (integer _) = false
+is_symbol_of word at_sign = false
 
 -- whether `)` is ahead
-abbrev pub closes : List Placed → Bool
-closes = is_ahead is_rparen
+abbrev pub at_rparen : List Placed → Bool
+at_rparen = is_ahead is_rparen
 
 -- whether no token is ahead
 abbrev pub ends : List Placed → Bool
@@ -107,17 +107,24 @@ pos_of (Some x) = x.0.pos
 
 -- the position of the token ahead
 abbrev pub pos_ahead : List Placed → Pos
-pos_ahead all = pos_of (first all)
+pos_ahead all = pos_of (split_first all)
 
 -- takes off this word where it is ahead, and tells whether it was
 unfoldable pub flag : List ℕ → Reader Bool
-flag word all = if is_ahead (is_word word) all then (take all >>= λ x. Some (true, x.1)) else Some (false, all)
+flag word all = if is_ahead (is_symbol_of word) all then (take all >>= λ x. Some (true, x.1)) else Some (false, all)
 
 -- `(`, what is read, `)`
 unfoldable pub in_parentheses : {A : Type 0} → Reader A → Reader A
 in_parentheses read all = do
   inside ← expect is_lparen all
   x ← read inside.1
+  rest ← expect is_rparen x.1
+  Some (x.0, rest.1)
+
+-- what is read, and `)`
+unfoldable pub closed : {A : Type 0} → Reader A → Reader A
+closed read all = do
+  x ← read all
   rest ← expect is_rparen x.1
   Some (x.0, rest.1)
 

@@ -1,18 +1,18 @@
 //! What is taken off the tokens of a text, one after another.
+#![tactic(auto, unfolding(crate::specs::Reading::text, crate::specs::NumberReaders::integer_within, crate::specs::Reading::flag))]
 
-ghost use Rattle.std.specs.Prelude.{◌≡◌, ◌+◌, ◌<◌, ◌^◌, IfOk, OnOk, option_map, string_bytes};
-ghost use Rattle.std.specs.Prelude.{false};
+ghost use Rattle.std.specs.Prelude.{◌≡◌, ◌+◌, ◌<◌, ◌^◌, IfOk, OnOk, false, option_map};
+ghost use Rattle.std.specs.Prelude.{string_bytes};
 ghost use Rattle.isle_ast_names.specs.Words.{is_constant};
 ghost use Rattle.isle_base.specs.Steps.{IsWithin, Rises, is_at_end, is_failed};
 ghost use Rattle.isle_base.specs.Token.{at_sign, integer, is_int, is_symbol, lparen, rparen};
 ghost use Rattle.isle_base.specs.TokenView.{token_of_ref};
-ghost use Rattle.isle_parser_cursor.specs.Outcomes.{Gives, IsLexerRefusal, IsPlace, IsRefusal};
-ghost use Rattle.isle_parser_cursor.specs.Outcomes.{IsRefusalAt};
-ghost use Rattle.isle_parser_cursor.specs.Outcomes.{placing, source, tokens};
-ghost use Rattle.isle_parser_cursor.specs.NumberReaders.{signed};
+ghost use Rattle.isle_parser_cursor.specs.Outcomes.{IsLexerRefusal, IsParserRefusal, IsPlace};
+ghost use Rattle.isle_parser_cursor.specs.Outcomes.{IsRefusalAt, ReadsOff, source, tokens};
+ghost use Rattle.isle_parser_cursor.specs.NumberReaders.{integer_within};
 ghost use Rattle.isle_parser_cursor.specs.Reading.{is_const, ends, expect, flag, is_ahead, is_at};
-ghost use Rattle.isle_parser_cursor.specs.Reading.{is_lparen, is_rparen, is_word, pos_ahead, take};
-ghost use Rattle.isle_parser_cursor.specs.Reading.{take_if, text, token_ahead};
+ghost use Rattle.isle_parser_cursor.specs.Reading.{is_lparen, is_rparen, is_symbol_of};
+ghost use Rattle.isle_parser_cursor.specs.Reading.{pos_ahead, take, take_if, text, token_ahead};
 ghost use Rattle.isle_parser_cursor.specs.declared.cursor.Stop.TheVariants.{Memory};
 
 mod names;
@@ -28,7 +28,7 @@ use std::alloc::{AllocError, AllocFailed, Global};
 #[derive(Debug, Drop)]
 pub struct Cursor<'src> {
     /// What gives the tokens.
-    pub lexer: Scanner<'src>,
+    pub scanner: Scanner<'src>,
     /// Whether the default position is put in place of each.
     pub disable_pos: bool,
 }
@@ -38,20 +38,20 @@ impl<'src> Clone for Cursor<'src> {
 
     fn clone(&self) -> Result<Cursor<'src>, AllocError> {
         Ok(Cursor {
-            lexer: self.lexer.clone()?,
+            scanner: self.scanner.clone()?,
             disable_pos: self.disable_pos,
         })
     }
 }
 
-/// Why reading gives no answer.
+/// Why reading stops.
 #[derive(Drop)]
 pub enum Stop {
     /// The parser refuses the tokens.
     Parser(Box<Error>),
     /// The lexer refuses its text.
     Lexer(Box<Error>),
-    /// A growth of memory was refused.
+    /// Out of memory.
     Memory,
 }
 
@@ -74,26 +74,26 @@ impl<T: Drop> From<AllocFailed<T>> for Stop {
 impl<'src> Cursor<'src> {
     /// Tells whether the lexer had refused its text before this call.
     pub fn is_failed(&self) -> bool
-        ensures failed { result ≡ is_failed self.now.lexer }
-        ensures rising { Rises 0 self.now.lexer.coming }
+        ensures failed { result ≡ is_failed self.now.scanner }
+        ensures rising { Rises 0 self.now.scanner.coming }
     {
-        self.lexer.peek().is_none() && !self.lexer.eof()
+        self.scanner.peek().is_none() && !self.scanner.eof()
     }
 
     /// Tells whether no token is ahead, and no fault.
     pub fn is_at_end(&self) -> bool
-        requires { is_failed self.now.lexer ≡ false }
+        requires { is_failed self.now.scanner ≡ false }
         ensures ends { result ≡ ends (tokens self.now) }
-        ensures lexer { result ≡ is_at_end self.now.lexer }
+        ensures lexer { result ≡ is_at_end self.now.scanner }
     {
-        self.lexer.eof()
+        self.scanner.eof()
     }
 
     /// The token ahead.
     pub fn ahead(&self) -> Option<&TokenRef<'src>>
         ensures { option_map (λ t. token_of_ref t.now) result ≡ token_ahead (tokens self.now) }
     {
-        self.lexer.peek().map(|(_, token)| token)
+        self.scanner.peek().map(|(_, token)| token)
     }
 
     /// Tells whether `(` is ahead.
@@ -112,7 +112,7 @@ impl<'src> Cursor<'src> {
 
     /// Tells whether this word is ahead, as a symbol.
     pub fn is_word(&self, word: &str) -> bool
-        ensures { result ≡ is_ahead (is_word word.now) (tokens self.now) }
+        ensures { result ≡ is_ahead (is_symbol_of word.now) (tokens self.now) }
     {
         match self.ahead() {
             Some(TokenRef::Symbol(text)) => *text == word,
@@ -158,32 +158,32 @@ impl<'src> Cursor<'src> {
         if self.disable_pos {
             return Pos::default();
         }
-        self.lexer.peek().map_or(Pos::default(), |(pos, _)| *pos)
+        self.scanner.peek().map_or(Pos::default(), |(pos, _)| *pos)
     }
 
     /// The position of the token ahead in the text. Where none is, that of the text's end or of the
     /// fault.
     pub fn place(&self) -> Pos
         ensures place { IsPlace (source self.now) result }
-        ensures within { IsWithin self.now.lexer }
+        ensures within { IsWithin self.now.scanner }
     {
-        match self.lexer.peek() {
+        match self.scanner.peek() {
             Some((pos, _)) => *pos,
-            None => self.lexer.pos(),
+            None => self.scanner.pos(),
         }
     }
 
     /// Refuses the byte at this place, where there was memory for the message.
     pub fn refuse_at(&self, place: Pos, message: Result<String, AllocError>) -> Stop
         requires { IsPlace (source self.now) place }
-        ensures { IsRefusal (source self.now) result }
+        ensures { IsParserRefusal (source self.now) result }
     {
         refuse(place, message)
     }
 
     /// Refuses the token ahead, or the end.
     pub fn unexpected(&self, alloc: Global) -> Stop
-        ensures { IsRefusal (source self.now) result }
+        ensures { IsParserRefusal (source self.now) result }
     {
         refuse(self.place(), unexpected_message(alloc, self.ahead()))
     }
@@ -191,11 +191,10 @@ impl<'src> Cursor<'src> {
     /// Takes off the token ahead.
     #[inline(always)]
     pub fn take(&mut self, alloc: Global) -> Result<TokenRef<'src>, Stop>
-        ensures same { source self.new ≡ source self.old }
-        ensures gives { Gives token_of_ref (take (tokens self.old)) result self.new }
-        ensures goes_on { OnOk result (is_failed self.new.lexer ≡ false) }
+        ensures reads { ReadsOff token_of_ref take self.old result self.new }
+        ensures goes_on { OnOk result (is_failed self.new.scanner ≡ false) }
     {
-        match self.lexer.step() {
+        match self.scanner.step() {
             Some((_, token)) => Ok(token),
             None => self.take_or_refuse(alloc),
         }
@@ -204,19 +203,15 @@ impl<'src> Cursor<'src> {
     /// Takes off the token ahead, or tells why there is none to take, or why none follows it.
     #[inline(never)]
     fn take_or_refuse(&mut self, alloc: Global) -> Result<TokenRef<'src>, Stop>
-        ensures same { source self.new ≡ source self.old }
-        ensures gives { Gives token_of_ref (take (tokens self.old)) result self.new }
-        ensures goes_on { OnOk result (is_failed self.new.lexer ≡ false) }
+        ensures reads { ReadsOff token_of_ref take self.old result self.new }
+        ensures goes_on { OnOk result (is_failed self.new.scanner ≡ false) }
     {
-        match self.lexer.next(alloc) {
+        let place = self.place();
+        match self.scanner.next(alloc) {
             Ok(Some((_, token))) => Ok(token),
-            Ok(None) => Err(self.unexpected(alloc)),
-            Err(Fault::Error(error)) => {
-                // The fault that the lexer stands at is within the text.
-                self.lexer.pos();
-                Err(refused_by_lexer(alloc, error))
-            }
-            Err(Fault::Failed) => Err(self.unexpected(alloc)),
+            Ok(None) => Err(refuse(place, unexpected_message(alloc, None))),
+            Err(Fault::Error(error)) => Err(refused_by_lexer(alloc, error)),
+            Err(Fault::Failed) => Err(refuse(place, unexpected_message(alloc, None))),
             Err(Fault::Memory) => Err(Stop::Memory),
         }
     }
@@ -224,9 +219,8 @@ impl<'src> Cursor<'src> {
     /// Takes off the token ahead where it is wanted, and refuses it otherwise.
     #[inline(always)]
     pub fn take_if(&mut self, alloc: Global, is_wanted: bool) -> Result<TokenRef<'src>, Stop>
-        ensures same { source self.new ≡ source self.old }
-        ensures gives { Gives token_of_ref (take_if is_wanted (tokens self.old)) result self.new }
-        ensures goes_on { OnOk result (is_failed self.new.lexer ≡ false) }
+        ensures reads { ReadsOff token_of_ref (take_if is_wanted) self.old result self.new }
+        ensures goes_on { OnOk result (is_failed self.new.scanner ≡ false) }
     {
         if !is_wanted {
             return Err(self.unexpected(alloc));
@@ -237,8 +231,7 @@ impl<'src> Cursor<'src> {
     /// Takes off `(`.
     #[tactic(auto, using(crate::proofs::Expected::expected_lparen))]
     pub fn expect_lparen(&mut self, alloc: Global) -> Result<(), Stop>
-        ensures same { source self.new ≡ source self.old }
-        ensures gives { Gives (λ _. lparen) (expect is_lparen (tokens self.old)) result self.new }
+        ensures { ReadsOff (λ _. lparen) (expect is_lparen) self.old result self.new }
     {
         let is_wanted = self.is_lparen();
         self.take_if(alloc, is_wanted)?;
@@ -248,21 +241,19 @@ impl<'src> Cursor<'src> {
     /// Takes off `)`.
     #[tactic(auto, using(crate::proofs::Expected::expected_rparen))]
     pub fn expect_rparen(&mut self, alloc: Global) -> Result<(), Stop>
-        ensures same { source self.new ≡ source self.old }
-        ensures gives { Gives (λ _. rparen) (expect is_rparen (tokens self.old)) result self.new }
-        ensures goes_on { OnOk result (is_failed self.new.lexer ≡ false) }
+        ensures reads { ReadsOff (λ _. rparen) (expect is_rparen) self.old result self.new }
+        ensures goes_on { OnOk result (is_failed self.new.scanner ≡ false) }
     {
         let is_wanted = self.is_rparen();
         self.take_if(alloc, is_wanted)?;
         Ok(())
     }
 
-    /// Takes off the closing parenthesis behind a node, and gives the node.
+    /// Takes off the closing parenthesis after a node, and returns the node.
     pub fn close<T: Drop>(&mut self, alloc: Global, node: T) -> Result<T, Stop>
-        ensures same { source self.new ≡ source self.old }
+        ensures reads { ReadsOff (λ _. rparen) (expect is_rparen) self.old result self.new }
         ensures kept { IfOk result (λ n. n ≡ node) }
-        ensures gives { Gives (λ _. rparen) (expect is_rparen (tokens self.old)) result self.new }
-        ensures goes_on { OnOk result (is_failed self.new.lexer ≡ false) }
+        ensures goes_on { OnOk result (is_failed self.new.scanner ≡ false) }
     {
         self.expect_rparen(alloc)?;
         Ok(node)
@@ -271,19 +262,16 @@ impl<'src> Cursor<'src> {
     /// Takes off `@`.
     #[tactic(auto, using(crate::proofs::Expected::expected_at))]
     pub fn expect_at(&mut self, alloc: Global) -> Result<(), Stop>
-        ensures same { source self.new ≡ source self.old }
-        ensures gives { Gives (λ _. at_sign) (expect is_at (tokens self.old)) result self.new }
+        ensures { ReadsOff (λ _. at_sign) (expect is_at) self.old result self.new }
     {
         let is_wanted = self.is_at();
         self.take_if(alloc, is_wanted)?;
         Ok(())
     }
 
-    /// Takes off a symbol, and gives its text, which isn't copied.
-    #[tactic(auto, unfolding(crate::specs::Reading::text))]
+    /// Takes off a symbol, and returns its text, not copied.
     pub fn expect_word(&mut self, alloc: Global) -> Result<&'src str, Stop>
-        ensures same { source self.new ≡ source self.old }
-        ensures gives { Gives (λ text. text.now) (text (tokens self.old)) result self.new }
+        ensures { ReadsOff (λ text. text.now) text self.old result self.new }
     {
         let is_wanted = self.is_sym();
         match self.take_if(alloc, is_wanted)? {
@@ -292,10 +280,9 @@ impl<'src> Cursor<'src> {
         }
     }
 
-    /// Takes off a symbol, and gives its text, which is copied.
+    /// Takes off a symbol, and returns a copy of its text.
     pub fn expect_symbol(&mut self, alloc: Global) -> Result<String, Stop>
-        ensures same { source self.new ≡ source self.old }
-        ensures gives { Gives string_bytes (text (tokens self.old)) result self.new }
+        ensures { ReadsOff string_bytes text self.old result self.new }
     {
         let text = self.expect_word(alloc)?;
         Ok(String::from_str(alloc, text)?)
@@ -303,9 +290,7 @@ impl<'src> Cursor<'src> {
 
     /// Takes off an integer.
     pub fn expect_int(&mut self, alloc: Global) -> Result<i128, Stop>
-        ensures same { source self.new ≡ source self.old }
-        ensures gives { Gives
-            (λ value. integer value) (expect is_int (tokens self.old)) result self.new }
+        ensures { ReadsOff (λ value. integer value) (expect is_int) self.old result self.new }
     {
         let is_wanted = self.is_int();
         match self.take_if(alloc, is_wanted)? {
@@ -315,20 +300,16 @@ impl<'src> Cursor<'src> {
     }
 
     /// An integer, which is always within an `i128`.
-    #[tactic(auto, unfolding(crate::specs::NumberReaders::signed))]
     pub fn parse_int(&mut self, alloc: Global) -> Result<i128, Stop>
-        ensures same { source self.new ≡ source self.old }
-        ensures gives { Gives (λ value. value) (signed 127 (tokens self.old)) result self.new }
+        ensures { ReadsOff (λ value. value) (integer_within 127) self.old result self.new }
     {
         let value = self.expect_int(alloc)?;
         Ok(value)
     }
 
     /// Takes off this word where it is ahead, and tells whether it was.
-    #[tactic(auto, unfolding(crate::specs::Reading::flag))]
     pub fn eat_sym_str(&mut self, alloc: Global, word: &str) -> Result<bool, Stop>
-        ensures same { source self.new ≡ source self.old }
-        ensures gives { Gives (λ eaten. eaten) (flag word.now (tokens self.old)) result self.new }
+        ensures { ReadsOff (λ eaten. eaten) (flag word.now) self.old result self.new }
     {
         let is_eaten = self.is_word(word);
         if is_eaten {

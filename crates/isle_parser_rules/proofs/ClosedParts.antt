@@ -1,19 +1,19 @@
--- What is made of what stands in parentheses, with the closing one behind it.
+-- What is made of what is in parentheses, with the closing one after it.
 use Rattle.std.proofs.Common.{◌≡◌, false, List, Option, Some, None, refl}
 use Rattle.std.specs.Prelude.{codes}
-use Rattle.isle_base_errors.specs.declared.pos.Pos.{Pos}
+use Rattle.isle_base_source.specs.declared.pos.Pos.{Pos}
 use Rattle.isle_base.specs.Place.{Placed}
 use Rattle.isle_base.specs.Token.{Tok}
 use Rattle.isle_parser_cursor.specs.Reading.{◌>>=◌, expect, flag, is_rparen}
-use Rattle.isle_parser_rules.specs.Closed.{closed}
+use Rattle.isle_parser_cursor.specs.Reading.{closed}
 use Rattle.isle_parser_rules.specs.ExpressionReaders.{expression, expression_inside}
 use Rattle.isle_parser_rules.specs.RuleReaders.{expression_part, expression_behind, match_or_expression, test_or_expression}
 
--- what was read, with the tokens behind a token
+-- what was read, with the tokens after a token
 abbrev behind : {A : Type 0} → A → Tok × List Placed → Option (A × List Placed)
 behind a rest = Some (a, rest.1)
 
--- what was read, with the tokens behind `)`
+-- what was read, with the tokens after `)`
 abbrev shut : {A : Type 0} → A × List Placed → Option (A × List Placed)
 shut x = expect is_rparen x.1 >>= behind x.0
 

@@ -2,10 +2,10 @@
 use Rattle.std.proofs.Common.{◌≡◌, ℕ, false, ◌==◌, List, [], ◌∷◌, Some, None, refl, ap}
 use Rattle.std.proofs.lemmas.Bool.{ne_eqb}
 use Rattle.isle_ast_names.specs.Tree.{Name}
-use Rattle.isle_base_errors.specs.declared.pos.Pos.{Pos}
+use Rattle.isle_base_source.specs.declared.pos.Pos.{Pos}
 use Rattle.isle_base.specs.Place.{Placed}
 use Rattle.isle_parser_cursor.specs.declared.cursor.Stop.{Stop}
-use Rattle.isle_parser_cursor.specs.Outcomes.{IsRefusal, Source, Stops}
+use Rattle.isle_parser_cursor.specs.Outcomes.{IsParserRefusal, CursorSource, Stops}
 use Rattle.isle_parser_cursor.specs.NameReaders.{name}
 use Rattle.isle_parser_rules.specs.ConstantReaders.{behind_dollar, constant}
 use Rattle.isle_parser_cursor.proofs.Ahead.{stopped}
@@ -18,7 +18,7 @@ nothing_behind (b ∷ bs) place h =
     rw other refl
 
 -- a name that doesn't begin with `$` is no constant
-pub no_dollar : (all : List Placed) (n : Name) (rest : List Placed) (s : Source) (e : Stop) → name all ≡ Some (n, rest) → ((bytes : List ℕ) → n.text ≡ 36 ∷ bytes → ⊥) → IsRefusal s e → Stops (constant all) s e
+pub no_dollar : (all : List Placed) (n : Name) (rest : List Placed) (s : CursorSource) (e : Stop) → name all ≡ Some (n, rest) → ((bytes : List ℕ) → n.text ≡ 36 ∷ bytes → ⊥) → IsParserRefusal s e → Stops (constant all) s e
 unfolding constant
 no_dollar all n rest s e read h refused =
     stopped (constant all) s e (rw (read, nothing_behind n.text n.pos h) refl) refused

@@ -1,8 +1,8 @@
--- What is read, behind what was read before.
+-- What is read, after what was read before.
 use Rattle.std.specs.Prelude.{List, [], ◌∷◌, ◌++◌, Some}
 use Rattle.isle_parser_cursor.specs.Reading.{Reader, ◌>>=◌}
 
--- one node more, behind these
+-- one node more, after these
 unfoldable pub appended : {A : Type 0} → Reader A → List A → Reader (List A)
 appended read front all = do
   x ← read all

@@ -4,7 +4,7 @@ use Rattle.isle_ast_names.specs.Tree.{Name}
 use Rattle.isle_parser_cursor.specs.Reading.{Reader, ◌>>=◌}
 use Rattle.isle_parser_cursor.specs.NameReaders.{name}
 
--- the name of a constant, behind its `$`
+-- the name of a constant, after its `$`
 abbrev pub behind_dollar : Name → Option Name
 behind_dollar n = without_dollar n.text
   where

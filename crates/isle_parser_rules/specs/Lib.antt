@@ -1,5 +1,4 @@
 pub mod Appended
-pub mod Closed
 pub mod Positions
 pub mod ConstantReaders
 pub mod ExpressionReaders

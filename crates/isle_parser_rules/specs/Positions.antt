@@ -1,7 +1,9 @@
 -- The positions in patterns, expressions, rules and extractors.
 use Rattle.std.specs.List.{AllByRecursion}
-use Rattle.isle_base_errors.specs.declared.pos.Pos.{Pos}
-use Rattle.isle_ast_rules.specs.Tree.{PatternNode, var_pattern, bind_pattern, bool_pattern, int_pattern, constant_pattern, term_pattern, wildcard_pattern, and_pattern, macro_arg_pattern, PatternRow, no_pattern, more_pattern, Expression, term_expression, var_expression, bool_expression, int_expression, constant_expression, let_expression, ExpressionRow, no_expression, more_expression, LetRow, no_let, more_let, Condition, RuleDefinition, ExtractorDefinition}
+use Rattle.isle_base_source.specs.declared.pos.Pos.{Pos}
+use Rattle.isle_ast_rules.specs.Tree.{PatternNode, var_pattern, bind_pattern, bool_pattern, int_pattern, constant_pattern, term_pattern, wildcard_pattern, and_pattern, macro_arg_pattern, PatternList}
+use Rattle.isle_ast_rules.specs.Tree.{no_pattern, more_pattern, Expression, term_expression, var_expression, bool_expression, int_expression, constant_expression, let_expression, ExpressionList}
+use Rattle.isle_ast_rules.specs.Tree.{no_expression, more_expression, LetList, no_let, more_let, Condition, RuleDefinition, ExtractorDefinition}
 use Rattle.isle_parser_cursor.specs.Positions.{OfName, OfOptionalName, OfNames}
 
 abbrev mutual
@@ -16,7 +18,7 @@ abbrev mutual
   OfPattern P (and_pattern subpats pos) = P pos × OfPatterns P subpats
   OfPattern P (macro_arg_pattern index pos) = P pos
 
-  pub OfPatterns : (Pos → Type 0) → PatternRow → Type 0
+  pub OfPatterns : (Pos → Type 0) → PatternList → Type 0
   OfPatterns P no_pattern = Unit {0}
   OfPatterns P (more_pattern p ps) = OfPattern P p × OfPatterns P ps
 
@@ -29,11 +31,11 @@ abbrev mutual
   OfExpression P (constant_expression val pos) = P pos × OfName P val
   OfExpression P (let_expression defs body pos) = P pos × OfLets P defs × OfExpression P body
 
-  pub OfExpressions : (Pos → Type 0) → ExpressionRow → Type 0
+  pub OfExpressions : (Pos → Type 0) → ExpressionList → Type 0
   OfExpressions P no_expression = Unit {0}
   OfExpressions P (more_expression x xs) = OfExpression P x × OfExpressions P xs
 
-  pub OfLets : (Pos → Type 0) → LetRow → Type 0
+  pub OfLets : (Pos → Type 0) → LetList → Type 0
   OfLets P no_let = Unit {0}
   OfLets P (more_let var ty val pos lets) =
       P pos × OfName P var × OfName P ty × OfExpression P val × OfLets P lets

@@ -1,14 +1,14 @@
--- Reading of rules and extractors: what stands behind the keywords `rule` and `extractor`.
+-- Reading of rules and extractors: what follows the keywords `rule` and `extractor`.
 use Rattle.std.specs.Prelude.{[], ℕ, zero, suc, ℤ, List, ◌∷◌, length, Option, Some, None, if◌then◌else◌, codes}
-use Rattle.isle_base_errors.specs.declared.pos.Pos.{Pos}
+use Rattle.isle_base_source.specs.declared.pos.Pos.{Pos}
 use Rattle.isle_base.specs.Place.{Placed}
 use Rattle.isle_base.specs.Token.{is_int}
 use Rattle.isle_ast_rules.specs.Tree.{wildcard_pattern, Expression, Condition, RuleDefinition, ExtractorDefinition}
 use Rattle.isle_parser_cursor.specs.Reading.{Reader, ◌>>=◌, is_lparen, is_ahead, flag, pos_ahead, in_parentheses}
-use Rattle.isle_parser_rules.specs.Closed.{closed}
+use Rattle.isle_parser_cursor.specs.Reading.{closed}
 use Rattle.isle_parser_rules.specs.ExpressionReaders.{expression, expression_inside}
 use Rattle.isle_parser_cursor.specs.NameReaders.{optional_name, head_inside}
-use Rattle.isle_parser_cursor.specs.NumberReaders.{signed}
+use Rattle.isle_parser_cursor.specs.NumberReaders.{integer_within}
 use Rattle.isle_parser_rules.specs.PatternReaders.{pattern}
 
 -- a part of a rule's right side
@@ -29,11 +29,11 @@ condition_test all = do
   x ← expression all
   Some (record { pattern = wildcard_pattern (pos_ahead all); expr = x.0; pos = pos_ahead all }, x.1)
 
--- what an expression has in its parentheses, and `)`, as a part. The `(` stood at this place.
+-- what an expression has in its parentheses, and `)`, as a part. The `(` is at this place.
 abbrev pub expression_behind : Pos → Reader RulePart
 expression_behind place all = closed (expression_inside place expression) all >>= λ x. Some (expression_part x.0, x.1)
 
--- `if` and a condition, or what an expression has in its parentheses. The `(` stood at this place.
+-- `if` and a condition, or what an expression has in its parentheses. The `(` is at this place.
 unfoldable pub test_or_expression : Pos → Reader RulePart
 test_or_expression place all = do
   word ← flag (codes "if") all
@@ -53,11 +53,11 @@ condition_or_expression all =
     then in_parentheses (match_or_expression (pos_ahead all)) all
     else (expression all >>= λ x. Some (expression_part x.0, x.1))
 
--- the right side of a rule: conditions, and the expression behind them
+-- the right side of a rule: conditions, and the expression after them
 abbrev pub RightSide : Type 0
 RightSide = List Condition × Expression
 
--- with the condition that stands first
+-- with the condition that is first
 abbrev pub behind_condition : Condition → Option (RightSide × List Placed) → Option (RightSide × List Placed)
 behind_condition c read = read >>= λ r. Some ((c ∷ r.0.0, r.0.1), r.1)
 
@@ -76,7 +76,7 @@ right_side all = right_side_within (suc (length all)) all
 
 -- a priority where an integer is ahead
 unfoldable pub priority : Reader (Option ℤ)
-priority all = if is_ahead is_int all then (signed 63 all >>= λ n. Some (Some n.0, n.1)) else Some (None, all)
+priority all = if is_ahead is_int all then (integer_within 63 all >>= λ n. Some (Some n.0, n.1)) else Some (None, all)
 
 unfoldable pub rule_definition : Reader RuleDefinition
 rule_definition all = do

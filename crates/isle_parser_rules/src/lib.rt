@@ -1,4 +1,7 @@
 //! The parser of the rules of ISLE: patterns, expressions, conditions, rules and extractors.
 #![tactic(auto)]
 
-pub mod parser;
+mod expressions;
+pub mod names;
+mod patterns;
+pub mod rules;

@@ -79,12 +79,26 @@ line_end_count-more text = line_end_count-append (10 ∷ []) text
 behind_text-line_end_count : (narrow wide : ℕ) (ds : List Definition) → narrow ≤ wide → line_end_count (behind_text wide ds) ≤ line_end_count (behind_text narrow ds)
 behind_text-line_end_count narrow wide [] le = omega arith
 behind_text-line_end_count narrow wide (d ∷ ds) le =
-    omega (arith, definition_text-line_end_count narrow wide d le, behind_text-line_end_count narrow wide ds le, line_end_count-append (10 ∷ definition_text wide d) (behind_text wide ds), line_end_count-append (10 ∷ definition_text narrow d) (behind_text narrow ds), line_end_count-more (definition_text wide d), line_end_count-more (definition_text narrow d))
+    omega (
+      arith,
+      definition_text-line_end_count narrow wide d le,
+      behind_text-line_end_count narrow wide ds le,
+      line_end_count-append (10 ∷ definition_text wide d) (behind_text wide ds),
+      line_end_count-append (10 ∷ definition_text narrow d) (behind_text narrow ds),
+      line_end_count-more (definition_text wide d),
+      line_end_count-more (definition_text narrow d),
+    )
 
 printed_text-line_end_count : (narrow wide : ℕ) (ds : List Definition) → narrow ≤ wide → line_end_count (printed_text wide ds) ≤ line_end_count (printed_text narrow ds)
 printed_text-line_end_count narrow wide [] le = omega arith
 printed_text-line_end_count narrow wide (d ∷ ds) le =
-    omega (arith, definition_text-line_end_count narrow wide d le, behind_text-line_end_count narrow wide ds le, line_end_count-append (definition_text wide d) (behind_text wide ds), line_end_count-append (definition_text narrow d) (behind_text narrow ds))
+    omega (
+      arith,
+      definition_text-line_end_count narrow wide d le,
+      behind_text-line_end_count narrow wide ds le,
+      line_end_count-append (definition_text wide d) (behind_text wide ds),
+      line_end_count-append (definition_text narrow d) (behind_text narrow ds),
+    )
 
 pub WiderHasNoMoreLines-from_text : (width : ℕ) (ds : List Definition) (text : List ℕ) → text ≡ printed_text width ds → WiderHasNoMoreLines width ds text
 WiderHasNoMoreLines-from_text width ds text e wide other le printed =

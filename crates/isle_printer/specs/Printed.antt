@@ -14,7 +14,7 @@ ArePrintedLines width d text =
     (definition_has_macro_arg d ≡ false)
     × (lines : List ℕ) × IsLayout width (definition_shape d) lines × (text ≡ lines ++ line_feed ∷ [])
 
--- the text of the definitions behind the first one
+-- the text of the definitions after the first one
 abbrev pub IsPrintedBehind : ℕ → List Definition → List ℕ → Type 0
 IsPrintedBehind width [] text = text ≡ []
 IsPrintedBehind width (d ∷ ds) text =

@@ -1,4 +1,4 @@
-//! The lines of definitions, one definition after another.
+//! Prints definitions, one after another.
 
 ghost use Rattle.std.specs.Prelude.{◌≡◌, ◌≤◌, ◌+◌, ◌++◌, [], ◌∷◌, List, OnOk, IsErrOf, true, false};
 ghost use Rattle.std.specs.Prelude.{string_bytes};
@@ -7,20 +7,20 @@ ghost use Rattle.isle_ast.specs.Tree.{Definition};
 ghost use Rattle.isle_ast.specs.TreeView.{definition_of};
 ghost use Rattle.isle_printer.specs.Printed.{printed_text};
 ghost use Rattle.isle_printer.specs.PrintedNodes.{nodes_of_definition};
-ghost use Rattle.isle_printer_layout.specs.declared.printer.sexpr.PrintFault.TheVariants.{MacroArg};
-ghost use Rattle.isle_printer_layout.specs.declared.printer.sexpr.PrintFault.TheVariants.{Memory};
+ghost use Rattle.isle_printer_layout.specs.declared.sexpr.PrintFault.TheVariants.{MacroArg};
+ghost use Rattle.isle_printer_layout.specs.declared.sexpr.PrintFault.TheVariants.{Memory};
 
 use crate::printer::definitions::pieces_of;
 use isle_ast::ast::Def;
-use isle_printer_layout::printer::{Looks, PrintFault, put};
+use isle_printer_layout::{Looks, PrintFault, put};
 use std::alloc::Global;
 
-/// Appends a definition's lines to the printed text of those before it: behind an empty line,
-/// unless it is the first.
+/// Appends a definition's lines to the printed text of those before it: after an empty line, unless
+/// it is the first.
 ///
-/// It adds a look for each node of the definition's S-expression where all is written, and never
-/// more. It takes none away, also where a growth was refused. What holds the argument of a macro
-/// has no S-expression, and counts none.
+/// Where all is written, it adds one look for each node of the definition's S-expression. It never
+/// adds more, and takes none away, also when memory runs out. A definition that holds the argument
+/// of a macro has no S-expression, and counts none.
 pub fn put_definition(
     alloc: Global,
     def: &Def,

@@ -2,8 +2,8 @@
 //!
 //! A node of the tree becomes an S-expression, and the S-expression is laid out at a width. Widths
 //! and columns count bytes, and the indentation of a line does not count. The layout is that of the
-//! printer of `cranelift-isle`, save that an empty list is `()` also where it does not fit, and
-//! that a `String` is answered in place of writing to a writer.
+//! printer of `cranelift-isle`, with two differences. An empty list is `()` even if it doesn't fit.
+//! A call returns a `String`, where that printer writes to a writer.
 
 pub(crate) mod definitions;
 mod expressions;
@@ -27,13 +27,13 @@ ghost use Rattle.isle_printer.specs.PrintedNodes.{nodes_of_definitions};
 ghost use Rattle.isle_printer.specs.ReadBack.{ReadsBack, ReadsBackIfWritable};
 ghost use Rattle.isle_printer_layout.specs.Choices.{IsLayout};
 ghost use Rattle.isle_printer_layout.specs.Lines.{HasFewestLines};
-ghost use Rattle.isle_printer_layout.specs.declared.printer.sexpr.PrintFault.TheVariants.{MacroArg};
-ghost use Rattle.isle_printer_layout.specs.declared.printer.sexpr.PrintFault.TheVariants.{Memory};
+ghost use Rattle.isle_printer_layout.specs.declared.sexpr.PrintFault.TheVariants.{MacroArg};
+ghost use Rattle.isle_printer_layout.specs.declared.sexpr.PrintFault.TheVariants.{Memory};
 
 use crate::lines::put_definition;
 use isle_ast::ast::Def;
-use isle_printer_layout::printer::{Tape, put, put_sexpr};
-pub use isle_printer_layout::printer::{Looks, PrintFault, SExpr, fits};
+use isle_printer_layout::{Tape, put, put_sexpr};
+pub use isle_printer_layout::{Looks, PrintFault, SExpr, fits};
 use std::alloc::Global;
 pub use to_sexpr::ToSExpr;
 
@@ -41,14 +41,14 @@ pub use to_sexpr::ToSExpr;
 /// two.
 ///
 /// No definitions print as the empty text. The width counts bytes, and may be any number from 0. A
-/// list is broken exactly if it does not end within the width and the lists around it are broken,
-/// so that no layout within the width has fewer lines.
+/// list is broken exactly if it does not end within the width and the lists around it are broken.
+/// So no layout within the width has fewer lines.
 ///
 /// The text is spelt by the definitions, positions aside, exactly if they are writable.
 ///
-/// The fault is `MacroArg` exactly where a definition holds the argument of a macro, so that they
-/// aren't writable: that is looked for before anything is made. It is `Memory` where a growth was
-/// refused. The text begun is dropped then, and nothing is left of it.
+/// The fault is `MacroArg` exactly if a definition holds the argument of a macro. Then the
+/// definitions aren't writable. That is looked for before anything is made. The fault is `Memory`
+/// when memory runs out. After a fault, nothing is left of the text.
 pub fn print(alloc: Global, defs: &[Def], width: usize) -> Result<String, PrintFault>
     // What `Ok` holds.
     ensures printed { IfOk result
@@ -72,9 +72,9 @@ pub fn print(alloc: Global, defs: &[Def], width: usize) -> Result<String, PrintF
 
 /// Prints definitions as `print` does, and counts the nodes of S-expressions that it looks at.
 ///
-/// Where it answers a text, it adds as many looks as the definitions' S-expressions have nodes, and
-/// never more, whatever it answers. It takes none away, and adds none where it answers `MacroArg`.
-/// A definition that holds the argument of a macro has no S-expression, and counts none.
+/// If it returns a text, it adds as many looks as the definitions' S-expressions have nodes. It
+/// never adds more, takes none away, and adds none if it returns `MacroArg`. A definition that
+/// holds the argument of a macro has no S-expression, and counts none.
 pub fn print_counted(
     alloc: Global,
     defs: &[Def],
@@ -114,14 +114,14 @@ pub fn print_counted(
     Ok(out)
 }
 
-/// Prints a single node: its layout at the width, with no line end behind it.
+/// Prints a single node: its layout at the width, with no line end after it.
 ///
-/// The width counts bytes, and may be any number from 0. A line may be longer where it holds a long
+/// The width counts bytes, and may be any number from 0. A line may be longer if it holds a long
 /// name or an empty list.
 ///
-/// The fault is `MacroArg` only where the node has no S-expression: a node of the tree has none
-/// where it is, or holds, the argument of a macro. It is `Memory` where a growth was refused. The
-/// text begun is dropped then, and nothing is left of it.
+/// The fault is `MacroArg` only if the node has no S-expression: a node of the tree has none if it
+/// is, or holds, the argument of a macro. The fault is `Memory` when memory runs out. After a
+/// fault, nothing is left of the text.
 pub fn print_node<N: ToSExpr>(alloc: Global, node: &N, width: usize) -> Result<String, PrintFault>
     // What `Ok` holds.
     ensures meant { IfOk result (λ text. IsSome (N.meaning node.now)) }

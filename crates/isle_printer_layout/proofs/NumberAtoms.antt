@@ -1,5 +1,6 @@
 -- An integer in decimal reads back as that integer.
-use Rattle.std.proofs.Common.{◌≡◌, ◌==◌, ℕ, ℤ, pos, negsuc, ◌-ℤ◌, codes, suc, ◌+◌, ◌*◌, ◌/◌, ◌%◌, ◌^◌, ◌<◌, ◌≤◌, List, [], ◌∷◌, ◌++◌, length, map, drop, Bool, true, false, not, cond, ltb, Option, Some, None, is_some, unwrap_or, refl, sym, ap, ◌∙◌, subst, arith}
+use Rattle.std.proofs.Common.{◌≡◌, ◌==◌, ℕ, ℤ, pos, negsuc, ◌-ℤ◌, codes, suc, ◌+◌, ◌*◌, ◌/◌, ◌%◌, ◌^◌, ◌<◌, ◌≤◌, List, [], ◌∷◌, ◌++◌, length, map, drop, Bool, true, false, not, cond, ltb, Option}
+use Rattle.std.proofs.Common.{Some, None, is_some, unwrap_or, refl, sym, ap, ◌∙◌, subst, arith}
 use Rattle.std.proofs.Math.Nat.{pow-suc, pow-zero}
 use Rattle.std.proofs.lemmas.Bool.{false≢true, and_parts, and_from}
 use Rattle.std.proofs.lemmas.Bool.Decides.{nat_tests}
@@ -11,7 +12,7 @@ use Rattle.std.specs.Char.{digit_value, is_ascii_digit}
 use Rattle.std.specs.Fmt.{decimal, signed_decimal}
 use Rattle.std.specs.List.{list_all, filter}
 use Rattle.isle_base.specs.Literals.{begins_literal, in_literal, has_minus, behind_minus, radix_of, prefix_radix, radix_at, behind_prefix, digits_of, number_of, are_digits, signed, value_of, Literal}
-use Rattle.isle_base.specs.Pieces.{in_symbol}
+use Rattle.isle_base.specs.Spellings.{in_symbol}
 use Rattle.isle_base.specs.Skips.{begins_with, is_blank, Longest}
 use Rattle.isle_base.specs.Token.{integer}
 use Rattle.isle_ast_names.specs.Numbers.{IsSigned}

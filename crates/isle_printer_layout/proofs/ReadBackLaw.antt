@@ -6,13 +6,13 @@ use Rattle.std.proofs.lemmas.Bool.{false≢true}
 use Rattle.std.specs.List.{list_all}
 use Rattle.isle_base.specs.Lexing.{Lexes, lexes}
 use Rattle.isle_base.specs.Literals.{begins_literal}
-use Rattle.isle_base.specs.Pieces.{Piece, in_symbol, begins_symbol, symbol_here}
+use Rattle.isle_base.specs.Spellings.{Spelling, in_symbol, begins_symbol, symbol_here}
 use Rattle.isle_base.proofs.Bytes.{symbol_stays}
 use Rattle.isle_base.proofs.Minus.{lone_here, plain_here}
 use Rattle.isle_base.specs.Place.{unknown, nowhere, placed}
 use Rattle.isle_base.specs.Skips.{nothing, blank, begins_with, is_blank, opens}
 use Rattle.isle_base.specs.Token.{Tok, Lexeme, end, lparen, rparen, symbol, integer, at_sign}
-use Rattle.isle_printer_layout.specs.Sexp.{Sexp, Sexps, atom, binding, row, none, more}
+use Rattle.isle_printer_layout.specs.Sexp.{Sexp, Sexps, atom, binding, list, none, more}
 use Rattle.isle_printer_layout.specs.Flat.{flat, flat_behind}
 use Rattle.isle_printer_layout.specs.Layout.{new_line}
 use Rattle.isle_printer_layout.specs.Choices.{Choice, Choices, render, render_behind}
@@ -41,9 +41,9 @@ Reads-new_line : (level : ℕ) (text : List ℕ) (tokens : List Tok) → Reads t
 Reads-new_line level text tokens r =
     Reads-blank 10 (replicate (4 * level) 32 ++ text) tokens is_blank-10 (Reads-spaces (4 * level) text tokens r)
 
--- a piece, and then the rest
-Reads-piece : (text : List ℕ) (token : Tok) (after : List ℕ) (tokens : List Tok) → Piece text token after → Reads after tokens → Reads text (token ∷ tokens)
-Reads-piece text token after tokens p r = (text, after, nothing refl, p, r)
+-- a spelling, and then the rest
+Reads-spelling : (text : List ℕ) (token : Tok) (after : List ℕ) (tokens : List Tok) → Spelling text token after → Reads after tokens → Reads text (token ∷ tokens)
+Reads-spelling text token after tokens p r = (text, after, nothing refl, p, r)
 
 -- what ends a symbol: a space, LF, `)`
 in_symbol-32 : in_symbol 32 ≡ false
@@ -110,26 +110,26 @@ Reads-binding name inner text token mid as_token r =
     let after : List ℕ = 32 ∷ 64 ∷ 32 ∷ (inner ++ text) in
     let behind : Reads after (at_sign ∷ mid) =
     Reads-blank 32 (64 ∷ 32 ∷ (inner ++ text)) (at_sign ∷ mid) is_blank-32
-    (Reads-piece (64 ∷ 32 ∷ (inner ++ text)) at_sign (32 ∷ (inner ++ text)) mid refl
+    (Reads-spelling (64 ∷ 32 ∷ (inner ++ text)) at_sign (32 ∷ (inner ++ text)) mid refl
     (Reads-blank 32 (inner ++ text) mid is_blank-32 r)) in
     subst (λ b. Reads b (token ∷ at_sign ∷ mid)) (sym (binding-grouped name inner text))
-    (Reads-piece (name ++ after) token after (at_sign ∷ mid) (as_token after in_symbol-32) behind)
+    (Reads-spelling (name ++ after) token after (at_sign ∷ mid) (as_token after in_symbol-32) behind)
 
 Reads-list : (first behind text : List ℕ) (mid : List Tok) → has_semicolon (first ++ (behind ++ text)) ≡ false → Reads (first ++ (behind ++ text)) mid → Reads ((codes "(" ++ first ++ behind) ++ text) (lparen ∷ mid)
 Reads-list first behind text mid plain r =
     subst (λ b. Reads b (lparen ∷ mid)) (sym (items-grouped 40 first behind text))
-    (Reads-piece (40 ∷ (first ++ (behind ++ text))) lparen (first ++ (behind ++ text)) mid
+    (Reads-spelling (40 ∷ (first ++ (behind ++ text))) lparen (first ++ (behind ++ text)) mid
     (refl, opens-no_semicolon (first ++ (behind ++ text)) plain) r)
 
 Reads-empty : (text : List ℕ) (rest mid all : List Tok) → all ≡ lparen ∷ mid → mid ≡ rparen ∷ rest → Reads text rest → Reads (codes "()" ++ text) all
 Reads-empty text rest mid all e f r =
     subst (λ a. Reads (codes "()" ++ text) a) (sym (e ∙ ap (λ m. lparen ∷ m) f))
-    (Reads-piece (40 ∷ 41 ∷ text) lparen (41 ∷ text) (rparen ∷ rest) (refl, refl)
-    (Reads-piece (41 ∷ text) rparen text rest refl r))
+    (Reads-spelling (40 ∷ 41 ∷ text) lparen (41 ∷ text) (rparen ∷ rest) (refl, refl)
+    (Reads-spelling (41 ∷ text) rparen text rest refl r))
 
 Reads-close : (text : List ℕ) (rest all : List Tok) → all ≡ rparen ∷ rest → Reads text rest → Reads (codes ")" ++ text) all
 Reads-close text rest all e r =
-    subst (λ a. Reads (codes ")" ++ text) a) (sym e) (Reads-piece (41 ∷ text) rparen text rest refl r)
+    subst (λ a. Reads (codes ")" ++ text) a) (sym e) (Reads-spelling (41 ∷ text) rparen text rest refl r)
 
 mutual
   -- an S-expression on one line begins no comment
@@ -137,8 +137,8 @@ mutual
   flat-no_semicolon (atom name) all rest t text = ReadsAs-no_semicolon name t.0 t.1 text
   flat-no_semicolon (binding name s) all rest t text =
       ap has_semicolon (binding-grouped name (flat s) text) ∙ ReadsAs-no_semicolon name t.0 t.2 (32 ∷ 64 ∷ 32 ∷ (flat s ++ text))
-  flat-no_semicolon (row none) all rest t text = refl
-  flat-no_semicolon (row (more s ss)) all rest t text = refl
+  flat-no_semicolon (list none) all rest t text = refl
+  flat-no_semicolon (list (more s ss)) all rest t text = refl
 
 flat_behind-separated : (ss : Sexps) (text : List ℕ) → Separated (flat_behind ss ++ text)
 flat_behind-separated none text = in_symbol-41
@@ -148,13 +148,13 @@ mutual
   -- what is written on one line reads as its tokens, before anything that ends a symbol
   flat-reads : (s : Sexp) (all rest : List Tok) → AnyTokensOf s all rest → (text : List ℕ) → Separated text → Reads text rest → Reads (flat s ++ text) all
   flat-reads (atom name) all rest t text apart r =
-      subst (λ a. Reads (name ++ text) a) (sym t.2) (Reads-piece (name ++ text) t.0 text rest (t.1 text apart) r)
+      subst (λ a. Reads (name ++ text) a) (sym t.2) (Reads-spelling (name ++ text) t.0 text rest (t.1 text apart) r)
   flat-reads (binding name s) all rest t text apart r =
       subst (λ a. Reads (flat (binding name s) ++ text) a) (sym t.3)
       (Reads-binding name (flat s) text t.0 t.1 t.2 (flat-reads s t.1 rest t.4 text apart r))
-  flat-reads (row none) all rest t text apart r = Reads-empty text rest t.0 all t.1 t.2 r
-  flat-reads (row (more s ss)) all rest t text apart r =
-      subst (λ a. Reads (flat (row (more s ss)) ++ text) a) (sym t.1)
+  flat-reads (list none) all rest t text apart r = Reads-empty text rest t.0 all t.1 t.2 r
+  flat-reads (list (more s ss)) all rest t text apart r =
+      subst (λ a. Reads (flat (list (more s ss)) ++ text) a) (sym t.1)
       (Reads-list (flat s) (flat_behind ss) text t.0
       (flat-no_semicolon s t.0 t.2.0 t.2.1 (flat_behind ss ++ text))
       (flat-reads s t.0 t.2.0 t.2.1 (flat_behind ss ++ text) (flat_behind-separated ss text)
@@ -183,9 +183,9 @@ render-no_semicolon (atom name) c level all rest t text = ReadsAs-no_semicolon n
 render-no_semicolon (binding name s) c level all rest t text =
     ap has_semicolon (binding-grouped name (render s c level) text)
     ∙ ReadsAs-no_semicolon name t.0 t.2 (32 ∷ 64 ∷ 32 ∷ (render s c level ++ text))
-render-no_semicolon (row none) c level all rest t text = refl
-render-no_semicolon (row (more s ss)) None level all rest t text = refl
-render-no_semicolon (row (more s ss)) (Some c) level all rest t text = refl
+render-no_semicolon (list none) c level all rest t text = refl
+render-no_semicolon (list (more s ss)) None level all rest t text = refl
+render-no_semicolon (list (more s ss)) (Some c) level all rest t text = refl
 
 mutual
   -- The text of a choice reads as the tokens of the S-expression, before anything that ends a
@@ -195,10 +195,10 @@ mutual
   render-reads (binding name s) c level all rest t text apart r =
       subst (λ a. Reads (render (binding name s) c level ++ text) a) (sym t.3)
       (Reads-binding name (render s c level) text t.0 t.1 t.2 (render-reads s c level t.1 rest t.4 text apart r))
-  render-reads (row none) c level all rest t text apart r = Reads-empty text rest t.0 all t.1 t.2 r
-  render-reads (row (more s ss)) None level all rest t text apart r = flat-reads (row (more s ss)) all rest t text apart r
-  render-reads (row (more s ss)) (Some c) level all rest t text apart r =
-      subst (λ a. Reads (render (row (more s ss)) (Some c) level ++ text) a) (sym t.1)
+  render-reads (list none) c level all rest t text apart r = Reads-empty text rest t.0 all t.1 t.2 r
+  render-reads (list (more s ss)) None level all rest t text apart r = flat-reads (list (more s ss)) all rest t text apart r
+  render-reads (list (more s ss)) (Some c) level all rest t text apart r =
+      subst (λ a. Reads (render (list (more s ss)) (Some c) level ++ text) a) (sym t.1)
       (Reads-list (render s c.0 level) (render_behind ss c.1 level) text t.0
       (render-no_semicolon s c.0 level t.0 t.2.0 t.2.1 (render_behind ss c.1 level ++ text))
       (render-reads s c.0 level t.0 t.2.0 t.2.1 (render_behind ss c.1 level ++ text) (render_behind-separated ss c.1 level text)
@@ -245,7 +245,7 @@ mutual
   pub tokens-any : (s : Sexp) (all rest : List Tok) → TokensOf s all rest → AnyTokensOf s all rest
   tokens-any (atom text) all rest t = (t.0, t.2, t.3)
   tokens-any (binding name s) all rest t = (t.0, t.1, t.3, t.4, tokens-any s t.1 rest t.5)
-  tokens-any (row items) all rest t = (t.0, t.1, items-any items t.0 (rparen ∷ rest) t.2)
+  tokens-any (list items) all rest t = (t.0, t.1, items-any items t.0 (rparen ∷ rest) t.2)
 
   items-any : (ss : Sexps) (all rest : List Tok) → TokensOfItems ss all rest → AnyTokensOfItems ss all rest
   items-any none all rest t = t

@@ -17,7 +17,7 @@ use Rattle.isle_ast_names.specs.Identifier.{is_identifier}
 use Rattle.isle_ast_names.specs.Tree.{Name}
 use Rattle.isle_ast_names.specs.Erased.{erase_name, erase_names}
 use Rattle.isle_ast_names.specs.Writable.{IsName, Each}
-use Rattle.isle_printer_layout.specs.Sexp.{Sexp, atom, binding, row, sexps, row_of}
+use Rattle.isle_printer_layout.specs.Sexp.{Sexp, atom, binding, list, sexps, list_of}
 
 pub word-bool : (b : Bool) → ReadsAs (bool_word b) (symbol (bool_word b))
 word-bool true = word-true
@@ -55,7 +55,7 @@ IsAhead all = BeginsAt unknown (unplaced all)
 TokensOf-ahead : (s : Sexp) (all rest : List Tok) → TokensOf s all rest → IsAhead all
 TokensOf-ahead (atom text) all rest t = (t.0, unplaced rest, ap unplaced t.3)
 TokensOf-ahead (binding name s) all rest t = (t.0, _, ap unplaced t.4)
-TokensOf-ahead (row items) all rest t = (lparen, unplaced t.0, ap unplaced t.1)
+TokensOf-ahead (list items) all rest t = (lparen, unplaced t.0, ap unplaced t.1)
 
 -- an item stands ahead
 pub item-ahead : {x : Sexp} {xs : List Sexp} {all rest : List Tok} → ItemTokens (x ∷ xs) all rest → IsAhead all
@@ -120,8 +120,8 @@ pub spell-names : (ns : List Name) → Each IsName ns → (rest : List Tok) → 
 spell-names = spell-all name_shape erase_name SpellsName IsName spell-name
 
 -- items in parentheses
-pub spell-row : (items : List Sexp) (Spells : List Placed → List Placed → Type 0) (rest : List Tok) → Spelling items Spells (rparen ∷ rest) → Spelling (row_of items ∷ []) (InParentheses Spells) rest
-spell-row items Spells rest s = record {
+pub spell-list : (items : List Sexp) (Spells : List Placed → List Placed → Type 0) (rest : List Tok) → Spelling items Spells (rparen ∷ rest) → Spelling (list_of items ∷ []) (InParentheses Spells) rest
+spell-list items Spells rest s = record {
   all = lparen ∷ s.all;
   tokens = record { are = (rest, (s.all, refl, s.tokens.are), refl) };
   spells = (unplaced s.all, unplaced (rparen ∷ rest), (unknown, refl), s.spells, (unknown, refl));
@@ -136,9 +136,11 @@ spell-behind word is items Spells rest s = record {
 }
 
 -- a word and the items behind it, in parentheses
-pub spell-form : (word : List ℕ) → ReadsAs word (symbol word) → (items : List Sexp) (Spells : List Placed → List Placed → Type 0) (rest : List Tok) → Spelling items Spells (rparen ∷ rest) → Spelling (form_shape word items ∷ []) (InParentheses (BehindWord word Spells)) rest
+pub spell-form : (word : List ℕ) → ReadsAs word (symbol word)
+    → (items : List Sexp) (Spells : List Placed → List Placed → Type 0) (rest : List Tok)
+    → Spelling items Spells (rparen ∷ rest) → Spelling (form_shape word items ∷ []) (InParentheses (BehindWord word Spells)) rest
 spell-form word is items Spells rest s =
-    spell-row (atom word ∷ items) (BehindWord word Spells) rest (spell-behind word is items Spells (rparen ∷ rest) s)
+    spell-list (atom word ∷ items) (BehindWord word Spells) rest (spell-behind word is items Spells (rparen ∷ rest) s)
 
 -- a text that isn't this word, as a test
 pub differs-test : (text word : List ℕ) (b : Bool) → bytes_eq text word ≡ b → text ≢ word → b ≡ false

@@ -1,7 +1,7 @@
 -- The words of the grammar are symbols.
 use Rattle.std.proofs.Common.{codes, refl}
 use Rattle.isle_base.specs.Literals.{begins_literal}
-use Rattle.isle_base.specs.Pieces.{in_symbol, begins_symbol}
+use Rattle.isle_base.specs.Spellings.{in_symbol, begins_symbol}
 use Rattle.isle_base.specs.Skips.{is_blank}
 use Rattle.isle_base.specs.Token.{symbol}
 use Rattle.isle_printer_layout.specs.ReadBack.{ReadsAs}

@@ -3,7 +3,7 @@
 use Rattle.std.specs.Prelude.{◌≡◌, List, ◌∷◌}
 use Rattle.isle_base.specs.Token.{Tok, lparen, rparen, at_sign}
 use Rattle.isle_printer_layout.specs.ReadBack.{ReadsAs}
-use Rattle.isle_printer_layout.specs.Sexp.{Sexp, Sexps, atom, binding, row, none, more}
+use Rattle.isle_printer_layout.specs.Sexp.{Sexp, Sexps, atom, binding, list, none, more}
 
 abbrev mutual
   pub AnyTokensOf : Sexp → List Tok → List Tok → Type 0
@@ -11,7 +11,7 @@ abbrev mutual
   AnyTokensOf (binding name s) all rest =
       (token : Tok) × (mid : List Tok) × ReadsAs name token
       × (all ≡ token ∷ at_sign ∷ mid) × AnyTokensOf s mid rest
-  AnyTokensOf (row items) all rest =
+  AnyTokensOf (list items) all rest =
       (mid : List Tok) × (all ≡ lparen ∷ mid) × AnyTokensOfItems items mid (rparen ∷ rest)
 
   pub AnyTokensOfItems : Sexps → List Tok → List Tok → Type 0

@@ -1,7 +1,7 @@
 -- Which lists of an S-expression are broken, and the choice that a layout makes: the least one that
 -- fits the width.
 use Rattle.std.specs.Prelude.{◌≡◌, ℕ, ◌+◌, ◌≤◌, List, ◌++◌, length, codes, Option, None, Some}
-use Rattle.isle_printer_layout.specs.Sexp.{Sexp, Sexps, atom, binding, row, none, more}
+use Rattle.isle_printer_layout.specs.Sexp.{Sexp, Sexps, atom, binding, list, none, more}
 use Rattle.isle_printer_layout.specs.Flat.{flat, counted}
 use Rattle.isle_printer_layout.specs.Layout.{new_line}
 
@@ -11,8 +11,8 @@ abbrev mutual
   pub Choice : Sexp → Type 0
   Choice (atom _) = Unit {0}
   Choice (binding _ s) = Choice s
-  Choice (row none) = Unit {0}
-  Choice (row (more s ss)) = Option (Choice s × Choices ss)
+  Choice (list none) = Unit {0}
+  Choice (list (more s ss)) = Option (Choice s × Choices ss)
 
   pub Choices : Sexps → Type 0
   Choices none = Unit {0}
@@ -24,9 +24,9 @@ abbrev mutual
   pub render : (s : Sexp) → Choice s → (level : ℕ) → List ℕ
   render (atom text) _ level = text
   render (binding name s) c level = name ++ codes " @ " ++ render s c level
-  render (row none) _ level = codes "()"
-  render (row (more s ss)) None level = flat (row (more s ss))
-  render (row (more s ss)) (Some c) level = codes "(" ++ render s c.0 level ++ render_behind ss c.1 level
+  render (list none) _ level = codes "()"
+  render (list (more s ss)) None level = flat (list (more s ss))
+  render (list (more s ss)) (Some c) level = codes "(" ++ render s c.0 level ++ render_behind ss c.1 level
 
   pub render_behind : (ss : Sexps) → Choices ss → (level : ℕ) → List ℕ
   render_behind none _ level = new_line level ++ codes ")"
@@ -35,15 +35,15 @@ abbrev mutual
 
 -- A choice fits a width where each nonempty list that is kept whole, in lists that are all broken,
 -- ends within it: its column and its counted length are at most the width. The first item of a list
--- stands one column behind the list, each other item at column 0, and what a binding binds stands
--- behind the name and ` @ `. The spaces before a line don't count.
+-- is one column after the list's, each other item is at column 0, and what a binding binds comes
+-- after the name and ` @ `. The spaces before a line don't count.
 abbrev mutual
   pub FitsAt : (width : ℕ) (s : Sexp) (column : ℕ) → Choice s → Type 0
   FitsAt width (atom _) column _ = Unit {0}
   FitsAt width (binding name s) column c = FitsAt width s (column + length name + 3) c
-  FitsAt width (row none) column _ = Unit {0}
-  FitsAt width (row (more s ss)) column None = column + counted (row (more s ss)) ≤ width
-  FitsAt width (row (more s ss)) column (Some c) = FitsAt width s (column + 1) c.0 × FitsBehind width ss c.1
+  FitsAt width (list none) column _ = Unit {0}
+  FitsAt width (list (more s ss)) column None = column + counted (list (more s ss)) ≤ width
+  FitsAt width (list (more s ss)) column (Some c) = FitsAt width s (column + 1) c.0 × FitsBehind width ss c.1
 
   pub FitsBehind : (width : ℕ) (ss : Sexps) → Choices ss → Type 0
   FitsBehind width none _ = Unit {0}
@@ -54,22 +54,22 @@ Fits width s c = FitsAt width s 0 c
 
 -- each list that the one choice breaks, the other breaks too
 abbrev mutual
-  pub IsWithin : (s : Sexp) → Choice s → Choice s → Type 0
-  IsWithin (atom _) _ _ = Unit {0}
-  IsWithin (binding _ s) c d = IsWithin s c d
-  IsWithin (row none) _ _ = Unit {0}
-  IsWithin (row (more s ss)) None _ = Unit {0}
-  IsWithin (row (more s ss)) (Some c) None = ⊥
-  IsWithin (row (more s ss)) (Some c) (Some d) = IsWithin s c.0 d.0 × AreWithin ss c.1 d.1
+  pub BreaksNoOther : (s : Sexp) → Choice s → Choice s → Type 0
+  BreaksNoOther (atom _) _ _ = Unit {0}
+  BreaksNoOther (binding _ s) c d = BreaksNoOther s c d
+  BreaksNoOther (list none) _ _ = Unit {0}
+  BreaksNoOther (list (more s ss)) None _ = Unit {0}
+  BreaksNoOther (list (more s ss)) (Some c) None = ⊥
+  BreaksNoOther (list (more s ss)) (Some c) (Some d) = BreaksNoOther s c.0 d.0 × BreakNoOther ss c.1 d.1
 
-  pub AreWithin : (ss : Sexps) → Choices ss → Choices ss → Type 0
-  AreWithin none _ _ = Unit {0}
-  AreWithin (more s ss) c d = IsWithin s c.0 d.0 × AreWithin ss c.1 d.1
+  pub BreakNoOther : (ss : Sexps) → Choices ss → Choices ss → Type 0
+  BreakNoOther none _ _ = Unit {0}
+  BreakNoOther (more s ss) c d = BreaksNoOther s c.0 d.0 × BreakNoOther ss c.1 d.1
 
--- the least choice that fits: it lies within every choice that fits
+-- the least choice that fits: it breaks no list that another choice that fits does not
 pub record IsLeast (width : ℕ) (s : Sexp) (choice : Choice s) : Type 0 where
   pub fits : Fits width s choice
-  pub least : (other : Choice s) → Fits width s other → IsWithin s choice other
+  pub least : (other : Choice s) → Fits width s other → BreaksNoOther s choice other
 
 -- The layout of an S-expression at a width: the text of the least choice that fits.
 pub record IsLayout (width : ℕ) (s : Sexp) (text : List ℕ) : Type 0 where

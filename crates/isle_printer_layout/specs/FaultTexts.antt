@@ -1,8 +1,8 @@
 -- What is shown of a fault of the printer.
 use Rattle.std.specs.Prelude.{ℕ, List, codes}
-use Rattle.isle_printer_layout.specs.declared.printer.sexpr.PrintFault.{PrintFault}
-use Rattle.isle_printer_layout.specs.declared.printer.sexpr.PrintFault.TheVariants as faults
+use Rattle.isle_printer_layout.specs.declared.sexpr.PrintFault.{PrintFault}
+use Rattle.isle_printer_layout.specs.declared.sexpr.PrintFault.TheVariants as faults
 
-abbrev pub fault_text : PrintFault → List ℕ
-fault_text faults.MacroArg = codes "the argument of a macro has no print"
-fault_text faults.Memory = codes "out of memory"
+abbrev pub print_fault_text : PrintFault → List ℕ
+print_fault_text faults.MacroArg = codes "the argument of a macro has no print"
+print_fault_text faults.Memory = codes "out of memory"

@@ -1,6 +1,6 @@
 -- An S-expression on one line, and its counted length.
 use Rattle.std.specs.Prelude.{ℕ, ◌+◌, List, ◌++◌, length, codes}
-use Rattle.isle_printer_layout.specs.Sexp.{Sexp, Sexps, atom, binding, row, none, more}
+use Rattle.isle_printer_layout.specs.Sexp.{Sexp, Sexps, atom, binding, list, none, more}
 
 -- Everything on one line: `(`, the items with one space between, `)`. A binding is its name,
 -- ` @ ` and what it binds.
@@ -8,10 +8,10 @@ abbrev mutual
   pub flat : Sexp → List ℕ
   flat (atom text) = text
   flat (binding name s) = name ++ codes " @ " ++ flat s
-  flat (row none) = codes "()"
-  flat (row (more s ss)) = codes "(" ++ flat s ++ flat_behind ss
+  flat (list none) = codes "()"
+  flat (list (more s ss)) = codes "(" ++ flat s ++ flat_behind ss
 
-  -- the items behind the first one, and the end of the list
+  -- the items after the first one, and the end of the list
   pub flat_behind : Sexps → List ℕ
   flat_behind none = codes ")"
   flat_behind (more s ss) = codes " " ++ flat s ++ flat_behind ss
@@ -23,7 +23,7 @@ abbrev mutual
   pub counted : Sexp → ℕ
   counted (atom text) = length text
   counted (binding name s) = length name + 3 + counted s
-  counted (row items) = 1 + counted_items items
+  counted (list items) = 1 + counted_items items
 
   pub counted_items : Sexps → ℕ
   counted_items none = 0

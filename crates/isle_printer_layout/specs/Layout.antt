@@ -4,7 +4,7 @@
 -- width exactly if it counts no more than the room.
 use Rattle.std.specs.Prelude.{ℕ, ◌+◌, ◌-◌, ◌*◌, List, ◌∷◌, ◌++◌, length, replicate, codes, nat_le, if◌then◌else◌}
 use Rattle.isle_base.specs.Bytes.{line_feed, space}
-use Rattle.isle_printer_layout.specs.Sexp.{Sexp, Sexps, atom, binding, row, none, more}
+use Rattle.isle_printer_layout.specs.Sexp.{Sexp, Sexps, atom, binding, list, none, more}
 use Rattle.isle_printer_layout.specs.Flat.{flat, counted}
 
 -- a new line: LF, and four spaces for each level
@@ -17,8 +17,8 @@ abbrev mutual
   pub layout_in : (width : ℕ) → Sexp → (room level : ℕ) → List ℕ
   layout_in width (atom text) room level = text
   layout_in width (binding name s) room level = name ++ codes " @ " ++ layout_in width s (room - length name - 3) level
-  layout_in width (row items) room level =
-      if nat_le (counted (row items)) room then flat (row items) else layout_broken width items room level
+  layout_in width (list items) room level =
+      if nat_le (counted (list items)) room then flat (list items) else layout_broken width items room level
 
   -- A broken list: `(`, the first item at the same level, each other item on a new line at one
   -- level more, where it has the whole width, and `)` on a new line at the list's level. An empty
@@ -28,7 +28,7 @@ abbrev mutual
   layout_broken width (more s ss) room level =
       codes "(" ++ layout_in width s (room - 1) level ++ layout_behind width ss level
 
-  -- the items behind the first one of a broken list, and the end of the list
+  -- the items after the first one of a broken list, and the end of the list
   pub layout_behind : (width : ℕ) → Sexps → (level : ℕ) → List ℕ
   layout_behind width none level = new_line level ++ codes ")"
   layout_behind width (more s ss) level =

@@ -1,13 +1,13 @@
--- The S-expressions of names, flags, words and numbers. A name is an atom as it stands, whatever
+-- The S-expressions of names, flags, words and numbers. A name is an atom as it is, whatever
 -- bytes it holds.
 use Rattle.std.specs.Prelude.{[], ℕ, ◌^◌, ◌==◌, suc, ℤ, pos, negsuc, List, if◌then◌else◌, codes, ◌∷◌, Bool, true, false, map}
 use Rattle.std.specs.Fmt.{decimal, signed_decimal}
 use Rattle.isle_base.specs.Bytes.{dollar}
-use Rattle.isle_printer_layout.specs.Sexp.{Sexp, atom, row_of}
+use Rattle.isle_printer_layout.specs.Sexp.{Sexp, atom, list_of}
 use Rattle.isle_ast_names.specs.Tree.{Name}
 
--- An integer in decimal, behind `-` where it is negative. The least one of 128 bits is written by
--- what its bits are without a sign: a literal with `-` stays above it.
+-- An integer in decimal, after `-` if it is negative. The least one of 128 bits is written as what
+-- its bits are without a sign, since a literal with `-` reads as a greater number.
 abbrev pub integer_text : ℤ → List ℕ
 integer_text (pos n) = decimal n
 integer_text (negsuc n) =
@@ -32,9 +32,9 @@ flag_shape word false = []
 abbrev pub number_shape : ℕ → Sexp
 number_shape n = atom (decimal n)
 
--- a word and the items behind it, in parentheses
+-- a word and the items after it, in parentheses
 abbrev pub form_shape : List ℕ → List Sexp → Sexp
-form_shape word items = row_of (atom word ∷ items)
+form_shape word items = list_of (atom word ∷ items)
 
 -- `$` and the name of a constant
 abbrev pub constant_shape : Name → Sexp
@@ -42,8 +42,8 @@ constant_shape name = atom (dollar ∷ name.text)
 
 -- names in parentheses
 abbrev pub names_shape : List Name → Sexp
-names_shape names = row_of (name_shapes names)
+names_shape names = list_of (name_shapes names)
 
 -- `(name names..)`
 abbrev pub headed_shape : Name → List Name → Sexp
-headed_shape name names = row_of (name_shape name ∷ name_shapes names)
+headed_shape name names = list_of (name_shape name ∷ name_shapes names)

@@ -1,11 +1,11 @@
--- S-expressions as pieces, made from the last to the first, so that what is made stands behind what
--- is still to come.
+-- S-expressions as the pieces of a tape, made from the last to the first: what is made comes after
+-- what is still to be made.
 use Rattle.std.specs.Prelude.{◌≡◌, ℕ, ◌+◌, List, [], ◌∷◌, ◌++◌, Option, reverse, string_bytes}
-use Rattle.isle_printer_layout.specs.declared.printer.tape.Piece.{Piece}
-use Rattle.isle_printer_layout.specs.declared.printer.tape.Piece.TheVariants.{Borrowed, Owned, Name, Open, Close}
+use Rattle.isle_printer_layout.specs.declared.tape.Piece.{Piece}
+use Rattle.isle_printer_layout.specs.declared.tape.Piece.TheVariants.{Borrowed, Owned, Name, Open, Close}
 use Rattle.isle_printer_layout.specs.Flat.{counted, counted_items}
 use Rattle.isle_printer_layout.specs.Lengths.{record_of}
-use Rattle.isle_printer_layout.specs.Sexp.{Sexp, atom, binding, row_of, sexps}
+use Rattle.isle_printer_layout.specs.Sexp.{Sexp, atom, binding, list_of, sexps}
 use Rattle.isle_printer_layout.specs.SexpCode.{sexp_code}
 use Rattle.std.specs.Coded.{Coded, coded×, coded_list}
 
@@ -17,39 +17,47 @@ Made = List Sexp × List (List Sexp)
 abbrev pub made_code : Coded Made
 made_code = coded× (coded_list sexp_code) (coded_list (coded_list sexp_code))
 
-abbrev pub nothing : Made
-nothing = ([], [])
+abbrev pub nothing_made : Made
+nothing_made = ([], [])
 
--- these S-expressions, and then what is made
-abbrev pub before : List Sexp → Made → Made
-before ss made = (ss ++ made.0, made.1)
+-- these S-expressions, put before what is made
+abbrev pub put_before : List Sexp → Made → Made
+put_before ss made = (ss ++ made.0, made.1)
 
 -- what is made of the list around this one, and of those around that one; nothing where there is
 -- none
-abbrev pub around : List (List Sexp) → Made
-around [] = nothing
-around (ss ∷ others) = (ss, others)
+abbrev pub made_around : List (List Sexp) → Made
+made_around [] = nothing_made
+made_around (ss ∷ others) = (ss, others)
 
--- the first S-expression, and what stands behind it; an empty list where there is none
-abbrev pub first : List Sexp → Sexp
-first [] = row_of []
-first (s ∷ ss) = s
+-- the first S-expression, and those after it; an empty list where there is none
+abbrev pub first_made : List Sexp → Sexp
+first_made [] = list_of []
+first_made (s ∷ ss) = s
 
-abbrev pub behind : List Sexp → List Sexp
-behind [] = []
-behind (s ∷ ss) = ss
+abbrev pub after_first : List Sexp → List Sexp
+after_first [] = []
+after_first (s ∷ ss) = ss
 
--- A piece, and then what is made. The end of a list begins a list, as nothing stands before it yet.
+-- A piece, and then what is made. The end of a list begins a list, as nothing is made of it yet.
 abbrev pub put_piece : Piece → Made → Made
-put_piece (Borrowed text) made = before (atom text.now ∷ []) made
-put_piece (Owned text) made = before (atom (string_bytes text) ∷ []) made
-put_piece (Name name) made = (binding name.now (first made.0) ∷ behind made.0, made.1)
-put_piece (Open length) made = before (row_of made.0 ∷ []) (around made.1)
+put_piece (Borrowed text) made = put_before (atom text.now ∷ []) made
+put_piece (Owned text) made = put_before (atom (string_bytes text) ∷ []) made
+put_piece (Name name) made = (binding name.now (first_made made.0) ∷ after_first made.0, made.1)
+put_piece (Open length) made = put_before (list_of made.0 ∷ []) (made_around made.1)
 put_piece Close made = ([], made.0 ∷ made.1)
+
+-- the S-expression that a piece begins, whose other pieces are the next ones
+abbrev pub begun : Piece → Made → Sexp
+begun piece made = first_made (put_piece piece made).0
+
+-- what is made after the S-expression that a piece begins
+abbrev pub after_begun : Piece → Made → Made
+after_begun piece made = (after_first (put_piece piece made).0, (put_piece piece made).1)
 
 -- what these pieces are, from the first one on
 abbrev pub read : List Piece → Made
-read [] = nothing
+read [] = nothing_made
 read (p ∷ ps) = put_piece p (read ps)
 
 -- there is one
@@ -57,21 +65,25 @@ abbrev pub HasFirst : {X : Type 0} → List X → Type 0
 HasFirst [] = ⊥
 HasFirst (x ∷ xs) = Unit {0}
 
--- Behind a name stands what it binds. The start of a list has its end, and the record of the list's
+-- What a name binds comes after it. The start of a list has its end, and the record of the list's
 -- counted length.
-abbrev pub Fits : Piece → Made → Type 0
-Fits (Borrowed text) made = Unit {0}
-Fits (Owned text) made = Unit {0}
-Fits (Name name) made = HasFirst made.0
-Fits (Open length) made = (length ≡ record_of (counted (row_of made.0))) × HasFirst made.1
-Fits Close made = Unit {0}
+abbrev pub FitsBefore : Piece → Made → Type 0
+FitsBefore (Borrowed text) made = Unit {0}
+FitsBefore (Owned text) made = Unit {0}
+FitsBefore (Name name) made = HasFirst made.0
+FitsBefore (Open length) made = (length ≡ record_of (counted (list_of made.0))) × HasFirst made.1
+FitsBefore Close made = Unit {0}
 
--- each of these pieces fits what stands behind it
+-- a piece begins an S-expression
+abbrev pub Begins : Piece → Made → Type 0
+Begins piece made = HasFirst (put_piece piece made).0 × FitsBefore piece made
+
+-- each of these pieces fits before the next ones
 abbrev pub AllFit : List Piece → Type 0
 AllFit [] = Unit {0}
-AllFit (p ∷ ps) = Fits p (read ps) × AllFit ps
+AllFit (p ∷ ps) = FitsBefore p (read ps) × AllFit ps
 
--- The pieces stand in memory from the last to the first.
+-- The pieces are kept in memory from the last to the first.
 abbrev pub made_of : List Piece → Made
 made_of pieces = read (reverse pieces)
 

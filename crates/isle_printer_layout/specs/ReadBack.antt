@@ -1,18 +1,18 @@
 -- How a written S-expression reads back: which tokens its atoms are the texts of.
 use Rattle.std.specs.Prelude.{[], ◌≡◌, ℕ, List, ◌∷◌, ◌++◌, false, true, ◌||◌}
 use Rattle.isle_base.specs.Place.{Placed, unknown}
-use Rattle.isle_base.specs.Pieces.{Piece, in_symbol}
+use Rattle.isle_base.specs.Spellings.{Spelling, in_symbol}
 use Rattle.isle_base.specs.Skips.{Skip, begins_with}
 use Rattle.isle_base.specs.Token.{Tok, lparen, rparen, at_sign, is_int, is_symbol}
-use Rattle.isle_printer_layout.specs.Sexp.{Sexp, Sexps, atom, binding, row, none, more}
+use Rattle.isle_printer_layout.specs.Sexp.{Sexp, Sexps, atom, binding, list, none, more}
 
--- no byte of a symbol stands here
+-- no byte of a symbol comes here
 abbrev pub Separated : List ℕ → Type 0
 Separated text = begins_with in_symbol text ≡ false
 
--- this text is the piece of a token, before anything that ends a symbol
+-- this text is the spelling of a token, before anything that ends a symbol
 abbrev pub ReadsAs : List ℕ → Tok → Type 0
-ReadsAs text token = (rest : List ℕ) → Separated rest → Piece (text ++ rest) token rest
+ReadsAs text token = (rest : List ℕ) → Separated rest → Spelling (text ++ rest) token rest
 
 -- a symbol or an integer
 abbrev pub IsWordToken : Tok → Type 0
@@ -27,17 +27,17 @@ abbrev mutual
   TokensOf (binding name s) all rest =
       (token : Tok) × (mid : List Tok) × IsWordToken token × ReadsAs name token
       × (all ≡ token ∷ at_sign ∷ mid) × TokensOf s mid rest
-  TokensOf (row items) all rest = (mid : List Tok) × (all ≡ lparen ∷ mid) × TokensOfItems items mid (rparen ∷ rest)
+  TokensOf (list items) all rest = (mid : List Tok) × (all ≡ lparen ∷ mid) × TokensOfItems items mid (rparen ∷ rest)
 
   pub TokensOfItems : Sexps → List Tok → List Tok → Type 0
   TokensOfItems none all rest = all ≡ rest
   TokensOfItems (more s ss) all rest = (mid : List Tok) × TokensOf s all mid × TokensOfItems ss mid rest
 
--- The text is skip, piece, skip, piece and so on, of just these tokens, and ends with a skip.
+-- The text is skip, spelling, skip, spelling and so on, of just these tokens, and ends with a skip.
 abbrev pub Reads : List ℕ → List Tok → Type 0
 Reads text [] = Skip text []
 Reads text (token ∷ tokens) =
-    (from : List ℕ) × (after : List ℕ) × Skip text from × Piece from token after × Reads after tokens
+    (from : List ℕ) × (after : List ℕ) × Skip text from × Spelling from token after × Reads after tokens
 
 -- tokens at the default position
 abbrev pub unplaced : List Tok → List Placed

@@ -7,14 +7,14 @@ use Rattle.std.specs.Str.{bytes_eq}
 use Rattle.std.proofs.Common.{refl, sym, ap, subst}
 use Rattle.std.proofs.lemmas.Bool.{true≢false, and_parts, and_from}
 use Rattle.std.proofs.lemmas.Slice.Eq.{bytes_eq-Decides}
-use Rattle.isle_printer_layout.specs.Sexp.{Sexp, Sexps, atom, binding, row, none, more}
+use Rattle.isle_printer_layout.specs.Sexp.{Sexp, Sexps, atom, binding, list, none, more}
 use Rattle.isle_printer_layout.specs.SexpView.{sexp_of}
 
 abbrev mutual
   pub same_sexp : Sexp → Sexp → Bool
   same_sexp (atom text) (atom other) = bytes_eq text other
   same_sexp (binding name s) (binding other t) = bytes_eq name other && same_sexp s t
-  same_sexp (row ss) (row ts) = same_sexps ss ts
+  same_sexp (list ss) (list ts) = same_sexps ss ts
   same_sexp _ _ = false
 
   pub same_sexps : Sexps → Sexps → Bool
@@ -30,7 +30,7 @@ mutual
   sexp_same (binding name s) (binding other t) h =
       let all = and_parts (bytes_eq name other) (same_sexp s t) h in
       λ i. binding ((bytes_eq-Decides name other).0 all.0 i) (sexp_same s t all.1 i)
-  sexp_same (row ss) (row ts) h = ap row (sexps_same ss ts h)
+  sexp_same (list ss) (list ts) h = ap list (sexps_same ss ts h)
   sexp_same _ _ h = absurd (true≢false (sym h))
 
   pub sexps_same : (ss ts : Sexps) → same_sexps ss ts ≡ true → ss ≡ ts
@@ -45,7 +45,7 @@ mutual
   sexp_self (atom text) = (bytes_eq-Decides text text).1 refl
   sexp_self (binding name s) =
       and_from (bytes_eq name name) (same_sexp s s) ((bytes_eq-Decides name name).1 refl) (sexp_self s)
-  sexp_self (row ss) = sexps_self ss
+  sexp_self (list ss) = sexps_self ss
 
   pub sexps_self : (ss : Sexps) → same_sexps ss ss ≡ true
   sexps_self none = refl

@@ -1,4 +1,4 @@
--- How long the lines of a text are on which lists stand whole.
+-- How long the lines of a text are that hold whole lists.
 use Rattle.std.specs.Prelude.{◌≡◌, ℕ, ◌+◌, ◌≤◌, ◌==◌, ◌&&◌, List, [], ◌∷◌, ◌++◌, length, if◌then◌else◌}
 use Rattle.isle_base.specs.Bytes.{left_parenthesis, line_feed, right_parenthesis, space}
 use Rattle.isle_base.specs.Skips.{begins_with}
@@ -15,23 +15,23 @@ text_lines [] = []
 text_lines (b ∷ bs) = if b == line_feed then [] ∷ text_lines bs else before_first b (text_lines bs)
 
 -- how many spaces a line begins with
-abbrev pub indentation : List ℕ → ℕ
-indentation [] = 0
-indentation (b ∷ bs) = if b == space then 1 + indentation bs else 0
+abbrev pub leading_spaces : List ℕ → ℕ
+leading_spaces [] = 0
+leading_spaces (b ∷ bs) = if b == space then 1 + leading_spaces bs else 0
 
--- how many empty lists stand on a line: a `(` and a `)` just behind it
+-- how many empty lists are on a line: a `(` with a `)` just after it
 abbrev pub empty_lists : List ℕ → ℕ
 empty_lists [] = 0
 empty_lists (b ∷ bs) =
     (if b == left_parenthesis && begins_with (λ next. next == right_parenthesis) bs then 1 else 0)
     + empty_lists bs
 
--- Where a list may stand whole on a line, since a `(` is before a `)`, the line has at most as many
--- bytes as the width, its indentation, and one more for each empty list on it.
+-- A line that has a `(` before a `)` may hold a whole list. It has at most as many bytes as the
+-- width, its indentation, and one more for each empty list on it.
 abbrev pub IsShortLine : ℕ → List ℕ → Type 0
 IsShortLine width line =
-    (before within behind : List ℕ) → line ≡ before ++ left_parenthesis ∷ within ++ right_parenthesis ∷ behind
-    → length line ≤ width + indentation line + empty_lists line
+    (before within after : List ℕ) → line ≡ before ++ left_parenthesis ∷ within ++ right_parenthesis ∷ after
+    → length line ≤ width + leading_spaces line + empty_lists line
 
 abbrev pub HasShortLines : ℕ → List ℕ → Type 0
 HasShortLines width text = Each (IsShortLine width) (text_lines text)

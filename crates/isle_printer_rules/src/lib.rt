@@ -1,4 +1,6 @@
 //! The part of the printer of ISLE that turns rules into S-expressions.
 #![tactic(auto)]
 
-pub mod printer;
+pub mod expressions;
+pub mod patterns;
+pub mod rules;

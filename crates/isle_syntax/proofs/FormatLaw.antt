@@ -1,6 +1,6 @@
 -- The print of the one tree that a text spells, from what lexer, parser and printer promise.
 use Rattle.std.proofs.Common.{◌≡◌, ℕ, ◌≤◌, length, List, [], refl, sym, subst, arith}
-use Rattle.isle_base_errors.specs.declared.pos.Pos.{Pos}
+use Rattle.isle_base_source.specs.declared.pos.Pos.{Pos}
 use Rattle.isle_base.specs.Lexing.{lexes}
 use Rattle.isle_base.specs.Place.{nowhere, placed}
 use Rattle.isle_base.specs.Token.{end, fault, Feed}
@@ -19,7 +19,7 @@ use Rattle.isle_printer.proofs.PrintLaw.{IsPrinted-ReadsBack, IsPrinted-erased, 
 use Rattle.isle_printer.proofs.ShortLines.Definitions.{IsPrinted-HasShortLines}
 use Rattle.isle_parser.specs.Parsed.{RefusesText, RefusesWith}
 use Rattle.isle_parser_cursor.specs.Outcomes.{RefusesIn}
-use Rattle.isle_base.specs.declared.lexer.Fault.{Fault}
+use Rattle.isle_base.specs.declared.fault.Fault.{Fault}
 use Rattle.isle_base.specs.Steps.{IfError, RefusesStart}
 use Rattle.isle_syntax.specs.Format.{IsFormatted, IsRefused, OfItsTree}
 use Rattle.isle_syntax.specs.Streaming.{IsRefusedWith}

@@ -1,2 +1,4 @@
 pub mod FormatLaw
+pub mod ReadingLaw
 pub mod StreamingLaw
+pub mod TreeLaw

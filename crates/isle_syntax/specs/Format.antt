@@ -1,6 +1,6 @@
 -- What `format` answers.
 use Rattle.std.specs.Prelude.{◌≡◌, ◌↔◌, ℕ, ◌≤◌, List}
-use Rattle.isle_base_errors.specs.declared.pos.Pos.{Pos}
+use Rattle.isle_base_source.specs.declared.pos.Pos.{Pos}
 use Rattle.isle_base.specs.Place.{nowhere}
 use Rattle.isle_ast.specs.Tree.{Definition}
 use Rattle.isle_ast.specs.Erased.{erase}

@@ -1,2 +1,3 @@
 pub mod Format
 pub mod Streaming
+pub mod Trees

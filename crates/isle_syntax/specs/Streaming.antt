@@ -4,7 +4,7 @@ use Rattle.isle_ast.specs.Grammar.{SpellsDefinition}
 use Rattle.isle_ast.specs.Tree.{Definition}
 use Rattle.isle_base.specs.Lexing.{lexes}
 use Rattle.isle_base.specs.Steps.{is_at_end, is_failed}
-use Rattle.isle_base_errors.specs.declared.error.Error.{Error}
+use Rattle.isle_base_source.specs.declared.error.Error.{Error}
 use Rattle.isle_parser.specs.NextDefinition.{has_failed}
 use Rattle.isle_parser.specs.declared.parser.Parser.{Parser}
 use Rattle.isle_parser_cursor.specs.Outcomes.{RefusesIn, source, tokens}
@@ -13,11 +13,23 @@ use Rattle.isle_syntax.specs.Format.{IsRefused}
 
 -- a parser of a whole text, which is file 0, at its start, with positions
 pub record IsAtStart (text : List ℕ) (start : Parser) : Type 0 where
-  pub file : start.cursor.lexer.file ≡ 0
-  pub size : start.cursor.lexer.size ≡ length text
-  pub live : is_failed start.cursor.lexer ≡ false
-  pub lexed : lexes text start.cursor.lexer.coming start.cursor.lexer.ending
+  pub file : start.cursor.scanner.file ≡ 0
+  pub size : start.cursor.scanner.size ≡ length text
+  pub live : is_failed start.cursor.scanner ≡ false
+  pub lexed : lexes text start.cursor.scanner.coming start.cursor.scanner.ending
   pub positions : start.cursor.disable_pos ≡ false
+
+-- the next definition is read
+pub record IsRead (old new : Parser) : Type 0 where
+  pub definition : Definition
+  pub spelt : SpellsDefinition definition (tokens old.cursor) (tokens new.cursor)
+  pub same : source new.cursor ≡ source old.cursor
+  pub live : has_failed new ≡ false
+
+-- no definition is left to be read
+pub record IsDone (old new : Parser) : Type 0 where
+  pub at_end : is_at_end old.cursor.scanner ≡ true
+  pub same : new ≡ old
 
 -- the next definition is read, and its print is written behind that of the definitions before it
 pub record IsPut (width : ℕ) (old new : Parser) (before after : List ℕ) : Type 0 where
@@ -26,12 +38,6 @@ pub record IsPut (width : ℕ) (old new : Parser) (before after : List ℕ) : Ty
   pub same : source new.cursor ≡ source old.cursor
   pub live : has_failed new ≡ false
   pub written : (ds : List Definition) → before ≡ printed_text width ds → after ≡ printed_text width (ds ++ definition ∷ [])
-
--- no definition is left to be read, and nothing is written
-pub record IsDone (old new : Parser) (before after : List ℕ) : Type 0 where
-  pub at_end : is_at_end old.cursor.lexer ≡ true
-  pub same : new ≡ old
-  pub written : after ≡ before
 
 -- the text is refused, and the error stands in it
 abbrev pub IsRefusedWith : List ℕ → Error → Type 0

@@ -1,6 +1,7 @@
 //! The syntax layer of ISLE, the rewriting language of Cranelift's instruction selection.
 //!
-//! `format` is the whole way from text to text. The modules have the names that they have in
+//! `format` is the whole way from text to text, `parse` gives the tree of a text, and `check` says
+//! whether it has one. The modules have the names that they have in
 //! `cranelift-isle`, whose behaviour they follow.
 #![tactic(auto)]
 
@@ -8,7 +9,7 @@ ghost use Rattle.std.specs.Prelude.{◌≢◌, ◌≤◌, Err, IfErr, IfOk, leng
 ghost use Rattle.isle_ast.specs.Spelt.{IsSpelt};
 ghost use Rattle.isle_base.specs.Place.{nowhere};
 ghost use Rattle.isle_base.specs.Steps.{IfError};
-ghost use Rattle.isle_base.specs.declared.lexer.Fault.TheVariants.{Failed};
+ghost use Rattle.isle_base.specs.declared.fault.Fault.TheVariants.{Failed};
 ghost use Rattle.isle_parser_cursor.specs.Outcomes.{RefusesIn};
 ghost use Rattle.isle_printer.specs.Lines.{WiderHasNoMoreLines};
 ghost use Rattle.isle_printer.specs.Printed.{IsPrinted};
@@ -17,6 +18,7 @@ ghost use Rattle.isle_syntax.specs.Format.{HasPrintOfItsOwn, IsOnlyTree, IsRefus
 ghost use Rattle.isle_syntax.specs.Format.{ReadsBackAtOtherWidths, SpellsTree};
 
 mod streaming;
+mod trees;
 
 pub use isle_ast::ast;
 use isle_base::lexer::{Fault, Lexer};
@@ -26,6 +28,7 @@ use isle_parser::parser::Parser;
 pub use isle_printer::printer;
 use std::alloc::Global;
 use streaming::put_all;
+pub use trees::{check, parse};
 
 /// Formats a text of ISLE: the print, at this width in bytes, of the one tree that the text spells.
 ///

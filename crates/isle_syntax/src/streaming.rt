@@ -3,7 +3,7 @@
 ghost use Rattle.std.specs.Prelude.{◌≡◌, ◌↔◌, Err, IfErr, IsErrOf, List, Ok, OnOk, [], ℕ};
 ghost use Rattle.std.specs.Prelude.{false, string_bytes, true};
 ghost use Rattle.isle_base.specs.Steps.{IfError};
-ghost use Rattle.isle_base.specs.declared.lexer.Fault.TheVariants.{Failed};
+ghost use Rattle.isle_base.specs.declared.fault.Fault.TheVariants.{Failed};
 ghost use Rattle.isle_parser.specs.NextDefinition.{RefusesNext, has_failed};
 ghost use Rattle.isle_syntax.specs.Format.{IsFormatted};
 ghost use Rattle.isle_syntax.specs.Streaming.{IsAtStart, IsDone, IsPut, IsRefusedWith};
@@ -42,8 +42,8 @@ fn put_next(
 ) -> Result<bool, Fault>
     ensures put { result ≡ Ok true
         → IsPut width parser.old parser.new (string_bytes answer.old) (string_bytes answer.new) }
-    ensures done { result ≡ Ok false
-        → IsDone parser.old parser.new (string_bytes answer.old) (string_bytes answer.new) }
+    ensures done { result ≡ Ok false → IsDone parser.old parser.new }
+    ensures kept { result ≡ Ok false → string_bytes answer.new ≡ string_bytes answer.old }
     ensures refused { IfErr result (IfError (RefusesNext parser.old.cursor)) }
     ensures failed { IsErrOf result Failed ↔ (has_failed parser.old ≡ true) }
 {

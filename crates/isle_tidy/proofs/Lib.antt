@@ -1,2 +1,1 @@
 pub mod StreamLemmas
-pub mod WordLemmas

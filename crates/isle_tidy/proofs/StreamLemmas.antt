@@ -1,15 +1,17 @@
 -- Two writes taken together, and what is said of a failure.
-use Rattle.std.proofs.Common.{◌≡◌, ◌++◌, ℕ, ◌+◌, min, List, length, take, Option, Result, Ok, Err, IfErr, string_bytes, subst, sym, ◌∙◌, inl, arith}
+use Rattle.std.proofs.Common.{◌≡◌, ◌≢◌, ◌++◌, [], ◌∷◌, Some, ℕ, ◌+◌, min, List, length, Option, Result, Ok, Err, IfErr, Bool, string_bytes, subst, sym, ◌∙◌, ◌⊎◌, inl, inr, refl, arith}
 use Rattle.std.proofs.KnownBytes.{Appends-trans}
 use Rattle.std.proofs.Math.Seq.{take-append-add}
 use Rattle.std.proofs.lemmas.List.{take-append-le, take_min}
 use Rattle.std.specs.Io.KnownBytes.{Appends}
-use Rattle.isle_program.specs.Streams.{AppendsBeginning}
-use Rattle.isle_tidy.specs.declared.arguments.Task.{Task}
-use Rattle.isle_tidy.specs.declared.failure.Failure.{Failure}
-use Rattle.isle_tidy.specs.declared.failure.Failure.TheVariants as failures
-use Rattle.isle_tidy.specs.Doing.{Explains, FindsInput}
-use Rattle.isle_tidy.specs.Failure.{status_of, text_of}
+use Rattle.isle_cli.specs.Streams.{AppendsBeginning}
+use Rattle.isle_cli.specs.declared.failure.Failure.{Failure}
+use Rattle.isle_cli.specs.declared.failure.Failure.TheVariants as failures
+use Rattle.isle_cli.specs.Arguments.{Asked, Given, name_list, work_asked}
+use Rattle.isle_tidy.specs.Doing.{Explains, FindsInput, HasNames}
+use Rattle.isle_tidy.specs.Program.{AnswersTo}
+use Rattle.isle_cli.specs.Failure.{status_of, text_of}
+use Rattle.isle_cli.specs.declared.program.Program.{Program}
 
 -- a beginning of the front is one of the whole
 pub AppendsBeginning-front : (a b : Option (List ℕ)) (xs ys : List ℕ) → AppendsBeginning a b xs → AppendsBeginning a b (xs ++ ys)
@@ -31,9 +33,23 @@ pub cut-behind : {T : Type 0} (a b c : Option (List ℕ)) (xs ys : List ℕ) (re
 cut-behind a b c xs ys (Ok x) front said = tt
 cut-behind a b c xs ys (Err failure) front said = (said.0, AppendsBeginning-behind a b c xs ys front said.1)
 
+-- what follows from the second of two follows in the second place
+pub in-second : {K A B : Type 0} → (A → B) → K ⊎ A → K ⊎ B
+in-second f (inl k) = inl k
+in-second f (inr a) = inr (f a)
+
+-- where nothing with names is asked for, there are none
+empty-by : {A : Type 0} (xs : List A) → ¬ (xs ≢ []) → xs ≡ []
+empty-by [] none = refl
+empty-by (x ∷ xs) none = absurd (none (λ e. absurd (cc)))
+
+pub without-names : (answer : Option Asked) (list : List Given) → answer ≡ Some (work_asked list) → ¬ (AnswersTo answer HasNames) → name_list list ≡ []
+without-names answer list is none = empty-by (name_list list) (λ some. none (work_asked list, is, some))
+
 -- What status 1 says, of a failure that ends with it.
-module _ (task : Task) (input input' output output' faults faults' : Option (List ℕ)) where
-  found_by : (failure : Failure) → Explains failure task.check task.width input input' output output' → AppendsBeginning faults faults' (text_of failure) → status_of failure ≡ 1 → FindsInput task input input' output output' faults faults'
+module _ (program : Program) (check : Bool) (name : List ℕ) (input input' output output' faults faults' : Option (List ℕ)) where
+  found_by : (failure : Failure) → Explains failure check name input input' output output' → AppendsBeginning faults faults' (text_of program failure)
+      → status_of failure ≡ 1 → FindsInput check name input input' output output' faults faults'
   found_by (failures.Refused diagnostic) why told one =
       let read = why.0 in
       inl (
@@ -51,5 +67,6 @@ module _ (task : Task) (input input' output output' faults faults' : Option (Lis
   found_by failures.Memory why told one = absurd (cc)
   found_by failures.Output why told one = absurd (cc)
 
-  pub found-by : (status : ℕ) (failure : Failure) → Explains failure task.check task.width input input' output output' → AppendsBeginning faults faults' (text_of failure) → status ≡ status_of failure → status ≡ 1 → FindsInput task input input' output output' faults faults'
+  pub found-by : (status : ℕ) (failure : Failure) → Explains failure check name input input' output output' → AppendsBeginning faults faults' (text_of program failure)
+      → status ≡ status_of failure → status ≡ 1 → FindsInput check name input input' output output' faults faults'
   found-by status failure why told is one = found_by failure why told (sym is ∙ one)

@@ -1,3 +1,2 @@
-pub mod Arguments
 pub mod Doing
-pub mod Failure
+pub mod Program

@@ -1,11 +1,11 @@
 //! Tidying files in place: whole or not at all.
 
 ghost use Rattle.std.specs.Prelude.{IfErr};
-ghost use Rattle.isle_tidy.specs.Failure.{IsFileFailure};
+ghost use Rattle.isle_tidy.specs.Doing.{IsFileFailure};
 
-use crate::failure::Failure;
 use crate::program::tidied;
-use isle_program::streams::{read_text, write_whole};
+use isle_cli::failure::Failure;
+use isle_cli::streams::{read_text, write_whole};
 use std::fs::{Files, Metadata, OpenFile, OpenOptions};
 use std::io::ErrorKind;
 use std::os::unix::fs::MetadataExt;
@@ -21,12 +21,7 @@ const NAMES: u32 = 100;
 /// file beside it, which gets the old one's owner and permissions, is written through to the
 /// disk, and then takes its place. After an error the old file is there as it was, and the new
 /// one is gone.
-pub fn tidy_file<R: Files + AllocGlobal>(
-    rt: &R,
-    name: &str,
-    width: usize,
-    check: bool,
-) -> Result<bool, Failure>
+pub fn tidy_file<R: Files + AllocGlobal>(rt: &R, name: &str, check: bool) -> Result<bool, Failure>
     ensures { IfErr result IsFileFailure }
 {
     let target = fs::canonicalize(rt, name).map_err(unreadable)?;
@@ -41,7 +36,7 @@ pub fn tidy_file<R: Files + AllocGlobal>(
         .map_err(unreadable)?;
     let text = read_text(rt.alloc(), &mut file)?;
     drop(file);
-    let answer = tidied(rt.alloc(), name, text.as_str(), width)?;
+    let answer = tidied(rt.alloc(), name, text.as_str())?;
     if answer.as_str() == text.as_str() {
         return Ok(false);
     }

@@ -1,22 +1,21 @@
-//! `isle-tidy [--check] [WIDTH] [FILE ..]`: tidies ISLE source, and keeps every comment.
+//! `isle-tidy [--check] [--stdin-name NAME] [FILE ..]`: tidies ISLE source, and keeps every comment
+//! and every line.
 #![tactic(auto)]
 
-mod arguments;
-mod failure;
 mod in_place;
 mod program;
 
-use failure::Failure;
-use isle_program::words::{WordsFault, taken_words};
-use program::{report, run};
+use isle_cli::failure::Failure;
+use isle_cli::program::report;
+use isle_cli::words::taken_words;
+use program::{run, this_program};
 use std::process::ExitCode;
 
 fn main(rt: HostRuntime) -> ExitCode {
     let (mut input, mut output, mut faults) = (rt.stdin(), rt.stdout(), rt.stderr());
     let status = match taken_words(&rt) {
         Ok(words) => run(&rt, &words, &mut input, &mut output, &mut faults),
-        Err(WordsFault::NotUtf8) => report(&Failure::Usage, &mut faults),
-        Err(WordsFault::Memory) => report(&Failure::Memory, &mut faults),
+        Err(fault) => report(&this_program(), &Failure::from(fault), &mut faults),
     };
     ExitCode::from(status)
 }

@@ -1,24 +1,32 @@
 //! The program's work, over any files, any reader and any two writers.
 
-ghost use Rattle.std.specs.Prelude.{◌≡◌, ◌≢◌, ◌≤◌, ◌⊎◌, ◌++◌, IfErr, IfOk, OnOk, codes, map};
-ghost use Rattle.std.specs.Prelude.{false, string_bytes, true};
+ghost use Rattle.std.specs.Prelude.{◌≡◌, ◌≢◌, ◌≤◌, ◌⊎◌, ◌++◌, [], IfErr, IfOk, None, OnOk, codes};
+ghost use Rattle.std.specs.Prelude.{false, map, string_bytes, true};
 ghost use Rattle.std.specs.Io.KnownBytes.{Appends, Keeps};
-ghost use Rattle.isle_document.specs.Tidied.{IsTidied};
-ghost use Rattle.isle_program.specs.Streams.{AppendsBeginning, ReadsText, WritesBeginning};
-ghost use Rattle.isle_tidy.specs.Arguments.{AskForNothing};
-ghost use Rattle.isle_tidy.specs.Doing.{AsAsked, Cuts, CutsInput, DoesInput, DoesWhatIsAsked};
-ghost use Rattle.isle_tidy.specs.Doing.{Explains, Finds, FindsInput, HandlesFiles, IsInputFailure};
-ghost use Rattle.isle_tidy.specs.Doing.{IsJudged, Judges, NameFiles, Tells, TidiesInput};
-ghost use Rattle.isle_tidy.specs.Failure.{IsDiagnostic, IsTidyFailure, status_of, text_of};
-ghost use Rattle.isle_tidy.specs.declared.failure.Failure.TheVariants.{Output};
+ghost use Rattle.isle_cli.specs.Arguments.{asked, given_of, is_among, name_list, stdin_name};
+ghost use Rattle.isle_cli.specs.Failure as frame;
+ghost use Rattle.isle_cli.specs.Failure.{status_of};
+ghost use Rattle.isle_cli.specs.Streams.{AppendsBeginning, ReadsText, WritesBeginning};
+ghost use Rattle.isle_cli.specs.declared.failure.Failure.TheVariants.{Output};
+ghost use Rattle.isle_document.specs.Tidied.{IsTidyTextOf};
+ghost use Rattle.isle_tidy.specs.Doing.{Cuts, CutsInput, Does, DoesInput, DoesTask, Explains};
+ghost use Rattle.isle_tidy.specs.Doing.{Finds, FindsInput, HandlesFiles, HasNames};
+ghost use Rattle.isle_tidy.specs.Doing.{IsInputFailure, IsJudged, IsTidyFailure, Judges, Tells};
+ghost use Rattle.isle_tidy.specs.Doing.{TidiesInput, checks, names_input};
+ghost use Rattle.isle_tidy.specs.Program.{AnswersTo, AreOwn, AsAsked, AskForNothing, HaveNames};
+ghost use Rattle.isle_tidy.specs.Program.{IsDiagnostic, IsThis};
 
-use crate::arguments::{Request, Task, asked_for};
-use crate::failure::{Failure, USAGE};
 use crate::in_place::tidy_file;
+use isle_base::lexer::Fault;
+use isle_cli::arguments::{
+    Argument, Options, Request, has_flag, names_of, requested, stdin_name_of,
+};
+use isle_cli::failure::Failure;
+use isle_cli::folders::files_of;
+use isle_cli::messages::error_line;
+use isle_cli::program::{Program, put, report, tell};
+use isle_cli::streams::{read_text, write_whole};
 use isle_document::tidy;
-use isle_program::diagnostics::diagnostic;
-use isle_program::streams::{read_text, write_whole};
-use isle_syntax::lexer::Fault;
 use std::alloc::Global;
 use std::fs::Files;
 use std::io::{Read, Write};
@@ -26,22 +34,52 @@ use std::io::{Read, Write};
 /// The version: that of the upstream crate whose syntax this is.
 const VERSION: &str = "isle-tidy 0.137.1\n";
 
-/// The name that stands for standard input.
-const INPUT_NAME: &str = "<stdin>";
+/// What is to be done with texts.
+#[derive(Clone, Copy)]
+pub struct Task<'a> {
+    /// What the program says of itself.
+    pub program: &'a Program,
+    /// Whether it is only told what would change.
+    pub check: bool,
+    /// The name of standard input in messages.
+    pub stdin_name: &'a str,
+}
 
-/// Tidies standard input onto standard output, or files in place, and answers the program's status.
+/// What the program says of itself.
+pub fn this_program() -> Program
+    ensures { IsThis result }
+{
+    Program {
+        name: "isle-tidy",
+        usage: "usage: isle-tidy [--check] [--stdin-name NAME] [FILE ..]\n",
+    }
+}
+
+/// Its own options.
+fn own_options() -> Options
+    ensures { AreOwn result }
+{
+    Options {
+        flags: &["--check"],
+        settings: &[],
+    }
+}
+
+/// Tidies standard input onto standard output, or files in place, and gives the program's status.
 ///
 /// | Status | When |
 /// |---|---|
 /// | 0 | all is tidied; with `--check`, all is tidy |
-/// | 1 | a text is no text of ISLE; with `--check`, one would change |
+/// | 1 | a text can't be tidied; with `--check`, one would change |
 /// | 2 | the words are none of the usage |
 /// | 3 | the input, or a file, can't be read, or isn't UTF-8 |
 /// | 4 | memory was refused |
 /// | 5 | the output, or a file, can't be written |
 ///
-/// Of several files each is done whatever comes of the others; the status is the greatest.
-pub fn run<R: Files + AllocGlobal, I: Read, W: Write, E: Write>(
+/// A name is that of a file, of a folder, which stands for each `.isle` file beneath it, or `-`,
+/// which stands for standard input. All words are looked at before any file is touched. Of several
+/// names each is done whatever comes of the others; the status is the greatest.
+pub fn run<R: Files + AllocGlobal + Clone + Drop, I: Read, W: Write, E: Write>(
     rt: &R,
     words: &[String],
     input: &mut I,
@@ -52,71 +90,137 @@ pub fn run<R: Files + AllocGlobal, I: Read, W: Write, E: Write>(
 
     // The words alone decide on status 2, and then nothing is read.
     ensures usage { result ≡ 2 → AskForNothing (map string_bytes words.now) }
-    ensures asked { result ≢ 2 → AsAsked (map string_bytes words.now)
-        (λ request. HandlesFiles request (I.remaining input.old) (I.remaining input.new)) }
+    ensures asked { result ≢ 2 → result ≢ 4 → AsAsked (map string_bytes words.now)
+        (λ program request. HandlesFiles request
+        (I.remaining input.old) (I.remaining input.new)) }
+    ensures starved { result ≡ 4 → Keeps (I.remaining input.old) (I.remaining input.new)
+        ⊎ AsAsked (map string_bytes words.now)
+        (λ program request. HandlesFiles request
+        (I.remaining input.old) (I.remaining input.new)) }
     ensures unread { result ≡ 2 → Keeps (I.remaining input.old) (I.remaining input.new) }
 
     // What is asked for is done; or, of standard input, it is refused or found untidy; or the
     // output is cut.
-    ensures done { result ≡ 0 → DoesWhatIsAsked (map string_bytes words.now)
+    ensures done { result ≡ 0 → AsAsked (map string_bytes words.now)
+        (λ program request. Does program request
         (I.remaining input.old) (I.remaining input.new)
-        (W.contents output.old) (W.contents output.new) }
-    ensures found { result ≡ 1 → AsAsked (map string_bytes words.now) (λ request. Finds request
+        (W.contents output.old) (W.contents output.new)) }
+    ensures found { result ≡ 1 → AsAsked (map string_bytes words.now)
+        (λ program request. Finds request
         (I.remaining input.old) (I.remaining input.new)
         (W.contents output.old) (W.contents output.new)
         (E.contents faults.old) (E.contents faults.new)) }
-    ensures cut { result ≡ 5 → AsAsked (map string_bytes words.now) (λ request. Cuts request
+    ensures cut { result ≡ 5 → AsAsked (map string_bytes words.now)
+        (λ program request. Cuts program request
         (I.remaining input.old) (I.remaining input.new)
         (W.contents output.old) (W.contents output.new)) }
 
-    // Where the words name no files, any other status leaves the output alone.
-    ensures unwritten { 2 ≤ result → result ≢ 5 → ¬ (NameFiles (map string_bytes words.now))
+    // Without names, any other status leaves the output alone.
+    ensures unwritten { 2 ≤ result → result ≢ 5 → ¬ (HaveNames (map string_bytes words.now))
         → Keeps (W.contents output.old) (W.contents output.new) }
 
-    // Standard error gets nothing; or, where the words name no files, the text of the status, as
-    // far as it takes it.
+    // Standard error gets nothing; or, without names, the text of the status, as far as it takes
+    // it.
     ensures quiet { result ≡ 0 → Keeps (E.contents faults.old) (E.contents faults.new) }
-    ensures told { 2 ≤ result → ¬ (NameFiles (map string_bytes words.now))
-        → WritesBeginning (E.contents faults.old) (E.contents faults.new) (IsDiagnostic result) }
+    ensures told { 2 ≤ result → ¬ (HaveNames (map string_bytes words.now))
+        → WritesBeginning (E.contents faults.old) (E.contents faults.new)
+        (IsDiagnostic result) }
 {
-    match asked_for(words) {
-        None => report(&Failure::Usage, faults),
-        Some(Request::Help) => told(USAGE, output, faults),
-        Some(Request::Version) => told(VERSION, output, faults),
-        Some(Request::Tidy(task)) => {
-            if task.names.is_empty() {
-                run_on_input(rt.alloc(), &task, input, output, faults)
-            } else {
-                run_on_files(rt, &task, output, faults)
-            }
-        }
+    let (program, options) = (this_program(), own_options());
+    run_as(rt, &program, &options, words, input, output, faults)
+}
+
+/// Does the work of `run`, as a program with this name, this usage and these options.
+fn run_as<R: Files + AllocGlobal + Clone + Drop, I: Read, W: Write, E: Write>(
+    rt: &R,
+    program: &Program,
+    options: &Options,
+    words: &[String],
+    input: &mut I,
+    output: &mut W,
+    faults: &mut E,
+) -> u8
+    ensures statuses { result ≤ 5 }
+    ensures usage { result ≡ 2 → asked options.now (map string_bytes words.now) ≡ None }
+    ensures asked { result ≢ 2 → result ≢ 4
+        → AnswersTo (asked options.now (map string_bytes words.now))
+        (λ request. HandlesFiles request (I.remaining input.old) (I.remaining input.new)) }
+    ensures starved { result ≡ 4 → Keeps (I.remaining input.old) (I.remaining input.new)
+        ⊎ AnswersTo (asked options.now (map string_bytes words.now))
+        (λ request. HandlesFiles request (I.remaining input.old) (I.remaining input.new)) }
+    ensures unread { result ≡ 2 → Keeps (I.remaining input.old) (I.remaining input.new) }
+    ensures done { result ≡ 0 → AnswersTo (asked options.now (map string_bytes words.now))
+        (λ request. Does program.now request
+        (I.remaining input.old) (I.remaining input.new)
+        (W.contents output.old) (W.contents output.new)) }
+    ensures found { result ≡ 1 → AnswersTo (asked options.now (map string_bytes words.now))
+        (λ request. Finds request
+        (I.remaining input.old) (I.remaining input.new)
+        (W.contents output.old) (W.contents output.new)
+        (E.contents faults.old) (E.contents faults.new)) }
+    ensures cut { result ≡ 5 → AnswersTo (asked options.now (map string_bytes words.now))
+        (λ request. Cuts program.now request
+        (I.remaining input.old) (I.remaining input.new)
+        (W.contents output.old) (W.contents output.new)) }
+    ensures unwritten { 2 ≤ result → result ≢ 5
+        → ¬ (AnswersTo (asked options.now (map string_bytes words.now)) HasNames)
+        → Keeps (W.contents output.old) (W.contents output.new) }
+    ensures quiet { result ≡ 0 → Keeps (E.contents faults.old) (E.contents faults.new) }
+    ensures told { 2 ≤ result
+        → ¬ (AnswersTo (asked options.now (map string_bytes words.now)) HasNames)
+        → WritesBeginning (E.contents faults.old) (E.contents faults.new)
+        (frame.IsDiagnostic program.now result) }
+{
+    match requested(rt.alloc(), options, words) {
+        Ok(Request::Help) => tell(program, program.usage, output, faults),
+        Ok(Request::Version) => tell(program, VERSION, output, faults),
+        Ok(Request::Work(arguments)) => work(rt, program, &arguments, input, output, faults),
+        Err(failure) => report(program, &failure, faults),
     }
 }
 
-/// Writes what a failure says to standard error, as far as it takes it, and answers the status.
-pub fn report<E: Write>(failure: &Failure, faults: &mut E) -> u8
-    ensures status { result ≡ status_of failure.now }
-    ensures text { AppendsBeginning (E.contents faults.old) (E.contents faults.new)
-        (text_of failure.now) }
-{
-    let _ = write_whole(faults, failure.text().as_bytes());
-    failure.status()
-}
-
-/// Writes a text onto the output.
-fn told<W: Write, E: Write>(text: &str, output: &mut W, faults: &mut E) -> u8
-    ensures statuses { (result ≡ 0) ⊎ (result ≡ 5) }
-    ensures done { result ≡ 0
-        → Appends (W.contents output.old) (W.contents output.new) text.now }
-    ensures cut { result ≡ 5
-        → AppendsBeginning (W.contents output.old) (W.contents output.new) text.now }
+/// Does the work that arguments ask for.
+fn work<R: Files + AllocGlobal + Clone + Drop, I: Read, W: Write, E: Write>(
+    rt: &R,
+    program: &Program,
+    arguments: &[Argument],
+    input: &mut I,
+    output: &mut W,
+    faults: &mut E,
+) -> u8
+    ensures statuses { result ≤ 5 }
+    ensures used { result ≢ 2 }
+    ensures files { name_list (map given_of arguments.now) ≢ []
+        → names_input (map given_of arguments.now) ≡ false
+        → Keeps (I.remaining input.old) (I.remaining input.new) }
+    ensures done { result ≡ 0 → DoesTask (map given_of arguments.now)
+        (I.remaining input.old) (I.remaining input.new)
+        (W.contents output.old) (W.contents output.new) }
+    ensures found { result ≡ 1 → name_list (map given_of arguments.now) ≡ []
+        → FindsInput (checks (map given_of arguments.now)) (stdin_name (map given_of arguments.now))
+        (I.remaining input.old) (I.remaining input.new)
+        (W.contents output.old) (W.contents output.new)
+        (E.contents faults.old) (E.contents faults.new) }
+    ensures cut { result ≡ 5 → name_list (map given_of arguments.now) ≡ []
+        → CutsInput (checks (map given_of arguments.now)) (stdin_name (map given_of arguments.now))
+        (I.remaining input.old) (I.remaining input.new)
+        (W.contents output.old) (W.contents output.new) }
+    ensures unwritten { 2 ≤ result → result ≢ 5 → name_list (map given_of arguments.now) ≡ []
+        → Keeps (W.contents output.old) (W.contents output.new) }
     ensures quiet { result ≡ 0 → Keeps (E.contents faults.old) (E.contents faults.new) }
-    ensures told { result ≡ 5 → WritesBeginning (E.contents faults.old) (E.contents faults.new)
-        (IsDiagnostic result) }
+    ensures told { 2 ≤ result → name_list (map given_of arguments.now) ≡ []
+        → WritesBeginning (E.contents faults.old) (E.contents faults.new)
+        (frame.IsDiagnostic program.now result) }
 {
-    match put(output, text) {
-        Ok(()) => 0,
-        Err(failure) => report(&failure, faults),
+    let task = Task {
+        program,
+        check: has_flag(arguments, "--check"),
+        stdin_name: stdin_name_of(arguments),
+    };
+    match names_of(rt.alloc(), arguments) {
+        Ok(names) if names.is_empty() => run_on_input(rt.alloc(), &task, input, output, faults),
+        Ok(names) => run_on_names(rt, &task, &names, input, output, faults),
+        Err(_) => report(program, &Failure::Memory, faults),
     }
 }
 
@@ -130,26 +234,26 @@ fn run_on_input<I: Read, W: Write, E: Write>(
 ) -> u8
     ensures statuses { result ≤ 5 }
     ensures used { result ≢ 2 }
-    ensures done { result ≡ 0 → DoesInput task.now
+    ensures done { result ≡ 0 → DoesInput task.now.check task.now.stdin_name.now
         (I.remaining input.old) (I.remaining input.new)
         (W.contents output.old) (W.contents output.new) }
-    ensures found { result ≡ 1 → FindsInput task.now
+    ensures found { result ≡ 1 → FindsInput task.now.check task.now.stdin_name.now
         (I.remaining input.old) (I.remaining input.new)
         (W.contents output.old) (W.contents output.new)
         (E.contents faults.old) (E.contents faults.new) }
-    ensures cut { result ≡ 5 → CutsInput task.now
+    ensures cut { result ≡ 5 → CutsInput task.now.check task.now.stdin_name.now
         (I.remaining input.old) (I.remaining input.new)
         (W.contents output.old) (W.contents output.new) }
     ensures unwritten { 2 ≤ result → result ≢ 5
         → Keeps (W.contents output.old) (W.contents output.new) }
     ensures quiet { result ≡ 0 → Keeps (E.contents faults.old) (E.contents faults.new) }
     ensures told { 2 ≤ result → WritesBeginning (E.contents faults.old) (E.contents faults.new)
-        (IsDiagnostic result) }
+        (frame.IsDiagnostic task.now.program.now result) }
 {
     match do_input(alloc, task, input, output) {
         Ok(true) => 0,
         Ok(false) => 1,
-        Err(failure) => report(&failure, faults),
+        Err(failure) => report(task.program, &failure, faults),
     }
 }
 
@@ -161,68 +265,68 @@ fn do_input<I: Read, W: Write>(
     input: &mut I,
     output: &mut W,
 ) -> Result<bool, Failure>
-    ensures ok { IfOk result (λ is_done. Tells is_done task.now
+    ensures ok { IfOk result (λ is_done. Tells is_done task.now.check task.now.stdin_name.now
         (I.remaining input.old) (I.remaining input.new)
         (W.contents output.old) (W.contents output.new)) }
-    ensures err { IfErr result (λ failure. Explains failure task.now.check task.now.width
+    ensures err { IfErr result (λ failure. Explains failure task.now.check task.now.stdin_name.now
         (I.remaining input.old) (I.remaining input.new)
         (W.contents output.old) (W.contents output.new)) }
 {
     if task.check {
-        return check_input(alloc, task.width, input, output);
+        return check_input(alloc, task.stdin_name, input, output);
     }
-    tidy_input(alloc, task.width, input, output)?;
+    tidy_input(alloc, task.stdin_name, input, output)?;
     Ok(true)
 }
 
 /// Tidies the input onto the output.
 fn tidy_input<I: Read, W: Write>(
     alloc: Global,
-    width: usize,
+    name: &str,
     input: &mut I,
     output: &mut W,
 ) -> Result<(), Failure>
-    ensures ok { OnOk result (TidiesInput width (I.remaining input.old) (I.remaining input.new)
+    ensures ok { OnOk result (TidiesInput name.now (I.remaining input.old) (I.remaining input.new)
         (W.contents output.old) (W.contents output.new)) }
-    ensures err { IfErr result (λ failure. Explains failure false width
+    ensures err { IfErr result (λ failure. Explains failure false name.now
         (I.remaining input.old) (I.remaining input.new)
         (W.contents output.old) (W.contents output.new)) }
 {
     let text = read_text(alloc, input)?;
-    let answer = tidied(alloc, INPUT_NAME, text.as_str(), width)?;
+    let answer = tidied(alloc, name, text.as_str())?;
     put(output, answer.as_str())
 }
 
 /// Names the input on the output where it would change, and tells whether it would not.
 fn check_input<I: Read, W: Write>(
     alloc: Global,
-    width: usize,
+    name: &str,
     input: &mut I,
     output: &mut W,
 ) -> Result<bool, Failure>
-    ensures ok { IfOk result (λ is_tidy. Judges is_tidy width
+    ensures ok { IfOk result (λ is_tidy. Judges is_tidy name.now
         (I.remaining input.old) (I.remaining input.new)
         (W.contents output.old) (W.contents output.new)) }
-    ensures err { IfErr result (λ failure. Explains failure true width
+    ensures err { IfErr result (λ failure. Explains failure true name.now
         (I.remaining input.old) (I.remaining input.new)
         (W.contents output.old) (W.contents output.new)) }
 {
-    if is_untidy_input(alloc, width, input)? {
-        put_line(output, INPUT_NAME)?;
+    if is_untidy_input(alloc, name, input)? {
+        put_line(output, name)?;
         return Ok(false);
     }
     Ok(true)
 }
 
 /// Tells whether the input would change.
-fn is_untidy_input<I: Read>(alloc: Global, width: usize, input: &mut I) -> Result<bool, Failure>
+fn is_untidy_input<I: Read>(alloc: Global, name: &str, input: &mut I) -> Result<bool, Failure>
     ensures ok { IfOk result (λ is_untidy. ReadsText (I.remaining input.old)
-        (I.remaining input.new) (λ text. IsJudged width text is_untidy)) }
-    ensures err { IfErr result (λ failure. IsInputFailure failure
+        (I.remaining input.new) (λ text. IsJudged text is_untidy)) }
+    ensures err { IfErr result (λ failure. IsInputFailure failure name.now
         (I.remaining input.old) (I.remaining input.new)) }
 {
     let text = read_text(alloc, input)?;
-    let answer = tidied(alloc, INPUT_NAME, text.as_str(), width)?;
+    let answer = tidied(alloc, name, text.as_str())?;
     Ok(answer.as_str() != text.as_str())
 }
 
@@ -238,35 +342,86 @@ fn put_line<W: Write>(output: &mut W, text: &str) -> Result<(), Failure>
     put(output, "\n")
 }
 
-/// Writes a text onto the output.
-fn put<W: Write>(output: &mut W, text: &str) -> Result<(), Failure>
-    ensures ok { OnOk result (Appends (W.contents output.old) (W.contents output.new) text.now) }
-    ensures err { IfErr result (λ failure. (failure ≡ Output)
-        × AppendsBeginning (W.contents output.old) (W.contents output.new) text.now) }
-{
-    match write_whole(output, text.as_bytes()) {
-        Ok(()) => Ok(()),
-        Err(_) => Err(Failure::Output),
-    }
-}
-
 /// The tidy text, or why there is none.
-pub fn tidied(alloc: Global, name: &str, text: &str, width: usize) -> Result<String, Failure>
-    ensures ok { IfOk result (λ answer. IsTidied width text.now (string_bytes answer)) }
+pub fn tidied(alloc: Global, name: &str, text: &str) -> Result<String, Failure>
+    ensures ok { IfOk result (λ answer. IsTidyTextOf text.now (string_bytes answer)) }
     ensures err { IfErr result (λ failure. IsTidyFailure failure name.now text.now) }
 {
-    match tidy(alloc, text, width) {
+    match tidy(alloc, text) {
         Ok(answer) => Ok(answer),
-        Err(Fault::Error(error)) => Err(Failure::Refused(diagnostic(alloc, name, text, error)?)),
+        Err(Fault::Error(error)) => match error_line(alloc, name, text, &error) {
+            Ok(line) => Err(Failure::Refused(line)),
+            Err(_) => Err(Failure::Memory),
+        },
         Err(Fault::Failed) => unreachable!(),
         Err(Fault::Memory) => Err(Failure::Memory),
     }
 }
 
-/// Tidies each file, or names those that would change. The status is the greatest of all.
-fn run_on_files<R: Files + AllocGlobal, W: Write, E: Write>(
+/// Tells whether `-` is among names.
+fn names_stdin(names: &[String]) -> bool
+    ensures { result ≡ is_among (map string_bytes names.now) (codes "-") }
+{
+    match names {
+        [] => false,
+        [first, others @ ..] => first.as_str() == "-" || names_stdin(others),
+    }
+}
+
+/// Tidies what names stand for, one after another. The status is the greatest of all.
+fn run_on_names<R: Files + AllocGlobal + Clone + Drop, I: Read, W: Write, E: Write>(
     rt: &R,
     task: &Task<'_>,
+    names: &[String],
+    input: &mut I,
+    output: &mut W,
+    faults: &mut E,
+) -> u8
+    ensures statuses { result ≤ 5 }
+    ensures used { result ≢ 2 }
+    ensures unread { is_among (map string_bytes names.now) (codes "-") ≡ false
+        → Keeps (I.remaining input.old) (I.remaining input.new) }
+    ensures unwritten { result ≡ 0 → is_among (map string_bytes names.now) (codes "-") ≡ false
+        → Keeps (W.contents output.old) (W.contents output.new) }
+    ensures quiet { result ≡ 0 → Keeps (E.contents faults.old) (E.contents faults.new) }
+{
+    if names_stdin(names) {
+        run_on_all(rt, task, names, input, output, faults)
+    } else {
+        run_on_paths(rt, task, names, output, faults)
+    }
+}
+
+/// Tidies standard input and files.
+fn run_on_all<R: Files + AllocGlobal + Clone + Drop, I: Read, W: Write, E: Write>(
+    rt: &R,
+    task: &Task<'_>,
+    names: &[String],
+    input: &mut I,
+    output: &mut W,
+    faults: &mut E,
+) -> u8
+    ensures statuses { result ≤ 5 }
+    ensures used { result ≢ 2 }
+    ensures quiet { result ≡ 0 → Keeps (E.contents faults.old) (E.contents faults.new) }
+{
+    let mut status = 0;
+    for name in names {
+        let done = if name.as_str() == "-" {
+            run_on_input(rt.alloc(), task, input, output, faults)
+        } else {
+            run_on_path(rt, task, name.as_str(), output, faults)
+        };
+        status = status.max(done);
+    }
+    status
+}
+
+/// Tidies files, and those beneath folders.
+fn run_on_paths<R: Files + AllocGlobal + Clone + Drop, W: Write, E: Write>(
+    rt: &R,
+    task: &Task<'_>,
+    names: &[String],
     output: &mut W,
     faults: &mut E,
 ) -> u8
@@ -276,7 +431,52 @@ fn run_on_files<R: Files + AllocGlobal, W: Write, E: Write>(
     ensures quiet { result ≡ 0 → Keeps (E.contents faults.old) (E.contents faults.new) }
 {
     let mut status = 0;
-    for name in task.names.iter() {
+    for name in names {
+        let done = run_on_path(rt, task, name.as_str(), output, faults);
+        status = status.max(done);
+    }
+    status
+}
+
+/// Tidies a file, or those beneath a folder.
+fn run_on_path<R: Files + AllocGlobal + Clone + Drop, W: Write, E: Write>(
+    rt: &R,
+    task: &Task<'_>,
+    name: &str,
+    output: &mut W,
+    faults: &mut E,
+) -> u8
+    ensures statuses { result ≤ 5 }
+    ensures used { result ≢ 2 }
+    ensures unwritten { result ≡ 0 → Keeps (W.contents output.old) (W.contents output.new) }
+    ensures quiet { result ≡ 0 → Keeps (E.contents faults.old) (E.contents faults.new) }
+{
+    let mut lines = String::new(rt.alloc());
+    match files_of(rt, task.program, name, &mut lines) {
+        Ok(files) if lines.is_empty() => run_on_files(rt, task, &files, output, faults),
+        Ok(files) => {
+            let _ = write_whole(faults, lines.as_bytes());
+            run_on_files(rt, task, &files, output, faults).max(3)
+        }
+        Err(_) => report(task.program, &Failure::Memory, faults),
+    }
+}
+
+/// Tidies each file, or names those that would change. The status is the greatest of all.
+fn run_on_files<R: Files + AllocGlobal, W: Write, E: Write>(
+    rt: &R,
+    task: &Task<'_>,
+    names: &[String],
+    output: &mut W,
+    faults: &mut E,
+) -> u8
+    ensures statuses { result ≤ 5 }
+    ensures used { result ≢ 2 }
+    ensures unwritten { result ≡ 0 → Keeps (W.contents output.old) (W.contents output.new) }
+    ensures quiet { result ≡ 0 → Keeps (E.contents faults.old) (E.contents faults.new) }
+{
+    let mut status = 0;
+    for name in names {
         let done = run_on_file(rt, task, name.as_str(), output, faults);
         status = status.max(done);
     }
@@ -296,38 +496,49 @@ fn run_on_file<R: Files + AllocGlobal, W: Write, E: Write>(
     ensures unwritten { result ≡ 0 → Keeps (W.contents output.old) (W.contents output.new) }
     ensures quiet { result ≡ 0 → Keeps (E.contents faults.old) (E.contents faults.new) }
 {
-    match tidy_file(rt, name, task.width, task.check) {
-        Ok(is_untidy) if is_untidy && task.check => named(name, output, faults),
+    match tidy_file(rt, name, task.check) {
+        Ok(is_untidy) if is_untidy && task.check => named(task, name, output, faults),
         Ok(_) => 0,
         Err(failure) => report_on_file(&failure, name, faults),
     }
 }
 
 /// Names a file that would change on the output.
-fn named<W: Write, E: Write>(name: &str, output: &mut W, faults: &mut E) -> u8
+fn named<W: Write, E: Write>(task: &Task<'_>, name: &str, output: &mut W, faults: &mut E) -> u8
     ensures statuses { (result ≡ 1) ⊎ (result ≡ 5) }
 {
     match put_line(output, name) {
         Ok(()) => 1,
-        Err(failure) => report(&failure, faults),
+        Err(failure) => report(task.program, &failure, faults),
     }
 }
 
-/// Writes what a failure says of a file to standard error, and answers the status.
+/// Writes what a failure says of a file to standard error, and gives the status.
 fn report_on_file<E: Write>(failure: &Failure, name: &str, faults: &mut E) -> u8
     ensures { result ≡ status_of failure.now }
 {
     match failure {
-        Failure::Refused(diagnostic) => {
-            let _ = write_whole(faults, diagnostic.as_bytes());
+        Failure::Refused(line) => {
+            let _ = write_whole(faults, line.as_bytes());
         }
         _ => {
             let _ = write_whole(faults, b"isle-tidy: ");
             let _ = write_whole(faults, name.as_bytes());
             let _ = write_whole(faults, b": ");
-            let _ = write_whole(faults, failure.reason().as_bytes());
+            let _ = write_whole(faults, reason(failure).as_bytes());
             let _ = write_whole(faults, b"\n");
         }
     }
     failure.status()
+}
+
+/// What is said of a file, after its name.
+fn reason(failure: &Failure) -> &'static str {
+    match failure {
+        Failure::Refused(_) => "can't be tidied",
+        Failure::Usage => "is no file",
+        Failure::Input => "unreadable or not UTF-8",
+        Failure::Memory => "out of memory",
+        Failure::Output => "can't be written",
+    }
 }

@@ -1,9 +1,9 @@
 -- The relation of definitions keeps the laws.
 use Rattle.std.proofs.Common.{◌≡◌, ℕ, List, Bool, codes, eqb, refl, true≢false}
 use Rattle.isle_base.specs.Place.{Placed}
-use Rattle.isle_ast_specs.specs.Erased.{erase_spec_definition, erase_spec_macro, erase_state}
+use Rattle.isle_ast_verification.specs.Erased.{erase_spec_definition, erase_spec_macro, erase_state}
 use Rattle.isle_ast.specs.Tree.{Declaration, Conversion, TypeDefinition, Attribute, FormDefinition, TermInstantiation, ModelDefinition, ExternDefinition, Definition, type_def, rule, extractor, decl, attr, spec, spec_macro, model, state, form, instantiation, external, converter}
-use Rattle.isle_ast_specs.specs.Tree.{SpecDefinition, SpecMacroDefinition, StateDefinition}
+use Rattle.isle_ast_verification.specs.Tree.{SpecDefinition, SpecMacroDefinition, StateDefinition}
 use Rattle.isle_ast_rules.specs.Tree.{RuleDefinition, ExtractorDefinition}
 use Rattle.isle_ast_names.specs.Words.{SpellsAll, BehindWord, InForm}
 use Rattle.isle_ast.specs.Erased.{erase, erase_type, erase_declaration, erase_attribute, erase_model_definition, erase_form, erase_instantiation, erase_extern, erase_conversion, erase_definition}
@@ -11,14 +11,14 @@ use Rattle.isle_ast_rules.specs.Erased.{erase_rule, erase_extractor}
 use Rattle.isle_ast.specs.Grammar.{SpellsDefinition}
 use Rattle.isle_ast.specs.ModelGrammar.{SpellsForm, SpellsInstantiation, SpellsModel}
 use Rattle.isle_ast_rules.specs.RuleGrammar.{SpellsRule, SpellsExtractor}
-use Rattle.isle_ast_specs.specs.SpecDefinitionGrammar.{SpellsSpecDefinition, SpellsSpecMacro, SpellsState}
+use Rattle.isle_ast_verification.specs.SpecDefinitionGrammar.{SpellsSpecDefinition, SpellsSpecMacro, SpellsState}
 use Rattle.isle_ast.specs.TermGrammar.{SpellsDeclaration, SpellsAttribute, SpellsExtern, SpellsConversion}
 use Rattle.isle_ast.specs.TypeGrammar.{SpellsTypeDefinition}
 use Rattle.isle_ast_names.proofs.Lawful.{Lawful, all_lawful, made_lawful, parentheses_lawful, word_lawful}
 use Rattle.isle_ast.proofs.Lawful.ModelContents.{model_definition_lawful}
 use Rattle.isle_ast.proofs.Lawful.Forms.{form_lawful, instantiation_lawful}
 use Rattle.isle_ast_rules.proofs.Lawful.Rules.{rule_lawful, extractor_lawful}
-use Rattle.isle_ast_specs.proofs.Lawful.SpecDefinitions.{spec_definition_lawful, spec_macro_lawful, state_lawful}
+use Rattle.isle_ast_verification.proofs.Lawful.SpecDefinitions.{spec_definition_lawful, spec_macro_lawful, state_lawful}
 use Rattle.isle_ast.proofs.Lawful.Terms.{declaration_lawful, attribute_lawful, extern_lawful, conversion_lawful}
 use Rattle.isle_ast.proofs.Lawful.Types.{type_lawful}
 

@@ -1,17 +1,17 @@
 -- The relations of signatures, forms and instantiations keep the laws.
 use Rattle.std.proofs.Common.{[], ◌≡◌, List, codes, map, Option, None, Some, refl}
-use Rattle.isle_base_errors.specs.declared.pos.Pos.{Pos}
+use Rattle.isle_base_source.specs.declared.pos.Pos.{Pos}
 use Rattle.isle_base.specs.Place.{Placed, unknown}
 use Rattle.isle_ast_names.specs.Tree.{Name}
 use Rattle.isle_ast.specs.Tree.{TermSignature, FormDefinition, TermInstantiation}
 use Rattle.isle_ast_names.specs.Words.{SpellsAll, InParentheses, BehindWord, SpellsName, IsNonEmpty}
 use Rattle.isle_ast_names.specs.Erased.{erase_name, erase_names, erase_optional}
-use Rattle.isle_ast_specs.specs.Erased.{erase_model}
+use Rattle.isle_ast_verification.specs.Erased.{erase_model}
 use Rattle.isle_ast.specs.Erased.{erase_signature, erase_form, erase_instantiation}
-use Rattle.isle_ast_specs.specs.TypeModelGrammar.{SpellsTypeModel}
+use Rattle.isle_ast_verification.specs.TypeModelGrammar.{SpellsTypeModel}
 use Rattle.isle_ast.specs.ModelGrammar.{SpellsSignature, SpellsForm, SpellsTag, SpellsInstances, SpellsInstantiation}
 use Rattle.isle_ast_names.proofs.Lawful.{Lawful, Then, At, name_lawful, pair_lawful, all_lawful, non_empty_lawful, at_lawful, settled_lawful, made_lawful, parentheses_lawful, word_lawful, name_begins, parentheses_begin}
-use Rattle.isle_ast_specs.proofs.Lawful.Models.{model_lawful, Args, Ret, SignatureNode, erase_parts}
+use Rattle.isle_ast_verification.proofs.Lawful.Models.{model_lawful, Args, Ret, SignatureNode, erase_parts}
 
 pub signature_lawful : (s : TermSignature) → Lawful SpellsSignature erase_signature s
 signature_lawful s =

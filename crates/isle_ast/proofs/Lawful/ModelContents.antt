@@ -1,18 +1,18 @@
 -- The relation of models keeps the laws.
 use Rattle.std.proofs.Common.{◌≡◌, codes, refl}
-use Rattle.isle_ast_specs.specs.Erased.{erase_spec, erase_model}
+use Rattle.isle_ast_verification.specs.Erased.{erase_spec, erase_model}
 use Rattle.isle_ast_names.specs.Tree.{Name}
-use Rattle.isle_ast_specs.specs.Tree.{TypeModel, SpecNode}
+use Rattle.isle_ast_verification.specs.Tree.{TypeModel, SpecNode}
 use Rattle.isle_ast.specs.Tree.{ModelContent, type_model, const_model, ModelDefinition}
 use Rattle.isle_ast_names.specs.Words.{InParentheses, BehindWord, SpellsName}
 use Rattle.isle_ast_names.specs.Erased.{erase_name}
 use Rattle.isle_ast.specs.Erased.{erase_model_content, erase_model_definition}
-use Rattle.isle_ast_specs.specs.TypeModelGrammar.{SpellsTypeModel}
+use Rattle.isle_ast_verification.specs.TypeModelGrammar.{SpellsTypeModel}
 use Rattle.isle_ast.specs.ModelGrammar.{SpellsModelContent, SpellsModel}
-use Rattle.isle_ast_specs.specs.SpecGrammar.{SpellsSpec}
+use Rattle.isle_ast_verification.specs.SpecGrammar.{SpellsSpec}
 use Rattle.isle_ast_names.proofs.Lawful.{Lawful, Then, name_lawful, pair_lawful, made_lawful, parentheses_lawful, word_lawful}
-use Rattle.isle_ast_specs.proofs.Lawful.Models.{model_lawful}
-use Rattle.isle_ast_specs.proofs.Lawful.Specs.{spec_lawful}
+use Rattle.isle_ast_verification.proofs.Lawful.Models.{model_lawful}
+use Rattle.isle_ast_verification.proofs.Lawful.Specs.{spec_lawful}
 
 is_type : (ty : TypeModel) (y : ModelContent) → type_model (erase_model ty) ≡ erase_model_content y →
     (z : TypeModel) × (y ≡ type_model z) × (erase_model ty ≡ erase_model z)

@@ -1,7 +1,7 @@
 -- The relations of the definitions of terms keep the laws.
 use Rattle.std.proofs.Common.{◌≡◌, ℕ, List, [], Bool, true, false, codes, map, refl, sym, ◌∙◌}
 use Rattle.std.specs.Str.{bytes_eq}
-use Rattle.isle_base_errors.specs.declared.pos.Pos.{Pos}
+use Rattle.isle_base_source.specs.declared.pos.Pos.{Pos}
 use Rattle.isle_base.specs.Place.{Placed, unknown}
 use Rattle.isle_base.specs.Token.{symbol}
 use Rattle.isle_ast_names.specs.Tree.{Name}

@@ -1,6 +1,6 @@
 -- The relations of the definitions of types keep the laws.
 use Rattle.std.proofs.Common.{◌≡◌, ℕ, ◌+◌, List, [], ◌∷◌, Bool, codes, map, refl, sym, subst, ◌∙◌, ◌⊎◌, inl, inr}
-use Rattle.isle_base_errors.specs.declared.pos.Pos.{Pos}
+use Rattle.isle_base_source.specs.declared.pos.Pos.{Pos}
 use Rattle.isle_base.specs.Place.{Placed, unknown}
 use Rattle.isle_base.specs.Token.{lparen, symbol}
 use Rattle.isle_ast_names.specs.Tree.{Name}
@@ -86,15 +86,15 @@ is_unit _ same = cc
 is_struct : (fs : List NamedField) (y : FieldList) → struct_fields (map erase_named_field fs) unknown ≡ erase_fields y →
     (z : Pos × List NamedField) × (y ≡ struct_fields z.1 z.0) × (◌≡◌ {A = Pos × List NamedField} (unknown, map erase_named_field fs) (unknown, map erase_named_field z.1))
 is_struct fs (struct_fields gs p) same =
-    let rows : map erase_named_field fs ≡ map erase_named_field gs = cc in
-    ((p, gs), refl, λ i. (unknown, rows i))
+    let lists : map erase_named_field fs ≡ map erase_named_field gs = cc in
+    ((p, gs), refl, λ i. (unknown, lists i))
 is_struct fs _ same = cc
 
 is_tuple : (fs : List IndexedField) (y : FieldList) → tuple_fields (map erase_indexed_field fs) unknown ≡ erase_fields y →
     (z : Pos × List IndexedField) × (y ≡ tuple_fields z.1 z.0) × (◌≡◌ {A = Pos × List IndexedField} (unknown, map erase_indexed_field fs) (unknown, map erase_indexed_field z.1))
 is_tuple fs (tuple_fields gs p) same =
-    let rows : map erase_indexed_field fs ≡ map erase_indexed_field gs = cc in
-    ((p, gs), refl, λ i. (unknown, rows i))
+    let lists : map erase_indexed_field fs ≡ map erase_indexed_field gs = cc in
+    ((p, gs), refl, λ i. (unknown, lists i))
 is_tuple fs _ same = cc
 
 pub fields_lawful : (fs : FieldList) → Lawful SpellsFields erase_fields fs
@@ -182,8 +182,8 @@ is_primitive name _ same = cc
 is_enum : (vs : List EnumVariant) (y : TypeContent) → enum_type (map erase_variant vs) unknown ≡ erase_type_content y →
     (z : Pos × List EnumVariant) × (y ≡ enum_type z.1 z.0) × (◌≡◌ {A = Pos × List EnumVariant} (unknown, map erase_variant vs) (unknown, map erase_variant z.1))
 is_enum vs (enum_type ws p) same =
-    let rows : map erase_variant vs ≡ map erase_variant ws = cc in
-    ((p, ws), refl, λ i. (unknown, rows i))
+    let lists : map erase_variant vs ≡ map erase_variant ws = cc in
+    ((p, ws), refl, λ i. (unknown, lists i))
 is_enum vs _ same = cc
 
 is_struct_type : (fs : FieldList) (y : TypeContent) → struct_type (erase_fields fs) unknown ≡ erase_type_content y →

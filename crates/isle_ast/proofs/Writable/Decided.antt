@@ -10,11 +10,11 @@ use Rattle.isle_ast_names.proofs.Writable.Decided.{always, never, true_decided, 
 use Rattle.isle_ast.specs.Tree.{Declaration, Conversion, NamedField, IndexedField, FieldList, unit_fields, struct_fields, tuple_fields, EnumVariant, TypeContent, primitive_type, enum_type, struct_type, TypeDefinition, AttributeTarget, term_target, rule_target, AttributeKind, chain_kind, priority_kind, tag_kind, Attribute, TermSignature, FormDefinition, TermInstantiation, ModelContent, type_model, const_model, ModelDefinition, ExternDefinition, extern_extractor, extern_constructor, extern_const, Definition, type_def, rule, extractor, decl, attr, spec, spec_macro, model, state, form, instantiation, external, converter}
 use Rattle.isle_ast_names.specs.Words.{IsNonEmpty, demands}
 use Rattle.isle_ast.specs.TermGrammar.{term_is_no_flag}
-use Rattle.isle_ast_specs.specs.WritableDeciders.{is_writable_model}
+use Rattle.isle_ast_verification.specs.WritableDeciders.{is_writable_model}
 use Rattle.isle_ast_rules.proofs.Writable.Decided.{not_word_decided, constant_name_decided, rule_decided, extractor_decided}
-use Rattle.isle_ast_specs.proofs.Writable.Decided.{model_decided, spec_decided, spec_definition_decided, spec_macro_decided, state_decided}
+use Rattle.isle_ast_verification.proofs.Writable.Decided.{model_decided, spec_decided, spec_definition_decided, spec_macro_decided, state_decided}
 use Rattle.isle_ast_names.specs.Writable.{Each}
-use Rattle.isle_ast_specs.specs.Writable.{IsWritableModel}
+use Rattle.isle_ast_verification.specs.Writable.{IsWritableModel}
 use Rattle.isle_ast.specs.Writable.{IsWritableDeclaration, IsWritableConversion, IsWritableNamedField, AreWritableIndexedFields, AreWritableFields, IsWritableVariant, IsWritableTypeContent, IsWritableType, IsWritableTarget, IsWritableKind, IsWritableAttribute, IsWritableSignature, IsWritableForm, AreWritableInstances, IsWritableInstantiation, IsWritableModelContent, IsWritableModelDefinition, IsWritableExtern, IsWritable, AreWritable}
 
 -- lists that have elements, and lists that have none

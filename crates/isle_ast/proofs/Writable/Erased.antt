@@ -4,12 +4,12 @@ use Rattle.isle_ast_names.specs.Tree.{Name}
 use Rattle.isle_ast.specs.Tree.{Declaration, IndexedField, FieldList, unit_fields, struct_fields, tuple_fields, EnumVariant, TypeContent, primitive_type, enum_type, struct_type, AttributeTarget, term_target, rule_target, AttributeKind, chain_kind, priority_kind, tag_kind, TermSignature, ModelContent, type_model, const_model, ExternDefinition, extern_extractor, extern_constructor, extern_const, Definition, type_def, rule, extractor, decl, attr, spec, spec_macro, model, state, form, instantiation, external, converter}
 use Rattle.isle_ast_names.specs.Words.{IsNonEmpty}
 use Rattle.isle_ast_names.proofs.Writable.Erased.{unchanged, each-erased, names-erased}
-use Rattle.isle_ast_specs.proofs.Writable.Erased.{model-erased, spec-erased, spec_definition-erased, spec_macro-erased, state-erased}
+use Rattle.isle_ast_verification.proofs.Writable.Erased.{model-erased, spec-erased, spec_definition-erased, spec_macro-erased, state-erased}
 use Rattle.isle_ast_names.specs.Erased.{erase_name, erase_names, erase_optional}
 use Rattle.isle_ast.specs.Erased.{erase_declaration, erase_named_field, erase_indexed_field, erase_fields, erase_variant, erase_type_content, erase_target, erase_kind, erase_signature, erase_model_content, erase_extern, erase_definition, erase}
-use Rattle.isle_ast_specs.specs.Erased.{erase_model}
+use Rattle.isle_ast_verification.specs.Erased.{erase_model}
 use Rattle.isle_ast_names.specs.Writable.{Each}
-use Rattle.isle_ast_specs.specs.Writable.{IsWritableModel}
+use Rattle.isle_ast_verification.specs.Writable.{IsWritableModel}
 use Rattle.isle_ast.specs.Writable.{IsWritableDeclaration, IsWritableNamedField, AreWritableIndexedFields, AreWritableFields, IsWritableVariant, IsWritableTypeContent, IsWritableTarget, IsWritableKind, IsWritableSignature, AreWritableInstances, IsWritableModelContent, IsWritableExtern, IsWritable, AreWritable}
 use Rattle.isle_ast_rules.proofs.Writable.Erased.{rule-erased, extractor-erased}
 
@@ -50,12 +50,12 @@ fields-erased : (fields : FieldList) → AreWritableFields (erase_fields fields)
 fields-erased unit_fields = unchanged
 fields-erased (struct_fields fields _) =
     let some = non_empty-erased erase_named_field fields in
-    let row = each-erased IsWritableNamedField erase_named_field (λ f. unchanged) fields in
-    (λ h. (some.0 h.0, row.0 h.1), λ h. (some.1 h.0, row.1 h.1))
+    let list = each-erased IsWritableNamedField erase_named_field (λ f. unchanged) fields in
+    (λ h. (some.0 h.0, list.0 h.1), λ h. (some.1 h.0, list.1 h.1))
 fields-erased (tuple_fields fields _) =
     let some = non_empty-erased erase_indexed_field fields in
-    let row = indexed_fields-erased 0 fields in
-    (λ h. (some.0 h.0, row.0 h.1), λ h. (some.1 h.0, row.1 h.1))
+    let list = indexed_fields-erased 0 fields in
+    (λ h. (some.0 h.0, list.0 h.1), λ h. (some.1 h.0, list.1 h.1))
 
 variant-erased : (v : EnumVariant) → IsWritableVariant (erase_variant v) ↔ IsWritableVariant v
 variant-erased v =
@@ -92,9 +92,9 @@ instances-erased (Some name) signatures tags =
     (λ h. (h.0, empty.0 h.1, names.0 h.2), λ h. (h.0, empty.1 h.1, names.1 h.2))
 instances-erased None signatures tags =
     let some = non_empty-erased erase_signature signatures in
-    let row = signatures-erased signatures in
+    let list = signatures-erased signatures in
     let empty = empty-erased erase_name tags in
-    (λ h. (some.0 h.0, row.0 h.1, empty.0 h.2), λ h. (some.1 h.0, row.1 h.1, empty.1 h.2))
+    (λ h. (some.0 h.0, list.0 h.1, empty.0 h.2), λ h. (some.1 h.0, list.1 h.1, empty.1 h.2))
 
 model_content-erased : (m : ModelContent) → IsWritableModelContent (erase_model_content m) ↔ IsWritableModelContent m
 model_content-erased (type_model ty) = model-erased ty
@@ -123,8 +123,8 @@ definition-erased (model m) =
     (λ h. (h.0, content.0 h.1), λ h. (h.0, content.1 h.1))
 definition-erased (state s) = state-erased s
 definition-erased (form f) =
-    let row = signatures-erased f.signatures in
-    (λ h. (h.0, row.0 h.1), λ h. (h.0, row.1 h.1))
+    let list = signatures-erased f.signatures in
+    (λ h. (h.0, list.0 h.1), λ h. (h.0, list.1 h.1))
 definition-erased (instantiation i) =
     let instances = instances-erased i.form i.signatures i.tags in
     (λ h. (h.0, instances.0 h.1), λ h. (h.0, instances.1 h.1))

@@ -4,15 +4,15 @@ use Rattle.isle_base.specs.Place.{Placed}
 use Rattle.isle_ast_names.specs.Tree.{Name}
 use Rattle.isle_ast.specs.Tree.{Declaration, IndexedField, FieldList, unit_fields, struct_fields, tuple_fields, EnumVariant, TypeContent, primitive_type, enum_type, struct_type, AttributeTarget, term_target, rule_target, AttributeKind, chain_kind, priority_kind, tag_kind, TermSignature, ModelContent, type_model, const_model, ExternDefinition, extern_extractor, extern_constructor, extern_const, Definition, type_def, rule, extractor, decl, attr, spec, spec_macro, model, state, form, instantiation, external, converter}
 use Rattle.isle_ast.specs.Grammar.{SpellsDefinition, SpellsDefinitions}
-use Rattle.isle_ast_specs.specs.TypeModelGrammar.{SpellsTypeModel}
+use Rattle.isle_ast_verification.specs.TypeModelGrammar.{SpellsTypeModel}
 use Rattle.isle_ast.specs.ModelGrammar.{SpellsSignature, SpellsInstances, SpellsTag, SpellsModelContent}
 use Rattle.isle_ast.specs.TermGrammar.{SpellsDeclaration, SpellsAttributeKind, SpellsAttributeTarget, SpellsExtern}
 use Rattle.isle_ast.specs.TypeGrammar.{SpellsNamedField, SpellsIndexedFields, SpellsFields, SpellsVariant, SpellsTypeContent}
 use Rattle.isle_ast_names.specs.Writable.{IsName}
 use Rattle.isle_ast.specs.Writable.{IsWritableDeclaration, IsWritableNamedField, AreWritableIndexedFields, AreWritableFields, IsWritableVariant, IsWritableTypeContent, IsWritableTarget, IsWritableKind, IsWritableSignature, AreWritableInstances, IsWritableModelContent, IsWritableExtern, IsWritable, AreWritable}
-use Rattle.isle_ast_specs.specs.Writable.{IsWritableModel}
+use Rattle.isle_ast_verification.specs.Writable.{IsWritableModel}
 use Rattle.isle_ast_names.proofs.SpeltWords.{Each-spelt, names-spelt, differs}
-use Rattle.isle_ast_specs.proofs.Writable.Spelt.{model-spelt, spec-spelt, spec_definition-spelt, spec_macro-spelt, state-spelt}
+use Rattle.isle_ast_verification.proofs.Writable.Spelt.{model-spelt, spec-spelt, spec_definition-spelt, spec_macro-spelt, state-spelt}
 use Rattle.isle_ast_rules.proofs.Writable.Spelt.{rule-spelt, extractor-spelt}
 
 declaration-spelt : (d : Declaration) (all rest : List Placed) → SpellsDeclaration d all rest → IsWritableDeclaration d

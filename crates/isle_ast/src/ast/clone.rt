@@ -1,5 +1,5 @@
 //! Copies of definitions and of their parts. A copy is the same tree, its positions included. The
-//! error of each `clone` is want of memory.
+//! error of each `clone` is lack of memory.
 
 ghost use Rattle.std.specs.Prelude.{◌≡◌, IfOk};
 ghost use Rattle.isle_ast.specs.TreeView.{attribute_of, conversion_of, declaration_of};
@@ -154,7 +154,7 @@ impl Clone for Decl {
 }
 
 impl Clone for Instantiation {
-    ghost is_clone = { λ instantiation copy. instantiation_of copy ≡ instantiation_of instantiation };
+    ghost is_clone = { λ original copy. instantiation_of copy ≡ instantiation_of original };
 
     fn clone(&self) -> Result<Instantiation, AllocError> {
         Ok(Instantiation {

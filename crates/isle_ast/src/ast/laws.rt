@@ -6,7 +6,7 @@
 //! - `(rule I N P CONDITION.. X)`, where the name I and the priority N may each be absent, and a
 //!   condition is `(if-let P X)` or `(if X)`, which matches a wildcard;
 //! - `(extractor (I I..) P)`: the term with its parameters, and the pattern that it stands for;
-//! - `(decl I (I..) I)` with the flags `pure`, `multi`, `partial` and `rec` in this order behind
+//! - `(decl I (I..) I)` with the flags `pure`, `multi`, `partial` and `rec` in this order after
 //!   `decl`;
 //! - `(attr I KIND..)` of a term, `(attr rule I KIND..)` of a rule;
 //! - `(spec (I I..) CLAUSE..)`, the clauses `(provide E..)`, `(require E..)`, `(match E..)` and
@@ -16,7 +16,7 @@
 //! - `(state I (type MODEL) (default E))`;
 //! - `(instantiate I SIGNATURE ..)` and `(instantiate I I (tag I)..)`;
 //! - `(extern constructor I I)`, `(extern extractor I I)` with or without `infallible`, and
-//!   `(extern const $I I)`, where the name behind the `$` may be empty;
+//!   `(extern const $I I)`, where the name after the `$` may be empty;
 //! - `(convert I I I)`: the inner type, the outer type, the term.
 //!
 //! A pattern P is a variable, `I @ P`, `true` or `false`, an integer, a constant, `(I P..)`, `_` or
@@ -40,21 +40,24 @@
 //! for it, and the expression of a rule is no term named `if`.
 
 ghost use Rattle.std.specs.Prelude.{◌≡◌, ◌↔◌, ℕ, List, IsTrue, false};
-ghost use Rattle.isle_base_errors.specs.declared.pos.Pos.{Pos};
+ghost use Rattle.isle_base_source.specs.declared.pos.Pos.{Pos};
 ghost use Rattle.isle_base.specs.Place.{Placed, nowhere};
 ghost use Rattle.isle_base.specs.Token.{Feed};
 ghost use Rattle.isle_ast_names.specs.Parts.{AreParts, IsByParts};
 ghost use Rattle.isle_ast_names.specs.Tree.{Name};
 ghost use Rattle.isle_ast_names.specs.Words.{SpellsAll, SpellsName};
-ghost use Rattle.isle_ast_specs.specs.SpecDefinitionGrammar.{SpellsSpecDefinition, SpellsSpecMacro};
-ghost use Rattle.isle_ast_specs.specs.SpecDefinitionGrammar.{SpellsState};
-ghost use Rattle.isle_ast_specs.specs.SpecGrammar.{SpellsSpec};
-ghost use Rattle.isle_ast_specs.specs.Tree.{SpecDefinition, SpecMacroDefinition, SpecNode};
-ghost use Rattle.isle_ast_specs.specs.Tree.{StateDefinition, TypeModel};
-ghost use Rattle.isle_ast_specs.specs.TreeView.{modified_of, single_arm_of, single_field_init_of};
-ghost use Rattle.isle_ast_specs.specs.TreeView.{single_model_field_of, spec_definition_of};
-ghost use Rattle.isle_ast_specs.specs.TreeView.{spec_macro_of, spec_of, state_of, type_model_of};
-ghost use Rattle.isle_ast_specs.specs.TypeModelGrammar.{SpellsTypeModel};
+ghost use Rattle.isle_ast_verification.specs.SpecDefinitionGrammar.{SpellsSpecDefinition};
+ghost use Rattle.isle_ast_verification.specs.SpecDefinitionGrammar.{SpellsSpecMacro};
+ghost use Rattle.isle_ast_verification.specs.SpecDefinitionGrammar.{SpellsState};
+ghost use Rattle.isle_ast_verification.specs.SpecGrammar.{SpellsSpec};
+ghost use Rattle.isle_ast_verification.specs.Tree.{SpecDefinition, SpecMacroDefinition, SpecNode};
+ghost use Rattle.isle_ast_verification.specs.Tree.{StateDefinition, TypeModel};
+ghost use Rattle.isle_ast_verification.specs.TreeView.{modified_of, single_arm_of};
+ghost use Rattle.isle_ast_verification.specs.TreeView.{single_field_init_of};
+ghost use Rattle.isle_ast_verification.specs.TreeView.{single_model_field_of, spec_definition_of};
+ghost use Rattle.isle_ast_verification.specs.TreeView.{spec_macro_of, spec_of, state_of};
+ghost use Rattle.isle_ast_verification.specs.TreeView.{type_model_of};
+ghost use Rattle.isle_ast_verification.specs.TypeModelGrammar.{SpellsTypeModel};
 ghost use Rattle.isle_ast_rules.specs.ExpressionGrammar.{SpellsExpression};
 ghost use Rattle.isle_ast_rules.specs.PatternGrammar.{SpellsPattern};
 ghost use Rattle.isle_ast_rules.specs.RuleGrammar.{SpellsCondition, SpellsExtractor, SpellsRule};
@@ -88,14 +91,14 @@ use crate::ast::{
     Pattern, Rule, Signature, Spec, SpecExpr, SpecMacro, SpecOp, State, StructField, StructFields,
     TupleField, TupleFields, TypeDef, TypeValue, Variant,
 };
-pub use isle_ast_names::ast::laws::{identifiers_are_ordered, identifiers_are_symbols};
+pub use isle_ast_names::laws::{identifiers_are_ordered, identifiers_are_symbols};
 
-/// A law, which runs no code: what spells a node in front of some tokens is a part of the list, and
+/// What spells a node in front of some tokens is a part of the list, and
 /// it spells the node in front of any others too. So the tokens that spell a list of definitions
 /// are cut into as many parts as there are definitions, and each part spells its own.
 pub fn spellings_are_parts()
     ensures names { (name : Name) → IsByParts (SpellsName name) }
-    ensures rows_of_names { (names : List Name) → IsByParts (SpellsAll SpellsName names) }
+    ensures lists_of_names { (names : List Name) → IsByParts (SpellsAll SpellsName names) }
     ensures types { (t : TypeDefinition) → IsByParts (SpellsTypeDefinition t) }
     ensures declarations { (d : Declaration) → IsByParts (SpellsDeclaration d) }
     ensures attributes { (a : Attribute) → IsByParts (SpellsAttribute a) }
@@ -119,7 +122,7 @@ pub fn spellings_are_parts()
         → SpellsDefinitions ds all ↔ AreParts SpellsDefinition ds all }
 {}
 
-/// A law, which runs no code: a text spells a tree with positions exactly where it spells the
+/// A text spells a tree with positions exactly where it spells the
 /// erased tree, with the default position in place of every other. So reading a text without
 /// positions accepts what reading it with positions accepts, and gives the same tree, erased; and
 /// the tokens settle the positions.
@@ -132,7 +135,7 @@ pub fn spellings_are_erased()
         → Spells place text ds → Spells place text es → erase ds ≡ erase es → ds ≡ es }
 {}
 
-/// A law, which runs no code: a tree that some tokens spell is writable, that is, it meets the
+/// A tree that some tokens spell is writable, that is, it meets the
 /// conditions on each node under which a tree is written so that it reads back; and it holds no
 /// argument of a macro.
 pub fn spelt_trees_are_writable()
@@ -142,20 +145,20 @@ pub fn spelt_trees_are_writable()
         → SpellsDefinitions ds all → definitions_have_macro_arg ds ≡ false }
 {}
 
-/// A law, which runs no code: a text that spelt a tree before a lone `-` was a symbol spells the
+/// A text that spelt a tree before a lone `-` was a symbol spells the
 /// same tree now.
-pub fn earlier_texts_stay()
+pub fn upstream_texts_stay()
     ensures { (place : ℕ → Pos) (text : List ℕ) (ds : List Definition)
         → WasSpelt place text ds → IsSpelt place text ds }
 {}
 
-/// A law, which runs no code: positions play no part in what is writable. A tree is writable
+/// Positions play no part in what is writable. A tree is writable
 /// exactly if it is once erased.
 pub fn erasing_keeps_writable()
     ensures { (ds : List Definition) → AreWritable (erase ds) ↔ AreWritable ds }
 {}
 
-/// A law, which runs no code: definitions and their parts are equal exactly where they are the same
+/// Definitions and their parts are equal exactly where they are the same
 /// tree, with the same positions.
 pub fn definitions_are_compared()
     ensures type_defs { (a b : TypeDef)
@@ -167,7 +170,8 @@ pub fn definitions_are_compared()
     ensures fields { (a b : Fields)
         → IsTrue (⟦<Fields as PartialEq>⟧.eq a b) ↔ (fields_of a ≡ fields_of b) }
     ensures struct_fields { (a b : StructFields)
-        → IsTrue (⟦<StructFields as PartialEq>⟧.eq a b) ↔ (struct_fields_of a ≡ struct_fields_of b) }
+        → IsTrue (⟦<StructFields as PartialEq>⟧.eq a b)
+        ↔ (struct_fields_of a ≡ struct_fields_of b) }
     ensures struct_field { (a b : StructField)
         → IsTrue (⟦<StructField as PartialEq>⟧.eq a b) ↔ (named_field_of a ≡ named_field_of b) }
     ensures tuple_fields { (a b : TupleFields)
@@ -193,7 +197,8 @@ pub fn definitions_are_compared()
     ensures arms { (a b : Arm)
         → IsTrue (⟦<Arm as PartialEq>⟧.eq a b) ↔ (single_arm_of a ≡ single_arm_of b) }
     ensures field_inits { (a b : FieldInit)
-        → IsTrue (⟦<FieldInit as PartialEq>⟧.eq a b) ↔ (single_field_init_of a ≡ single_field_init_of b) }
+        → IsTrue (⟦<FieldInit as PartialEq>⟧.eq a b)
+        ↔ (single_field_init_of a ≡ single_field_init_of b) }
     ensures modifies { (a b : Modifies)
         → IsTrue (⟦<Modifies as PartialEq>⟧.eq a b) ↔ (modified_of a ≡ modified_of b) }
     ensures spec_macros { (a b : SpecMacro)
@@ -203,7 +208,8 @@ pub fn definitions_are_compared()
     ensures decls { (a b : Decl)
         → IsTrue (⟦<Decl as PartialEq>⟧.eq a b) ↔ (declaration_of a ≡ declaration_of b) }
     ensures instantiations { (a b : Instantiation)
-        → IsTrue (⟦<Instantiation as PartialEq>⟧.eq a b) ↔ (instantiation_of a ≡ instantiation_of b) }
+        → IsTrue (⟦<Instantiation as PartialEq>⟧.eq a b)
+        ↔ (instantiation_of a ≡ instantiation_of b) }
     ensures attrs { (a b : Attr)
         → IsTrue (⟦<Attr as PartialEq>⟧.eq a b) ↔ (attribute_of a ≡ attribute_of b) }
     ensures attr_targets { (a b : AttrTarget)
@@ -213,7 +219,8 @@ pub fn definitions_are_compared()
     ensures model_types { (a b : ModelType)
         → IsTrue (⟦<ModelType as PartialEq>⟧.eq a b) ↔ (type_model_of a ≡ type_model_of b) }
     ensures model_fields { (a b : ModelField)
-        → IsTrue (⟦<ModelField as PartialEq>⟧.eq a b) ↔ (single_model_field_of a ≡ single_model_field_of b) }
+        → IsTrue (⟦<ModelField as PartialEq>⟧.eq a b)
+        ↔ (single_model_field_of a ≡ single_model_field_of b) }
     ensures model_values { (a b : ModelValue)
         → IsTrue (⟦<ModelValue as PartialEq>⟧.eq a b) ↔ (model_content_of a ≡ model_content_of b) }
     ensures models { (a b : Model)

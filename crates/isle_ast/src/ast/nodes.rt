@@ -8,7 +8,7 @@ ghost use Rattle.isle_ast.specs.Roots.{full_name};
 ghost use Rattle.isle_ast.specs.TreeView.{definition_of};
 
 use crate::ast::{Def, Variant};
-use isle_ast_names::ast::Ident;
+use isle_ast_names::Ident;
 use std::alloc::{AllocError, Global};
 
 impl Def {
@@ -39,7 +39,7 @@ impl Variant {
     /// Gives the full name of a variant of an enum type: the enum's name, a dot and the variant's
     /// name, at the position of the variant's name.
     ///
-    /// The error is want of memory.
+    /// The error is lack of memory.
     pub fn full_name(
         alloc: Global,
         enum_name: &Ident,

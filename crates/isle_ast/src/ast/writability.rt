@@ -11,8 +11,8 @@ mod terms;
 mod types;
 
 use crate::ast::Def;
-use isle_ast_rules::ast::writability::rules;
-use isle_ast_specs::ast::writability::specs;
+use isle_ast_rules::writability::rules;
+use isle_ast_verification::writability::specs;
 
 /// Tells whether each definition is written so that it reads back. No definitions are.
 pub fn writable(defs: &[Def]) -> bool

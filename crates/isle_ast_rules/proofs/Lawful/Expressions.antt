@@ -1,12 +1,12 @@
 -- The relations of expressions keep the laws.
 use Rattle.std.proofs.Common.{◌≡◌, ℤ, List, Bool, false, codes, refl}
 use Rattle.std.specs.Str.{bytes_eq}
-use Rattle.isle_base_errors.specs.declared.pos.Pos.{Pos}
+use Rattle.isle_base_source.specs.declared.pos.Pos.{Pos}
 use Rattle.isle_base.specs.Place.{Placed, unknown}
 use Rattle.isle_base.specs.Token.{symbol}
 use Rattle.isle_ast_names.specs.Numbers.{SpellsInteger}
 use Rattle.isle_ast_names.specs.Tree.{Name}
-use Rattle.isle_ast_rules.specs.Tree.{Expression, term_expression, var_expression, bool_expression, int_expression, constant_expression, let_expression, ExpressionRow, no_expression, more_expression, LetRow, no_let, more_let}
+use Rattle.isle_ast_rules.specs.Tree.{Expression, term_expression, var_expression, bool_expression, int_expression, constant_expression, let_expression, ExpressionList, no_expression, more_expression, LetList, no_let, more_let}
 use Rattle.isle_ast_names.specs.Words.{SpellsWord, InParentheses, BehindWord, SpellsName, bool_word, SpellsConstant}
 use Rattle.isle_ast_names.specs.Erased.{erase_name}
 use Rattle.isle_ast_rules.specs.Erased.{erase_expression, erase_expressions, erase_lets}
@@ -24,7 +24,7 @@ variable_begins n all rest h e = let f = h.1 in cc
 -- which expressions erase to the same
 
 abbrev TermNode : Type 0
-TermNode = Name × ExpressionRow
+TermNode = Name × ExpressionList
 
 abbrev erase_term : TermNode → TermNode
 erase_term p = (erase_name p.0, erase_expressions p.1)
@@ -39,8 +39,8 @@ is_term : (x : TermNode) (y : Expression) → term_expression (erase_name x.0) (
     (z : Pos × TermNode) × (y ≡ term_expression z.1.0 z.1.1 z.0) × (erase_term x ≡ erase_term z.1)
 is_term x (term_expression n xs p) same =
     let names : erase_name x.0 ≡ erase_name n = cc in
-    let rows : erase_expressions x.1 ≡ erase_expressions xs = cc in
-    ((p, (n, xs)), refl, λ i. (names i, rows i))
+    let lists : erase_expressions x.1 ≡ erase_expressions xs = cc in
+    ((p, (n, xs)), refl, λ i. (names i, lists i))
 is_term x _ same = cc
 
 is_var : (name : Name) (y : Expression) → var_expression (erase_name name) unknown ≡ erase_expression y →
@@ -64,7 +64,7 @@ is_a_constant val (constant_expression n p) same = ((p, n), refl, cc)
 is_a_constant val _ same = cc
 
 abbrev LetNode : Type 0
-LetNode = LetRow × Expression
+LetNode = LetList × Expression
 
 abbrev erase_let : LetNode → LetNode
 erase_let p = (erase_lets p.0, erase_expression p.1)
@@ -75,30 +75,30 @@ LetParts p = Then (InParentheses (SpellsLets p.0)) (SpellsExpression p.1)
 is_let : (x : LetNode) (y : Expression) → let_expression (erase_lets x.0) (erase_expression x.1) unknown ≡ erase_expression y →
     (z : Pos × LetNode) × (y ≡ let_expression z.1.0 z.1.1 z.0) × (erase_let x ≡ erase_let z.1)
 is_let x (let_expression ds b p) same =
-    let rows : erase_lets x.0 ≡ erase_lets ds = cc in
+    let lists : erase_lets x.0 ≡ erase_lets ds = cc in
     let bodies : erase_expression x.1 ≡ erase_expression b = cc in
-    ((p, (ds, b)), refl, λ i. (rows i, bodies i))
+    ((p, (ds, b)), refl, λ i. (lists i, bodies i))
 is_let x _ same = cc
 
-is_no_expression : (y : ExpressionRow) → no_expression ≡ erase_expressions y → no_expression ≡ y
+is_no_expression : (y : ExpressionList) → no_expression ≡ erase_expressions y → no_expression ≡ y
 is_no_expression no_expression same = refl
 is_no_expression _ same = cc
 
-abbrev RowNode : Type 0
-RowNode = Expression × ExpressionRow
+abbrev ListNode : Type 0
+ListNode = Expression × ExpressionList
 
-abbrev erase_row : RowNode → RowNode
-erase_row p = (erase_expression p.0, erase_expressions p.1)
+abbrev erase_list : ListNode → ListNode
+erase_list p = (erase_expression p.0, erase_expressions p.1)
 
-is_more : (x : RowNode) (y : ExpressionRow) → more_expression (erase_expression x.0) (erase_expressions x.1) ≡ erase_expressions y →
-    (z : RowNode) × (y ≡ more_expression z.0 z.1) × (erase_row x ≡ erase_row z)
+is_more : (x : ListNode) (y : ExpressionList) → more_expression (erase_expression x.0) (erase_expressions x.1) ≡ erase_expressions y →
+    (z : ListNode) × (y ≡ more_expression z.0 z.1) × (erase_list x ≡ erase_list z)
 is_more x (more_expression y ys) same =
     let firsts : erase_expression x.0 ≡ erase_expression y = cc in
-    let rows : erase_expressions x.1 ≡ erase_expressions ys = cc in
-    ((y, ys), refl, λ i. (firsts i, rows i))
+    let lists : erase_expressions x.1 ≡ erase_expressions ys = cc in
+    ((y, ys), refl, λ i. (firsts i, lists i))
 is_more x _ same = cc
 
-is_no_let : (y : LetRow) → no_let ≡ erase_lets y → no_let ≡ y
+is_no_let : (y : LetList) → no_let ≡ erase_lets y → no_let ≡ y
 is_no_let no_let same = refl
 is_no_let _ same = cc
 
@@ -111,26 +111,26 @@ erase_defined p = (erase_name p.0, (erase_name p.1.0, erase_expression p.1.1))
 abbrev Defined : DefinitionNode → List Placed → List Placed → Type 0
 Defined p = Then (SpellsName p.0) (Then (SpellsName p.1.0) (SpellsExpression p.1.1))
 
-abbrev LetRowNode : Type 0
-LetRowNode = (Pos × DefinitionNode) × LetRow
+abbrev LetListNode : Type 0
+LetListNode = (Pos × DefinitionNode) × LetList
 
-abbrev erase_let_row : LetRowNode → LetRowNode
-erase_let_row p = ((unknown, erase_defined p.0.1), erase_lets p.1)
+abbrev erase_let_list : LetListNode → LetListNode
+erase_let_list p = ((unknown, erase_defined p.0.1), erase_lets p.1)
 
-abbrev let_row : LetRowNode → LetRow
-let_row p = more_let p.0.1.0 p.0.1.1.0 p.0.1.1.1 p.0.0 p.1
+abbrev let_list : LetListNode → LetList
+let_list p = more_let p.0.1.0 p.0.1.1.0 p.0.1.1.1 p.0.0 p.1
 
-abbrev Lets : LetRowNode → List Placed → List Placed → Type 0
+abbrev Lets : LetListNode → List Placed → List Placed → Type 0
 Lets p = Then (At p.0.0 (InParentheses (Defined p.0.1))) (SpellsLets p.1)
 
-is_more_let : (x : LetRowNode) (y : LetRow) → let_row (erase_let_row x) ≡ erase_lets y →
-    (z : LetRowNode) × (y ≡ let_row z) × (erase_let_row x ≡ erase_let_row z)
+is_more_let : (x : LetListNode) (y : LetList) → let_list (erase_let_list x) ≡ erase_lets y →
+    (z : LetListNode) × (y ≡ let_list z) × (erase_let_list x ≡ erase_let_list z)
 is_more_let x (more_let v t e p ds) same =
     let vars : erase_name x.0.1.0 ≡ erase_name v = cc in
     let types : erase_name x.0.1.1.0 ≡ erase_name t = cc in
     let values : erase_expression x.0.1.1.1 ≡ erase_expression e = cc in
-    let rows : erase_lets x.1 ≡ erase_lets ds = cc in
-    (((p, (v, (t, e))), ds), refl, λ i. ((unknown, (vars i, (types i, values i))), rows i))
+    let lists : erase_lets x.1 ≡ erase_lets ds = cc in
+    (((p, (v, (t, e))), ds), refl, λ i. ((unknown, (vars i, (types i, values i))), lists i))
 is_more_let x _ same = cc
 
 -- the laws
@@ -170,17 +170,17 @@ mutual
       (pair_lawful (λ ds. InParentheses (SpellsLets ds)) erase_lets SpellsExpression erase_expression defs body
       (parentheses_lawful SpellsLets erase_lets defs (lets_lawful defs)) (expression_lawful body))))
 
-  pub expressions_lawful : (xs : ExpressionRow) → Lawful SpellsExpressions erase_expressions xs
+  pub expressions_lawful : (xs : ExpressionList) → Lawful SpellsExpressions erase_expressions xs
   expressions_lawful no_expression = plain_lawful SpellsExpressions erase_expressions no_expression refl is_no_expression nothing_plain
   expressions_lawful (more_expression x xs) =
-      made_lawful SpellsExpressions erase_expressions (λ (p : RowNode). Then (SpellsExpression p.0) (SpellsExpressions p.1)) erase_row (λ p. more_expression p.0 p.1)
+      made_lawful SpellsExpressions erase_expressions (λ (p : ListNode). Then (SpellsExpression p.0) (SpellsExpressions p.1)) erase_list (λ p. more_expression p.0 p.1)
       (λ y all rest h. h) (λ y all rest h. h) (λ y. refl) (x, xs) (is_more (x, xs))
       (pair_lawful SpellsExpression erase_expression SpellsExpressions erase_expressions x xs (expression_lawful x) (expressions_lawful xs))
 
-  pub lets_lawful : (ds : LetRow) → Lawful SpellsLets erase_lets ds
+  pub lets_lawful : (ds : LetList) → Lawful SpellsLets erase_lets ds
   lets_lawful no_let = plain_lawful SpellsLets erase_lets no_let refl is_no_let nothing_plain
   lets_lawful (more_let var ty val pos lets) =
-      made_lawful SpellsLets erase_lets Lets erase_let_row let_row
+      made_lawful SpellsLets erase_lets Lets erase_let_list let_list
       (λ y all rest h. (h.0, (h.1.0, (h.1.1.0, h.1.1.1, h.1.1.2, (h.1.1.3.0, h.1.1.3.2.0, h.1.1.3.1, h.1.1.3.2.1, h.1.1.3.2.2), h.1.1.4)), h.2))
       (λ y all rest h. (h.0, (h.1.0, (h.1.1.0, h.1.1.1, h.1.1.2, (h.1.1.3.0, h.1.1.3.2, (h.1.1.3.1, h.1.1.3.3, h.1.1.3.4)), h.1.1.4)), h.2))
       (λ y. refl) ((pos, (var, (ty, val))), lets) (is_more_let ((pos, (var, (ty, val))), lets))

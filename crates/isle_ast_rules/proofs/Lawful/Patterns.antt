@@ -1,12 +1,12 @@
 -- The relations of patterns keep the laws.
 use Rattle.std.proofs.Common.{◌≡◌, ℤ, List, Bool, false, codes, refl}
 use Rattle.std.specs.Str.{bytes_eq}
-use Rattle.isle_base_errors.specs.declared.pos.Pos.{Pos}
+use Rattle.isle_base_source.specs.declared.pos.Pos.{Pos}
 use Rattle.isle_base.specs.Place.{Placed, unknown}
 use Rattle.isle_base.specs.Token.{symbol, at_sign}
 use Rattle.isle_ast_names.specs.Numbers.{SpellsInteger}
 use Rattle.isle_ast_names.specs.Tree.{Name}
-use Rattle.isle_ast_rules.specs.Tree.{PatternNode, var_pattern, bind_pattern, bool_pattern, int_pattern, constant_pattern, term_pattern, wildcard_pattern, and_pattern, macro_arg_pattern, PatternRow, no_pattern, more_pattern}
+use Rattle.isle_ast_rules.specs.Tree.{PatternNode, var_pattern, bind_pattern, bool_pattern, int_pattern, constant_pattern, term_pattern, wildcard_pattern, and_pattern, macro_arg_pattern, PatternList, no_pattern, more_pattern}
 use Rattle.isle_ast_names.specs.Words.{SpellsToken, SpellsWord, InParentheses, BehindWord, SpellsName, bool_word, SpellsConstant}
 use Rattle.isle_ast_names.specs.Erased.{erase_name}
 use Rattle.isle_ast_rules.specs.Erased.{erase_pattern, erase_patterns}
@@ -63,7 +63,7 @@ is_a_constant val (constant_pattern n p) same = ((p, n), refl, cc)
 is_a_constant val _ same = cc
 
 abbrev TermNode : Type 0
-TermNode = Name × PatternRow
+TermNode = Name × PatternList
 
 abbrev erase_term : TermNode → TermNode
 erase_term p = (erase_name p.0, erase_patterns p.1)
@@ -78,8 +78,8 @@ is_term : (x : TermNode) (y : PatternNode) → term_pattern (erase_name x.0) (er
     (z : Pos × TermNode) × (y ≡ term_pattern z.1.0 z.1.1 z.0) × (erase_term x ≡ erase_term z.1)
 is_term x (term_pattern n ps p) same =
     let names : erase_name x.0 ≡ erase_name n = cc in
-    let rows : erase_patterns x.1 ≡ erase_patterns ps = cc in
-    ((p, (n, ps)), refl, λ i. (names i, rows i))
+    let lists : erase_patterns x.1 ≡ erase_patterns ps = cc in
+    ((p, (n, ps)), refl, λ i. (names i, lists i))
 is_term x _ same = cc
 
 is_wildcard : (x : Unit {0}) (y : PatternNode) → wildcard_pattern unknown ≡ erase_pattern y →
@@ -87,27 +87,27 @@ is_wildcard : (x : Unit {0}) (y : PatternNode) → wildcard_pattern unknown ≡ 
 is_wildcard x (wildcard_pattern p) same = ((p, x), refl, refl)
 is_wildcard x _ same = cc
 
-is_and : (subpats : PatternRow) (y : PatternNode) → and_pattern (erase_patterns subpats) unknown ≡ erase_pattern y →
-    (z : Pos × PatternRow) × (y ≡ and_pattern z.1 z.0) × (erase_patterns subpats ≡ erase_patterns z.1)
+is_and : (subpats : PatternList) (y : PatternNode) → and_pattern (erase_patterns subpats) unknown ≡ erase_pattern y →
+    (z : Pos × PatternList) × (y ≡ and_pattern z.1 z.0) × (erase_patterns subpats ≡ erase_patterns z.1)
 is_and subpats (and_pattern ps p) same = ((p, ps), refl, cc)
 is_and subpats _ same = cc
 
-is_no_pattern : (y : PatternRow) → no_pattern ≡ erase_patterns y → no_pattern ≡ y
+is_no_pattern : (y : PatternList) → no_pattern ≡ erase_patterns y → no_pattern ≡ y
 is_no_pattern no_pattern same = refl
 is_no_pattern _ same = cc
 
-abbrev RowNode : Type 0
-RowNode = PatternNode × PatternRow
+abbrev ListNode : Type 0
+ListNode = PatternNode × PatternList
 
-abbrev erase_row : RowNode → RowNode
-erase_row p = (erase_pattern p.0, erase_patterns p.1)
+abbrev erase_list : ListNode → ListNode
+erase_list p = (erase_pattern p.0, erase_patterns p.1)
 
-is_more : (x : RowNode) (y : PatternRow) → more_pattern (erase_pattern x.0) (erase_patterns x.1) ≡ erase_patterns y →
-    (z : RowNode) × (y ≡ more_pattern z.0 z.1) × (erase_row x ≡ erase_row z)
+is_more : (x : ListNode) (y : PatternList) → more_pattern (erase_pattern x.0) (erase_patterns x.1) ≡ erase_patterns y →
+    (z : ListNode) × (y ≡ more_pattern z.0 z.1) × (erase_list x ≡ erase_list z)
 is_more x (more_pattern p ps) same =
     let firsts : erase_pattern x.0 ≡ erase_pattern p = cc in
-    let rows : erase_patterns x.1 ≡ erase_patterns ps = cc in
-    ((p, ps), refl, λ i. (firsts i, rows i))
+    let lists : erase_patterns x.1 ≡ erase_patterns ps = cc in
+    ((p, ps), refl, λ i. (firsts i, lists i))
 is_more x _ same = cc
 
 -- the laws
@@ -162,10 +162,10 @@ mutual
     agree = λ y same all rest after h k. absurd h;
   }
 
-  pub patterns_lawful : (ps : PatternRow) → Lawful SpellsPatterns erase_patterns ps
+  pub patterns_lawful : (ps : PatternList) → Lawful SpellsPatterns erase_patterns ps
   patterns_lawful no_pattern = plain_lawful SpellsPatterns erase_patterns no_pattern refl is_no_pattern nothing_plain
   patterns_lawful (more_pattern p ps) =
-      made_lawful SpellsPatterns erase_patterns (λ (p : RowNode). Then (SpellsPattern p.0) (SpellsPatterns p.1)) erase_row (λ p. more_pattern p.0 p.1)
+      made_lawful SpellsPatterns erase_patterns (λ (p : ListNode). Then (SpellsPattern p.0) (SpellsPatterns p.1)) erase_list (λ p. more_pattern p.0 p.1)
       (λ y all rest h. h) (λ y all rest h. h) (λ y. refl) (p, ps) (is_more (p, ps))
       (pair_lawful SpellsPattern erase_pattern SpellsPatterns erase_patterns p ps (pattern_lawful p) (patterns_lawful ps))
 

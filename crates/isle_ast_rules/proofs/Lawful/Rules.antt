@@ -1,6 +1,6 @@
 -- The relations of rules and extractors, and of the conditions of rules, keep the laws.
 use Rattle.std.proofs.Common.{[], ◌≡◌, ℤ, List, true, false, not, codes, map, Option, None, Some, refl, sym, ◌∙◌}
-use Rattle.isle_base_errors.specs.declared.pos.Pos.{Pos}
+use Rattle.isle_base_source.specs.declared.pos.Pos.{Pos}
 use Rattle.isle_base.specs.Place.{Placed, unknown}
 use Rattle.isle_base.specs.Token.{integer}
 use Rattle.isle_ast_names.specs.Numbers.{IsSigned, SpellsPriority}

@@ -8,7 +8,7 @@ use Rattle.isle_ast_names.specs.WritableDeciders.{is_word, begins_with_dollar, i
 use Rattle.isle_ast_rules.specs.WritableDeciders.{is_optional_signed, is_expression_variable, is_pattern_variable, is_writable_pattern, are_writable_patterns, is_writable_expression, are_writable_expressions, are_writable_lets, is_writable_condition, is_writable_rule, is_writable_extractor}
 use Rattle.isle_ast_names.proofs.Writable.Decided.{word_decided, always, true_decided, false_decided, signed_decided, never, three, four, each_decided, name_decided, names_decided, optional_name_decided, no_bool_decided}
 use Rattle.isle_ast_rules.specs.RuleGrammar.{is_if_expression, pattern_is_no_head}
-use Rattle.isle_ast_rules.specs.Tree.{PatternNode, var_pattern, bind_pattern, bool_pattern, int_pattern, constant_pattern, term_pattern, wildcard_pattern, and_pattern, macro_arg_pattern, PatternRow, no_pattern, more_pattern, Expression, term_expression, var_expression, bool_expression, int_expression, constant_expression, let_expression, ExpressionRow, no_expression, more_expression, LetRow, no_let, more_let, Condition, RuleDefinition, ExtractorDefinition}
+use Rattle.isle_ast_rules.specs.Tree.{PatternNode, var_pattern, bind_pattern, bool_pattern, int_pattern, constant_pattern, term_pattern, wildcard_pattern, and_pattern, macro_arg_pattern, PatternList, no_pattern, more_pattern, Expression, term_expression, var_expression, bool_expression, int_expression, constant_expression, let_expression, ExpressionList, no_expression, more_expression, LetList, no_let, more_let, Condition, RuleDefinition, ExtractorDefinition}
 use Rattle.isle_ast_rules.specs.Writable.{IsConstantName, IsPatternVariable, IsWritablePattern, AreWritablePatterns, IsExpressionVariable, IsWritableExpression, AreWritableExpressions, AreWritableLets, IsWritableCondition, IsWritableRule, IsWritableExtractor}
 
 pub not_word_decided : (word : List ℕ) (n : Name) → Decides (not (is_word word n)) (IsNot n word)
@@ -61,7 +61,7 @@ mutual
   pattern_decided (and_pattern subpats _) = patterns_decided subpats
   pattern_decided (macro_arg_pattern _ _) = never
 
-  patterns_decided : (ps : PatternRow) → Decides (are_writable_patterns ps) (AreWritablePatterns ps)
+  patterns_decided : (ps : PatternList) → Decides (are_writable_patterns ps) (AreWritablePatterns ps)
   patterns_decided no_pattern = always
   patterns_decided (more_pattern p ps) = Decides-and (is_writable_pattern p) (are_writable_patterns ps) (pattern_decided p) (patterns_decided ps)
 
@@ -77,12 +77,12 @@ mutual
   expression_decided (let_expression defs body _) =
       Decides-and (are_writable_lets defs) (is_writable_expression body) (lets_decided defs) (expression_decided body)
 
-  expressions_decided : (xs : ExpressionRow) → Decides (are_writable_expressions xs) (AreWritableExpressions xs)
+  expressions_decided : (xs : ExpressionList) → Decides (are_writable_expressions xs) (AreWritableExpressions xs)
   expressions_decided no_expression = always
   expressions_decided (more_expression x xs) =
       Decides-and (is_writable_expression x) (are_writable_expressions xs) (expression_decided x) (expressions_decided xs)
 
-  lets_decided : (lets : LetRow) → Decides (are_writable_lets lets) (AreWritableLets lets)
+  lets_decided : (lets : LetList) → Decides (are_writable_lets lets) (AreWritableLets lets)
   lets_decided no_let = always
   lets_decided (more_let var ty val _ lets) =
       four (is_name var) (is_name ty) (is_writable_expression val) (are_writable_lets lets)

@@ -1,7 +1,7 @@
 -- Positions play no part in which patterns, expressions, conditions, rules and extractors are writable.
 use Rattle.std.proofs.Common.{sym, ◌∙◌, ◌↔◌}
 use Rattle.isle_ast_names.specs.Tree.{Name}
-use Rattle.isle_ast_rules.specs.Tree.{PatternNode, var_pattern, bind_pattern, bool_pattern, int_pattern, constant_pattern, term_pattern, wildcard_pattern, and_pattern, macro_arg_pattern, PatternRow, no_pattern, more_pattern, Expression, term_expression, var_expression, bool_expression, int_expression, constant_expression, let_expression, ExpressionRow, no_expression, more_expression, LetRow, no_let, more_let, Condition, RuleDefinition, ExtractorDefinition}
+use Rattle.isle_ast_rules.specs.Tree.{PatternNode, var_pattern, bind_pattern, bool_pattern, int_pattern, constant_pattern, term_pattern, wildcard_pattern, and_pattern, macro_arg_pattern, PatternList, no_pattern, more_pattern, Expression, term_expression, var_expression, bool_expression, int_expression, constant_expression, let_expression, ExpressionList, no_expression, more_expression, LetList, no_let, more_let, Condition, RuleDefinition, ExtractorDefinition}
 use Rattle.isle_ast_names.proofs.Writable.Erased.{unchanged, each-erased, names-erased, optional-erased}
 use Rattle.isle_ast_names.specs.Erased.{erase_name}
 use Rattle.isle_ast_rules.proofs.Lawful.Rules.{no_head_erased, if_erased}
@@ -37,13 +37,13 @@ mutual
   pattern-erased (int_pattern val _) = unchanged
   pattern-erased (constant_pattern val _) = unchanged
   pattern-erased (term_pattern sym args _) =
-      let row = patterns-erased args in
-      (λ h. (h.0, h.1, row.0 h.2), λ h. (h.0, h.1, row.1 h.2))
+      let list = patterns-erased args in
+      (λ h. (h.0, h.1, list.0 h.2), λ h. (h.0, h.1, list.1 h.2))
   pattern-erased (wildcard_pattern _) = unchanged
   pattern-erased (and_pattern subpats _) = patterns-erased subpats
   pattern-erased (macro_arg_pattern _ _) = unchanged
 
-  pub patterns-erased : (ps : PatternRow) → AreWritablePatterns (erase_patterns ps) ↔ AreWritablePatterns ps
+  pub patterns-erased : (ps : PatternList) → AreWritablePatterns (erase_patterns ps) ↔ AreWritablePatterns ps
   patterns-erased no_pattern = unchanged
   patterns-erased (more_pattern p ps) =
       let first = pattern-erased p in
@@ -59,25 +59,25 @@ expression_variable-erased n = (
 mutual
   pub expression-erased : (x : Expression) → IsWritableExpression (erase_expression x) ↔ IsWritableExpression x
   expression-erased (term_expression sym args _) =
-      let row = expressions-erased args in
-      (λ h. (h.0, h.1, row.0 h.2), λ h. (h.0, h.1, row.1 h.2))
+      let list = expressions-erased args in
+      (λ h. (h.0, h.1, list.0 h.2), λ h. (h.0, h.1, list.1 h.2))
   expression-erased (var_expression name _) = expression_variable-erased name
   expression-erased (bool_expression _ _) = unchanged
   expression-erased (int_expression val _) = unchanged
   expression-erased (constant_expression val _) = unchanged
   expression-erased (let_expression defs body _) =
-      let row = lets-erased defs in
+      let list = lets-erased defs in
       let value = expression-erased body in
-      (λ h. (row.0 h.0, value.0 h.1), λ h. (row.1 h.0, value.1 h.1))
+      (λ h. (list.0 h.0, value.0 h.1), λ h. (list.1 h.0, value.1 h.1))
 
-  pub expressions-erased : (xs : ExpressionRow) → AreWritableExpressions (erase_expressions xs) ↔ AreWritableExpressions xs
+  pub expressions-erased : (xs : ExpressionList) → AreWritableExpressions (erase_expressions xs) ↔ AreWritableExpressions xs
   expressions-erased no_expression = unchanged
   expressions-erased (more_expression x xs) =
       let first = expression-erased x in
       let behind = expressions-erased xs in
       (λ h. (first.0 h.0, behind.0 h.1), λ h. (first.1 h.0, behind.1 h.1))
 
-  lets-erased : (lets : LetRow) → AreWritableLets (erase_lets lets) ↔ AreWritableLets lets
+  lets-erased : (lets : LetList) → AreWritableLets (erase_lets lets) ↔ AreWritableLets lets
   lets-erased no_let = unchanged
   lets-erased (more_let var ty val _ lets) =
       let value = expression-erased val in

@@ -4,7 +4,7 @@ use Rattle.std.proofs.lemmas.Bool.{false≢true, not-true, and_parts}
 use Rattle.isle_base.specs.Place.{Placed}
 use Rattle.isle_ast_names.specs.Numbers.{IsSigned, SpellsPriority}
 use Rattle.isle_ast_names.specs.Tree.{Name}
-use Rattle.isle_ast_rules.specs.Tree.{PatternNode, var_pattern, bind_pattern, bool_pattern, int_pattern, constant_pattern, term_pattern, wildcard_pattern, and_pattern, macro_arg_pattern, PatternRow, no_pattern, more_pattern, Expression, term_expression, var_expression, bool_expression, int_expression, constant_expression, let_expression, ExpressionRow, no_expression, more_expression, LetRow, no_let, more_let, Condition, RuleDefinition, ExtractorDefinition}
+use Rattle.isle_ast_rules.specs.Tree.{PatternNode, var_pattern, bind_pattern, bool_pattern, int_pattern, constant_pattern, term_pattern, wildcard_pattern, and_pattern, macro_arg_pattern, PatternList, no_pattern, more_pattern, Expression, term_expression, var_expression, bool_expression, int_expression, constant_expression, let_expression, ExpressionList, no_expression, more_expression, LetList, no_let, more_let, Condition, RuleDefinition, ExtractorDefinition}
 use Rattle.isle_ast_names.specs.Words.{SpellsOptional, is_constant}
 use Rattle.isle_ast_rules.specs.ExpressionGrammar.{is_variable_of_expressions, SpellsExpression, SpellsExpressions, SpellsLets}
 use Rattle.isle_ast_rules.specs.PatternGrammar.{is_variable_of_patterns, SpellsPattern, SpellsPatterns}
@@ -53,7 +53,7 @@ mutual
   pattern-spelt (and_pattern subpats _) all rest s = patterns-spelt subpats s.1.3.0 s.1.1 s.1.3.2
   pattern-spelt (macro_arg_pattern _ _) all rest s = s
 
-  patterns-spelt : (ps : PatternRow) (all rest : List Placed) → SpellsPatterns ps all rest → AreWritablePatterns ps
+  patterns-spelt : (ps : PatternList) (all rest : List Placed) → SpellsPatterns ps all rest → AreWritablePatterns ps
   patterns-spelt no_pattern all rest s = tt
   patterns-spelt (more_pattern p ps) all rest s = (pattern-spelt p all s.0 s.1, patterns-spelt ps s.0 rest s.2)
 
@@ -71,11 +71,11 @@ mutual
       let parts = s.1.3.2 in
       (lets-spelt defs parts.1.0 parts.1.1 parts.1.3, expression-spelt body parts.0 s.1.1 parts.2)
 
-  expressions-spelt : (xs : ExpressionRow) (all rest : List Placed) → SpellsExpressions xs all rest → AreWritableExpressions xs
+  expressions-spelt : (xs : ExpressionList) (all rest : List Placed) → SpellsExpressions xs all rest → AreWritableExpressions xs
   expressions-spelt no_expression all rest s = tt
   expressions-spelt (more_expression x xs) all rest s = (expression-spelt x all s.0 s.1, expressions-spelt xs s.0 rest s.2)
 
-  lets-spelt : (ds : LetRow) (all rest : List Placed) → SpellsLets ds all rest → AreWritableLets ds
+  lets-spelt : (ds : LetList) (all rest : List Placed) → SpellsLets ds all rest → AreWritableLets ds
   lets-spelt no_let all rest s = tt
   lets-spelt (more_let var ty val _ lets) all rest s =
       let whole = s.1.1 in

@@ -1,5 +1,5 @@
 use super::*;
-use isle_program::words::taken_words;
+use isle_cli::words::taken_words;
 use std::env::{Env, FillError};
 use std::io;
 use std::io::ErrorKind;

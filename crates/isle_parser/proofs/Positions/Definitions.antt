@@ -1,37 +1,40 @@
--- Each position in a tree that is spelt is that of a token behind the first.
+-- Each position in a tree that is spelt is that of a token after the first.
 use Rattle.std.proofs.Common.{[], ◌≡◌, inl, inr, ℕ, List, ◌∷◌, Result, Ok, Err, Option, None, Some, ap, arith, ◌+◌, ◌≤◌}
 use Rattle.std.specs.Global.{Vec}
 use Rattle.std.specs.Prelude.{codes, IfOk}
 use Rattle.std.specs.List.{AllByRecursion}
-use Rattle.isle_base.specs.declared.lexer.Fault.{Fault}
-use Rattle.isle_base_errors.specs.declared.pos.Pos.{Pos}
+use Rattle.isle_base.specs.declared.fault.Fault.{Fault}
+use Rattle.isle_base_source.specs.declared.pos.Pos.{Pos}
 use Rattle.isle_base.specs.Place.{Placed, in_file, placed, unknown}
 use Rattle.isle_base.specs.Steps.{Rises}
 use Rattle.isle_base.specs.Token.{Tok, Lexeme, Feed}
 use Rattle.isle_ast_names.specs.Tree.{Name}
-use Rattle.isle_ast.specs.Tree.{unit_fields, struct_fields, tuple_fields, EnumVariant, primitive_type, enum_type, struct_type, term_target, rule_target, chain_kind, priority_kind, tag_kind, TermSignature, type_model, const_model, extern_extractor, extern_constructor, extern_const, Definition, type_def, rule, extractor, decl, attr, spec, spec_macro, model, state, form, instantiation, external, converter}
+use Rattle.isle_ast.specs.Tree.{unit_fields, struct_fields, tuple_fields, EnumVariant, primitive_type, enum_type, struct_type, term_target, rule_target, chain_kind, priority_kind, tag_kind}
+use Rattle.isle_ast.specs.Tree.{TermSignature, type_model, const_model, extern_extractor, extern_constructor, extern_const, Definition, type_def, rule, extractor, decl, attr, spec, spec_macro, model}
+use Rattle.isle_ast.specs.Tree.{state, form, instantiation, external, converter}
 use Rattle.isle_ast_names.specs.Words.{SpellsToken, SpellsWord, BeginsAt, SpellsAll, InParentheses, SpellsName}
 use Rattle.isle_ast.specs.declared.ast.Def.{Def}
 use Rattle.isle_ast.specs.Grammar.{SpellsDefinition}
-use Rattle.isle_ast_specs.specs.TypeModelGrammar.{SpellsTypeModel}
+use Rattle.isle_ast_verification.specs.TypeModelGrammar.{SpellsTypeModel}
 use Rattle.isle_ast.specs.ModelGrammar.{SpellsSignature, SpellsForm, SpellsTag, SpellsInstances, SpellsInstantiation, SpellsModelContent, SpellsModel}
 use Rattle.isle_ast_rules.specs.RuleGrammar.{SpellsRule, SpellsExtractor}
-use Rattle.isle_ast_specs.specs.SpecDefinitionGrammar.{SpellsSpecDefinition, SpellsSpecMacro, SpellsState}
-use Rattle.isle_ast_specs.specs.SpecGrammar.{SpellsSpec}
+use Rattle.isle_ast_verification.specs.SpecDefinitionGrammar.{SpellsSpecDefinition, SpellsSpecMacro, SpellsState}
+use Rattle.isle_ast_verification.specs.SpecGrammar.{SpellsSpec}
 use Rattle.isle_ast.specs.Spelt.{Spells}
 use Rattle.isle_ast.specs.TermGrammar.{SpellsDeclaration, SpellsConversion, SpellsAttributeKind, SpellsAttributeTarget, SpellsAttribute, SpellsExtern}
 use Rattle.isle_ast.specs.TreeView.{definitions_of}
 use Rattle.isle_ast.specs.TypeGrammar.{SpellsNamedField, SpellsIndexedFields, SpellsFields, SpellsVariant, SpellsTypeContent, SpellsTypeDefinition}
 use Rattle.isle_parser.specs.Parsed.{Parses}
 use Rattle.isle_parser_cursor.specs.Positions.{OfName, OfNames, OfOptionalName}
-use Rattle.isle_parser_specs.specs.Positions.{OfModel, OfSpec, OfSpecDefinition, OfSpecMacro, OfState}
-use Rattle.isle_parser.specs.Positions.{OfNamedField, OfIndexedField, OfFields, OfVariant, OfTypeContent, OfTarget, OfKind, OfSignature, OfModelContent, OfExtern, BeginsToken, EachPosition, HasKnownPositions, OneHasKnownPositions, OneHasPositions, HasPositions, behind_first}
+use Rattle.isle_parser_verification.specs.Positions.{OfModel, OfSpec, OfSpecDefinition, OfSpecMacro, OfState}
+use Rattle.isle_parser.specs.Positions.{OfNamedField, OfIndexedField, OfFields, OfVariant, OfTypeContent, OfTarget, OfKind, OfSignature, OfModelContent, OfExtern, BeginsToken, EachPosition}
+use Rattle.isle_parser.specs.Positions.{HasKnownPositions, OneHasKnownPositions, OneHasPositions, HasPositions, behind_first}
 use Rattle.isle_parser_rules.specs.Positions.{OfRule, OfExtractor}
 use Rattle.isle_parser.proofs.Reading.Definitions.{SpellsKeyword, to_keyword}
-use Rattle.isle_parser_specs.proofs.Positions.Models.{type_model_stands, models_stand}
+use Rattle.isle_parser_verification.proofs.Positions.Models.{type_model_stands, models_stand}
 use Rattle.isle_parser_rules.proofs.Positions.Rules.{rule_stands, extractor_stands}
-use Rattle.isle_parser_specs.proofs.Positions.Specs.{spec_stands, spec_definition_stands, spec_macro_stands, state_stands}
-use Rattle.isle_parser_cursor.proofs.Stands.{Among, Into, Stands, token_stands, begins_stands, same_stands, flag_stands, name_stands, constant_stands, row_stands, enclosed_stands, behind_stands, tagged_stands}
+use Rattle.isle_parser_verification.proofs.Positions.Specs.{spec_stands, spec_definition_stands, spec_macro_stands, state_stands}
+use Rattle.isle_parser_cursor.proofs.Stands.{Among, Into, Stands, token_stands, begins_stands, same_stands, flag_stands, name_stands, constant_stands, list_stands, enclosed_stands, behind_stands, tagged_stands}
 
 -- two names
 abbrev Pair : (first second : Name) → List Placed → List Placed → Type 0
@@ -60,11 +63,11 @@ indexed_stands index (f ∷ fs) all rest h P into =
 fields_stand : Stands SpellsFields OfFields
 fields_stand unit_fields all rest h P into = (tt, same_stands h P into)
 fields_stand (struct_fields fs pos) all rest h P into =
-    let row = row_stands SpellsNamedField OfNamedField named_field_stands fs all rest h.2 P into in
-    ((begins_stands h.1 P into, row.0), row.1)
+    let list = list_stands SpellsNamedField OfNamedField named_field_stands fs all rest h.2 P into in
+    ((begins_stands h.1 P into, list.0), list.1)
 fields_stand (tuple_fields fs pos) all rest h P into =
-    let row = indexed_stands 0 fs all rest h.2 P into in
-    ((begins_stands h.1 P into, row.0), row.1)
+    let list = indexed_stands 0 fs all rest h.2 P into in
+    ((begins_stands h.1 P into, list.0), list.1)
 
 bare_stands : (v : EnumVariant) (all rest : List Placed) → BeginsAt v.pos all → SpellsName v.name all rest → v.fields ≡ unit_fields → (P : Pos → Type 0) → Into all P → OfVariant P v × Into rest P
 bare_stands v all rest p h e P into =
@@ -72,7 +75,8 @@ bare_stands v all rest p h e P into =
     let none : OfFields P v.fields = rw e tt in
     ((begins_stands p P into, n.0, none), n.1)
 
-full_stands : (v : EnumVariant) (all rest : List Placed) → BeginsAt v.pos all → InParentheses (λ inner close. (mid : List Placed) × SpellsName v.name inner mid × SpellsFields v.fields mid close) all rest → (P : Pos → Type 0) → Into all P → OfVariant P v × Into rest P
+full_stands : (v : EnumVariant) (all rest : List Placed) → BeginsAt v.pos all
+    → InParentheses (λ inner close. (mid : List Placed) × SpellsName v.name inner mid × SpellsFields v.fields mid close) all rest → (P : Pos → Type 0) → Into all P → OfVariant P v × Into rest P
 full_stands v all rest p h P into =
     let n = name_stands v.name h.0 h.3.0 h.3.1 P (token_stands h.2 P into) in
     let fs = fields_stand v.fields h.3.0 h.1 h.3.2 P n.1 in
@@ -90,7 +94,7 @@ type_content_stands (primitive_type n pos) all rest h P into =
     let inner = tagged_stands (codes "primitive") SpellsName OfName name_stands n all rest h.1 P into in
     ((begins_stands h.0 P into, inner.0), inner.1)
 type_content_stands (enum_type vs pos) all rest h P into =
-    let inner = tagged_stands (codes "enum") (SpellsAll SpellsVariant) (λ P vs. AllByRecursion (OfVariant P) vs) (row_stands SpellsVariant OfVariant variant_stands) vs all rest h.1 P into in
+    let inner = tagged_stands (codes "enum") (SpellsAll SpellsVariant) (λ P vs. AllByRecursion (OfVariant P) vs) (list_stands SpellsVariant OfVariant variant_stands) vs all rest h.1 P into in
     ((begins_stands h.0 P into, inner.0), inner.1)
 type_content_stands (struct_type fs pos) all rest h P into =
     let inner = tagged_stands (codes "struct") SpellsFields OfFields fields_stand fs all rest h.1 P into in
@@ -116,7 +120,7 @@ declaration_stands d all rest h P into =
     let p = flag_stands (codes "partial") d.partial h.behind_multi h.behind_partial h.partial P m in
     let r = flag_stands (codes "rec") d.rec h.behind_partial h.behind_rec h.rec P p in
     let t = name_stands d.term h.behind_rec h.behind_term h.term P r in
-    let a = enclosed_stands (SpellsAll SpellsName) OfNames (row_stands SpellsName OfName name_stands) d.arg_tys h.behind_term h.behind_arg_tys h.arg_tys P t.1 in
+    let a = enclosed_stands (SpellsAll SpellsName) OfNames (list_stands SpellsName OfName name_stands) d.arg_tys h.behind_term h.behind_arg_tys h.arg_tys P t.1 in
     let v = name_stands d.ret_ty h.behind_arg_tys rest h.ret_ty P a.1 in
     ((begins_stands h.position P into, t.0, a.0, v.0), v.1)
 
@@ -139,7 +143,7 @@ target_stands (rule_target n) all rest h P into = behind_stands (codes "rule") S
 attribute_stands : Stands SpellsAttribute (λ P a. EachPosition P (attr a))
 attribute_stands a all rest h P into =
     let t = target_stands a.target all h.behind_target h.target P into in
-    let ks = row_stands SpellsAttributeKind OfKind kind_stands a.kinds h.behind_target rest h.kinds P t.1 in
+    let ks = list_stands SpellsAttributeKind OfKind kind_stands a.kinds h.behind_target rest h.kinds P t.1 in
     ((begins_stands h.position P into, t.0, ks.0), ks.1)
 
 extern_stands : Stands SpellsExtern OfExtern
@@ -169,7 +173,7 @@ signature_stands s all rest h P into =
     ((begins_stands h.3.0 P opened, args.0, ret.0), token_stands h.4 P ret.1)
 
 signatures_stand : Stands (SpellsAll SpellsSignature) (λ P gs. AllByRecursion (OfSignature P) gs)
-signatures_stand = row_stands SpellsSignature OfSignature signature_stands
+signatures_stand = list_stands SpellsSignature OfSignature signature_stands
 
 form_stands : Stands SpellsForm (λ P f. EachPosition P (form f))
 form_stands f all rest h P into =
@@ -180,16 +184,17 @@ form_stands f all rest h P into =
 tag_stands : Stands SpellsTag OfName
 tag_stands n all rest h P into = tagged_stands (codes "tag") SpellsName OfName name_stands n all rest h P into
 
-instances_stand : (f : Option Name) (gs : List TermSignature) (ts : List Name) (all rest : List Placed) → SpellsInstances f gs ts all rest → (P : Pos → Type 0) → Into all P → OfOptionalName P f × AllByRecursion (OfSignature P) gs × OfNames P ts × Into rest P
+instances_stand : (f : Option Name) (gs : List TermSignature) (ts : List Name) (all rest : List Placed) → SpellsInstances f gs ts all rest → (P : Pos → Type 0) → Into all P
+    → OfOptionalName P f × AllByRecursion (OfSignature P) gs × OfNames P ts × Into rest P
 instances_stand None gs ts all rest h P into =
-    let row = signatures_stand gs all rest h.2 P into in
+    let list = signatures_stand gs all rest h.2 P into in
     let none : OfNames P ts = rw h.1 tt in
-    (tt, row.0, none, row.1)
+    (tt, list.0, none, list.1)
 instances_stand (Some f) gs ts all rest h P into =
     let n = name_stands f all h.1 h.2 P into in
-    let row = row_stands SpellsTag OfName tag_stands ts h.1 rest h.3 P n.1 in
+    let list = list_stands SpellsTag OfName tag_stands ts h.1 rest h.3 P n.1 in
     let none : AllByRecursion (OfSignature P) gs = rw h.0 tt in
-    (n.0, none, row.0, row.1)
+    (n.0, none, list.0, list.1)
 
 instantiation_stands : Stands SpellsInstantiation (λ P i. EachPosition P (instantiation i))
 instantiation_stands i all rest h P into =
@@ -209,7 +214,7 @@ model_stands m all rest h P into =
 
 -- ---- definitions
 
--- those behind the first
+-- those after the first
 abbrev behind : List Placed → List Placed
 behind [] = []
 behind (x ∷ xs) = xs
@@ -236,7 +241,7 @@ keyword_stands (instantiation x) = behind_stands (codes "instantiate") SpellsIns
 keyword_stands (external x) = behind_stands (codes "extern") SpellsExtern OfExtern extern_stands x
 keyword_stands (converter x) = behind_stands (codes "convert") SpellsConversion (λ P x. EachPosition P (converter x)) conversion_stands x
 
--- the positions of a definition are those of the tokens behind its first one
+-- the positions of a definition are those of the tokens after its first one
 definition_stands : (x : Definition) (all rest : List Placed) → SpellsDefinition x all rest → (P : Pos → Type 0) → Into (behind all) P → EachPosition P x × Into rest P
 definition_stands x all rest h P into =
     let whole = to_keyword x all rest h in

@@ -10,16 +10,16 @@ use Rattle.isle_ast.specs.Tree.{Declaration, Conversion, Definition, type_def, r
 use Rattle.isle_ast.specs.Grammar.{SpellsDefinition, SpellsDefinitions}
 use Rattle.isle_ast.specs.ModelGrammar.{SpellsForm, SpellsInstantiation, SpellsModel}
 use Rattle.isle_ast_rules.specs.RuleGrammar.{SpellsRule, SpellsExtractor}
-use Rattle.isle_ast_specs.specs.SpecDefinitionGrammar.{SpellsSpecDefinition, SpellsSpecMacro, SpellsState}
+use Rattle.isle_ast_verification.specs.SpecDefinitionGrammar.{SpellsSpecDefinition, SpellsSpecMacro, SpellsState}
 use Rattle.isle_ast.specs.TermGrammar.{SpellsDeclaration, SpellsAttribute, SpellsExtern, SpellsConversion}
 use Rattle.isle_ast.specs.TypeGrammar.{SpellsTypeDefinition}
 use Rattle.isle_parser_cursor.specs.Reading.{Reader, ◌>>=◌, is_ahead, ends, pos_ahead, text, flag}
 use Rattle.isle_parser_cursor.specs.NameReaders.{name, names}
-use Rattle.isle_parser.specs.DefinitionReaders.{declaration, conversion, as_definition, behind, keyword_form, definition, definitions}
+use Rattle.isle_parser.specs.DefinitionReaders.{declaration, conversion, as_definition, behind_keyword, keyword_form, definition, definitions}
 use Rattle.isle_parser.specs.FormReaders.{form_definition, instantiation_of_term}
 use Rattle.isle_parser.specs.ModelReaders.{model_definition}
 use Rattle.isle_parser_rules.specs.RuleReaders.{rule_definition, extractor_definition}
-use Rattle.isle_parser_specs.specs.SpecDefinitionReaders.{spec_definition, spec_macro_definition, state_definition}
+use Rattle.isle_parser_verification.specs.SpecDefinitionReaders.{spec_definition, spec_macro_definition, state_definition}
 use Rattle.isle_parser.specs.TermReaders.{attribute, extern_definition}
 use Rattle.isle_parser.specs.TypeReaders.{type_definition}
 use Rattle.isle_parser_cursor.proofs.ReaderSteps.{nothing, made_of, word_is, word_read, word_shorter, CompleteClosed, enclosed_complete}
@@ -29,14 +29,16 @@ use Rattle.isle_parser_cursor.proofs.Names.{SpellsNames, name_sound, name_comple
 use Rattle.isle_parser.proofs.Reading.Forms.{form_definition_sound, form_definition_complete, form_definition_shorter, instantiation_sound, instantiation_complete, instantiation_shorter}
 use Rattle.isle_parser.proofs.Reading.Models.{model_definition_sound, model_definition_complete, model_definition_shorter}
 use Rattle.isle_parser_rules.proofs.Reading.Rules.{rule_sound, rule_complete, rule_shorter, extractor_sound, extractor_complete, extractor_shorter}
-use Rattle.isle_parser_specs.proofs.Reading.SpecDefinitions.{spec_definition_sound, spec_definition_complete, spec_definition_shorter, spec_macro_sound, spec_macro_complete, spec_macro_shorter, state_sound, state_complete, state_shorter}
+use Rattle.isle_parser_verification.proofs.Reading.SpecDefinitions.{spec_definition_sound, spec_definition_complete, spec_definition_shorter, spec_macro_sound, spec_macro_complete, spec_macro_shorter}
+use Rattle.isle_parser_verification.proofs.Reading.SpecDefinitions.{state_sound, state_complete, state_shorter}
 use Rattle.isle_parser.proofs.Reading.Terms.{attribute_sound, attribute_complete, attribute_shorter, extern_sound, extern_complete, extern_shorter}
 use Rattle.isle_parser.proofs.Reading.Types.{type_definition_sound, type_definition_complete, type_definition_shorter}
-use Rattle.isle_parser_cursor.proofs.Readers.{Spelling, Sound, Complete, Begins, Shrinks, Goes, begins_node, bind_some, chosen, done, done_is, shrinks, many_sound, many_complete, stopping_closes, stopping_ends, row_shorter, moved, parentheses_sound, parentheses_begin}
+use Rattle.isle_parser_cursor.proofs.Readers.{Spelling, Sound, Complete, Begins, Shrinks, Goes, begins_node, bind_some, chosen, done, done_is, shrinks, many_sound, many_complete, stopping_closes}
+use Rattle.isle_parser_cursor.proofs.Readers.{stopping_ends, list_shorter, moved, parentheses_sound, parentheses_begin}
 
 -- ---- what does not go on
 
--- Behind a name of a form stands another token of it, and no pattern.
+-- After a name of a form stands another token of it, and no pattern.
 name_goes : (n : Name) (all rest : List Placed) → SpellsName n all rest → Goes all
 name_goes n all rest h = rw h.1 refl
 
@@ -48,7 +50,7 @@ begins_at : (n : Name) (all rest : List Placed) → SpellsName n all rest → Be
 begins_at n all rest h = (symbol n.text, rest, rw h.1 refl)
 
 names_begin : (ns : List Name) (all rest : List Placed) → SpellsNames ns all rest → (is_ahead begins_node all ≡ true) × (length rest < length all)
-names_begin ns = parentheses_begin (SpellsAll SpellsName ns) (row_shorter SpellsName name_begins ns)
+names_begin ns = parentheses_begin (SpellsAll SpellsName ns) (list_shorter SpellsName name_begins ns)
 
 -- ---- convert
 
@@ -144,8 +146,10 @@ declared all rest d u m p r t a v i1 i2 i3 i4 i5 i6 i7 begins eu em ep er et ea 
 declaration_sound : Sound SpellsDeclaration declaration
 unfolding declaration
 declaration_sound all rest d e =
-    let u = bind_some (flag (codes "pure") all) (λ u. flag (codes "multi") u.1 >>= λ m. flag (codes "partial") m.1 >>= λ p. flag (codes "rec") p.1 >>= λ r. name r.1 >>= λ t. names t.1 >>= λ a. name a.1 >>= λ v. Some (made u.0 m.0 p.0 r.0 t.0 a.0 v.0 all, v.1)) (d, rest) e in
-    let m = bind_some (flag (codes "multi") u.0.1) (λ m. flag (codes "partial") m.1 >>= λ p. flag (codes "rec") p.1 >>= λ r. name r.1 >>= λ t. names t.1 >>= λ a. name a.1 >>= λ v. Some (made u.0.0 m.0 p.0 r.0 t.0 a.0 v.0 all, v.1)) (d, rest) u.2 in
+    let u = bind_some (flag (codes "pure") all) (λ u. flag (codes "multi") u.1 >>= λ m. flag (codes "partial") m.1 >>= λ p. flag (codes "rec") p.1 >>= λ r. name r.1 >>= λ t. names t.1 >>= λ a. name
+    a.1 >>= λ v. Some (made u.0 m.0 p.0 r.0 t.0 a.0 v.0 all, v.1)) (d, rest) e in
+    let m = bind_some (flag (codes "multi") u.0.1) (λ m. flag (codes "partial") m.1 >>= λ p. flag (codes "rec") p.1 >>= λ r. name r.1 >>= λ t. names t.1 >>= λ a. name a.1 >>= λ v. Some
+    (made u.0.0 m.0 p.0 r.0 t.0 a.0 v.0 all, v.1)) (d, rest) u.2 in
     let p = bind_some (flag (codes "partial") m.0.1) (λ p. flag (codes "rec") p.1 >>= λ r. name r.1 >>= λ t. names t.1 >>= λ a. name a.1 >>= λ v. Some (made u.0.0 m.0.0 p.0 r.0 t.0 a.0 v.0 all, v.1)) (d, rest) m.2 in
     let r = bind_some (flag (codes "rec") p.0.1) (λ r. name r.1 >>= λ t. names t.1 >>= λ a. name a.1 >>= λ v. Some (made u.0.0 m.0.0 p.0.0 r.0 t.0 a.0 v.0 all, v.1)) (d, rest) p.2 in
     let t = bind_some (name r.0.1) (λ t. names t.1 >>= λ a. name a.1 >>= λ v. Some (made u.0.0 m.0.0 p.0.0 r.0.0 t.0 a.0 v.0 all, v.1)) (d, rest) r.2 in
@@ -194,7 +198,7 @@ declaration_shorter d all rest h =
 
 -- ---- a definition
 
--- a keyword and what stands behind it, as a definition spells them
+-- a keyword and what follows it, as a definition spells them
 abbrev pub SpellsKeyword : Definition → List Placed → List Placed → Type 0
 SpellsKeyword (type_def x) = BehindWord (codes "type") (SpellsTypeDefinition x)
 SpellsKeyword (rule x) = BehindWord (codes "rule") (SpellsRule x)
@@ -211,7 +215,10 @@ SpellsKeyword (external x) = BehindWord (codes "extern") (SpellsExtern x)
 SpellsKeyword (converter x) = BehindWord (codes "convert") (SpellsConversion x)
 
 -- one of the keywords
-keyword_chosen : {A : Type 0} {all inner rest : List Placed} {w : List ℕ} {x : Definition} (word : List ℕ) (R : Spelling A) (read : Reader A) (make : A → Definition) (other : Option (Definition × List Placed)) → Sound R read → text all ≡ Some (w, inner) → ((y : A) → BehindWord word (R y) all rest → SpellsKeyword (make y) all rest) → (other ≡ Some (x, rest) → SpellsKeyword x all rest) → cond (bytes_eq w word) (◌>>=◌ {B = Definition × List Placed} (read inner) (λ y. Some (make y.0, y.1))) other ≡ Some (x, rest) → SpellsKeyword x all rest
+keyword_chosen : {A : Type 0} {all inner rest : List Placed} {w : List ℕ} {x : Definition} (word : List ℕ) (R : Spelling A) (read : Reader A) (make : A → Definition)
+    (other : Option (Definition × List Placed)) → Sound R read → text all ≡ Some (w, inner) → ((y : A) → BehindWord word (R y) all rest → SpellsKeyword (make y) all rest)
+    → (other ≡ Some (x, rest) → SpellsKeyword x all rest) → cond (bytes_eq w word) (◌>>=◌ {B = Definition × List Placed} (read inner) (λ y. Some (make y.0, y.1))) other ≡ Some (x, rest)
+    → SpellsKeyword x all rest
 keyword_chosen {A = A} {all = all} {inner = inner} {rest = rest} {w = w} {x = x} word R read make other sound e spelt otherwise is =
     elim (chosen (bytes_eq w word) (◌>>=◌ {B = Definition × List Placed} (read inner) (λ y. Some (make y.0, y.1))) other (Some (x, rest)) is) [
       | inl h ↦
@@ -221,9 +228,9 @@ keyword_chosen {A = A} {all = all} {inner = inner} {rest = rest} {w = w} {x = x}
     ]
 
 keyword_form_sound : Sound SpellsKeyword keyword_form
-unfolding keyword_form behind as_definition
+unfolding keyword_form behind_keyword as_definition
 keyword_form_sound all rest x e =
-    let w = bind_some (text all) (λ word. behind word.0 word.1) (x, rest) e in
+    let w = bind_some (text all) (λ word. behind_keyword word.0 word.1) (x, rest) e in
     keyword_chosen (codes "type") SpellsTypeDefinition type_definition type_def _ type_definition_sound w.1 (λ y h. h)
     (keyword_chosen (codes "decl") SpellsDeclaration declaration decl _ declaration_sound w.1 (λ y h. h)
     (keyword_chosen (codes "attr") SpellsAttribute attribute attr _ attribute_sound w.1 (λ y h. h)
@@ -240,7 +247,7 @@ keyword_form_sound all rest x e =
     (λ h. absurd (nothing h)))))))))))))) w.2
 
 keyword_form_complete : CompleteClosed SpellsKeyword keyword_form
-unfolding keyword_form behind as_definition
+unfolding keyword_form behind_keyword as_definition
 keyword_form_complete (type_def x) all rest closed h = rw (word_read h.1, type_definition_complete x h.0 rest h.2) refl
 keyword_form_complete (rule x) all rest closed h = rw (word_read h.1, rule_complete x h.0 rest h.2) refl
 keyword_form_complete (extractor x) all rest closed h = rw (word_read h.1, extractor_complete x h.0 rest closed h.2) refl
@@ -304,12 +311,12 @@ pub definition_sound : Sound SpellsDefinition definition
 unfolding definition
 definition_sound all rest x e = from_keyword x all rest (parentheses_sound SpellsKeyword keyword_form keyword_form_sound all rest x e)
 
--- a definition that is spelt is read, whatever stands behind it
+-- a definition that is spelt is read, whatever stands after it
 pub definition_read : (d : Definition) (all rest : List Placed) → SpellsDefinition d all rest → definition all ≡ Some (d, rest)
 unfolding definition
 definition_read d all rest h = enclosed_complete SpellsKeyword keyword_form keyword_form_complete d all rest (to_keyword d all rest h)
 
--- two definitions at the front of one list of tokens are one, and so is what stands behind them
+-- two definitions at the front of one list of tokens are one, and so is what follows them
 pub one_definition : (d e : Definition) (all i j : List Placed) → SpellsDefinition d all i → SpellsDefinition e all j → (d ≡ e) × (i ≡ j)
 one_definition d e all i j p q = done_is d e i j (sym (definition_read d all i p) ∙ definition_read e all j q)
 

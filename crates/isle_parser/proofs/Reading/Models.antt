@@ -4,20 +4,20 @@ use Rattle.std.specs.Prelude.{codes}
 use Rattle.isle_base.specs.Place.{Placed}
 use Rattle.isle_ast.specs.Tree.{ModelContent, type_model, const_model, ModelDefinition}
 use Rattle.isle_ast_names.specs.Words.{InParentheses, BehindWord}
-use Rattle.isle_ast_specs.specs.TypeModelGrammar.{SpellsTypeModel}
+use Rattle.isle_ast_verification.specs.TypeModelGrammar.{SpellsTypeModel}
 use Rattle.isle_ast.specs.ModelGrammar.{SpellsModelContent, SpellsModel}
-use Rattle.isle_ast_specs.specs.SpecGrammar.{SpellsSpec}
+use Rattle.isle_ast_verification.specs.SpecGrammar.{SpellsSpec}
 use Rattle.isle_parser_cursor.specs.Reading.{◌>>=◌, in_parentheses}
-use Rattle.isle_parser_specs.specs.ModelReaders.{model_type}
+use Rattle.isle_parser_verification.specs.ModelReaders.{model_type}
 use Rattle.isle_parser_cursor.specs.NameReaders.{name}
-use Rattle.isle_parser_specs.specs.SpecReaders.{spec_expression}
+use Rattle.isle_parser_verification.specs.SpecReaders.{spec_expression}
 use Rattle.isle_parser.specs.ModelReaders.{const_inside, model_content_inside, model_definition}
 use Rattle.isle_parser_cursor.proofs.ReaderSteps.{nothing, made_of, word_ahead, word_shorter, flag_read, flag_absent, choice, CompleteClosed, enclosed_complete}
 use Rattle.isle_parser_cursor.proofs.Names.{name_sound, name_read, name_begins}
 use Rattle.isle_parser_cursor.proofs.Readers.{Sound, bind_some, done_is, moved, parentheses_sound, parentheses_begin}
-use Rattle.isle_parser_specs.proofs.Reading.Models.{model_type_sound, model_type_complete, model_type_begins}
-use Rattle.isle_parser_specs.proofs.Reading.Specs.{spec_expression_sound, spec_expression_complete}
-use Rattle.isle_parser_specs.proofs.Reading.Begins.{spec_begins}
+use Rattle.isle_parser_verification.proofs.Reading.Models.{model_type_sound, model_type_complete, model_type_begins}
+use Rattle.isle_parser_verification.proofs.Reading.Specs.{spec_expression_sound, spec_expression_complete}
+use Rattle.isle_parser_verification.proofs.Reading.Begins.{spec_begins}
 
 abbrev SpellsModelInside : ModelContent → List Placed → List Placed → Type 0
 SpellsModelInside (type_model ty) = BehindWord (codes "type") (SpellsTypeModel ty)

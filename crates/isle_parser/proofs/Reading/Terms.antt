@@ -2,21 +2,21 @@
 use Rattle.std.proofs.Common.{◌≡◌, inl, inr, ℕ, ◌≤◌, ◌<◌, Bool, true, false, cond, List, length, Option, Some, None, refl, sym, subst, ◌∙◌, arith}
 use Rattle.std.specs.Prelude.{codes}
 use Rattle.std.specs.Str.{bytes_eq}
-use Rattle.isle_base_errors.specs.declared.pos.Pos.{Pos}
+use Rattle.isle_base_source.specs.declared.pos.Pos.{Pos}
 use Rattle.isle_base.specs.Place.{Placed}
 use Rattle.isle_ast_names.specs.Tree.{Name}
 use Rattle.isle_ast.specs.Tree.{AttributeTarget, term_target, rule_target, AttributeKind, chain_kind, priority_kind, tag_kind, Attribute, ExternDefinition, extern_extractor, extern_constructor, extern_const}
 use Rattle.isle_ast_names.specs.Words.{SpellsWord, BeginsAt, SpellsAll, InParentheses, BehindWord, SpellsName, demands, SpellsConstant}
 use Rattle.isle_ast.specs.TermGrammar.{SpellsAttributeKind, SpellsAttributeTarget, SpellsAttribute, SpellsPair, SpellsExtern}
-use Rattle.isle_parser_cursor.specs.Reading.{◌>>=◌, is_ahead, is_word, closes, flag, pos_ahead, text, many}
+use Rattle.isle_parser_cursor.specs.Reading.{◌>>=◌, is_ahead, is_symbol_of, at_rparen, flag, pos_ahead, text, many}
 use Rattle.isle_parser_cursor.specs.NameReaders.{name}
 use Rattle.isle_parser.specs.TermReaders.{veri_kind, kind_inside, kind, attribute, extern_constant, extern_etor, extern_definition}
 use Rattle.isle_parser_rules.specs.ConstantReaders.{constant}
-use Rattle.isle_parser_cursor.proofs.ReaderSteps.{nothing, made_of, word_is, word_read, word_ahead, word_at, word_shorter, flag_read, flag_absent, choice, CompleteClosed, row_sound, row_complete, enclosed_complete, position_of, name_at}
+use Rattle.isle_parser_cursor.proofs.ReaderSteps.{nothing, made_of, word_is, word_read, word_ahead, word_at, word_shorter, flag_read, flag_absent, choice, CompleteClosed, list_sound, list_complete, enclosed_complete, position_of, name_at}
 use Rattle.isle_parser_cursor.proofs.Flags.{ReadsFlag, flag_sound, flag_complete, name_ahead}
 use Rattle.isle_parser.proofs.Flags.{flag_shorter, demand_met, demand_unset}
 use Rattle.isle_parser_cursor.proofs.Names.{name_sound, name_read, name_begins}
-use Rattle.isle_parser_cursor.proofs.Readers.{Sound, Complete, Begins, Shrinks, bind_some, chosen, chosen_some, done_is, moved, shrinks, row_shorter, parentheses_sound, parentheses_begin}
+use Rattle.isle_parser_cursor.proofs.Readers.{Sound, Complete, Begins, Shrinks, bind_some, chosen, chosen_some, done_is, moved, shrinks, list_shorter, parentheses_sound, parentheses_begin}
 use Rattle.isle_parser_rules.proofs.Reading.Constants.{constant_sound, constant_complete}
 
 -- ---- kinds of attributes
@@ -99,7 +99,7 @@ kind_shrinks = shrinks SpellsAttributeKind kind kind_sound kind_begins
 
 -- ---- attributes
 
--- a name behind a flag that isn't set is another word
+-- a name after a flag that isn't set is another word
 other_name : (word : List ℕ) (n : Name) (all inner rest : List Placed) → ReadsFlag word false all inner → SpellsName n inner rest → bytes_eq n.text word ≡ false
 other_name word n all inner rest f h =
     let unset = f.unset refl in
@@ -121,23 +121,24 @@ made b n ks place = record { target = cond b (rule_target n) (term_target n); ki
 pub attribute_sound : Sound SpellsAttribute attribute
 unfolding attribute
 attribute_sound all rest a e =
-    let w = bind_some (flag (codes "rule") all) (λ w. name w.1 >>= λ n. many closes kind n.1 >>= λ ks. Some (made w.0 n.0 ks.0 (pos_ahead all), ks.1)) (a, rest) e in
-    let n = bind_some (name w.0.1) (λ n. many closes kind n.1 >>= λ ks. Some (made w.0.0 n.0 ks.0 (pos_ahead all), ks.1)) (a, rest) w.2 in
-    let ks = bind_some (many closes kind n.0.1) (λ ks. Some (made w.0.0 n.0.0 ks.0 (pos_ahead all), ks.1)) (a, rest) n.2 in
+    let w = bind_some (flag (codes "rule") all) (λ w. name w.1 >>= λ n. many at_rparen kind n.1 >>= λ ks. Some (made w.0 n.0 ks.0 (pos_ahead all), ks.1)) (a, rest) e in
+    let n = bind_some (name w.0.1) (λ n. many at_rparen kind n.1 >>= λ ks. Some (made w.0.0 n.0 ks.0 (pos_ahead all), ks.1)) (a, rest) w.2 in
+    let ks = bind_some (many at_rparen kind n.0.1) (λ ks. Some (made w.0.0 n.0.0 ks.0 (pos_ahead all), ks.1)) (a, rest) n.2 in
     let node : Attribute = made w.0.0 n.0.0 ks.0.0 (pos_ahead all) in
     let is = done_is node a ks.0.1 rest ks.2 in
     let target = target_sound w.0.0 n.0.0 all w.0.1 n.0.1 (flag_sound (codes "rule") all w.0.1 w.0.0 w.1) (name_sound w.0.1 n.0.1 n.0.0 n.1) in
-    let row = row_sound SpellsAttributeKind kind kind_sound n.0.1 ks.0.1 ks.0.0 ks.1 in
-    let whole : SpellsAttribute node all ks.0.1 = record { position = target_at _ all n.0.1 target; behind_target = n.0.1; target = target; kinds = row } in
+    let list = list_sound SpellsAttributeKind kind kind_sound n.0.1 ks.0.1 ks.0.0 ks.1 in
+    let whole : SpellsAttribute node all ks.0.1 = record { position = target_at _ all n.0.1 target; behind_target = n.0.1; target = target; kinds = list } in
     moved SpellsAttribute node a all ks.0.1 rest is whole
 
-target_complete : (t : AttributeTarget) (ks : List AttributeKind) (place : Pos) (all behind rest : List Placed) → closes rest ≡ true → BeginsAt place all → SpellsAttributeTarget t all behind → SpellsAll SpellsAttributeKind ks behind rest → attribute all ≡ Some (record { target = t; kinds = ks; pos = place }, rest)
+target_complete : (t : AttributeTarget) (ks : List AttributeKind) (place : Pos) (all behind rest : List Placed) → at_rparen rest ≡ true → BeginsAt place all → SpellsAttributeTarget t all behind
+    → SpellsAll SpellsAttributeKind ks behind rest → attribute all ≡ Some (record { target = t; kinds = ks; pos = place }, rest)
 unfolding attribute
-target_complete (term_target n) ks place all behind rest closed p h row =
-    let absent : is_ahead (is_word (codes "rule")) all ≡ false = name_ahead (codes "rule") n all behind h.1 ∙ h.0 in
-    rw (flag_absent (codes "rule") all absent, name_read n all behind h.1, row_complete SpellsAttributeKind kind kind_complete kind_begins ks behind rest closed row, position_of p) refl
-target_complete (rule_target n) ks place all behind rest closed p h row =
-    rw (flag_read (codes "rule") all h.0 h.1, name_read n h.0 behind h.2, row_complete SpellsAttributeKind kind kind_complete kind_begins ks behind rest closed row, position_of p) refl
+target_complete (term_target n) ks place all behind rest closed p h list =
+    let absent : is_ahead (is_symbol_of (codes "rule")) all ≡ false = name_ahead (codes "rule") n all behind h.1 ∙ h.0 in
+    rw (flag_absent (codes "rule") all absent, name_read n all behind h.1, list_complete SpellsAttributeKind kind kind_complete kind_begins ks behind rest closed list, position_of p) refl
+target_complete (rule_target n) ks place all behind rest closed p h list =
+    rw (flag_read (codes "rule") all h.0 h.1, name_read n h.0 behind h.2, list_complete SpellsAttributeKind kind kind_complete kind_begins ks behind rest closed list, position_of p) refl
 
 pub attribute_complete : CompleteClosed SpellsAttribute attribute
 attribute_complete a all rest closed h = target_complete a.target a.kinds a.pos all h.behind_target rest closed h.position h.target h.kinds
@@ -147,7 +148,7 @@ target_shorter (term_target n) all rest h = omega (arith, (name_begins n all res
 target_shorter (rule_target n) all rest h = omega (arith, word_shorter (codes "rule") all h.0 h.1, (name_begins n h.0 rest h.2).1)
 
 pub attribute_shorter : (a : Attribute) (all rest : List Placed) → SpellsAttribute a all rest → length rest ≤ length all
-attribute_shorter a all rest h = omega (arith, target_shorter a.target all h.behind_target h.target, row_shorter SpellsAttributeKind kind_begins a.kinds h.behind_target rest h.kinds)
+attribute_shorter a all rest h = omega (arith, target_shorter a.target all h.behind_target h.target, list_shorter SpellsAttributeKind kind_begins a.kinds h.behind_target rest h.kinds)
 
 constant_pos : (n : Name) (all rest : List Placed) → SpellsConstant n all rest → pos_ahead all ≡ n.pos
 constant_pos n all rest h = rw h.1 refl
@@ -211,7 +212,7 @@ extern_complete (extern_extractor term func pos b) all rest h =
     let w = h.2 in
     let body = w.2 in
     let pair = body.2 in
-    let unset : b ≡ false → is_ahead (is_word (codes "infallible")) body.0 ≡ false = λ e. name_ahead (codes "infallible") term body.0 pair.0 pair.1 ∙ demand_unset term.text (codes "infallible") b h.0 e in
+    let unset : b ≡ false → is_ahead (is_symbol_of (codes "infallible")) body.0 ≡ false = λ e. name_ahead (codes "infallible") term body.0 pair.0 pair.1 ∙ demand_unset term.text (codes "infallible") b h.0 e in
     let i = flag_complete (codes "infallible") b w.0 body.0 unset body.1 in
     rw (flag_absent (codes "constructor") all (word_ahead w.1 (codes "constructor")), flag_read (codes "extractor") all w.0 w.1, i, name_read term body.0 pair.0 pair.1, name_read func pair.0 rest pair.2, position_of h.1) refl
 extern_complete (extern_constructor term func pos) all rest h =
@@ -222,7 +223,14 @@ extern_complete (extern_const n ty pos) all rest h =
     let w = h.1 in
     let body = w.2 in
     let place : pos_ahead w.0 ≡ pos = constant_pos n w.0 body.0 body.1 ∙ sym h.0 in
-    rw (flag_absent (codes "constructor") all (word_ahead w.1 (codes "constructor")), flag_absent (codes "extractor") all (word_ahead w.1 (codes "extractor")), flag_read (codes "const") all w.0 w.1, constant_complete n w.0 body.0 body.1, name_read ty body.0 rest body.2, place) refl
+    rw (
+      flag_absent (codes "constructor") all (word_ahead w.1 (codes "constructor")),
+      flag_absent (codes "extractor") all (word_ahead w.1 (codes "extractor")),
+      flag_read (codes "const") all w.0 w.1,
+      constant_complete n w.0 body.0 body.1,
+      name_read ty body.0 rest body.2,
+      place,
+    ) refl
 
 pair_shorter : (first second : Name) (all rest : List Placed) → SpellsPair first second all rest → length rest < length all
 pair_shorter first second all rest h = omega (arith, (name_begins first all h.0 h.1).1, (name_begins second h.0 rest h.2).1)

@@ -2,19 +2,20 @@
 use Rattle.std.proofs.Common.{◌≡◌, inl, inr, ℕ, zero, suc, ◌+◌, ◌≤◌, ◌<◌, Bool, true, false, cond, List, [], ◌∷◌, length, Some, None, refl, sym, ap, subst, ◌∙◌, arith}
 use Rattle.std.specs.Prelude.{codes, ◌&&◌, ◌||◌}
 use Rattle.std.specs.List.{list_all, list_any}
-use Rattle.isle_base_errors.specs.declared.pos.Pos.{Pos}
+use Rattle.isle_base_source.specs.declared.pos.Pos.{Pos}
 use Rattle.isle_base.specs.Place.{Placed}
 use Rattle.isle_base.specs.Token.{symbol, is_symbol}
 use Rattle.isle_ast_names.specs.Tree.{Name}
 use Rattle.isle_ast.specs.Tree.{NamedField, IndexedField, FieldList, unit_fields, struct_fields, tuple_fields, EnumVariant, TypeContent, primitive_type, enum_type, struct_type, TypeDefinition}
 use Rattle.isle_ast_names.specs.Words.{SpellsWord, BeginsAt, SpellsAll, InParentheses, BehindWord, SpellsName, IsNonEmpty}
 use Rattle.isle_ast.specs.TypeGrammar.{SpellsNamedField, SpellsIndexedFields, SpellsFields, SpellsVariant, SpellsTypeContent, is_extern_word, is_nodebug_word, SpellsTypeDefinition}
-use Rattle.isle_parser_cursor.specs.Reading.{◌>>=◌, is_ahead, is_lparen, closes, pos_ahead, text, in_parentheses, many, many_within}
+use Rattle.isle_parser_cursor.specs.Reading.{◌>>=◌, is_ahead, is_lparen, at_rparen, pos_ahead, text, in_parentheses, many, many_within}
 use Rattle.isle_parser_cursor.specs.NameReaders.{name}
 use Rattle.isle_parser.specs.TypeReaders.{field_inside, named_field, numbered, fields, variant_inside, variant, struct_content, enum_content, content_inside, type_content, modifier, no_symbol, modifiers, type_definition}
-use Rattle.isle_parser_cursor.proofs.ReaderSteps.{nothing, made_of, word_read, word_ahead, word_shorter, flag_read, flag_absent, choice, CompleteClosed, row_sound, row_complete, enclosed_complete, position_of, name_at, opens, opens_not_closes, row_nonempty, row_at, at_place, from_place}
+use Rattle.isle_parser_cursor.proofs.ReaderSteps.{nothing, made_of, word_read, word_ahead, word_shorter, flag_read, flag_absent, choice, CompleteClosed, list_sound, list_complete, enclosed_complete}
+use Rattle.isle_parser_cursor.proofs.ReaderSteps.{position_of, name_at, opens, opens_not_closes, list_nonempty, list_at, at_place, from_place}
 use Rattle.isle_parser_cursor.proofs.Names.{text_sound, name_sound, name_read, name_complete, name_begins}
-use Rattle.isle_parser_cursor.proofs.Readers.{Sound, Complete, Begins, Shrinks, bind_some, chosen, chosen_some, done_is, moved, shrinks, many_sound, row_shorter, parentheses_sound, parentheses_begin}
+use Rattle.isle_parser_cursor.proofs.Readers.{Sound, Complete, Begins, Shrinks, bind_some, chosen, chosen_some, done_is, moved, shrinks, many_sound, list_shorter, parentheses_sound, parentheses_begin}
 
 -- ---- fields with names
 
@@ -98,20 +99,22 @@ indexed_numbered index (f ∷ fs) all rest h =
 fields_sound : Sound SpellsFields fields
 unfolding fields
 fields_sound all rest x e =
-    elim (chosen (closes all) (Some (unit_fields, all)) (cond (is_ahead is_lparen all) (many closes named_field all >>= λ fs. Some (struct_fields fs.0 (pos_ahead all), fs.1)) (many closes name all >>= λ tys. Some (tuple_fields (numbered 0 tys.0) (pos_ahead all), tys.1))) (Some (x, rest)) e) [
+    elim (chosen (at_rparen all) (Some (unit_fields, all)) (cond (is_ahead is_lparen all) (many at_rparen named_field all >>= λ fs. Some (struct_fields fs.0 (pos_ahead all), fs.1))
+    (many at_rparen name all >>= λ tys. Some (tuple_fields (numbered 0 tys.0) (pos_ahead all), tys.1))) (Some (x, rest)) e) [
       | inl h ↦ moved SpellsFields unit_fields x all all rest (done_is unit_fields x all rest h.1) refl
       | inr h ↦
-          elim (chosen (is_ahead is_lparen all) (many closes named_field all >>= λ fs. Some (struct_fields fs.0 (pos_ahead all), fs.1)) (many closes name all >>= λ tys. Some (tuple_fields (numbered 0 tys.0) (pos_ahead all), tys.1)) (Some (x, rest)) h.1) [
+          elim (chosen (is_ahead is_lparen all) (many at_rparen named_field all >>= λ fs. Some (struct_fields fs.0 (pos_ahead all), fs.1))
+          (many at_rparen name all >>= λ tys. Some (tuple_fields (numbered 0 tys.0) (pos_ahead all), tys.1)) (Some (x, rest)) h.1) [
             | inl g ↦
                 let fs = made_of (λ (fs : List NamedField). struct_fields fs (pos_ahead all)) g.1 in
-                let row = many_sound SpellsNamedField named_field closes named_field_sound all rest fs.0 fs.1 in
-                let some = row_nonempty SpellsNamedField fs.0 all rest row.0 row.1 h.0 in
-                subst (λ (x : FieldList). SpellsFields x all rest) fs.2 (some, row_at SpellsNamedField named_field_begins fs.0 all rest some row.0, row.0)
+                let list = many_sound SpellsNamedField named_field at_rparen named_field_sound all rest fs.0 fs.1 in
+                let some = list_nonempty SpellsNamedField fs.0 all rest list.0 list.1 h.0 in
+                subst (λ (x : FieldList). SpellsFields x all rest) fs.2 (some, list_at SpellsNamedField named_field_begins fs.0 all rest some list.0, list.0)
             | inr g ↦
                 let tys = made_of (λ (tys : List Name). tuple_fields (numbered 0 tys) (pos_ahead all)) g.1 in
-                let row = many_sound SpellsName name closes name_sound all rest tys.0 tys.1 in
-                let some = row_nonempty SpellsName tys.0 all rest row.0 row.1 h.0 in
-                subst (λ (x : FieldList). SpellsFields x all rest) tys.2 (numbered_nonempty 0 tys.0 some, row_at SpellsName name_begins tys.0 all rest some row.0, numbered_spelt 0 tys.0 all rest row.0)
+                let list = many_sound SpellsName name at_rparen name_sound all rest tys.0 tys.1 in
+                let some = list_nonempty SpellsName tys.0 all rest list.0 list.1 h.0 in
+                subst (λ (x : FieldList). SpellsFields x all rest) tys.2 (numbered_nonempty 0 tys.0 some, list_at SpellsName name_begins tys.0 all rest some list.0, numbered_spelt 0 tys.0 all rest list.0)
           ]
     ]
 
@@ -121,19 +124,19 @@ fields_complete unit_fields all rest closed h = rw (h, closed) refl
 fields_complete (struct_fields [] pos) all rest closed h = absurd h.0
 fields_complete (struct_fields (f ∷ fs) pos) all rest closed h =
     let here : is_ahead is_lparen all ≡ true = opens (SpellsFieldInside f) all h.2.0 h.2.1.1 in
-    let row = row_complete SpellsNamedField named_field named_field_complete named_field_begins (f ∷ fs) all rest closed h.2 in
-    rw (opens_not_closes all here, here, row, position_of h.1) refl
+    let list = list_complete SpellsNamedField named_field named_field_complete named_field_begins (f ∷ fs) all rest closed h.2 in
+    rw (opens_not_closes all here, here, list, position_of h.1) refl
 fields_complete (tuple_fields [] pos) all rest closed h = absurd h.0
 fields_complete (tuple_fields (f ∷ fs) pos) all rest closed h =
-    let open_ : closes all ≡ false = rw h.2.3.1 refl in
+    let open_ : at_rparen all ≡ false = rw h.2.3.1 refl in
     let here : is_ahead is_lparen all ≡ false = rw h.2.3.1 refl in
-    let row = row_complete SpellsName name name_complete name_begins (types_of (f ∷ fs)) all rest closed (indexed_types 0 (f ∷ fs) all rest h.2) in
-    rw (open_, here, row, indexed_numbered 0 (f ∷ fs) all rest h.2, position_of h.1) refl
+    let list = list_complete SpellsName name name_complete name_begins (types_of (f ∷ fs)) all rest closed (indexed_types 0 (f ∷ fs) all rest h.2) in
+    rw (open_, here, list, indexed_numbered 0 (f ∷ fs) all rest h.2, position_of h.1) refl
 
 fields_shorter : (x : FieldList) (all rest : List Placed) → SpellsFields x all rest → length rest ≤ length all
 fields_shorter unit_fields all rest h = rw h (omega arith)
-fields_shorter (struct_fields fs pos) all rest h = row_shorter SpellsNamedField named_field_begins fs all rest h.2
-fields_shorter (tuple_fields fs pos) all rest h = row_shorter SpellsName name_begins (types_of fs) all rest (indexed_types 0 fs all rest h.2)
+fields_shorter (struct_fields fs pos) all rest h = list_shorter SpellsNamedField named_field_begins fs all rest h.2
+fields_shorter (tuple_fields fs pos) all rest h = list_shorter SpellsName name_begins (types_of fs) all rest (indexed_types 0 fs all rest h.2)
 
 -- ---- variants
 
@@ -247,10 +250,10 @@ struct_sound place all rest c e =
 enum_sound : (place : Pos) → Sound (SpellsContentAt place) (enum_content place)
 unfolding enum_content
 enum_sound place all rest c e =
-    elim (choice (codes "enum") (λ i. many closes variant i >>= λ vs. Some (enum_type vs.0 place, vs.1)) (struct_content place) all e) [
+    elim (choice (codes "enum") (λ i. many at_rparen variant i >>= λ vs. Some (enum_type vs.0 place, vs.1)) (struct_content place) all e) [
       | inl h ↦
           let vs = made_of (λ (vs : List EnumVariant). enum_type vs place) h.2 in
-          subst (λ (c : TypeContent). SpellsContentAt place c all rest) vs.2 (refl, (h.0, h.1, row_sound SpellsVariant variant variant_sound h.0 rest vs.0 vs.1))
+          subst (λ (c : TypeContent). SpellsContentAt place c all rest) vs.2 (refl, (h.0, h.1, list_sound SpellsVariant variant variant_sound h.0 rest vs.0 vs.1))
       | inr h ↦ struct_sound place all rest c h.1
     ]
 
@@ -273,7 +276,7 @@ content_inside_complete place (primitive_type n pos) all rest closed h =
 content_inside_complete place (enum_type vs pos) all rest closed h =
     let b = h.1 in
     let place_is : place ≡ pos = sym h.0 in
-    rw (flag_absent (codes "primitive") all (word_ahead b.1 (codes "primitive")), flag_read (codes "enum") all b.0 b.1, row_complete SpellsVariant variant variant_complete variant_begins vs b.0 rest closed b.2, place_is) refl
+    rw (flag_absent (codes "primitive") all (word_ahead b.1 (codes "primitive")), flag_read (codes "enum") all b.0 b.1, list_complete SpellsVariant variant variant_complete variant_begins vs b.0 rest closed b.2, place_is) refl
 content_inside_complete place (struct_type fs pos) all rest closed h =
     let b = h.1 in
     let place_is : place ≡ pos = sym h.0 in
@@ -292,7 +295,7 @@ type_content_complete c all rest h =
 
 content_inside_shorter : (c : TypeContent) (all rest : List Placed) → SpellsContentInside c all rest → length rest ≤ length all
 content_inside_shorter (primitive_type n pos) all rest h = omega (arith, word_shorter (codes "primitive") all h.0 h.1, (name_begins n h.0 rest h.2).1)
-content_inside_shorter (enum_type vs pos) all rest h = omega (arith, word_shorter (codes "enum") all h.0 h.1, row_shorter SpellsVariant variant_begins vs h.0 rest h.2)
+content_inside_shorter (enum_type vs pos) all rest h = omega (arith, word_shorter (codes "enum") all h.0 h.1, list_shorter SpellsVariant variant_begins vs h.0 rest h.2)
 content_inside_shorter (struct_type fs pos) all rest h = omega (arith, word_shorter (codes "struct") all h.0 h.1, fields_shorter fs h.0 rest h.2)
 
 type_content_begins : Begins SpellsTypeContent
@@ -327,7 +330,8 @@ and_both : (a b : Bool) → (a && b) ≡ true → (a ≡ true) × (b ≡ true)
 and_both true b e = (refl, e)
 and_both false b e = absurd cc
 
-modifiers_within : (m : ℕ) (words : List (List ℕ)) (all rest : List Placed) → length all < m → list_all is_modifier words ≡ true → SpellsAll SpellsWord words all rest → no_symbol rest ≡ true → many_within m no_symbol modifier all ≡ Some (words, rest)
+modifiers_within : (m : ℕ) (words : List (List ℕ)) (all rest : List Placed) → length all < m → list_all is_modifier words ≡ true → SpellsAll SpellsWord words all rest → no_symbol rest ≡ true
+    → many_within m no_symbol modifier all ≡ Some (words, rest)
 unfolding many_within modifier
 modifiers_within zero words all rest lt each h e = absurd (omega arith)
 modifiers_within (suc m) [] all rest lt each h e =
@@ -357,8 +361,8 @@ type_definition_sound all rest t e =
     let c = bind_some (type_content words.0.1) (λ c. Some (made n.0.0 words.0.0 c.0 (pos_ahead all), c.1)) (t, rest) words.2 in
     let node : TypeDefinition = made n.0.0 words.0.0 c.0.0 (pos_ahead all) in
     let is = done_is node t c.0.1 rest c.2 in
-    let row = many_sound SpellsModifier modifier no_symbol modifier_sound n.0.1 words.0.1 words.0.0 words.1 in
-    let each = each_modifier words.0.0 n.0.1 words.0.1 row.0 in
+    let list = many_sound SpellsModifier modifier no_symbol modifier_sound n.0.1 words.0.1 words.0.0 words.1 in
+    let each = each_modifier words.0.0 n.0.1 words.0.1 list.0 in
     let spelt : SpellsTypeDefinition node all c.0.1 =
     record {
       position = name_at n.0.0 all n.0.1 (name_sound all n.0.1 n.0.0 n.1);

@@ -1,4 +1,5 @@
 //! Definitions.
+#![tactic(auto, unfolding(isle_parser_cursor::specs::Reading::closed, crate::specs::DefinitionReaders::as_definition))]
 
 ghost use Rattle.std.specs.Prelude.{◌≡◌, None, OnOk, false};
 ghost use Rattle.isle_ast.specs.Tree.{attr, converter, decl, external, extractor, form};
@@ -6,18 +7,19 @@ ghost use Rattle.isle_ast.specs.Tree.{instantiation, model, rule, spec, spec_mac
 ghost use Rattle.isle_ast.specs.Tree.{type_def};
 ghost use Rattle.isle_ast.specs.TreeView.{definition_of};
 ghost use Rattle.isle_base.specs.Steps.{is_failed};
-ghost use Rattle.isle_parser.specs.DefinitionReaders.{as_definition, behind, closed, conversion};
+ghost use Rattle.isle_parser.specs.DefinitionReaders.{as_definition, behind_keyword, conversion};
 ghost use Rattle.isle_parser.specs.DefinitionReaders.{declaration, definition, keyword_form};
 ghost use Rattle.isle_parser.specs.DefinitionReaders.{pragma};
+ghost use Rattle.isle_parser_cursor.specs.Reading.{closed};
 ghost use Rattle.isle_parser.specs.FormReaders.{form_definition, instantiation_of_term};
 ghost use Rattle.isle_parser.specs.ModelReaders.{model_definition};
 ghost use Rattle.isle_parser.specs.TermReaders.{attribute, extern_definition};
 ghost use Rattle.isle_parser.specs.TypeReaders.{type_definition};
-ghost use Rattle.isle_parser_cursor.specs.Outcomes.{Gives, IsPlace, source, tokens};
+ghost use Rattle.isle_parser_cursor.specs.Outcomes.{IsPlace, MatchesRead, ReadsOff, source};
 ghost use Rattle.isle_parser_rules.specs.RuleReaders.{extractor_definition, rule_definition};
-ghost use Rattle.isle_parser_specs.specs.SpecDefinitionReaders.{spec_definition};
-ghost use Rattle.isle_parser_specs.specs.SpecDefinitionReaders.{spec_macro_definition};
-ghost use Rattle.isle_parser_specs.specs.SpecDefinitionReaders.{state_definition};
+ghost use Rattle.isle_parser_verification.specs.SpecDefinitionReaders.{spec_definition};
+ghost use Rattle.isle_parser_verification.specs.SpecDefinitionReaders.{spec_macro_definition};
+ghost use Rattle.isle_parser_verification.specs.SpecDefinitionReaders.{state_definition};
 
 use crate::parser::forms::{parse_form, parse_instantiation};
 use crate::parser::models::parse_model;
@@ -26,43 +28,39 @@ use crate::parser::types::parse_type;
 use isle_ast::ast::Def;
 use isle_base::lexer::Pos;
 use isle_parser_cursor::cursor::{Cursor, Stop};
-use isle_parser_rules::parser::rules::{parse_etor, parse_rule};
-use isle_parser_specs::parser::spec_definitions::{parse_spec, parse_spec_macro, parse_state};
+use isle_parser_rules::rules::{parse_etor, parse_rule};
+use isle_parser_verification::spec_definitions::{parse_spec, parse_spec_macro, parse_state};
 use std::alloc::Global;
 
-#[tactic(auto, unfolding(crate::specs::DefinitionReaders::closed, crate::specs::DefinitionReaders::definition, isle_parser_cursor::specs::Reading::in_parentheses))]
+#[tactic(auto, unfolding(isle_parser_cursor::specs::Reading::closed, crate::specs::DefinitionReaders::definition, isle_parser_cursor::specs::Reading::in_parentheses))]
 pub(super) fn parse_def(cursor: &mut Cursor, alloc: Global) -> Result<Def, Stop>
-    ensures same { source cursor.new ≡ source cursor.old }
-    ensures gives { Gives definition_of (definition (tokens cursor.old)) result cursor.new }
-    ensures goes_on { OnOk result (is_failed cursor.new.lexer ≡ false) }
+    ensures reads { ReadsOff definition_of definition cursor.old result cursor.new }
+    ensures goes_on { OnOk result (is_failed cursor.new.scanner ≡ false) }
 {
     cursor.expect_lparen(alloc)?;
     parse_keyword_form(cursor, alloc)
 }
 
-/// A keyword, what stands behind it, and the closing parenthesis.
-#[tactic(auto, unfolding(crate::specs::DefinitionReaders::closed, crate::specs::DefinitionReaders::keyword_form))]
+/// A keyword, what follows it, and the closing parenthesis.
+#[tactic(auto, unfolding(isle_parser_cursor::specs::Reading::closed, crate::specs::DefinitionReaders::keyword_form))]
 fn parse_keyword_form(cursor: &mut Cursor, alloc: Global) -> Result<Def, Stop>
-    ensures same { source cursor.new ≡ source cursor.old }
-    ensures gives { Gives definition_of
-        (closed keyword_form (tokens cursor.old)) result cursor.new }
-    ensures goes_on { OnOk result (is_failed cursor.new.lexer ≡ false) }
+    ensures reads { ReadsOff definition_of (closed keyword_form) cursor.old result cursor.new }
+    ensures goes_on { OnOk result (is_failed cursor.new.scanner ≡ false) }
 {
     let place = cursor.place();
     let word = cursor.expect_word(alloc)?;
     parse_behind(cursor, alloc, place, word)
 }
 
-/// What stands behind this keyword, which stood at this place, and the closing parenthesis. Each
+/// What follows this keyword, and the closing parenthesis. The keyword is at this place. Each
 /// kind of definition is made in a call of its own, so that no frame holds the nodes of all kinds,
 /// and is closed there, so that it is handed on where it lies.
-#[tactic(auto, unfolding(crate::specs::DefinitionReaders::behind, crate::specs::DefinitionReaders::closed))]
+#[tactic(auto, unfolding(crate::specs::DefinitionReaders::behind_keyword, isle_parser_cursor::specs::Reading::closed))]
 fn parse_behind(cursor: &mut Cursor, alloc: Global, place: Pos, word: &str) -> Result<Def, Stop>
     requires { IsPlace (source cursor.old) place }
-    ensures same { source cursor.new ≡ source cursor.old }
-    ensures gives { Gives definition_of
-        (closed (behind word.now) (tokens cursor.old)) result cursor.new }
-    ensures goes_on { OnOk result (is_failed cursor.new.lexer ≡ false) }
+    ensures reads { ReadsOff definition_of (closed (behind_keyword word.now)) cursor.old result
+        cursor.new }
+    ensures goes_on { OnOk result (is_failed cursor.new.scanner ≡ false) }
 {
     match word {
         "pragma" => parse_pragma_def(cursor, alloc),
@@ -85,186 +83,159 @@ fn parse_behind(cursor: &mut Cursor, alloc: Global, place: Pos, word: &str) -> R
 
 #[inline(never)]
 fn parse_pragma_def(cursor: &mut Cursor, alloc: Global) -> Result<Def, Stop>
-    ensures same { source cursor.new ≡ source cursor.old }
-    ensures gives { Gives definition_of (pragma (tokens cursor.old)) result cursor.new }
+    ensures { ReadsOff definition_of pragma cursor.old result cursor.new }
 {
     Ok(Def::Pragma(parse_pragma(cursor, alloc)?))
 }
 
-#[tactic(auto, unfolding(crate::specs::DefinitionReaders::as_definition, crate::specs::DefinitionReaders::closed))]
 #[inline(never)]
 fn parse_type_def(cursor: &mut Cursor, alloc: Global) -> Result<Def, Stop>
-    ensures same { source cursor.new ≡ source cursor.old }
-    ensures gives { Gives definition_of
-        (closed (as_definition type_def type_definition) (tokens cursor.old)) result cursor.new }
-    ensures goes_on { OnOk result (is_failed cursor.new.lexer ≡ false) }
+    ensures reads { ReadsOff definition_of (closed (as_definition type_def type_definition))
+        cursor.old result cursor.new }
+    ensures goes_on { OnOk result (is_failed cursor.new.scanner ≡ false) }
 {
     let ty = parse_type(cursor, alloc)?;
     cursor.expect_rparen(alloc)?;
     Ok(Def::TypeDef(ty))
 }
 
-#[tactic(auto, unfolding(crate::specs::DefinitionReaders::as_definition, crate::specs::DefinitionReaders::closed))]
 #[inline(never)]
 fn parse_decl_def(cursor: &mut Cursor, alloc: Global) -> Result<Def, Stop>
-    ensures same { source cursor.new ≡ source cursor.old }
-    ensures gives { Gives definition_of
-        (closed (as_definition decl declaration) (tokens cursor.old)) result cursor.new }
-    ensures goes_on { OnOk result (is_failed cursor.new.lexer ≡ false) }
+    ensures reads { ReadsOff definition_of (closed (as_definition decl declaration)) cursor.old
+        result cursor.new }
+    ensures goes_on { OnOk result (is_failed cursor.new.scanner ≡ false) }
 {
     let decl = parse_decl(cursor, alloc)?;
     cursor.expect_rparen(alloc)?;
     Ok(Def::Decl(decl))
 }
 
-#[tactic(auto, unfolding(crate::specs::DefinitionReaders::as_definition, crate::specs::DefinitionReaders::closed))]
 #[inline(never)]
 fn parse_attr_def(cursor: &mut Cursor, alloc: Global) -> Result<Def, Stop>
-    ensures same { source cursor.new ≡ source cursor.old }
-    ensures gives { Gives definition_of
-        (closed (as_definition attr attribute) (tokens cursor.old)) result cursor.new }
-    ensures goes_on { OnOk result (is_failed cursor.new.lexer ≡ false) }
+    ensures reads { ReadsOff definition_of (closed (as_definition attr attribute)) cursor.old
+        result cursor.new }
+    ensures goes_on { OnOk result (is_failed cursor.new.scanner ≡ false) }
 {
     let attr = parse_attr(cursor, alloc)?;
     cursor.expect_rparen(alloc)?;
     Ok(Def::Attr(attr))
 }
 
-#[tactic(auto, unfolding(crate::specs::DefinitionReaders::as_definition, crate::specs::DefinitionReaders::closed))]
 #[inline(never)]
 fn parse_spec_def(cursor: &mut Cursor, alloc: Global) -> Result<Def, Stop>
-    ensures same { source cursor.new ≡ source cursor.old }
-    ensures gives { Gives definition_of
-        (closed (as_definition spec spec_definition) (tokens cursor.old)) result cursor.new }
-    ensures goes_on { OnOk result (is_failed cursor.new.lexer ≡ false) }
+    ensures reads { ReadsOff definition_of (closed (as_definition spec spec_definition)) cursor.old
+        result cursor.new }
+    ensures goes_on { OnOk result (is_failed cursor.new.scanner ≡ false) }
 {
     let spec = parse_spec(cursor, alloc)?;
     cursor.expect_rparen(alloc)?;
     Ok(Def::Spec(spec))
 }
 
-#[tactic(auto, unfolding(crate::specs::DefinitionReaders::as_definition, crate::specs::DefinitionReaders::closed))]
 #[inline(never)]
 fn parse_spec_macro_def(cursor: &mut Cursor, alloc: Global) -> Result<Def, Stop>
-    ensures same { source cursor.new ≡ source cursor.old }
-    ensures gives { Gives definition_of
-        (closed (as_definition spec_macro spec_macro_definition) (tokens cursor.old)) result cursor.new }
-    ensures goes_on { OnOk result (is_failed cursor.new.lexer ≡ false) }
+    ensures reads { ReadsOff definition_of (closed (as_definition spec_macro
+        spec_macro_definition)) cursor.old result cursor.new }
+    ensures goes_on { OnOk result (is_failed cursor.new.scanner ≡ false) }
 {
     let definition = parse_spec_macro(cursor, alloc)?;
     cursor.expect_rparen(alloc)?;
     Ok(Def::SpecMacro(definition))
 }
 
-#[tactic(auto, unfolding(crate::specs::DefinitionReaders::as_definition, crate::specs::DefinitionReaders::closed))]
 #[inline(never)]
 fn parse_model_def(cursor: &mut Cursor, alloc: Global) -> Result<Def, Stop>
-    ensures same { source cursor.new ≡ source cursor.old }
-    ensures gives { Gives definition_of
-        (closed (as_definition model model_definition) (tokens cursor.old)) result cursor.new }
-    ensures goes_on { OnOk result (is_failed cursor.new.lexer ≡ false) }
+    ensures reads { ReadsOff definition_of (closed (as_definition model model_definition))
+        cursor.old result cursor.new }
+    ensures goes_on { OnOk result (is_failed cursor.new.scanner ≡ false) }
 {
     let model = parse_model(cursor, alloc)?;
     cursor.expect_rparen(alloc)?;
     Ok(Def::Model(model))
 }
 
-#[tactic(auto, unfolding(crate::specs::DefinitionReaders::as_definition, crate::specs::DefinitionReaders::closed))]
 #[inline(never)]
 fn parse_state_def(cursor: &mut Cursor, alloc: Global) -> Result<Def, Stop>
-    ensures same { source cursor.new ≡ source cursor.old }
-    ensures gives { Gives definition_of
-        (closed (as_definition state state_definition) (tokens cursor.old)) result cursor.new }
-    ensures goes_on { OnOk result (is_failed cursor.new.lexer ≡ false) }
+    ensures reads { ReadsOff definition_of (closed (as_definition state state_definition))
+        cursor.old result cursor.new }
+    ensures goes_on { OnOk result (is_failed cursor.new.scanner ≡ false) }
 {
     let state = parse_state(cursor, alloc)?;
     cursor.expect_rparen(alloc)?;
     Ok(Def::State(state))
 }
 
-#[tactic(auto, unfolding(crate::specs::DefinitionReaders::as_definition, crate::specs::DefinitionReaders::closed))]
 #[inline(never)]
 fn parse_form_def(cursor: &mut Cursor, alloc: Global) -> Result<Def, Stop>
-    ensures same { source cursor.new ≡ source cursor.old }
-    ensures gives { Gives definition_of
-        (closed (as_definition form form_definition) (tokens cursor.old)) result cursor.new }
-    ensures goes_on { OnOk result (is_failed cursor.new.lexer ≡ false) }
+    ensures reads { ReadsOff definition_of (closed (as_definition form form_definition)) cursor.old
+        result cursor.new }
+    ensures goes_on { OnOk result (is_failed cursor.new.scanner ≡ false) }
 {
     let form = parse_form(cursor, alloc)?;
     cursor.expect_rparen(alloc)?;
     Ok(Def::Form(form))
 }
 
-#[tactic(auto, unfolding(crate::specs::DefinitionReaders::as_definition, crate::specs::DefinitionReaders::closed))]
 #[inline(never)]
 fn parse_instantiation_def(cursor: &mut Cursor, alloc: Global) -> Result<Def, Stop>
-    ensures same { source cursor.new ≡ source cursor.old }
-    ensures gives { Gives definition_of
-        (closed (as_definition instantiation instantiation_of_term) (tokens cursor.old)) result cursor.new }
-    ensures goes_on { OnOk result (is_failed cursor.new.lexer ≡ false) }
+    ensures reads { ReadsOff definition_of (closed (as_definition instantiation
+        instantiation_of_term)) cursor.old result cursor.new }
+    ensures goes_on { OnOk result (is_failed cursor.new.scanner ≡ false) }
 {
     let instantiation = parse_instantiation(cursor, alloc)?;
     cursor.expect_rparen(alloc)?;
     Ok(Def::Instantiation(instantiation))
 }
 
-#[tactic(auto, unfolding(crate::specs::DefinitionReaders::as_definition, crate::specs::DefinitionReaders::closed))]
 #[inline(never)]
 fn parse_rule_def(cursor: &mut Cursor, alloc: Global) -> Result<Def, Stop>
-    ensures same { source cursor.new ≡ source cursor.old }
-    ensures gives { Gives definition_of
-        (closed (as_definition rule rule_definition) (tokens cursor.old)) result cursor.new }
-    ensures goes_on { OnOk result (is_failed cursor.new.lexer ≡ false) }
+    ensures reads { ReadsOff definition_of (closed (as_definition rule rule_definition)) cursor.old
+        result cursor.new }
+    ensures goes_on { OnOk result (is_failed cursor.new.scanner ≡ false) }
 {
     let rule = parse_rule(cursor, alloc)?;
     cursor.expect_rparen(alloc)?;
     Ok(Def::Rule(rule))
 }
 
-#[tactic(auto, unfolding(crate::specs::DefinitionReaders::as_definition, crate::specs::DefinitionReaders::closed))]
 #[inline(never)]
 fn parse_etor_def(cursor: &mut Cursor, alloc: Global) -> Result<Def, Stop>
-    ensures same { source cursor.new ≡ source cursor.old }
-    ensures gives { Gives definition_of
-        (closed (as_definition extractor extractor_definition) (tokens cursor.old)) result cursor.new }
-    ensures goes_on { OnOk result (is_failed cursor.new.lexer ≡ false) }
+    ensures reads { ReadsOff definition_of (closed (as_definition extractor extractor_definition))
+        cursor.old result cursor.new }
+    ensures goes_on { OnOk result (is_failed cursor.new.scanner ≡ false) }
 {
     let extractor = parse_etor(cursor, alloc)?;
     cursor.expect_rparen(alloc)?;
     Ok(Def::Extractor(extractor))
 }
 
-#[tactic(auto, unfolding(crate::specs::DefinitionReaders::as_definition, crate::specs::DefinitionReaders::closed))]
 #[inline(never)]
 fn parse_extern_def(cursor: &mut Cursor, alloc: Global) -> Result<Def, Stop>
-    ensures same { source cursor.new ≡ source cursor.old }
-    ensures gives { Gives definition_of
-        (closed (as_definition external extern_definition) (tokens cursor.old)) result cursor.new }
-    ensures goes_on { OnOk result (is_failed cursor.new.lexer ≡ false) }
+    ensures reads { ReadsOff definition_of (closed (as_definition external extern_definition))
+        cursor.old result cursor.new }
+    ensures goes_on { OnOk result (is_failed cursor.new.scanner ≡ false) }
 {
     let external = parse_extern(cursor, alloc)?;
     cursor.expect_rparen(alloc)?;
     Ok(Def::Extern(external))
 }
 
-#[tactic(auto, unfolding(crate::specs::DefinitionReaders::as_definition, crate::specs::DefinitionReaders::closed))]
 #[inline(never)]
 fn parse_converter_def(cursor: &mut Cursor, alloc: Global) -> Result<Def, Stop>
-    ensures same { source cursor.new ≡ source cursor.old }
-    ensures gives { Gives definition_of
-        (closed (as_definition converter conversion) (tokens cursor.old)) result cursor.new }
-    ensures goes_on { OnOk result (is_failed cursor.new.lexer ≡ false) }
+    ensures reads { ReadsOff definition_of (closed (as_definition converter conversion)) cursor.old
+        result cursor.new }
+    ensures goes_on { OnOk result (is_failed cursor.new.scanner ≡ false) }
 {
     let converter = parse_converter(cursor, alloc)?;
     cursor.expect_rparen(alloc)?;
     Ok(Def::Converter(converter))
 }
 
-/// Refuses this word, which stood at this place: it begins no definition.
+/// Refuses this word, which is at this place. It begins no definition.
 #[inline(never)]
 fn refuse_keyword(cursor: &Cursor, alloc: Global, place: Pos, word: &str) -> Result<Def, Stop>
     requires { IsPlace (source cursor.now) place }
-    ensures { Gives definition_of None result cursor.now }
+    ensures { MatchesRead definition_of None result cursor.now }
 {
     Err(cursor.refuse_at(place, format!(in alloc; "Unexpected identifier: {word}")))
 }

@@ -1,23 +1,21 @@
 //! Forms and instantiations.
+#![tactic(auto, unfolding(crate::specs::FormReaders::form_definition, crate::specs::FormReaders::signatures, crate::specs::FormReaders::signature, crate::specs::FormReaders::signature_inside, isle_parser_cursor::specs::Reading::in_parentheses, crate::specs::FormReaders::instantiation_of_term, crate::specs::FormReaders::tag, crate::specs::FormReaders::tag_inside))]
 
-ghost use Rattle.std.specs.Prelude.{◌≡◌};
 ghost use Rattle.isle_ast.specs.TreeView.{form_of, instantiation_of, signature_of, signatures_of};
 ghost use Rattle.isle_ast_names.specs.TreeView.{name_of, names_of};
 ghost use Rattle.isle_parser.specs.FormReaders.{form_definition, instantiation_of_term, signature};
 ghost use Rattle.isle_parser.specs.FormReaders.{signatures, tag};
-ghost use Rattle.isle_parser_cursor.specs.Outcomes.{Gives, source, tokens};
-ghost use Rattle.isle_parser_cursor.specs.Reading.{closes, many};
+ghost use Rattle.isle_parser_cursor.specs.Outcomes.{ReadsOff};
+ghost use Rattle.isle_parser_cursor.specs.Reading.{at_rparen, many};
 
 use isle_ast::ast::{Form, Instantiation, Signature};
-use isle_ast_names::ast::Ident;
+use isle_ast_names::Ident;
 use isle_parser_cursor::cursor::{Cursor, Stop};
-use isle_parser_specs::parser::models::{parse_tagged_type, parse_tagged_types};
+use isle_parser_verification::models::{parse_tagged_type, parse_tagged_types};
 use std::alloc::Global;
 
-#[tactic(auto, unfolding(crate::specs::FormReaders::form_definition))]
 pub(super) fn parse_form(cursor: &mut Cursor, alloc: Global) -> Result<Form, Stop>
-    ensures same { source cursor.new ≡ source cursor.old }
-    ensures gives { Gives form_of (form_definition (tokens cursor.old)) result cursor.new }
+    ensures { ReadsOff form_of form_definition cursor.old result cursor.new }
 {
     let pos = cursor.pos();
     let name = cursor.parse_ident(alloc)?;
@@ -30,11 +28,8 @@ pub(super) fn parse_form(cursor: &mut Cursor, alloc: Global) -> Result<Form, Sto
 }
 
 /// Signatures, up to the closing parenthesis.
-#[tactic(auto, unfolding(crate::specs::FormReaders::signatures))]
 fn parse_signatures(cursor: &mut Cursor, alloc: Global) -> Result<Vec<Signature>, Stop>
-    ensures same { source cursor.new ≡ source cursor.old }
-    ensures gives { Gives
-        (λ ss. signatures_of ss.items) (signatures (tokens cursor.old)) result cursor.new }
+    ensures { ReadsOff (λ ss. signatures_of ss.items) signatures cursor.old result cursor.new }
 {
     let mut signatures = Vec::new(alloc);
     while !cursor.is_rparen() {
@@ -43,10 +38,8 @@ fn parse_signatures(cursor: &mut Cursor, alloc: Global) -> Result<Vec<Signature>
     Ok(signatures)
 }
 
-#[tactic(auto, unfolding(crate::specs::FormReaders::signature, crate::specs::FormReaders::signature_inside, isle_parser_cursor::specs::Reading::in_parentheses))]
 fn parse_signature(cursor: &mut Cursor, alloc: Global) -> Result<Signature, Stop>
-    ensures same { source cursor.new ≡ source cursor.old }
-    ensures gives { Gives signature_of (signature (tokens cursor.old)) result cursor.new }
+    ensures { ReadsOff signature_of signature cursor.old result cursor.new }
 {
     cursor.expect_lparen(alloc)?;
     let pos = cursor.pos();
@@ -56,11 +49,8 @@ fn parse_signature(cursor: &mut Cursor, alloc: Global) -> Result<Signature, Stop
 }
 
 /// A term's own signatures where `(` is ahead, else a form and tags.
-#[tactic(auto, unfolding(crate::specs::FormReaders::instantiation_of_term))]
 pub(super) fn parse_instantiation(cursor: &mut Cursor, alloc: Global) -> Result<Instantiation, Stop>
-    ensures same { source cursor.new ≡ source cursor.old }
-    ensures gives { Gives instantiation_of (instantiation_of_term (tokens cursor.old)) result
-        cursor.new }
+    ensures { ReadsOff instantiation_of instantiation_of_term cursor.old result cursor.new }
 {
     let pos = cursor.pos();
     let term = cursor.parse_ident(alloc)?;
@@ -87,9 +77,7 @@ pub(super) fn parse_instantiation(cursor: &mut Cursor, alloc: Global) -> Result<
 
 /// Tags, up to the closing parenthesis.
 fn parse_tags(cursor: &mut Cursor, alloc: Global) -> Result<Vec<Ident>, Stop>
-    ensures same { source cursor.new ≡ source cursor.old }
-    ensures gives { Gives
-        (λ is. names_of is.items) (many closes tag (tokens cursor.old)) result cursor.new }
+    ensures { ReadsOff (λ is. names_of is.items) (many at_rparen tag) cursor.old result cursor.new }
 {
     let mut tags = Vec::new(alloc);
     while !cursor.is_rparen() {
@@ -98,10 +86,8 @@ fn parse_tags(cursor: &mut Cursor, alloc: Global) -> Result<Vec<Ident>, Stop>
     Ok(tags)
 }
 
-#[tactic(auto, unfolding(crate::specs::FormReaders::tag, crate::specs::FormReaders::tag_inside, isle_parser_cursor::specs::Reading::in_parentheses))]
 fn parse_tag(cursor: &mut Cursor, alloc: Global) -> Result<Ident, Stop>
-    ensures same { source cursor.new ≡ source cursor.old }
-    ensures gives { Gives name_of (tag (tokens cursor.old)) result cursor.new }
+    ensures { ReadsOff name_of tag cursor.old result cursor.new }
 {
     cursor.expect_lparen(alloc)?;
     let place = cursor.place();

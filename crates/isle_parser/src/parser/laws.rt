@@ -1,4 +1,4 @@
-//! Laws of the grammar that follow from how the parser reads.
+//! Laws of the grammar that follow from how the parser reads. A law runs no code.
 
 ghost use Rattle.std.specs.Prelude.{◌≡◌, ◌↔◌, ◌∷◌, List, false};
 ghost use Rattle.isle_ast.specs.Grammar.{SpellsDefinition, SpellsDefinitions};
@@ -9,10 +9,9 @@ ghost use Rattle.isle_ast_rules.specs.Tree.{Expression, PatternNode};
 ghost use Rattle.isle_base.specs.Place.{Placed};
 ghost use Rattle.isle_parser_cursor.specs.Reading.{is_ahead, is_at};
 
-/// A law, which runs no code: two patterns that the front of one list of tokens spells are the
-/// same, and the same tokens stand behind them, where neither could go on at an `@`. Without that,
-/// the tokens `x @ y` spell `x` at their front, and `x @ y` as well. Two expressions are the same
-/// whatever stands behind them.
+/// Two patterns that the front of one list of tokens spells are the same, and the same tokens
+/// follow them, where neither could go on at an `@`. Without that condition, the tokens `x @ y`
+/// spell both `x` at their front and `x @ y`. Two expressions are the same whatever follows them.
 pub fn patterns_and_expressions_are_read_once()
     ensures patterns { (p q : PatternNode) (all i j : List Placed) → is_ahead is_at i ≡ false
         → is_ahead is_at j ≡ false → SpellsPattern p all i → SpellsPattern q all j → (p ≡ q)
@@ -21,10 +20,9 @@ pub fn patterns_and_expressions_are_read_once()
         → SpellsExpression y all j → (x ≡ y) × (i ≡ j) }
 {}
 
-/// A law, which runs no code: a list of definitions is spelt exactly where a front of the tokens
-/// spells the first and the tokens behind it spell the others, and one definition at most is spelt
-/// by a front. So what `next_def` gives, one definition after another up to `None`, is the list
-/// that `parse` answers.
+/// A list of definitions is spelt exactly where a front of the tokens spells the first one and the
+/// tokens after it spell the others. A front spells at most one definition. So the definitions that
+/// `next_def` returns, up to `None`, are the list that `parse` returns.
 pub fn definitions_are_read_one_after_another()
     ensures one_after_another { (d : Definition) (ds : List Definition) (all : List Placed)
         → SpellsDefinitions (d ∷ ds) all ↔ ((rest : List Placed) × SpellsDefinition d all rest

@@ -1,22 +1,19 @@
 //! Models of the types and constants.
+#![tactic(auto, unfolding(crate::specs::ModelReaders::model_definition, isle_parser_cursor::specs::Reading::in_parentheses, crate::specs::ModelReaders::model_content_inside, crate::specs::ModelReaders::const_inside))]
 
-ghost use Rattle.std.specs.Prelude.{◌≡◌};
 ghost use Rattle.isle_ast.specs.TreeView.{model_content_of, model_definition_of};
 ghost use Rattle.isle_parser.specs.ModelReaders.{model_content_inside, model_definition};
-ghost use Rattle.isle_parser_cursor.specs.Outcomes.{Gives, IsPlace, source, tokens};
+ghost use Rattle.isle_parser_cursor.specs.Outcomes.{IsPlace, ReadsOff, source};
 
 use isle_ast::ast::{Model, ModelValue};
 use isle_base::lexer::Pos;
 use isle_parser_cursor::cursor::{Cursor, Stop};
-use isle_parser_specs::parser::models::parse_model_type;
-use isle_parser_specs::parser::specs::parse_spec_expr;
+use isle_parser_verification::models::parse_model_type;
+use isle_parser_verification::spec_expressions::parse_spec_expr;
 use std::alloc::Global;
 
-#[tactic(auto, unfolding(crate::specs::ModelReaders::model_definition, isle_parser_cursor::specs::Reading::in_parentheses))]
 pub(super) fn parse_model(cursor: &mut Cursor, alloc: Global) -> Result<Model, Stop>
-    ensures same { source cursor.new ≡ source cursor.old }
-    ensures gives { Gives model_definition_of (model_definition (tokens cursor.old)) result
-        cursor.new }
+    ensures { ReadsOff model_definition_of model_definition cursor.old result cursor.new }
 {
     let place = cursor.place();
     let name = cursor.parse_ident(alloc)?;
@@ -25,13 +22,10 @@ pub(super) fn parse_model(cursor: &mut Cursor, alloc: Global) -> Result<Model, S
     cursor.close(alloc, Model { name, val })
 }
 
-/// What a model is given by. The model's name stood at this place.
-#[tactic(auto, unfolding(crate::specs::ModelReaders::model_content_inside, crate::specs::ModelReaders::const_inside))]
+/// What a model is given by. The model's name is at this place.
 fn parse_model_value(cursor: &mut Cursor, alloc: Global, place: Pos) -> Result<ModelValue, Stop>
     requires { IsPlace (source cursor.old) place }
-    ensures same { source cursor.new ≡ source cursor.old }
-    ensures gives { Gives model_content_of (model_content_inside (tokens cursor.old)) result
-        cursor.new }
+    ensures { ReadsOff model_content_of model_content_inside cursor.old result cursor.new }
 {
     if cursor.eat_sym_str(alloc, "type")? {
         return Ok(ModelValue::TypeValue(parse_model_type(cursor, alloc)?));

@@ -1,24 +1,23 @@
 //! What is said of terms: declarations, attributes, externals and conversions; and pragmas.
+#![tactic(auto, unfolding(crate::specs::DefinitionReaders::declaration, crate::specs::DefinitionReaders::conversion, crate::specs::TermReaders::attribute, crate::specs::TermReaders::kind, isle_parser_cursor::specs::Reading::in_parentheses, crate::specs::TermReaders::kind_inside, crate::specs::TermReaders::veri_kind, crate::specs::TermReaders::extern_definition, crate::specs::TermReaders::extern_etor, crate::specs::TermReaders::extern_constant))]
 
 ghost use Rattle.std.specs.Prelude.{◌≡◌, IfErr, map};
-ghost use Rattle.isle_ast.specs.TreeView.{conversion_of, declaration_of, attribute_of, extern_of};
+ghost use Rattle.isle_ast.specs.TreeView.{attribute_of, conversion_of, declaration_of, extern_of};
 ghost use Rattle.isle_ast.specs.TreeView.{kind_of};
 ghost use Rattle.isle_parser.specs.DefinitionReaders.{conversion, declaration, pragma};
 ghost use Rattle.isle_parser.specs.TermReaders.{attribute, extern_constant, extern_definition};
 ghost use Rattle.isle_parser.specs.TermReaders.{extern_etor, kind, kind_inside, veri_kind};
-ghost use Rattle.isle_parser_cursor.specs.Outcomes.{Gives, IsPlace, source, tokens, Stops};
-ghost use Rattle.isle_parser_cursor.specs.Reading.{closes, many};
+ghost use Rattle.isle_parser_cursor.specs.Outcomes.{IsPlace, ReadsOff, Stops, source, tokens};
+ghost use Rattle.isle_parser_cursor.specs.Reading.{at_rparen, many};
 
 use isle_ast::ast::{Attr, AttrKind, AttrTarget, Converter, Decl, Extern, Pragma};
 use isle_base::lexer::Pos;
 use isle_parser_cursor::cursor::{Cursor, Stop};
-use isle_parser_rules::parser::names::parse_const;
+use isle_parser_rules::names::parse_const;
 use std::alloc::Global;
 
-#[tactic(auto, unfolding(crate::specs::DefinitionReaders::declaration))]
 pub(super) fn parse_decl(cursor: &mut Cursor, alloc: Global) -> Result<Decl, Stop>
-    ensures same { source cursor.new ≡ source cursor.old }
-    ensures gives { Gives declaration_of (declaration (tokens cursor.old)) result cursor.new }
+    ensures { ReadsOff declaration_of declaration cursor.old result cursor.new }
 {
     let pos = cursor.pos();
 
@@ -43,10 +42,8 @@ pub(super) fn parse_decl(cursor: &mut Cursor, alloc: Global) -> Result<Decl, Sto
     })
 }
 
-#[tactic(auto, unfolding(crate::specs::DefinitionReaders::conversion))]
 pub(super) fn parse_converter(cursor: &mut Cursor, alloc: Global) -> Result<Converter, Stop>
-    ensures same { source cursor.new ≡ source cursor.old }
-    ensures gives { Gives conversion_of (conversion (tokens cursor.old)) result cursor.new }
+    ensures { ReadsOff conversion_of conversion cursor.old result cursor.new }
 {
     let pos = cursor.pos();
     let inner_ty = cursor.parse_ident(alloc)?;
@@ -71,10 +68,8 @@ pub(super) fn parse_pragma(cursor: &mut Cursor, alloc: Global) -> Result<Pragma,
     Err(cursor.refuse_at(place, format!(in alloc; "Unknown pragma '{pragma}'")))
 }
 
-#[tactic(auto, unfolding(crate::specs::TermReaders::attribute))]
 pub(super) fn parse_attr(cursor: &mut Cursor, alloc: Global) -> Result<Attr, Stop>
-    ensures same { source cursor.new ≡ source cursor.old }
-    ensures gives { Gives attribute_of (attribute (tokens cursor.old)) result cursor.new }
+    ensures { ReadsOff attribute_of attribute cursor.old result cursor.new }
 {
     let pos = cursor.pos();
     let rule = cursor.eat_sym_str(alloc, "rule")?;
@@ -90,9 +85,8 @@ pub(super) fn parse_attr(cursor: &mut Cursor, alloc: Global) -> Result<Attr, Sto
 
 /// What attributes say, up to the closing parenthesis.
 fn parse_attr_kinds(cursor: &mut Cursor, alloc: Global) -> Result<Vec<AttrKind>, Stop>
-    ensures same { source cursor.new ≡ source cursor.old }
-    ensures gives { Gives
-        (λ ks. map kind_of ks.items) (many closes kind (tokens cursor.old)) result cursor.new }
+    ensures { ReadsOff (λ ks. map kind_of ks.items) (many at_rparen kind) cursor.old result
+        cursor.new }
 {
     let mut kinds = Vec::new(alloc);
     while !cursor.is_rparen() {
@@ -101,20 +95,16 @@ fn parse_attr_kinds(cursor: &mut Cursor, alloc: Global) -> Result<Vec<AttrKind>,
     Ok(kinds)
 }
 
-#[tactic(auto, unfolding(crate::specs::TermReaders::kind, isle_parser_cursor::specs::Reading::in_parentheses))]
 fn parse_attr_kind(cursor: &mut Cursor, alloc: Global) -> Result<AttrKind, Stop>
-    ensures same { source cursor.new ≡ source cursor.old }
-    ensures gives { Gives kind_of (kind (tokens cursor.old)) result cursor.new }
+    ensures { ReadsOff kind_of kind cursor.old result cursor.new }
 {
     cursor.expect_lparen(alloc)?;
     let kind = parse_attr_kind_inside(cursor, alloc)?;
     cursor.close(alloc, kind)
 }
 
-#[tactic(auto, unfolding(crate::specs::TermReaders::kind_inside))]
 fn parse_attr_kind_inside(cursor: &mut Cursor, alloc: Global) -> Result<AttrKind, Stop>
-    ensures same { source cursor.new ≡ source cursor.old }
-    ensures gives { Gives kind_of (kind_inside (tokens cursor.old)) result cursor.new }
+    ensures { ReadsOff kind_of kind_inside cursor.old result cursor.new }
 {
     let place = cursor.place();
     let word = cursor.expect_word(alloc)?;
@@ -125,10 +115,8 @@ fn parse_attr_kind_inside(cursor: &mut Cursor, alloc: Global) -> Result<AttrKind
     }
 }
 
-#[tactic(auto, unfolding(crate::specs::TermReaders::veri_kind))]
 fn parse_attr_kind_veri(cursor: &mut Cursor, alloc: Global) -> Result<AttrKind, Stop>
-    ensures same { source cursor.new ≡ source cursor.old }
-    ensures gives { Gives kind_of (veri_kind (tokens cursor.old)) result cursor.new }
+    ensures { ReadsOff kind_of veri_kind cursor.old result cursor.new }
 {
     let place = cursor.place();
     let word = cursor.expect_word(alloc)?;
@@ -142,10 +130,8 @@ fn parse_attr_kind_veri(cursor: &mut Cursor, alloc: Global) -> Result<AttrKind, 
     }
 }
 
-#[tactic(auto, unfolding(crate::specs::TermReaders::extern_definition))]
 pub(super) fn parse_extern(cursor: &mut Cursor, alloc: Global) -> Result<Extern, Stop>
-    ensures same { source cursor.new ≡ source cursor.old }
-    ensures gives { Gives extern_of (extern_definition (tokens cursor.old)) result cursor.new }
+    ensures { ReadsOff extern_of extern_definition cursor.old result cursor.new }
 {
     let place = cursor.place();
     let pos = cursor.pos();
@@ -157,9 +143,8 @@ pub(super) fn parse_extern(cursor: &mut Cursor, alloc: Global) -> Result<Extern,
     parse_extern_extractor(cursor, alloc, place, pos)
 }
 
-/// An external extractor at this position, or else a constant. What stands behind `extern` stood at
+/// An external extractor at this position, or else a constant. What follows `extern` is at
 /// `place`.
-#[tactic(auto, unfolding(crate::specs::TermReaders::extern_etor))]
 fn parse_extern_extractor(
     cursor: &mut Cursor,
     alloc: Global,
@@ -167,8 +152,7 @@ fn parse_extern_extractor(
     pos: Pos,
 ) -> Result<Extern, Stop>
     requires { IsPlace (source cursor.old) place }
-    ensures same { source cursor.new ≡ source cursor.old }
-    ensures gives { Gives extern_of (extern_etor pos (tokens cursor.old)) result cursor.new }
+    ensures { ReadsOff extern_of (extern_etor pos) cursor.old result cursor.new }
 {
     if cursor.eat_sym_str(alloc, "extractor")? {
         let infallible = cursor.eat_sym_str(alloc, "infallible")?;
@@ -184,12 +168,10 @@ fn parse_extern_extractor(
     parse_extern_const(cursor, alloc, place)
 }
 
-/// An external constant. What stands behind `extern` stood at `place`.
-#[tactic(auto, unfolding(crate::specs::TermReaders::extern_constant))]
+/// An external constant. What follows `extern` is at `place`.
 fn parse_extern_const(cursor: &mut Cursor, alloc: Global, place: Pos) -> Result<Extern, Stop>
     requires { IsPlace (source cursor.old) place }
-    ensures same { source cursor.new ≡ source cursor.old }
-    ensures gives { Gives extern_of (extern_constant (tokens cursor.old)) result cursor.new }
+    ensures { ReadsOff extern_of extern_constant cursor.old result cursor.new }
 {
     if cursor.eat_sym_str(alloc, "const")? {
         let pos = cursor.pos();
@@ -201,7 +183,8 @@ fn parse_extern_const(cursor: &mut Cursor, alloc: Global, place: Pos) -> Result<
         place,
         String::from_str(
             alloc,
-            "Invalid extern: must be (extern constructor ...), (extern extractor ...) or (extern const ...)",
+            "Invalid extern: must be (extern constructor ...), (extern extractor ...) or \
+             (extern const ...)",
         ),
     ))
 }

@@ -1,4 +1,5 @@
 //! Definitions of types.
+#![tactic(auto, unfolding(crate::specs::TypeReaders::type_definition, crate::specs::TypeReaders::modifier, crate::specs::TypeReaders::type_content, isle_parser_cursor::specs::Reading::in_parentheses, crate::specs::TypeReaders::content_inside, crate::specs::TypeReaders::enum_content, crate::specs::TypeReaders::struct_content, crate::specs::TypeReaders::variant, crate::specs::TypeReaders::variant_inside, crate::specs::TypeReaders::fields, crate::specs::TypeReaders::named_field, crate::specs::TypeReaders::field_inside, isle_parser_cursor::specs::NameReaders::name))]
 
 ghost use Rattle.std.specs.Prelude.{◌≡◌, IfOk, map, string_bytes};
 ghost use Rattle.isle_ast.specs.TreeView.{fields_of, indexed_field_of, named_field_of};
@@ -9,9 +10,9 @@ ghost use Rattle.isle_parser.specs.TypeReaders.{content_inside, fields, indexed,
 ghost use Rattle.isle_parser.specs.TypeReaders.{modifier, modifier_flags, named_field};
 ghost use Rattle.isle_parser.specs.TypeReaders.{named_fields, type_content, type_definition};
 ghost use Rattle.isle_parser.specs.TypeReaders.{variant};
-ghost use Rattle.isle_parser_cursor.specs.Outcomes.{Gives, IsPlace, source, tokens};
+ghost use Rattle.isle_parser_cursor.specs.Outcomes.{IsPlace, ReadsOff, source};
 ghost use Rattle.isle_parser_cursor.specs.NameReaders.{name};
-ghost use Rattle.isle_parser_cursor.specs.Reading.{closes, many};
+ghost use Rattle.isle_parser_cursor.specs.Reading.{at_rparen, many};
 
 use isle_ast::ast::{
     Fields, StructField, StructFields, TupleField, TupleFields, TypeDef, TypeValue, Variant,
@@ -20,11 +21,8 @@ use isle_base::lexer::Pos;
 use isle_parser_cursor::cursor::{Cursor, Stop};
 use std::alloc::Global;
 
-#[tactic(auto, unfolding(crate::specs::TypeReaders::type_definition))]
 pub(super) fn parse_type(cursor: &mut Cursor, alloc: Global) -> Result<TypeDef, Stop>
-    ensures same { source cursor.new ≡ source cursor.old }
-    ensures gives { Gives type_definition_of (type_definition (tokens cursor.old)) result
-        cursor.new }
+    ensures { ReadsOff type_definition_of type_definition cursor.old result cursor.new }
 {
     let pos = cursor.pos();
     let name = cursor.parse_ident(alloc)?;
@@ -41,8 +39,7 @@ pub(super) fn parse_type(cursor: &mut Cursor, alloc: Global) -> Result<TypeDef, 
 
 /// The modifiers of a type: whether `extern` is among them, and `nodebug`.
 fn parse_modifiers(cursor: &mut Cursor, alloc: Global) -> Result<(bool, bool), Stop>
-    ensures same { source cursor.new ≡ source cursor.old }
-    ensures gives { Gives (λ set. set) (modifier_flags (tokens cursor.old)) result cursor.new }
+    ensures { ReadsOff (λ set. set) modifier_flags cursor.old result cursor.new }
 {
     let mut is_extern = false;
     let mut is_nodebug = false;
@@ -54,10 +51,8 @@ fn parse_modifiers(cursor: &mut Cursor, alloc: Global) -> Result<(bool, bool), S
     Ok((is_extern, is_nodebug))
 }
 
-#[tactic(auto, unfolding(crate::specs::TypeReaders::modifier))]
 fn parse_modifier(cursor: &mut Cursor, alloc: Global) -> Result<String, Stop>
-    ensures same { source cursor.new ≡ source cursor.old }
-    ensures gives { Gives string_bytes (modifier (tokens cursor.old)) result cursor.new }
+    ensures { ReadsOff string_bytes modifier cursor.old result cursor.new }
 {
     let word = cursor.expect_symbol(alloc)?;
     if word.as_str() == "extern" || word.as_str() == "nodebug" {
@@ -69,10 +64,8 @@ fn parse_modifier(cursor: &mut Cursor, alloc: Global) -> Result<String, Stop>
     ))
 }
 
-#[tactic(auto, unfolding(crate::specs::TypeReaders::type_content, isle_parser_cursor::specs::Reading::in_parentheses))]
 fn parse_typevalue(cursor: &mut Cursor, alloc: Global) -> Result<TypeValue, Stop>
-    ensures same { source cursor.new ≡ source cursor.old }
-    ensures gives { Gives type_content_of (type_content (tokens cursor.old)) result cursor.new }
+    ensures { ReadsOff type_content_of type_content cursor.old result cursor.new }
 {
     let place = cursor.place();
     let pos = cursor.pos();
@@ -81,8 +74,7 @@ fn parse_typevalue(cursor: &mut Cursor, alloc: Global) -> Result<TypeValue, Stop
     cursor.close(alloc, ty)
 }
 
-/// `primitive`, `enum` or `struct`, and what stands behind the word. The `(` stood at this place.
-#[tactic(auto, unfolding(crate::specs::TypeReaders::content_inside, crate::specs::TypeReaders::enum_content, crate::specs::TypeReaders::struct_content))]
+/// `primitive`, `enum` or `struct`, and what follows the word. The `(` is at this place.
 fn parse_typevalue_inside(
     cursor: &mut Cursor,
     alloc: Global,
@@ -90,9 +82,7 @@ fn parse_typevalue_inside(
     pos: Pos,
 ) -> Result<TypeValue, Stop>
     requires { IsPlace (source cursor.old) place }
-    ensures same { source cursor.new ≡ source cursor.old }
-    ensures gives { Gives type_content_of (content_inside pos (tokens cursor.old)) result
-        cursor.new }
+    ensures { ReadsOff type_content_of (content_inside pos) cursor.old result cursor.new }
 {
     if cursor.eat_sym_str(alloc, "primitive")? {
         return Ok(TypeValue::Primitive(cursor.parse_ident(alloc)?, pos));
@@ -108,9 +98,7 @@ fn parse_typevalue_inside(
 
 /// Variants, up to the closing parenthesis.
 fn parse_type_variants(cursor: &mut Cursor, alloc: Global) -> Result<Vec<Variant>, Stop>
-    ensures same { source cursor.new ≡ source cursor.old }
-    ensures gives { Gives
-        (λ vs. map variant_of vs.items) (many closes variant (tokens cursor.old)) result
+    ensures { ReadsOff (λ vs. map variant_of vs.items) (many at_rparen variant) cursor.old result
         cursor.new }
 {
     let mut variants = Vec::new(alloc);
@@ -120,10 +108,8 @@ fn parse_type_variants(cursor: &mut Cursor, alloc: Global) -> Result<Vec<Variant
     Ok(variants)
 }
 
-#[tactic(auto, unfolding(crate::specs::TypeReaders::variant, crate::specs::TypeReaders::variant_inside, isle_parser_cursor::specs::Reading::in_parentheses))]
 fn parse_type_variant(cursor: &mut Cursor, alloc: Global) -> Result<Variant, Stop>
-    ensures same { source cursor.new ≡ source cursor.old }
-    ensures gives { Gives variant_of (variant (tokens cursor.old)) result cursor.new }
+    ensures { ReadsOff variant_of variant cursor.old result cursor.new }
 {
     let pos = cursor.pos();
     if cursor.is_sym() {
@@ -139,10 +125,8 @@ fn parse_type_variant(cursor: &mut Cursor, alloc: Global) -> Result<Variant, Sto
     cursor.close(alloc, Variant { name, fields, pos })
 }
 
-#[tactic(auto, unfolding(crate::specs::TypeReaders::fields))]
 fn parse_fields(cursor: &mut Cursor, alloc: Global) -> Result<Fields, Stop>
-    ensures same { source cursor.new ≡ source cursor.old }
-    ensures gives { Gives fields_of (fields (tokens cursor.old)) result cursor.new }
+    ensures { ReadsOff fields_of fields cursor.old result cursor.new }
 {
     if cursor.is_rparen() {
         return Ok(Fields::Unit);
@@ -154,8 +138,7 @@ fn parse_fields(cursor: &mut Cursor, alloc: Global) -> Result<Fields, Stop>
 }
 
 fn parse_struct_fields(cursor: &mut Cursor, alloc: Global) -> Result<StructFields, Stop>
-    ensures same { source cursor.new ≡ source cursor.old }
-    ensures gives { Gives struct_fields_of (named_fields (tokens cursor.old)) result cursor.new }
+    ensures { ReadsOff struct_fields_of named_fields cursor.old result cursor.new }
 {
     let pos = cursor.pos();
     let mut fields = Vec::new(alloc);
@@ -165,10 +148,8 @@ fn parse_struct_fields(cursor: &mut Cursor, alloc: Global) -> Result<StructField
     Ok(StructFields { fields, pos })
 }
 
-#[tactic(auto, unfolding(crate::specs::TypeReaders::named_field, crate::specs::TypeReaders::field_inside, isle_parser_cursor::specs::Reading::in_parentheses))]
 fn parse_struct_field(cursor: &mut Cursor, alloc: Global) -> Result<StructField, Stop>
-    ensures same { source cursor.new ≡ source cursor.old }
-    ensures gives { Gives named_field_of (named_field (tokens cursor.old)) result cursor.new }
+    ensures { ReadsOff named_field_of named_field cursor.old result cursor.new }
 {
     let pos = cursor.pos();
     cursor.expect_lparen(alloc)?;
@@ -178,8 +159,7 @@ fn parse_struct_field(cursor: &mut Cursor, alloc: Global) -> Result<StructField,
 }
 
 fn parse_tuple_fields(cursor: &mut Cursor, alloc: Global) -> Result<TupleFields, Stop>
-    ensures same { source cursor.new ≡ source cursor.old }
-    ensures gives { Gives tuple_fields_of (indexed_fields (tokens cursor.old)) result cursor.new }
+    ensures { ReadsOff tuple_fields_of indexed_fields cursor.old result cursor.new }
 {
     let pos = cursor.pos();
     let mut fields = Vec::new(alloc);
@@ -191,10 +171,8 @@ fn parse_tuple_fields(cursor: &mut Cursor, alloc: Global) -> Result<TupleFields,
 }
 
 /// A field that is known by its place, counted from 0.
-#[tactic(auto, unfolding(isle_parser_cursor::specs::NameReaders::name))]
 fn parse_tuple_field(cursor: &mut Cursor, alloc: Global, index: usize) -> Result<TupleField, Stop>
-    ensures same { source cursor.new ≡ source cursor.old }
-    ensures gives { Gives (λ f. name_of f.ty) (name (tokens cursor.old)) result cursor.new }
+    ensures reads { ReadsOff (λ f. name_of f.ty) name cursor.old result cursor.new }
     ensures field { IfOk result (λ f. indexed_field_of f ≡ indexed index (name_of f.ty)) }
 {
     let pos = cursor.pos();

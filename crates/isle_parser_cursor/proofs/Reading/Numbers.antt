@@ -2,13 +2,14 @@
 use Rattle.std.proofs.Common.{◌≡◌, ℕ, ◌<◌, true, cond, List, [], ◌∷◌, length, Some, None, refl, sym, ◌∙◌, arith}
 use Rattle.std.specs.Prelude.{ℤ, pos, negsuc, ◌^◌}
 use Rattle.std.proofs.lemmas.Bool.{lt-ltb, ltb-true}
-use Rattle.isle_base_errors.specs.declared.pos.Pos.{Pos}
+use Rattle.isle_base_source.specs.declared.pos.Pos.{Pos}
 use Rattle.isle_base.specs.Place.{Placed}
 use Rattle.isle_base.specs.Token.{Tok, lparen, rparen, symbol, integer, at_sign}
 use Rattle.isle_ast_names.specs.Numbers.{IsSigned}
 use Rattle.isle_ast_names.specs.Words.{SpellsToken}
+use Rattle.isle_ast_names.specs.WritableDeciders.{is_signed}
 use Rattle.isle_parser_cursor.specs.Reading.{is_ahead}
-use Rattle.isle_parser_cursor.specs.NumberReaders.{is_signed, signed}
+use Rattle.isle_parser_cursor.specs.NumberReaders.{integer_within}
 use Rattle.isle_parser_cursor.proofs.Readers.{begins_node, bind_some, chosen_some, done, done_is}
 
 -- an integer that a sign and this many bits hold
@@ -26,8 +27,8 @@ signed_test bits (negsuc n) h = lt-ltb n (2 ^ bits) h
 same_integer : {x y : ℤ} → done x ≡ done y → x ≡ y
 same_integer e = cc
 
-signed_at : (bits : ℕ) (place : Pos) (t : Tok) (xs rest : List Placed) (value : ℤ) → signed bits (record { pos = place; token = t } ∷ xs) ≡ Some (value, rest) → SpellsSigned bits value (record { pos = place; token = t } ∷ xs) rest
-unfolding signed
+signed_at : (bits : ℕ) (place : Pos) (t : Tok) (xs rest : List Placed) (value : ℤ) → integer_within bits (record { pos = place; token = t } ∷ xs) ≡ Some (value, rest) → SpellsSigned bits value (record { pos = place; token = t } ∷ xs) rest
+unfolding integer_within
 signed_at bits place lparen xs rest value e = absurd cc
 signed_at bits place rparen xs rest value e = absurd cc
 signed_at bits place (symbol t) xs rest value e = absurd cc
@@ -39,13 +40,13 @@ signed_at bits place (integer v) xs rest value e =
     rw (sym behind.1, sym is) (test_signed bits v c.0, (place, refl))
 signed_at bits place at_sign xs rest value e = absurd cc
 
-pub signed_sound : (bits : ℕ) (all rest : List Placed) (value : ℤ) → signed bits all ≡ Some (value, rest) → SpellsSigned bits value all rest
-unfolding signed
+pub signed_sound : (bits : ℕ) (all rest : List Placed) (value : ℤ) → integer_within bits all ≡ Some (value, rest) → SpellsSigned bits value all rest
+unfolding integer_within
 signed_sound bits [] rest value e = absurd cc
 signed_sound bits (x ∷ xs) rest value e = signed_at bits x.pos x.token xs rest value e
 
-pub signed_complete : (bits : ℕ) (value : ℤ) (all rest : List Placed) → SpellsSigned bits value all rest → signed bits all ≡ Some (value, rest)
-unfolding signed
+pub signed_complete : (bits : ℕ) (value : ℤ) (all rest : List Placed) → SpellsSigned bits value all rest → integer_within bits all ≡ Some (value, rest)
+unfolding integer_within
 signed_complete bits value all rest h = rw (h.1.1, signed_test bits value h.0) refl
 
 pub signed_begins : (bits : ℕ) (value : ℤ) (all rest : List Placed) → SpellsSigned bits value all rest → (is_ahead begins_node all ≡ true) × (length rest < length all)

@@ -1,15 +1,16 @@
 //! Identifiers.
+#![tactic(auto, unfolding(crate::specs::NameReaders::name, crate::specs::NameReaders::optional_name, crate::specs::NameReaders::names, crate::specs::Reading::in_parentheses, crate::specs::NameReaders::head_inside))]
 
 ghost use Rattle.std.specs.Prelude.{◌≡◌};
 ghost use Rattle.isle_ast_names.specs.Identifier.{is_identifier};
 ghost use Rattle.isle_ast_names.specs.TreeView.{name_of, names_of, optional_name_of};
-ghost use Rattle.isle_parser_cursor.specs.Outcomes.{Gives, IsPlace, Judges, source, tokens};
+ghost use Rattle.isle_parser_cursor.specs.Outcomes.{IsPlace, PassesOrRefuses, ReadsOff, source};
 ghost use Rattle.isle_parser_cursor.specs.NameReaders.{name, names, optional_name, head_inside};
-ghost use Rattle.isle_parser_cursor.specs.Reading.{closes, in_parentheses, many};
+ghost use Rattle.isle_parser_cursor.specs.Reading.{at_rparen, in_parentheses, many};
 
 use crate::cursor::{Cursor, Stop, refuse};
-use isle_ast_names::ast::Ident;
-use isle_ast_names::ast::identifier::{begins_identifier, is_identifier};
+use isle_ast_names::Ident;
+use isle_ast_names::identifier::{begins_identifier, is_identifier};
 use isle_base::lexer::Pos;
 use std::alloc::{AllocError, Global};
 
@@ -17,7 +18,7 @@ impl<'src> Cursor<'src> {
     /// Refuses the text of the symbol at this place where it isn't an identifier.
     pub fn check_identifier(&self, alloc: Global, place: Pos, text: &str) -> Result<(), Stop>
         requires { IsPlace (source self.now) place }
-        ensures { Judges (is_identifier text.now) (source self.now) result }
+        ensures { PassesOrRefuses (is_identifier text.now) (source self.now) result }
     {
         if is_identifier(text) {
             return Ok(());
@@ -26,10 +27,8 @@ impl<'src> Cursor<'src> {
     }
 
     /// An identifier, at its position.
-    #[tactic(auto, unfolding(crate::specs::NameReaders::name))]
     pub fn parse_ident(&mut self, alloc: Global) -> Result<Ident, Stop>
-        ensures same { source self.new ≡ source self.old }
-        ensures gives { Gives name_of (name (tokens self.old)) result self.new }
+        ensures { ReadsOff name_of name self.old result self.new }
     {
         let place = self.place();
         let pos = self.pos();
@@ -40,7 +39,6 @@ impl<'src> Cursor<'src> {
 
     /// An identifier where a symbol is ahead. A symbol that isn't one is refused at this place, as
     /// an invalid `what`.
-    #[tactic(auto, unfolding(crate::specs::NameReaders::optional_name, crate::specs::NameReaders::name))]
     pub fn parse_optional_ident(
         &mut self,
         alloc: Global,
@@ -48,8 +46,7 @@ impl<'src> Cursor<'src> {
         what: &str,
     ) -> Result<Option<Ident>, Stop>
         requires { IsPlace (source self.old) place }
-        ensures same { source self.new ≡ source self.old }
-        ensures gives { Gives optional_name_of (optional_name (tokens self.old)) result self.new }
+        ensures { ReadsOff optional_name_of optional_name self.old result self.new }
     {
         if !self.is_sym() {
             return Ok(None);
@@ -65,9 +62,8 @@ impl<'src> Cursor<'src> {
 
     /// Identifiers, up to the closing parenthesis.
     pub fn parse_ident_list(&mut self, alloc: Global) -> Result<Vec<Ident>, Stop>
-        ensures same { source self.new ≡ source self.old }
-        ensures gives { Gives
-            (λ is. names_of is.items) (many closes name (tokens self.old)) result self.new }
+        ensures { ReadsOff (λ is. names_of is.items) (many at_rparen name) self.old result
+            self.new }
     {
         let mut idents = Vec::new(alloc);
         while !self.is_rparen() {
@@ -77,23 +73,18 @@ impl<'src> Cursor<'src> {
     }
 
     /// Identifiers in parentheses.
-    #[tactic(auto, unfolding(crate::specs::NameReaders::names, crate::specs::Reading::in_parentheses))]
     pub fn parse_idents(&mut self, alloc: Global) -> Result<Vec<Ident>, Stop>
-        ensures same { source self.new ≡ source self.old }
-        ensures gives { Gives (λ is. names_of is.items) (names (tokens self.old)) result self.new }
+        ensures { ReadsOff (λ is. names_of is.items) names self.old result self.new }
     {
         self.expect_lparen(alloc)?;
         let idents = self.parse_ident_list(alloc)?;
         self.close(alloc, idents)
     }
 
-    /// A name and names behind it, in parentheses.
-    #[tactic(auto, unfolding(crate::specs::NameReaders::head_inside, crate::specs::Reading::in_parentheses))]
+    /// A name and names after it, in parentheses.
     pub fn parse_headed(&mut self, alloc: Global) -> Result<(Ident, Vec<Ident>), Stop>
-        ensures same { source self.new ≡ source self.old }
-        ensures gives { Gives
-            (λ h. (name_of h.0, names_of h.1.items)) (in_parentheses head_inside (tokens self.old))
-            result self.new }
+        ensures { ReadsOff (λ h. (name_of h.0, names_of h.1.items)) (in_parentheses head_inside)
+            self.old result self.new }
     {
         self.expect_lparen(alloc)?;
         let name = self.parse_ident(alloc)?;

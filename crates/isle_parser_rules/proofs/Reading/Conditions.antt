@@ -1,10 +1,10 @@
--- The right side of a rule is read as the grammar spells it: conditions, and the expression behind them.
+-- The right side of a rule is read as the grammar spells it: conditions, and the expression after them.
 use Rattle.std.proofs.Common.{◌≡◌, ◌⊎◌, inl, inr, ℕ, zero, suc, ◌≤◌, ◌<◌, true, false, List, [], ◌∷◌, length, Some, refl, sym, ap, subst, ◌∙◌, arith, rules}
 use Rattle.std.specs.Prelude.{codes}
 use Rattle.std.specs.Str.{bytes_eq, is_utf8}
 use Rattle.std.proofs.lemmas.Str.{chars-IsAscii}
 use Rattle.std.proofs.lemmas.Bool.{and_right}
-use Rattle.isle_base_errors.specs.declared.pos.Pos.{Pos}
+use Rattle.isle_base_source.specs.declared.pos.Pos.{Pos}
 use Rattle.isle_base.specs.Place.{Placed}
 use Rattle.isle_ast_names.specs.Identifier.{is_identifier}
 use Rattle.isle_ast_rules.specs.Tree.{PatternNode, wildcard_pattern, Expression, term_expression, var_expression, bool_expression, int_expression, constant_expression, let_expression, Condition}
@@ -12,10 +12,11 @@ use Rattle.isle_ast_names.specs.Words.{BeginsAt, SpellsAll, InParentheses, Behin
 use Rattle.isle_ast_rules.specs.ExpressionGrammar.{SpellsExpression}
 use Rattle.isle_ast_rules.specs.RuleGrammar.{SpellsMatch, SpellsTest, SpellsCondition, is_if_expression}
 use Rattle.isle_parser_cursor.proofs.SameBytes.{other_bytes}
-use Rattle.isle_parser_cursor.specs.Reading.{Reader, ◌>>=◌, is_ahead, is_lparen, is_word, closes, pos_ahead, in_parentheses}
+use Rattle.isle_parser_cursor.specs.Reading.{Reader, ◌>>=◌, is_ahead, is_lparen, is_symbol_of, at_rparen, pos_ahead, in_parentheses}
 use Rattle.isle_parser_rules.specs.ExpressionReaders.{expression, expression_inside}
 use Rattle.isle_parser_rules.specs.PatternReaders.{pattern}
-use Rattle.isle_parser_rules.specs.RuleReaders.{RulePart, condition_part, expression_part, condition_match, condition_test, test_or_expression, match_or_expression, condition_or_expression, RightSide, behind_condition, behind_part, right_side_within, right_side}
+use Rattle.isle_parser_rules.specs.RuleReaders.{RulePart, condition_part, expression_part, condition_match, condition_test, test_or_expression, match_or_expression, condition_or_expression, RightSide}
+use Rattle.isle_parser_rules.specs.RuleReaders.{behind_condition, behind_part, right_side_within, right_side}
 use Rattle.isle_parser_cursor.proofs.ReaderSteps.{made_of, word_ahead, word_shorter, flag_read, flag_absent, choice, position_of, begins_here, opens}
 use Rattle.isle_parser_cursor.proofs.Flags.{name_ahead}
 use Rattle.isle_parser_rules.proofs.Reading.Expressions.{SpellsInside, from_inside, to_inside, expression_begins, expression_sound, expression_complete, expression_inside_sound, expression_inside_complete}
@@ -89,7 +90,7 @@ part_begins : Begins SpellsPart
 part_begins (condition_part c) all rest h = condition_begins c all rest h
 part_begins (expression_part x) all rest h = expression_begins x all rest h.0
 
--- what stands in the parentheses of a part whose `(` stands at this place
+-- what is in the parentheses of a part whose `(` is at this place
 abbrev SpellsPartInside : Pos → RulePart → List Placed → List Placed → Type 0
 SpellsPartInside place (condition_part c) inner close =
     BehindWord (codes "if-let") (SpellsMatchAt c) inner close ⊎ BehindWord (codes "if") (SpellsTestAt c) inner close
@@ -103,7 +104,7 @@ from_part (condition_part c) all rest h =
     ]
 from_part (expression_part x) all rest h = (from_inside x all rest (h.0, h.1, h.2, h.3.0, h.4), h.3.1)
 
-no_if : (place : Pos) (x : Expression) (all rest : List Placed) → is_ahead (is_word (codes "if")) all ≡ false → SpellsInside place x all rest → is_if_expression x ≡ false
+no_if : (place : Pos) (x : Expression) (all rest : List Placed) → is_ahead (is_symbol_of (codes "if")) all ≡ false → SpellsInside place x all rest → is_if_expression x ≡ false
 no_if place (term_expression n _ _) all rest e h = sym (name_ahead (codes "if") n all h.2 h.3) ∙ e
 no_if place (var_expression _ _) all rest e h = absurd h
 no_if place (bool_expression _ _) all rest e h = absurd h
@@ -162,8 +163,8 @@ no_if_let t e =
     let other : is_identifier t ≡ false = ap is_identifier is ∙ if_let_no_name in
     absurd cc)
 
--- the word that stands behind the `(` of an expression is no keyword of a condition
-no_keyword : (place : Pos) (x : Expression) (all rest : List Placed) → SpellsInside place x all rest → is_if_expression x ≡ false → (is_ahead (is_word (codes "if-let")) all ≡ false) × (is_ahead (is_word (codes "if")) all ≡ false)
+-- the word that stands after the `(` of an expression is no keyword of a condition
+no_keyword : (place : Pos) (x : Expression) (all rest : List Placed) → SpellsInside place x all rest → is_if_expression x ≡ false → (is_ahead (is_symbol_of (codes "if-let")) all ≡ false) × (is_ahead (is_symbol_of (codes "if")) all ≡ false)
 no_keyword place (term_expression n _ _) all rest h e =
     (name_ahead (codes "if-let") n all h.2 h.3 ∙ no_if_let n.text h.3.0, name_ahead (codes "if") n all h.2 h.3 ∙ e)
 no_keyword place (var_expression _ _) all rest h e = absurd h
@@ -172,7 +173,7 @@ no_keyword place (int_expression _ _) all rest h e = absurd h
 no_keyword place (constant_expression _ _) all rest h e = absurd h
 no_keyword place (let_expression _ _ _) all rest h e = (word_ahead h.3 (codes "if-let"), word_ahead h.3 (codes "if"))
 
-part_inside_complete : (place : Pos) (p : RulePart) (all rest : List Placed) → closes rest ≡ true → SpellsPartInside place p all rest → match_or_expression place all ≡ Some (p, rest)
+part_inside_complete : (place : Pos) (p : RulePart) (all rest : List Placed) → at_rparen rest ≡ true → SpellsPartInside place p all rest → match_or_expression place all ≡ Some (p, rest)
 unfolding match_or_expression test_or_expression
 part_inside_complete place (condition_part c) all rest closed h =
     elim h [
@@ -237,7 +238,8 @@ within_sound (suc n) all rest r e =
     let p = bind_some (condition_or_expression all) (λ x. behind_part (right_side_within n) x.0 x.1) (r, rest) e in
     behind_sound (right_side_within n) (within_sound n) p.0.0 all p.0.1 rest r (part_sound all p.0.1 p.0.0 p.1) p.2
 
-within_complete : (n : ℕ) (cs : List Condition) (x : Expression) (all mid rest : List Placed) → length all < n → SpellsAll SpellsCondition cs all mid → SpellsExpression x mid rest → is_if_expression x ≡ false → right_side_within n all ≡ Some ((cs, x), rest)
+within_complete : (n : ℕ) (cs : List Condition) (x : Expression) (all mid rest : List Placed) → length all < n → SpellsAll SpellsCondition cs all mid → SpellsExpression x mid rest
+    → is_if_expression x ≡ false → right_side_within n all ≡ Some ((cs, x), rest)
 unfolding right_side_within
 within_complete zero cs x all mid rest below h spelt e = absurd (omega arith)
 within_complete (suc n) [] x all mid rest below h spelt e =
@@ -284,7 +286,7 @@ first_step : (all : List Placed) → right_side all ≡ (condition_or_expression
 unfolding right_side right_side_within
 first_step all = refl
 
--- a right side is a part, and what stands behind it
+-- a right side is a part, and what follows it
 pub right_side_step : (all : List Placed) → right_side all ≡ (condition_or_expression all >>= λ x. behind_part right_side x.0 x.1)
 right_side_step all =
     first_step all

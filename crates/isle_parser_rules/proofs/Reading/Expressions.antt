@@ -2,47 +2,48 @@
 use Rattle.std.proofs.Common.{◌≡◌, inl, inr, ℕ, zero, suc, ◌≤◌, ◌<◌, Bool, true, false, not, ◌&&◌, ◌||◌, cond, List, [], ◌∷◌, length, Option, Some, None, refl, sym, ap, subst, ◌∙◌, arith}
 use Rattle.std.specs.Prelude.{ℤ, codes}
 use Rattle.std.specs.Str.{bytes_eq}
-use Rattle.isle_base_errors.specs.declared.pos.Pos.{Pos}
+use Rattle.isle_base_source.specs.declared.pos.Pos.{Pos}
 use Rattle.isle_base.specs.Place.{Placed}
 use Rattle.isle_base.specs.Token.{symbol, is_int, is_symbol}
 use Rattle.isle_ast_names.specs.Identifier.{is_identifier}
 use Rattle.isle_ast_names.specs.Tree.{Name}
-use Rattle.isle_ast_rules.specs.Tree.{Expression, term_expression, var_expression, bool_expression, int_expression, constant_expression, let_expression, ExpressionRow, no_expression, more_expression, LetRow, no_let, more_let}
+use Rattle.isle_ast_rules.specs.Tree.{Expression, term_expression, var_expression, bool_expression, int_expression, constant_expression, let_expression, ExpressionList, no_expression, more_expression, LetList, no_let, more_let}
 use Rattle.isle_ast_names.specs.Words.{SpellsWord, BeginsAt, SpellsAll, InParentheses, SpellsName, is_constant}
 use Rattle.isle_ast_rules.specs.ExpressionGrammar.{is_variable_of_expressions, SpellsExpressionVariable, SpellsExpression, SpellsExpressions, SpellsLets}
-use Rattle.isle_ast_rules.specs.TreeView.{SingleLet, expression_row_of, let_row_of}
-use Rattle.isle_parser_cursor.specs.Reading.{Reader, ◌>>=◌, is_ahead, is_lparen, is_word, closes, pos_ahead, in_parentheses, many, is_const}
-use Rattle.isle_parser_rules.specs.ExpressionReaders.{let_inside, let_definition, let_definitions, expression_inside, variable_expression, false_expression, word_expression, symbol_expression, expression_step, expression_within, expression}
+use Rattle.isle_ast_rules.specs.TreeView.{SingleLet, expression_list_of, let_list_of}
+use Rattle.isle_parser_cursor.specs.Reading.{Reader, ◌>>=◌, is_ahead, is_lparen, is_symbol_of, at_rparen, pos_ahead, in_parentheses, many, is_const}
+use Rattle.isle_parser_rules.specs.ExpressionReaders.{let_inside, let_definition, let_definitions, expression_inside, variable_expression, false_expression, word_expression, symbol_expression}
+use Rattle.isle_parser_rules.specs.ExpressionReaders.{expression_layer, expression_within, expression}
 use Rattle.isle_parser_cursor.specs.NameReaders.{name}
-use Rattle.isle_parser_cursor.specs.NumberReaders.{signed}
+use Rattle.isle_parser_cursor.specs.NumberReaders.{integer_within}
 use Rattle.isle_parser_rules.specs.ConstantReaders.{constant}
-use Rattle.isle_parser_cursor.proofs.ReaderSteps.{nothing, made_of, word_ahead, word_at, word_shorter, flag_read, flag_absent, choice, row_sound, position_of, begins_here, name_at, opened_at, at_place, from_place}
+use Rattle.isle_parser_cursor.proofs.ReaderSteps.{nothing, made_of, word_ahead, word_at, word_shorter, flag_read, flag_absent, choice, list_sound, position_of, begins_here, name_at, opened_at, at_place, from_place}
 use Rattle.isle_parser_cursor.proofs.Flags.{name_ahead}
 use Rattle.isle_parser_cursor.proofs.Names.{name_sound, name_read, name_begins}
-use Rattle.isle_parser_cursor.proofs.Readers.{agree, Sound, Begins, Shrinks, begins_node, bind_some, chosen, done_is, moved, shrinks, many_complete, stopping_closes, row_shorter, parentheses_sound, parentheses_complete, parentheses_begin}
+use Rattle.isle_parser_cursor.proofs.Readers.{agree, Sound, Begins, Shrinks, begins_node, bind_some, chosen, done_is, moved, shrinks, many_complete, stopping_closes, list_shorter, parentheses_sound, parentheses_complete, parentheses_begin}
 use Rattle.isle_parser_cursor.proofs.Reading.Numbers.{signed_sound, signed_complete, signed_begins}
 use Rattle.isle_parser_rules.proofs.Reading.Patterns.{const_ahead, constant_at}
 use Rattle.isle_parser_rules.proofs.Reading.Constants.{constant_sound, constant_complete}
 
--- ---- rows
+-- ---- lists
 
-expressions_spelt : (xs : List Expression) (all rest : List Placed) → SpellsAll SpellsExpression xs all rest → SpellsExpressions (expression_row_of xs) all rest
+expressions_spelt : (xs : List Expression) (all rest : List Placed) → SpellsAll SpellsExpression xs all rest → SpellsExpressions (expression_list_of xs) all rest
 expressions_spelt [] all rest h = h
 expressions_spelt (x ∷ xs) all rest h = (h.0, h.1, expressions_spelt xs h.0 rest h.2)
 
-abbrev listed : ExpressionRow → List Expression
+abbrev listed : ExpressionList → List Expression
 listed no_expression = []
 listed (more_expression x xs) = x ∷ listed xs
 
-row_listed : (xs : ExpressionRow) → expression_row_of (listed xs) ≡ xs
-row_listed no_expression = refl
-row_listed (more_expression x xs) = ap (more_expression x) (row_listed xs)
+list_listed : (xs : ExpressionList) → expression_list_of (listed xs) ≡ xs
+list_listed no_expression = refl
+list_listed (more_expression x xs) = ap (more_expression x) (list_listed xs)
 
-expressions_listed : (xs : ExpressionRow) (all rest : List Placed) → SpellsExpressions xs all rest → SpellsAll SpellsExpression (listed xs) all rest
+expressions_listed : (xs : ExpressionList) (all rest : List Placed) → SpellsExpressions xs all rest → SpellsAll SpellsExpression (listed xs) all rest
 expressions_listed no_expression all rest h = h
 expressions_listed (more_expression x xs) all rest h = (h.0, h.1, expressions_listed xs h.0 rest h.2)
 
--- what stands in the parentheses of a definition
+-- what is in the parentheses of a definition
 abbrev SpellsLetInside : SingleLet → List Placed → List Placed → Type 0
 SpellsLetInside d inner close =
     (behind_var behind_ty : List Placed) × SpellsName d.var inner behind_var × SpellsName d.ty behind_var behind_ty × SpellsExpression d.val behind_ty close
@@ -56,19 +57,19 @@ let_pos d = d.pos
 abbrev SpellsLetAt : Pos → SingleLet → List Placed → List Placed → Type 0
 SpellsLetAt place d inner close = (d.pos ≡ place) × SpellsLetInside d inner close
 
-lets_spelt : (ds : List SingleLet) (all rest : List Placed) → SpellsAll SpellsLet ds all rest → SpellsLets (let_row_of ds) all rest
+lets_spelt : (ds : List SingleLet) (all rest : List Placed) → SpellsAll SpellsLet ds all rest → SpellsLets (let_list_of ds) all rest
 lets_spelt [] all rest h = h
 lets_spelt (d ∷ ds) all rest h = (h.0, h.1, lets_spelt ds h.0 rest h.2)
 
-abbrev listed_lets : LetRow → List SingleLet
+abbrev listed_lets : LetList → List SingleLet
 listed_lets no_let = []
 listed_lets (more_let var ty val pos ds) = record { var = var; ty = ty; val = val; pos = pos } ∷ listed_lets ds
 
-lets_row : (ds : LetRow) → let_row_of (listed_lets ds) ≡ ds
-lets_row no_let = refl
-lets_row (more_let var ty val pos ds) = ap (more_let var ty val pos) (lets_row ds)
+lets_list : (ds : LetList) → let_list_of (listed_lets ds) ≡ ds
+lets_list no_let = refl
+lets_list (more_let var ty val pos ds) = ap (more_let var ty val pos) (lets_list ds)
 
-lets_listed : (ds : LetRow) (all rest : List Placed) → SpellsLets ds all rest → SpellsAll SpellsLet (listed_lets ds) all rest
+lets_listed : (ds : LetList) (all rest : List Placed) → SpellsLets ds all rest → SpellsAll SpellsLet (listed_lets ds) all rest
 lets_listed no_let all rest h = h
 lets_listed (more_let var ty val pos ds) all rest h = (h.0, h.1, lets_listed ds h.0 rest h.2)
 
@@ -84,14 +85,14 @@ mutual
   expression_begins (let_expression ds x pos) all rest h =
       parentheses_begin _ (λ i j b.
       let body = b.2 in
-      let row = parentheses_begin (SpellsLets ds) (λ k l r. lets_shorter ds k l r) b.0 body.0 body.1 in
-      omega (arith, word_shorter (codes "let") i b.0 b.1, row.1, (expression_begins x body.0 j body.2).1)) all rest h.1
+      let list = parentheses_begin (SpellsLets ds) (λ k l r. lets_shorter ds k l r) b.0 body.0 body.1 in
+      omega (arith, word_shorter (codes "let") i b.0 b.1, list.1, (expression_begins x body.0 j body.2).1)) all rest h.1
 
-  expressions_shorter : (xs : ExpressionRow) (all rest : List Placed) → SpellsExpressions xs all rest → length rest ≤ length all
+  expressions_shorter : (xs : ExpressionList) (all rest : List Placed) → SpellsExpressions xs all rest → length rest ≤ length all
   expressions_shorter no_expression all rest h = rw h (omega arith)
   expressions_shorter (more_expression x xs) all rest h = omega (arith, (expression_begins x all h.0 h.1).1, expressions_shorter xs h.0 rest h.2)
 
-  lets_shorter : (ds : LetRow) (all rest : List Placed) → SpellsLets ds all rest → length rest ≤ length all
+  lets_shorter : (ds : LetList) (all rest : List Placed) → SpellsLets ds all rest → length rest ≤ length all
   lets_shorter no_let all rest h = rw h (omega arith)
   lets_shorter (more_let var ty val pos ds) all rest h =
       let one = parentheses_begin _ (λ i j b. omega (arith, (name_begins var i b.0 b.2).1, (name_begins ty b.0 b.1 b.3).1, (expression_begins val b.1 j b.4).1)) all h.0 h.1.1 in
@@ -136,12 +137,12 @@ let_definition_sound read sound all rest d e =
 lets_sound : (read : Reader Expression) → Sound SpellsExpression read → (all rest : List Placed) (ds : List SingleLet) → let_definitions read all ≡ Some (ds, rest) → InParentheses (SpellsAll SpellsLet ds) all rest
 unfolding let_definitions
 lets_sound read sound all rest ds e =
-    parentheses_sound (SpellsAll SpellsLet) (many closes (let_definition read)) (row_sound SpellsLet (let_definition read) (let_definition_sound read sound)) all rest ds e
+    parentheses_sound (SpellsAll SpellsLet) (many at_rparen (let_definition read)) (list_sound SpellsLet (let_definition read) (let_definition_sound read sound)) all rest ds e
 
-row_in_parentheses : (ds : List SingleLet) (all rest : List Placed) → InParentheses (SpellsAll SpellsLet ds) all rest → InParentheses (SpellsLets (let_row_of ds)) all rest
-row_in_parentheses ds all rest h = (h.0, h.1, h.2, lets_spelt ds h.0 h.1 h.3, h.4)
+list_in_parentheses : (ds : List SingleLet) (all rest : List Placed) → InParentheses (SpellsAll SpellsLet ds) all rest → InParentheses (SpellsLets (let_list_of ds)) all rest
+list_in_parentheses ds all rest h = (h.0, h.1, h.2, lets_spelt ds h.0 h.1 h.3, h.4)
 
--- what stands in the parentheses of an expression whose `(` stands at this place
+-- what is in the parentheses of an expression whose `(` is at this place
 abbrev pub SpellsInside : Pos → Expression → List Placed → List Placed → Type 0
 SpellsInside place (term_expression n xs pos) all rest =
     (pos ≡ place) × (bytes_eq n.text (codes "let") ≡ false) × (mid : List Placed) × SpellsName n all mid × SpellsExpressions xs mid rest
@@ -192,21 +193,23 @@ to_inside (let_expression ds x pos) all rest e h =
 inside_sound : (place : Pos) (read : Reader Expression) → Sound SpellsExpression read → Sound (SpellsInside place) (expression_inside place read)
 unfolding expression_inside
 inside_sound place read sound all rest x e =
-    elim (choice (codes "let") (λ i. let_definitions read i >>= λ ds. read ds.1 >>= λ body. Some (let_expression (let_row_of ds.0) body.0 place, body.1)) (λ i. name i >>= λ n. many closes read n.1 >>= λ xs. Some (term_expression n.0 (expression_row_of xs.0) place, xs.1)) all e) [
+    elim (choice (codes "let") (λ i. let_definitions read i >>= λ ds. read ds.1 >>= λ body. Some (let_expression (let_list_of ds.0) body.0 place, body.1))
+    (λ i. name i >>= λ n. many at_rparen read n.1 >>= λ xs. Some (term_expression n.0 (expression_list_of xs.0) place, xs.1)) all e) [
       | inl h ↦
-          let ds = bind_some (let_definitions read h.0) (λ ds. read ds.1 >>= λ body. Some (let_expression (let_row_of ds.0) body.0 place, body.1)) (x, rest) h.2 in
-          let body = made_of (λ (body : Expression). let_expression (let_row_of ds.0.0) body place) ds.2 in
-          let row = row_in_parentheses ds.0.0 h.0 ds.0.1 (lets_sound read sound h.0 ds.0.1 ds.0.0 ds.1) in
-          subst (λ (x : Expression). SpellsInside place x all rest) body.2 (refl, h.0, ds.0.1, h.1, row, sound ds.0.1 rest body.0 body.1)
+          let ds = bind_some (let_definitions read h.0) (λ ds. read ds.1 >>= λ body. Some (let_expression (let_list_of ds.0) body.0 place, body.1)) (x, rest) h.2 in
+          let body = made_of (λ (body : Expression). let_expression (let_list_of ds.0.0) body place) ds.2 in
+          let list = list_in_parentheses ds.0.0 h.0 ds.0.1 (lets_sound read sound h.0 ds.0.1 ds.0.0 ds.1) in
+          subst (λ (x : Expression). SpellsInside place x all rest) body.2 (refl, h.0, ds.0.1, h.1, list, sound ds.0.1 rest body.0 body.1)
       | inr h ↦
-          let n = bind_some (name all) (λ n. many closes read n.1 >>= λ xs. Some (term_expression n.0 (expression_row_of xs.0) place, xs.1)) (x, rest) h.1 in
-          let xs = made_of (λ (xs : List Expression). term_expression n.0.0 (expression_row_of xs) place) n.2 in
+          let n = bind_some (name all) (λ n. many at_rparen read n.1 >>= λ xs. Some (term_expression n.0 (expression_list_of xs.0) place, xs.1)) (x, rest) h.1 in
+          let xs = made_of (λ (xs : List Expression). term_expression n.0.0 (expression_list_of xs) place) n.2 in
           let spelt = name_sound all n.0.1 n.0.0 n.1 in
-          let row = expressions_spelt xs.0 n.0.1 rest (row_sound SpellsExpression read sound n.0.1 rest xs.0 xs.1) in
-          subst (λ (x : Expression). SpellsInside place x all rest) xs.2 (refl, sym (name_ahead (codes "let") n.0.0 all n.0.1 spelt) ∙ h.0, n.0.1, spelt, row)
+          let list = expressions_spelt xs.0 n.0.1 rest (list_sound SpellsExpression read sound n.0.1 rest xs.0 xs.1) in
+          subst (λ (x : Expression). SpellsInside place x all rest) xs.2 (refl, sym (name_ahead (codes "let") n.0.0 all n.0.1 spelt) ∙ h.0, n.0.1, spelt, list)
     ]
 
-variable_sound : (all rest : List Placed) (x : Expression) → is_ahead is_const all ≡ false → is_ahead (is_word (codes "true")) all ≡ false → is_ahead (is_word (codes "false")) all ≡ false → variable_expression (pos_ahead all) all ≡ Some (x, rest) → SpellsExpression x all rest
+variable_sound : (all rest : List Placed) (x : Expression) → is_ahead is_const all ≡ false → is_ahead (is_symbol_of (codes "true")) all ≡ false → is_ahead (is_symbol_of (codes "false")) all ≡ false
+    → variable_expression (pos_ahead all) all ≡ Some (x, rest) → SpellsExpression x all rest
 unfolding variable_expression
 variable_sound all rest x a b c e =
     let n = made_of (λ (n : Name). var_expression n (pos_ahead all)) e in
@@ -238,16 +241,18 @@ symbol_sound all rest x e =
       | inr h ↦ words_sound all rest x h.0 h.1
     ]
 
-step_sound : (read : Reader Expression) → Sound SpellsExpression read → Sound SpellsExpression (expression_step read)
-unfolding expression_step
+step_sound : (read : Reader Expression) → Sound SpellsExpression read → Sound SpellsExpression (expression_layer read)
+unfolding expression_layer
 step_sound read sound all rest x e =
-    elim (chosen (is_ahead is_lparen all) (in_parentheses (expression_inside (pos_ahead all) read) all) (cond (is_ahead is_symbol all) (symbol_expression (pos_ahead all) all) (cond (is_ahead is_int all) (signed 127 all >>= λ n. Some (int_expression n.0 (pos_ahead all), n.1)) None)) (Some (x, rest)) e) [
+    elim (chosen (is_ahead is_lparen all) (in_parentheses (expression_inside (pos_ahead all) read) all)
+    (cond (is_ahead is_symbol all) (symbol_expression (pos_ahead all) all) (cond (is_ahead is_int all) (integer_within 127 all >>= λ n. Some (int_expression n.0 (pos_ahead all), n.1)) None))
+    (Some (x, rest)) e) [
       | inl h ↦ from_inside x all rest (parentheses_sound (SpellsInside (pos_ahead all)) (expression_inside (pos_ahead all) read) (inside_sound (pos_ahead all) read sound) all rest x h.1)
       | inr h ↦
-          elim (chosen (is_ahead is_symbol all) (symbol_expression (pos_ahead all) all) (cond (is_ahead is_int all) (signed 127 all >>= λ n. Some (int_expression n.0 (pos_ahead all), n.1)) None) (Some (x, rest)) h.1) [
+          elim (chosen (is_ahead is_symbol all) (symbol_expression (pos_ahead all) all) (cond (is_ahead is_int all) (integer_within 127 all >>= λ n. Some (int_expression n.0 (pos_ahead all), n.1)) None) (Some (x, rest)) h.1) [
             | inl g ↦ symbol_sound all rest x g.1
             | inr g ↦
-                elim (chosen (is_ahead is_int all) (signed 127 all >>= λ n. Some (int_expression n.0 (pos_ahead all), n.1)) None (Some (x, rest)) g.1) [
+                elim (chosen (is_ahead is_int all) (integer_within 127 all >>= λ n. Some (int_expression n.0 (pos_ahead all), n.1)) None (Some (x, rest)) g.1) [
                   | inl f ↦
                       let n = made_of (λ (n : ℤ). int_expression n (pos_ahead all)) f.1 in
                       let spelt = signed_sound 127 all rest n.0 n.1 in
@@ -263,9 +268,9 @@ step_sound read sound all rest x e =
 abbrev Fits : ℕ → Reader Expression → Type 0
 Fits n read = (x : Expression) (all rest : List Placed) → length all < n → SpellsExpression x all rest → read all ≡ Some (x, rest)
 
-row_complete : (n : ℕ) (read : Reader Expression) → Fits n read → (xs : ExpressionRow) (all rest : List Placed) → length all < n → closes rest ≡ true → SpellsExpressions xs all rest → many closes read all ≡ Some (listed xs, rest)
-row_complete n read fits xs all rest below closed h =
-    many_complete SpellsExpression read closes n (λ x i j lt goes. fits x i j lt) expression_begins stopping_closes (listed xs) all rest below (expressions_listed xs all rest h) closed
+list_complete : (n : ℕ) (read : Reader Expression) → Fits n read → (xs : ExpressionList) (all rest : List Placed) → length all < n → at_rparen rest ≡ true → SpellsExpressions xs all rest → many at_rparen read all ≡ Some (listed xs, rest)
+list_complete n read fits xs all rest below closed h =
+    many_complete SpellsExpression read at_rparen n (λ x i j lt goes. fits x i j lt) expression_begins stopping_closes (listed xs) all rest below (expressions_listed xs all rest h) closed
 
 let_inside_complete : (n : ℕ) (read : Reader Expression) → Fits n read → (place : Pos) (d : SingleLet) (all rest : List Placed) → length all < n → SpellsLetAt place d all rest → let_inside place read all ≡ Some (d, rest)
 unfolding let_inside
@@ -279,37 +284,40 @@ let_inside_complete n read fits place d all rest below h =
 let_definition_complete : (n : ℕ) (read : Reader Expression) → Fits n read → (d : SingleLet) (all rest : List Placed) → length all < n → SpellsLet d all rest → let_definition read all ≡ Some (d, rest)
 unfolding let_definition
 let_definition_complete n read fits d all rest below h =
-    parentheses_complete (SpellsLetAt (pos_ahead all)) (let_inside (pos_ahead all) read) d all rest (λ i j lt closed. let_inside_complete n read fits (pos_ahead all) d i j (omega (arith, lt, below))) (from_place SpellsLetInside let_pos d all rest h.0 h.1)
+    parentheses_complete (SpellsLetAt (pos_ahead all)) (let_inside (pos_ahead all) read) d all rest (λ i j lt closed. let_inside_complete n read fits (pos_ahead all) d i j (omega (arith, lt, below)))
+    (from_place SpellsLetInside let_pos d all rest h.0 h.1)
 
-lets_complete : (n : ℕ) (read : Reader Expression) → Fits n read → (ds : LetRow) (all rest : List Placed) → length all < n → InParentheses (SpellsLets ds) all rest → let_definitions read all ≡ Some (listed_lets ds, rest)
+lets_complete : (n : ℕ) (read : Reader Expression) → Fits n read → (ds : LetList) (all rest : List Placed) → length all < n → InParentheses (SpellsLets ds) all rest → let_definitions read all ≡ Some (listed_lets ds, rest)
 unfolding let_definitions
 lets_complete n read fits ds all rest below h =
-    parentheses_complete (SpellsAll SpellsLet) (many closes (let_definition read)) (listed_lets ds) all rest (λ i j lt closed row.
-    many_complete SpellsLet (let_definition read) closes n (λ d k l less goes. let_definition_complete n read fits d k l less) let_begins stopping_closes (listed_lets ds) i j (omega (arith, lt, below)) row closed) (h.0, h.1, h.2, lets_listed ds h.0 h.1 h.3, h.4)
+    parentheses_complete (SpellsAll SpellsLet) (many at_rparen (let_definition read)) (listed_lets ds) all rest (λ i j lt closed list.
+    many_complete SpellsLet (let_definition read) at_rparen n (λ d k l less goes. let_definition_complete n read fits d k l less) let_begins stopping_closes (listed_lets ds) i j
+    (omega (arith, lt, below)) list closed) (h.0, h.1, h.2, lets_listed ds h.0 h.1 h.3, h.4)
 
-inside_complete : (n : ℕ) (read : Reader Expression) → Fits n read → (place : Pos) (x : Expression) (all rest : List Placed) → length all < n → closes rest ≡ true → SpellsInside place x all rest → expression_inside place read all ≡ Some (x, rest)
+inside_complete : (n : ℕ) (read : Reader Expression) → Fits n read → (place : Pos) (x : Expression) (all rest : List Placed) → length all < n → at_rparen rest ≡ true → SpellsInside place x all rest
+    → expression_inside place read all ≡ Some (x, rest)
 unfolding expression_inside
 inside_complete n read fits place (term_expression sym xs pos) all rest below closed h =
     let shorter : length h.2 < length all = (name_begins sym all h.2 h.3).1 in
-    let absent : is_ahead (is_word (codes "let")) all ≡ false = name_ahead (codes "let") sym all h.2 h.3 ∙ h.1 in
-    rw (flag_absent (codes "let") all absent, name_read sym all h.2 h.3, row_complete n read fits xs h.2 rest (omega arith) closed h.4, row_listed xs, h.0) refl
+    let absent : is_ahead (is_symbol_of (codes "let")) all ≡ false = name_ahead (codes "let") sym all h.2 h.3 ∙ h.1 in
+    rw (flag_absent (codes "let") all absent, name_read sym all h.2 h.3, list_complete n read fits xs h.2 rest (omega arith) closed h.4, list_listed xs, h.0) refl
 inside_complete n read fits place (var_expression _ _) all rest below closed h = absurd h
 inside_complete n read fits place (bool_expression _ _) all rest below closed h = absurd h
 inside_complete n read fits place (int_expression _ _) all rest below closed h = absurd h
 inside_complete n read fits place (constant_expression _ _) all rest below closed h = absurd h
 inside_complete n read fits place (let_expression ds x pos) all rest below closed h =
     let shorter : length h.1 < length all = word_shorter (codes "let") all h.1 h.3 in
-    let row = parentheses_begin (SpellsLets ds) (λ k l r. lets_shorter ds k l r) h.1 h.2 h.4 in
-    rw (flag_read (codes "let") all h.1 h.3, lets_complete n read fits ds h.1 h.2 (omega arith) h.4, fits x h.2 rest (omega (arith, row.1)) h.5, lets_row ds, h.0) refl
+    let list = parentheses_begin (SpellsLets ds) (λ k l r. lets_shorter ds k l r) h.1 h.2 h.4 in
+    rw (flag_read (codes "let") all h.1 h.3, lets_complete n read fits ds h.1 h.2 (omega arith) h.4, fits x h.2 rest (omega (arith, list.1)) h.5, lets_list ds, h.0) refl
 
-enclosed : (n : ℕ) (read : Reader Expression) → Fits n read → (x : Expression) (all rest : List Placed) → length all < suc n → InParentheses (SpellsInside (pos_ahead all) x) all rest → expression_step read all ≡ Some (x, rest)
-unfolding expression_step
+enclosed : (n : ℕ) (read : Reader Expression) → Fits n read → (x : Expression) (all rest : List Placed) → length all < suc n → InParentheses (SpellsInside (pos_ahead all) x) all rest → expression_layer read all ≡ Some (x, rest)
+unfolding expression_layer
 enclosed n read fits x all rest below h =
     let a : is_ahead is_lparen all ≡ true = rw h.2.1 refl in
     rw a (parentheses_complete (SpellsInside (pos_ahead all)) (expression_inside (pos_ahead all) read) x all rest (λ i j lt closed. inside_complete n read fits (pos_ahead all) x i j (omega (arith, lt, below)) closed) h)
 
-at_symbol : (read : Reader Expression) (t : List ℕ) (place : Pos) (all rest : List Placed) → all ≡ record { pos = place; token = symbol t } ∷ rest → expression_step read all ≡ symbol_expression (pos_ahead all) all
-unfolding expression_step
+at_symbol : (read : Reader Expression) (t : List ℕ) (place : Pos) (all rest : List Placed) → all ≡ record { pos = place; token = symbol t } ∷ rest → expression_layer read all ≡ symbol_expression (pos_ahead all) all
+unfolding expression_layer
 at_symbol read t place all rest e =
     let a : is_ahead is_lparen all ≡ false = rw e refl in
     let b : is_ahead is_symbol all ≡ true = rw e refl in
@@ -337,18 +345,19 @@ variable_read place n all rest h =
     let t = variable_tests n.text h.0 in
     let spelt : SpellsName n all rest = (t.0, h.1) in
     let a : is_ahead is_const all ≡ false = const_ahead h.1 ∙ t.1 in
-    let b : is_ahead (is_word (codes "true")) all ≡ false = name_ahead (codes "true") n all rest spelt ∙ t.2 in
-    let c : is_ahead (is_word (codes "false")) all ≡ false = name_ahead (codes "false") n all rest spelt ∙ t.3 in
+    let b : is_ahead (is_symbol_of (codes "true")) all ≡ false = name_ahead (codes "true") n all rest spelt ∙ t.2 in
+    let c : is_ahead (is_symbol_of (codes "false")) all ≡ false = name_ahead (codes "false") n all rest spelt ∙ t.3 in
     rw (a, flag_absent (codes "true") all b, flag_absent (codes "false") all c, name_read n all rest spelt) refl
 
 placed_there : (make : Pos → Expression) (pos : Pos) (all rest : List Placed) → BeginsAt pos all → ◌≡◌ {A = Option (Expression × List Placed)} (Some (make (pos_ahead all), rest)) (Some (make pos, rest))
 placed_there make pos all rest h = ap (λ (q : Pos). Some (make q, rest)) (position_of h)
 
-pub int_read : (read : Reader Expression) (all rest : List Placed) (val : ℤ) → is_ahead is_lparen all ≡ false → is_ahead is_symbol all ≡ false → is_ahead is_int all ≡ true → signed 127 all ≡ Some (val, rest) → expression_step read all ≡ Some (int_expression val (pos_ahead all), rest)
-unfolding expression_step
+pub int_read : (read : Reader Expression) (all rest : List Placed) (val : ℤ) → is_ahead is_lparen all ≡ false → is_ahead is_symbol all ≡ false → is_ahead is_int all ≡ true
+    → integer_within 127 all ≡ Some (val, rest) → expression_layer read all ≡ Some (int_expression val (pos_ahead all), rest)
+unfolding expression_layer
 int_read read all rest val a b c e = rw (a, b, c, e) refl
 
-step_complete : (n : ℕ) (read : Reader Expression) → Fits n read → Fits (suc n) (expression_step read)
+step_complete : (n : ℕ) (read : Reader Expression) → Fits n read → Fits (suc n) (expression_layer read)
 step_complete n read fits (term_expression v xs pos) all rest below h =
     enclosed n read fits (term_expression v xs pos) all rest below (to_inside (term_expression v xs pos) all rest refl h)
 step_complete n read fits (var_expression v pos) all rest below h =
@@ -394,9 +403,9 @@ unfolding expression
 expression_complete x all rest h = within_complete (suc (length all)) x all rest (omega arith) h
 
 -- an expression is one layer, whose parts are expressions
-pub expression-unfolds : (all : List Placed) → expression all ≡ expression_step expression all
+pub expression-unfolds : (all : List Placed) → expression all ≡ expression_layer expression all
 expression-unfolds all =
-    agree (expression all) (expression_step expression all)
+    agree (expression all) (expression_layer expression all)
     (λ x e. step_complete (length all) expression (λ y i j below. expression_complete y i j) x.0 all x.1 (omega arith) (expression_sound all x.1 x.0 e))
     (λ x e. expression_complete x.0 all x.1 (step_sound expression expression_sound all x.1 x.0 e))
 
@@ -410,11 +419,11 @@ let_definition_shrinks = shrinks SpellsLet (let_definition expression) (let_defi
 
 pub let_definitions_shrink : Shrinks (let_definitions expression)
 let_definitions_shrink all rest ds e =
-    (parentheses_begin (SpellsAll SpellsLet ds) (λ i j b. row_shorter SpellsLet let_begins ds i j b) all rest (lets_sound expression expression_sound all rest ds e)).1
+    (parentheses_begin (SpellsAll SpellsLet ds) (λ i j b. list_shorter SpellsLet let_begins ds i j b) all rest (lets_sound expression expression_sound all rest ds e)).1
 
--- what is read behind a `(`
+-- what is read after a `(`
 pub expression_inside_sound : (place : Pos) → Sound (SpellsInside place) (expression_inside place expression)
 expression_inside_sound place = inside_sound place expression expression_sound
 
-pub expression_inside_complete : (place : Pos) (x : Expression) (all rest : List Placed) → closes rest ≡ true → SpellsInside place x all rest → expression_inside place expression all ≡ Some (x, rest)
+pub expression_inside_complete : (place : Pos) (x : Expression) (all rest : List Placed) → at_rparen rest ≡ true → SpellsInside place x all rest → expression_inside place expression all ≡ Some (x, rest)
 expression_inside_complete place x all rest closed h = inside_complete (suc (length all)) expression (λ y i j below. expression_complete y i j) place x all rest (omega arith) closed h

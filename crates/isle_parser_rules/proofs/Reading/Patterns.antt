@@ -2,43 +2,43 @@
 use Rattle.std.proofs.Common.{◌≡◌, inl, inr, ℕ, zero, suc, ◌≤◌, ◌<◌, Bool, true, false, not, ◌&&◌, ◌||◌, cond, List, [], ◌∷◌, length, Option, Some, None, refl, sym, ap, subst, ◌∙◌, arith}
 use Rattle.std.specs.Prelude.{ℤ, codes}
 use Rattle.std.specs.Str.{bytes_eq}
-use Rattle.isle_base_errors.specs.declared.pos.Pos.{Pos}
+use Rattle.isle_base_source.specs.declared.pos.Pos.{Pos}
 use Rattle.isle_base.specs.Place.{Placed}
 use Rattle.isle_base.specs.Token.{symbol, at_sign, is_int, is_symbol}
 use Rattle.isle_ast_names.specs.Identifier.{is_identifier}
 use Rattle.isle_ast_names.specs.Tree.{Name}
-use Rattle.isle_ast_rules.specs.Tree.{PatternNode, var_pattern, bind_pattern, bool_pattern, int_pattern, constant_pattern, term_pattern, wildcard_pattern, and_pattern, macro_arg_pattern, PatternRow, no_pattern, more_pattern}
+use Rattle.isle_ast_rules.specs.Tree.{PatternNode, var_pattern, bind_pattern, bool_pattern, int_pattern, constant_pattern, term_pattern, wildcard_pattern, and_pattern, macro_arg_pattern, PatternList, no_pattern, more_pattern}
 use Rattle.isle_ast_names.specs.Words.{SpellsToken, SpellsWord, BeginsAt, SpellsAll, InParentheses, SpellsName, is_constant}
 use Rattle.isle_ast_rules.specs.PatternGrammar.{is_variable_of_patterns, SpellsVariable, SpellsPattern, SpellsPatterns}
-use Rattle.isle_ast_rules.specs.TreeView.{pattern_row_of}
-use Rattle.isle_parser_cursor.specs.Reading.{Reader, ◌>>=◌, is_at, is_ahead, is_lparen, is_word, closes, expect, pos_ahead, in_parentheses, many, is_const}
+use Rattle.isle_ast_rules.specs.TreeView.{pattern_list_of}
+use Rattle.isle_parser_cursor.specs.Reading.{Reader, ◌>>=◌, is_at, is_ahead, is_lparen, is_symbol_of, at_rparen, expect, pos_ahead, in_parentheses, many, is_const}
 use Rattle.isle_parser_cursor.specs.NameReaders.{name}
-use Rattle.isle_parser_cursor.specs.NumberReaders.{signed}
-use Rattle.isle_parser_rules.specs.PatternReaders.{pattern_inside, variable_pattern, false_pattern, true_pattern, word_pattern, symbol_pattern, pattern_step, pattern_within, pattern}
+use Rattle.isle_parser_cursor.specs.NumberReaders.{integer_within}
+use Rattle.isle_parser_rules.specs.PatternReaders.{pattern_inside, variable_pattern, false_pattern, true_pattern, word_pattern, symbol_pattern, pattern_layer, pattern_within, pattern}
 use Rattle.isle_parser_rules.specs.ConstantReaders.{constant}
 use Rattle.isle_parser_cursor.proofs.Expected.{is_at-is}
-use Rattle.isle_parser_cursor.proofs.ReaderSteps.{nothing, made_of, word_ahead, word_at, word_shorter, flag_read, flag_absent, choice, row_sound, position_of, begins_here, name_at, opened_at}
+use Rattle.isle_parser_cursor.proofs.ReaderSteps.{nothing, made_of, word_ahead, word_at, word_shorter, flag_read, flag_absent, choice, list_sound, position_of, begins_here, name_at, opened_at}
 use Rattle.isle_parser_cursor.proofs.Flags.{name_ahead}
 use Rattle.isle_parser_cursor.proofs.Names.{name_sound, name_read, name_begins}
 use Rattle.isle_parser_cursor.proofs.Readers.{agree, Sound, Shrinks, Goes, shrinks, begins_node, bind_some, chosen, done_is, moved, expect_sound, many_complete, stopping_closes, parentheses_sound, parentheses_complete, parentheses_begin}
 use Rattle.isle_parser_cursor.proofs.Reading.Numbers.{signed_sound, signed_complete, signed_begins}
 use Rattle.isle_parser_rules.proofs.Reading.Constants.{constant_sound, constant_complete}
 
--- ---- rows
+-- ---- lists
 
-pub patterns_spelt : (ps : List PatternNode) (all rest : List Placed) → SpellsAll SpellsPattern ps all rest → SpellsPatterns (pattern_row_of ps) all rest
+pub patterns_spelt : (ps : List PatternNode) (all rest : List Placed) → SpellsAll SpellsPattern ps all rest → SpellsPatterns (pattern_list_of ps) all rest
 patterns_spelt [] all rest h = h
 patterns_spelt (p ∷ ps) all rest h = (h.0, h.1, patterns_spelt ps h.0 rest h.2)
 
-abbrev listed : PatternRow → List PatternNode
+abbrev listed : PatternList → List PatternNode
 listed no_pattern = []
 listed (more_pattern p ps) = p ∷ listed ps
 
-row_listed : (ps : PatternRow) → pattern_row_of (listed ps) ≡ ps
-row_listed no_pattern = refl
-row_listed (more_pattern p ps) = ap (more_pattern p) (row_listed ps)
+list_listed : (ps : PatternList) → pattern_list_of (listed ps) ≡ ps
+list_listed no_pattern = refl
+list_listed (more_pattern p ps) = ap (more_pattern p) (list_listed ps)
 
-patterns_listed : (ps : PatternRow) (all rest : List Placed) → SpellsPatterns ps all rest → SpellsAll SpellsPattern (listed ps) all rest
+patterns_listed : (ps : PatternList) (all rest : List Placed) → SpellsPatterns ps all rest → SpellsAll SpellsPattern (listed ps) all rest
 patterns_listed no_pattern all rest h = h
 patterns_listed (more_pattern p ps) all rest h = (h.0, h.1, patterns_listed ps h.0 rest h.2)
 
@@ -60,7 +60,7 @@ mutual
   pattern_begins (and_pattern ps pos) all rest h = parentheses_begin _ (λ i j b. omega (arith, word_shorter (codes "and") i b.0 b.1, patterns_shorter ps b.0 j b.2)) all rest h.1
   pattern_begins (macro_arg_pattern n pos) all rest h = absurd h
 
-  patterns_shorter : (ps : PatternRow) (all rest : List Placed) → SpellsPatterns ps all rest → length rest ≤ length all
+  patterns_shorter : (ps : PatternList) (all rest : List Placed) → SpellsPatterns ps all rest → length rest ≤ length all
   patterns_shorter no_pattern all rest h = rw h (omega arith)
   patterns_shorter (more_pattern p ps) all rest h = omega (arith, (pattern_begins p all h.0 h.1).1, patterns_shorter ps h.0 rest h.2)
 
@@ -116,7 +116,7 @@ const_ahead e = rw e refl
 
 -- ---- what is read is spelt
 
--- what stands in the parentheses of a pattern whose `(` stands at this place
+-- what is in the parentheses of a pattern whose `(` is at this place
 abbrev SpellsInside : Pos → PatternNode → List Placed → List Placed → Type 0
 SpellsInside place (var_pattern _ _) all rest = ⊥
 SpellsInside place (bind_pattern _ _ _) all rest = ⊥
@@ -151,23 +151,24 @@ from_inside (macro_arg_pattern _ _) all rest h = absurd h.3
 inside_sound : (place : Pos) (read : Reader PatternNode) → Sound SpellsPattern read → Sound (SpellsInside place) (pattern_inside place read)
 unfolding pattern_inside
 inside_sound place read sound all rest p e =
-    elim (choice (codes "and") (λ i. many closes read i >>= λ ps. Some (and_pattern (pattern_row_of ps.0) place, ps.1)) (λ i. name i >>= λ n. many closes read n.1 >>= λ ps. Some (term_pattern n.0 (pattern_row_of ps.0) place, ps.1)) all e) [
+    elim (choice (codes "and") (λ i. many at_rparen read i >>= λ ps. Some (and_pattern (pattern_list_of ps.0) place, ps.1))
+    (λ i. name i >>= λ n. many at_rparen read n.1 >>= λ ps. Some (term_pattern n.0 (pattern_list_of ps.0) place, ps.1)) all e) [
       | inl h ↦
-          let ps = made_of (λ (ps : List PatternNode). and_pattern (pattern_row_of ps) place) h.2 in
-          let row = patterns_spelt ps.0 h.0 rest (row_sound SpellsPattern read sound h.0 rest ps.0 ps.1) in
-          subst (λ (p : PatternNode). SpellsInside place p all rest) ps.2 (refl, h.0, h.1, row)
+          let ps = made_of (λ (ps : List PatternNode). and_pattern (pattern_list_of ps) place) h.2 in
+          let list = patterns_spelt ps.0 h.0 rest (list_sound SpellsPattern read sound h.0 rest ps.0 ps.1) in
+          subst (λ (p : PatternNode). SpellsInside place p all rest) ps.2 (refl, h.0, h.1, list)
       | inr h ↦
-          let n = bind_some (name all) (λ n. many closes read n.1 >>= λ ps. Some (term_pattern n.0 (pattern_row_of ps.0) place, ps.1)) (p, rest) h.1 in
-          let ps = made_of (λ (ps : List PatternNode). term_pattern n.0.0 (pattern_row_of ps) place) n.2 in
+          let n = bind_some (name all) (λ n. many at_rparen read n.1 >>= λ ps. Some (term_pattern n.0 (pattern_list_of ps.0) place, ps.1)) (p, rest) h.1 in
+          let ps = made_of (λ (ps : List PatternNode). term_pattern n.0.0 (pattern_list_of ps) place) n.2 in
           let spelt = name_sound all n.0.1 n.0.0 n.1 in
-          let row = patterns_spelt ps.0 n.0.1 rest (row_sound SpellsPattern read sound n.0.1 rest ps.0 ps.1) in
-          subst (λ (p : PatternNode). SpellsInside place p all rest) ps.2 (refl, sym (name_ahead (codes "and") n.0.0 all n.0.1 spelt) ∙ h.0, n.0.1, spelt, row)
+          let list = patterns_spelt ps.0 n.0.1 rest (list_sound SpellsPattern read sound n.0.1 rest ps.0 ps.1) in
+          subst (λ (p : PatternNode). SpellsInside place p all rest) ps.2 (refl, sym (name_ahead (codes "and") n.0.0 all n.0.1 spelt) ∙ h.0, n.0.1, spelt, list)
     ]
 
 -- no word stands ahead that is no variable
 abbrev NoWord : List Placed → Type 0
 NoWord all =
-    (is_ahead is_const all ≡ false) × (is_ahead (is_word (codes "_")) all ≡ false) × (is_ahead (is_word (codes "true")) all ≡ false) × (is_ahead (is_word (codes "false")) all ≡ false)
+    (is_ahead is_const all ≡ false) × (is_ahead (is_symbol_of (codes "_")) all ≡ false) × (is_ahead (is_symbol_of (codes "true")) all ≡ false) × (is_ahead (is_symbol_of (codes "false")) all ≡ false)
 
 variable_spelt : (n : Name) (all rest : List Placed) → NoWord all → SpellsName n all rest → SpellsVariable n all rest
 variable_spelt n all rest apart h =
@@ -225,10 +226,11 @@ symbol_sound read sound all rest p e =
       | inr h ↦ words_sound read sound all rest p h.0 h.1
     ]
 
-step_sound : (read : Reader PatternNode) → Sound SpellsWhole read → Sound SpellsWhole (pattern_step read)
-unfolding pattern_step
+step_sound : (read : Reader PatternNode) → Sound SpellsWhole read → Sound SpellsWhole (pattern_layer read)
+unfolding pattern_layer
 step_sound read sound all rest p e =
-    elim (chosen (is_ahead is_int all) (signed 127 all >>= λ n. Some (int_pattern n.0 (pos_ahead all), n.1)) (cond (is_ahead is_symbol all) (symbol_pattern (pos_ahead all) read all) (cond (is_ahead is_lparen all) (in_parentheses (pattern_inside (pos_ahead all) read) all) None)) (Some (p, rest)) e) [
+    elim (chosen (is_ahead is_int all) (integer_within 127 all >>= λ n. Some (int_pattern n.0 (pos_ahead all), n.1))
+    (cond (is_ahead is_symbol all) (symbol_pattern (pos_ahead all) read all) (cond (is_ahead is_lparen all) (in_parentheses (pattern_inside (pos_ahead all) read) all) None)) (Some (p, rest)) e) [
       | inl h ↦
           let n = made_of (λ n. int_pattern n (pos_ahead all)) h.1 in
           let spelt = signed_sound 127 all rest n.0 n.1 in
@@ -250,11 +252,12 @@ step_sound read sound all rest p e =
 abbrev Fits : ℕ → Reader PatternNode → Type 0
 Fits n read = (p : PatternNode) (all rest : List Placed) → length all < n → SpellsPattern p all rest → Ends p rest → read all ≡ Some (p, rest)
 
-row_complete : (n : ℕ) (read : Reader PatternNode) → Fits n read → (ps : PatternRow) (all rest : List Placed) → length all < n → closes rest ≡ true → SpellsPatterns ps all rest → many closes read all ≡ Some (listed ps, rest)
-row_complete n read fits ps all rest below closed h =
-    many_complete SpellsPattern read closes n (λ p i j lt goes spelt. fits p i j lt spelt (ends_there p j goes)) pattern_begins stopping_closes (listed ps) all rest below (patterns_listed ps all rest h) closed
+list_complete : (n : ℕ) (read : Reader PatternNode) → Fits n read → (ps : PatternList) (all rest : List Placed) → length all < n → at_rparen rest ≡ true → SpellsPatterns ps all rest → many at_rparen read all ≡ Some (listed ps, rest)
+list_complete n read fits ps all rest below closed h =
+    many_complete SpellsPattern read at_rparen n (λ p i j lt goes spelt. fits p i j lt spelt (ends_there p j goes)) pattern_begins stopping_closes (listed ps) all rest below (patterns_listed ps all rest h) closed
 
-inside_complete : (n : ℕ) (read : Reader PatternNode) → Fits n read → (place : Pos) (p : PatternNode) (all rest : List Placed) → length all < n → closes rest ≡ true → SpellsInside place p all rest → pattern_inside place read all ≡ Some (p, rest)
+inside_complete : (n : ℕ) (read : Reader PatternNode) → Fits n read → (place : Pos) (p : PatternNode) (all rest : List Placed) → length all < n → at_rparen rest ≡ true → SpellsInside place p all rest
+    → pattern_inside place read all ≡ Some (p, rest)
 unfolding pattern_inside
 inside_complete n read fits place (var_pattern _ _) all rest below closed h = absurd h
 inside_complete n read fits place (bind_pattern _ _ _) all rest below closed h = absurd h
@@ -263,24 +266,24 @@ inside_complete n read fits place (int_pattern _ _) all rest below closed h = ab
 inside_complete n read fits place (constant_pattern _ _) all rest below closed h = absurd h
 inside_complete n read fits place (term_pattern sym ps pos) all rest below closed h =
     let shorter : length h.2 < length all = (name_begins sym all h.2 h.3).1 in
-    let absent : is_ahead (is_word (codes "and")) all ≡ false = name_ahead (codes "and") sym all h.2 h.3 ∙ h.1 in
-    rw (flag_absent (codes "and") all absent, name_read sym all h.2 h.3, row_complete n read fits ps h.2 rest (omega arith) closed h.4, row_listed ps, h.0) refl
+    let absent : is_ahead (is_symbol_of (codes "and")) all ≡ false = name_ahead (codes "and") sym all h.2 h.3 ∙ h.1 in
+    rw (flag_absent (codes "and") all absent, name_read sym all h.2 h.3, list_complete n read fits ps h.2 rest (omega arith) closed h.4, list_listed ps, h.0) refl
 inside_complete n read fits place (wildcard_pattern _) all rest below closed h = absurd h
 inside_complete n read fits place (and_pattern ps pos) all rest below closed h =
     let shorter : length h.1 < length all = word_shorter (codes "and") all h.1 h.2 in
-    rw (flag_read (codes "and") all h.1 h.2, row_complete n read fits ps h.1 rest (omega arith) closed h.3, row_listed ps, h.0) refl
+    rw (flag_read (codes "and") all h.1 h.2, list_complete n read fits ps h.1 rest (omega arith) closed h.3, list_listed ps, h.0) refl
 inside_complete n read fits place (macro_arg_pattern _ _) all rest below closed h = absurd h
 
-enclosed : (n : ℕ) (read : Reader PatternNode) → Fits n read → (p : PatternNode) (all rest : List Placed) → length all < suc n → InParentheses (SpellsInside (pos_ahead all) p) all rest → pattern_step read all ≡ Some (p, rest)
-unfolding pattern_step
+enclosed : (n : ℕ) (read : Reader PatternNode) → Fits n read → (p : PatternNode) (all rest : List Placed) → length all < suc n → InParentheses (SpellsInside (pos_ahead all) p) all rest → pattern_layer read all ≡ Some (p, rest)
+unfolding pattern_layer
 enclosed n read fits p all rest below h =
     let a : is_ahead is_int all ≡ false = rw h.2.1 refl in
     let b : is_ahead is_symbol all ≡ false = rw h.2.1 refl in
     let c : is_ahead is_lparen all ≡ true = rw h.2.1 refl in
     rw (a, b, c) (parentheses_complete (SpellsInside (pos_ahead all)) (pattern_inside (pos_ahead all) read) p all rest (λ i j lt closed. inside_complete n read fits (pos_ahead all) p i j (omega (arith, lt, below)) closed) h)
 
-at_symbol : (read : Reader PatternNode) (t : List ℕ) (place : Pos) (all rest : List Placed) → all ≡ record { pos = place; token = symbol t } ∷ rest → pattern_step read all ≡ symbol_pattern (pos_ahead all) read all
-unfolding pattern_step
+at_symbol : (read : Reader PatternNode) (t : List ℕ) (place : Pos) (all rest : List Placed) → all ≡ record { pos = place; token = symbol t } ∷ rest → pattern_layer read all ≡ symbol_pattern (pos_ahead all) read all
+unfolding pattern_layer
 at_symbol read t place all rest e =
     let a : is_ahead is_int all ≡ false = rw e refl in
     let b : is_ahead is_symbol all ≡ true = rw e refl in
@@ -315,9 +318,9 @@ variable_read place read n all rest h =
     let t = variable_tests n.text h.0 in
     let spelt : SpellsName n all rest = (t.0, h.1) in
     let a : is_ahead is_const all ≡ false = const_ahead h.1 ∙ t.1 in
-    let b : is_ahead (is_word (codes "_")) all ≡ false = name_ahead (codes "_") n all rest spelt ∙ t.2 in
-    let c : is_ahead (is_word (codes "true")) all ≡ false = name_ahead (codes "true") n all rest spelt ∙ t.3 in
-    let d : is_ahead (is_word (codes "false")) all ≡ false = name_ahead (codes "false") n all rest spelt ∙ t.4 in
+    let b : is_ahead (is_symbol_of (codes "_")) all ≡ false = name_ahead (codes "_") n all rest spelt ∙ t.2 in
+    let c : is_ahead (is_symbol_of (codes "true")) all ≡ false = name_ahead (codes "true") n all rest spelt ∙ t.3 in
+    let d : is_ahead (is_symbol_of (codes "false")) all ≡ false = name_ahead (codes "false") n all rest spelt ∙ t.4 in
     rw (a, flag_absent (codes "_") all b, flag_absent (codes "true") all c, flag_absent (codes "false") all d) refl
 
 variable_name : (n : Name) (all rest : List Placed) → SpellsVariable n all rest → name all ≡ Some (n, rest)
@@ -327,7 +330,8 @@ alone_read : (place : Pos) (read : Reader PatternNode) (n : Name) (all rest : Li
 unfolding variable_pattern
 alone_read place read n all rest e goes = rw (e, goes) refl
 
-bound_read : (place : Pos) (read : Reader PatternNode) (n : Name) (p : PatternNode) (all mid inner rest : List Placed) → name all ≡ Some (n, mid) → SpellsToken at_sign mid inner → read inner ≡ Some (p, rest) → variable_pattern place read all ≡ Some (bind_pattern n p place, rest)
+bound_read : (place : Pos) (read : Reader PatternNode) (n : Name) (p : PatternNode) (all mid inner rest : List Placed) → name all ≡ Some (n, mid) → SpellsToken at_sign mid inner
+    → read inner ≡ Some (p, rest) → variable_pattern place read all ≡ Some (bind_pattern n p place, rest)
 unfolding variable_pattern
 bound_read place read n p all mid inner rest e at f =
     rw (e, at.1, f) refl
@@ -335,11 +339,11 @@ bound_read place read n p all mid inner rest e at f =
 placed_there : (make : Pos → PatternNode) (pos : Pos) (all rest : List Placed) → BeginsAt pos all → ◌≡◌ {A = Option (PatternNode × List Placed)} (Some (make (pos_ahead all), rest)) (Some (make pos, rest))
 placed_there make pos all rest h = ap (λ (q : Pos). Some (make q, rest)) (position_of h)
 
-pub int_read : (read : Reader PatternNode) (all rest : List Placed) (val : ℤ) → is_ahead is_int all ≡ true → signed 127 all ≡ Some (val, rest) → pattern_step read all ≡ Some (int_pattern val (pos_ahead all), rest)
-unfolding pattern_step
+pub int_read : (read : Reader PatternNode) (all rest : List Placed) (val : ℤ) → is_ahead is_int all ≡ true → integer_within 127 all ≡ Some (val, rest) → pattern_layer read all ≡ Some (int_pattern val (pos_ahead all), rest)
+unfolding pattern_layer
 int_read read all rest val a e = rw (a, e) refl
 
-step_complete : (n : ℕ) (read : Reader PatternNode) → Fits n read → Fits (suc n) (pattern_step read)
+step_complete : (n : ℕ) (read : Reader PatternNode) → Fits n read → Fits (suc n) (pattern_layer read)
 step_complete n read fits (var_pattern v pos) all rest below h ends =
     at_symbol read v.text v.pos all rest h.1.1
     ∙ variable_read (pos_ahead all) read v all rest h.1
@@ -406,9 +410,9 @@ pub pattern_complete : (p : PatternNode) (all rest : List Placed) → Goes rest 
 pattern_complete p all rest goes h = whole_complete p all rest h (ends_there p rest goes)
 
 -- a pattern is one layer, whose parts are patterns
-pub pattern-unfolds : (all : List Placed) → pattern all ≡ pattern_step pattern all
+pub pattern-unfolds : (all : List Placed) → pattern all ≡ pattern_layer pattern all
 pattern-unfolds all =
-    agree (pattern all) (pattern_step pattern all)
+    agree (pattern all) (pattern_layer pattern all)
     (λ x e.
     let w = whole_sound all x.1 x.0 e in
     step_complete (length all) pattern (λ p i j below. whole_complete p i j) x.0 all x.1 (omega arith) w.0 w.1)

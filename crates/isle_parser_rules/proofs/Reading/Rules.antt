@@ -1,7 +1,7 @@
 -- Rules and extractors are read as the grammar spells them.
 use Rattle.std.proofs.Common.{◌≡◌, inl, inr, ◌≤◌, ◌<◌, true, false, not, List, length, Option, Some, None, refl, sym, ap, subst, ◌∙◌, arith}
 use Rattle.std.specs.Prelude.{ℤ}
-use Rattle.isle_base_errors.specs.declared.pos.Pos.{Pos}
+use Rattle.isle_base_source.specs.declared.pos.Pos.{Pos}
 use Rattle.isle_base.specs.Place.{Placed}
 use Rattle.isle_base.specs.Token.{is_int, is_symbol}
 use Rattle.isle_ast_names.specs.Numbers.{SpellsPriority}
@@ -12,7 +12,7 @@ use Rattle.isle_ast_rules.specs.PatternGrammar.{SpellsPattern}
 use Rattle.isle_ast_rules.specs.RuleGrammar.{is_list_pattern, is_int_pattern, pattern_is_no_head, SpellsRule, SpellsExtractor}
 use Rattle.isle_parser_cursor.specs.Reading.{◌>>=◌, is_ahead, pos_ahead, in_parentheses}
 use Rattle.isle_parser_cursor.specs.NameReaders.{optional_name, head_inside}
-use Rattle.isle_parser_cursor.specs.NumberReaders.{signed}
+use Rattle.isle_parser_cursor.specs.NumberReaders.{integer_within}
 use Rattle.isle_parser_rules.specs.PatternReaders.{pattern}
 use Rattle.isle_parser_rules.specs.RuleReaders.{RightSide, priority, right_side, rule_definition, extractor_definition}
 use Rattle.isle_parser_cursor.proofs.ReaderSteps.{made_of, CompleteClosed, position_of, begins_here, opened_at}
@@ -34,7 +34,7 @@ ReadsPriority (Some n) all rest = SpellsPriority n all rest
 priority_sound : Sound ReadsPriority priority
 unfolding priority
 priority_sound all rest n e =
-    elim (chosen (is_ahead is_int all) (signed 63 all >>= λ n. Some (Some n.0, n.1)) (Some (None, all)) (Some (n, rest)) e) [
+    elim (chosen (is_ahead is_int all) (integer_within 63 all >>= λ n. Some (Some n.0, n.1)) (Some (None, all)) (Some (n, rest)) e) [
       | inl h ↦
           let m = made_of (λ (m : ℤ). Some m) h.1 in
           subst (λ (n : Option ℤ). ReadsPriority n all rest) m.2 (signed_sound 63 all rest m.0 m.1)
@@ -131,7 +131,8 @@ no_head (Some n) None p all named ranked rest h spelt =
 no_head None (Some prio) p all named ranked rest h spelt = refl
 no_head (Some n) (Some prio) p all named ranked rest h spelt = refl
 
-left_read : (n : Option Name) (prio : Option ℤ) (p : PatternNode) (all named ranked rest : List Placed) → pattern_is_no_head n prio p ≡ true → SpellsOptional SpellsName n all named → SpellsOptional SpellsPriority prio named ranked → SpellsPattern p ranked rest → ReadsLeft n prio all named ranked
+left_read : (n : Option Name) (prio : Option ℤ) (p : PatternNode) (all named ranked rest : List Placed) → pattern_is_no_head n prio p ≡ true → SpellsOptional SpellsName n all named
+    → SpellsOptional SpellsPriority prio named ranked → SpellsPattern p ranked rest → ReadsLeft n prio all named ranked
 left_read None None p all named ranked rest e a b spelt =
     let tests = list_ahead p ranked rest spelt e in
     let here : ranked ≡ all = sym (a ∙ b) in
@@ -144,7 +145,8 @@ left_read None (Some prio) p all named ranked rest e a b spelt =
 left_read (Some n) (Some prio) p all named ranked rest e a b spelt = (a, b)
 
 -- what begins and how long it is
-left_begins : (n : Option Name) (prio : Option ℤ) (p : PatternNode) (all named ranked rest : List Placed) → SpellsOptional SpellsName n all named → SpellsOptional SpellsPriority prio named ranked → SpellsPattern p ranked rest → (is_ahead begins_node all ≡ true) × (length rest < length all)
+left_begins : (n : Option Name) (prio : Option ℤ) (p : PatternNode) (all named ranked rest : List Placed) → SpellsOptional SpellsName n all named → SpellsOptional SpellsPriority prio named ranked
+    → SpellsPattern p ranked rest → (is_ahead begins_node all ≡ true) × (length rest < length all)
 left_begins None None p all named ranked rest a b spelt =
     let here : ranked ≡ all = sym (a ∙ b) in
     subst (λ (i : List Placed). (is_ahead begins_node i ≡ true) × (length rest < length i)) here (pattern_begins p ranked rest spelt)
@@ -207,7 +209,13 @@ rule_complete r all rest h =
     let left = left_read r.name r.prio r.pattern all h.behind_name h.behind_prio h.behind_pattern h.pattern_is_no_head h.name h.prio h.pattern in
     let side = right_side_of r all rest h in
     let goes : Goes h.behind_pattern = begins_goes h.behind_pattern (right_side_begins (r.iflets, r.expr) h.behind_pattern rest side).0 in
-    rw (optional_name_complete r.name all h.behind_name left.0, priority_complete r.prio h.behind_name h.behind_prio left.1, pattern_complete r.pattern h.behind_prio h.behind_pattern goes h.pattern, right_side_complete (r.iflets, r.expr) h.behind_pattern rest side, position_of h.position) refl
+    rw (
+      optional_name_complete r.name all h.behind_name left.0,
+      priority_complete r.prio h.behind_name h.behind_prio left.1,
+      pattern_complete r.pattern h.behind_prio h.behind_pattern goes h.pattern,
+      right_side_complete (r.iflets, r.expr) h.behind_pattern rest side,
+      position_of h.position,
+    ) refl
 
 pub rule_shorter : (r : RuleDefinition) (all rest : List Placed) → SpellsRule r all rest → length rest ≤ length all
 rule_shorter r all rest h =

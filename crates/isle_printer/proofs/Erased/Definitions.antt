@@ -3,17 +3,20 @@
 use Rattle.std.proofs.Common.{◌≡◌, List, [], ◌∷◌, ◌++◌, map, codes, Option, None, Some, refl, ap, ◌∙◌}
 use Rattle.isle_ast_names.specs.Erased.{erase_name, erase_names, erase_optional}
 use Rattle.isle_ast_names.specs.Tree.{Name}
-use Rattle.isle_ast_specs.specs.Erased.{erase_model}
+use Rattle.isle_ast_verification.specs.Erased.{erase_model}
 use Rattle.isle_ast.specs.Erased.{erase_named_field, erase_indexed_field, erase_fields, erase_variant, erase_type_content, erase_target, erase_kind, erase_signature, erase_model_content, erase_definition, erase}
 use Rattle.isle_ast.specs.MacroArgs.{definition_has_macro_arg, definitions_have_macro_arg}
-use Rattle.isle_ast.specs.Tree.{FieldList, unit_fields, struct_fields, tuple_fields, EnumVariant, TypeContent, primitive_type, enum_type, struct_type, AttributeTarget, term_target, rule_target, AttributeKind, chain_kind, priority_kind, tag_kind, TermSignature, ModelContent, type_model, const_model, extern_extractor, extern_constructor, extern_const, Definition, type_def, rule, extractor, decl, attr, spec, spec_macro, model, state, form, instantiation, external, converter}
+use Rattle.isle_ast.specs.Tree.{FieldList, unit_fields, struct_fields, tuple_fields, EnumVariant, TypeContent, primitive_type, enum_type, struct_type, AttributeTarget, term_target, rule_target}
+use Rattle.isle_ast.specs.Tree.{AttributeKind, chain_kind, priority_kind, tag_kind, TermSignature, ModelContent, type_model, const_model, extern_extractor, extern_constructor, extern_const}
+use Rattle.isle_ast.specs.Tree.{Definition, type_def, rule, extractor, decl, attr, spec, spec_macro, model, state, form, instantiation, external, converter}
 use Rattle.isle_printer_layout.proofs.Erased.Names.{shapes-erased, names-erased}
 use Rattle.isle_printer_layout.specs.NameShapes.{name_shape, flag_shape, form_shape}
-use Rattle.isle_printer_layout.specs.Sexp.{atom, row_of}
+use Rattle.isle_printer_layout.specs.Sexp.{atom, list_of}
 use Rattle.isle_printer_rules.proofs.Erased.Rules.{any-erased, macro_arg-erased, rule_macro_arg-erased, rule-erased, extractor-erased}
-use Rattle.isle_printer_specs.proofs.Erased.Specs.{model-erased, spec-erased, spec_definition-erased, spec_macro-erased, state-erased}
-use Rattle.isle_printer_specs.specs.SpecShapes.{model_shape}
-use Rattle.isle_printer.specs.DefinitionShapes.{definition_shape, named_field_shape, indexed_field_shape, field_shapes, variant_shape, type_content_shape, target_shape, tag_shape, kind_shape, signature_shape, instance_shapes, model_content_shape}
+use Rattle.isle_printer_verification.proofs.Erased.Specs.{model-erased, spec-erased, spec_definition-erased, spec_macro-erased, state-erased}
+use Rattle.isle_printer_verification.specs.SpecShapes.{model_shape}
+use Rattle.isle_printer.specs.DefinitionShapes.{definition_shape, named_field_shape, indexed_field_shape, field_shapes, variant_shape, type_content_shape, target_shape, tag_shape, kind_shape}
+use Rattle.isle_printer.specs.DefinitionShapes.{signature_shape, instance_shapes, model_content_shape}
 
 fields-erased : (fields : FieldList) → field_shapes (erase_fields fields) ≡ field_shapes fields
 fields-erased unit_fields = refl
@@ -21,7 +24,7 @@ fields-erased (struct_fields fields _) = shapes-erased named_field_shape erase_n
 fields-erased (tuple_fields fields _) = shapes-erased indexed_field_shape erase_indexed_field (λ f. refl) fields
 
 variant-erased : (v : EnumVariant) → variant_shape (erase_variant v) ≡ variant_shape v
-variant-erased v = ap (λ ss. row_of (name_shape v.name ∷ ss)) (fields-erased v.fields)
+variant-erased v = ap (λ ss. list_of (name_shape v.name ∷ ss)) (fields-erased v.fields)
 
 type_content-erased : (t : TypeContent) → type_content_shape (erase_type_content t) ≡ type_content_shape t
 type_content-erased (primitive_type name _) = refl
@@ -40,9 +43,9 @@ kind-erased (tag_kind name) = refl
 
 signature-erased : (g : TermSignature) → signature_shape (erase_signature g) ≡ signature_shape g
 signature-erased g =
-    ap (λ ss. row_of (form_shape (codes "args") ss ∷ form_shape (codes "ret") (model_shape (erase_model g.ret) ∷ []) ∷ []))
+    ap (λ ss. list_of (form_shape (codes "args") ss ∷ form_shape (codes "ret") (model_shape (erase_model g.ret) ∷ []) ∷ []))
     (shapes-erased model_shape erase_model model-erased g.args)
-    ∙ ap (λ s. row_of (form_shape (codes "args") (map model_shape g.args) ∷ form_shape (codes "ret") (s ∷ []) ∷ [])) (model-erased g.ret)
+    ∙ ap (λ s. list_of (form_shape (codes "args") (map model_shape g.args) ∷ form_shape (codes "ret") (s ∷ []) ∷ [])) (model-erased g.ret)
 
 instances-erased : (o : Option Name) (gs : List TermSignature) → instance_shapes (erase_optional o) (map erase_signature gs) ≡ instance_shapes o gs
 instances-erased None gs = shapes-erased signature_shape erase_signature signature-erased gs
@@ -55,34 +58,34 @@ model_content-erased (const_model value) = ap (λ s. form_shape (codes "const") 
 pub definition_shape-erased : (d : Definition) → definition_shape (erase_definition d) ≡ definition_shape d
 definition_shape-erased (type_def t) =
     ap
-    (λ s. row_of (atom (codes "type") ∷ [] ++ name_shape t.name ∷ [] ++ flag_shape (codes "extern") t.is_extern ++ flag_shape (codes "nodebug") t.is_nodebug ++ s ∷ []))
+    (λ s. list_of (atom (codes "type") ∷ [] ++ name_shape t.name ∷ [] ++ flag_shape (codes "extern") t.is_extern ++ flag_shape (codes "nodebug") t.is_nodebug ++ s ∷ []))
     (type_content-erased t.ty)
 definition_shape-erased (rule r) = rule-erased r
 definition_shape-erased (extractor e) = extractor-erased e
 definition_shape-erased (decl d) =
     ap
-    (λ args. row_of (atom (codes "decl") ∷ []
+    (λ args. list_of (atom (codes "decl") ∷ []
     ++ flag_shape (codes "pure") d.pure
     ++ flag_shape (codes "multi") d.multi
     ++ flag_shape (codes "partial") d.partial
     ++ flag_shape (codes "rec") d.rec
     ++ name_shape d.term ∷ []
-    ++ row_of args ∷ []
+    ++ list_of args ∷ []
     ++ name_shape d.ret_ty ∷ []))
     (names-erased d.arg_tys)
 definition_shape-erased (attr a) =
-    ap (λ t. row_of (atom (codes "attr") ∷ [] ++ t ++ map kind_shape (map erase_kind a.kinds))) (target-erased a.target)
-    ∙ ap (λ ks. row_of (atom (codes "attr") ∷ [] ++ target_shape a.target ++ ks)) (shapes-erased kind_shape erase_kind kind-erased a.kinds)
+    ap (λ t. list_of (atom (codes "attr") ∷ [] ++ t ++ map kind_shape (map erase_kind a.kinds))) (target-erased a.target)
+    ∙ ap (λ ks. list_of (atom (codes "attr") ∷ [] ++ target_shape a.target ++ ks)) (shapes-erased kind_shape erase_kind kind-erased a.kinds)
 definition_shape-erased (spec s) = spec_definition-erased s
 definition_shape-erased (spec_macro m) = spec_macro-erased m
 definition_shape-erased (model m) =
-    ap (λ s. row_of (atom (codes "model") ∷ [] ++ name_shape m.name ∷ [] ++ s ∷ [])) (model_content-erased m.val)
+    ap (λ s. list_of (atom (codes "model") ∷ [] ++ name_shape m.name ∷ [] ++ s ∷ [])) (model_content-erased m.val)
 definition_shape-erased (state s) = state-erased s
 definition_shape-erased (form f) =
-    ap (λ ss. row_of (atom (codes "form") ∷ [] ++ name_shape f.name ∷ [] ++ ss)) (shapes-erased signature_shape erase_signature signature-erased f.signatures)
+    ap (λ ss. list_of (atom (codes "form") ∷ [] ++ name_shape f.name ∷ [] ++ ss)) (shapes-erased signature_shape erase_signature signature-erased f.signatures)
 definition_shape-erased (instantiation i) =
-    ap (λ ss. row_of (atom (codes "instantiate") ∷ [] ++ name_shape i.term ∷ [] ++ ss ++ map tag_shape (erase_names i.tags))) (instances-erased i.form i.signatures)
-    ∙ ap (λ ts. row_of (atom (codes "instantiate") ∷ [] ++ name_shape i.term ∷ [] ++ instance_shapes i.form i.signatures ++ ts)) (shapes-erased tag_shape erase_name (λ n. refl) i.tags)
+    ap (λ ss. list_of (atom (codes "instantiate") ∷ [] ++ name_shape i.term ∷ [] ++ ss ++ map tag_shape (erase_names i.tags))) (instances-erased i.form i.signatures)
+    ∙ ap (λ ts. list_of (atom (codes "instantiate") ∷ [] ++ name_shape i.term ∷ [] ++ instance_shapes i.form i.signatures ++ ts)) (shapes-erased tag_shape erase_name (λ n. refl) i.tags)
 definition_shape-erased (external (extern_extractor term func _ infallible)) = refl
 definition_shape-erased (external (extern_constructor term func _)) = refl
 definition_shape-erased (external (extern_const name ty _)) = refl

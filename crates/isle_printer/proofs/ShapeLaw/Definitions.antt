@@ -2,38 +2,47 @@
 use Rattle.std.proofs.Common.{ℕ, ◌+◌, List, [], ◌∷◌, ◌++◌, map, codes, Bool, true, false, Option, None, Some, inr, refl}
 use Rattle.isle_base.specs.Place.{Placed, unknown}
 use Rattle.isle_base.specs.Token.{Tok, rparen}
-use Rattle.isle_ast_specs.specs.Erased.{erase_spec, erase_model}
+use Rattle.isle_ast_verification.specs.Erased.{erase_spec, erase_model}
 use Rattle.isle_ast_names.specs.Tree.{Name}
-use Rattle.isle_ast.specs.Tree.{Declaration, Conversion, NamedField, IndexedField, FieldList, unit_fields, struct_fields, tuple_fields, EnumVariant, TypeContent, primitive_type, enum_type, struct_type, AttributeTarget, term_target, rule_target, AttributeKind, chain_kind, priority_kind, tag_kind, TermSignature, ModelContent, type_model, const_model, ExternDefinition, extern_extractor, extern_constructor, extern_const, Definition, type_def, rule, extractor, decl, attr, spec, spec_macro, model, state, form, instantiation, external, converter}
+use Rattle.isle_ast.specs.Tree.{Declaration, Conversion, NamedField, IndexedField, FieldList, unit_fields, struct_fields, tuple_fields, EnumVariant, TypeContent, primitive_type, enum_type}
+use Rattle.isle_ast.specs.Tree.{struct_type, AttributeTarget, term_target, rule_target, AttributeKind, chain_kind, priority_kind, tag_kind, TermSignature, ModelContent, type_model, const_model}
+use Rattle.isle_ast.specs.Tree.{ExternDefinition, extern_extractor, extern_constructor, extern_const, Definition, type_def, rule, extractor, decl, attr, spec, spec_macro, model, state, form}
+use Rattle.isle_ast.specs.Tree.{instantiation, external, converter}
 use Rattle.isle_ast_names.specs.Words.{SpellsWord, BeginsAt, SpellsAll, InParentheses, BehindWord, SpellsName}
 use Rattle.isle_ast_names.specs.Erased.{erase_name, erase_names, erase_optional}
-use Rattle.isle_ast.specs.Erased.{erase_declaration, erase_conversion, erase_type, erase_attribute, erase_form, erase_instantiation, erase_model_definition, erase_named_field, erase_indexed_field, erase_fields, erase_variant, erase_type_content, erase_target, erase_kind, erase_signature, erase_model_content, erase_extern, erase_definition}
+use Rattle.isle_ast.specs.Erased.{erase_declaration, erase_conversion, erase_type, erase_attribute, erase_form, erase_instantiation, erase_model_definition, erase_named_field, erase_indexed_field}
+use Rattle.isle_ast.specs.Erased.{erase_fields, erase_variant, erase_type_content, erase_target, erase_kind, erase_signature, erase_model_content, erase_extern, erase_definition}
 use Rattle.isle_ast.specs.Grammar.{SpellsDefinition}
-use Rattle.isle_ast_specs.specs.SpecGrammar.{SpellsSpec}
-use Rattle.isle_ast_specs.specs.TypeModelGrammar.{SpellsTypeModel}
+use Rattle.isle_ast_verification.specs.SpecGrammar.{SpellsSpec}
+use Rattle.isle_ast_verification.specs.TypeModelGrammar.{SpellsTypeModel}
 use Rattle.isle_ast.specs.ModelGrammar.{SpellsSignature, SpellsTag, SpellsInstances, SpellsModelContent, SpellsModel, SpellsForm, SpellsInstantiation}
 use Rattle.isle_ast.specs.TermGrammar.{SpellsDeclaration, SpellsConversion, SpellsAttributeKind, SpellsAttributeTarget, SpellsPair, SpellsExtern, SpellsAttribute}
 use Rattle.isle_ast.specs.TypeGrammar.{SpellsNamedField, SpellsIndexedFields, SpellsFields, SpellsVariant, SpellsTypeContent, SpellsModifiers, SpellsTypeDefinition}
 use Rattle.isle_ast_names.specs.Writable.{IsName, Each}
-use Rattle.isle_ast.specs.Writable.{IsWritableDeclaration, IsWritableConversion, IsWritableNamedField, AreWritableIndexedFields, AreWritableFields, IsWritableVariant, IsWritableTypeContent, IsWritableTarget, IsWritableKind, IsWritableSignature, AreWritableInstances, IsWritableModelContent, IsWritableExtern, IsWritable}
-use Rattle.isle_ast_specs.specs.Writable.{IsWritableModel}
-use Rattle.isle_printer.specs.DefinitionShapes.{definition_shape, named_field_shape, indexed_field_shape, field_shapes, variant_shape, type_content_shape, target_shape, tag_shape, kind_shape, signature_shape, instance_shapes, extern_shape, model_content_shape}
+use Rattle.isle_ast.specs.Writable.{IsWritableDeclaration, IsWritableConversion, IsWritableNamedField, AreWritableIndexedFields, AreWritableFields, IsWritableVariant, IsWritableTypeContent}
+use Rattle.isle_ast.specs.Writable.{IsWritableTarget, IsWritableKind, IsWritableSignature, AreWritableInstances, IsWritableModelContent, IsWritableExtern, IsWritable}
+use Rattle.isle_ast_verification.specs.Writable.{IsWritableModel}
+use Rattle.isle_printer.specs.DefinitionShapes.{definition_shape, named_field_shape, indexed_field_shape, field_shapes, variant_shape, type_content_shape, target_shape, tag_shape, kind_shape}
+use Rattle.isle_printer.specs.DefinitionShapes.{signature_shape, instance_shapes, extern_shape, model_content_shape}
 use Rattle.isle_printer_layout.specs.Sexp.{atom}
 use Rattle.isle_printer_layout.specs.NameShapes.{name_shape, name_shapes, flag_shape, form_shape, constant_shape}
-use Rattle.isle_printer_specs.specs.SpecShapes.{model_shape, spec_shape}
+use Rattle.isle_printer_verification.specs.SpecShapes.{model_shape, spec_shape}
 use Rattle.isle_printer_layout.specs.ReadBack.{unplaced}
-use Rattle.isle_printer_specs.proofs.ShapeLaw.Models.{spell-model}
-use Rattle.isle_printer_specs.proofs.ShapeLaw.SpecDefinitions.{spell-spec_definition, spell-spec_macro, spell-state}
-use Rattle.isle_printer_specs.proofs.ShapeLaw.Specs.{spell-spec}
+use Rattle.isle_printer_verification.proofs.ShapeLaw.Models.{spell-model}
+use Rattle.isle_printer_verification.proofs.ShapeLaw.SpecDefinitions.{spell-spec_definition, spell-spec_macro, spell-state}
+use Rattle.isle_printer_verification.proofs.ShapeLaw.Specs.{spell-spec}
 use Rattle.isle_printer_rules.proofs.ShapeLaw.Rules.{spell-rule, spell-extractor_definition}
-use Rattle.isle_printer_layout.proofs.Spellings.{ItemTokens, ◌then◌, IsAhead, item-ahead, items-ahead, Spelling, spell-nothing, spell-word, spell-flag, spell-name, spell-all, spell-names, spell-row, spell-behind, spell-form, InTurn, spell-turn, differs-test, regrouped, spell-constant}
-use Rattle.isle_printer_layout.proofs.WordSymbols.{word-decl, word-convert, word-pure, word-multi, word-partial, word-rec, word-type, word-extern, word-nodebug, word-primitive, word-enum, word-struct, word-attr, word-rule, word-veri, word-chain, word-priority, word-tag, word-model, word-form, word-instantiate, word-args, word-ret, word-extractor, word-infallible, word-constructor, word-const}
+use Rattle.isle_printer_layout.proofs.Spellings.{ItemTokens, ◌then◌, IsAhead, item-ahead, items-ahead, Spelling, spell-nothing, spell-word, spell-flag, spell-name, spell-all, spell-names, spell-list}
+use Rattle.isle_printer_layout.proofs.Spellings.{spell-behind, spell-form, InTurn, spell-turn, differs-test, regrouped, spell-constant}
+use Rattle.isle_printer_layout.proofs.WordSymbols.{word-decl, word-convert, word-pure, word-multi, word-partial, word-rec, word-type, word-extern, word-nodebug, word-primitive, word-enum, word-struct}
+use Rattle.isle_printer_layout.proofs.WordSymbols.{word-attr, word-rule, word-veri, word-chain, word-priority, word-tag, word-model, word-form, word-instantiate, word-args, word-ret, word-extractor}
+use Rattle.isle_printer_layout.proofs.WordSymbols.{word-infallible, word-constructor, word-const}
 
 spell-named_field : (f : NamedField) → IsWritableNamedField f → (rest : List Tok) → Spelling (named_field_shape f ∷ []) (SpellsNamedField (erase_named_field f)) rest
 spell-named_field f is rest =
     let second = spell-name f.ty is.1 (rparen ∷ rest) in
     let first = spell-name f.name is.0 second.all in
-    let field = spell-row (name_shape f.name ∷ name_shape f.ty ∷ []) (InTurn (SpellsName (erase_name f.name)) (SpellsName (erase_name f.ty))) rest (spell-turn second first) in
+    let field = spell-list (name_shape f.name ∷ name_shape f.ty ∷ []) (InTurn (SpellsName (erase_name f.name)) (SpellsName (erase_name f.ty))) rest (spell-turn second first) in
     record { all = field.all; tokens = field.tokens; spells = (item-ahead field.tokens, field.spells) }
 
 spell-indexed_fields : (place : ℕ) (fs : List IndexedField) → AreWritableIndexedFields place fs → (rest : List Tok) → Spelling (map indexed_field_shape fs) (SpellsIndexedFields place (map erase_indexed_field fs)) rest
@@ -62,7 +71,7 @@ spell-variant : (v : EnumVariant) → IsWritableVariant v → (rest : List Tok) 
 spell-variant v is rest =
     let fields = spell-fields v.fields is.1 (rparen ∷ rest) in
     let name = spell-name v.name is.0 fields.all in
-    let s = spell-row (name_shape v.name ∷ field_shapes v.fields) (InTurn (SpellsName (erase_name v.name)) (SpellsFields (erase_fields v.fields))) rest (spell-turn fields name) in
+    let s = spell-list (name_shape v.name ∷ field_shapes v.fields) (InTurn (SpellsName (erase_name v.name)) (SpellsFields (erase_fields v.fields))) rest (spell-turn fields name) in
     record { all = s.all; tokens = s.tokens; spells = (item-ahead s.tokens, inr s.spells) }
 
 spell-type_content : (t : TypeContent) → IsWritableTypeContent t → (rest : List Tok) → Spelling (type_content_shape t ∷ []) (SpellsTypeContent (erase_type_content t)) rest
@@ -152,7 +161,7 @@ spell-signature g is rest =
     let ret = spell-form (codes "ret") word-ret (model_shape g.ret ∷ []) (SpellsTypeModel (erase_model g.ret)) (rparen ∷ rest) (spell-model g.ret is.1 (rparen ∷ rparen ∷ rest)) in
     let models = spell-all model_shape erase_model SpellsTypeModel IsWritableModel spell-model g.args is.0 (rparen ∷ ret.all) in
     let args = spell-form (codes "args") word-args (map model_shape g.args) (SpellsAll SpellsTypeModel (map erase_model g.args)) ret.all models in
-    spell-row
+    spell-list
     (form_shape (codes "args") (map model_shape g.args) ∷ form_shape (codes "ret") (model_shape g.ret ∷ []) ∷ [])
     (λ inner close. BeginsAt unknown inner × (mid : List Placed)
     × InParentheses (BehindWord (codes "args") (SpellsAll SpellsTypeModel (map erase_model g.args))) inner mid
@@ -168,7 +177,9 @@ spell-signatures : (gs : List TermSignature) → Each IsWritableSignature gs →
 spell-signatures = spell-all signature_shape erase_signature SpellsSignature IsWritableSignature spell-signature
 
 -- the form or the signatures, and then the tags
-spell-instances : (o : Option Name) (gs : List TermSignature) (tags : List Name) → AreWritableInstances o gs tags → (rest : List Tok) → Spelling (instance_shapes o gs ++ map tag_shape tags) (SpellsInstances (erase_optional o) (map erase_signature gs) (erase_names tags)) rest
+spell-instances : (o : Option Name) (gs : List TermSignature) (tags : List Name)
+    → AreWritableInstances o gs tags → (rest : List Tok)
+    → Spelling (instance_shapes o gs ++ map tag_shape tags) (SpellsInstances (erase_optional o) (map erase_signature gs) (erase_names tags)) rest
 spell-instances None [] tags is rest = absurd is.0
 spell-instances None (g ∷ gs) [] is rest =
     let s = spell-signatures (g ∷ gs) is.1 rest in
@@ -208,7 +219,7 @@ spell-extern (extern_extractor term func _ infallible) is rest =
     let flag = spell-flag (codes "infallible") word-infallible infallible pair.all in
     let kind = spell-word (codes "extractor") word-extractor flag.all in
     let word = spell-word (codes "extern") word-extern kind.all in
-    spell-row
+    spell-list
     (atom (codes "extern") ∷ [] ++ atom (codes "extractor") ∷ [] ++ flag_shape (codes "infallible") infallible ++ name_shape term ∷ [] ++ name_shape func ∷ [])
     (BehindWord (codes "extern") (SpellsExtern (erase_extern (extern_extractor term func unknown infallible))))
     rest
@@ -229,7 +240,7 @@ spell-extern (extern_constructor term func _) is rest =
     let pair = spell-pair term func is.0 is.1 (rparen ∷ rest) in
     let kind = spell-word (codes "constructor") word-constructor pair.all in
     let word = spell-word (codes "extern") word-extern kind.all in
-    spell-row
+    spell-list
     (atom (codes "extern") ∷ [] ++ atom (codes "constructor") ∷ [] ++ name_shape term ∷ [] ++ name_shape func ∷ [])
     (BehindWord (codes "extern") (SpellsExtern (erase_extern (extern_constructor term func unknown))))
     rest
@@ -243,7 +254,7 @@ spell-extern (extern_const name ty _) is rest =
     let first = spell-constant name is.0 second.all in
     let kind = spell-word (codes "const") word-const first.all in
     let word = spell-word (codes "extern") word-extern kind.all in
-    spell-row
+    spell-list
     (atom (codes "extern") ∷ [] ++ atom (codes "const") ∷ [] ++ constant_shape name ∷ [] ++ name_shape ty ∷ [])
     (BehindWord (codes "extern") (SpellsExtern (erase_extern (extern_const name ty unknown))))
     rest
@@ -260,14 +271,14 @@ spell-extern (extern_const name ty _) is rest =
 spell-declaration : (d : Declaration) → IsWritableDeclaration d → (rest : List Tok) → Spelling (definition_shape (decl d) ∷ []) (SpellsDefinition (erase_definition (decl d))) rest
 spell-declaration d is rest =
     let ret = spell-name d.ret_ty is.ret_ty (rparen ∷ rest) in
-    let args = spell-row (name_shapes d.arg_tys) (SpellsAll SpellsName (erase_names d.arg_tys)) ret.all (spell-names d.arg_tys is.arg_tys (rparen ∷ ret.all)) in
+    let args = spell-list (name_shapes d.arg_tys) (SpellsAll SpellsName (erase_names d.arg_tys)) ret.all (spell-names d.arg_tys is.arg_tys (rparen ∷ ret.all)) in
     let term = spell-name d.term is.term args.all in
     let rec = spell-flag (codes "rec") word-rec d.rec term.all in
     let partial = spell-flag (codes "partial") word-partial d.partial rec.all in
     let multi = spell-flag (codes "multi") word-multi d.multi partial.all in
     let pure = spell-flag (codes "pure") word-pure d.pure multi.all in
     let word = spell-word (codes "decl") word-decl pure.all in
-    spell-row _
+    spell-list _
     (BehindWord (codes "decl") (SpellsDeclaration (erase_declaration d)))
     rest
     (record {
@@ -303,7 +314,7 @@ spell-conversion c is rest =
     let outer = spell-name c.outer_ty is.2 term.all in
     let inner = spell-name c.inner_ty is.1 outer.all in
     let word = spell-word (codes "convert") word-convert inner.all in
-    spell-row _
+    spell-list _
     (BehindWord (codes "convert") (SpellsConversion (erase_conversion c)))
     rest
     (record {
@@ -330,7 +341,7 @@ spell-definition (type_def t) is rest =
     let modifiers = spell-modifiers t.is_extern t.is_nodebug content.all in
     let name = spell-name t.name is.0 modifiers.all in
     let word = spell-word (codes "type") word-type name.all in
-    spell-row
+    spell-list
     (atom (codes "type") ∷ [] ++ name_shape t.name ∷ [] ++ flag_shape (codes "extern") t.is_extern ++ flag_shape (codes "nodebug") t.is_nodebug ++ type_content_shape t.ty ∷ [])
     (BehindWord (codes "type") (SpellsTypeDefinition (erase_type t)))
     rest
@@ -357,7 +368,7 @@ spell-definition (attr a) is rest =
     let kinds = spell-all kind_shape erase_kind SpellsAttributeKind IsWritableKind spell-kind a.kinds is.1 (rparen ∷ rest) in
     let target = spell-target a.target is.0 kinds.all in
     let word = spell-word (codes "attr") word-attr target.all in
-    spell-row
+    spell-list
     (atom (codes "attr") ∷ [] ++ target_shape a.target ++ map kind_shape a.kinds)
     (BehindWord (codes "attr") (SpellsAttribute (erase_attribute a)))
     rest
@@ -382,7 +393,7 @@ spell-definition (model m) is rest =
     let val = spell-model_content m.val is.1 (rparen ∷ rest) in
     let name = spell-name m.name is.0 val.all in
     let word = spell-word (codes "model") word-model name.all in
-    spell-row
+    spell-list
     (atom (codes "model") ∷ [] ++ name_shape m.name ∷ [] ++ model_content_shape m.val ∷ [])
     (BehindWord (codes "model") (SpellsModel (erase_model_definition m)))
     rest
@@ -395,7 +406,7 @@ spell-definition (form f) is rest =
     let signatures = spell-signatures f.signatures is.1 (rparen ∷ rest) in
     let name = spell-name f.name is.0 signatures.all in
     let word = spell-word (codes "form") word-form name.all in
-    spell-row
+    spell-list
     (atom (codes "form") ∷ [] ++ name_shape f.name ∷ [] ++ map signature_shape f.signatures)
     (BehindWord (codes "form") (SpellsForm (erase_form f)))
     rest
@@ -417,7 +428,7 @@ spell-definition (instantiation i) is rest =
     let instances = spell-instances i.form i.signatures i.tags is.1 (rparen ∷ rest) in
     let term = spell-name i.term is.0 instances.all in
     let word = spell-word (codes "instantiate") word-instantiate term.all in
-    spell-row
+    spell-list
     (atom (codes "instantiate") ∷ [] ++ name_shape i.term ∷ [] ++ instance_shapes i.form i.signatures ++ map tag_shape i.tags)
     (BehindWord (codes "instantiate") (SpellsInstantiation (erase_instantiation i)))
     rest

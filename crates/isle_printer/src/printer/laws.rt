@@ -1,6 +1,6 @@
-//! The laws of the printer.
+//! The laws of the printer. A law is a function that runs no code: its contract is what is proved.
 
-ghost use Rattle.std.specs.Prelude.{◌≡◌, ◌≤◌, ◌↔◌, ℕ, List, true};
+ghost use Rattle.std.specs.Prelude.{List, true, ℕ, ◌↔◌, ◌≡◌, ◌≤◌};
 ghost use Rattle.isle_ast.specs.Erased.{erase};
 ghost use Rattle.isle_ast.specs.MacroArgs.{definitions_have_macro_arg};
 ghost use Rattle.isle_ast.specs.Spelt.{IsSpelt};
@@ -11,13 +11,13 @@ ghost use Rattle.isle_printer.specs.Printed.{IsPrinted};
 ghost use Rattle.isle_printer.specs.ReadBack.{HaveSameTokens, ReadsBack, ReadsBackIfWritable};
 ghost use Rattle.isle_printer_layout.specs.ShortLines.{HasShortLines};
 
-pub use isle_printer_layout::printer::laws::{
+pub use isle_printer_layout::laws::{
     least_choice_is_one, narrower_breaks_more, rendered_text_lexes, rules_give_least_choice,
     s_expressions_are_compared,
 };
 
-/// A law, which runs no code: the print of spelt definitions, at any width, is spelt by them,
-/// erased, and it is the print of the erased definitions too.
+/// The print of spelt definitions, at any width, is spelt by the same definitions, erased. The
+/// erased definitions have the same print.
 pub fn prints_read_back()
     ensures reads_back { (width : ℕ) (ds : List Definition) (text : List ℕ)
         → IsPrinted width ds text → ReadsBack ds text }
@@ -25,9 +25,9 @@ pub fn prints_read_back()
         → IsPrinted width ds text ↔ IsPrinted width (erase ds) text }
 {}
 
-/// A law, which runs no code: the print of definitions, at any width, is spelt by them, erased,
-/// exactly if they are writable; then it has the same tokens at every width, offsets aside.
-/// Definitions that hold the argument of a macro, which have no print, aren't writable.
+/// The print of definitions, at any width, is spelt by them, erased, exactly if they are writable.
+/// Then it has the same tokens at every width, offsets aside. Definitions that hold the argument of
+/// a macro have no print, and aren't writable.
 pub fn writable_definitions_read_back()
     ensures spelt { (width : ℕ) (ds : List Definition) (text : List ℕ) → AreWritable ds
         → IsPrinted width ds text → IsSpelt nowhere text (erase ds) }
@@ -40,9 +40,8 @@ pub fn writable_definitions_read_back()
         → definitions_have_macro_arg ds ≡ true → AreWritable ds → ⊥ }
 {}
 
-/// A law, which runs no code: where a list stands whole on a line of the print of writable
-/// definitions, at a width from 1, the line is no longer than the width, its indentation and one
-/// byte for each empty list on it.
+/// A line of the print of writable definitions, at a width from 1, that holds a whole list is no
+/// longer than the width, its indentation and one byte for each empty list on it.
 pub fn prints_have_short_lines()
     ensures { (width : ℕ) (ds : List Definition) (text : List ℕ) → 1 ≤ width → AreWritable ds
         → IsPrinted width ds text → HasShortLines width text }

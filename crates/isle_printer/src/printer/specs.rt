@@ -1,28 +1,24 @@
 //! The S-expressions of spec expressions, of their operators, and of specs, their macros and
 //! states.
 
-use super::to_sexpr::{Put, ToSExpr, sexpr_by_tape};
+ghost use Rattle.isle_ast_verification.specs.TreeView.{modified_of, single_arm_of};
+ghost use Rattle.isle_ast_verification.specs.TreeView.{single_field_init_of, spec_definition_of};
+ghost use Rattle.isle_ast_verification.specs.TreeView.{spec_macro_of, spec_of, state_of};
+ghost use Rattle.isle_printer_verification.specs.SpecShapes.{arm_shape, field_init_shape};
+ghost use Rattle.isle_printer_verification.specs.SpecShapes.{modifies_shape, operator_shape};
+ghost use Rattle.isle_printer_verification.specs.SpecShapes.{spec_definition_shape};
+ghost use Rattle.isle_printer_verification.specs.SpecShapes.{spec_macro_shape, spec_shape};
+ghost use Rattle.isle_printer_verification.specs.SpecShapes.{state_shape};
+
+use super::to_sexpr::Put;
 use isle_ast::ast::{Arm, FieldInit, Modifies, Spec, SpecExpr, SpecMacro, SpecOp, State};
-use isle_printer_layout::printer::{PrintFault, SExpr, Tape};
-use isle_printer_specs::printer::definitions::{modifies, spec_definition, spec_macro, state};
-use isle_printer_specs::printer::operators::operator;
-use isle_printer_specs::printer::specs::{arm, field_init, spec};
-use std::alloc::{AllocError, Global};
-
-impl ToSExpr for SpecOp {
-    ghost use Rattle.std.specs.Prelude.{Some};
-    ghost use Rattle.isle_printer_specs.specs.SpecShapes.{operator_shape};
-
-    ghost meaning = { λ op. Some (operator_shape op) };
-
-    fn to_sexpr(&self, alloc: Global) -> Result<SExpr, PrintFault> {
-        Ok(sexpr_by_tape(self, alloc)?)
-    }
-}
+use isle_printer_layout::Tape;
+use isle_printer_verification::definitions::{modifies, spec_definition, spec_macro, state};
+use isle_printer_verification::operators::operator;
+use isle_printer_verification::spec_expressions::{arm, field_init, spec};
+use std::alloc::AllocError;
 
 impl Put for SpecOp {
-    ghost use Rattle.isle_printer_specs.specs.SpecShapes.{operator_shape};
-
     ghost shape = { operator_shape };
 
     fn put<'src>(&'src self, tape: &mut Tape<'src>) -> Result<(), AllocError> {
@@ -30,22 +26,7 @@ impl Put for SpecOp {
     }
 }
 
-impl ToSExpr for SpecExpr {
-    ghost use Rattle.std.specs.Prelude.{Some};
-    ghost use Rattle.isle_ast_specs.specs.TreeView.{spec_of};
-    ghost use Rattle.isle_printer_specs.specs.SpecShapes.{spec_shape};
-
-    ghost meaning = { λ x. Some (spec_shape (spec_of x)) };
-
-    fn to_sexpr(&self, alloc: Global) -> Result<SExpr, PrintFault> {
-        Ok(sexpr_by_tape(self, alloc)?)
-    }
-}
-
 impl Put for SpecExpr {
-    ghost use Rattle.isle_ast_specs.specs.TreeView.{spec_of};
-    ghost use Rattle.isle_printer_specs.specs.SpecShapes.{spec_shape};
-
     ghost shape = { λ x. spec_shape (spec_of x) };
 
     fn put<'src>(&'src self, tape: &mut Tape<'src>) -> Result<(), AllocError> {
@@ -53,22 +34,7 @@ impl Put for SpecExpr {
     }
 }
 
-impl ToSExpr for Arm {
-    ghost use Rattle.std.specs.Prelude.{Some};
-    ghost use Rattle.isle_ast_specs.specs.TreeView.{single_arm_of};
-    ghost use Rattle.isle_printer_specs.specs.SpecShapes.{arm_shape};
-
-    ghost meaning = { λ a. Some (arm_shape (single_arm_of a)) };
-
-    fn to_sexpr(&self, alloc: Global) -> Result<SExpr, PrintFault> {
-        Ok(sexpr_by_tape(self, alloc)?)
-    }
-}
-
 impl Put for Arm {
-    ghost use Rattle.isle_ast_specs.specs.TreeView.{single_arm_of};
-    ghost use Rattle.isle_printer_specs.specs.SpecShapes.{arm_shape};
-
     ghost shape = { λ a. arm_shape (single_arm_of a) };
 
     fn put<'src>(&'src self, tape: &mut Tape<'src>) -> Result<(), AllocError> {
@@ -76,22 +42,7 @@ impl Put for Arm {
     }
 }
 
-impl ToSExpr for FieldInit {
-    ghost use Rattle.std.specs.Prelude.{Some};
-    ghost use Rattle.isle_ast_specs.specs.TreeView.{single_field_init_of};
-    ghost use Rattle.isle_printer_specs.specs.SpecShapes.{field_init_shape};
-
-    ghost meaning = { λ f. Some (field_init_shape (single_field_init_of f)) };
-
-    fn to_sexpr(&self, alloc: Global) -> Result<SExpr, PrintFault> {
-        Ok(sexpr_by_tape(self, alloc)?)
-    }
-}
-
 impl Put for FieldInit {
-    ghost use Rattle.isle_ast_specs.specs.TreeView.{single_field_init_of};
-    ghost use Rattle.isle_printer_specs.specs.SpecShapes.{field_init_shape};
-
     ghost shape = { λ f. field_init_shape (single_field_init_of f) };
 
     fn put<'src>(&'src self, tape: &mut Tape<'src>) -> Result<(), AllocError> {
@@ -99,22 +50,7 @@ impl Put for FieldInit {
     }
 }
 
-impl ToSExpr for Spec {
-    ghost use Rattle.std.specs.Prelude.{Some};
-    ghost use Rattle.isle_ast_specs.specs.TreeView.{spec_definition_of};
-    ghost use Rattle.isle_printer_specs.specs.SpecShapes.{spec_definition_shape};
-
-    ghost meaning = { λ s. Some (spec_definition_shape (spec_definition_of s)) };
-
-    fn to_sexpr(&self, alloc: Global) -> Result<SExpr, PrintFault> {
-        Ok(sexpr_by_tape(self, alloc)?)
-    }
-}
-
 impl Put for Spec {
-    ghost use Rattle.isle_ast_specs.specs.TreeView.{spec_definition_of};
-    ghost use Rattle.isle_printer_specs.specs.SpecShapes.{spec_definition_shape};
-
     ghost shape = { λ s. spec_definition_shape (spec_definition_of s) };
 
     fn put<'src>(&'src self, tape: &mut Tape<'src>) -> Result<(), AllocError> {
@@ -122,22 +58,7 @@ impl Put for Spec {
     }
 }
 
-impl ToSExpr for Modifies {
-    ghost use Rattle.std.specs.Prelude.{Some};
-    ghost use Rattle.isle_ast_specs.specs.TreeView.{modified_of};
-    ghost use Rattle.isle_printer_specs.specs.SpecShapes.{modifies_shape};
-
-    ghost meaning = { λ m. Some (modifies_shape (modified_of m)) };
-
-    fn to_sexpr(&self, alloc: Global) -> Result<SExpr, PrintFault> {
-        Ok(sexpr_by_tape(self, alloc)?)
-    }
-}
-
 impl Put for Modifies {
-    ghost use Rattle.isle_ast_specs.specs.TreeView.{modified_of};
-    ghost use Rattle.isle_printer_specs.specs.SpecShapes.{modifies_shape};
-
     ghost shape = { λ m. modifies_shape (modified_of m) };
 
     fn put<'src>(&'src self, tape: &mut Tape<'src>) -> Result<(), AllocError> {
@@ -145,22 +66,7 @@ impl Put for Modifies {
     }
 }
 
-impl ToSExpr for SpecMacro {
-    ghost use Rattle.std.specs.Prelude.{Some};
-    ghost use Rattle.isle_ast_specs.specs.TreeView.{spec_macro_of};
-    ghost use Rattle.isle_printer_specs.specs.SpecShapes.{spec_macro_shape};
-
-    ghost meaning = { λ m. Some (spec_macro_shape (spec_macro_of m)) };
-
-    fn to_sexpr(&self, alloc: Global) -> Result<SExpr, PrintFault> {
-        Ok(sexpr_by_tape(self, alloc)?)
-    }
-}
-
 impl Put for SpecMacro {
-    ghost use Rattle.isle_ast_specs.specs.TreeView.{spec_macro_of};
-    ghost use Rattle.isle_printer_specs.specs.SpecShapes.{spec_macro_shape};
-
     ghost shape = { λ m. spec_macro_shape (spec_macro_of m) };
 
     fn put<'src>(&'src self, tape: &mut Tape<'src>) -> Result<(), AllocError> {
@@ -168,22 +74,7 @@ impl Put for SpecMacro {
     }
 }
 
-impl ToSExpr for State {
-    ghost use Rattle.std.specs.Prelude.{Some};
-    ghost use Rattle.isle_ast_specs.specs.TreeView.{state_of};
-    ghost use Rattle.isle_printer_specs.specs.SpecShapes.{state_shape};
-
-    ghost meaning = { λ s. Some (state_shape (state_of s)) };
-
-    fn to_sexpr(&self, alloc: Global) -> Result<SExpr, PrintFault> {
-        Ok(sexpr_by_tape(self, alloc)?)
-    }
-}
-
 impl Put for State {
-    ghost use Rattle.isle_ast_specs.specs.TreeView.{state_of};
-    ghost use Rattle.isle_printer_specs.specs.SpecShapes.{state_shape};
-
     ghost shape = { λ s. state_shape (state_of s) };
 
     fn put<'src>(&'src self, tape: &mut Tape<'src>) -> Result<(), AllocError> {

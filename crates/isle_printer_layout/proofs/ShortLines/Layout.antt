@@ -9,8 +9,8 @@ use Rattle.isle_ast_names.specs.Writable.{Each}
 use Rattle.isle_printer_layout.specs.Choices.{Choice, Choices, render, render_behind, FitsAt, FitsBehind}
 use Rattle.isle_printer_layout.specs.Flat.{flat, flat_behind, counted, counted_items}
 use Rattle.isle_printer_layout.specs.Layout.{new_line, layout}
-use Rattle.isle_printer_layout.specs.Sexp.{Sexp, Sexps, atom, binding, row, none, more}
-use Rattle.isle_printer_layout.specs.ShortLines.{before_first, text_lines, indentation, empty_lists, IsShortLine, HasShortLines}
+use Rattle.isle_printer_layout.specs.Sexp.{Sexp, Sexps, atom, binding, list, none, more}
+use Rattle.isle_printer_layout.specs.ShortLines.{before_first, text_lines, leading_spaces, empty_lists, IsShortLine, HasShortLines}
 use Rattle.isle_printer_layout.proofs.Greedy.{greedy, greedy-IsLeast, layout_is_render}
 
 -- bytes of a kind
@@ -105,9 +105,9 @@ empty_lists-append [] ys = omega arith
 empty_lists-append (x ∷ []) ys = omega (arith, none_at_end (x == 40))
 empty_lists-append (x ∷ y ∷ xs) ys = omega (arith, empty_lists-append (y ∷ xs) ys)
 
-spaces-indentation : (n : ℕ) (text : List ℕ) → n ≤ indentation (replicate n 32 ++ text)
-spaces-indentation zero text = omega arith
-spaces-indentation (suc n) text = omega (arith, spaces-indentation n text)
+leading_spaces-replicate : (n : ℕ) (text : List ℕ) → n ≤ leading_spaces (replicate n 32 ++ text)
+leading_spaces-replicate zero text = omega arith
+leading_spaces-replicate (suc n) text = omega (arith, leading_spaces-replicate n text)
 
 mutual
   -- on one line, an S-expression has the bytes that it counts, and at most one more for each empty
@@ -122,8 +122,8 @@ mutual
         length-append name (codes " @ "),
         empty_lists-append (name ++ codes " @ ") (flat s),
       )
-  flat-length (row none) = omega arith
-  flat-length (row (more s ss)) =
+  flat-length (list none) = omega arith
+  flat-length (list (more s ss)) =
       omega (
         arith,
         flat-length s,
@@ -148,7 +148,7 @@ mutual
 -- S-expressions with short lines
 
 abbrev pub IsNoEmptyList : Sexp → Type 0
-IsNoEmptyList (row none) = ⊥
+IsNoEmptyList (list none) = ⊥
 IsNoEmptyList _ = Unit {0}
 
 -- No list begins with an empty list, none is bound, and atoms hold no parenthesis and no LF.
@@ -156,8 +156,8 @@ abbrev mutual
   pub IsTidy : Sexp → Type 0
   IsTidy (atom text) = list_all is_plain text ≡ true
   IsTidy (binding name s) = (list_all is_plain name ≡ true) × IsNoEmptyList s × IsTidy s
-  IsTidy (row none) = Unit {0}
-  IsTidy (row (more s ss)) = IsNoEmptyList s × IsTidy s × AreTidy ss
+  IsTidy (list none) = Unit {0}
+  IsTidy (list (more s ss)) = IsNoEmptyList s × IsTidy s × AreTidy ss
 
   pub AreTidy : Sexps → Type 0
   AreTidy none = Unit {0}
@@ -170,8 +170,8 @@ mutual
       all_append stays (name ++ codes " @ ") (flat s)
       (all_append stays name (codes " @ ") (opening-stays name (plain-opening name tidy.0)) refl)
       (flat-stays s tidy.2)
-  flat-stays (row none) tidy = refl
-  flat-stays (row (more s ss)) tidy = all_append stays (codes "(" ++ flat s) (flat_behind ss) (flat-stays s tidy.1) (flat_behind-stays ss tidy.2)
+  flat-stays (list none) tidy = refl
+  flat-stays (list (more s ss)) tidy = all_append stays (codes "(" ++ flat s) (flat_behind ss) (flat-stays s tidy.1) (flat_behind-stays ss tidy.2)
 
   flat_behind-stays : (ss : Sexps) → AreTidy ss → list_all stays (flat_behind ss) ≡ true
   flat_behind-stays none tidy = refl
@@ -180,36 +180,36 @@ mutual
 -- the line that is begun: how far it is written behind its indentation
 record IsBegun (column : ℕ) (begun : List ℕ) : Type 0 where
   bytes : list_all is_opening begun ≡ true
-  within : (behind : List ℕ) → length begun ≤ column + indentation (begun ++ behind)
+  within : (behind : List ℕ) → length begun ≤ column + leading_spaces (begun ++ behind)
 
 IsBegun-spaces : (n : ℕ) → IsBegun 0 (replicate n 32)
 IsBegun-spaces n = record {
   bytes = all_replicate is_opening n 32 refl;
-  within = λ behind. omega (arith, spaces-indentation n behind, length-replicate {A = ℕ} n 32);
+  within = λ behind. omega (arith, leading_spaces-replicate n behind, length-replicate {A = ℕ} n 32);
 }
 
 IsBegun-more : (column next : ℕ) (begun text : List ℕ) → next ≡ column + length text → list_all is_opening text ≡ true → IsBegun column begun → IsBegun next (begun ++ text)
 IsBegun-more column next begun text e h is = record {
   bytes = all_append is_opening begun text is.bytes h;
-  within = λ behind. omega (arith, e, is.within (text ++ behind), length-append begun text, ap indentation (append_assoc begun text behind));
+  within = λ behind. omega (arith, e, is.within (text ++ behind), length-append begun text, ap leading_spaces (append_assoc begun text behind));
 }
 
 -- an empty list stands at the beginning of a line, any other S-expression anywhere
 abbrev MayStand : ℕ → Sexp → Type 0
-MayStand column (row none) = column ≡ 0
+MayStand column (list none) = column ≡ 0
 MayStand column _ = Unit {0}
 
 MayStand-first : (s : Sexp) → MayStand 0 s
 MayStand-first (atom _) = tt
 MayStand-first (binding _ _) = tt
-MayStand-first (row none) = refl
-MayStand-first (row (more _ _)) = tt
+MayStand-first (list none) = refl
+MayStand-first (list (more _ _)) = tt
 
 MayStand-no_empty : (column : ℕ) (s : Sexp) → IsNoEmptyList s → MayStand column s
 MayStand-no_empty column (atom _) is = tt
 MayStand-no_empty column (binding _ _) is = tt
-MayStand-no_empty column (row none) is = absurd is
-MayStand-no_empty column (row (more _ _)) is = tt
+MayStand-no_empty column (list none) is = absurd is
+MayStand-no_empty column (list (more _ _)) is = tt
 
 -- a line that ends with a list on one line, within the width
 whole-short : (width column : ℕ) (begun : List ℕ) (s : Sexp) → IsBegun column begun → column + counted s ≤ width → IsShortLine width (begun ++ flat s)
@@ -257,13 +257,13 @@ mutual
       let is_next : IsBegun next (begun ++ front) = IsBegun-more column next begun front (omega (arith, length-append name (codes " @ "))) is_front is in
       subst (HasShortLines width) (sym (binding-grouped begun front (render s c level) (10 ∷ rest)))
       (render-short width some s c level next (begun ++ front) rest fits tidy.2 (MayStand-no_empty next s tidy.1) is_next behind)
-  render-short width some (row none) c level column begun rest fits tidy may is behind =
+  render-short width some (list none) c level column begun rest fits tidy may is behind =
       let is_first : IsBegun 0 begun = subst (λ n. IsBegun n begun) may is in
       short-line width (begun ++ codes "()") rest (line-stays column begun (codes "()") is refl) (empty-short width begun some is_first) behind
-  render-short width some (row (more s ss)) None level column begun rest fits tidy may is behind =
-      let list = row (more s ss) in
-      short-line width (begun ++ flat list) rest (line-stays column begun (flat list) is (flat-stays list tidy)) (whole-short width column begun list is fits) behind
-  render-short width some (row (more s ss)) (Some c) level column begun rest fits tidy may is behind =
+  render-short width some (list (more s ss)) None level column begun rest fits tidy may is behind =
+      let whole = list (more s ss) in
+      short-line width (begun ++ flat whole) rest (line-stays column begun (flat whole) is (flat-stays whole tidy)) (whole-short width column begun whole is fits) behind
+  render-short width some (list (more s ss)) (Some c) level column begun rest fits tidy may is behind =
       let lines = render_behind-short width some ss c.1 level rest fits.1 tidy.2 behind in
       let is_next : IsBegun (column + 1) (begun ++ codes "(") = IsBegun-more column (column + 1) begun (codes "(") (omega arith) refl is in
       subst (HasShortLines width) (sym (list-grouped begun (render s c.0 level) (render_behind ss c.1 level) (10 ∷ rest) (10 ∷ lines.after) lines.begins))

@@ -4,7 +4,7 @@ use Rattle.std.proofs.lemmas.Bool.Decides.{nat_tests}
 use Rattle.std.proofs.lemmas.Fmt.{decimal_by_steps_wide}
 use Rattle.std.specs.Fmt.{decimal, signed_decimal}
 use Rattle.std.specs.List.{list_all}
-use Rattle.isle_base.specs.Pieces.{in_symbol}
+use Rattle.isle_base.specs.Spellings.{in_symbol}
 use Rattle.isle_base.specs.Skips.{is_blank}
 use Rattle.isle_base.specs.Token.{symbol}
 use Rattle.isle_ast_names.proofs.IdentifierBytes.{identifier_in_symbol}
@@ -15,7 +15,7 @@ use Rattle.isle_ast_names.specs.Words.{bool_word}
 use Rattle.isle_ast_names.specs.Writable.{IsName, Each}
 use Rattle.isle_printer_layout.specs.ReadBack.{ReadsAs}
 use Rattle.isle_printer_layout.specs.NameShapes.{integer_text, name_shape, name_shapes, flag_shape, form_shape, headed_shape, names_shape}
-use Rattle.isle_printer_layout.specs.Sexp.{Sexp, atom, sexps, row_of}
+use Rattle.isle_printer_layout.specs.Sexp.{Sexp, atom, sexps, list_of}
 use Rattle.isle_printer_layout.proofs.ShortLines.Layout.{is_plain, all_weaker, all_append, IsNoEmptyList, IsTidy, AreTidy}
 
 -- atoms
@@ -103,15 +103,15 @@ abbrev pub BeginsWell : List Sexp → Type 0
 BeginsWell [] = Unit {0}
 BeginsWell (s ∷ _) = IsNoEmptyList s
 
-pub tidy-row : (items : List Sexp) → BeginsWell items → TidyItems items → IsTidy (row_of items)
-tidy-row [] begins t = tt
-tidy-row (s ∷ ss) begins t = (begins, t.are.0, t.are.1)
+pub tidy-list : (items : List Sexp) → BeginsWell items → TidyItems items → IsTidy (list_of items)
+tidy-list [] begins t = tt
+tidy-list (s ∷ ss) begins t = (begins, t.are.0, t.are.1)
 
 pub tidy-form : (word : List ℕ) → list_all is_plain word ≡ true → (items : List Sexp) → TidyItems items → IsTidy (form_shape word items)
 tidy-form word plain items t = (tt, plain, t.are)
 
-tidy-names_row : (ns : List Name) → Each IsName ns → IsTidy (names_shape ns)
-tidy-names_row ns are = tidy-row (name_shapes ns) (first ns) (tidy-names ns are)
+tidy-names_list : (ns : List Name) → Each IsName ns → IsTidy (names_shape ns)
+tidy-names_list ns are = tidy-list (name_shapes ns) (first ns) (tidy-names ns are)
   where
     first : (ns : List Name) → BeginsWell (name_shapes ns)
     first [] = tt
@@ -129,4 +129,4 @@ pub tidy-headed_item : (n : Name) (ns : List Name) → IsName n → Each IsName 
 tidy-headed_item n ns is are = tidy-item {s = headed_shape n ns} (tidy-headed n ns is are)
 
 pub tidy-names_item : (ns : List Name) → Each IsName ns → TidyItems (names_shape ns ∷ [])
-tidy-names_item ns are = tidy-item {s = names_shape ns} (tidy-names_row ns are)
+tidy-names_item ns are = tidy-item {s = names_shape ns} (tidy-names_list ns are)

@@ -7,7 +7,9 @@ use Rattle.isle_base.specs.Token.{Tok, rparen, symbol, integer, at_sign}
 use Rattle.isle_ast_names.proofs.IdentifierBytes.{identifier_is_symbol}
 use Rattle.isle_ast_names.specs.Numbers.{IsSigned, SpellsPriority}
 use Rattle.isle_ast_names.specs.Tree.{Name}
-use Rattle.isle_ast_rules.specs.Tree.{PatternNode, var_pattern, bind_pattern, bool_pattern, int_pattern, constant_pattern, term_pattern, wildcard_pattern, and_pattern, macro_arg_pattern, PatternRow, no_pattern, more_pattern, Expression, term_expression, var_expression, bool_expression, int_expression, constant_expression, let_expression, ExpressionRow, no_expression, more_expression, LetRow, no_let, more_let, Condition, RuleDefinition, ExtractorDefinition}
+use Rattle.isle_ast_rules.specs.Tree.{PatternNode, var_pattern, bind_pattern, bool_pattern, int_pattern, constant_pattern, term_pattern, wildcard_pattern, and_pattern, macro_arg_pattern, PatternList}
+use Rattle.isle_ast_rules.specs.Tree.{no_pattern, more_pattern, Expression, term_expression, var_expression, bool_expression, int_expression, constant_expression, let_expression, ExpressionList}
+use Rattle.isle_ast_rules.specs.Tree.{no_expression, more_expression, LetList, no_let, more_let, Condition, RuleDefinition, ExtractorDefinition}
 use Rattle.isle_ast_names.specs.Words.{SpellsToken, BeginsAt, SpellsAll, InParentheses, BehindWord, SpellsName, SpellsOptional, is_constant, bool_word, is_bool_word}
 use Rattle.isle_ast_names.specs.Erased.{erase_name, erase_names, erase_optional}
 use Rattle.isle_ast_rules.proofs.Lawful.Rules.{no_head_erased, if_erased}
@@ -16,13 +18,15 @@ use Rattle.isle_ast_rules.specs.ExpressionGrammar.{is_variable_of_expressions, S
 use Rattle.isle_ast_rules.specs.PatternGrammar.{is_variable_of_patterns, SpellsVariable, SpellsPattern, SpellsPatterns}
 use Rattle.isle_ast_rules.specs.RuleGrammar.{SpellsMatch, SpellsCondition, SpellsRule, SpellsExtractor}
 use Rattle.isle_ast_names.specs.Writable.{IsName}
-use Rattle.isle_ast_rules.specs.Writable.{HasNoDollar, IsPatternVariable, IsExpressionVariable, IsWritablePattern, AreWritablePatterns, IsWritableExpression, AreWritableExpressions, AreWritableLets, IsWritableCondition, IsWritableRule, IsWritableExtractor}
+use Rattle.isle_ast_rules.specs.Writable.{HasNoDollar, IsPatternVariable, IsExpressionVariable, IsWritablePattern, AreWritablePatterns, IsWritableExpression, AreWritableExpressions, AreWritableLets}
+use Rattle.isle_ast_rules.specs.Writable.{IsWritableCondition, IsWritableRule, IsWritableExtractor}
 use Rattle.isle_printer_layout.specs.ReadBack.{ReadsAs, unplaced}
 use Rattle.isle_printer_rules.specs.RuleShapes.{pattern_shape, pattern_shapes, expression_shape, expression_shapes, let_shapes, condition_shape, rule_name_shape, priority_shape, rule_shape, extractor_shape}
-use Rattle.isle_printer_layout.specs.Sexp.{Sexp, atom, binding, row_of}
+use Rattle.isle_printer_layout.specs.Sexp.{Sexp, atom, binding, list_of}
 use Rattle.isle_printer_layout.specs.NameShapes.{name_shape, name_shapes}
 use Rattle.isle_printer_layout.proofs.NumberAtoms.{signed_decimal-ReadsAs}
-use Rattle.isle_printer_layout.proofs.Spellings.{◌then◌, item-ahead, items-ahead, Spelling, placed, spell-nothing, spell-word, spell-name, spell-all, spell-names, spell-row, spell-form, InTurn, spell-turn, differs-test, spell-constant, word-bool, spell-integer}
+use Rattle.isle_printer_layout.proofs.Spellings.{◌then◌, item-ahead, items-ahead, Spelling, placed, spell-nothing, spell-word, spell-name, spell-all, spell-names, spell-list, spell-form, InTurn}
+use Rattle.isle_printer_layout.proofs.Spellings.{spell-turn, differs-test, spell-constant, word-bool, spell-integer}
 use Rattle.isle_printer_layout.proofs.WordSymbols.{word-and, word-let, word-if_let, word-underscore, word-rule, word-extractor}
 
 -- the tests on a variable
@@ -88,14 +92,14 @@ mutual
   spell-pattern (term_pattern sym args _) is rest =
       let behind = spell-patterns args is.2 (rparen ∷ rest) in
       let name = spell-name sym is.0 behind.all in
-      let s = spell-row (name_shape sym ∷ pattern_shapes args) (InTurn (SpellsName (erase_name sym)) (SpellsPatterns (erase_patterns args))) rest (spell-turn behind name) in
+      let s = spell-list (name_shape sym ∷ pattern_shapes args) (InTurn (SpellsName (erase_name sym)) (SpellsPatterns (erase_patterns args))) rest (spell-turn behind name) in
       record { all = s.all; tokens = s.tokens; spells = (differs-test sym.text (codes "and") _ refl is.1, item-ahead s.tokens, s.spells) }
   spell-pattern (wildcard_pattern _) is rest = placed (spell-word (codes "_") word-underscore rest)
   spell-pattern (and_pattern subpats _) is rest =
       placed (spell-form (codes "and") word-and (pattern_shapes subpats) (SpellsPatterns (erase_patterns subpats)) rest (spell-patterns subpats is (rparen ∷ rest)))
   spell-pattern (macro_arg_pattern _ _) is rest = absurd is
 
-  spell-patterns : (ps : PatternRow) → AreWritablePatterns ps → (rest : List Tok) → Spelling (pattern_shapes ps) (SpellsPatterns (erase_patterns ps)) rest
+  spell-patterns : (ps : PatternList) → AreWritablePatterns ps → (rest : List Tok) → Spelling (pattern_shapes ps) (SpellsPatterns (erase_patterns ps)) rest
   spell-patterns no_pattern is rest = spell-nothing rest
   spell-patterns (more_pattern p ps) is rest =
       let behind = spell-patterns ps is.1 rest in
@@ -113,7 +117,7 @@ mutual
   spell-expression (term_expression sym args _) is rest =
       let behind = spell-expressions args is.2 (rparen ∷ rest) in
       let name = spell-name sym is.0 behind.all in
-      let s = spell-row (name_shape sym ∷ expression_shapes args) (InTurn (SpellsName (erase_name sym)) (SpellsExpressions (erase_expressions args))) rest (spell-turn behind name) in
+      let s = spell-list (name_shape sym ∷ expression_shapes args) (InTurn (SpellsName (erase_name sym)) (SpellsExpressions (erase_expressions args))) rest (spell-turn behind name) in
       record { all = s.all; tokens = s.tokens; spells = (differs-test sym.text (codes "let") _ refl is.1, item-ahead s.tokens, s.spells) }
   spell-expression (var_expression name _) is rest = placed (spell-expression_variable name is rest)
   spell-expression (bool_expression val _) is rest = placed (spell-word (bool_word val) (word-bool val) rest)
@@ -121,21 +125,21 @@ mutual
   spell-expression (constant_expression val _) is rest = placed (spell-constant val is rest)
   spell-expression (let_expression defs body _) is rest =
       let second = spell-expression body is.1 (rparen ∷ rest) in
-      let first = spell-row (let_shapes defs) (SpellsLets (erase_lets defs)) second.all (spell-lets defs is.0 (rparen ∷ second.all)) in
+      let first = spell-list (let_shapes defs) (SpellsLets (erase_lets defs)) second.all (spell-lets defs is.0 (rparen ∷ second.all)) in
       placed
       (spell-form (codes "let") word-let
-      (row_of (let_shapes defs) ∷ expression_shape body ∷ [])
+      (list_of (let_shapes defs) ∷ expression_shape body ∷ [])
       (InTurn (InParentheses (SpellsLets (erase_lets defs))) (SpellsExpression (erase_expression body)))
       rest
       (spell-turn second first))
 
-  spell-expressions : (xs : ExpressionRow) → AreWritableExpressions xs → (rest : List Tok) → Spelling (expression_shapes xs) (SpellsExpressions (erase_expressions xs)) rest
+  spell-expressions : (xs : ExpressionList) → AreWritableExpressions xs → (rest : List Tok) → Spelling (expression_shapes xs) (SpellsExpressions (erase_expressions xs)) rest
   spell-expressions no_expression is rest = spell-nothing rest
   spell-expressions (more_expression x xs) is rest =
       let behind = spell-expressions xs is.1 rest in
       spell-turn behind (spell-expression x is.0 behind.all)
 
-  spell-lets : (ds : LetRow) → AreWritableLets ds → (rest : List Tok) → Spelling (let_shapes ds) (SpellsLets (erase_lets ds)) rest
+  spell-lets : (ds : LetList) → AreWritableLets ds → (rest : List Tok) → Spelling (let_shapes ds) (SpellsLets (erase_lets ds)) rest
   spell-lets no_let is rest = spell-nothing rest
   spell-lets (more_let var ty val _ lets) is rest =
       let behind = spell-lets lets is.3 rest in
@@ -151,7 +155,7 @@ mutual
         tokens = first.tokens then second.tokens then third.tokens;
         spells = (unplaced second.all, unplaced third.all, first.spells, second.spells, third.spells);
       } in
-      spell-turn behind (placed (spell-row _ _ behind.all inner))
+      spell-turn behind (placed (spell-list _ _ behind.all inner))
 
 -- conditions, rules, extractors
 
@@ -186,7 +190,7 @@ spell-rule r is rest =
     let prio = spell-priority r.prio is.prio pattern.all in
     let name = spell-rule_name r.name is.name prio.all in
     let word = spell-word (codes "rule") word-rule name.all in
-    spell-row _
+    spell-list _
     (BehindWord (codes "rule") (SpellsRule (erase_rule r)))
     rest
     (record {
@@ -217,10 +221,10 @@ spell-extractor_definition e is rest =
     let template = spell-pattern e.template is.2 (rparen ∷ rest) in
     let args = spell-names e.args is.1 (rparen ∷ template.all) in
     let term = spell-name e.term is.0 args.all in
-    let head = spell-row (name_shape e.term ∷ name_shapes e.args) (InTurn (SpellsName (erase_name e.term)) (SpellsAll SpellsName (erase_names e.args))) template.all (spell-turn args term) in
+    let head = spell-list (name_shape e.term ∷ name_shapes e.args) (InTurn (SpellsName (erase_name e.term)) (SpellsAll SpellsName (erase_names e.args))) template.all (spell-turn args term) in
     let word = spell-word (codes "extractor") word-extractor head.all in
-    spell-row
-    (atom (codes "extractor") ∷ [] ++ row_of (name_shape e.term ∷ name_shapes e.args) ∷ [] ++ pattern_shape e.template ∷ [])
+    spell-list
+    (atom (codes "extractor") ∷ [] ++ list_of (name_shape e.term ∷ name_shapes e.args) ∷ [] ++ pattern_shape e.template ∷ [])
     (BehindWord (codes "extractor") (SpellsExtractor (erase_extractor e)))
     rest
     (record {

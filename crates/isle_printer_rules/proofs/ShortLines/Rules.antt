@@ -2,14 +2,17 @@
 use Rattle.std.proofs.Common.{ℤ, [], ◌∷◌, codes, Option, None, Some, IfSome, refl}
 use Rattle.isle_ast_names.specs.Numbers.{IsSigned}
 use Rattle.isle_ast_names.specs.Tree.{Name}
-use Rattle.isle_ast_rules.specs.Tree.{PatternNode, var_pattern, bind_pattern, bool_pattern, int_pattern, constant_pattern, term_pattern, wildcard_pattern, and_pattern, macro_arg_pattern, PatternRow, no_pattern, more_pattern, Expression, term_expression, var_expression, bool_expression, int_expression, constant_expression, let_expression, ExpressionRow, no_expression, more_expression, LetRow, no_let, more_let, Condition, RuleDefinition, ExtractorDefinition}
+use Rattle.isle_ast_rules.specs.Tree.{PatternNode, var_pattern, bind_pattern, bool_pattern, int_pattern, constant_pattern, term_pattern, wildcard_pattern, and_pattern, macro_arg_pattern, PatternList}
+use Rattle.isle_ast_rules.specs.Tree.{no_pattern, more_pattern, Expression, term_expression, var_expression, bool_expression, int_expression, constant_expression, let_expression, ExpressionList}
+use Rattle.isle_ast_rules.specs.Tree.{no_expression, more_expression, LetList, no_let, more_let, Condition, RuleDefinition, ExtractorDefinition}
 use Rattle.isle_ast_names.specs.Writable.{IsName}
 use Rattle.isle_ast_rules.specs.Writable.{IsConstantName, IsWritablePattern, AreWritablePatterns, IsWritableExpression, AreWritableExpressions, AreWritableLets, IsWritableCondition, IsWritableRule, IsWritableExtractor}
 use Rattle.isle_printer_rules.specs.RuleShapes.{pattern_shape, pattern_shapes, expression_shape, expression_shapes, let_shapes, condition_shape, rule_name_shape, priority_shape, rule_shape, extractor_shape}
-use Rattle.isle_printer_layout.specs.Sexp.{row_of}
+use Rattle.isle_printer_layout.specs.Sexp.{list_of}
 use Rattle.isle_printer_layout.specs.NameShapes.{constant_shape}
 use Rattle.isle_printer_layout.proofs.ShortLines.Layout.{IsNoEmptyList, IsTidy}
-use Rattle.isle_printer_layout.proofs.ShortLines.Parts.{plain-identifier, plain-bool_word, plain-priority, plain-integer, TidyItems, ◌then◌, tidy-nothing, tidy-item, tidy-word, tidy-name, tidy-all, BeginsWell, tidy-row, tidy-form, tidy-headed_item}
+use Rattle.isle_printer_layout.proofs.ShortLines.Parts.{plain-identifier, plain-bool_word, plain-priority, plain-integer, TidyItems, ◌then◌, tidy-nothing, tidy-item, tidy-word, tidy-name, tidy-all}
+use Rattle.isle_printer_layout.proofs.ShortLines.Parts.{BeginsWell, tidy-list, tidy-form, tidy-headed_item}
 
 -- a constant is an identifier behind `$`
 pub tidy-constant : (n : Name) → IsConstantName n → IsTidy (constant_shape n)
@@ -39,11 +42,11 @@ mutual
   tidy-pattern (and_pattern subpats _) is = tidy-form (codes "and") refl (pattern_shapes subpats) (tidy-patterns subpats is)
   tidy-pattern (macro_arg_pattern _ _) is = absurd is
 
-  tidy-patterns : (ps : PatternRow) → AreWritablePatterns ps → TidyItems (pattern_shapes ps)
+  tidy-patterns : (ps : PatternList) → AreWritablePatterns ps → TidyItems (pattern_shapes ps)
   tidy-patterns no_pattern is = tidy-nothing
   tidy-patterns (more_pattern p ps) is = tidy-item (tidy-pattern p is.0) then tidy-patterns ps is.1
 
-lets-begin : (lets : LetRow) → BeginsWell (let_shapes lets)
+lets-begin : (lets : LetList) → BeginsWell (let_shapes lets)
 lets-begin no_let = tt
 lets-begin (more_let _ _ _ _ _) = tt
 
@@ -56,17 +59,17 @@ mutual
   tidy-expression (constant_expression val _) is = tidy-constant val is
   tidy-expression (let_expression defs body _) is =
       tidy-form (codes "let") refl
-      (row_of (let_shapes defs) ∷ expression_shape body ∷ [])
-      (tidy-item (tidy-row (let_shapes defs) (lets-begin defs) (tidy-lets defs is.0)) then tidy-item (tidy-expression body is.1))
+      (list_of (let_shapes defs) ∷ expression_shape body ∷ [])
+      (tidy-item (tidy-list (let_shapes defs) (lets-begin defs) (tidy-lets defs is.0)) then tidy-item (tidy-expression body is.1))
 
-  tidy-expressions : (xs : ExpressionRow) → AreWritableExpressions xs → TidyItems (expression_shapes xs)
+  tidy-expressions : (xs : ExpressionList) → AreWritableExpressions xs → TidyItems (expression_shapes xs)
   tidy-expressions no_expression is = tidy-nothing
   tidy-expressions (more_expression x xs) is = tidy-item (tidy-expression x is.0) then tidy-expressions xs is.1
 
-  tidy-lets : (lets : LetRow) → AreWritableLets lets → TidyItems (let_shapes lets)
+  tidy-lets : (lets : LetList) → AreWritableLets lets → TidyItems (let_shapes lets)
   tidy-lets no_let is = tidy-nothing
   tidy-lets (more_let var ty val _ lets) is =
-      tidy-item (tidy-row _ tt (tidy-name var is.0 then tidy-name ty is.1 then tidy-item (tidy-expression val is.2))) then tidy-lets lets is.3
+      tidy-item (tidy-list _ tt (tidy-name var is.0 then tidy-name ty is.1 then tidy-item (tidy-expression val is.2))) then tidy-lets lets is.3
 
 tidy-condition : (c : Condition) → IsWritableCondition c → IsTidy (condition_shape c)
 tidy-condition c is =
@@ -82,7 +85,7 @@ tidy-priority (Some prio) fits = tidy-item (plain-priority prio fits)
 
 pub tidy-rule : (r : RuleDefinition) → IsWritableRule r → IsTidy (rule_shape r)
 tidy-rule r is =
-    tidy-row _ tt
+    tidy-list _ tt
     (tidy-word (codes "rule") refl
     then tidy-rule_name r.name is.name
     then tidy-priority r.prio is.prio
@@ -92,7 +95,7 @@ tidy-rule r is =
 
 pub tidy-extractor : (e : ExtractorDefinition) → IsWritableExtractor e → IsTidy (extractor_shape e)
 tidy-extractor e is =
-    tidy-row _ tt
+    tidy-list _ tt
     (tidy-word (codes "extractor") refl
     then tidy-headed_item e.term e.args is.0 is.1
     then tidy-item (tidy-pattern e.template is.2))

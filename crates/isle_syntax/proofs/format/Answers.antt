@@ -9,7 +9,7 @@ use Rattle.isle_parser.specs.declared.parser.Parser.{Parser}
 use Rattle.isle_syntax.specs.Format.{HasPrintOfItsOwn, IsFormatted, IsOnlyTree, ReadsBackAtOtherWidths}
 use Rattle.isle_syntax.specs.Streaming.{IsAtStart}
 use Rattle.isle_syntax.proofs.FormatLaw.{of_its_tree, refused_start}
-use Rattle.isle_syntax.proofs.StreamingLaw.{at_start, says_failed_too}
+use Rattle.isle_syntax.proofs.ReadingLaw.{at_start, says_failed_too}
 use Rattle.isle_syntax.proofs.format.Goals.{In_ok-lexer}
 use Rattle.isle_syntax.proofs.format.Goals as goal
 
@@ -19,7 +19,7 @@ returns-in_err-lexer-clause-refused c =
     rw (p.1, p.2) (refused_start c.args.text.now _ c.in_err-lexer.ensures.refused)
 
 -- the parser is at the start of the text
-starts : (c : In_ok-lexer) (parser : Parser) → parser.cursor.lexer ≡ c.in_ok-lexer.lexer → parser.cursor.disable_pos ≡ false → IsAtStart c.args.text.now parser
+starts : (c : In_ok-lexer) (parser : Parser) → parser.cursor.scanner ≡ c.in_ok-lexer.lexer → parser.cursor.disable_pos ≡ false → IsAtStart c.args.text.now parser
 starts c parser is positions =
     let lexed = c.in_ok-lexer.ensures in
     at_start c.args.text.now c.in_ok-lexer.lexer parser is positions lexed.file lexed.size lexed.live lexed.tokens

@@ -2,10 +2,10 @@
 
 ghost use Rattle.std.specs.Prelude.{◌≡◌, map};
 ghost use Rattle.std.specs.List.{list_all};
-ghost use Rattle.isle_ast_specs.specs.WritableDeciders.{is_writable_model};
+ghost use Rattle.isle_ast_verification.specs.WritableDeciders.{is_writable_model};
 ghost use Rattle.isle_ast.specs.TreeView.{form_of, instantiation_of, model_content_of};
 ghost use Rattle.isle_ast.specs.TreeView.{model_definition_of, signature_of, signatures_of};
-ghost use Rattle.isle_ast_specs.specs.TreeView.{type_model_of};
+ghost use Rattle.isle_ast_verification.specs.TreeView.{type_model_of};
 ghost use Rattle.isle_ast.specs.WritableDeciders.{are_writable_instances, is_writable_form};
 ghost use Rattle.isle_ast.specs.WritableDeciders.{is_writable_instantiation};
 ghost use Rattle.isle_ast.specs.WritableDeciders.{is_writable_model_content};
@@ -13,9 +13,9 @@ ghost use Rattle.isle_ast.specs.WritableDeciders.{is_writable_model_definition};
 ghost use Rattle.isle_ast.specs.WritableDeciders.{is_writable_signature};
 
 use crate::ast::{Form, Instantiation, Model, ModelType, ModelValue, Signature};
-use isle_ast_names::ast::writability::{are_names, is_name};
-use isle_ast_specs::ast::writability::models::is_writable_model;
-use isle_ast_specs::ast::writability::specs::is_writable_spec;
+use isle_ast_names::writability::{are_names, is_name};
+use isle_ast_verification::writability::models::is_writable_model;
+use isle_ast_verification::writability::specs::is_writable_spec;
 
 /// Tells whether the model of a type is writable.
 pub(super) fn is_writable_definition(model: &Model) -> bool

@@ -11,7 +11,7 @@ ghost use Rattle.isle_ast.specs.WritableDeciders.{is_writable_kind, is_writable_
 ghost use Rattle.isle_ast.specs.TermGrammar.{term_is_no_flag};
 
 use crate::ast::{Attr, AttrKind, AttrTarget, Converter, Decl, Extern};
-use isle_ast_names::ast::writability::{are_names, is_constant_name, is_name};
+use isle_ast_names::writability::{are_names, is_constant_name, is_name};
 
 /// Tells whether a declaration is writable.
 pub(super) fn is_writable_decl(decl: &Decl) -> bool

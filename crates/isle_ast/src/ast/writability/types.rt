@@ -9,7 +9,7 @@ ghost use Rattle.isle_ast.specs.WritableDeciders.{is_writable_named_field, is_wr
 ghost use Rattle.isle_ast.specs.WritableDeciders.{is_writable_type_content, is_writable_variant};
 
 use crate::ast::{Fields, StructField, TupleField, TypeDef, TypeValue, Variant};
-use isle_ast_names::ast::writability::is_name;
+use isle_ast_names::writability::is_name;
 
 /// Tells whether the definition of a type is writable.
 pub(super) fn is_writable_type(def: &TypeDef) -> bool

@@ -1,8 +1,8 @@
 use Rattle.std.proofs.Common.{◌≡◌, refl}
 use Rattle.std.specs.Prelude.{length}
 use Rattle.std.proofs.lemmas.Option.{unwrap_or-slice_get}
-use Rattle.isle_base_errors.specs.Lines.{line, line_begin, line_end}
-use Rattle.isle_base_errors.proofs.LineLemmas.{line_begin-le}
+use Rattle.isle_base_source.specs.Lines.{line, line_begin, line_end}
+use Rattle.isle_base_source.proofs.LineLemmas.{line_begin-le}
 use Rattle.isle_c.proofs.calls.place_of.Goals as goal
 
 pub overflow_sub-result : goal.overflow_sub-result

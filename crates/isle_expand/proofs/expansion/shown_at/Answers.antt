@@ -1,5 +1,5 @@
 use Rattle.std.proofs.Common.{refl, string_bytes}
-use Rattle.isle_base_errors.specs.declared.error.Error.TheVariants.{TypeError}
+use Rattle.isle_base_source.specs.declared.error.Error.TheVariants.{TypeError}
 use Rattle.isle_expand.proofs.ExpansionLemmas.{error-shown, span-shown}
 use Rattle.isle_expand.proofs.expansion.shown_at.Goals as goal
 

@@ -2,7 +2,7 @@ use Rattle.std.proofs.Common.{◌≡◌, [], ◌∷◌, ◌++◌, ◌∙◌, ap,
 use Rattle.std.proofs.lemmas.List.{append_assoc}
 use Rattle.isle_ast.specs.TreeView.{definition_of}
 use Rattle.isle_printer_layout.specs.Layout.{layout}
-use Rattle.isle_printer_layout.specs.Pieces.{first}
+use Rattle.isle_printer_layout.specs.Pieces.{first_made}
 use Rattle.isle_printer.specs.Printed.{definition_text}
 use Rattle.isle_printer.proofs.Printing.{printed_text-first, printed_text-next}
 use Rattle.isle_printer.proofs.lines.put_definition.Goals.{then-not-is_empty+in_ok-push, else-not-is_empty}
@@ -15,7 +15,7 @@ returns-clause-printed c before e =
     let text = string_bytes c.args.out.now in
     let lines = definition_text width (definition_of c.args.def.now) in
     let from = string_bytes c.if-not-is_empty.out in
-    let shown = c.in_ok-put.ensures.written ∙ ap (λ made. from ++ layout width (first made.0)) c.in_ok-pieces.ensures.made in
+    let shown = c.in_ok-put.ensures.written ∙ ap (λ made. from ++ layout width (first_made made.0)) c.in_ok-pieces.ensures.made in
     let written : string_bytes c.push-2.new.self ≡ from ++ lines =
     c.in_ok-push-2.ensures.bytes ∙ ap (λ t. t ++ 10 ∷ []) shown ∙ append_assoc from _ (10 ∷ []) in
     elim c.if-not-is_empty.branch [

@@ -31,4 +31,4 @@ loop-preserved c =
 
 pub returns-clause-formatted : goal.returns-clause-formatted
 returns-clause-formatted c text s =
-    all_written c.args.width text (string_bytes c.loop.answer) (string_bytes c.put_next.new.answer) c.args.parser.now c.loop.parser c.put_next.new.parser s c.loop.invariant (c.in_ok-put_next.ensures.done (ap Ok c.if-branch.false))
+    all_written c.args.width text (string_bytes c.loop.answer) (string_bytes c.put_next.new.answer) c.args.parser.now c.loop.parser c.put_next.new.parser s c.loop.invariant (c.in_ok-put_next.ensures.done (ap Ok c.if-branch.false)) (c.in_ok-put_next.ensures.kept (ap Ok c.if-branch.false))

@@ -1,9 +1,9 @@
 use Rattle.std.proofs.Common.{refl, ap}
-use Rattle.isle_ast_specs.specs.SameModel.{model-Decides, single-Decides}
-use Rattle.isle_ast_specs.specs.SameSpec.{operator-Decides, spec-Decides, single_arm-Decides, single_field_init-Decides}
-use Rattle.isle_ast_specs.specs.TreeView.{spec_of, single_arm_of, single_field_init_of, modified_of, type_model_of, single_model_field_of}
+use Rattle.isle_ast_verification.specs.SameModel.{model-Decides, single-Decides}
+use Rattle.isle_ast_verification.specs.SameSpec.{operator-Decides, spec-Decides, single_arm-Decides, single_field_init-Decides}
+use Rattle.isle_ast_verification.specs.TreeView.{spec_of, single_arm_of, single_field_init_of, modified_of, type_model_of, single_model_field_of}
 use Rattle.isle_ast.specs.Tree.{primitive_type, enum_type, struct_type, struct_fields, tuple_fields, term_target, rule_target, tag_kind, type_model, const_model, extern_extractor, extern_constructor, extern_const, type_def, rule, extractor, decl, attr, spec, spec_macro, model, state, form, instantiation, external, converter}
-use Rattle.isle_ast_specs.proofs.Equalities.{pos_eq-Decides, ident_eq-Decides, nat_eq-Decides, beq-Decides, and-Decides, Decides-map, rows-Decides, names-Decides, option-Decides, priority-Decides}
+use Rattle.isle_ast_verification.proofs.Equalities.{pos_eq-Decides, ident_eq-Decides, nat_eq-Decides, beq-Decides, and-Decides, Decides-map, lists-Decides, names-Decides, option-Decides, priority-Decides}
 use Rattle.isle_ast_rules.specs.SameExpression.{expression-Decides, single_let-Decides}
 use Rattle.isle_ast_rules.specs.SamePattern.{pattern-Decides}
 use Rattle.isle_ast.specs.TreeView.{named_field_of, indexed_field_of, variant_of, kind_of, signature_of}
@@ -25,7 +25,7 @@ returns-clause-struct_field c a b =
 pub returns-clause-struct_fields : goal.returns-clause-struct_fields
 returns-clause-struct_fields c a b =
     Decides-map _ (λ h. λ i. struct_fields (h.0 i) (h.1 i)) (λ e. (cc, cc))
-    (and-Decides _ _ (rows-Decides _ named_field_of (returns-clause-struct_field c) a.fields.items b.fields.items) (pos_eq-Decides a.pos b.pos))
+    (and-Decides _ _ (lists-Decides _ named_field_of (returns-clause-struct_field c) a.fields.items b.fields.items) (pos_eq-Decides a.pos b.pos))
 
 pub returns-clause-tuple_field : goal.returns-clause-tuple_field
 returns-clause-tuple_field c a b =
@@ -35,7 +35,7 @@ returns-clause-tuple_field c a b =
 pub returns-clause-tuple_fields : goal.returns-clause-tuple_fields
 returns-clause-tuple_fields c a b =
     Decides-map _ (λ h. λ i. tuple_fields (h.0 i) (h.1 i)) (λ e. (cc, cc))
-    (and-Decides _ _ (rows-Decides _ indexed_field_of (returns-clause-tuple_field c) a.fields.items b.fields.items) (pos_eq-Decides a.pos b.pos))
+    (and-Decides _ _ (lists-Decides _ indexed_field_of (returns-clause-tuple_field c) a.fields.items b.fields.items) (pos_eq-Decides a.pos b.pos))
 
 pub returns-clause-fields : goal.returns-clause-fields
 returns-clause-fields c fields.Unit fields.Unit = (λ e. refl, λ e. refl)
@@ -53,7 +53,7 @@ returns-clause-type_values c (type_values.Primitive a p) (type_values.Primitive 
     Decides-map _ (λ h. λ i. primitive_type (h.0 i) (h.1 i)) (λ e. (cc, cc)) (and-Decides _ _ (ident_eq-Decides a b) (pos_eq-Decides p q))
 returns-clause-type_values c (type_values.Enum a p) (type_values.Enum b q) =
     Decides-map _ (λ h. λ i. enum_type (h.0 i) (h.1 i)) (λ e. (cc, cc))
-    (and-Decides _ _ (rows-Decides _ variant_of (returns-clause-variants c) a.items b.items) (pos_eq-Decides p q))
+    (and-Decides _ _ (lists-Decides _ variant_of (returns-clause-variants c) a.items b.items) (pos_eq-Decides p q))
 returns-clause-type_values c (type_values.Struct a p) (type_values.Struct b q) =
     Decides-map _ (λ h. λ i. struct_type (h.0 i) (h.1 i)) (λ e. (cc, cc)) (and-Decides _ _ (returns-clause-fields c a b) (pos_eq-Decides p q))
 returns-clause-type_values c _ _ = (λ e. cc, λ e. cc)
@@ -104,7 +104,7 @@ pub returns-clause-attrs : goal.returns-clause-attrs
 returns-clause-attrs c a b =
     Decides-map _ (λ h. λ i. record { target = h.0 i; kinds = h.1.0 i; pos = h.1.1 i }) (λ e. ((λ i. (e i).target), ((λ i. (e i).kinds), (λ i. (e i).pos))))
     (and-Decides _ _ (returns-clause-attr_targets c a.target b.target)
-    (and-Decides _ _ (rows-Decides _ kind_of (returns-clause-attr_kinds c) a.kinds.items b.kinds.items) (pos_eq-Decides a.pos b.pos)))
+    (and-Decides _ _ (lists-Decides _ kind_of (returns-clause-attr_kinds c) a.kinds.items b.kinds.items) (pos_eq-Decides a.pos b.pos)))
 
 pub returns-clause-model_types : goal.returns-clause-model_types
 returns-clause-model_types c a b = model-Decides (type_model_of a) (type_model_of b)
@@ -139,14 +139,14 @@ returns-clause-models c a b =
 pub returns-clause-signatures : goal.returns-clause-signatures
 returns-clause-signatures c a b =
     Decides-map _ (λ h. λ i. record { args = h.0 i; ret = h.1.0 i; pos = h.1.1 i }) (λ e. ((λ i. (e i).args), ((λ i. (e i).ret), (λ i. (e i).pos))))
-    (and-Decides _ _ (rows-Decides _ type_model_of (returns-clause-model_types c) a.args.items b.args.items)
+    (and-Decides _ _ (lists-Decides _ type_model_of (returns-clause-model_types c) a.args.items b.args.items)
     (and-Decides _ _ (returns-clause-model_types c a.ret b.ret) (pos_eq-Decides a.pos b.pos)))
 
 pub returns-clause-forms : goal.returns-clause-forms
 returns-clause-forms c a b =
     Decides-map _ (λ h. λ i. record { name = h.0 i; signatures = h.1.0 i; pos = h.1.1 i }) (λ e. ((λ i. (e i).name), ((λ i. (e i).signatures), (λ i. (e i).pos))))
     (and-Decides _ _ (ident_eq-Decides a.name b.name)
-    (and-Decides _ _ (rows-Decides _ signature_of (returns-clause-signatures c) a.signatures.items b.signatures.items) (pos_eq-Decides a.pos b.pos)))
+    (and-Decides _ _ (lists-Decides _ signature_of (returns-clause-signatures c) a.signatures.items b.signatures.items) (pos_eq-Decides a.pos b.pos)))
 
 pub returns-clause-instantiations : goal.returns-clause-instantiations
 returns-clause-instantiations c a b =
@@ -154,7 +154,7 @@ returns-clause-instantiations c a b =
     (λ e. ((λ i. (e i).term), ((λ i. (e i).form), ((λ i. (e i).signatures), ((λ i. (e i).tags), (λ i. (e i).pos))))))
     (and-Decides _ _ (ident_eq-Decides a.term b.term)
     (and-Decides _ _ (option-Decides a.form b.form)
-    (and-Decides _ _ (rows-Decides _ signature_of (returns-clause-signatures c) a.signatures.items b.signatures.items)
+    (and-Decides _ _ (lists-Decides _ signature_of (returns-clause-signatures c) a.signatures.items b.signatures.items)
     (and-Decides _ _ (names-Decides a.tags.items b.tags.items) (pos_eq-Decides a.pos b.pos)))))
 
 pub returns-clause-patterns : goal.returns-clause-patterns
@@ -178,7 +178,7 @@ returns-clause-rules c a b =
     (λ h. λ i. record { pattern = h.0 i; iflets = h.1.0 i; expr = h.1.1.0 i; pos = h.1.1.1.0 i; prio = h.1.1.1.1.0 i; name = h.1.1.1.1.1 i })
     (λ e. ((λ i. (e i).pattern), ((λ i. (e i).iflets), ((λ i. (e i).expr), ((λ i. (e i).pos), ((λ i. (e i).prio), (λ i. (e i).name)))))))
     (and-Decides _ _ (returns-clause-patterns c a.pattern b.pattern)
-    (and-Decides _ _ (rows-Decides _ condition_of (returns-clause-if_lets c) a.iflets.items b.iflets.items)
+    (and-Decides _ _ (lists-Decides _ condition_of (returns-clause-if_lets c) a.iflets.items b.iflets.items)
     (and-Decides _ _ (returns-clause-exprs c a.expr b.expr)
     (and-Decides _ _ (pos_eq-Decides a.pos b.pos)
     (and-Decides _ _ (priority-Decides a.prio b.prio) (option-Decides a.name b.name))))))
@@ -211,10 +211,10 @@ returns-clause-specs c a b =
     (λ e. ((λ i. (e i).term), ((λ i. (e i).args), ((λ i. (e i).provides), ((λ i. (e i).requires_), ((λ i. (e i).matches), ((λ i. (e i).modifies), (λ i. (e i).pos))))))))
     (and-Decides _ _ (ident_eq-Decides a.term b.term)
     (and-Decides _ _ (names-Decides a.args.items b.args.items)
-    (and-Decides _ _ (rows-Decides _ spec_of (returns-clause-spec_exprs c) a.provides.items b.provides.items)
-    (and-Decides _ _ (rows-Decides _ spec_of (returns-clause-spec_exprs c) a.requires_.items b.requires_.items)
-    (and-Decides _ _ (rows-Decides _ spec_of (returns-clause-spec_exprs c) a.matches.items b.matches.items)
-    (and-Decides _ _ (rows-Decides _ modified_of (returns-clause-modifies c) a.modifies.items b.modifies.items) (pos_eq-Decides a.pos b.pos)))))))
+    (and-Decides _ _ (lists-Decides _ spec_of (returns-clause-spec_exprs c) a.provides.items b.provides.items)
+    (and-Decides _ _ (lists-Decides _ spec_of (returns-clause-spec_exprs c) a.requires_.items b.requires_.items)
+    (and-Decides _ _ (lists-Decides _ spec_of (returns-clause-spec_exprs c) a.matches.items b.matches.items)
+    (and-Decides _ _ (lists-Decides _ modified_of (returns-clause-modifies c) a.modifies.items b.modifies.items) (pos_eq-Decides a.pos b.pos)))))))
 
 pub returns-clause-spec_macros : goal.returns-clause-spec_macros
 returns-clause-spec_macros c a b =

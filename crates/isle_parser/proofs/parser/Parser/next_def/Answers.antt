@@ -2,30 +2,30 @@ use Rattle.std.proofs.Common.{rules, tests}
 use Rattle.std.proofs.Common.{sym, subst}
 use Rattle.isle_ast.specs.TreeView.{definition_of}
 use Rattle.isle_base.specs.Steps.{IfError}
-use Rattle.isle_base.specs.declared.lexer.Fault.{Fault}
+use Rattle.isle_base.specs.declared.fault.Fault.{Fault}
 use Rattle.isle_parser.specs.NextDefinition.{RefusesNext}
 use Rattle.isle_parser.proofs.NextDefinition.{next_known, next_no_macro_arg, next_only, next_positions, next_refused, next_spelt}
 use Rattle.isle_parser.proofs.parser.Parser.next_def.Goals as goal
 
 pub returns-in-Ok-clause-spelt : goal.returns-in-Ok-clause-spelt
-returns-in-Ok-clause-spelt c = next_spelt c.args.self.now.cursor c.parse_def.new.cursor (definition_of c.in-Ok.def) c.in-Ok.ensures.gives
+returns-in-Ok-clause-spelt c = next_spelt c.args.self.now.cursor c.parse_def.new.cursor (definition_of c.in-Ok.def) c.in-Ok.ensures.reads.gives
 
 pub returns-in-Ok-clause-only : goal.returns-in-Ok-clause-only
-returns-in-Ok-clause-only c = next_only c.args.self.now.cursor c.parse_def.new.cursor (definition_of c.in-Ok.def) c.in-Ok.ensures.gives
+returns-in-Ok-clause-only c = next_only c.args.self.now.cursor c.parse_def.new.cursor (definition_of c.in-Ok.def) c.in-Ok.ensures.reads.gives
 
 pub returns-in-Ok-clause-positions : goal.returns-in-Ok-clause-positions
-returns-in-Ok-clause-positions c = next_positions c.args.self.now.cursor c.parse_def.new.cursor (definition_of c.in-Ok.def) c.in-Ok.ensures.gives
+returns-in-Ok-clause-positions c = next_positions c.args.self.now.cursor c.parse_def.new.cursor (definition_of c.in-Ok.def) c.in-Ok.ensures.reads.gives
 
 pub returns-in-Ok-clause-known : goal.returns-in-Ok-clause-known
-returns-in-Ok-clause-known c = next_known c.args.self.now.cursor c.parse_def.new.cursor (definition_of c.in-Ok.def) c.if-has_failed.ensures.rising c.in-Ok.ensures.gives
+returns-in-Ok-clause-known c = next_known c.args.self.now.cursor c.parse_def.new.cursor (definition_of c.in-Ok.def) c.if-has_failed.ensures.rising c.in-Ok.ensures.reads.gives
 
 pub returns-in-Ok-clause-no_macro_arg : goal.returns-in-Ok-clause-no_macro_arg
-returns-in-Ok-clause-no_macro_arg c = next_no_macro_arg c.args.self.now.cursor c.parse_def.new.cursor (definition_of c.in-Ok.def) c.in-Ok.ensures.gives
+returns-in-Ok-clause-no_macro_arg c = next_no_macro_arg c.args.self.now.cursor c.parse_def.new.cursor (definition_of c.in-Ok.def) c.in-Ok.ensures.reads.gives
 
 pub returns-in-Err-clause-refused : goal.returns-in-Err-clause-refused
 returns-in-Err-clause-refused c =
     let old = c.args.self.now.cursor in
-    let because = next_refused old c.parse_def.new.cursor c.in-Err.stop (sym c.if-is_at_end.ensures.lexer) c.in-Err.ensures.same c.in-Err.ensures.gives in
+    let because = next_refused old c.parse_def.new.cursor c.in-Err.stop (sym c.if-is_at_end.ensures.lexer) c.in-Err.ensures.reads.same c.in-Err.ensures.reads.gives in
     subst (λ (f : Fault). IfError (RefusesNext old) f) (sym c.fault_of.ensures) because
 
 pub returns-then-has_failed-clause-end : goal.returns-then-has_failed-clause-end

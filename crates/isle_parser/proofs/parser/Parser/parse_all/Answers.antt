@@ -18,7 +18,7 @@ loop-defs-init c =
     record {
       same = refl;
       so_far = rw c.new-defs.ensures.items (loop_starts (tokens start.cursor));
-      fails_with = rw c.requires (or_false (is_failed start.cursor.lexer));
+      fails_with = rw c.requires (or_false (is_failed start.cursor.scanner));
       rising = inl refl;
     }
 
@@ -46,7 +46,8 @@ loop-defs-preserved c =
     let e : definitions_of c.push.new.self.items ≡ definitions_of c.loop-defs.defs.items ++ d ∷ [] = rw c.in_ok-push.ensures.items (map_push _ c.loop-defs.defs.items c.in-Some.def) in
     record {
       same = c.in_ok-def.ensures.same ∙ i.same;
-      so_far = rw e (loop_goes_on (definitions_of c.loop-defs.defs.items) d (tokens c.loop-defs.self.cursor) (tokens c.next_def.new.self.cursor) (definitions (tokens c.args.self.now.cursor)) (next_is_spelt (goal.at.loop-defs-preserved c).In-Some) i.so_far);
+      so_far = rw e (loop_goes_on (definitions_of c.loop-defs.defs.items) d (tokens c.loop-defs.self.cursor) (tokens c.next_def.new.self.cursor) (definitions (tokens c.args.self.now.cursor))
+          (next_is_spelt (goal.at.loop-defs-preserved c).In-Some) i.so_far);
       fails_with = c.in_ok-def.ensures.ready ∙ sym live ∙ i.fails_with;
       rising = inr (risen c.args.self.now c.loop-defs.self i.rising c.next_def.ensures.rising);
     }

@@ -3,10 +3,16 @@ use Rattle.isle_parser.specs.FormReaders.{instantiation_of_term}
 use Rattle.std.proofs.lemmas.Grind.{common_steps}
 use Rattle.isle_parser.proofs.parser.forms.parse_instantiation.Goals as goal
 
-pub returns-then-is_lparen-clause-gives : goal.returns-then-is_lparen-clause-gives
+pub returns-then-is_lparen : goal.returns-then-is_lparen
 unfolding instantiation_of_term
-returns-then-is_lparen-clause-gives c = search (tests, rules)
+returns-then-is_lparen c = record {
+  same = search rules;
+  gives = search (tests, rules);
+}
 
-pub returns-clause-gives : goal.returns-clause-gives
+pub returns : goal.returns
 unfolding instantiation_of_term
-returns-clause-gives c = grind (arith, common_steps)
+returns c = record {
+  same = search rules;
+  gives = grind (arith, common_steps);
+}

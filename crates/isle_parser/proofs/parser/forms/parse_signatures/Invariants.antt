@@ -2,16 +2,16 @@ use Rattle.std.proofs.Common.{◌≡◌, length}
 use Rattle.isle_ast.specs.TreeView.{signatures_of}
 use Rattle.isle_parser_cursor.specs.Outcomes.{source, tokens}
 use Rattle.isle_parser.specs.FormReaders.{signature}
-use Rattle.isle_parser_cursor.specs.Reading.{closes, many}
+use Rattle.isle_parser_cursor.specs.Reading.{at_rparen, many}
 use Rattle.isle_parser_cursor.proofs.Loops.{behind_front}
 use Rattle.isle_parser.proofs.parser.forms.parse_signatures.Given as goal
 
--- what was read, with what is still read, is the whole row
+-- what was read, with what is still read, is the whole list
 abbrev pub invariant-loop-alloc : goal.invariant-loop-alloc
 invariant-loop-alloc l =
     record {
       same : source l.cursor ≡ source l.fn.cursor;
-      so_far : behind_front (signatures_of l.signatures.items) (many closes signature (tokens l.cursor)) ≡ many closes signature (tokens l.fn.cursor);
+      so_far : behind_front (signatures_of l.signatures.items) (many at_rparen signature (tokens l.cursor)) ≡ many at_rparen signature (tokens l.fn.cursor);
     }
 
 abbrev pub decreases-loop-alloc : goal.decreases-loop-alloc

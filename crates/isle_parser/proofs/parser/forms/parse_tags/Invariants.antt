@@ -2,16 +2,16 @@ use Rattle.std.proofs.Common.{◌≡◌, length}
 use Rattle.isle_ast_names.specs.TreeView.{names_of}
 use Rattle.isle_parser_cursor.specs.Outcomes.{source, tokens}
 use Rattle.isle_parser.specs.FormReaders.{tag}
-use Rattle.isle_parser_cursor.specs.Reading.{closes, many}
+use Rattle.isle_parser_cursor.specs.Reading.{at_rparen, many}
 use Rattle.isle_parser_cursor.proofs.Loops.{behind_front}
 use Rattle.isle_parser.proofs.parser.forms.parse_tags.Given as goal
 
--- what was read, with what is still read, is the whole row
+-- what was read, with what is still read, is the whole list
 abbrev pub invariant-loop-alloc : goal.invariant-loop-alloc
 invariant-loop-alloc l =
     record {
       same : source l.cursor ≡ source l.fn.cursor;
-      so_far : behind_front (names_of l.tags.items) (many closes tag (tokens l.cursor)) ≡ many closes tag (tokens l.fn.cursor);
+      so_far : behind_front (names_of l.tags.items) (many at_rparen tag (tokens l.cursor)) ≡ many at_rparen tag (tokens l.fn.cursor);
     }
 
 abbrev pub decreases-loop-alloc : goal.decreases-loop-alloc

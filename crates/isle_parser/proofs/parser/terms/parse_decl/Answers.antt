@@ -2,6 +2,9 @@ use Rattle.std.proofs.Common.{rules, tests}
 use Rattle.isle_parser.specs.DefinitionReaders.{declaration}
 use Rattle.isle_parser.proofs.parser.terms.parse_decl.Goals as goal
 
-pub returns-clause-gives : goal.returns-clause-gives
+pub returns : goal.returns
 unfolding declaration
-returns-clause-gives c = search (tests, rules)
+returns c = record {
+  same = search rules;
+  gives = search (tests, rules);
+}

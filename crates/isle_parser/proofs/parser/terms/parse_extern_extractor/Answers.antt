@@ -2,6 +2,9 @@ use Rattle.std.proofs.Common.{rules, tests}
 use Rattle.isle_parser.specs.TermReaders.{extern_etor}
 use Rattle.isle_parser.proofs.parser.terms.parse_extern_extractor.Goals as goal
 
-pub returns-then-branch-clause-gives : goal.returns-then-branch-clause-gives
+pub returns-then-branch : goal.returns-then-branch
 unfolding extern_etor
-returns-then-branch-clause-gives c = search (tests, rules)
+returns-then-branch c = record {
+  same = search rules;
+  gives = search (tests, rules);
+}

@@ -1,9 +1,9 @@
 use Rattle.std.proofs.Common.{◌≡◌, length}
 use Rattle.isle_parser_cursor.specs.Outcomes.{source, tokens}
-use Rattle.isle_parser.proofs.Rows.{ModifiersSoFar}
+use Rattle.isle_parser.proofs.Lists.{ModifiersSoFar}
 use Rattle.isle_parser.proofs.parser.types.parse_modifiers.Given as goal
 
--- what was read, with what is still read, is the whole row, and each word so far has set its flag
+-- what was read, with what is still read, is the whole list, and each word so far has set its flag
 abbrev pub invariant-loop-alloc : goal.invariant-loop-alloc
 invariant-loop-alloc l =
     record {

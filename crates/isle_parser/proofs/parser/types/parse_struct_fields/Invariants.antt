@@ -2,16 +2,16 @@ use Rattle.std.proofs.Common.{◌≡◌, length, map}
 use Rattle.isle_ast.specs.TreeView.{named_field_of}
 use Rattle.isle_parser_cursor.specs.Outcomes.{source, tokens}
 use Rattle.isle_parser.specs.TypeReaders.{named_field}
-use Rattle.isle_parser_cursor.specs.Reading.{closes, many}
+use Rattle.isle_parser_cursor.specs.Reading.{at_rparen, many}
 use Rattle.isle_parser_cursor.proofs.Loops.{behind_front}
 use Rattle.isle_parser.proofs.parser.types.parse_struct_fields.Given as goal
 
--- what was read, with what is still read, is the whole row
+-- what was read, with what is still read, is the whole list
 abbrev pub invariant-loop-alloc : goal.invariant-loop-alloc
 invariant-loop-alloc l =
     record {
       same : source l.cursor ≡ source l.fn.cursor;
-      so_far : behind_front (map named_field_of l.fields.items) (many closes named_field (tokens l.cursor)) ≡ many closes named_field (tokens l.fn.cursor);
+      so_far : behind_front (map named_field_of l.fields.items) (many at_rparen named_field (tokens l.cursor)) ≡ many at_rparen named_field (tokens l.fn.cursor);
     }
 
 abbrev pub decreases-loop-alloc : goal.decreases-loop-alloc

@@ -1,4 +1,4 @@
-use Rattle.isle_ast_names.proofs.Copies.{copied_name, copied_row}
+use Rattle.isle_ast_names.proofs.Copies.{copied_name, copied_list}
 use Rattle.isle_ast.specs.TreeView.{signature_of}
 use Rattle.isle_ast.proofs.ast.clone.FormClone.clone.Goals as goal
 
@@ -6,7 +6,7 @@ pub returns : goal.returns
 returns c = record {
   cases = λ i. record {
     name = copied_name c.args.self.now.name c.in_ok-clone.field-0 c.in_ok-clone.ensures.cases i;
-    signatures = copied_row signature_of c.args.self.now.signatures.items c.in_ok-clone-2.field-0.items c.in_ok-clone-2.ensures.cases.0 i;
+    signatures = copied_list signature_of c.args.self.now.signatures.items c.in_ok-clone-2.field-0.items c.in_ok-clone-2.ensures.cases.0 i;
     pos = c.args.self.now.pos;
   };
 }

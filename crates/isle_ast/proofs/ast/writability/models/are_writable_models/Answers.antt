@@ -1,9 +1,9 @@
 use Rattle.std.proofs.Common.{◌∙◌, rules, tests}
 use Rattle.std.proofs.lemmas.Iterator.{YieldsList-from_slice}
 use Rattle.std.proofs.lemmas.Iterator.Search.{all_from_yields_List}
-use Rattle.isle_ast_specs.specs.WritableDeciders.{is_writable_model}
+use Rattle.isle_ast_verification.specs.WritableDeciders.{is_writable_model}
 use Rattle.isle_ast_names.proofs.Writable.Names.{all_meant}
-use Rattle.isle_ast_specs.specs.TreeView.{type_model_of}
+use Rattle.isle_ast_verification.specs.TreeView.{type_model_of}
 use Rattle.isle_ast.proofs.ast.writability.models.are_writable_models.Goals as goal
 
 pub returns : goal.returns

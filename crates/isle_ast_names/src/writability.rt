@@ -1,0 +1,80 @@
+//! Which names and which numbers are written so that they read back.
+
+ghost use Rattle.std.specs.Prelude.{◌≡◌, ◌∷◌, string_bytes};
+ghost use Rattle.std.specs.List.{list_all};
+ghost use Rattle.std.specs.Str.{chars};
+ghost use Rattle.isle_ast_names.specs.Identifier.{continues_identifier, is_identifier};
+ghost use Rattle.isle_ast_names.specs.TreeView.{name_of, names_of, optional_name_of};
+ghost use Rattle.isle_ast_names.specs.WritableDeciders.{are_names, begins_with_dollar};
+ghost use Rattle.isle_ast_names.specs.WritableDeciders.{is_bool_name, is_constant_name, is_name};
+ghost use Rattle.isle_ast_names.specs.WritableDeciders.{is_optional_name, is_signed};
+
+use crate::Ident;
+use crate::identifier::{continues_identifier, is_identifier};
+
+/// Tells whether a name is an identifier.
+pub fn is_name(name: &Ident) -> bool
+    ensures { result ≡ is_name (name_of name.now) }
+{
+    is_identifier(&name.0)
+}
+
+/// Tells whether each name is an identifier.
+pub fn are_names(names: &[Ident]) -> bool
+    ensures { result ≡ are_names (names_of names.now) }
+{
+    names.iter().all(is_name)
+}
+
+/// Tells whether a name, if there is one, is an identifier.
+pub fn is_optional_name(name: &Option<Ident>) -> bool
+    ensures { result ≡ is_optional_name (optional_name_of name.now) }
+{
+    match name {
+        Some(name) => is_name(name),
+        None => true,
+    }
+}
+
+/// Tells whether a name is `true` or `false`.
+pub fn is_bool_name(name: &Ident) -> bool
+    ensures { result ≡ is_bool_name (name_of name.now) }
+{
+    matches!(name.0.as_str(), "true" | "false")
+}
+
+/// Tells whether a name begins with `$`.
+pub fn begins_with_dollar(name: &Ident) -> bool
+    ensures { result ≡ begins_with_dollar (string_bytes name.now.0) }
+{
+    name.0.starts_with('$')
+}
+
+/// Tells whether a name is an identifier where it is written after a `$`.
+pub fn is_constant_name(name: &Ident) -> bool
+    ensures { result ≡ is_constant_name (name_of name.now) }
+{
+    is_constant(&name.0)
+}
+
+/// Tells whether a text is an identifier where it is written after a `$`, that is, whether each of
+/// its characters may stand after the first one.
+fn is_constant(text: &str) -> bool
+    ensures { result ≡ is_identifier (36 ∷ text.now) }
+{
+    all_continue(text)
+}
+
+/// Tells whether each character of a text may stand in an identifier after the first one.
+fn all_continue(text: &str) -> bool
+    ensures { result ≡ list_all continues_identifier (chars text.now) }
+{
+    text.chars().all(continues_identifier)
+}
+
+/// Each number of the type is writable.
+pub fn is_whole_number(_number: i128) -> bool
+    ensures { result ≡ is_signed 127 _number }
+{
+    true
+}

@@ -1,6 +1,0 @@
-use Rattle.std.proofs.Common.{◌≡◌, drop}
-use Rattle.isle_ast_rules.proofs.SameLists.{pattern_rows}
-use Rattle.isle_ast_rules.proofs.ast.compare.patterns.+same.Given as goal
-
-abbrev pub invariant-same_patterns-loop-i : goal.invariant-same_patterns-loop-i
-invariant-same_patterns-loop-i l = pattern_rows (drop l.i l.patterns.items) (drop l.i l.others.items) ≡ pattern_rows l.patterns.items l.others.items

@@ -1,0 +1,12 @@
+use Rattle.std.proofs.Common.{◌∙◌, rules, tests}
+use Rattle.std.proofs.lemmas.Iterator.{YieldsList-from_slice}
+use Rattle.std.proofs.lemmas.Iterator.Search.{all_from_yields_List}
+use Rattle.isle_ast_names.proofs.Writable.Names.{all_meant}
+use Rattle.isle_ast_rules.specs.TreeView.{condition_of}
+use Rattle.isle_ast_rules.specs.WritableDeciders.{is_writable_condition}
+use Rattle.isle_ast_rules.proofs.writability.rules.are_writable_conditions.Goals as goal
+
+pub returns : goal.returns
+returns c =
+    all_from_yields_List (λ x. is_writable_condition (condition_of x)) _ _ _ c.all.ensures.ran (YieldsList-from_slice c.args.iflets.now cc) (λ x b q k. search (rules, tests))
+    ∙ all_meant is_writable_condition condition_of c.args.iflets.now

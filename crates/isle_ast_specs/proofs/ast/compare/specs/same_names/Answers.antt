@@ -1,6 +1,0 @@
-use Rattle.std.proofs.Common.{◌∙◌}
-use Rattle.isle_ast_specs.proofs.Same.SpecLists.{names_compared}
-use Rattle.isle_ast_specs.proofs.ast.compare.specs.same_names.Goals as goal
-
-pub returns : goal.returns
-returns c = c.eq.ensures ∙ names_compared c.args.names.now.items c.args.others.now.items

@@ -1,0 +1,273 @@
+//! Which specs are written so that they read back.
+
+ghost use Rattle.std.specs.Prelude.{◌≡◌, map, string_bytes};
+ghost use Rattle.std.specs.List.{list_all};
+ghost use Rattle.isle_ast_names.specs.TreeView.{name_of};
+ghost use Rattle.isle_ast_verification.specs.TreeView.{arm_list_of, field_init_list_of};
+ghost use Rattle.isle_ast_verification.specs.TreeView.{modified_of};
+ghost use Rattle.isle_ast_verification.specs.TreeView.{single_arm_of, single_arms_of};
+ghost use Rattle.isle_ast_verification.specs.TreeView.{single_field_init_of, single_field_inits_of};
+ghost use Rattle.isle_ast_verification.specs.TreeView.{single_spec_lets_of, spec_let_list_of};
+ghost use Rattle.isle_ast_verification.specs.TreeView.{spec_definition_of, spec_macro_of, spec_of};
+ghost use Rattle.isle_ast_verification.specs.TreeView.{spec_list_of, specs_of, state_of};
+ghost use Rattle.isle_ast_verification.specs.WritableDeciders.{are_writable_arms};
+ghost use Rattle.isle_ast_verification.specs.WritableDeciders.{are_writable_cases};
+ghost use Rattle.isle_ast_verification.specs.WritableDeciders.{are_writable_field_inits};
+ghost use Rattle.isle_ast_verification.specs.WritableDeciders.{are_writable_spec_lets};
+ghost use Rattle.isle_ast_verification.specs.WritableDeciders.{are_writable_specs};
+ghost use Rattle.isle_ast_verification.specs.WritableDeciders.{has_dot, is_float_name};
+ghost use Rattle.isle_ast_verification.specs.WritableDeciders.{is_writable_bit_vector};
+ghost use Rattle.isle_ast_verification.specs.WritableDeciders.{is_writable_modified};
+ghost use Rattle.isle_ast_verification.specs.WritableDeciders.{is_writable_pair};
+ghost use Rattle.isle_ast_verification.specs.WritableDeciders.{is_writable_single_arm};
+ghost use Rattle.isle_ast_verification.specs.WritableDeciders.{is_writable_single_field_init};
+ghost use Rattle.isle_ast_verification.specs.WritableDeciders.{is_writable_spec};
+ghost use Rattle.isle_ast_verification.specs.WritableDeciders.{is_writable_spec_definition};
+ghost use Rattle.isle_ast_verification.specs.WritableDeciders.{is_writable_spec_macro};
+ghost use Rattle.isle_ast_verification.specs.WritableDeciders.{is_writable_state};
+ghost use Rattle.isle_ast_verification.specs.WritableDeciders.{is_writable_variant_name};
+
+use crate::writability::models::is_writable_model;
+use crate::{Arm, FieldInit, Modifies, Spec, SpecExpr, SpecMacro, SpecOp, State};
+use isle_ast_names::Ident;
+use isle_ast_names::writability::{
+    are_names, is_bool_name, is_name, is_optional_name, is_whole_number,
+};
+
+/// Tells whether a spec expression is writable.
+#[cycle(writable)]
+#[tactic(auto, using(crate::proofs::SpecLets::let_seen))]
+pub fn is_writable_spec(expr: &SpecExpr) -> bool
+    ensures { result ≡ is_writable_spec (spec_of expr.now) }
+{
+    match expr {
+        SpecExpr::ConstInt { val, .. } => is_whole_number(*val),
+        SpecExpr::ConstBitVec { val, width, .. } => is_bit_vector(*val, *width),
+        SpecExpr::ConstBool { .. } => true,
+        SpecExpr::Var { var, .. } => is_name(var) && !is_bool_name(var),
+        SpecExpr::As { x, ty, .. } => is_writable_spec(x) && is_writable_model(ty),
+        SpecExpr::Field { field, x, .. } => is_name(field) && is_writable_spec(x),
+        SpecExpr::Discriminator { variant, x, .. } => is_name(variant) && is_writable_spec(x),
+        SpecExpr::Op { op, args, .. } => match op {
+            SpecOp::Switch => are_writable_cases(args),
+            _ => are_writable_specs(args),
+        },
+        SpecExpr::Match { x, arms, .. } => is_writable_spec(x) && are_writable_arms(arms),
+        SpecExpr::Let { defs, body, .. } => are_writable_lets(defs) && is_writable_spec(body),
+        SpecExpr::With { decls, body, .. } => are_names(decls) && is_writable_spec(body),
+        SpecExpr::Macro { params, body, .. } => are_names(params) && is_writable_spec(body),
+        SpecExpr::Expand { name, args, .. } => is_name(name) && are_writable_specs(args),
+        SpecExpr::Pair { .. } => false,
+        SpecExpr::Enum {
+            name,
+            variant,
+            args,
+            ..
+        } => { is_variant_name(name, variant) && are_writable_specs(args) }
+        SpecExpr::Struct { fields, .. } => are_writable_fields(fields),
+    }
+}
+
+/// Tells whether each spec expression is writable.
+#[cycle(writable)]
+pub(super) fn are_writable_specs(exprs: &Vec<SpecExpr>) -> bool
+    ensures { result ≡ are_writable_specs (spec_list_of (specs_of exprs.now.items)) }
+{
+    for expr in exprs {
+        if !is_writable_spec(expr) {
+            return false;
+        }
+    }
+    true
+}
+
+/// Tells whether the arguments of a `switch` are writable: the first one, and each other one as a
+/// pair.
+#[cycle(writable)]
+fn are_writable_cases(exprs: &Vec<SpecExpr>) -> bool
+    ensures { result ≡ are_writable_cases (spec_list_of (specs_of exprs.now.items)) }
+{
+    if exprs.is_empty() || !is_writable_spec(&exprs[0]) {
+        return false;
+    }
+    for i in 1..exprs.len() {
+        if !is_writable_pair(&exprs[i]) {
+            return false;
+        }
+    }
+    true
+}
+
+/// Tells whether a spec expression is a pair of two writable ones.
+#[cycle(writable)]
+fn is_writable_pair(expr: &SpecExpr) -> bool
+    ensures { result ≡ is_writable_pair (spec_of expr.now) }
+{
+    match expr {
+        SpecExpr::Pair { l, r, .. } => is_writable_spec(l) && is_writable_spec(r),
+        _ => false,
+    }
+}
+
+/// Tells whether each arm of a `match` is writable.
+#[cycle(writable)]
+fn are_writable_arms(arms: &Vec<Arm>) -> bool
+    ensures { result ≡ are_writable_arms (arm_list_of (single_arms_of arms.now.items)) }
+{
+    for arm in arms {
+        if !is_writable_arm(arm) {
+            return false;
+        }
+    }
+    true
+}
+
+/// Tells whether an arm of a `match` is writable.
+#[cycle(writable)]
+fn is_writable_arm(arm: &Arm) -> bool
+    ensures { result ≡ is_writable_single_arm (single_arm_of arm.now) }
+{
+    is_name(&arm.variant) && are_names(&arm.args) && is_writable_spec(&arm.body)
+}
+
+/// Tells whether each name of a `let` and its value are writable.
+#[cycle(writable)]
+fn are_writable_lets(defs: &Vec<(Ident, SpecExpr)>) -> bool
+    ensures { result
+        ≡ are_writable_spec_lets (spec_let_list_of (single_spec_lets_of defs.now.items)) }
+{
+    for def in defs {
+        if !is_name(&def.0) || !is_writable_spec(&def.1) {
+            return false;
+        }
+    }
+    true
+}
+
+/// Tells whether each field of a `struct` is writable.
+#[cycle(writable)]
+fn are_writable_fields(fields: &Vec<FieldInit>) -> bool
+    ensures { result
+        ≡ are_writable_field_inits (field_init_list_of (single_field_inits_of fields.now.items)) }
+{
+    for field in fields {
+        if !is_writable_field(field) {
+            return false;
+        }
+    }
+    true
+}
+
+/// Tells whether a field of a `struct` is writable.
+#[cycle(writable)]
+fn is_writable_field(field: &FieldInit) -> bool
+    ensures { result ≡ is_writable_single_field_init (single_field_init_of field.now) }
+{
+    is_name(&field.name) && is_writable_spec(&field.value)
+}
+
+/// Tells whether a bit vector has at least one bit, and a value that has no more bits.
+fn is_bit_vector(val: u128, width: usize) -> bool
+    ensures { result ≡ is_writable_bit_vector val width }
+{
+    width >= 1 && (width >= 128 || val < 1 << width)
+}
+
+/// Tells whether the names of an enum and its variant are writable: that of the enum holds no dot,
+/// and both together are no operator.
+fn is_variant_name(name: &Ident, variant: &Ident) -> bool
+    ensures { result ≡ is_writable_variant_name (name_of name.now) (name_of variant.now) }
+{
+    is_name(name)
+        && is_name(variant)
+        && !has_dot(name)
+        && !(name.0.as_str() == "fp" && is_float_name(&variant.0))
+}
+
+/// Tells whether a name holds a dot.
+fn has_dot(name: &Ident) -> bool
+    ensures { result ≡ has_dot (string_bytes name.now.0) }
+{
+    name.0.as_bytes().contains(&b'.')
+}
+
+/// What the operators of floats are named after `fp.`.
+const FLOAT_NAMES: [&str; 30] = [
+    "eq",
+    "ne",
+    "lt",
+    "gt",
+    "le",
+    "ge",
+    "+oo",
+    "-oo",
+    "+zero",
+    "-zero",
+    "NaN",
+    "add",
+    "sub",
+    "mul",
+    "div",
+    "min",
+    "max",
+    "neg",
+    "ceil",
+    "floor",
+    "sqrt",
+    "trunc",
+    "nearest",
+    "isZero",
+    "isInfinite",
+    "isNaN",
+    "isNegative",
+    "isPositive",
+    "to_ubv",
+    "to_sbv",
+];
+
+/// Tells whether an operator has this name after `fp.`.
+fn is_float_name(name: &str) -> bool
+    ensures { result ≡ is_float_name name.now }
+{
+    FLOAT_NAMES.contains(&name)
+}
+
+/// Tells whether what holds of a term is writable.
+pub fn is_writable_definition(spec: &Spec) -> bool
+    ensures { result ≡ is_writable_spec_definition (spec_definition_of spec.now) }
+{
+    is_name(&spec.term)
+        && are_names(&spec.args)
+        && are_writable_specs(&spec.provides)
+        && are_writable_specs(&spec.requires_)
+        && are_writable_specs(&spec.matches)
+        && are_writable_modifies(&spec.modifies)
+}
+
+/// Tells whether each state that a term changes is writable.
+fn are_writable_modifies(modifies: &[Modifies]) -> bool
+    ensures { result ≡ list_all is_writable_modified (map modified_of modifies.now) }
+{
+    modifies.iter().all(is_writable_modified)
+}
+
+/// Tells whether a state that a term changes is writable.
+fn is_writable_modified(modified: &Modifies) -> bool
+    ensures { result ≡ is_writable_modified (modified_of modified.now) }
+{
+    is_name(&modified.state) && is_optional_name(&modified.cond)
+}
+
+/// Tells whether a macro of spec expressions is writable.
+pub fn is_writable_macro(spec_macro: &SpecMacro) -> bool
+    ensures { result ≡ is_writable_spec_macro (spec_macro_of spec_macro.now) }
+{
+    is_name(&spec_macro.name) && are_names(&spec_macro.params) && is_writable_spec(&spec_macro.body)
+}
+
+/// Tells whether a state that specs speak of is writable.
+pub fn is_writable_state(state: &State) -> bool
+    ensures { result ≡ is_writable_state (state_of state.now) }
+{
+    is_name(&state.name) && is_writable_model(&state.ty) && is_writable_spec(&state.default)
+}

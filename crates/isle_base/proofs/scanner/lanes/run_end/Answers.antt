@@ -1,0 +1,15 @@
+use Rattle.std.proofs.Common.{sym, ap, ◌∙◌, arith}
+use lib.Count.{count_trailing_zeros}
+use Rattle.isle_base.proofs.LaneLemmas.{run_through, run_stops}
+use Rattle.isle_base.proofs.scanner.lanes.run_end.Goals as goal
+
+pub returns-then-misses-ne0 : goal.returns-then-misses-ne0
+returns-then-misses-ne0 g c =
+    let found = c.misses-misses.ensures in
+    let run = run_stops g.C.Class.holds c.args.bytes.now c.loop-at.at 32 (omega arith) (omega arith) (omega (arith, found)) ∙ ap (count_trailing_zeros 64) (sym found) in
+    omega (arith, run, c.loop-at.invariant.1)
+
+pub loop-at-preserved : goal.loop-at-preserved
+loop-at-preserved g c =
+    let run = run_through g.C.Class.holds c.args.bytes.now c.loop-at.at 32 (omega arith) (omega (arith, c.misses-misses.ensures)) in
+    (omega arith, omega (arith, run, c.loop-at.invariant.1))

@@ -1,4 +1,0 @@
-use Rattle.isle_base_errors.proofs.error.show.+write_number.Given as goal
-
-abbrev pub decreases-write_number : goal.decreases-write_number
-decreases-write_number g l = l.number

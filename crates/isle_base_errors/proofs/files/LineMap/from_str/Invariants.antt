@@ -1,6 +1,0 @@
-use Rattle.std.proofs.Common.{◌≡◌, take}
-use Rattle.isle_base_errors.specs.Lines.{line_ends}
-use Rattle.isle_base_errors.proofs.files.LineMap.from_str.Given as goal
-
-abbrev pub invariant-loop-offset : goal.invariant-loop-offset
-invariant-loop-offset l = l.line_ends.items ≡ line_ends (take l.offset l.text)

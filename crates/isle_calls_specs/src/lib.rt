@@ -1,5 +1,0 @@
-//! Which specs built by hand are writable: tests alone.
-#![tactic(auto)]
-
-#[cfg(test)]
-mod writable;

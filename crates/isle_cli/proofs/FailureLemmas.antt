@@ -1,0 +1,42 @@
+-- What is said of a failure, and the text that goes with its status.
+use Rattle.std.proofs.Common.{◌≡◌, ℕ, List, Option, string_bytes, refl, subst, sym, ◌∙◌}
+use Rattle.isle_cli.specs.Streams.{ReadsText, AppendsBeginning, WritesBeginning}
+use Rattle.isle_cli.specs.declared.failure.Failure.{Failure}
+use Rattle.isle_cli.specs.declared.failure.Failure.TheVariants as failures
+use Rattle.isle_cli.specs.declared.program.Program.{Program}
+use Rattle.isle_cli.specs.Failure.{status_of, text_of, IsDiagnostic, Explains}
+
+-- the text of a failure goes with its status
+pub diagnostic-of : (program : Program) (failure : Failure) → IsDiagnostic program (status_of failure) (text_of program failure)
+diagnostic-of program (failures.Refused text) = record { usage = λ e. absurd (cc); input = λ e. absurd (cc); memory = λ e. absurd (cc); output = λ e. absurd (cc) }
+diagnostic-of program failures.Usage = record { usage = λ e. refl; input = λ e. absurd (cc); memory = λ e. absurd (cc); output = λ e. absurd (cc) }
+diagnostic-of program failures.Input = record { usage = λ e. absurd (cc); input = λ e. refl; memory = λ e. absurd (cc); output = λ e. absurd (cc) }
+diagnostic-of program failures.Memory = record { usage = λ e. absurd (cc); input = λ e. absurd (cc); memory = λ e. refl; output = λ e. absurd (cc) }
+diagnostic-of program failures.Output = record { usage = λ e. absurd (cc); input = λ e. absurd (cc); memory = λ e. absurd (cc); output = λ e. refl }
+
+-- what a report of a failure writes goes with the status
+pub told-text : (program : Program) (status : ℕ) (failure : Failure) (faults faults' : Option (List ℕ)) → AppendsBeginning faults faults' (text_of program failure) → status ≡ status_of failure → WritesBeginning faults faults' (IsDiagnostic program status)
+told-text program status failure faults faults' told is =
+    (text_of program failure, subst (λ s. IsDiagnostic program s (text_of program failure)) (sym is) (diagnostic-of program failure), told)
+
+-- A failure that ends with status 1 is a refusal of the whole input, and its text is written.
+module _ (usable : Type 0) (Refused Written : List ℕ → List ℕ → Type 0) (program : Program) (input input' output output' faults faults' : Option (List ℕ)) where
+  refused_text : (failure : Failure) → Explains usable Refused Written failure input input' output output' → AppendsBeginning faults faults' (text_of program failure) → status_of failure ≡ 1
+      → ReadsText input input' (λ text. (shown : List ℕ) × Refused text shown × (text_of program failure ≡ shown) × AppendsBeginning faults faults' shown)
+  refused_text (failures.Refused diagnostic) why told one =
+      let read = why.1 in
+      record {
+        text = read.text;
+        consumed = read.consumed;
+        ended = read.ended;
+        utf8 = read.utf8;
+        holds = (string_bytes diagnostic, read.holds, refl, told);
+      }
+  refused_text failures.Usage why told one = absurd (cc)
+  refused_text failures.Input why told one = absurd (cc)
+  refused_text failures.Memory why told one = absurd (cc)
+  refused_text failures.Output why told one = absurd (cc)
+
+  pub refused-told : (status : ℕ) (failure : Failure) → Explains usable Refused Written failure input input' output output' → AppendsBeginning faults faults' (text_of program failure) → status ≡ status_of failure → status ≡ 1
+      → ReadsText input input' (λ text. (shown : List ℕ) × Refused text shown × (text_of program failure ≡ shown) × AppendsBeginning faults faults' shown)
+  refused-told status failure why told is one = refused_text failure why told (sym is ∙ one)

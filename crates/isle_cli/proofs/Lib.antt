@@ -1,0 +1,5 @@
+pub mod ArgumentLemmas
+pub mod FailureLemmas
+pub mod MessageLemmas
+pub mod SourceLemmas
+pub mod StreamLemmas

@@ -1,0 +1,5 @@
+use Rattle.std.proofs.Common.{rules, tests}
+use Rattle.isle_cli.proofs.words.parsed_width.Goals as goal
+
+pub returns : goal.returns
+returns c = search (tests, rules)

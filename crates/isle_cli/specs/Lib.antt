@@ -1,0 +1,7 @@
+pub mod Arguments
+pub mod Diagnostics
+pub mod Failure
+pub mod Messages
+pub mod Sources
+pub mod Streams
+pub mod Words

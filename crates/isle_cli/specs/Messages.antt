@@ -1,0 +1,18 @@
+-- Messages of one line.
+use Rattle.std.specs.Prelude.{ℕ, ◌+◌, List, [], ◌++◌, codes, string_bytes}
+use Rattle.std.specs.Fmt.{decimal}
+use Rattle.isle_base_source.specs.declared.error.Error.{Error}
+use Rattle.isle_base_source.specs.declared.error.Error.TheVariants as errors
+use Rattle.isle_base_source.specs.Lines.{column, line}
+use Rattle.isle_base_source.specs.Source.{Source}
+
+-- `FILE:LINE:COLUMN: KIND: MESSAGE`, line and column counted from 1, a column in bytes
+abbrev pub message_line : Source → (offset : ℕ) → (kind message : List ℕ) → List ℕ
+message_line source offset kind message =
+    source.name ++ codes ":" ++ decimal (line source.text offset + 1) ++ codes ":" ++ decimal (column source.text offset + 1)
+    ++ codes ": " ++ kind ++ codes ": " ++ message ++ codes "\n"
+
+-- why a text was refused, at its place
+abbrev pub error_line : Source → Error → List ℕ
+error_line source (errors.ParseError msg span) = message_line source span.from.offset (codes "error") (string_bytes msg)
+error_line source _ = []

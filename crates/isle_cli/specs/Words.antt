@@ -1,0 +1,18 @@
+-- The words of a command line.
+use Rattle.std.specs.Prelude.{ℕ, ◌^◌, ◌<◌, List, [], ◌∷◌}
+use Rattle.std.specs.Str.Parse.{IsNumeral, digits_value}
+
+-- one decimal digit or more, of a number that fits `usize`
+abbrev pub IsWidth : List ℕ → Type 0
+IsWidth word = IsNumeral 10 word × (digits_value 10 word < 2 ^ 64)
+
+-- there is no word, or one, which is a width
+abbrev pub GiveWidth : List (List ℕ) → Type 0
+GiveWidth [] = Unit {0}
+GiveWidth (word ∷ []) = IsWidth word
+GiveWidth (_ ∷ _ ∷ _) = ⊥
+
+-- the width that the words give, 78 where there is none
+abbrev pub given_width : List (List ℕ) → ℕ
+given_width [] = 78
+given_width (word ∷ _) = digits_value 10 word

@@ -1,0 +1,276 @@
+//! The words of a command line: options, which stand anywhere, and names.
+
+ghost use Rattle.std.specs.Prelude.{◌≡◌, ◌⊎◌, ◌++◌, IfErr, IfOk, None, OnOk, Some, map};
+ghost use Rattle.std.specs.Prelude.{option_to_list, string_bytes};
+ghost use Rattle.std.specs.Option.{option_copied, option_map};
+ghost use Rattle.isle_cli.specs.Arguments.{anything_awaited, asked, awaited_of, given};
+ghost use Rattle.isle_cli.specs.Arguments.{given_of, gives_flag, is_among, is_this_flag};
+ghost use Rattle.isle_cli.specs.Arguments.{is_flag, is_name, is_setting, last_setting, name_list};
+ghost use Rattle.isle_cli.specs.Arguments.{request_of, stdin_name, taken, taken_of};
+ghost use Rattle.isle_cli.specs.declared.failure.Failure.TheVariants.{Memory, Usage};
+
+use crate::diagnostics::INPUT_NAME;
+use crate::failure::Failure;
+use std::alloc::{AllocError, Global};
+
+/// The options of a program, without `--help`, `--version` and `--stdin-name NAME`, which each
+/// program takes.
+#[derive(Clone, Copy, Debug)]
+pub struct Options {
+    /// The options without a value, as `--check`.
+    pub flags: &'static [&'static str],
+    /// The options whose value is the next word, as `--width`.
+    pub settings: &'static [&'static str],
+}
+
+/// What a word of the command line gives, or an option and its value.
+#[derive(Debug, Drop)]
+pub enum Argument {
+    /// An option without a value.
+    Flag(String),
+    /// An option, and its value.
+    Setting(String, String),
+    /// A name; `-` stands for standard input.
+    Name(String),
+}
+
+/// What a command line asks for.
+#[derive(Debug, Drop)]
+pub enum Request {
+    /// To print the help.
+    Help,
+    /// To print the version.
+    Version,
+    /// To do the program's work, with these arguments.
+    Work(Vec<Argument>),
+}
+
+/// What the next word may be.
+#[derive(Drop)]
+enum Awaited {
+    /// An option, or a name.
+    Anything,
+    /// The value of this option.
+    Value(String),
+    /// A name, whatever it begins with.
+    Names,
+}
+
+/// What a word gives, and what the next one may be.
+#[derive(Drop)]
+struct Taken {
+    argument: Option<Argument>,
+    awaited: Awaited,
+}
+
+/// Reads the words of a command line, without the program's name.
+///
+/// Options stand anywhere among the names; after `--` each word is a name. A word that begins with
+/// `-` is an option, and `-` alone is a name. An option may be given more than once.
+///
+/// It fails with `Usage` where an option is unknown or its value is missing, and with `Memory`.
+/// Else `--help` comes before `--version`, and both before the work.
+pub fn requested(alloc: Global, options: &Options, words: &[String]) -> Result<Request, Failure>
+    ensures ok { IfOk result (λ request. asked options.now (map string_bytes words.now)
+        ≡ Some (request_of request)) }
+    ensures err { IfErr result (λ failure. (failure ≡ Memory)
+        ⊎ (failure ≡ Usage) × (asked options.now (map string_bytes words.now) ≡ None)) }
+{
+    let arguments = arguments_of(alloc, options, words)?;
+    if has_flag(&arguments, "--help") {
+        return Ok(Request::Help);
+    }
+    if has_flag(&arguments, "--version") {
+        return Ok(Request::Version);
+    }
+    Ok(Request::Work(arguments))
+}
+
+/// Reads options and names.
+fn arguments_of(
+    alloc: Global,
+    options: &Options,
+    words: &[String],
+) -> Result<Vec<Argument>, Failure>
+    ensures ok { IfOk result (λ arguments. given options.now anything_awaited
+        (map string_bytes words.now) ≡ Some (map given_of arguments.items)) }
+    ensures err { IfErr result (λ failure. (failure ≡ Memory) ⊎ (failure ≡ Usage)
+        × (given options.now anything_awaited (map string_bytes words.now) ≡ None)) }
+{
+    let mut arguments = Vec::new(alloc);
+    let mut awaited = Awaited::Anything;
+    for word in words {
+        let taken = take(alloc, options, awaited, word.as_str())?;
+        awaited = taken.awaited;
+        push_argument(&mut arguments, taken.argument)?;
+    }
+    match awaited {
+        Awaited::Value(_) => Err(Failure::Usage),
+        Awaited::Anything => Ok(arguments),
+        Awaited::Names => Ok(arguments),
+    }
+}
+
+/// Adds what a word gives.
+fn push_argument(
+    arguments: &mut Vec<Argument>,
+    argument: Option<Argument>,
+) -> Result<(), AllocError>
+    ensures { OnOk result (map given_of arguments.new.items
+        ≡ map given_of arguments.old.items ++ option_to_list (option_map given_of argument)) }
+{
+    match argument {
+        Some(argument) => Ok(arguments.push(argument)?),
+        None => Ok(()),
+    }
+}
+
+/// Takes one word.
+fn take(alloc: Global, options: &Options, awaited: Awaited, word: &str) -> Result<Taken, Failure>
+    ensures ok { IfOk result (λ next. taken options.now (awaited_of awaited) word.now
+        ≡ Some (taken_of next)) }
+    ensures err { IfErr result (λ failure. (failure ≡ Memory) ⊎ (failure ≡ Usage)
+        × (taken options.now (awaited_of awaited) word.now ≡ None)) }
+{
+    let word = String::from_str(alloc, word)?;
+    match awaited {
+        Awaited::Anything => take_any(options, word),
+        Awaited::Value(option) => Ok(Taken {
+            argument: Some(Argument::Setting(option, word)),
+            awaited: Awaited::Anything,
+        }),
+        Awaited::Names => Ok(Taken {
+            argument: Some(Argument::Name(word)),
+            awaited: Awaited::Names,
+        }),
+    }
+}
+
+/// Takes a word that may be an option or a name.
+fn take_any(options: &Options, word: String) -> Result<Taken, Failure>
+    ensures ok { IfOk result (λ next. taken options.now anything_awaited (string_bytes word)
+        ≡ Some (taken_of next)) }
+    ensures err { IfErr result (λ failure. (failure ≡ Usage)
+        × (taken options.now anything_awaited (string_bytes word) ≡ None)) }
+{
+    if word.as_str() == "--" {
+        return Ok(Taken {
+            argument: None,
+            awaited: Awaited::Names,
+        });
+    }
+    if options.is_setting(word.as_str()) {
+        return Ok(Taken {
+            argument: None,
+            awaited: Awaited::Value(word),
+        });
+    }
+    if options.is_flag(word.as_str()) {
+        return Ok(Taken {
+            argument: Some(Argument::Flag(word)),
+            awaited: Awaited::Anything,
+        });
+    }
+    if is_name_word(word.as_str()) {
+        return Ok(Taken {
+            argument: Some(Argument::Name(word)),
+            awaited: Awaited::Anything,
+        });
+    }
+    Err(Failure::Usage)
+}
+
+impl Options {
+    /// Tells whether a word is an option without a value.
+    fn is_flag(&self, word: &str) -> bool
+        ensures { result ≡ is_flag self.now word.now }
+    {
+        word == "--help" || word == "--version" || is_among(self.flags, word)
+    }
+
+    /// Tells whether a word is an option with a value.
+    fn is_setting(&self, word: &str) -> bool
+        ensures { result ≡ is_setting self.now word.now }
+    {
+        word == "--stdin-name" || is_among(self.settings, word)
+    }
+}
+
+/// Tells whether a word is one of these.
+fn is_among(words: &[&str], word: &str) -> bool
+    ensures { result ≡ is_among (map (λ other. other.now) words.now) word.now }
+{
+    for other in words {
+        if *other == word {
+            return true;
+        }
+    }
+    false
+}
+
+/// Tells whether a word is a name where options may stand: it is `-`, or begins with another byte.
+fn is_name_word(word: &str) -> bool
+    ensures { result ≡ is_name word.now }
+{
+    word == "-" || !word.starts_with('-')
+}
+
+/// Tells whether an option without a value is given.
+pub fn has_flag(arguments: &[Argument], flag: &str) -> bool
+    ensures { result ≡ gives_flag flag.now (map given_of arguments.now) }
+{
+    for argument in arguments {
+        if argument.is_this_flag(flag) {
+            return true;
+        }
+    }
+    false
+}
+
+/// Gives the value of an option, where it is given: the last one.
+pub fn setting_of<'a>(arguments: &'a [Argument], option: &str) -> Option<&'a str>
+    ensures { option_copied result ≡ last_setting option.now None (map given_of arguments.now) }
+{
+    let mut value = None;
+    for argument in arguments {
+        if let Argument::Setting(name, given) = argument {
+            if name.as_str() == option {
+                value = Some(given.as_str());
+            }
+        }
+    }
+    value
+}
+
+/// Gives the name of standard input: the value of `--stdin-name`, or `<stdin>`.
+pub fn stdin_name_of(arguments: &[Argument]) -> &str
+    ensures { result.now ≡ stdin_name (map given_of arguments.now) }
+{
+    setting_of(arguments, "--stdin-name").unwrap_or(INPUT_NAME)
+}
+
+/// Gives the names, in order.
+pub fn names_of(alloc: Global, arguments: &[Argument]) -> Result<Vec<String>, AllocError>
+    ensures { IfOk result (λ names. map string_bytes names.items
+        ≡ name_list (map given_of arguments.now)) }
+{
+    let mut names = Vec::new(alloc);
+    for argument in arguments {
+        if let Argument::Name(name) = argument {
+            names.push(name.clone()?)?;
+        }
+    }
+    Ok(names)
+}
+
+impl Argument {
+    /// Tells whether the argument is this option without a value.
+    fn is_this_flag(&self, word: &str) -> bool
+        ensures { result ≡ is_this_flag word.now (given_of self.now) }
+    {
+        match self {
+            Argument::Flag(flag) => flag.as_str() == word,
+            Argument::Setting(..) | Argument::Name(_) => false,
+        }
+    }
+}

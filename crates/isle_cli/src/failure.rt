@@ -1,0 +1,77 @@
+//! Why a program doesn't do its work.
+
+ghost use Rattle.std.specs.Prelude.{◌≡◌};
+ghost use Rattle.isle_cli.specs.Failure.{read_failure, status_of, words_failure};
+ghost use Rattle.isle_cli.specs.declared.failure.Failure.TheVariants.{Memory};
+
+use crate::streams::ReadFault;
+use crate::words::WordsFault;
+use std::alloc::{AllocError, AllocFailed};
+
+/// Why a program doesn't do its work.
+#[derive(Debug, Drop)]
+pub enum Failure {
+    /// The program finds something wrong in its input; with the text to write.
+    Refused(String),
+    /// The command line is none of the usage.
+    Usage,
+    /// The input can't be read to its end, or isn't UTF-8.
+    Input,
+    /// A growth of memory was refused.
+    Memory,
+    /// The output refused bytes.
+    Output,
+}
+
+impl From<AllocError> for Failure {
+    ghost from_gives = { λ _ failure. failure ≡ Memory };
+
+    fn from(_error: AllocError) -> Failure {
+        Failure::Memory
+    }
+}
+
+impl<T: Drop> From<AllocFailed<T>> for Failure {
+    ghost from_gives = { λ _ failure. failure ≡ Memory };
+
+    fn from(_error: AllocFailed<T>) -> Failure {
+        Failure::Memory
+    }
+}
+
+impl From<ReadFault> for Failure {
+    ghost from_gives = { λ fault failure. failure ≡ read_failure fault };
+
+    fn from(fault: ReadFault) -> Failure {
+        match fault {
+            ReadFault::Unreadable => Failure::Input,
+            ReadFault::Memory => Failure::Memory,
+        }
+    }
+}
+
+impl From<WordsFault> for Failure {
+    ghost from_gives = { λ fault failure. failure ≡ words_failure fault };
+
+    fn from(fault: WordsFault) -> Failure {
+        match fault {
+            WordsFault::NotUtf8 => Failure::Usage,
+            WordsFault::Memory => Failure::Memory,
+        }
+    }
+}
+
+impl Failure {
+    /// The status that a program ends with: 1 to 5, in the order of the variants.
+    pub fn status(&self) -> u8
+        ensures { result ≡ status_of self.now }
+    {
+        match self {
+            Failure::Refused(_) => 1,
+            Failure::Usage => 2,
+            Failure::Input => 3,
+            Failure::Memory => 4,
+            Failure::Output => 5,
+        }
+    }
+}

@@ -1,0 +1,117 @@
+//! The files beneath a folder.
+
+ghost use Rattle.std.specs.Prelude.{◌≡◌, IfErr};
+ghost use Rattle.isle_cli.specs.declared.failure.Failure.TheVariants.{Memory};
+
+use crate::failure::Failure;
+use crate::program::Program;
+use crate::sources::{SourceFault, fault_line, fault_of};
+use std::fs::{DirEntry, Files, read_dir};
+use std::io;
+
+/// The end of the name of a file of ISLE.
+const SUFFIX: &str = ".isle";
+
+/// A file or a folder.
+#[derive(Drop)]
+struct Entry {
+    path: String,
+    is_folder: bool,
+}
+
+/// Gives the names of the files that a name stands for: itself, or, if it is a folder, each file
+/// beneath it whose name ends in `.isle`, in order of name.
+///
+/// Beneath a folder, hidden folders and links are left out. What can't be read gives a line of
+/// `faults`, and the others are given all the same. It fails only with `Memory`.
+pub fn files_of<R: Files + AllocGlobal + Clone + Drop>(
+    rt: &R,
+    program: &Program,
+    name: &str,
+    faults: &mut String,
+) -> Result<Vec<String>, Failure>
+    ensures { IfErr result (λ failure. failure ≡ Memory) }
+{
+    let mut files = Vec::new(rt.alloc());
+    let is_folder = match rt.metadata(name) {
+        Ok(metadata) => metadata.is_dir(),
+        Err(error) => {
+            push_fault(rt, program, name, error, faults)?;
+            return Ok(files);
+        }
+    };
+    let path = String::from_str(rt.alloc(), name)?;
+    let mut pending = vec![in rt.alloc(); Entry { path, is_folder }]?;
+    for _ in 0..u64::MAX {
+        match pending.pop() {
+            None => return Ok(files),
+            Some(entry) if entry.is_folder => {
+                push_entries(rt, program, entry.path.as_str(), &mut pending, faults)?;
+            }
+            Some(entry) => files.push(entry.path)?,
+        }
+    }
+    Ok(files)
+}
+
+/// Puts what is in a folder on top of what is pending, the first name last.
+fn push_entries<R: Files + AllocGlobal + Clone + Drop>(
+    rt: &R,
+    program: &Program,
+    folder: &str,
+    pending: &mut Vec<Entry>,
+    faults: &mut String,
+) -> Result<(), Failure>
+    ensures { IfErr result (λ failure. failure ≡ Memory) }
+{
+    let entries = match read_dir(rt, folder) {
+        Ok(entries) => entries,
+        Err(error) => return push_fault(rt, program, folder, error, faults),
+    };
+    let mut inside = Vec::new(rt.alloc());
+    for entry in entries {
+        match entry.and_then(|entry| entry_of(rt, &entry)) {
+            Ok(Some(entry)) => inside.push(entry)?,
+            Ok(None) => {}
+            Err(error) => push_fault(rt, program, folder, error, faults)?,
+        }
+    }
+    inside.sort_by(|a, b| b.path.cmp(&a.path))?;
+    for entry in inside {
+        pending.push(entry)?;
+    }
+    Ok(())
+}
+
+/// Gives a folder that isn't hidden, or a file of ISLE, and nothing of anything else.
+fn entry_of<R: Files + AllocGlobal>(rt: &R, entry: &DirEntry<R>) -> io::Result<Option<Entry>> {
+    let name = entry.file_name();
+    let kind = entry.file_type()?;
+    let is_folder = kind.is_dir() && !name.starts_with('.');
+    let is_file = kind.is_file() && name.ends_with(SUFFIX);
+    if !is_folder && !is_file {
+        return Ok(None);
+    }
+    let path = String::from_str(rt.alloc(), entry.path().as_str())?;
+    Ok(Some(Entry { path, is_folder }))
+}
+
+/// Adds the line that says why a name can't be read.
+fn push_fault<R: Files + AllocGlobal>(
+    rt: &R,
+    program: &Program,
+    name: &str,
+    error: io::Error,
+    faults: &mut String,
+) -> Result<(), Failure>
+    ensures { IfErr result (λ failure. failure ≡ Memory) }
+{
+    match fault_of(error) {
+        SourceFault::Memory => Err(Failure::Memory),
+        fault => {
+            let line = fault_line(rt.alloc(), program, name, fault)?;
+            faults.push_str(line.as_str())?;
+            Ok(())
+        }
+    }
+}

@@ -1,0 +1,151 @@
+-- Tidying a text entry by entry: what is written so far, and then the entries to come, placed, is the
+-- text of a document that is placed.
+use Rattle.std.proofs.Common.{◌≡◌, ℕ, List, [], ◌∷◌, ◌++◌, drop, length, ◌≤◌, ◌<◌, ◌-◌, IsUtf8, refl, sym, ap, subst, ◌∙◌, arith, append_assoc}
+use Rattle.isle_document_layout.specs.declared.entries.Entry.{Entry as Written}
+use Rattle.isle_document_layout.specs.declared.entries.Gap.{Gap}
+use Rattle.isle_document_layout.specs.declared.entries.Gap.TheVariants.{Beside, Below}
+use Rattle.isle_document_layout.specs.declared.placing.Kind.{Kind}
+use Rattle.isle_document_layout.specs.declared.placing.Kind.TheVariants.{Start}
+use Rattle.isle_document.specs.declared.reader.Step.TheVariants.{More, End, Refused}
+use Rattle.isle_document_layout.specs.Entries.{Lexeme, opening, closing, at_sign, atom, line_comment, block_comment, Entry}
+use Rattle.isle_document_layout.specs.EntriesView.{lexeme_of, entry_of}
+use Rattle.isle_document.specs.Finds.{FindsEntry}
+use Rattle.isle_document.specs.Grammar.{SpellsEntries}
+use Rattle.isle_document_layout.specs.Placing.{tidied, kind_of, closings, Here, placed_gap, reached, passed, placed_after, text_start, placed}
+use Rattle.isle_document.specs.Streams.{IsWritten, HasWritten, PutsMore, PutsLast, text_from, gap_text_from, entry_text}
+use Rattle.isle_document_layout.specs.Writing.{spelling, written, written_after}
+use Rattle.isle_document.proofs.Listing.{one_more, goes_on}
+use Rattle.isle_document.proofs.Unique.{SpellsEntries-unique}
+use Rattle.isle_document.specs.Refused.{HasDocument}
+use Rattle.isle_document.specs.Sizes.{size_of}
+use Rattle.isle_document.specs.Tidied.{IsTidyTextOf}
+use Rattle.isle_document.specs.declared.tidying.Tidying.{Tidying}
+use Rattle.isle_document_layout.specs.declared.placer.Placer.{Placer}
+use Rattle.isle_document_layout.specs.PlacerView.{IsAt}
+
+pub nothing_written : (text : List ℕ) → IsWritten text (Below 0 0) 0 text_start []
+nothing_written text = λ es s. (es, s, refl)
+
+text_after : (x : Lexeme) (es : List Entry) → text_from (kind_of x) es ≡ written_after es
+text_after opening es = refl
+text_after closing es = refl
+text_after at_sign es = refl
+text_after (atom bs) es = refl
+text_after (line_comment bs) es = refl
+text_after (block_comment bs) es = refl
+
+text_more : (before : Kind) (e : Entry) (es : List Entry) → text_from before (e ∷ es) ≡ gap_text_from before e.gap ++ (spelling e.lexeme ++ written_after es)
+text_more Start e es = refl
+text_more _ e es = refl
+
+-- one entry more
+pub one_written : (text : List ℕ) (gap : Gap) (at to count : ℕ) (e : Written) (here : Here) (placed_to : Gap) (old new : List ℕ)
+    → IsWritten text gap at here old
+    → FindsEntry text gap at (More e to)
+    → ((es : List Entry) → SpellsEntries (Beside 0) es (drop to text)
+    → placed_gap here e.gap (kind_of (lexeme_of e.lexeme)) (closings es) ≡ placed_gap here e.gap (kind_of (lexeme_of e.lexeme)) count)
+    → placed_to ≡ placed_gap here e.gap (kind_of (lexeme_of e.lexeme)) count
+    → new ≡ old ++ entry_text here.before placed_to (tidied (lexeme_of e.lexeme))
+    → IsWritten text (Beside 0) to (passed (reached here (kind_of (lexeme_of e.lexeme)) e.gap placed_to) (lexeme_of e.lexeme)) new
+one_written text gap at to count e here placed_to old new so_far found ahead is put = λ es s.
+    let x = lexeme_of e.lexeme in
+    let kind = kind_of x in
+    let whole = so_far (entry_of e ∷ es) (one_more text gap at to e found es s) in
+    let gaps : placed_gap here e.gap kind (closings es) ≡ placed_to = ahead es s ∙ sym is in
+    let there = passed (reached here kind e.gap placed_to) x in
+    let more = placed_after there es in
+    let front = gap_text_from here.before placed_to in
+    let first : placed_after here (entry_of e ∷ es) ≡ record { gap = placed_to; lexeme = tidied x } ∷ more =
+    ap (λ (g : Gap). let r : Entry = record { gap = g; lexeme = tidied x } in r ∷ placed_after (passed (reached here kind e.gap g) x) es) gaps in
+    let text_is : text_from here.before (placed_after here (entry_of e ∷ es)) ≡ front ++ (spelling (tidied x) ++ written_after more) =
+    ap (text_from here.before) first ∙ text_more here.before (record { gap = placed_to; lexeme = tidied x }) more in
+    let grouped : old ++ (front ++ (spelling (tidied x) ++ written_after more)) ≡ new ++ written_after more =
+    ap (λ xs. old ++ xs) (sym (append_assoc front (spelling (tidied x)) (written_after more)))
+    ∙ sym (append_assoc old (front ++ spelling (tidied x)) (written_after more))
+    ∙ ap (λ xs. xs ++ written_after more) (sym put) in
+    (whole.0, whole.1, whole.2 ∙ ap (λ xs. old ++ xs) text_is ∙ grouped ∙ ap (λ xs. new ++ xs) (sym (text_after x more)))
+
+-- The same, of a tidying.
+
+abbrev on_text : (text out : List ℕ) (t : Tidying) → HasWritten text out t → HasWritten t.text.now out t
+on_text text out t h = subst (λ xs. HasWritten xs out t) (sym h.same_text) h
+
+pub has_begun : (t : Tidying) → HasDocument t.text.now → IsUtf8 t.text.now → IsAt t.placer text_start → t.gap ≡ Below 0 0 → t.at ≡ 0 → HasWritten t.text.now [] t
+has_begun t d utf8 at gap start = record {
+  same_text = refl;
+  document = d;
+  here = text_start;
+  is_here = at;
+  so_far = subst (λ g. IsWritten t.text.now g t.at text_start []) (sym gap) (subst (λ n. IsWritten t.text.now (Below 0 0) n text_start []) (sym start) (nothing_written t.text.now));
+  to_come = (d.0, subst (λ g. SpellsEntries g d.0 (drop t.at t.text.now)) (sym gap) (subst (λ n. SpellsEntries (Below 0 0) d.0 (drop n t.text.now)) (sym start) d.1.0));
+  within = omega (arith, start);
+  utf8 = subst (λ n. IsUtf8 (drop n t.text.now)) (sym start) utf8;
+  no_gap = ap size_of gap;
+}
+
+pub puts_more : (t new : Tidying) (e : Written) (to count : ℕ) (placed_to : Gap) (before after : List ℕ)
+    → FindsEntry t.text.now t.gap t.at (More e to)
+    → ((here : Here) (es : List Entry) → SpellsEntries (Beside 0) es (drop to t.text.now)
+    → placed_gap here e.gap (kind_of (lexeme_of e.lexeme)) (closings es) ≡ placed_gap here e.gap (kind_of (lexeme_of e.lexeme)) count)
+    → ((here : Here) → IsAt t.placer here
+    → (placed_to ≡ placed_gap here e.gap (kind_of (lexeme_of e.lexeme)) count)
+    × IsAt new.placer (passed (reached here (kind_of (lexeme_of e.lexeme)) e.gap placed_to) (lexeme_of e.lexeme)))
+    → after ≡ before ++ entry_text t.placer.before placed_to (tidied (lexeme_of e.lexeme))
+    → new.text.now ≡ t.text.now → new.gap ≡ Beside 0 → new.at ≡ to
+    → PutsMore t new before after
+puts_more t new e to count placed_to before after found ahead goes put same gap at = λ text out has.
+    let h = on_text text out t has in
+    let x = lexeme_of e.lexeme in
+    let there = passed (reached h.here (kind_of x) e.gap placed_to) x in
+    let went = goes h.here h.is_here in
+    let more = entry_text h.here.before placed_to (tidied x) in
+    let written_more : IsWritten t.text.now (Beside 0) to there (out ++ more) =
+    one_written t.text.now t.gap t.at to count e h.here placed_to out (out ++ more) h.so_far found (ahead h.here) went.0 refl in
+    let others = goes_on t.text.now t.gap t.at to e found h.to_come.0 h.to_come.1 in (
+      more,
+      put ∙ ap (λ k. before ++ entry_text k placed_to (tidied x)) h.is_here.before,
+      record {
+        same_text = same ∙ has.same_text;
+        document = has.document;
+        here = there;
+        is_here = went.1;
+        so_far = subst (λ xs. IsWritten xs new.gap new.at there (out ++ more)) has.same_text
+            (subst (λ g. IsWritten t.text.now g new.at there (out ++ more)) (sym gap) (subst (λ n. IsWritten t.text.now (Beside 0) n there (out ++ more)) (sym at) written_more));
+        to_come = (
+          others.0,
+          subst (λ xs. SpellsEntries new.gap others.0 (drop new.at xs)) has.same_text
+              (subst (λ g. SpellsEntries g others.0 (drop new.at t.text.now)) (sym gap) (subst (λ n. SpellsEntries (Beside 0) others.0 (drop n t.text.now)) (sym at) others.1)),
+        );
+        within = subst (λ xs. new.at ≤ length xs) has.same_text (subst (λ n. n ≤ length t.text.now) (sym at) found.2.2);
+        utf8 = subst (λ xs. IsUtf8 (drop new.at xs)) has.same_text (subst (λ n. IsUtf8 (drop n t.text.now)) (sym at) found.2.3);
+        no_gap = ap size_of gap;
+      },
+    )
+
+pub puts_last : (t : Tidying) (before after : List ℕ) → FindsEntry t.text.now t.gap t.at End → after ≡ before ++ text_from t.placer.before [] → PutsLast t before after
+puts_last t before after found put = λ text out has.
+    let h = on_text text out t has in
+    let whole = h.so_far [] found in
+    let d = h.document in
+    let same : whole.0 ≡ d.0 = SpellsEntries-unique (Below 0 0) whole.0 d.0 t.text.now whole.1 d.1.0 in
+    let tidy : IsTidyTextOf t.text.now (out ++ text_from h.here.before []) = record {
+      document = d.0;
+      is_document = d.1;
+      is_written = sym whole.2 ∙ ap (λ es. written (placed es)) same;
+    } in (
+      text_from h.here.before [],
+      put ∙ ap (λ k. before ++ text_from k []) h.is_here.before,
+      subst (λ xs. IsTidyTextOf xs (out ++ text_from h.here.before [])) has.same_text tidy,
+    )
+
+pub never_refused : (t : Tidying) (text out : List ℕ) → HasWritten text out t → FindsEntry t.text.now t.gap t.at Refused → ⊥
+never_refused t text out has found = let h = on_text text out t has in found h.to_come.0 h.to_come.1
+
+pub moved_on : (t new : Tidying) (text out before after : List ℕ) → HasWritten text out t → PutsMore t new before after → t.at < new.at → length text - new.at < length text - t.at
+moved_on t new text out before after has more moves =
+    let there = (more text out has).2 in
+    let within : new.at ≤ length text = there.within in
+    omega arith
+
+pub all_put : (t : Tidying) (text before after : List ℕ) → HasWritten text before t → PutsLast t before after → IsTidyTextOf text after
+all_put t text before after has last = let whole = last text before has in subst (λ xs. IsTidyTextOf text xs) (sym whole.1) whole.2

@@ -1,0 +1,14 @@
+use Rattle.std.proofs.Common.{subst}
+use Rattle.isle_document.specs.Finds.{FindsGap}
+use Rattle.isle_document.proofs.Listing.{gap_utf8, none_refuses}
+use Rattle.isle_document.proofs.reader.step_at.Goals as goal
+
+pub lexeme_at-requires-clause-first : goal.lexeme_at-requires-clause-first
+lexeme_at-requires-clause-first c =
+    let gap = subst (λ xs. FindsGap xs c.args.gap c.args.from c.gap_at-gap.result.0 c.gap_at-gap.result.1) c.as_bytes.ensures.value c.gap_at-gap.ensures in
+    gap_utf8 c.args.text.now c.args.from c.gap_at-gap.result.1 c.args.gap c.gap_at-gap.result.0 gap c.requires.first
+
+pub returns-in-None : goal.returns-in-None
+returns-in-None c =
+    let gap = subst (λ xs. FindsGap xs c.args.gap c.args.from c.gap_at-gap.result.0 c.gap_at-gap.result.1) c.as_bytes.ensures.value c.gap_at-gap.ensures in
+    none_refuses c.args.text.now c.args.from c.gap_at-gap.result.1 c.args.gap c.gap_at-gap.result.0 gap gap.4 c.if-start-text.false c.in-None.ensures

@@ -1,0 +1,39 @@
+-- What the private calls of the reader find in a text from an offset on.
+use Rattle.std.specs.Prelude.{◌≡◌, ◌<◌, ◌≤◌, ℕ, List, Option, Some, None, drop, length, IsUtf8}
+use Rattle.std.specs.Prelude.{true}
+use Rattle.std.specs.List.{list_all}
+use Rattle.isle_base.specs.Skips.{Longest, is_blank}
+use Rattle.isle_document_layout.specs.declared.entries.Gap.{Gap}
+use Rattle.isle_document_layout.specs.declared.entries.Lexeme.{Lexeme as Text}
+use Rattle.isle_document.specs.declared.reader.Step.{Step}
+use Rattle.isle_document.specs.declared.reader.Step.TheVariants.{More, End, Refused}
+use Rattle.isle_document_layout.specs.Entries.{Lexeme, Entry}
+use Rattle.isle_document_layout.specs.EntriesView.{lexeme_of}
+use Rattle.isle_document.specs.Grammar.{Spells, SpellsEntries, gap_of}
+
+-- the lexeme stands from the one offset to the other, behind which the text goes on with a whole character
+abbrev pub Stands : List ℕ → Lexeme → ℕ → ℕ → Type 0
+Stands text x from to = Spells x (drop from text) (drop to text) × (from < to) × (to ≤ length text) × IsUtf8 (drop to text)
+
+-- no lexeme stands here
+abbrev pub SpellsNone : List ℕ → Type 0
+SpellsNone text = (x : Lexeme) (rest : List ℕ) → Spells x text rest → ⊥
+
+-- a lexeme and the offset behind it, or none
+abbrev pub FindsLexeme : List ℕ → ℕ → Option (Text × ℕ) → Type 0
+FindsLexeme text from (Some x) = Stands text (lexeme_of x.0) from x.1
+FindsLexeme text from None = SpellsNone (drop from text)
+
+-- the gap that the blanks between two offsets make behind another one, all that there are
+abbrev pub FindsGap : List ℕ → Gap → ℕ → Gap → ℕ → Type 0
+FindsGap text before from gap to =
+    (blanks : List ℕ) × Longest is_blank (drop from text) blanks (drop to text) × (gap ≡ gap_of before blanks) × (from ≤ to)
+    × (to ≤ length text)
+
+-- what stands behind the blanks at an offset: an entry, and the offset behind it, or only the end of the
+-- text, or nothing that a document can have
+abbrev pub FindsEntry : List ℕ → Gap → ℕ → Step → Type 0
+FindsEntry text gap from (More e to) =
+    (start : ℕ) × FindsGap text gap from e.gap start × Stands text (lexeme_of e.lexeme) start to
+FindsEntry text gap from End = list_all is_blank (drop from text) ≡ true
+FindsEntry text gap from Refused = (entries : List Entry) → SpellsEntries gap entries (drop from text) → ⊥

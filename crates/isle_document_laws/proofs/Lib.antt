@@ -1,0 +1,4 @@
+pub mod PlainShapes
+pub mod PrintDocuments
+pub mod PrintTexts
+pub mod PrintedDefinitions

@@ -1,4 +1,0 @@
-pub mod Counts
-pub mod Prints
-pub mod PrintedDocuments
-pub mod PrintedDefinitions

@@ -1,4 +1,0 @@
-//! What printed texts are as documents: laws alone.
-#![tactic(auto)]
-
-pub mod laws;

@@ -1,0 +1,17 @@
+pub mod Options
+pub mod Growth
+pub mod Free
+pub mod Cases
+pub mod Lists
+pub mod Places
+pub mod Ending
+pub mod Searching
+pub mod Bounds
+pub mod Total
+pub mod Misused
+pub mod Orders
+pub mod Expanding
+pub mod Writing
+pub mod Steps
+pub mod Whole
+pub mod Collecting

@@ -1,0 +1,10 @@
+pub mod Macros
+pub mod Expansion
+pub mod Cases
+pub mod Definitions
+pub mod Mentions
+pub mod Misuses
+pub mod Order
+pub mod Search
+pub mod Collected
+pub mod Views

@@ -1,0 +1,5 @@
+pub mod NameLemmas
+pub mod SeenLemmas
+pub mod RuleLemmas
+pub mod MentionLemmas
+pub mod CountLemmas

@@ -1,0 +1,24 @@
+-- The comments that turn a lint off for a definition.
+use Rattle.std.specs.Prelude.{ℕ, List, [], ◌∷◌, ◌++◌, Bool, false, ◌&&◌, ◌==◌, if◌then◌else◌, codes}
+use Rattle.std.specs.Str.{bytes_eq}
+use Rattle.isle_findings.specs.Lint.{name}
+use Rattle.isle_findings.specs.declared.lint.Lint.{Lint}
+
+abbrev pub begins_with : ℕ → List ℕ → Bool
+begins_with byte [] = false
+begins_with byte (b ∷ _) = b == byte
+
+-- for each line, the line above the definition that it is part of; a definition begins at a line that begins with `(`
+abbrev pub lines_above : (previous above : List ℕ) → List (List ℕ) → List (List ℕ)
+lines_above previous above [] = []
+lines_above previous above (line ∷ more) =
+    (if begins_with 40 line then previous else above) ∷ lines_above line (if begins_with 40 line then previous else above) more
+
+-- what follows the semicolons that a line begins with
+abbrev pub after_semicolons : List ℕ → List ℕ
+after_semicolons [] = []
+after_semicolons (b ∷ bs) = if b == 59 then after_semicolons bs else b ∷ bs
+
+-- a line is a comment that turns a lint off
+abbrev pub allows : List ℕ → Lint → Bool
+allows line lint = begins_with 59 line && bytes_eq (after_semicolons line) (codes " isle-lint: allow " ++ name lint)

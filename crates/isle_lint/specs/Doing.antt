@@ -1,0 +1,112 @@
+-- What the program tells.
+use Rattle.std.specs.Prelude.{◌≡◌, ◌⊎◌, ℕ, ◌==◌, List, [], ◌∷◌, ◌++◌, Bool, true, false, ◌&&◌, if◌then◌else◌, Option, None, Some, codes, length, map}
+use Rattle.std.specs.Io.KnownBytes.{Appends, Keeps}
+use Rattle.std.specs.List.Sorted.{IsPermutation, IsSortedByKey}
+use Rattle.isle_base_source.specs.PositionOrder.{position_cmp}
+use Rattle.isle_base_source.specs.Source.{Source}
+use Rattle.isle_base_source.specs.declared.error.Error.{Error}
+use Rattle.isle_ast.specs.Tree.{Definition}
+use Rattle.isle_findings.specs.Finding.{finding_of}
+use Rattle.isle_findings.specs.Findings.{findings_in}
+use Rattle.isle_findings.specs.declared.finding.Finding.{Finding}
+use Rattle.isle_findings.specs.declared.lint.Lint.{Lint}
+use Rattle.isle_cli.specs.Arguments.{Asked, Given, asked, help_asked, name_list, stdin_name, version_asked, work_asked}
+use Rattle.isle_cli.specs.Failure.{IsDiagnostic}
+use Rattle.isle_cli.specs.Sources.{IsReadFrom}
+use Rattle.isle_cli.specs.Streams.{AppendsBeginning}
+use Rattle.isle_cli.specs.declared.failure.Failure.{Failure}
+use Rattle.isle_cli.specs.declared.failure.Failure.TheVariants as failures
+use Rattle.isle_lint.specs.Options.{are_usable, lints_on}
+use Rattle.isle_lint.specs.Reading.{IsReading}
+use Rattle.isle_cli.specs.declared.arguments.Options.{Options}
+use Rattle.isle_cli.specs.declared.program.Program.{Program}
+use Rattle.isle_lint.specs.declared.options.TheConstants.{HELP, VERSION}
+use Rattle.isle_lint.specs.Report.{count_text, is_program, refused_count, sources_text, told, usable}
+
+-- What is shown is what these lints find in the trees of the texts, each finding once, in order of place, but for what
+-- comments turn off; and which texts spell no tree; and how many there are of both.
+pub record IsReport (lints : List Lint) (is_whole : Bool) (sources : List Source) (shown : List ℕ) : Type 0 where
+  pub definitions : List Definition
+  pub refusals : List (Option Error)
+  pub read : IsReading sources definitions refusals
+  pub found : List Finding
+  pub exact : IsPermutation (findings_in (usable (is_program is_whole refusals) lints) definitions) (map finding_of found)
+  pub in_order : IsSortedByKey (λ f. f.pos) position_cmp found
+  pub is : shown ≡ sources_text 0 sources refusals (told 0 sources (map finding_of found))
+      ++ count_text (refused_count refusals) (length (told 0 sources (map finding_of found)))
+
+abbrev pub is_empty : List ℕ → Bool
+is_empty text = length text == 0
+
+-- the status where all could be read, or not, and nothing is told, or something
+abbrev pub told_status : Bool → Bool → ℕ
+told_status is_read is_clean = if is_read then (if is_clean then 0 else 1) else 3
+
+-- this program, and its options
+abbrev pub IsProgram : Program → Type 0
+IsProgram program =
+    (program.name.now ≡ codes "isle-lint")
+    × (program.usage.now ≡ codes "usage: isle-lint [--all] [--whole] [--lint NAME] [--allow NAME] [--stdin-name NAME] [FILE ..]\n")
+
+abbrev pub AreOptions : Options → Type 0
+AreOptions options =
+    (map (λ flag. flag.now) options.flags.now ≡ codes "--all" ∷ codes "--whole" ∷ [])
+    × (map (λ setting. setting.now) options.settings.now ≡ codes "--lint" ∷ codes "--allow" ∷ [])
+
+-- the words ask this of the program
+abbrev pub Ask : List (List ℕ) → Option Asked → Type 0
+Ask words what = (options : Options) × AreOptions options × (asked options words ≡ what)
+
+-- the text that goes with a status past 1
+abbrev pub IsFailureText : ℕ → List ℕ → Type 0
+IsFailureText status text = (program : Program) × IsProgram program × IsDiagnostic program status text
+
+-- What was read of what the arguments name, and what is to be told of it; Holds is said of the faults of reading, and of
+-- what is told.
+pub record Looks (given : List Given) (input input' : Option (List ℕ)) (Holds : List ℕ → List ℕ → Type 0) : Type 0 where
+  pub usable : are_usable given ≡ true
+  pub program : Program
+  pub is_program : IsProgram program
+  pub sources : List Source
+  pub faults : List ℕ
+  pub read : IsReadFrom (name_list given) (stdin_name given) program input input' sources faults
+  pub shown : List ℕ
+  pub report : IsReport (lints_on given) (is_empty faults) sources shown
+  pub holds : Holds faults shown
+
+-- it is told, and this is the status
+abbrev pub Tells : List Given → ℕ → (input input' output output' : Option (List ℕ)) → Type 0
+Tells given status input input' output output' =
+    Looks given input input' (λ faults shown. (status ≡ told_status (is_empty faults) (is_empty shown)) × Appends output output' shown)
+
+-- the output got a beginning of it
+abbrev pub Cuts : List Given → (input input' output output' : Option (List ℕ)) → Type 0
+Cuts given input input' output output' = Looks given input input' (λ faults shown. AppendsBeginning output output' shown)
+
+-- what a failure says of the input and the output
+abbrev pub Explains : Failure → List Given → (input input' output output' : Option (List ℕ)) → Type 0
+Explains (failures.Refused text) given input input' output output' = ⊥
+Explains failures.Usage given input input' output output' = (are_usable given ≡ false) × Keeps input input' × Keeps output output'
+Explains failures.Input given input input' output output' = ⊥
+Explains failures.Memory given input input' output output' = Keeps output output'
+Explains failures.Output given input input' output output' = Cuts given input input' output output'
+
+-- the words are none of the usage, or name a lint that there is none of
+abbrev pub IsMisuse : List (List ℕ) → Type 0
+IsMisuse words = Ask words None ⊎ ((given : List Given) × Ask words (Some (work_asked given)) × (are_usable given ≡ false))
+
+-- the words ask something of the program, and P holds of it
+abbrev pub AsAsked : List (List ℕ) → (Asked → Type 0) → Type 0
+AsAsked words P = (what : Asked) × Ask words (Some what) × P what
+
+-- what is asked for is done, with this status
+abbrev pub Does : Asked → ℕ → (input input' output output' : Option (List ℕ)) → Type 0
+Does help_asked status input input' output output' = (status ≡ 0) × Keeps input input' × Appends output output' HELP.now
+Does version_asked status input input' output output' = (status ≡ 0) × Keeps input input' × Appends output output' VERSION.now
+Does (work_asked given) status input input' output output' = Tells given status input input' output output'
+
+-- the output got a beginning of what is asked for
+abbrev pub CutsAsked : Asked → (input input' output output' : Option (List ℕ)) → Type 0
+CutsAsked help_asked input input' output output' = Keeps input input' × AppendsBeginning output output' HELP.now
+CutsAsked version_asked input input' output output' = Keeps input input' × AppendsBeginning output output' VERSION.now
+CutsAsked (work_asked given) input input' output output' = Cuts given input input' output output'

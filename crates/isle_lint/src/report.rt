@@ -1,0 +1,340 @@
+//! What is told of a program.
+
+ghost use Rattle.std.specs.Prelude.{◌≡◌, ◌++◌, [], IfErr, IfOk, OnOk, length, map};
+ghost use Rattle.std.specs.Prelude.{string_bytes};
+ghost use Rattle.std.specs.Str.Lines as Lines;
+ghost use Rattle.isle_base_source.specs.Lines.{line_ends};
+ghost use Rattle.isle_base_source.specs.Source as texts;
+ghost use Rattle.isle_cli.specs.Messages.{message_line};
+ghost use Rattle.isle_ast.specs.TreeView.{definitions_of};
+ghost use Rattle.isle_cli.specs.Sources.{source_of};
+ghost use Rattle.isle_cli.specs.declared.failure.Failure.TheVariants.{Memory};
+ghost use Rattle.isle_findings.specs.Finding.{finding_of};
+ghost use Rattle.isle_lint.specs.Allowances.{lines_above};
+ghost use Rattle.isle_lint.specs.Doing.{IsReport};
+ghost use Rattle.isle_lint.specs.Reading.{IsReading};
+ghost use Rattle.isle_lint.specs.Report.{count_text, counted, finding_line, is_allowed, is_program};
+ghost use Rattle.isle_lint.specs.Report.{is_told, kept_if};
+ghost use Rattle.isle_lint.specs.Report.{message_text, refusal_line, refused_count, shown_offset};
+ghost use Rattle.isle_lint.specs.Report.{source_text, sources_text, told, told_in, usable};
+
+use crate::allowances::{allows, lines_above};
+use crate::reading::{Reading, read_all};
+use isle_base_source::error::Error;
+use isle_base_source::files::LineMap;
+use isle_cli::failure::Failure;
+use isle_cli::messages::message_line;
+use isle_cli::sources::Source;
+use isle_findings::{Finding, Lint, findings};
+use std::alloc::{AllocError, Global};
+
+/// Tells what these lints find in a program, and which of its texts spell no tree: a line for
+/// each, in order of file and place, and a line that counts them. It is empty where there is
+/// nothing to tell.
+///
+/// Where a text spells no tree, or `is_whole` doesn't hold, the lints of a whole program find
+/// nothing.
+pub fn report_on(
+    alloc: Global,
+    sources: &[Source],
+    lints: &[Lint],
+    is_whole: bool,
+) -> Result<String, Failure>
+    ensures ok { IfOk result (λ report. IsReport lints.now is_whole (map source_of sources.now)
+        (string_bytes report)) }
+    ensures err { IfErr result (λ failure. failure ≡ Memory) }
+{
+    let reading = read_all(alloc, sources)?;
+    let report = report_on_reading(alloc, sources, lints, is_whole, reading)?;
+    Ok(report)
+}
+
+/// Tells what these lints find in what is read.
+fn report_on_reading(
+    alloc: Global,
+    sources: &[Source],
+    lints: &[Lint],
+    is_whole: bool,
+    reading: Reading,
+) -> Result<String, AllocError>
+    requires { IsReading (map source_of sources.now) (definitions_of reading.defs.items)
+        reading.refusals.items }
+    ensures { IfOk result (λ report. IsReport lints.now is_whole (map source_of sources.now)
+        (string_bytes report)) }
+{
+    let is_program = is_program(is_whole, &reading.refusals);
+    let usable = usable(alloc, lints, is_program)?;
+    let found = findings(alloc, &reading.defs, &usable)?;
+    let told = told(alloc, sources, &found)?;
+    whole_report(alloc, sources, &reading.refusals, &told)
+}
+
+/// Makes the report of these refusals and findings.
+fn whole_report(
+    alloc: Global,
+    sources: &[Source],
+    refusals: &[Option<Error>],
+    told: &[Finding],
+) -> Result<String, AllocError>
+    ensures { IfOk result (λ report. string_bytes report
+        ≡ sources_text 0 (map source_of sources.now) refusals.now (map finding_of told.now)
+        ++ count_text (refused_count refusals.now) (length told.now)) }
+{
+    let mut report = sources_text(alloc, sources, refusals, told)?;
+    let count = count_line(alloc, refused_count(refusals), told.len())?;
+    report.push_str(count.as_str())?;
+    Ok(report)
+}
+
+/// Gives the lints that can be used.
+fn usable(alloc: Global, lints: &[Lint], is_whole: bool) -> Result<Vec<Lint>, AllocError>
+    ensures { IfOk result (λ usable_lints. usable_lints.items ≡ usable is_whole lints.now) }
+{
+    let mut usable = Vec::new(alloc);
+    for lint in lints {
+        if is_whole || !lint.needs_whole_program() {
+            usable.push(*lint)?;
+        }
+    }
+    Ok(usable)
+}
+
+/// Tells whether the texts are a whole program: they are said to be, and each spells a tree.
+fn is_program(is_whole: bool, refusals: &[Option<Error>]) -> bool
+    ensures { result ≡ is_program is_whole refusals.now }
+{
+    is_whole && refused_count(refusals) == 0
+}
+
+/// Tells how many texts spell no tree.
+fn refused_count(refusals: &[Option<Error>]) -> usize
+    ensures { result ≡ refused_count refusals.now }
+{
+    let mut count = 0;
+    for refusal in refusals {
+        if refusal.is_some() {
+            count += 1;
+        }
+    }
+    count
+}
+
+/// Gives the findings that no comment turns off, in order.
+fn told<'a>(
+    alloc: Global,
+    sources: &[Source],
+    found: &[Finding<'a>],
+) -> Result<Vec<Finding<'a>>, AllocError>
+    ensures { IfOk result (λ all. map finding_of all.items
+        ≡ told 0 (map source_of sources.now) (map finding_of found.now)) }
+{
+    let mut told = Vec::new(alloc);
+    for (file, source) in sources.iter().enumerate() {
+        add_told(alloc, file, source, found, &mut told)?;
+    }
+    Ok(told)
+}
+
+/// Adds those in the file of this number.
+fn add_told<'a>(
+    alloc: Global,
+    file: usize,
+    source: &Source,
+    found: &[Finding<'a>],
+    told: &mut Vec<Finding<'a>>,
+) -> Result<(), AllocError>
+    ensures { OnOk result (map finding_of told.new.items ≡ map finding_of told.old.items
+        ++ told_in file (source_of source.now) (map finding_of found.now)) }
+{
+    let text = source.text.as_str();
+    let lines = LineMap::from_str(alloc, text)?;
+    let above = lines_above(alloc, text)?;
+    for finding in found {
+        let is_told = is_told(file, &lines, &above, finding);
+        push_if(is_told, finding, told)?;
+    }
+    Ok(())
+}
+
+/// Adds a finding, where it counts.
+fn push_if<'a>(
+    counts: bool,
+    finding: &Finding<'a>,
+    told: &mut Vec<Finding<'a>>,
+) -> Result<(), AllocError>
+    ensures { OnOk result (map finding_of told.new.items
+        ≡ map finding_of told.old.items ++ kept_if counts (finding_of finding.now)) }
+{
+    if counts {
+        told.push(*finding)?;
+    }
+    Ok(())
+}
+
+/// Tells whether a finding is in the file of this number, and no comment turns it off.
+fn is_told(file: usize, lines: &LineMap, above: &[&[u8]], finding: &Finding) -> bool
+    ensures { (source : texts.Source) → lines.now ≡ line_ends source.text
+        → map (λ line. line.now) above.now ≡ lines_above [] [] (Lines.lines source.text)
+        → result ≡ is_told file source (finding_of finding.now) }
+{
+    finding.pos.file == file && !is_allowed(lines, above, finding)
+}
+
+/// Tells whether a comment turns a finding off.
+fn is_allowed(lines: &LineMap, above: &[&[u8]], finding: &Finding) -> bool
+    ensures { (source : texts.Source) → lines.now ≡ line_ends source.text
+        → map (λ line. line.now) above.now ≡ lines_above [] [] (Lines.lines source.text)
+        → result ≡ is_allowed source (finding_of finding.now) }
+{
+    match above.get(lines.line(finding.pos.offset)) {
+        Some(line) => allows(line, finding.lint),
+        None => false,
+    }
+}
+
+/// Makes the lines of the texts that spell no tree, and of the findings.
+fn sources_text(
+    alloc: Global,
+    sources: &[Source],
+    refusals: &[Option<Error>],
+    told: &[Finding],
+) -> Result<String, AllocError>
+    ensures { IfOk result (λ text. string_bytes text
+        ≡ sources_text 0 (map source_of sources.now) refusals.now (map finding_of told.now)) }
+{
+    let mut report = String::new(alloc);
+    for (file, source) in sources.iter().enumerate() {
+        let text = source_text(alloc, file, source, refusals, told)?;
+        report.push_str(text.as_str())?;
+    }
+    Ok(report)
+}
+
+/// Makes the lines of the file of this number.
+fn source_text(
+    alloc: Global,
+    file: usize,
+    source: &Source,
+    refusals: &[Option<Error>],
+    told: &[Finding],
+) -> Result<String, AllocError>
+    ensures { IfOk result (λ text. string_bytes text
+        ≡ source_text file (source_of source.now) refusals.now (map finding_of told.now)) }
+{
+    let lines = LineMap::from_str(alloc, source.text.as_str())?;
+    let mut report = match refusals.get(file) {
+        Some(Some(error)) => refusal_line(alloc, source, &lines, error)?,
+        _ => String::new(alloc),
+    };
+    for finding in told {
+        if finding.pos.file == file {
+            let line = finding_line(alloc, source, &lines, finding)?;
+            report.push_str(line.as_str())?;
+        }
+    }
+    Ok(report)
+}
+
+/// Makes the line of a text that spells no tree.
+fn refusal_line(
+    alloc: Global,
+    source: &Source,
+    lines: &LineMap,
+    error: &Error,
+) -> Result<String, AllocError>
+    requires { lines.now ≡ line_ends (string_bytes source.now.text) }
+    ensures { IfOk result (λ line. string_bytes line
+        ≡ refusal_line (source_of source.now) error.now) }
+{
+    match error {
+        Error::ParseError { msg, span } => {
+            place_line(
+                alloc,
+                source,
+                lines,
+                span.from.offset,
+                "error",
+                msg.as_str(),
+            )
+        }
+        _ => Ok(String::new(alloc)),
+    }
+}
+
+/// Makes the line of a finding.
+fn finding_line(
+    alloc: Global,
+    source: &Source,
+    lines: &LineMap,
+    finding: &Finding,
+) -> Result<String, AllocError>
+    requires { lines.now ≡ line_ends (string_bytes source.now.text) }
+    ensures { IfOk result (λ line. string_bytes line
+        ≡ finding_line (source_of source.now) (finding_of finding.now)) }
+{
+    let message = message_of(alloc, finding)?;
+    let text = message.as_str();
+    place_line(alloc, source, lines, finding.pos.offset, "warning", text)
+}
+
+/// Makes the line that says something of a place.
+fn place_line(
+    alloc: Global,
+    source: &Source,
+    lines: &LineMap,
+    offset: usize,
+    kind: &str,
+    message: &str,
+) -> Result<String, AllocError>
+    requires { lines.now ≡ line_ends (string_bytes source.now.text) }
+    ensures { IfOk result (λ line. string_bytes line
+        ≡ message_line (source_of source.now) (shown_offset offset) kind.now message.now) }
+{
+    let offset = offset.min(usize::MAX - 1);
+    let name = source.name.as_str();
+    let text = source.text.as_str();
+    message_line(alloc, name, text, lines, offset, kind, message)
+}
+
+/// What a finding says.
+fn message_of(alloc: Global, finding: &Finding) -> Result<String, AllocError>
+    ensures { IfOk result (λ message. string_bytes message
+        ≡ message_text (finding_of finding.now)) }
+{
+    let mut message = String::from_str(alloc, finding.lint.message())?;
+    message.push_str(" '")?;
+    message.push_str(finding.name)?;
+    message.push_str("' [")?;
+    message.push_str(finding.lint.name())?;
+    message.push_str("]")?;
+    Ok(message)
+}
+
+/// Makes the line that counts errors and warnings. It is empty where there are none.
+fn count_line(alloc: Global, errors: usize, warnings: usize) -> Result<String, AllocError>
+    ensures { IfOk result (λ line. string_bytes line ≡ count_text errors warnings) }
+{
+    if errors == 0 {
+        if warnings == 0 {
+            return Ok(String::new(alloc));
+        }
+        let warned = counted(alloc, warnings, "warning")?;
+        return format!(in alloc; "found {warned}\n");
+    }
+    let refused = counted(alloc, errors, "error")?;
+    if warnings == 0 {
+        return format!(in alloc; "found {refused}\n");
+    }
+    let warned = counted(alloc, warnings, "warning")?;
+    format!(in alloc; "found {refused} and {warned}\n")
+}
+
+/// Makes the text of a number of things.
+fn counted(alloc: Global, number: usize, noun: &str) -> Result<String, AllocError>
+    ensures { IfOk result (λ text. string_bytes text ≡ counted number noun.now) }
+{
+    if number == 1 {
+        return format!(in alloc; "{number} {noun}");
+    }
+    format!(in alloc; "{number} {noun}s")
+}

@@ -1,3 +1,0 @@
-pub mod NameLemmas
-pub mod SeenLemmas
-pub mod RuleLemmas

@@ -1,9 +1,0 @@
-use Rattle.isle_base.specs.Token.{rparen}
-use Rattle.isle_parser_cursor.specs.Outcomes.{tokens}
-use Rattle.isle_parser_specs.proofs.StructParts.{struct_read}
-use Rattle.isle_parser_specs.proofs.parser.models.parse_model_type.Goals as goal
-
-pub returns-in_ok-expect_rparen-in-None-clause-gives : goal.returns-in_ok-expect_rparen-in-None-clause-gives
-returns-in_ok-expect_rparen-in-None-clause-gives c =
-    let front = rw c.in-None.is at c.in_ok-ty.ensures.gives in
-    struct_read (tokens c.args.cursor.now) (tokens c.parse_model_front.new.cursor) (tokens c.parse_model_fields.new.cursor) (tokens c.expect_rparen.new.self) c.in_ok-fields-in-None.fields rparen front c.in_ok-fields-in-None.ensures.gives c.in_ok-expect_rparen-in-None.ensures.gives

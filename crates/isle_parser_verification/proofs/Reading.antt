@@ -1,0 +1,12 @@
+pub mod Models
+pub mod Lists
+pub mod Begins
+pub mod Shrinks
+pub mod Clauses
+pub mod HeadsAhead
+pub mod Inside
+pub mod Layers
+pub mod Parts
+pub mod Specs
+pub mod TaggedModels
+pub mod SpecDefinitions

@@ -1,0 +1,9 @@
+//! The parser of the specs of ISLE: models of types, spec expressions, and the definitions made of
+//! them.
+#![tactic(auto)]
+
+pub mod models;
+mod operators;
+pub mod spec_definitions;
+pub mod spec_expressions;
+mod spec_words;

@@ -1,5 +1,0 @@
-use Rattle.std.proofs.Common.{rules}
-use Rattle.isle_printer.proofs.printer.types.TypeValuePut.put.Goals as goal
-
-pub returns : goal.returns
-returns c = search rules

@@ -1,5 +1,0 @@
-use Rattle.isle_printer_layout.proofs.Least.{IsLeast-unique}
-use Rattle.isle_printer_layout.proofs.printer.laws.least_choice_is_one.Goals as goal
-
-pub returns : goal.returns
-returns c = IsLeast-unique

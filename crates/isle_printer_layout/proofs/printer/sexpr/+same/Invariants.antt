@@ -1,6 +1,0 @@
-use Rattle.std.proofs.Common.{◌≡◌, drop}
-use Rattle.isle_printer_layout.proofs.SameLists.{item_rows}
-use Rattle.isle_printer_layout.proofs.printer.sexpr.+same.Given as goal
-
-abbrev pub invariant-same_items-loop-i : goal.invariant-same_items-loop-i
-invariant-same_items-loop-i l = item_rows (drop l.i l.items.items) (drop l.i l.others.items) ≡ item_rows l.items.items l.others.items

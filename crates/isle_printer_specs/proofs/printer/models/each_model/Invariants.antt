@@ -1,9 +1,0 @@
--- The models that are put are the last ones.
-use Rattle.std.proofs.Common.{◌≡◌, drop, map}
-use Rattle.isle_ast_specs.specs.TreeView.{type_model_of}
-use Rattle.isle_printer_layout.specs.Pieces.{before}
-use Rattle.isle_printer_specs.specs.SpecShapes.{model_shape}
-use Rattle.isle_printer_specs.proofs.printer.models.each_model.Given as goal
-
-abbrev pub invariant-loop-at : goal.invariant-loop-at
-invariant-loop-at l = l.tape ≡ before (map model_shape (map type_model_of (drop l.at l.models))) l.fn.tape

@@ -1,0 +1,8 @@
+//! The part of the printer of ISLE that turns specs into S-expressions.
+#![tactic(auto)]
+
+pub mod bit_vectors;
+pub mod definitions;
+pub mod models;
+pub mod operators;
+pub mod spec_expressions;

@@ -1,5 +1,0 @@
-use Rattle.std.proofs.Common.{rules, tests}
-use Rattle.isle_program.proofs.words.parsed_width.Goals as goal
-
-pub returns : goal.returns
-returns c = search (tests, rules)

@@ -1,3 +1,0 @@
-pub mod Diagnostics
-pub mod Streams
-pub mod Words

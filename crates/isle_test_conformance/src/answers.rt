@@ -1,0 +1,210 @@
+//! The answers of calls from a text.
+
+use crate::case::Case;
+use crate::errors::{line_map, overlap_error, parse_errors, refusal, shadowed_error};
+use crate::nodes::nodes;
+use crate::terms::{substitute, template, terms};
+use crate::texts::{beginnings, damaged};
+use isle_document::tidy;
+use isle_syntax::ast::{Def, writable};
+use isle_syntax::format;
+use isle_syntax::lexer::{Fault, Lexer, Pos, Token};
+use isle_syntax::parser::{parse, parse_without_pos};
+use isle_syntax::printer::{Looks, PrintFault, ToSExpr, fits};
+use isle_test_nodes::trees::{drop_definitions, read, show_definitions};
+use isle_test_writable::told_of_built;
+use std::alloc::{AllocError, Global};
+use std::fmt::Debug;
+
+/// What Debug shows of a value, which ends here, with each position as `FILE:OFFSET`.
+pub fn shown<T: Debug + Drop>(alloc: Global, value: T) -> Result<String, AllocError> {
+    let text = format!(in alloc; "{value:?}")?;
+    drop(value);
+    placed(alloc, &text)
+}
+
+/// What Debug shows of a tree, which ends here, or of the fault.
+fn shown_tree(alloc: Global, answer: Result<Vec<Def>, Fault>) -> Result<String, AllocError> {
+    let text = show_definitions(alloc, answer)?;
+    placed(alloc, &text)
+}
+
+/// A text of Debug with each position as `FILE:OFFSET`.
+pub fn placed(alloc: Global, text: &str) -> Result<String, AllocError> {
+    let mut out = String::new(alloc);
+    for (i, part) in text.split("Pos { file: ").enumerate() {
+        if i == 0 {
+            out.push_str(part)?;
+        } else {
+            let (file, rest) = part.split_once(", offset: ").unwrap_or((part, ""));
+            let (offset, rest) = rest.split_once(" }").unwrap_or((rest, ""));
+            let words = format!(in alloc; "{file}:{offset}{rest}")?;
+            out.push_str(&words)?;
+        }
+    }
+    Ok(out)
+}
+
+/// The answer of a case.
+pub fn answer(alloc: Global, case: &Case) -> Result<String, AllocError> {
+    match case.call.as_str() {
+        "tokens" => tokens(alloc, case),
+        "parse" => shown_tree(alloc, parsed(alloc, case)),
+        "parse_without_pos" => shown_tree(alloc, parsed_without_pos(alloc, case)),
+        "format" => shown(alloc, formatted(alloc, case)?),
+        "tidy" => shown(alloc, tidy(alloc, case.text(0))),
+        "lines" => lines(alloc, case),
+        "refusal" => shown(alloc, refusal(alloc, case)?),
+        "beginnings" => beginnings(alloc, case),
+        "damaged" => damaged(alloc, case),
+        "parse_errors" => shown(alloc, parse_errors(alloc, case)?),
+        "overlap_error" => shown(alloc, overlap_error(alloc, case)?),
+        "shadowed_error" => shown(alloc, shadowed_error(alloc, case)?),
+        "line_map" => line_map(alloc, case),
+        "fits" => shown(alloc, fitting(alloc, case)),
+        "writable" => shown(alloc, is_writable(alloc, case)),
+        "built" | "built_alone" | "built_print" => of_built(alloc, case),
+        "nodes" => nodes(alloc, case),
+        "terms" => terms(alloc, case),
+        "template" => template(alloc, case),
+        "substitute" => substitute(alloc, case),
+        _ => "no call".to_string(alloc),
+    }
+}
+
+/// A lexer of the first text, in the file of the first number, after as many calls of `next` as the
+/// second says.
+fn lexer<'a>(alloc: Global, case: &'a Case) -> Result<Lexer<'a>, Fault> {
+    let mut lexer = Lexer::new(alloc, case.number(0), case.text(0))?;
+    for _ in 0..case.number(1) {
+        drop(lexer.next(alloc));
+    }
+    Ok(lexer)
+}
+
+/// What `parse` answers of that lexer.
+pub fn parsed(alloc: Global, case: &Case) -> Result<Vec<Def>, Fault> {
+    parse(alloc, lexer(alloc, case)?)
+}
+
+fn parsed_without_pos(alloc: Global, case: &Case) -> Result<Vec<Def>, Fault> {
+    parse_without_pos(alloc, lexer(alloc, case)?)
+}
+
+/// What the lexer tells before a call of `next`, in brackets: its position, and whether it has
+/// failed or is at its end.
+fn state(alloc: Global, lexer: &Lexer) -> Result<String, AllocError> {
+    let pos = lexer.pos();
+    let state = match (lexer.peek().is_some(), lexer.eof()) {
+        (true, false) => "",
+        (false, true) => " at the end",
+        (false, false) => " failed",
+        (true, true) => " at a token and at the end",
+    };
+    format!(in alloc; "[{pos:?}{state}]")
+}
+
+/// What a call of `next` answers.
+fn step(alloc: Global, next: Result<Option<(Pos, Token)>, Fault>) -> Result<String, AllocError> {
+    match next {
+        Ok(Some(next)) => {
+            let words = format!(in alloc; "{:?} {:?}", next.0, next.1);
+            drop(next);
+            words
+        }
+        Ok(None) => "end".to_string(alloc),
+        Err(fault) => shown(alloc, fault),
+    }
+}
+
+/// Each call of `next` up to the second that comes when nothing is ahead, with the lexer's state in
+/// front of each.
+fn tokens(alloc: Global, case: &Case) -> Result<String, AllocError> {
+    let mut lexer = match lexer(alloc, case) {
+        Ok(lexer) => lexer,
+        Err(fault) => return shown(alloc, fault),
+    };
+    let mut out = String::new(alloc);
+    let mut was_end = false;
+    for _ in 0..case.text(0).len() + 2 {
+        let is_end = lexer.peek().is_none();
+        let state = state(alloc, &lexer)?;
+        let step = step(alloc, lexer.next(alloc))?;
+        let words = format!(in alloc; "{state} {step} ")?;
+        out.push_str(&words)?;
+        if is_end && was_end {
+            break;
+        }
+        was_end = is_end;
+    }
+    placed(alloc, out.trim_end())
+}
+
+/// The first text, formatted at the first width, the answer of that at the next one, and so on.
+fn formatted(alloc: Global, case: &Case) -> Result<Result<String, Fault>, AllocError> {
+    let mut text = case.text(0).to_string(alloc)?;
+    for width in &case.numbers {
+        match format(alloc, &text, *width) {
+            Ok(answer) => text = answer,
+            Err(fault) => return Ok(Err(fault)),
+        }
+    }
+    Ok(Ok(text))
+}
+
+/// The first text as many times as the second number says, or once.
+fn repeated(alloc: Global, case: &Case) -> Result<String, AllocError> {
+    let mut text = String::new(alloc);
+    for _ in 0..case.number(1).max(1) {
+        text.push_str(case.text(0))?;
+    }
+    Ok(text)
+}
+
+fn lines(alloc: Global, case: &Case) -> Result<String, AllocError> {
+    let text = repeated(alloc, case)?;
+    match format(alloc, &text, case.number(0)) {
+        Ok(text) => {
+            let count = text.lines().count();
+            let longest = text.lines().map(|line| line.len()).max().unwrap_or(0);
+            let whole = text.len();
+            format!(in alloc; "{count} lines, the longest of {longest} bytes, {whole} bytes in all")
+        }
+        Err(fault) => shown(alloc, fault),
+    }
+}
+
+/// Whether the S-expression of each definition fits the room.
+fn fit(alloc: Global, defs: &[Def], room: usize) -> Result<Vec<bool>, Fault> {
+    let mut answers = Vec::new(alloc);
+    let mut looks = Looks::new();
+    for def in defs {
+        match def.to_sexpr(alloc) {
+            Ok(sexpr) => answers.push(fits(&sexpr, room, &mut looks))?,
+            Err(PrintFault::MacroArg) => return Err(Fault::Failed),
+            Err(PrintFault::Memory) => return Err(Fault::Memory),
+        }
+    }
+    Ok(answers)
+}
+
+/// Whether the S-expression of each definition fits the room that the number gives.
+fn fitting(alloc: Global, case: &Case) -> Result<Vec<bool>, Fault> {
+    let defs = read(alloc, case.text(0))?;
+    let answers = fit(alloc, &defs, case.number(0));
+    drop_definitions(defs);
+    answers
+}
+
+fn is_writable(alloc: Global, case: &Case) -> Result<bool, Fault> {
+    let defs = parsed(alloc, case)?;
+    let answer = writable(&defs);
+    drop_definitions(defs);
+    Ok(answer)
+}
+
+/// What is told of the tree by hand whose kind the first text is.
+fn of_built(alloc: Global, case: &Case) -> Result<String, AllocError> {
+    let words = case.texts.get(1..).unwrap_or(&[]);
+    told_of_built(alloc, &case.call, case.text(0), words, &case.numbers)
+}

@@ -1,0 +1,100 @@
+//! What is shown of errors.
+
+use crate::case::Case;
+use isle_syntax::error::{Error, Errors, Span};
+use isle_syntax::files::{Files, LineMap};
+use isle_syntax::lexer::{Fault, Pos};
+use isle_test_nodes::trees::{drop_definitions, parsed};
+use std::alloc::{AllocError, Global};
+use std::rc::Rc;
+
+/// What Display shows of errors in one file.
+fn display(
+    alloc: Global,
+    errors: Vec<Error>,
+    name: &str,
+    text: &str,
+) -> Result<String, AllocError> {
+    let pairs = vec![in alloc; (name.to_string(alloc)?, text.to_string(alloc)?)]?;
+    let files = Rc::new(alloc, Files::from_names_and_contents(alloc, pairs)?)?;
+    let accepted = Errors::accepts(errors.as_slice(), &files);
+    if accepted {
+        Errors::new(errors, files).to_string(alloc)
+    } else {
+        "not accepted".to_string(alloc)
+    }
+}
+
+/// What is shown of the error for which a text is refused, in a file named as the program names its
+/// input.
+pub fn refusal_of(alloc: Global, text: &str) -> Result<String, AllocError> {
+    match parsed(alloc, 0, text) {
+        Ok(defs) => {
+            drop_definitions(defs);
+            "accepted".to_string(alloc)
+        }
+        Err(Fault::Error(error)) => display(alloc, vec![in alloc; error]?, "<stdin>", text),
+        Err(Fault::Failed) => "failed".to_string(alloc),
+        Err(Fault::Memory) => "memory".to_string(alloc),
+    }
+}
+
+/// What is shown of the error for which the first text is refused.
+pub fn refusal(alloc: Global, case: &Case) -> Result<String, AllocError> {
+    refusal_of(alloc, case.text(0))
+}
+
+/// A place in file 0.
+fn place(offset: usize) -> Span {
+    Span::new_single(Pos::new(0, offset.min(1 << 40)))
+}
+
+/// The places of the numbers.
+fn places(alloc: Global, offsets: &[usize]) -> Result<Vec<Span>, AllocError> {
+    let mut spans = Vec::new(alloc);
+    for offset in offsets {
+        spans.push(place(*offset))?;
+    }
+    Ok(spans)
+}
+
+/// What is shown of parse errors, one at each place.
+pub fn parse_errors(alloc: Global, case: &Case) -> Result<String, AllocError> {
+    let mut errors = Vec::new(alloc);
+    for offset in &case.numbers {
+        errors.push(Error::ParseError {
+            msg: "m".to_string(alloc)?,
+            span: place(*offset),
+        })?;
+    }
+    display(alloc, errors, case.text(0), case.text(1))
+}
+
+/// What is shown of an overlap of rules at the places.
+pub fn overlap_error(alloc: Global, case: &Case) -> Result<String, AllocError> {
+    let error = Error::OverlapError {
+        msg: "m".to_string(alloc)?,
+        rules: places(alloc, &case.numbers)?,
+    };
+    display(alloc, vec![in alloc; error]?, case.text(0), case.text(1))
+}
+
+/// What is shown of rules at the places but the first, which that at the first shadows.
+pub fn shadowed_error(alloc: Global, case: &Case) -> Result<String, AllocError> {
+    let others = case.numbers.get(1..).unwrap_or(&[]);
+    let error = Error::ShadowedError {
+        shadowed: places(alloc, others)?,
+        mask: place(case.number(0)),
+    };
+    display(alloc, vec![in alloc; error]?, case.text(0), case.text(1))
+}
+
+/// The line of each place in the first text, and its line map.
+pub fn line_map(alloc: Global, case: &Case) -> Result<String, AllocError> {
+    let map = LineMap::from_str(alloc, case.text(0))?;
+    let mut lines = Vec::new(alloc);
+    for offset in &case.numbers {
+        lines.push(map.line(*offset))?;
+    }
+    format!(in alloc; "{lines:?} {map:?}")
+}

@@ -1,0 +1,148 @@
+//! Texts that are cut or damaged, all of a case at once.
+
+use crate::case::Case;
+use crate::errors::refusal_of;
+use isle_syntax::error::Error;
+use isle_syntax::format;
+use isle_syntax::lexer::{Fault, Lexer};
+use isle_test_nodes::trees::{drop_definitions, parsed};
+use std::alloc::{AllocError, Global};
+
+/// What is told of texts: how many there are, which of them are accepted, what is shown of the
+/// others, as one number, and the first text of which the calls say what they may not.
+#[derive(Drop)]
+struct Tally {
+    count: usize,
+    accepted: Vec<usize>,
+    shown: u32,
+    wrong: Option<String>,
+}
+
+impl Tally {
+    fn new(alloc: Global) -> Tally {
+        Tally {
+            count: 0,
+            accepted: Vec::new(alloc),
+            shown: 2_166_136_261,
+            wrong: None,
+        }
+    }
+
+    /// Adds what is shown of a refused text: the FNV-1a hash of all of it.
+    fn add_shown(&mut self, shown: &str) {
+        for byte in shown.bytes() {
+            self.shown = (self.shown ^ u32::from(byte)).wrapping_mul(16_777_619);
+        }
+    }
+
+    /// Adds a text. It is wrong where `parse` and `format` do not agree on it, where a call refuses
+    /// it and not at a place in it, and where what is shown of a refused one is no parse error.
+    fn add(&mut self, alloc: Global, text: &str) -> Result<(), AllocError> {
+        let shown = refusal_of(alloc, text)?;
+        let is_accepted = shown.as_str() == "accepted";
+        if is_accepted {
+            self.accepted.push(self.count)?;
+        } else {
+            self.add_shown(&shown);
+        }
+        self.count = self.count.saturating_add(1);
+        let is_told = is_accepted || shown.starts_with("parse error: ");
+        let is_right = is_told
+            && is_read(alloc, text)
+            && is_parsed(alloc, text, is_accepted)
+            && is_formatted(alloc, text, is_accepted);
+        if !is_right && self.wrong.is_none() {
+            self.wrong = Some(text.to_string(alloc)?);
+        }
+        Ok(())
+    }
+
+    /// What is told in the end.
+    fn told(&self, alloc: Global) -> Result<String, AllocError> {
+        match &self.wrong {
+            Some(text) => format!(in alloc; "wrong at {text:?}"),
+            None => format!(in alloc;
+                "{} texts, accepted {:?}, the others shown as {:08x}",
+                self.count, self.accepted, self.shown
+            ),
+        }
+    }
+}
+
+/// Whether a refusal stands in the text or at its end.
+fn is_within(fault: &Fault, text: &str) -> bool {
+    matches!(fault, Fault::Error(Error::ParseError { span, .. }) if span.from.offset <= text.len())
+}
+
+/// Whether a lexer gives the tokens of a text up to its end, or refuses it at a place in it.
+fn is_read(alloc: Global, text: &str) -> bool {
+    let mut lexer = match Lexer::new(alloc, 0, text) {
+        Ok(lexer) => lexer,
+        Err(fault) => return is_within(&fault, text),
+    };
+    for _ in 0..text.len() + 1 {
+        match lexer.next(alloc) {
+            Ok(Some(next)) => drop(next),
+            Ok(None) => return true,
+            Err(fault) => return is_within(&fault, text),
+        }
+    }
+    false
+}
+
+/// Whether a text is parsed, if it is accepted, or else refused at a place in it.
+fn is_parsed(alloc: Global, text: &str, is_accepted: bool) -> bool {
+    match parsed(alloc, 0, text) {
+        Ok(defs) => {
+            drop_definitions(defs);
+            is_accepted
+        }
+        Err(fault) => !is_accepted && is_within(&fault, text),
+    }
+}
+
+/// Whether a text is formatted at widths from the least to the greatest, if it is accepted, or else
+/// refused at a place in it.
+fn is_formatted(alloc: Global, text: &str, is_accepted: bool) -> bool {
+    for width in [0, 1, usize::MAX] {
+        let is_right = match format(alloc, text, width) {
+            Ok(_) => is_accepted,
+            Err(fault) => !is_accepted && is_within(&fault, text),
+        };
+        if !is_right {
+            return false;
+        }
+    }
+    true
+}
+
+/// What is told of every beginning of the text, at the borders of characters.
+pub fn beginnings(alloc: Global, case: &Case) -> Result<String, AllocError> {
+    let text = case.text(0);
+    let mut tally = Tally::new(alloc);
+    for (end, _) in text.char_indices() {
+        tally.add(alloc, text.get(..end).unwrap_or(""))?;
+    }
+    tally.add(alloc, text)?;
+    tally.told(alloc)
+}
+
+/// What is told of the second text where the first stands in place of a character, for each one.
+pub fn damaged(alloc: Global, case: &Case) -> Result<String, AllocError> {
+    let text = case.text(1);
+    let mut tally = Tally::new(alloc);
+    let mut chars = text.char_indices();
+    for _ in 0..text.len() {
+        match chars.next() {
+            None => break,
+            Some((start, _)) => {
+                let before = text.get(..start).unwrap_or("");
+                let behind = chars.as_str();
+                let piece = case.text(0);
+                let damaged = format!(in alloc; "{before}{piece}{behind}")?;
+                tally.add(alloc, &damaged)?;
+            }
+        }
+    }
+    tally.told(alloc)
+}

@@ -1,0 +1,205 @@
+//! Calls that can want memory, and their answers as texts.
+
+use isle_syntax::ast::{Def, Ident, TypeDef, TypeValue, Variant};
+use isle_syntax::error::{Error, ErrorsBuilder, Span};
+use isle_syntax::files::{Files, LineMap};
+use isle_syntax::format;
+use isle_syntax::lexer::{Fault, Lexer, Pos};
+use isle_syntax::parser::Parser;
+use isle_syntax::printer::{Looks, PrintFault, ToSExpr, print, print_counted};
+use isle_test_nodes::parts::{Parts, Way};
+use isle_test_nodes::templates::put_templates;
+use isle_test_nodes::trees::{drop_definitions, parsed, read, show_definitions};
+use std::alloc::{AllocError, Global};
+use std::fmt::Debug;
+use std::rc::Rc;
+
+/// What Debug shows of an answer, which ends here, or want of memory.
+pub fn shown<T: Debug + Drop>(
+    alloc: Global,
+    answer: Result<T, Fault>,
+) -> Result<String, AllocError> {
+    if matches!(answer, Err(Fault::Memory)) {
+        drop(answer);
+        return Err(AllocError);
+    }
+    let text = format!(in alloc; "{answer:?}\n");
+    drop(answer);
+    text
+}
+
+/// What Debug shows of definitions, which are dropped, or want of memory.
+fn shown_definitions(alloc: Global, answer: Result<Vec<Def>, Fault>) -> Result<String, AllocError> {
+    match answer {
+        Err(Fault::Memory) => Err(AllocError),
+        answer => format!(in alloc; "{}\n", show_definitions(alloc, answer)?),
+    }
+}
+
+/// What a printing call answers; no tree of a text holds the argument of a macro.
+pub fn printed<T: Drop>(answer: Result<T, PrintFault>) -> Result<T, Fault> {
+    match answer {
+        Ok(value) => Ok(value),
+        Err(PrintFault::MacroArg) => Err(Fault::Failed),
+        Err(PrintFault::Memory) => Err(Fault::Memory),
+    }
+}
+
+/// The answer of a call, on a text and at a width.
+pub fn answer(alloc: Global, call: &str, text: &str, width: usize) -> Result<String, AllocError> {
+    match call {
+        "tokens" => shown(alloc, tokens(alloc, text)),
+        "parse" => shown_definitions(alloc, parsed(alloc, 1, text)),
+        "parse_without_pos" => shown_definitions(alloc, read(alloc, text)),
+        "format" => shown(alloc, format(alloc, text, width)),
+        "print" => shown(alloc, print_of(alloc, text, width)),
+        "print_counted" => shown(alloc, counted(alloc, text, width)),
+        "print_node" => shown(alloc, parts(alloc, text, Way::Print)),
+        "to_sexpr" => shown(alloc, parts(alloc, text, Way::Shape)),
+        "clone" => shown(alloc, parts(alloc, text, Way::Copy)),
+        "clone_others" => shown(alloc, others(alloc, text)),
+        "template" => shown(alloc, templates(alloc, text)),
+        "full_name" => shown(alloc, full_names(alloc, text)),
+        "files" => files(alloc, text),
+        "errors" => errors(alloc, text),
+        _ => "no call\n".to_string(alloc),
+    }
+}
+
+/// What Debug shows of each token.
+fn tokens(alloc: Global, text: &str) -> Result<String, Fault> {
+    let mut out = String::new(alloc);
+    let mut lexer = Lexer::new(alloc, 1, text)?;
+    for _ in 0..text.len() + 1 {
+        let Some(next) = lexer.next(alloc)? else {
+            break;
+        };
+        let words = format!(in alloc; "{:?} {:?}\n", next.0, next.1);
+        drop(next);
+        out.push_str(&words?)?;
+    }
+    Ok(out)
+}
+
+fn print_of(alloc: Global, text: &str, width: usize) -> Result<String, Fault> {
+    let defs = parsed(alloc, 1, text)?;
+    let text = print(alloc, &defs, width);
+    drop_definitions(defs);
+    printed(text)
+}
+
+fn counted(alloc: Global, text: &str, width: usize) -> Result<String, Fault> {
+    let defs = parsed(alloc, 1, text)?;
+    let text = print_counted(alloc, &defs, width, &mut Looks::new());
+    drop_definitions(defs);
+    printed(text)
+}
+
+/// What a way through the parts of the text's tree gives.
+fn parts(alloc: Global, text: &str, way: Way) -> Result<String, Fault> {
+    let defs = parsed(alloc, 1, text)?;
+    let mut parts = Parts::new(alloc, way);
+    let put = parts.put_definitions(&defs);
+    drop_definitions(defs);
+    printed(put)?;
+    Ok(parts.out)
+}
+
+/// Whether copies of what is no part of a tree are equal, or made at all where nothing compares
+/// them.
+fn others(alloc: Global, text: &str) -> Result<bool, Fault> {
+    let lexer = Lexer::new(alloc, 1, text)?;
+    let copy = lexer.clone()?;
+    let is_token = match (lexer.peek(), copy.peek()) {
+        (Some((_, token)), Some((_, other))) => token == other && token.clone()? == *other,
+        _ => false,
+    };
+    let map = LineMap::from_str(alloc, text)?;
+    let is_map = map.clone()? == map;
+    let files = files_of(alloc, text)?;
+    let is_files = files.clone()? == files;
+    let parser = Parser::new(copy);
+    drop(parser.clone()?);
+    let name = Ident("name".to_string(alloc)?, Pos::default());
+    let sexpr = printed(name.to_sexpr(alloc))?;
+    let is_sexpr = sexpr.clone()? == sexpr;
+    Ok(is_token && is_map && is_files && is_sexpr)
+}
+
+fn templates(alloc: Global, text: &str) -> Result<String, Fault> {
+    let mut out = String::new(alloc);
+    let defs = parsed(alloc, 1, text)?;
+    let put = put_templates(alloc, &defs, &mut out);
+    drop_definitions(defs);
+    put?;
+    Ok(out)
+}
+
+fn put_names(alloc: Global, def: &TypeDef, out: &mut String) -> Result<(), AllocError> {
+    if let TypeValue::Enum(variants, _) = &def.ty {
+        for variant in variants {
+            let name = Variant::full_name(alloc, &def.name, &variant.name)?;
+            let words = format!(in alloc; "{name:?}\n")?;
+            out.push_str(&words)?;
+        }
+    }
+    Ok(())
+}
+
+fn put_full_names(alloc: Global, defs: &[Def], out: &mut String) -> Result<(), AllocError> {
+    for def in defs {
+        if let Def::TypeDef(def) = def {
+            put_names(alloc, def, out)?;
+        }
+    }
+    Ok(())
+}
+
+/// The full name of each variant.
+fn full_names(alloc: Global, text: &str) -> Result<String, Fault> {
+    let mut out = String::new(alloc);
+    let defs = parsed(alloc, 1, text)?;
+    let put = put_full_names(alloc, &defs, &mut out);
+    drop_definitions(defs);
+    put?;
+    Ok(out)
+}
+
+/// Two files of the same text.
+pub fn files_of(alloc: Global, text: &str) -> Result<Files, AllocError> {
+    let first = ("a.isle".to_string(alloc)?, text.to_string(alloc)?);
+    let second = ("b.isle".to_string(alloc)?, text.to_string(alloc)?);
+    Files::from_names_and_contents(alloc, vec![in alloc; first, second]?)
+}
+
+fn files(alloc: Global, text: &str) -> Result<String, AllocError> {
+    let files = files_of(alloc, text)?;
+    let map = LineMap::from_str(alloc, text)?;
+    let pos = Pos::new(1, text.len() / 2);
+    if files.file_name(1).is_none() {
+        return "no file\n".to_string(alloc);
+    }
+    let line = pos.pretty_print_line(alloc, &files)?;
+    format!(in alloc; "{files:?} {map:?} {line}\n")
+}
+
+/// A parse error in file 1, with this message.
+pub fn error(alloc: Global, msg: &str) -> Result<Error, AllocError> {
+    Ok(Error::ParseError {
+        msg: msg.to_string(alloc)?,
+        span: Span::new_single(Pos::new(1, 2)),
+    })
+}
+
+/// What is shown of an error that took the place of another one.
+fn errors(alloc: Global, text: &str) -> Result<String, AllocError> {
+    let files = Rc::new(alloc, files_of(alloc, text)?)?;
+    let builder = ErrorsBuilder::new(alloc)?
+        .errors(vec![in alloc; error(alloc, "first")?]?)
+        .files(files)
+        .error(alloc, error(alloc, "second")?)?;
+    if !builder.is_buildable() {
+        return "not buildable\n".to_string(alloc);
+    }
+    builder.build().to_string(alloc)
+}

@@ -1,0 +1,90 @@
+//! `isle_test_memory CALL [WIDTH] < TEXT`: makes one call of the syntax layer, so that each of its
+//! requests for memory can be refused in turn.
+//!
+//! It writes what the call answers and ends with 0; with 4, and writes nothing, where the answer is
+//! want of memory, be it the call's or the program's own; and with 3 where a stream fails.
+//!
+//! CALL is one of these:
+//!
+//! - `tokens`: `Lexer::new`, then `next` up to the end.
+//! - `parse`, `parse_without_pos`: these.
+//! - `print`, `print_counted`, `format`: these, at the width.
+//! - `print_node`, `to_sexpr`, `clone`: these, of each definition and of each of its parts.
+//! - `clone_others`: `clone` of tokens, S-expressions, lexers, parsers, files and line maps.
+//! - `template`: `make_macro_template` and `subst_macro_args`, of each extractor's template.
+//! - `full_name`: this, of each variant.
+//! - `files`: `from_names_and_contents`, `LineMap::from_str` and `pretty_print_line`.
+//! - `errors`: `ErrorsBuilder::new`, `error`, and what Display shows.
+//! - `next_def`: `next_def` up to the end. Each definition's place is written at once, and the word
+//!   `failed` to standard error where memory was refused and the parser then answers so.
+//! - `retry`: as `tokens`, but each token is written at once. Where memory is refused, the lexer
+//!   has to be as before, and the call is made again, with the word `retried` on standard error.
+//! - `nothing`, `lexer`, `tree`, `layout`, `places`, `builder`, `display`: calls that take no
+//!   memory. They write `right`, or `wrong` where they answer otherwise than they should. All make
+//!   the same things first, so all make as many requests as `nothing`.
+#![tactic(auto)]
+
+mod calls;
+mod retry;
+mod still;
+
+use calls::answer;
+use retry::{definitions, retried};
+use std::alloc::Global;
+use std::env::Env;
+use std::io::{ErrorKind, Read, Write};
+use std::process::ExitCode;
+use std::{env, io};
+use still::still;
+
+/// The words of the command line, without the program's name.
+fn words<R: Env + AllocGlobal>(rt: &R) -> io::Result<Vec<String>> {
+    Ok(env::args(rt)?.skip(1).collect(rt.alloc())?)
+}
+
+/// Makes the call that the first word names, on the text that the input holds.
+fn sweep<R: Read, W: Write, E: Write>(
+    alloc: Global,
+    words: &[String],
+    input: &mut R,
+    output: &mut W,
+    faults: &mut E,
+) -> io::Result<()> {
+    let mut text = String::new(alloc);
+    input.read_to_string(&mut text)?;
+    let call = words.first().map_or("", |word| word.as_str());
+    match call {
+        "next_def" => definitions(alloc, &text, output, faults),
+        "retry" => retried(alloc, &text, output, faults),
+        "nothing" | "lexer" | "tree" | "layout" | "places" | "builder" | "display" => {
+            let is_right = still(alloc, call, &text)?;
+            output.write_all(if is_right { b"right\n" } else { b"wrong\n" })
+        }
+        _ => {
+            let width = words
+                .get(1)
+                .and_then(|word| word.parse().ok())
+                .unwrap_or(78);
+            let answer = answer(alloc, call, &text, width)?;
+            output.write_all(answer.as_bytes())
+        }
+    }
+}
+
+fn main(rt: HostRuntime) -> ExitCode {
+    let swept = match words(&rt) {
+        Ok(words) => sweep(
+            rt.alloc(),
+            &words,
+            &mut rt.stdin(),
+            &mut rt.stdout(),
+            &mut rt.stderr(),
+        ),
+        Err(error) => Err(error),
+    };
+    match swept {
+        Ok(()) => ExitCode::from(0),
+        Err(error) if error.kind() == ErrorKind::OutOfMemory => ExitCode::from(4),
+        Err(_) => ExitCode::from(3),
+    }
+}

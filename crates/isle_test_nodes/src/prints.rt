@@ -1,0 +1,94 @@
+//! S-expressions and prints of nodes by hand.
+
+use crate::nodes::{condition, extractor, ident, macro_arg, pos, rule, term, wildcard};
+use crate::trees::drop_definitions;
+use isle_syntax::ast::{Converter, Def, Pattern, SpecExpr, SpecOp};
+use isle_syntax::printer::{PrintFault, SExpr, ToSExpr, print, print_node};
+use std::alloc::{AllocError, Global};
+
+/// Whether the S-expression of `(convert A B c)` is this one.
+pub fn conversion_is_list(alloc: Global, want: &SExpr) -> Result<bool, PrintFault> {
+    let converter = Converter {
+        term: ident(alloc, "c")?,
+        inner_ty: ident(alloc, "A")?,
+        outer_ty: ident(alloc, "B")?,
+        pos: pos(),
+    };
+    Ok(converter.to_sexpr(alloc)? == *want)
+}
+
+/// Whether the S-expression of `(if-let _ true)` is this one.
+pub fn condition_is_list(alloc: Global, want: &SExpr) -> Result<bool, PrintFault> {
+    Ok(condition(wildcard()).to_sexpr(alloc)? == *want)
+}
+
+/// The print of a bit vector.
+pub fn print_of_bits(alloc: Global, val: u128, width: usize) -> Result<String, PrintFault> {
+    let bits = SpecExpr::ConstBitVec {
+        val,
+        width,
+        pos: pos(),
+    };
+    print_node(alloc, &bits, 78)
+}
+
+/// The print of the operator `-`.
+pub fn print_of_sign(alloc: Global) -> Result<String, PrintFault> {
+    print_node(alloc, &SpecOp::Sub, 78)
+}
+
+fn integer(val: i128) -> SpecExpr {
+    SpecExpr::ConstInt { val, pos: pos() }
+}
+
+/// The print of `(- 1 2)`.
+pub fn print_of_minus(alloc: Global) -> Result<String, PrintFault> {
+    let minus = SpecExpr::Op {
+        op: SpecOp::Sub,
+        args: vec![in alloc; integer(1), integer(2)]?,
+        pos: pos(),
+    };
+    print_node(alloc, &minus, 78)
+}
+
+/// Whether a node, which is dropped, is refused for the argument of a macro, and nothing of it is
+/// printed.
+fn is_refused<N: ToSExpr + Drop>(alloc: Global, node: N) -> bool {
+    matches!(node.to_sexpr(alloc), Err(PrintFault::MacroArg))
+        && matches!(print_node(alloc, &node, 78), Err(PrintFault::MacroArg))
+}
+
+/// `(A x @ ARGUMENT)`, the argument that of a macro.
+fn bound_argument(alloc: Global) -> Result<Pattern, AllocError> {
+    let bound = Pattern::BindPattern {
+        subpat: Box::new(alloc, macro_arg())?,
+        var: ident(alloc, "x")?,
+        pos: pos(),
+    };
+    term(alloc, "A", bound)
+}
+
+/// Whether the argument of a macro is refused, whether a wildcard is, and whether a pattern, a
+/// condition, an extractor and a rule are, each of which holds the argument.
+pub fn refused_for_arguments(alloc: Global) -> Result<[bool; 6], AllocError> {
+    Ok([
+        is_refused(alloc, macro_arg()),
+        is_refused(alloc, wildcard()),
+        is_refused(alloc, bound_argument(alloc)?),
+        is_refused(alloc, condition(macro_arg())),
+        is_refused(alloc, extractor(alloc, macro_arg())?),
+        is_refused(alloc, rule(alloc, wildcard(), condition(macro_arg()))?),
+    ])
+}
+
+/// The print of an extractor and of a rule whose condition holds the argument of a macro.
+pub fn print_of_rules(alloc: Global) -> Result<Result<String, PrintFault>, AllocError> {
+    let rule = rule(alloc, wildcard(), condition(macro_arg()))?;
+    let defs = vec![in alloc;
+        Def::Extractor(extractor(alloc, wildcard())?),
+        Def::Rule(rule),
+    ]?;
+    let printed = print(alloc, &defs, 78);
+    drop_definitions(defs);
+    Ok(printed)
+}

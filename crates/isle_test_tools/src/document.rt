@@ -1,0 +1,35 @@
+//! The tidy text of a text.
+
+use isle_document::tidy;
+use isle_document::tidying::Tidying;
+use std::test::Fail;
+
+#[test]
+fn keeps_lines_and_comments(rt: HostRuntime) -> Result<(), Fail> {
+    let text = "; one \r\n(decl  foo ; two\n   (A)B)(; three ;)\n\n\n\n(convert A\tB c)";
+    let Ok(answer) = tidy(rt.alloc(), text) else {
+        return Err(Fail::new("the text is refused"));
+    };
+    assert_eq!(rt;
+        answer.as_str(),
+        "; one\n(decl  foo ; two\n       (A) B) (; three ;)\n\n\n(convert A B c)\n"
+    );
+    Ok(())
+}
+
+#[test]
+fn tidies_entry_by_entry(rt: HostRuntime) -> Result<(), Fail> {
+    let alloc = rt.alloc();
+    let Ok(mut tidying) = Tidying::new(alloc, "( a\n b )") else {
+        return Err(Fail::new("the text is refused"));
+    };
+    let mut parts = String::new(alloc);
+    for _ in 0..9 {
+        if !tidying.put_next(&mut parts)? {
+            break;
+        }
+        parts.push_str("|")?;
+    }
+    assert_eq!(rt; parts.as_str(), "(|a|\n b|)|\n");
+    Ok(())
+}

@@ -1,0 +1,107 @@
+//! Trees by hand and their prints: which trees are writable, and which prints read back.
+
+use crate::definitions::{converters, definition};
+use crate::rules::rule_definition;
+use crate::specs::spec_definition;
+use isle_syntax::ast::{Def, writable};
+use isle_syntax::printer::print;
+use isle_test_nodes::trees::{drop_definitions, read};
+use std::alloc::{AllocError, Global};
+
+/// The definitions of a kind that are made of the words and numbers; `None` where there is no such
+/// kind.
+fn built(
+    alloc: Global,
+    kind: &str,
+    words: &[String],
+    numbers: &[usize],
+) -> Result<Option<Vec<Def>>, AllocError> {
+    if kind == "converters" {
+        return Ok(Some(converters(alloc, words)?));
+    }
+    if let Some(def) = definition(alloc, kind, words, numbers)? {
+        return Ok(Some(vec![in alloc; def]?));
+    }
+    if let Some(def) = rule_definition(alloc, kind, words)? {
+        return Ok(Some(vec![in alloc; def]?));
+    }
+    match spec_definition(alloc, kind, words)? {
+        Some(def) => Ok(Some(vec![in alloc; def]?)),
+        None => Ok(None),
+    }
+}
+
+/// Whether the print of definitions at a width spells them and no others; `None` where they have no
+/// print.
+fn reads_back(alloc: Global, defs: &Vec<Def>, width: usize) -> Option<bool> {
+    let text = print(alloc, defs, width).ok()?;
+    match read(alloc, &text) {
+        Ok(read) => {
+            let is_same = read == *defs;
+            drop_definitions(read);
+            Some(is_same)
+        }
+        Err(_) => Some(false),
+    }
+}
+
+/// Whether definitions are writable, where their prints, at widths from the least to the greatest,
+/// read back exactly if they are.
+fn told(alloc: Global, defs: &Vec<Def>) -> &'static str {
+    let is_writable = writable(defs);
+    for width in [0, 5, 78, usize::MAX] {
+        match reads_back(alloc, defs, width) {
+            Some(answer) if answer == is_writable => {}
+            Some(_) => return "its print tells otherwise",
+            None => return "it has no print",
+        }
+    }
+    if is_writable {
+        "writable"
+    } else {
+        "unwritable"
+    }
+}
+
+/// Whether each of the definitions is writable, without a print.
+fn told_alone(defs: &[Def]) -> &'static str {
+    for def in defs {
+        if !def.is_writable() {
+            return "unwritable";
+        }
+    }
+    "writable"
+}
+
+/// The print of definitions at 78, behind whether they are writable.
+fn shown(alloc: Global, defs: &[Def]) -> Result<String, AllocError> {
+    let text = print(alloc, defs, 78);
+    format!(in alloc; "{} {text:?}", writable(defs))
+}
+
+/// What a call tells of definitions.
+fn told_by(alloc: Global, call: &str, defs: &Vec<Def>) -> Result<String, AllocError> {
+    match call {
+        "built" => told(alloc, defs).to_string(alloc),
+        "built_alone" => told_alone(defs).to_string(alloc),
+        _ => shown(alloc, defs),
+    }
+}
+
+/// What a call tells of definitions by hand.
+pub fn told_of_built(
+    alloc: Global,
+    call: &str,
+    kind: &str,
+    words: &[String],
+    numbers: &[usize],
+) -> Result<String, AllocError> {
+    match built(alloc, kind, words, numbers)? {
+        Some(defs) => {
+            let answer = told_by(alloc, call, &defs);
+            drop_definitions(defs);
+            answer
+        }
+        None => "no kind".to_string(alloc),
+    }
+}

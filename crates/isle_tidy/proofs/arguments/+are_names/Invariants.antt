@@ -1,5 +1,0 @@
-use Rattle.std.proofs.Common.{length}
-use Rattle.isle_tidy.proofs.arguments.+are_names.Given as goal
-
-abbrev pub decreases-are_names : goal.decreases-are_names
-decreases-are_names l = length l.words.now

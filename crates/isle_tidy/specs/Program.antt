@@ -1,0 +1,37 @@
+-- The program: its name, its usage, its options, and what its words ask for.
+use Rattle.std.specs.Prelude.{◌≡◌, ℕ, List, [], ◌∷◌, Option, None, Some, codes, map}
+use Rattle.isle_cli.specs.Arguments.{Asked, asked}
+use Rattle.isle_cli.specs.Failure as frame
+use Rattle.isle_cli.specs.declared.arguments.Options.{Options}
+use Rattle.isle_cli.specs.declared.program.Program.{Program}
+use Rattle.isle_tidy.specs.Doing.{HasNames}
+
+-- the name of this program, and its usage
+pub record IsThis (program : Program) : Type 0 where
+  pub name : program.name.now ≡ codes "isle-tidy"
+  pub usage : program.usage.now ≡ codes "usage: isle-tidy [--check] [--stdin-name NAME] [FILE ..]\n"
+
+-- its own options: `--check` alone
+pub record AreOwn (options : Options) : Type 0 where
+  pub flags : map (λ flag. flag.now) options.flags.now ≡ codes "--check" ∷ []
+  pub settings : map (λ setting. setting.now) options.settings.now ≡ []
+
+-- something is asked for, and P holds of it
+abbrev pub AnswersTo : Option Asked → (Asked → Type 0) → Type 0
+AnswersTo answer P = (request : Asked) × (answer ≡ Some request) × P request
+
+-- the words ask this program for something, and P holds of both
+abbrev pub AsAsked : List (List ℕ) → (Program → Asked → Type 0) → Type 0
+AsAsked words P = (program : Program) × (options : Options) × IsThis program × AreOwn options × AnswersTo (asked options words) (P program)
+
+-- they ask it for nothing: they are none of the usage
+abbrev pub AskForNothing : List (List ℕ) → Type 0
+AskForNothing words = (options : Options) × AreOwn options × (asked options words ≡ None)
+
+-- they ask it to tidy what they name
+abbrev pub HaveNames : List (List ℕ) → Type 0
+HaveNames words = AsAsked words (λ program request. HasNames request)
+
+-- the text that goes with a status past 1
+abbrev pub IsDiagnostic : (status : ℕ) (text : List ℕ) → Type 0
+IsDiagnostic status text = (program : Program) × IsThis program × frame.IsDiagnostic program status text
