@@ -1,5 +1,6 @@
-//! Finds the static library and has it linked: `crates/isle_c/out/libisle_c.a` of this repository,
-//! which `bindings/rust/archive` makes, or the file that the variable `ISLE_C_ARCHIVE` names.
+//! Finds the static library and has it linked: `out/libisle_c.a` beside this package, which
+//! `bindings/rust/archive` makes, `lib/libisle_c.a` there, as it lies in a package for who has no
+//! kit, or the file that the variable `ISLE_C_ARCHIVE` names.
 
 use std::env;
 use std::ffi::OsStr;
@@ -32,30 +33,48 @@ fn main() {
     name_upstream();
 }
 
+/// A file of the kit's that the archive holds when it is whole: the calls for memory.
+const LAST_MEMBER: &[u8] = b"heap.pic.o/";
+
 fn link_archive() {
     println!("cargo::rerun-if-env-changed={ARCHIVE}");
     let folder = env::var("CARGO_MANIFEST_DIR").expect("Cargo names the package's folder");
-    let repository = Path::new(&folder)
-        .ancestors()
-        .nth(2)
-        .unwrap_or(Path::new("/"));
-    let own = repository.join("crates/isle_c/out/libisle_c.a");
-    let archive = env::var_os(ARCHIVE).map_or(own, PathBuf::from);
+    let beside = Path::new(&folder).parent().unwrap_or(Path::new("/"));
+    let places = ["out/libisle_c.a", "lib/libisle_c.a"].map(|it| beside.join(it));
+    let own = places.iter().find(|it| it.exists()).unwrap_or(&places[0]);
+    let archive = env::var_os(ARCHIVE).map_or(own.clone(), PathBuf::from);
     println!("cargo::rerun-if-changed={}", archive.display());
-    let (Ok(archive), Some(name)) = (
-        archive.canonicalize(),
+    let archive = match archive.canonicalize() {
+        Ok(found) if is_whole(&found) => found,
+        found => {
+            let is = if found.is_ok() {
+                "the file is not the whole"
+            } else {
+                "there is no"
+            };
+            println!(
+                "cargo::error={is} archive {}: run bindings/rust/archive in the repository of \
+                 isle-syntax (it proves the library and makes the archive), or have {ARCHIVE} name one",
+                archive.display()
+            );
+            return;
+        }
+    };
+    let (Some(folder), Some(name)) = (
+        archive.parent(),
         archive.file_name().and_then(OsStr::to_str),
     ) else {
-        println!(
-            "cargo::error=there is no archive {}: run bindings/rust/archive in the repository \
-             of isle-syntax (it proves the library and makes the archive), or have {ARCHIVE} name one",
-            archive.display()
-        );
+        println!("cargo::error={} has no name in UTF-8", archive.display());
         return;
     };
-    let folder = archive.parent().expect("a file stands in a folder");
     println!("cargo::rustc-link-search=native={}", folder.display());
     println!("cargo::rustc-link-lib=static:+verbatim={name}");
+}
+
+/// Whether a file is an archive with all its members.
+fn is_whole(archive: &Path) -> bool {
+    let bytes = std::fs::read(archive).unwrap_or_default();
+    bytes.starts_with(b"!<arch>\n") && bytes.windows(LAST_MEMBER.len()).any(|it| it == LAST_MEMBER)
 }
 
 /// Writes the modules that the benchmark includes, where the variable names upstream's crate.
