@@ -1,4 +1,3 @@
 pub mod AnswerLemmas
-pub mod ParsedLaw
 pub mod RefusalLemmas
 pub mod StatusLemmas

@@ -3,6 +3,7 @@ use Rattle.std.specs.Prelude.{ℕ, List, IsUtf8}
 use Rattle.isle_c.specs.declared.TheConstants.{ACCEPTED, MEMORY, NOT_UTF8, REFUSED}
 use Rattle.isle_c.specs.declared.calls.NoAnswer.{NoAnswer}
 use Rattle.isle_c.specs.declared.calls.NoAnswer.TheVariants.{Accepted, Memory, NotUtf8, Refused}
+use Rattle.isle_document.specs.Refused.{HasDocument, HasNoDocument}
 use Rattle.isle_syntax.specs.Format.{IsRefused, SpellsTree}
 
 abbrev pub status_of : NoAnswer → ℕ
@@ -31,3 +32,17 @@ IsDiagnosticFailure name text Accepted = (IsUtf8 name × IsUtf8 text) × SpellsT
 IsDiagnosticFailure name text Refused = ⊥
 IsDiagnosticFailure name text NotUtf8 = ¬ (IsUtf8 name × IsUtf8 text)
 IsDiagnosticFailure name text Memory = IsUtf8 name × IsUtf8 text
+
+-- why a text isn't tidied
+abbrev pub IsTidyFailure : List ℕ → NoAnswer → Type 0
+IsTidyFailure text Accepted = ⊥
+IsTidyFailure text Refused = IsUtf8 text × HasNoDocument text
+IsTidyFailure text NotUtf8 = ¬ (IsUtf8 text)
+IsTidyFailure text Memory = IsUtf8 text
+
+-- why a text has no refusal to be tidied
+abbrev pub IsTidyRefusalFailure : List ℕ → NoAnswer → Type 0
+IsTidyRefusalFailure text Accepted = IsUtf8 text × HasDocument text
+IsTidyRefusalFailure text Refused = ⊥
+IsTidyRefusalFailure text NotUtf8 = ¬ (IsUtf8 text)
+IsTidyRefusalFailure text Memory = IsUtf8 text

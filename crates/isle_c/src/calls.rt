@@ -1,25 +1,22 @@
 //! What the exports answer, before it goes into the caller's slice.
 
-ghost use Rattle.std.specs.Prelude.{◌≡◌, ◌≢◌, ◌≤◌, ◌-◌, ◌==◌, if◌then◌else◌, Err, IfErr};
+ghost use Rattle.std.specs.Prelude.{◌≡◌, ◌≤◌, ◌-◌, ◌==◌, if◌then◌else◌, IfErr};
 ghost use Rattle.std.specs.Prelude.{IfOk, IsUtf8, OnOk, length, slice_index, string_bytes};
-ghost use Rattle.isle_base.specs.Steps.{IfError};
-ghost use Rattle.isle_base.specs.declared.fault.Fault.TheVariants.{Failed};
 ghost use Rattle.isle_c.specs.NoAnswers.{IsDiagnosticFailure, IsFormatFailure, IsRefusalFailure};
 ghost use Rattle.isle_c.specs.NoAnswers.{status_of};
-ghost use Rattle.isle_c.specs.Refusals.{IsDiagnosticOf, IsRefusedAt, diagnostic_text, place_at};
+ghost use Rattle.isle_c.specs.Refusals.{IsDiagnosticOf, IsRefusedAt, Tells, place_at};
 ghost use Rattle.isle_c.specs.declared.calls.NoAnswer.TheVariants.{Memory};
 ghost use Rattle.isle_parser_cursor.specs.Outcomes.{RefusesIn};
-ghost use Rattle.isle_syntax.specs.Format.{IsFormatted, IsRefused, SpellsTree};
+ghost use Rattle.isle_syntax.specs.Format.{IsFormatted, IsRefused};
 ghost use Rattle.isle_syntax.specs.Streaming.{IsRefusedWith};
 
 use crate::slices::text_of;
 use crate::{ACCEPTED, Answer, MEMORY, NOT_UTF8, Place, REFUSED};
-use isle_syntax::error::{Error, Errors};
-use isle_syntax::files::{Files, LineMap};
-use isle_syntax::lexer::{Fault, Lexer};
-use isle_syntax::parser::parse;
+use isle_cli::diagnostics::diagnostic;
+use isle_syntax::error::Error;
+use isle_syntax::files::LineMap;
+use isle_syntax::lexer::Fault;
 use std::alloc::{AllocError, AllocFailed, Global};
-use std::rc::Rc;
 
 /// Why nothing is written.
 #[derive(Drop)]
@@ -126,7 +123,7 @@ pub fn diagnostic_of(alloc: Global, name: &[u8], text: &[u8]) -> Result<String, 
     let name = text_of(name)?;
     let text = text_of(text)?;
     let error = error_of(alloc, text)?;
-    let shown = shown(alloc, name, text, error)?;
+    let shown = diagnostic(alloc, name, text, error)?;
     Ok(shown)
 }
 
@@ -148,7 +145,7 @@ fn error_of(alloc: Global, text: &str) -> Result<Error, NoAnswer>
     ensures ok { IfOk result (IsRefusedWith text.now) }
     ensures err { IfErr result (IsRefusalFailure text.now) }
 {
-    match parsed(alloc, text) {
+    match isle_syntax::check(alloc, text) {
         Ok(()) => Err(NoAnswer::Accepted),
         Err(Fault::Error(error)) => Ok(error),
         Err(Fault::Failed) => unreachable!(),
@@ -156,22 +153,11 @@ fn error_of(alloc: Global, text: &str) -> Result<Error, NoAnswer>
     }
 }
 
-/// Parses a text, and lets the tree go.
-fn parsed(alloc: Global, text: &str) -> Result<(), Fault>
-    ensures ok { OnOk result (SpellsTree text.now) }
-    ensures refused { IfErr result (IfError (IsRefusedWith text.now)) }
-    ensures never_failed { result ≢ Err Failed }
-{
-    let lexer = Lexer::new(alloc, 0, text)?;
-    parse(alloc, lexer)?;
-    Ok(())
-}
-
 /// The reason of an error, and its place in the text.
-fn parts(alloc: Global, text: &str, error: Error) -> Result<Refusal, AllocError>
-    requires { IsRefusedWith text.now error }
+pub fn parts(alloc: Global, text: &str, error: Error) -> Result<Refusal, AllocError>
+    requires { RefusesIn 0 (length text.now) error }
     ensures { IfOk result
-        (λ refusal. IsRefusedAt text.now refusal.place (string_bytes refusal.reason)) }
+        (λ refusal. Tells text.now error refusal.place (string_bytes refusal.reason)) }
 {
     match error {
         Error::ParseError { msg, span } => {
@@ -208,17 +194,4 @@ fn line_begin(map: &LineMap, line: usize) -> usize
         None => 0,
         Some(previous) => map[previous],
     }
-}
-
-/// What is shown of an error in a text, with this name for its file.
-fn shown(alloc: Global, name: &str, text: &str, error: Error) -> Result<String, AllocError>
-    requires { RefusesIn 0 (length text.now) error }
-    ensures { IfOk result
-        (λ shown. string_bytes shown ≡ diagnostic_text name.now text.now error) }
-{
-    let name = String::from_str(alloc, name)?;
-    let source = String::from_str(alloc, text)?;
-    let files = Files::from_names_and_contents(alloc, vec![in alloc; (name, source)]?)?;
-    let errors = Errors::new(vec![in alloc; error]?, Rc::new(alloc, files)?);
-    errors.to_string(alloc)
 }

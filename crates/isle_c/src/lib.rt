@@ -1,4 +1,4 @@
-//! The syntax layer of ISLE as a static library, for callers that are not Rattle.
+//! The syntax layer of ISLE, and tidying, as a static library, for callers that are not Rattle.
 //!
 //! Texts come as slices of bytes, and an answer is written into a slice of the caller's, with its
 //! whole length told: a slice that is too short is an answer too. No pointer is handed out, nothing
@@ -8,15 +8,21 @@
 
 ghost use Rattle.std.specs.Prelude.{◌≡◌, ◌≢◌, ◌↔◌, ◌≤◌, IsUtf8};
 ghost use Rattle.isle_c.specs.Answers.{Wants, Writes};
-ghost use Rattle.isle_c.specs.Refusals.{IsDiagnosticOf, IsRefusedAt};
+ghost use Rattle.isle_c.specs.Refusals.{IsDiagnosticOf, IsRefusedAt, IsUntidiableAt};
+ghost use Rattle.isle_c.specs.Tidying.{IsUntidy};
+ghost use Rattle.isle_document.specs.Refused.{HasDocument, HasNoDocument};
+ghost use Rattle.isle_document.specs.Tidied.{IsTidyTextOf};
 ghost use Rattle.isle_syntax.specs.Format.{IsFormatted, IsRefused, SpellsTree};
 
 mod calls;
+pub mod laws;
 mod slices;
+mod tidying;
 
 use calls::{diagnostic_of, formatted, refusal_of, refused};
 use slices::write;
 use std::alloc::Global;
+use tidying::{is_tidy, tidied, tidy_refusal_of};
 
 /// The whole answer stands at the front of the caller's slice.
 pub const WRITTEN: u32 = 0;
@@ -35,6 +41,9 @@ pub const NOT_UTF8: u32 = 4;
 
 /// A growth of memory was refused.
 pub const MEMORY: u32 = 5;
+
+/// The text can be tidied, and isn't tidy.
+pub const UNTIDY: u32 = 6;
 
 /// How a call ended, and how long its answer is.
 #[repr(C)]
@@ -169,6 +178,79 @@ pub extern "C" fn isle_c_diagnostic(
 {
     match diagnostic_of(alloc, name, text) {
         Ok(answer) => write(&answer, into),
+        Err(why) => why.answer(),
+    }
+}
+
+/// Tidies a text, as `isle_document::tidy` does: keeps the author's lines and every comment.
+///
+/// The answer is the tidy text, which is UTF-8. A text need not be one of ISLE: `REFUSED` comes
+/// where it doesn't lex or its parentheses don't match, and `isle_c_tidy_refusal` says why.
+#[unsafe(no_mangle)]
+pub extern "C" fn isle_c_tidy(alloc: Global, text: &[u8], into: &mut [u8]) -> Answer
+    ensures written { result.status ≡ WRITTEN
+        → Writes into.old into.new result.len (IsTidyTextOf text.now) }
+    ensures too_short { result.status ≡ TOO_SHORT
+        → Wants into.old result.len (IsTidyTextOf text.now) }
+
+    // When there is none, and why.
+    ensures refused { result.status ≡ REFUSED → HasNoDocument text.now }
+    ensures not_utf8 { (result.status ≡ NOT_UTF8) ↔ (¬ (IsUtf8 text.now)) }
+    ensures statuses { (result.status ≢ ACCEPTED) × (result.status ≤ MEMORY) }
+    ensures kept { result.status ≢ WRITTEN → into.new ≡ into.old }
+{
+    match tidied(alloc, text) {
+        Ok(answer) => write(&answer, into),
+        Err(why) => why.answer(),
+    }
+}
+
+/// Tells whether a text is tidy: `ACCEPTED` if tidying gives it back, `UNTIDY` if not, or why it
+/// can't be tidied.
+#[unsafe(no_mangle)]
+pub extern "C" fn isle_c_is_tidy(alloc: Global, text: &[u8]) -> u32
+    ensures accepted { result ≡ ACCEPTED → IsTidyTextOf text.now text.now }
+    ensures untidy { result ≡ UNTIDY → IsUntidy text.now }
+    ensures refused { result ≡ REFUSED → HasNoDocument text.now }
+    ensures not_utf8 { (result ≡ NOT_UTF8) ↔ (¬ (IsUtf8 text.now)) }
+    ensures statuses { (ACCEPTED ≤ result) × (result ≤ UNTIDY) }
+{
+    match is_tidy(alloc, text) {
+        Ok(true) => ACCEPTED,
+        Ok(false) => UNTIDY,
+        Err(why) => why.status(),
+    }
+}
+
+/// Tells why and where a text can't be tidied: the reason, which is the answer and UTF-8, and the
+/// place.
+///
+/// The reason is the lexer's, `unmatched ')'` or `unclosed '('`. `ACCEPTED` comes where the text
+/// can be tidied.
+#[unsafe(no_mangle)]
+pub extern "C" fn isle_c_tidy_refusal(
+    alloc: Global,
+    text: &[u8],
+    reason: &mut [u8],
+    place: &mut Place,
+) -> Answer
+    ensures written { result.status ≡ WRITTEN
+        → Writes reason.old reason.new result.len (IsUntidiableAt text.now place.new) }
+    ensures too_short { result.status ≡ TOO_SHORT
+        → Wants reason.old result.len (IsUntidiableAt text.now place.new) }
+
+    // When there is none, and why.
+    ensures accepted { result.status ≡ ACCEPTED → HasDocument text.now }
+    ensures not_utf8 { (result.status ≡ NOT_UTF8) ↔ (¬ (IsUtf8 text.now)) }
+    ensures statuses { (result.status ≢ REFUSED) × (result.status ≤ MEMORY) }
+    ensures kept { result.status ≢ WRITTEN → reason.new ≡ reason.old }
+    ensures place_kept { ACCEPTED ≤ result.status → place.new ≡ place.old }
+{
+    match tidy_refusal_of(alloc, text) {
+        Ok(refusal) => {
+            *place = refusal.place;
+            write(&refusal.reason, reason)
+        }
         Err(why) => why.answer(),
     }
 }
