@@ -2,7 +2,7 @@
 //!
 //! The declarations fit `crates/isle_c/src/lib.rt`, where each call's contract stands: a `&[u8]`
 //! crosses as a pointer and then a length, and the parameter for the allocator takes no bytes, so
-//! it isn't passed. Nothing compares the two texts but the tests.
+//! it isn't passed. `bindings/c/test` holds the two texts and the header for C against each other.
 
 /// What a call tells.
 #[derive(Clone, Copy, Debug, PartialEq, Eq)]
@@ -19,6 +19,8 @@ pub(crate) enum Told {
     NotUtf8,
     /// A growth of memory was refused.
     Memory,
+    /// The text can be tidied, and isn't tidy.
+    Untidy,
 }
 
 /// What a call tells, as it crosses.
@@ -42,6 +44,7 @@ impl Answer {
             3 => Told::Refused,
             4 => Told::NotUtf8,
             5 => Told::Memory,
+            6 => Told::Untidy,
             status => unreachable!("{status} is above each number that the library's clauses name"),
         }
     }
@@ -93,6 +96,18 @@ unsafe extern "C" {
         text_len: usize,
         into: *mut u8,
         into_len: usize,
+    ) -> Answer;
+
+    fn isle_c_tidy(text: *const u8, text_len: usize, into: *mut u8, into_len: usize) -> Answer;
+
+    fn isle_c_is_tidy(text: *const u8, text_len: usize) -> u32;
+
+    fn isle_c_tidy_refusal(
+        text: *const u8,
+        text_len: usize,
+        reason: *mut u8,
+        reason_len: usize,
+        place: *mut Place,
     ) -> Answer;
 
     safe fn isle_c_version() -> Version;
@@ -151,6 +166,39 @@ pub(crate) fn diagnostic(name: &[u8], text: &[u8], into: &mut [u8]) -> Told {
             text.len(),
             into.as_mut_ptr(),
             into.len(),
+        )
+    };
+    answer.told()
+}
+
+/// Tidies a text.
+pub(crate) fn tidy(text: &[u8], into: &mut [u8]) -> Told {
+    // SAFETY: the declaration fits the library's. Each pointer and length are those of one slice,
+    // which is borrowed for the call, `into` for it alone. The call has no `requires`.
+    let answer = unsafe { isle_c_tidy(text.as_ptr(), text.len(), into.as_mut_ptr(), into.len()) };
+    answer.told()
+}
+
+/// Tells whether a text is tidy.
+pub(crate) fn is_tidy(text: &[u8]) -> Told {
+    // SAFETY: the declaration fits the library's. The pointer and the length are those of one
+    // slice, which is borrowed for the call. The call has no `requires`.
+    let status = unsafe { isle_c_is_tidy(text.as_ptr(), text.len()) };
+    Answer::of(status).told()
+}
+
+/// Tells why and where a text can't be tidied.
+pub(crate) fn tidy_refusal(text: &[u8], reason: &mut [u8], place: &mut Place) -> Told {
+    // SAFETY: the declaration fits the library's. Each pointer and length are those of one slice,
+    // which is borrowed for the call, `reason` and `place` for it alone. The call has no
+    // `requires`, and any numbers are a place.
+    let answer = unsafe {
+        isle_c_tidy_refusal(
+            text.as_ptr(),
+            text.len(),
+            reason.as_mut_ptr(),
+            reason.len(),
+            place,
         )
     };
     answer.told()

@@ -3,13 +3,13 @@
 use std::error::Error;
 use std::fmt;
 
-/// Why and where a text is none of ISLE.
+/// Why and where a text is refused.
 ///
-/// It shows as `LINE:COLUMN: parse error: MESSAGE`, so that a file's name and a colon go in front:
+/// It shows as `LINE:COLUMN: MESSAGE`, so that a file's name and a colon go in front:
 ///
 /// ```
 /// let refusal = isle_syntax::check("(decl f () T)\n(decl pure () T)\n").unwrap_err();
-/// assert_eq!(refusal.to_string(), "2:12: parse error: Unexpected token LParen");
+/// assert_eq!(refusal.to_string(), "2:12: Unexpected token LParen");
 /// ```
 ///
 /// [`diagnostic`](crate::diagnostic) gives the text that upstream shows.
@@ -35,16 +35,17 @@ impl fmt::Display for Refusal {
             column,
             ..
         } = self;
-        write!(f, "{line}:{column}: parse error: {message}")
+        write!(f, "{line}:{column}: {message}")
     }
 }
 
 impl Error for Refusal {}
 
-/// Why [`try_format`](crate::try_format) or [`try_check`](crate::try_check) gives no answer.
+/// Why [`try_tidy`](crate::try_tidy), [`try_format`](crate::try_format) or
+/// [`try_check`](crate::try_check) gives no answer.
 #[derive(Clone, Debug, PartialEq, Eq)]
 pub enum Fault {
-    /// The text is none of ISLE.
+    /// The text is refused.
     Refused(Refusal),
     /// A growth of memory was refused. It says nothing of the text.
     Memory,
