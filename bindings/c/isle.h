@@ -11,7 +11,8 @@
  * - No pointer is null, not even of an empty text. A length is below 2^63.
  * - What a function writes to overlaps nothing else that it is given, and nobody else touches it
  *   during the call. Threads may call at once.
- * - The stack is deep enough: a nest of parentheses is read by calls that call themselves.
+ * - The stack is deep enough: a nest of parentheses is read by calls that call themselves, but by
+ *   those that tidy.
  * - No call comes from a signal handler, or from the forked child of a process with threads.
  */
 #ifndef ISLE_H
@@ -37,7 +38,9 @@ enum {
     /* A text, or the name of a file, is not UTF-8. */
     ISLE_NOT_UTF8 = 4,
     /* Memory ran out. It says nothing of the text. */
-    ISLE_MEMORY = 5
+    ISLE_MEMORY = 5,
+    /* The text can be tidied, and isn't tidy. */
+    ISLE_UNTIDY = 6
 };
 
 /* How a call ended, and the length of its whole answer, 0 where there is none. */
@@ -90,6 +93,23 @@ isle_answer isle_c_refusal(const uint8_t *text, size_t text_len,
 isle_answer isle_c_diagnostic(const uint8_t *name, size_t name_len,
                               const uint8_t *text, size_t text_len,
                               uint8_t *into, size_t into_len);
+
+/* Tidies a text: writes it with the author's lines, every comment and each token as it is written,
+ * columns and gaps mended. It need not be one of ISLE, only lex and have matching parentheses.
+ *
+ * ISLE_WRITTEN, ISLE_TOO_SHORT, ISLE_REFUSED, ISLE_NOT_UTF8 or ISLE_MEMORY. */
+isle_answer isle_c_tidy(const uint8_t *text, size_t text_len, uint8_t *into, size_t into_len);
+
+/* Tells whether tidying a text gives it back: ISLE_ACCEPTED or ISLE_UNTIDY, or ISLE_REFUSED,
+ * ISLE_NOT_UTF8 or ISLE_MEMORY. */
+uint32_t isle_c_is_tidy(const uint8_t *text, size_t text_len);
+
+/* Tells why and where a text can't be tidied: writes the message, and the place.
+ *
+ * ISLE_WRITTEN, ISLE_TOO_SHORT (the place is there, too), ISLE_ACCEPTED if there is no refusal,
+ * ISLE_NOT_UTF8 or ISLE_MEMORY. */
+isle_answer isle_c_tidy_refusal(const uint8_t *text, size_t text_len,
+                                uint8_t *reason, size_t reason_len, isle_place *place);
 
 /* The version of cranelift-isle whose behaviour the library has. */
 isle_version isle_c_version(void);
