@@ -72,6 +72,37 @@ fn shows_a_refusal_into_a_slice_of_every_length() {
 }
 
 #[test]
+fn tidies_into_a_slice_of_every_length() {
+    at_every_length(b"a ; b\n", |into| tidy(b"a; b  ", into));
+    at_every_length(b"(a\n b)\n", |into| tidy(b"(a\r\n b )", into));
+    at_every_length(b"", |into| tidy(b" \n", into));
+}
+
+#[test]
+fn tells_why_a_text_is_not_tidied_into_a_slice_of_every_length() {
+    let mut place = Place::default();
+    at_every_length(b"unclosed '('", |into| {
+        place = Place::default();
+        let told = tidy_refusal(b"a\n (b (c)", into, &mut place);
+        assert_eq!((place.offset, place.line, place.column), (3, 2, 2));
+        assert_eq!((place.line_begin, place.line_end), (2, 10));
+        told
+    });
+    at_every_length(b"unterminated block comment", |into| {
+        tidy_refusal(b"a (; b", into, &mut place)
+    });
+}
+
+#[test]
+fn tells_whether_a_text_is_tidy() {
+    assert_eq!(is_tidy(b""), Told::Accepted);
+    assert_eq!(is_tidy(b"a ; b\n"), Told::Accepted);
+    assert_eq!(is_tidy(b"a ; b"), Told::Untidy);
+    assert_eq!(is_tidy(b"a)"), Told::Refused);
+    assert_eq!(is_tidy(NO_UTF8), Told::NotUtf8);
+}
+
+#[test]
 fn tells_why_nothing_is_written() {
     let kept = Place {
         offset: 1,
@@ -89,6 +120,16 @@ fn tells_why_nothing_is_written() {
     );
     assert_eq!(
         told_alone(|into| refusal(NO_UTF8, into, &mut place)),
+        Told::NotUtf8
+    );
+    assert_eq!(told_alone(|into| tidy(b"(", into)), Told::Refused);
+    assert_eq!(told_alone(|into| tidy(NO_UTF8, into)), Told::NotUtf8);
+    assert_eq!(
+        told_alone(|into| tidy_refusal(DECL, into, &mut place)),
+        Told::Accepted
+    );
+    assert_eq!(
+        told_alone(|into| tidy_refusal(NO_UTF8, into, &mut place)),
         Told::NotUtf8
     );
     assert_eq!(place, kept);
