@@ -4,7 +4,8 @@
                 error (writes to standard error), file (open, read, write, fchmod, fsync, chown, rename and unlink, of files)
    AT=N         the Nth of them fails; with ON=1 each one after it too; with KILL=1 the process is killed there instead
    BYTE=1       each read of standard input and each write to standard output moves one byte
-   LOG=FILE     gets a byte for each call that fails; without AT, for each that is counted
+   LOG=FILE     gets an x for each call that fails, or without AT for each that is counted; and a - where memory was refused and the
+                next request is for no more: a growth ahead of need is done without
 
    Built by tools/faults: cc -shared -fPIC -O2 -o faults.so faults.c, and loaded by LD_PRELOAD. What the loader does isn't counted. */
 
@@ -25,11 +26,11 @@ extern void *__libc_memalign(size_t alignment, size_t size);
 static long number(const char *name) { return getenv(name) ? atol(getenv(name)) : 0; }
 
 /* Writes a byte to the log, which is opened anew each time: the program's own files are never touched. */
-static void log_byte(void)
+static void log_byte(const char *byte)
 {
     const char *name = getenv("LOG");
     long file = name ? syscall(SYS_openat, AT_FDCWD, name, O_WRONLY | O_APPEND, 0) : -1;
-    syscall(SYS_write, file, "x", 1);
+    syscall(SYS_write, file, byte, 1);
     syscall(SYS_close, file);
 }
 
@@ -49,15 +50,26 @@ static int fails(const char *kind, int error)
         return 0;
     if (at != 0 && kills)
         kill(getpid(), SIGKILL);
-    log_byte();
+    log_byte("x");
     errno = error;
     return at != 0;
 }
 
-void *malloc(size_t size) { return fails("memory", ENOMEM) ? NULL : __libc_malloc(size); }
-void *calloc(size_t count, size_t size) { return fails("memory", ENOMEM) ? NULL : __libc_calloc(count, size); }
-void *realloc(void *room, size_t size) { return fails("memory", ENOMEM) ? NULL : __libc_realloc(room, size); }
-void *aligned_alloc(size_t alignment, size_t size) { return fails("memory", ENOMEM) ? NULL : __libc_memalign(alignment, size); }
+/* Counts a request for memory, and returns whether it fails. */
+static int refuses(size_t size)
+{
+    static size_t refused = 0;
+    int fault = fails("memory", ENOMEM);
+    if (!fault && size <= refused)
+        log_byte("-");
+    refused = fault ? size : 0;
+    return fault;
+}
+
+void *malloc(size_t size) { return refuses(size) ? NULL : __libc_malloc(size); }
+void *calloc(size_t count, size_t size) { return refuses(count * size) ? NULL : __libc_calloc(count, size); }
+void *realloc(void *room, size_t size) { return refuses(size) ? NULL : __libc_realloc(room, size); }
+void *aligned_alloc(size_t alignment, size_t size) { return refuses(size) ? NULL : __libc_memalign(alignment, size); }
 
 int posix_memalign(void **room, size_t alignment, size_t size)
 {

@@ -85,7 +85,7 @@ fn tells_why_a_text_is_not_tidied_into_a_slice_of_every_length() {
         place = Place::default();
         let told = tidy_refusal(b"a\n (b (c)", into, &mut place);
         assert_eq!((place.offset, place.line, place.column), (3, 2, 2));
-        assert_eq!((place.line_begin, place.line_end), (2, 10));
+        assert_eq!((place.line_begin, place.line_end), (2, 9));
         told
     });
     at_every_length(b"unterminated block comment", |into| {
