@@ -10,6 +10,4 @@ pub mod messages;
 pub mod program;
 pub mod sources;
 pub mod streams;
-#[cfg(test)]
-mod tests;
 pub mod words;

@@ -1,15 +1,17 @@
 //! Definitions with their extractors expanded.
 
+use crate::answers::is_text;
 use isle_expansion::{ExpandFault, expanded};
 use isle_syntax::ast::Def;
 use isle_syntax::lexer::{Fault, Pos};
+use isle_syntax::parse;
 use isle_syntax::printer::print;
-use isle_test_nodes::trees::{drop_definitions, parsed};
+use isle_test_nodes::trees::drop_definitions;
 use std::alloc::Global;
 
 /// Expands the definitions of a text.
 fn outcome(alloc: Global, text: &str) -> Result<Result<Vec<Def>, ExpandFault>, Fault> {
-    let defs = parsed(alloc, 0, text)?;
+    let defs = parse(alloc, text)?;
     let outcome = expanded(alloc, &defs);
     drop_definitions(defs);
     Ok(outcome)
@@ -69,14 +71,6 @@ fn told(alloc: Global, text: &str) -> Option<(String, Pos)> {
 fn is_told(told: &Option<(String, Pos)>, want: &str, offset: usize) -> bool {
     match told {
         Some((told, pos)) => told.as_str() == want && *pos == Pos::new(0, offset),
-        None => false,
-    }
-}
-
-/// Whether the answer is this text.
-fn is_text(answer: &Option<String>, want: &str) -> bool {
-    match answer {
-        Some(text) => text.as_str() == want,
         None => false,
     }
 }

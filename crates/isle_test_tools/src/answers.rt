@@ -1,0 +1,9 @@
+//! What is asked of an answer.
+
+/// Whether the answer is this text.
+pub fn is_text(answer: &Option<String>, want: &str) -> bool {
+    match answer {
+        Some(text) => text.as_str() == want,
+        None => false,
+    }
+}

@@ -1,0 +1,270 @@
+//! What the programs share: words, failures, messages, and the files that names stand for.
+
+use crate::answers::is_text;
+use isle_base_source::files::LineMap;
+use isle_cli::arguments::{
+    Argument, Options, Request, has_flag, names_of, requested, setting_of, stdin_name_of,
+};
+use isle_cli::failure::Failure;
+use isle_cli::messages::message_line;
+use isle_cli::program::{Program, report, tell};
+use isle_cli::sources::read_sources;
+use std::alloc::{AllocError, Global};
+use std::io::{ErrorKind, Write};
+use std::os::unix::fs::symlink;
+use std::{fs, io};
+
+const PROGRAM: Program = Program {
+    name: "isle-test",
+    usage: "usage: isle-test [FILE ..]\n",
+};
+
+const OPTIONS: Options = Options {
+    flags: &["--check"],
+    settings: &["--width"],
+};
+
+fn strings(alloc: Global, words: &[&str]) -> Result<Vec<String>, AllocError> {
+    words
+        .iter()
+        .map(|word| String::from_str(alloc, word))
+        .try_collect(alloc)
+}
+
+/// What words ask for.
+fn request(alloc: Global, words: &[&str]) -> Result<Request, Failure> {
+    let words = strings(alloc, words)?;
+    requested(alloc, &OPTIONS, &words)
+}
+
+/// What words ask for, in a word.
+fn asked(alloc: Global, words: &[&str]) -> &'static str {
+    match request(alloc, words) {
+        Ok(Request::Help) => "help",
+        Ok(Request::Version) => "version",
+        Ok(Request::Work(_)) => "work",
+        Err(Failure::Usage) => "usage",
+        Err(_) => "another failure",
+    }
+}
+
+/// A line for an argument.
+fn shown(alloc: Global, argument: &Argument) -> Result<String, AllocError> {
+    match argument {
+        Argument::Flag(flag) => format!(in alloc; "flag {flag}\n"),
+        Argument::Setting(option, value) => format!(in alloc; "{option} is {value}\n"),
+        Argument::Name(name) => format!(in alloc; "name {name}\n"),
+    }
+}
+
+/// A line for each argument of words that ask for work.
+fn shown_arguments(alloc: Global, words: &[&str]) -> Option<String> {
+    let Ok(Request::Work(arguments)) = request(alloc, words) else {
+        return None;
+    };
+    let mut text = String::new(alloc);
+    for argument in &arguments {
+        let line = shown(alloc, argument).ok()?;
+        text.push_str(&line).ok()?;
+    }
+    Some(text)
+}
+
+#[test]
+fn options_stand_anywhere(rt: HostRuntime) {
+    let words = [
+        "a", "--width", "5", "-", "--check", "--width", "--", "--", "--check",
+    ];
+    let given = shown_arguments(rt.alloc(), &words);
+    let lines = "name a\n--width is 5\nname -\nflag --check\n--width is --\nname --check\n";
+    assert!(rt; is_text(&given, lines));
+}
+
+/// Whether a flag is given, the width, the name of standard input, and how many names there are.
+fn found(alloc: Global, words: &[&str]) -> Option<String> {
+    let Ok(Request::Work(arguments)) = request(alloc, words) else {
+        return None;
+    };
+    let is_check = has_flag(&arguments, "--check");
+    let width = setting_of(&arguments, "--width").unwrap_or("none");
+    let stdin_name = stdin_name_of(&arguments);
+    let names = names_of(alloc, &arguments).ok()?;
+    format!(in alloc; "{is_check} {width} {stdin_name} {}", names.len()).ok()
+}
+
+#[test]
+fn arguments_are_found(rt: HostRuntime) {
+    let words = [
+        "--width",
+        "5",
+        "--check",
+        "--stdin-name",
+        "b",
+        "--width",
+        "6",
+        "c",
+    ];
+    assert!(rt; is_text(&found(rt.alloc(), &words), "true 6 b 1"));
+}
+
+#[test]
+fn unknown_options_are_refused(rt: HostRuntime) {
+    let answers = [
+        asked(rt.alloc(), &["-x"]),
+        asked(rt.alloc(), &["a", "--checks"]),
+        asked(rt.alloc(), &["--width"]),
+        asked(rt.alloc(), &["--help", "--stdin-name"]),
+    ];
+    assert!(rt; answers == ["usage", "usage", "usage", "usage"]);
+}
+
+#[test]
+fn help_comes_before_the_version(rt: HostRuntime) {
+    let answers = [
+        asked(rt.alloc(), &["a", "--version", "--help"]),
+        asked(rt.alloc(), &["--check", "--version"]),
+    ];
+    assert!(rt; answers == ["help", "version"]);
+}
+
+/// A writer that takes this many bytes.
+#[derive(Drop)]
+struct Writer {
+    held: Vec<u8>,
+    room: usize,
+}
+
+impl Write for Writer {
+    fn write(&mut self, buf: &[u8]) -> io::Result<usize> {
+        if self.room == 0 {
+            return Err(io::Error::from(ErrorKind::Other));
+        }
+        let n = buf.len().min(self.room);
+        self.held.extend_from_slice(&buf[..n])?;
+        self.room -= n;
+        Ok(n)
+    }
+
+    fn flush(&mut self) -> io::Result<()> {
+        Ok(())
+    }
+}
+
+impl Writer {
+    fn new(alloc: Global, room: usize) -> Writer {
+        Writer {
+            held: Vec::new(alloc),
+            room,
+        }
+    }
+
+    /// Whether it holds this text.
+    fn holds(&self, text: &str) -> bool {
+        self.held.as_slice() == text.as_bytes()
+    }
+}
+
+/// Whether failures are told by their statuses and in these lines.
+fn are_told(alloc: Global, lines: &str) -> bool {
+    let mut faults = Writer::new(alloc, 1000);
+    let statuses = [
+        report(&PROGRAM, &Failure::Usage, &mut faults),
+        report(&PROGRAM, &Failure::Input, &mut faults),
+        report(&PROGRAM, &Failure::Memory, &mut faults),
+    ];
+    statuses == [2, 3, 4] && faults.holds(lines)
+}
+
+/// Whether a failure is told up to a refused write: the reason isn't written where the name isn't.
+fn is_told_up_to(alloc: Global, room: usize, beginning: &str) -> bool {
+    let mut full = Writer::new(alloc, room);
+    report(&PROGRAM, &Failure::Memory, &mut full) == 4 && full.holds(beginning)
+}
+
+#[test]
+fn failures_are_reported(rt: HostRuntime) {
+    let lines = "usage: isle-test [FILE ..]\nisle-test: input is unreadable or not UTF-8\n\
+        isle-test: out of memory\n";
+    assert!(rt; are_told(rt.alloc(), lines) && is_told_up_to(rt.alloc(), 4, "isle"));
+}
+
+/// Whether an output that is cut is told, behind what it takes.
+fn is_cut(alloc: Global, room: usize, beginning: &str) -> bool {
+    let mut output = Writer::new(alloc, room);
+    let mut faults = Writer::new(alloc, 1000);
+    let status = tell(&PROGRAM, "help\n", &mut output, &mut faults);
+    status == 5 && output.holds(beginning) && faults.holds("isle-test: output failed\n")
+}
+
+#[test]
+fn a_cut_output_is_told(rt: HostRuntime) {
+    assert!(rt; is_cut(rt.alloc(), 3, "hel"));
+}
+
+/// The message about a place of a text in the file `a.isle`.
+fn message(alloc: Global, text: &str) -> Result<String, AllocError> {
+    let lines = LineMap::from_str(alloc, text)?;
+    message_line(alloc, "a.isle", text, &lines, 19, "warning", "why")
+}
+
+#[test]
+fn messages_name_the_place(rt: HostRuntime) {
+    let line = message(rt.alloc(), "(decl f () T)\n  é x\n").ok();
+    assert!(rt; is_text(&line, "a.isle:2:6: warning: why\n"));
+}
+
+/// What names give: a line for each text, and one for each that can't be read.
+fn read(rt: HostRuntime, names: &[&str]) -> Result<String, AllocError> {
+    let names = strings(rt.alloc(), names)?;
+    let mut input = io::Cursor::new(b"input".as_slice());
+    let mut shown = String::new(rt.alloc());
+    if let Ok(read) = read_sources(&rt, &PROGRAM, &names, "<stdin>", &mut input) {
+        for source in &read.list {
+            shown.push_str(source.name.as_str())?;
+            shown.push_str(" has ")?;
+            shown.push_str(source.text.as_str())?;
+            shown.push_str("\n")?;
+        }
+        shown.push_str(read.faults.as_str())?;
+    }
+    Ok(shown)
+}
+
+/// Makes a folder with files, folders, a hidden folder and a link.
+fn make_folder(rt: HostRuntime) -> io::Result<()> {
+    fs::create_dir(&rt, "tree")?;
+    fs::create_dir(&rt, "tree/b")?;
+    fs::create_dir(&rt, "tree/.git")?;
+    fs::write(&rt, "tree/c.isle", "c")?;
+    fs::write(&rt, "tree/a.isle", "a")?;
+    fs::write(&rt, "tree/a.txt", "no")?;
+    fs::write(&rt, "tree/b/z.isle", "z")?;
+    fs::write(&rt, "tree/b/y.isle", b"\xff")?;
+    fs::write(&rt, "tree/.git/g.isle", "no")?;
+    symlink(&rt, "a.isle", "tree/l.isle")
+}
+
+/// What a folder, files and standard input give.
+fn read_all(rt: HostRuntime) -> Result<String, AllocError> {
+    let mut all = read(rt, &["tree"])?;
+    all.push_str(&read(rt, &["tree/a.txt", "none", "-", "tree/l.isle"])?)?;
+    all.push_str(&read(rt, &[])?)?;
+    Ok(all)
+}
+
+/// What is read of a folder that is made, and removed again.
+fn read_made(rt: HostRuntime) -> Option<String> {
+    make_folder(rt).ok()?;
+    let all = read_all(rt).ok();
+    let _ = fs::remove_dir_all(&rt, "tree");
+    all
+}
+
+#[test]
+fn folders_are_opened(rt: HostRuntime) {
+    let want = "tree/a.isle has a\ntree/b/z.isle has z\ntree/c.isle has c\n\
+        isle-test: tree/b/y.isle: unreadable or not UTF-8\n\
+        tree/a.txt has no\n<stdin> has input\ntree/l.isle has a\n\
+        isle-test: none: no such file or folder\n<stdin> has input\n";
+    assert!(rt; is_text(&read_made(rt), want));
+}
