@@ -23,7 +23,7 @@ use Rattle.isle_document.proofs.Spelt.{document_entries}
 
 -- Blanks.
 
-is_blank-10 : is_blank 10 ≡ true
+pub is_blank-10 : is_blank 10 ≡ true
 unfolding is_blank
 is_blank-10 = refl
 
@@ -31,7 +31,7 @@ is_blank-32 : is_blank 32 ≡ true
 unfolding is_blank
 is_blank-32 = refl
 
-spaces_blank : (n : ℕ) → list_all is_blank (replicate n 32) ≡ true
+pub spaces_blank : (n : ℕ) → list_all is_blank (replicate n 32) ≡ true
 spaces_blank zero = refl
 spaces_blank (suc n) = rw is_blank-32 (spaces_blank n)
 
@@ -39,7 +39,7 @@ ends_blank : (n : ℕ) → list_all is_blank (replicate n 10) ≡ true
 ends_blank zero = refl
 ends_blank (suc n) = rw is_blank-10 (ends_blank n)
 
-indentation_blank : (empty column : ℕ) → list_all is_blank (indentation empty column) ≡ true
+pub indentation_blank : (empty column : ℕ) → list_all is_blank (indentation empty column) ≡ true
 indentation_blank empty column =
     rw (list_all-append is_blank (replicate empty 10) (replicate column 32), ends_blank empty, spaces_blank column) refl
 
@@ -50,7 +50,7 @@ gap_blank (Below empty column) before kind h = rw is_blank-10 (indentation_blank
 
 -- The gap that blanks make.
 
-spaces_beside : (width n : ℕ) → gap_of (Beside width) (replicate n 32) ≡ Beside (width + n)
+pub spaces_beside : (width n : ℕ) → gap_of (Beside width) (replicate n 32) ≡ Beside (width + n)
 spaces_beside width zero = ap Beside (omega arith)
 spaces_beside width (suc n) = spaces_beside (suc width) n ∙ ap Beside (omega arith)
 
@@ -58,7 +58,7 @@ spaces_below : (empty column n : ℕ) → gap_of (Below empty column) (replicate
 spaces_below empty column zero = ap (Below empty) (omega arith)
 spaces_below empty column (suc n) = spaces_below empty (suc column) n ∙ ap (Below empty) (omega arith)
 
-indentation_gap : (empty n column : ℕ) → gap_of (Below empty 0) (indentation n column) ≡ Below (empty + n) column
+pub indentation_gap : (empty n column : ℕ) → gap_of (Below empty 0) (indentation n column) ≡ Below (empty + n) column
 indentation_gap empty zero column = spaces_below empty 0 column ∙ ap (λ k. Below k (0 + column)) (omega arith) ∙ ap (Below (empty + 0)) (omega arith)
 indentation_gap empty (suc n) column = indentation_gap (suc empty) n column ∙ ap (λ k. Below k column) (omega arith)
 
@@ -100,7 +100,7 @@ atom_head : (bs : List ℕ) → IsAtom bs → AtomHead bs
 atom_head [] w = absurd (let less = Spelling-shorter [] w.0 [] w.2 in omega arith)
 atom_head (b ∷ bs) w = head_of w.0 b bs w.1 w.2
 
-no_blank : (x : Lexeme) (after : List ℕ) → IsLexeme x → begins_with is_blank (spelling x ++ after) ≡ false
+pub no_blank : (x : Lexeme) (after : List ℕ) → IsLexeme x → begins_with is_blank (spelling x ++ after) ≡ false
 unfolding is_blank
 no_blank (atom bs) after s = let head = atom_head bs s in rw head.is head.no_blank
 no_blank opening after s = refl
@@ -109,8 +109,16 @@ no_blank at_sign after s = refl
 no_blank (line_comment bs) after s = refl
 no_blank (block_comment bs) after s = refl
 
+pub spelt_some : (x : Lexeme) (after : List ℕ) → IsLexeme x → spelling x ++ after ≡ [] → ⊥
+spelt_some (atom bs) after s e = let head = atom_head bs s in let some : head.first ∷ (head.further ++ after) ≡ [] = ap (λ xs. xs ++ after) (sym head.is) ∙ e in cc
+spelt_some opening after s e = cc
+spelt_some closing after s e = cc
+spelt_some at_sign after s e = cc
+spelt_some (line_comment bs) after s e = cc
+spelt_some (block_comment bs) after s e = cc
+
 -- what follows a lexeme ends it
-abbrev Stops : Kind → List ℕ → Type 0
+abbrev pub Stops : Kind → List ℕ → Type 0
 Stops Open text = opens (40 ∷ text) ≡ false
 Stops Atom text = begins_with in_symbol text ≡ false
 Stops LineComment text = begins_with in_line text ≡ false
@@ -156,7 +164,7 @@ gap_stops before (Beside (suc width)) x after s h = space_stops before (replicat
 gap_stops before (Tabbed width) x after s h = cc
 gap_stops before (Below empty column) x after s h = feed_stops before (indentation empty column ++ (spelling x ++ after))
 
-entries_stop : (before : Kind) (es : List Entry) → AreFit before es → Stops before (written_after es)
+pub entries_stop : (before : Kind) (es : List Entry) → AreFit before es → Stops before (written_after es)
 entries_stop before [] are = feed_stops before []
 entries_stop before (e ∷ es) are = gap_stops before e.gap e.lexeme (written_after es) are.0 are.1
 

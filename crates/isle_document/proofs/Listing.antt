@@ -9,6 +9,7 @@ use Rattle.isle_base.proofs.Utf8.{Skip-utf8}
 use Rattle.isle_document_layout.specs.declared.entries.Entry.{Entry as Written}
 use Rattle.isle_document_layout.specs.declared.entries.Gap.{Gap}
 use Rattle.isle_document_layout.specs.declared.entries.Gap.TheVariants.{Beside}
+use Rattle.isle_document.specs.declared.reader.Span.{Span}
 use Rattle.isle_document.specs.declared.reader.Step.TheVariants.{More}
 use Rattle.isle_document_layout.specs.Entries.{Lexeme, Entry}
 use Rattle.isle_document_layout.specs.EntriesView.{lexeme_of, entry_of}
@@ -53,12 +54,12 @@ none_refuses text from to gap after g within more never (e ∷ es) s =
     never e.lexeme s.2 (subst (λ xs. Spells e.lexeme xs s.2) same s.5)
 
 -- one entry more
-pub goes_on : (text : List ℕ) (gap : Gap) (from to : ℕ) (e : Written) → FindsEntry text gap from (More e to) → (es : List Entry) → SpellsEntries gap es (drop from text) → (fs : List Entry) × SpellsEntries (Beside 0) fs (drop to text)
-goes_on text gap from to e found [] s = absurd (only_blanks (lexeme_of e.lexeme) (drop from text) found.1.0 (drop found.0 text) (drop to text) s found.1.1 found.2.0)
-goes_on text gap from to e found (f ∷ fs) s =
-    let same : s.1 ≡ drop found.0 text = (Longest-unique s.3 found.1.1).1 in
-    let ends = (Spells-unique f.lexeme (lexeme_of e.lexeme) (drop found.0 text) s.2 (drop to text) (subst (λ xs. Spells f.lexeme xs s.2) same s.5) found.2.0).1 in
+pub goes_on : (text : List ℕ) (gap : Gap) (from : ℕ) (e : Written) (span : Span) → FindsEntry text gap from (More e span) → (es : List Entry) → SpellsEntries gap es (drop from text) → (fs : List Entry) × SpellsEntries (Beside 0) fs (drop span.end text)
+goes_on text gap from e span found [] s = absurd (only_blanks (lexeme_of e.lexeme) (drop from text) found.0.0 (drop span.start text) (drop span.end text) s found.0.1 found.1.0)
+goes_on text gap from e span found (f ∷ fs) s =
+    let same : s.1 ≡ drop span.start text = (Longest-unique s.3 found.0.1).1 in
+    let ends = (Spells-unique f.lexeme (lexeme_of e.lexeme) (drop span.start text) s.2 (drop span.end text) (subst (λ xs. Spells f.lexeme xs s.2) same s.5) found.1.0).1 in
     (fs, subst (λ xs. SpellsEntries (Beside 0) fs xs) ends s.6)
 
-pub one_more : (text : List ℕ) (gap : Gap) (from to : ℕ) (e : Written) → FindsEntry text gap from (More e to) → (es : List Entry) → SpellsEntries (Beside 0) es (drop to text) → SpellsEntries gap (entry_of e ∷ es) (drop from text)
-one_more text gap from to e found es s = (found.1.0, drop found.0 text, drop to text, found.1.1, found.1.2, found.2.0, s)
+pub one_more : (text : List ℕ) (gap : Gap) (from : ℕ) (e : Written) (span : Span) → FindsEntry text gap from (More e span) → (es : List Entry) → SpellsEntries (Beside 0) es (drop span.end text) → SpellsEntries gap (entry_of e ∷ es) (drop from text)
+one_more text gap from e span found es s = (found.0.0, drop span.start text, drop span.end text, found.0.1, found.0.2, found.1.0, s)

@@ -57,11 +57,11 @@ block_comment_moves bytes inner rest after e i =
     subst (λ xs. Inside (xs ++ after) after) same (body.moves after)
 
 -- what ends a symbol is no letter of a prefix, and no byte of a literal
-no_radix : (b : ℕ) → in_symbol b ≡ false → radix_of b ≡ None
+pub no_radix : (b : ℕ) → in_symbol b ≡ false → radix_of b ≡ None
 unfolding in_symbol is_blank radix_of
 no_radix b h = grind (arith, nat_tests)
 
-no_literal : (b : ℕ) → in_symbol b ≡ false → in_literal b ≡ false
+pub no_literal : (b : ℕ) → in_symbol b ≡ false → in_literal b ≡ false
 unfolding in_symbol is_blank in_literal
 no_literal b h = grind (arith, nat_tests)
 

@@ -1,7 +1,7 @@
 -- Documents with the same lexemes, but for the ends of line comments, have the same tokens.
-use Rattle.std.proofs.Common.{◌≡◌, ℕ, ◌-◌, List, [], ◌∷◌, ◌++◌, map, true, ◌||◌, length, refl, sym, ap, subst, ◌∙◌, append-nil}
-use Rattle.isle_base.specs.Lexing.{Lexes, lexes}
-use Rattle.isle_base.specs.Place.{nowhere, unknown, placed, placed_at}
+use Rattle.std.proofs.Common.{◌≡◌, ℕ, ◌-◌, List, [], ◌∷◌, ◌++◌, map, true, ◌||◌, length, refl, sym, ap, subst, append-nil}
+use Rattle.isle_base.specs.Lexing.{Lexes}
+use Rattle.isle_base.specs.Place.{nowhere, placed, placed_at}
 use Rattle.isle_base.specs.Skips.{Skip, nothing, line_comment as line_skip, block_comment as block_skip}
 use Rattle.isle_base.specs.Spellings.{Spelling}
 use Rattle.isle_base.specs.Token.{Tok, lparen, rparen, at_sign as at_token, is_int, is_symbol, Lexeme as Token, end}
@@ -11,11 +11,10 @@ use Rattle.isle_document.specs.Tokens.{HaveSameTokens}
 use Rattle.isle_document.proofs.Atoms.{Spelling-unique}
 use Rattle.isle_document.proofs.Existing.{blanks_skip, lexes_after}
 use Rattle.isle_document.proofs.Keeps.{placed_keeps}
-use Rattle.isle_document.proofs.Kept.{lexemes_stay}
+use Rattle.isle_document.proofs.Again.{lexemes_stay}
 use Rattle.isle_document.proofs.Moved.{atom_moves}
 use Rattle.isle_document_layout.specs.Entries.{Lexeme, opening, closing, at_sign, atom, line_comment, block_comment, Entry}
 use Rattle.isle_document_layout.specs.Placing.{tidied, placed as placed_entries}
-use Rattle.isle_document_layout.specs.Writing.{written}
 use Rattle.isle_document_layout.specs.declared.entries.Gap.{Gap}
 use Rattle.isle_document_layout.specs.declared.entries.Gap.TheVariants.{Beside, Below}
 

@@ -1,10 +1,13 @@
 -- What the private calls of the reader find in a text from an offset on.
-use Rattle.std.specs.Prelude.{◌≡◌, ◌<◌, ◌≤◌, ℕ, List, Option, Some, None, drop, length, IsUtf8}
+use Rattle.std.specs.Prelude.{◌≡◌, ◌<◌, ◌≤◌, ◌-◌, ℕ, List, Option, Some, None, drop, take, length, IsUtf8}
 use Rattle.std.specs.Prelude.{true}
 use Rattle.std.specs.List.{list_all}
 use Rattle.isle_base.specs.Skips.{Longest, is_blank}
 use Rattle.isle_document_layout.specs.declared.entries.Gap.{Gap}
 use Rattle.isle_document_layout.specs.declared.entries.Lexeme.{Lexeme as Text}
+use Rattle.isle_document_layout.specs.declared.entries.Gap.TheVariants.{Beside}
+use Rattle.isle_document_layout.specs.Writing.{gap_text}
+use Rattle.isle_document.specs.declared.reader.Blanks.{Blanks}
 use Rattle.isle_document.specs.declared.reader.Step.{Step}
 use Rattle.isle_document.specs.declared.reader.Step.TheVariants.{More, End, Refused}
 use Rattle.isle_document_layout.specs.Entries.{Lexeme, Entry}
@@ -30,10 +33,26 @@ FindsGap text before from gap to =
     (blanks : List ℕ) × Longest is_blank (drop from text) blanks (drop to text) × (gap ≡ gap_of before blanks) × (from ≤ to)
     × (to ≤ length text)
 
--- what stands behind the blanks at an offset: an entry, and the offset behind it, or only the end of the
--- text, or nothing that a document can have
+-- the bytes of a text between two offsets
+abbrev pub part : List ℕ → (from to : ℕ) → List ℕ
+part text from to = take (to - from) (drop from text)
+
+-- the bytes between two offsets are what is written of the gap
+abbrev pub AreClean : List ℕ → (from to : ℕ) → Gap → Type 0
+AreClean text from to gap = part text from to ≡ gap_text gap
+
+-- the blanks at an offset, all that there are, which may be known to be what is written of their gap
+abbrev pub FindsBlanks : List ℕ → Gap → ℕ → Blanks → Type 0
+FindsBlanks text before from b = FindsGap text before from b.gap b.end × (b.are_clean ≡ true → AreClean text from b.end b.gap)
+
+-- these blanks are what is written of a gap, behind an entry
+abbrev pub FindsCleanBlanks : List ℕ → ℕ → Blanks → Type 0
+FindsCleanBlanks text from b = FindsGap text (Beside 0) from b.gap b.end × AreClean text from b.end b.gap
+
+-- what stands behind the blanks at an offset: an entry, or only the end of the text, or nothing that a
+-- document can have
 abbrev pub FindsEntry : List ℕ → Gap → ℕ → Step → Type 0
-FindsEntry text gap from (More e to) =
-    (start : ℕ) × FindsGap text gap from e.gap start × Stands text (lexeme_of e.lexeme) start to
+FindsEntry text gap from (More e s) =
+    FindsGap text gap from e.gap s.start × Stands text (lexeme_of e.lexeme) s.start s.end × (s.is_clean ≡ true → AreClean text from s.start e.gap)
 FindsEntry text gap from End = list_all is_blank (drop from text) ≡ true
 FindsEntry text gap from Refused = (entries : List Entry) → SpellsEntries gap entries (drop from text) → ⊥

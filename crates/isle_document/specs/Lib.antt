@@ -1,7 +1,9 @@
 pub mod Finds
 pub mod Fitting
 pub mod Grammar
+pub mod Keeping
 pub mod Matched
+pub mod Outside
 pub mod Parentheses
 pub mod Refused
 pub mod Sizes

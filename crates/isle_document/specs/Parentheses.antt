@@ -1,5 +1,5 @@
 -- The parentheses of the tokens that are read so far.
-use Rattle.std.specs.Prelude.{◌≡◌, ◌≤◌, ℕ, suc, List, [], ◌∷◌, ◌++◌, map, length, true, false}
+use Rattle.std.specs.Prelude.{◌≡◌, ℕ, suc, List, [], ◌∷◌, ◌++◌, map, true}
 use Rattle.isle_base.specs.Lexing.{lexes}
 use Rattle.isle_base.specs.Steps.{is_at_end}
 use Rattle.isle_base.specs.Token.{Tok, lparen, rparen, Lexeme, Ending, end, Feed}

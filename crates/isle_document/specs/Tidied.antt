@@ -1,5 +1,5 @@
 -- The tidy text of a text, and what it keeps.
-use Rattle.std.specs.Prelude.{◌≡◌, ℕ, List, [], ◌∷◌, map, Option, Some, None}
+use Rattle.std.specs.Prelude.{◌≡◌, ◌≢◌, ℕ, List, [], ◌∷◌, map, Option, Some, None}
 use Rattle.isle_document_layout.specs.Entries.{Entry}
 use Rattle.isle_document_layout.specs.declared.entries.Gap.{Gap}
 use Rattle.isle_document_layout.specs.declared.entries.Gap.TheVariants.{Beside, Tabbed, Below}
@@ -12,6 +12,10 @@ pub record IsTidyTextOf (text answer : List ℕ) : Type 0 where
   pub document : List Entry
   pub is_document : IsDocument text document
   pub is_written : answer ≡ written (placed document)
+
+-- the tidy text of the text is another one
+abbrev pub IsUntidy : List ℕ → Type 0
+IsUntidy text = (answer : List ℕ) × IsTidyTextOf text answer × (answer ≢ text)
 
 -- the empty lines before an entry that begins a line
 abbrev pub empty_before : Gap → Option ℕ

@@ -6,6 +6,7 @@ ghost use Rattle.isle_base.specs.Token.{Lexeme, end};
 ghost use Rattle.isle_document_layout.specs.Entries.{Entry};
 ghost use Rattle.isle_document.specs.Grammar.{IsDocument, lexemes};
 ghost use Rattle.isle_document.specs.Matched.{tokens_match};
+ghost use Rattle.isle_document.specs.Outside.{Outside, ends_clean, has_few_lines};
 ghost use Rattle.isle_document_layout.specs.Placing.{placed, tidied};
 ghost use Rattle.isle_document.specs.Tidied.{IsTidyTextOf, breaks, capped_breaks};
 ghost use Rattle.isle_document.specs.Tokens.{HaveSameTokens};
@@ -51,4 +52,16 @@ pub fn matched_texts_have_documents()
         → tokens_match tokens ≡ true → (document : List Entry) × IsDocument text document }
     ensures only { (text : List ℕ) (document : List Entry) → IsDocument text document
         → (tokens : List Lexeme) × lexes text tokens end × (tokens_match tokens ≡ true) }
+{}
+
+/// A law, which runs no code: no line of a tidy text ends with a space or a tab, but in block
+/// comments.
+pub fn no_line_ends_with_a_blank()
+    ensures { (text answer : List ℕ) → IsTidyTextOf text answer → Outside ends_clean answer }
+{}
+
+/// A law, which runs no code: no more than two empty lines stand in a row in a tidy text, but in
+/// block comments.
+pub fn no_three_lines_are_empty()
+    ensures { (text answer : List ℕ) → IsTidyTextOf text answer → Outside has_few_lines answer }
 {}

@@ -14,7 +14,7 @@ use isle_base::lexer::{line_comment_end, symbol_end};
 use isle_document_layout::entries::Lexeme;
 
 /// Gives the part of a text between two offsets.
-fn part<'src>(text: &'src str, from: usize, to: usize) -> &'src str
+pub(crate) fn part<'src>(text: &'src str, from: usize, to: usize) -> &'src str
     requires order { from ≤ to }
     requires within { to ≤ length text.now }
     requires first { IsUtf8 (drop from text.now) }

@@ -1,9 +1,9 @@
 //! The next entry of a text.
 
-ghost use Rattle.std.specs.Prelude.{◌≡◌, ◌+◌, ◌<◌, ◌≤◌, ◌^◌, IsUtf8, drop, length};
+ghost use Rattle.std.specs.Prelude.{◌≡◌, ◌==◌, ◌+◌, ◌<◌, ◌≤◌, ◌^◌, IfSome, IsUtf8, drop, length};
 ghost use Rattle.std.specs.List.{prefix_len};
 ghost use Rattle.isle_base.specs.Skips.{is_blank};
-ghost use Rattle.isle_document.specs.Finds.{FindsEntry, FindsGap};
+ghost use Rattle.isle_document.specs.Finds.{FindsBlanks, FindsCleanBlanks, FindsEntry};
 ghost use Rattle.isle_document.specs.Sizes.{size_of};
 
 use crate::gaps::gap_of;
@@ -11,15 +11,76 @@ use crate::lexemes::lexeme_at;
 use isle_base::lexer::blank_end;
 use isle_document_layout::entries::{Entry, Gap};
 
-/// What follows blanks.
+/// Blanks: the gap that they make, the offset after them, and whether they are known to be what is
+/// written of that gap.
+#[derive(Clone, Copy, Debug)]
+pub struct Blanks {
+    /// The gap.
+    pub gap: Gap,
+    /// The offset after them.
+    pub end: usize,
+    /// Whether they are known to be what is written of the gap.
+    pub are_clean: bool,
+}
+
+/// Where an entry stands.
+#[derive(Clone, Copy, Debug)]
+pub struct Span {
+    /// The offset of its lexeme.
+    pub start: usize,
+    /// The offset after it.
+    pub end: usize,
+    /// Whether the blanks before it are known to be what is written of its gap.
+    pub is_clean: bool,
+}
+
+/// What follows an offset.
 #[derive(Drop)]
 pub enum Step<'src> {
-    /// An entry, and the offset after it.
-    More(Entry<'src>, usize),
+    /// An entry, and where it stands.
+    More(Entry<'src>, Span),
     /// The end of the text.
     End,
     /// Nothing that a document can have.
     Refused,
+}
+
+/// Finds the first byte from an offset on that is another than this one.
+#[inline(always)]
+fn run_end(bytes: &[u8], from: usize, byte: u8) -> usize
+    requires { from ≤ length bytes.now }
+    ensures end { result ≡ from + prefix_len (λ b. b == byte) (drop from bytes.now) }
+    ensures within { result ≤ length bytes.now }
+{
+    let mut at = from;
+    while at < bytes.len() && bytes[at] == byte {
+        at += 1;
+    }
+    at
+}
+
+/// Gives the blanks at an offset, if they are what is written of a gap: the ends of lines, and then
+/// spaces.
+#[inline(always)]
+fn clean_blanks_at(bytes: &[u8], from: usize) -> Option<Blanks>
+    requires { from ≤ length bytes.now }
+    ensures { IfSome result (FindsCleanBlanks bytes.now from) }
+{
+    let line = run_end(bytes, from, b'\n');
+    let end = run_end(bytes, line, b' ');
+    if end < bytes.len() && bytes[end] <= b' ' {
+        return None;
+    }
+    let gap = if line == from {
+        Gap::Beside(end - line)
+    } else {
+        Gap::Below(line - from - 1, end - line)
+    };
+    Some(Blanks {
+        gap,
+        end,
+        are_clean: true,
+    })
 }
 
 /// Finds the first byte from an offset on that is no blank, or the end of the text.
@@ -31,30 +92,60 @@ fn blanks_end(bytes: &[u8], from: usize) -> usize
     blank_end(bytes, from)
 }
 
-/// Gives the gap that the blanks at an offset make after this one, and the offset after them.
-fn gap_at(bytes: &[u8], gap: Gap, from: usize) -> (Gap, usize)
+/// Gives the blanks at an offset, after a gap.
+#[inline(never)]
+fn any_blanks_at(bytes: &[u8], gap: Gap, from: usize) -> Blanks
     requires within { from ≤ length bytes.now }
     requires short { length bytes.now + 1 < 2 ^ 64 }
     requires none { size_of gap ≡ 0 }
-    ensures { FindsGap bytes.now gap from result.0 result.1 }
+    ensures { FindsBlanks bytes.now gap from result }
 {
-    let start = blanks_end(bytes, from);
-    (gap_of(gap, &bytes[from..start]), start)
+    let end = blanks_end(bytes, from);
+    Blanks {
+        gap: gap_of(gap, &bytes[from..end]),
+        end,
+        are_clean: false,
+    }
 }
 
-/// Reads what follows the blanks at an offset, before which there is this gap.
+/// Gives the blanks at an offset, after a gap.
+#[inline(always)]
+fn blanks_at(bytes: &[u8], gap: Gap, from: usize) -> Blanks
+    requires within { from ≤ length bytes.now }
+    requires short { length bytes.now + 1 < 2 ^ 64 }
+    requires none { size_of gap ≡ 0 }
+    ensures { FindsBlanks bytes.now gap from result }
+{
+    if let Gap::Beside(_) = gap {
+        if let Some(blanks) = clean_blanks_at(bytes, from) {
+            return blanks;
+        }
+    }
+    any_blanks_at(bytes, gap, from)
+}
+
+/// Reads what follows an offset, before which there is this gap.
+#[inline(always)]
 pub fn step_at<'src>(text: &'src str, gap: Gap, from: usize) -> Step<'src>
     requires within { from ≤ length text.now }
     requires first { IsUtf8 (drop from text.now) }
     requires none { size_of gap ≡ 0 }
     ensures { FindsEntry text.now gap from result }
 {
-    let (gap, start) = gap_at(text.as_bytes(), gap, from);
-    if start == text.len() {
+    let blanks = blanks_at(text.as_bytes(), gap, from);
+    if blanks.end == text.len() {
         return Step::End;
     }
-    match lexeme_at(text, start) {
-        Some((lexeme, end)) => Step::More(Entry { gap, lexeme }, end),
+    match lexeme_at(text, blanks.end) {
+        Some((lexeme, end)) => {
+            let gap = blanks.gap;
+            let span = Span {
+                start: blanks.end,
+                end,
+                is_clean: blanks.are_clean,
+            };
+            Step::More(Entry { gap, lexeme }, span)
+        }
         None => Step::Refused,
     }
 }

@@ -8,9 +8,9 @@ ghost use Rattle.isle_document.specs.Refused.{HasNoDocument, IsRefusedFor, IsWit
 ghost use Rattle.isle_document.specs.Streams.{HasWritten, PutsLast, PutsMore};
 
 use crate::closings::closings_after;
+use crate::kept::{Kept, is_simple_at, put_end, put_entry};
 use crate::parentheses::check_parentheses;
 use crate::reader::{Step, step_at};
-use crate::writing::{put_end, put_entry};
 use isle_base::lexer::Fault;
 use isle_document_layout::entries::Gap;
 use isle_document_layout::placer::Placer;
@@ -24,6 +24,9 @@ pub struct Tidying<'src> {
     text: &'src str,
     /// The offset of what is next.
     at: usize,
+    /// The offset of what is kept: the bytes from there on, up to what is next, are in the tidy text
+    /// as they are, and aren't appended yet.
+    kept: usize,
     /// The gap before that offset: none, or the start of the text.
     gap: Gap,
     placer: Placer,
@@ -41,6 +44,7 @@ impl<'src> Tidying<'src> {
             Ok(()) => Ok(Tidying {
                 text,
                 at: 0,
+                kept: 0,
                 gap: Gap::Below(0, 0),
                 placer: Placer::new(alloc),
             }),
@@ -48,8 +52,9 @@ impl<'src> Tidying<'src> {
         }
     }
 
-    /// Appends the next entry of the tidy text, and tells whether more is to come. After the last
-    /// entry it appends the end of the text.
+    /// Goes past the next entry, and tells whether more is to come. It appends what is before the
+    /// entry in the tidy text, and the entry itself where many bytes are to be appended. After the
+    /// last entry it appends the rest of the text.
     ///
     /// It isn't called again after that, nor after an error, which comes where a growth was
     /// refused.
@@ -62,20 +67,48 @@ impl<'src> Tidying<'src> {
             → PutsLast self.old (string_bytes out.old) (string_bytes out.new) }
     {
         match step_at(self.text, self.gap, self.at) {
-            Step::More(entry, end) => {
+            Step::More(entry, span) => {
                 let before = self.placer.before;
-                let closings = closings_after(self.text, &entry, end);
-                let placed = self.placer.place(entry.gap, &entry.lexeme, closings)?;
-                put_entry(out, before, placed, &entry.lexeme)?;
+                let closings = closings_after(self.text, &entry, span.end);
+                let is_simple = is_simple_at(self.text, &entry.lexeme, span);
+                let (gap, lexeme) = (entry.gap, &entry.lexeme);
+                let placed = self.placer.place(gap, lexeme, closings, is_simple)?;
+                let kept = Kept {
+                    from: self.kept,
+                    to: self.at,
+                };
+                self.kept = put_entry(out, self.text, kept, &entry, span, before, placed)?;
                 self.gap = Gap::Beside(0);
-                self.at = end;
+                self.at = span.end;
                 Ok(true)
             }
             Step::End => {
-                put_end(out, self.placer.before)?;
+                let kept = Kept {
+                    from: self.kept,
+                    to: self.at,
+                };
+                put_end(out, self.text, kept, self.placer.before)?;
                 Ok(false)
             }
             Step::Refused => unreachable!(),
         }
+    }
+
+    /// Goes past entries until this many bytes are in the text, and tells whether more is to come.
+    /// What it asks and appends is as of `put_next`.
+    pub fn put_some(&mut self, out: &mut String, len: usize) -> Result<bool, AllocError>
+        requires { (text before : List ℕ) × HasWritten text before self.old }
+        ensures more { result ≡ Ok true
+            → PutsMore self.old self.new (string_bytes out.old) (string_bytes out.new) }
+        ensures moves { result ≡ Ok true → self.old.at < self.new.at }
+        ensures last { result ≡ Ok false
+            → PutsLast self.old (string_bytes out.old) (string_bytes out.new) }
+    {
+        while self.put_next(out)? {
+            if out.len() >= len {
+                return Ok(true);
+            }
+        }
+        Ok(false)
     }
 }

@@ -2,7 +2,7 @@
 
 ghost use Rattle.std.specs.Prelude.{◌≡◌, ◌++◌, [], OnOk, replicate, string_bytes};
 ghost use Rattle.isle_base.specs.Bytes.{line_feed, space};
-ghost use Rattle.isle_document.specs.Streams.{entry_text, text_from};
+ghost use Rattle.isle_document.specs.Streams.{gap_text_from, text_from};
 ghost use Rattle.isle_document_layout.specs.EntriesView.{lexeme_of};
 ghost use Rattle.isle_document_layout.specs.Placing.{tidied};
 ghost use Rattle.isle_document_layout.specs.Writing.{gap_text, indentation, spelling, start_text};
@@ -71,7 +71,7 @@ fn put_start(out: &mut String, gap: Gap) -> Result<(), AllocError>
 }
 
 /// Puts a lexeme, a line comment without the spaces and tabs at its end.
-fn put_lexeme(out: &mut String, lexeme: &Lexeme) -> Result<(), AllocError>
+pub(crate) fn put_lexeme(out: &mut String, lexeme: &Lexeme) -> Result<(), AllocError>
     ensures { OnOk result (string_bytes out.new
         ≡ string_bytes out.old ++ spelling (tidied (lexeme_of lexeme.now))) }
 {
@@ -91,25 +91,19 @@ fn put_lexeme(out: &mut String, lexeme: &Lexeme) -> Result<(), AllocError>
     }
 }
 
-/// Puts an entry after one of this kind.
-pub(crate) fn put_entry(
-    out: &mut String,
-    before: Kind,
-    gap: Gap,
-    lexeme: &Lexeme,
-) -> Result<(), AllocError>
+/// Puts a gap after an entry of this kind.
+pub(crate) fn put_gap_after(out: &mut String, before: Kind, gap: Gap) -> Result<(), AllocError>
     ensures { OnOk result (string_bytes out.new
-        ≡ string_bytes out.old ++ entry_text before gap (tidied (lexeme_of lexeme.now))) }
+        ≡ string_bytes out.old ++ gap_text_from before gap) }
 {
     match before {
-        Kind::Start => put_start(out, gap)?,
-        _ => put_gap(out, gap)?,
+        Kind::Start => put_start(out, gap),
+        _ => put_gap(out, gap),
     }
-    put_lexeme(out, lexeme)
 }
 
-/// Puts the end of a text, after an entry of this kind.
-pub(crate) fn put_end(out: &mut String, before: Kind) -> Result<(), AllocError>
+/// Puts the last line end of a text, after an entry of this kind.
+pub(crate) fn put_final(out: &mut String, before: Kind) -> Result<(), AllocError>
     ensures { OnOk result (string_bytes out.new ≡ string_bytes out.old ++ text_from before []) }
 {
     match before {

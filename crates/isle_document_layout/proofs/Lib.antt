@@ -1,4 +1,5 @@
 pub mod Again
 pub mod Prints
+pub mod Simple
 pub mod Stacks
 pub mod Trims

@@ -1,7 +1,8 @@
 //! Placing the entries of a document, one after another.
 
 ghost use Rattle.std.specs.Prelude.{◌≡◌, ◌+◌, ◌<◌, ◌≤◌, ◌^◌, ◌∷◌, ◌++◌, ℕ, List, [], IfOk, Some};
-ghost use Rattle.std.specs.Prelude.{length, suc};
+ghost use Rattle.std.specs.Prelude.{length, suc, true};
+ghost use Rattle.isle_document_layout.specs.Columns.{IsSimple};
 ghost use Rattle.isle_document_layout.specs.Entries.{Entry as EntryNode};
 ghost use Rattle.isle_document_layout.specs.EntriesView.{lexeme_of};
 ghost use Rattle.isle_document_layout.specs.Placing.{Here, OpenList, at_most_two as two_at_most};
@@ -159,9 +160,10 @@ fn is_body_head(text: &str) -> bool
     text == "let" || text == "type" || text == "spec" || text == "switch" || text == "instantiate"
 }
 
-/// Gives the columns after a lexeme that begins at these.
-fn after(at: Columns, lexeme: &Lexeme) -> Result<Columns, AllocError>
-    requires { IsSmall at }
+/// Gives the columns after a lexeme that begins at these, and whose bytes may be known to be simple.
+fn after(at: Columns, lexeme: &Lexeme, is_simple: bool) -> Result<Columns, AllocError>
+    requires small { IsSmall at }
+    requires simple { is_simple ≡ true → IsSimple (lexeme_of lexeme.now) }
     ensures { IfOk result (λ r. IsSmall r × (r ≡ record {
       source = column_after_of at.source (spelling (lexeme_of lexeme.now));
       result = column_after_of at.result (spelling (tidied (lexeme_of lexeme.now)));
@@ -171,6 +173,9 @@ fn after(at: Columns, lexeme: &Lexeme) -> Result<Columns, AllocError>
         Lexeme::Opening | Lexeme::Closing | Lexeme::At => moved(at, 1, 1),
         Lexeme::Atom(text) => {
             let bytes = text.as_bytes();
+            if is_simple {
+                return moved(at, bytes.len(), bytes.len());
+            }
             small(
                 column_after(at.source, bytes),
                 column_after(at.result, bytes),
@@ -178,6 +183,9 @@ fn after(at: Columns, lexeme: &Lexeme) -> Result<Columns, AllocError>
         }
         Lexeme::LineComment(text) => {
             let kept = trimmed(text);
+            if is_simple {
+                return moved(at, text.len() + 1, kept.len() + 1);
+            }
             small(
                 column_after(at.source + 1, text.as_bytes()),
                 column_after(at.result + 1, kept.as_bytes()),
@@ -262,8 +270,9 @@ impl Placer {
     }
 
     /// Goes past the lexeme here.
-    fn pass(&mut self, lexeme: &Lexeme) -> Result<(), AllocError>
-        requires { (here : Here) × IsAt self.old here }
+    fn pass(&mut self, lexeme: &Lexeme, is_simple: bool) -> Result<(), AllocError>
+        requires here { (here : Here) × IsAt self.old here }
+        requires simple { is_simple ≡ true → IsSimple (lexeme_of lexeme.now) }
         ensures { (here : Here) → IsAt self.old here
             → IfOk result (λ _. IsAt self.new (passed here (lexeme_of lexeme.now))) }
     {
@@ -296,17 +305,24 @@ impl Placer {
                 )?;
             }
         }
-        self.end = after(self.end, lexeme)?;
+        self.end = after(self.end, lexeme, is_simple)?;
         self.before = Kind::of(lexeme);
         Ok(())
     }
 
     /// Places the next entry, after which so many `)` follow on the line, and gives its gap in the
-    /// result.
+    /// result. Its bytes may be known to be simple.
     ///
     /// Memory is refused where the lists need more, and where a line is longer than can be counted.
-    pub fn place(&mut self, gap: Gap, lexeme: &Lexeme, closings: usize) -> Result<Gap, AllocError>
-        requires { (here : Here) × IsAt self.old here }
+    pub fn place(
+        &mut self,
+        gap: Gap,
+        lexeme: &Lexeme,
+        closings: usize,
+        is_simple: bool,
+    ) -> Result<Gap, AllocError>
+        requires here { (here : Here) × IsAt self.old here }
+        requires simple { is_simple ≡ true → IsSimple (lexeme_of lexeme.now) }
         ensures { (here : Here) → IsAt self.old here → IfOk result (λ placed.
             let kind = kind_of (lexeme_of lexeme.now) in
             (placed ≡ placed_gap here gap kind closings)
@@ -315,7 +331,7 @@ impl Placer {
         let kind = Kind::of(lexeme);
         let placed = self.gap(gap, kind, closings);
         self.reach(kind, gap, placed)?;
-        self.pass(lexeme)?;
+        self.pass(lexeme, is_simple)?;
         Ok(placed)
     }
 }

@@ -1,4 +1,4 @@
-use Rattle.isle_document.proofs.Kept.{lexemes_stay, breaks_stay}
+use Rattle.isle_document.proofs.Again.{lexemes_stay, breaks_stay}
 use Rattle.isle_document.proofs.laws.lexemes_and_lines_stay.Goals as goal
 
 pub returns-clause-same_lexemes : goal.returns-clause-same_lexemes

@@ -5,10 +5,10 @@ use Rattle.isle_document.proofs.reader.step_at.Goals as goal
 
 pub lexeme_at-requires-clause-first : goal.lexeme_at-requires-clause-first
 lexeme_at-requires-clause-first c =
-    let gap = subst (λ xs. FindsGap xs c.args.gap c.args.from c.gap_at-gap.result.0 c.gap_at-gap.result.1) c.as_bytes.ensures.value c.gap_at-gap.ensures in
-    gap_utf8 c.args.text.now c.args.from c.gap_at-gap.result.1 c.args.gap c.gap_at-gap.result.0 gap c.requires.first
+    let gap = subst (λ xs. FindsGap xs c.args.gap c.args.from c.blanks_at-blanks.result.gap c.blanks_at-blanks.result.end) c.as_bytes.ensures.value c.blanks_at-blanks.ensures.0 in
+    gap_utf8 c.args.text.now c.args.from c.blanks_at-blanks.result.end c.args.gap c.blanks_at-blanks.result.gap gap c.requires.first
 
 pub returns-in-None : goal.returns-in-None
 returns-in-None c =
-    let gap = subst (λ xs. FindsGap xs c.args.gap c.args.from c.gap_at-gap.result.0 c.gap_at-gap.result.1) c.as_bytes.ensures.value c.gap_at-gap.ensures in
-    none_refuses c.args.text.now c.args.from c.gap_at-gap.result.1 c.args.gap c.gap_at-gap.result.0 gap gap.4 c.if-start-text.false c.in-None.ensures
+    let gap = subst (λ xs. FindsGap xs c.args.gap c.args.from c.blanks_at-blanks.result.gap c.blanks_at-blanks.result.end) c.as_bytes.ensures.value c.blanks_at-blanks.ensures.0 in
+    none_refuses c.args.text.now c.args.from c.blanks_at-blanks.result.end c.args.gap c.blanks_at-blanks.result.gap gap gap.4 c.if-blanks-text.false c.in-None.ensures

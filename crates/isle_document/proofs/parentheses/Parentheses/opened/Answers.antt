@@ -1,4 +1,3 @@
-use Rattle.std.proofs.Common.{arith}
 use Rattle.isle_document.proofs.Matching.{inner_opened}
 use Rattle.isle_document.proofs.parentheses.Parentheses.opened.Goals as goal
 
