@@ -130,8 +130,9 @@ pub fn print_node<N: ToSExpr>(alloc: Global, node: &N, width: usize) -> Result<S
     ensures lines { IfOk result
         (λ text. IfSome (N.meaning node.now) (λ s. HasFewestLines width s (string_bytes text))) }
 
-    // When `MacroArg` comes.
+    // When `MacroArg` comes, and when no other fault does.
     ensures refused { IsErrOf result MacroArg → N.meaning node.now ≡ None }
+    ensures memory { IsErrOf result Memory → IsSome (N.meaning node.now) }
 {
     let sexpr = node.to_sexpr(alloc)?;
     let mut tape = Tape::new(alloc)?;

@@ -1,6 +1,6 @@
 //! The S-expressions of definitions.
 
-ghost use Rattle.std.specs.Prelude.{IfOk, IsErrOf, None, OnOk, Some, [], false, true, ◌∷◌, ◌≡◌};
+ghost use Rattle.std.specs.Prelude.{IfOk, IsErrOf, IsSome, None, OnOk, Some, [], false, true, ◌∷◌, ◌≡◌};
 ghost use Rattle.isle_ast.specs.MacroArgs.{definition_has_macro_arg};
 ghost use Rattle.isle_ast.specs.TreeView.{definition_of};
 ghost use Rattle.isle_printer.specs.DefinitionShapes.{definition_shape};
@@ -29,7 +29,10 @@ impl ToSExpr for Def {
             (definition_has_macro_arg (definition_of self.now))
             (definition_shape (definition_of self.now))
             ≡ None }
-        ensures memory { IsErrOf result Memory
+        ensures memory { IsErrOf result Memory → IsSome (unless
+            (definition_has_macro_arg (definition_of self.now))
+            (definition_shape (definition_of self.now))) }
+        ensures plain { IsErrOf result Memory
             → definition_has_macro_arg (definition_of self.now) ≡ false }
     {
         Ok(sexpr_of(pieces_of(alloc, self)?, alloc)?)

@@ -12,8 +12,8 @@ ghost use Rattle.isle_printer.specs.ReadBack.{HaveSameTokens, ReadsBack, ReadsBa
 ghost use Rattle.isle_printer_layout.specs.ShortLines.{HasShortLines};
 
 pub use isle_printer_layout::laws::{
-    least_choice_is_one, narrower_breaks_more, rendered_text_lexes, rules_give_least_choice,
-    s_expressions_are_compared,
+    least_choice_is_one, narrower_breaks_more, past_the_greatest_fits_nowhere, rendered_text_lexes,
+    rules_give_least_choice, s_expressions_are_compared,
 };
 
 /// The print of spelt definitions, at any width, is spelt by the same definitions, erased. The

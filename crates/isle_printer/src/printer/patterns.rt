@@ -1,6 +1,6 @@
 //! The S-expressions of patterns.
 
-ghost use Rattle.std.specs.Prelude.{IfOk, IsErrOf, None, Some, false, ◌≡◌};
+ghost use Rattle.std.specs.Prelude.{IfOk, IsErrOf, IsSome, None, Some, false, ◌≡◌};
 ghost use Rattle.isle_ast_rules.specs.MacroArgs.{has_macro_arg};
 ghost use Rattle.isle_ast_rules.specs.TreeView.{pattern_of};
 ghost use Rattle.isle_printer_layout.specs.Sexp.{unless};
@@ -26,7 +26,10 @@ impl ToSExpr for Pattern {
             (has_macro_arg (pattern_of self.now))
             (pattern_shape (pattern_of self.now))
             ≡ None }
-        ensures memory { IsErrOf result Memory
+        ensures memory { IsErrOf result Memory → IsSome (unless
+            (has_macro_arg (pattern_of self.now))
+            (pattern_shape (pattern_of self.now))) }
+        ensures plain { IsErrOf result Memory
             → has_macro_arg (pattern_of self.now) ≡ false }
     {
         if self.has_macro_arg() {

@@ -1,6 +1,6 @@
 //! The S-expressions of rules, their conditions, and extractors.
 
-ghost use Rattle.std.specs.Prelude.{IfOk, IsErrOf, None, Some, false, ◌≡◌};
+ghost use Rattle.std.specs.Prelude.{IfOk, IsErrOf, IsSome, None, Some, false, ◌≡◌};
 ghost use Rattle.isle_ast_rules.specs.MacroArgs.{condition_has_macro_arg, extractor_has_macro_arg};
 ghost use Rattle.isle_ast_rules.specs.MacroArgs.{rule_has_macro_arg};
 ghost use Rattle.isle_ast_rules.specs.TreeView.{condition_of, extractor_of, rule_of};
@@ -28,7 +28,10 @@ impl ToSExpr for IfLet {
             (condition_has_macro_arg (condition_of self.now))
             (condition_shape (condition_of self.now))
             ≡ None }
-        ensures memory { IsErrOf result Memory
+        ensures memory { IsErrOf result Memory → IsSome (unless
+            (condition_has_macro_arg (condition_of self.now))
+            (condition_shape (condition_of self.now))) }
+        ensures plain { IsErrOf result Memory
             → condition_has_macro_arg (condition_of self.now) ≡ false }
     {
         if self.has_macro_arg() {
@@ -52,7 +55,10 @@ impl ToSExpr for Rule {
             (rule_has_macro_arg (rule_of self.now))
             (rule_shape (rule_of self.now))
             ≡ None }
-        ensures memory { IsErrOf result Memory
+        ensures memory { IsErrOf result Memory → IsSome (unless
+            (rule_has_macro_arg (rule_of self.now))
+            (rule_shape (rule_of self.now))) }
+        ensures plain { IsErrOf result Memory
             → rule_has_macro_arg (rule_of self.now) ≡ false }
     {
         if self.has_macro_arg() {
@@ -77,7 +83,10 @@ impl ToSExpr for Extractor {
             (extractor_has_macro_arg (extractor_of self.now))
             (extractor_shape (extractor_of self.now))
             ≡ None }
-        ensures memory { IsErrOf result Memory
+        ensures memory { IsErrOf result Memory → IsSome (unless
+            (extractor_has_macro_arg (extractor_of self.now))
+            (extractor_shape (extractor_of self.now))) }
+        ensures plain { IsErrOf result Memory
             → extractor_has_macro_arg (extractor_of self.now) ≡ false }
     {
         if self.has_macro_arg() {
