@@ -1,12 +1,8 @@
 -- Whether a text is tidy, and why it can't be tidied.
-use Rattle.std.specs.Prelude.{◌≡◌, ◌≢◌, ℕ, List, Bool, true, false, length}
+use Rattle.std.specs.Prelude.{ℕ, List, Bool, true, false, length}
 use Rattle.isle_base_source.specs.declared.error.Error.{Error}
 use Rattle.isle_document.specs.Refused.{HasNoDocument, IsRefusedFor, IsWithin}
-use Rattle.isle_document.specs.Tidied.{IsTidyTextOf}
-
--- the text has a tidy text, and it is another
-abbrev pub IsUntidy : List ℕ → Type 0
-IsUntidy text = (answer : List ℕ) × IsTidyTextOf text answer × (answer ≢ text)
+use Rattle.isle_document.specs.Tidied.{IsTidyTextOf, IsUntidy}
 
 abbrev pub IsWhetherTidy : List ℕ → Bool → Type 0
 IsWhetherTidy text true = IsTidyTextOf text text

@@ -9,9 +9,8 @@
 ghost use Rattle.std.specs.Prelude.{◌≡◌, ◌≢◌, ◌↔◌, ◌≤◌, IsUtf8};
 ghost use Rattle.isle_c.specs.Answers.{Wants, Writes};
 ghost use Rattle.isle_c.specs.Refusals.{IsDiagnosticOf, IsRefusedAt, IsUntidiableAt};
-ghost use Rattle.isle_c.specs.Tidying.{IsUntidy};
 ghost use Rattle.isle_document.specs.Refused.{HasDocument, HasNoDocument};
-ghost use Rattle.isle_document.specs.Tidied.{IsTidyTextOf};
+ghost use Rattle.isle_document.specs.Tidied.{IsTidyTextOf, IsUntidy};
 ghost use Rattle.isle_syntax.specs.Format.{IsFormatted, IsRefused, SpellsTree};
 
 mod calls;

@@ -32,8 +32,8 @@ pub fn is_tidy(alloc: Global, bytes: &[u8]) -> Result<bool, NoAnswer>
     ensures err { IfErr result (IsTidyFailure bytes.now) }
 {
     let text = text_of(bytes)?;
-    let answer = tidy_text_of(alloc, text)?;
-    Ok(answer.as_str() == text)
+    let is_tidy = whether_tidy(alloc, text)?;
+    Ok(is_tidy)
 }
 
 /// Why and where the text can't be tidied.
@@ -56,6 +56,19 @@ fn tidy_text_of(alloc: Global, text: &str) -> Result<String, NoAnswer>
 {
     match tidy(alloc, text) {
         Ok(answer) => Ok(answer),
+        Err(Fault::Error(_)) => Err(NoAnswer::Refused),
+        Err(Fault::Failed) => unreachable!(),
+        Err(Fault::Memory) => Err(NoAnswer::Memory),
+    }
+}
+
+/// Whether a text is its own tidy text.
+fn whether_tidy(alloc: Global, text: &str) -> Result<bool, NoAnswer>
+    ensures ok { IfOk result (IsWhetherTidy text.now) }
+    ensures err { IfErr result (IsTidyFailure text.now) }
+{
+    match isle_document::is_tidy(alloc, text) {
+        Ok(is_tidy) => Ok(is_tidy),
         Err(Fault::Error(_)) => Err(NoAnswer::Refused),
         Err(Fault::Failed) => unreachable!(),
         Err(Fault::Memory) => Err(NoAnswer::Memory),
