@@ -9,6 +9,7 @@ ghost use Rattle.isle_syntax.specs.Format.{IsFormatted};
 ghost use Rattle.isle_syntax.specs.Streaming.{IsAtStart, IsDone, IsPut, IsRefusedWith};
 
 use isle_base::lexer::Fault;
+use isle_parser::dropping::drop_definition;
 use isle_parser::parser::Parser;
 use isle_printer::lines::put_definition;
 use isle_printer::printer::{Looks, PrintFault};
@@ -48,10 +49,12 @@ fn put_next(
     ensures failed { IsErrOf result Failed ↔ (has_failed parser.old ≡ true) }
 {
     let next = parser.next_def(alloc)?;
-    let Some(def) = &next else {
+    let Some(def) = next else {
         return Ok(false);
     };
-    match put_definition(alloc, def, width, &mut Looks::new(), answer) {
+    let put = put_definition(alloc, &def, width, &mut Looks::new(), answer);
+    drop_definition(def);
+    match put {
         Ok(()) => Ok(true),
         Err(PrintFault::MacroArg) => unreachable!(),
         Err(PrintFault::Memory) => Err(Fault::Memory),

@@ -14,6 +14,7 @@ ghost use Rattle.isle_syntax.specs.Trees.{IsTreeOf};
 
 use isle_ast::ast::Def;
 use isle_base::lexer::{Fault, Lexer};
+use isle_parser::dropping::drop_definition;
 use isle_parser::parser;
 use isle_parser::parser::Parser;
 use std::alloc::Global;
@@ -71,8 +72,11 @@ fn read_next(alloc: Global, parser: &mut Parser) -> Result<bool, Fault>
     ensures failed { IsErrOf result Failed ↔ (has_failed parser.old ≡ true) }
 {
     let next = parser.next_def(alloc)?;
-    match &next {
-        Some(_def) => Ok(true),
+    match next {
+        Some(def) => {
+            drop_definition(def);
+            Ok(true)
+        }
         None => Ok(false),
     }
 }

@@ -93,11 +93,13 @@ fn faults_are_shown_by_their_reason(rt: HostRuntime) {
     assert!(rt; is_text(&shown, want));
 }
 
+/// A builder of two errors, with another one in their place.
+fn one_error(alloc: Global) -> Result<ErrorsBuilder, AllocError> {
+    two_errors(alloc)?.error(alloc, parse_error(alloc, 4)?)
+}
+
 fn last_error(alloc: Global) -> Result<String, AllocError> {
-    shown(
-        alloc,
-        two_errors(alloc)?.error(alloc, parse_error(alloc, 4)?)?,
-    )
+    shown(alloc, one_error(alloc)?)
 }
 
 #[test]
@@ -107,10 +109,14 @@ fn a_builder_holds_the_error_that_was_last_given(rt: HostRuntime) {
     assert!(rt; is_text(&shown, want));
 }
 
+/// Parse errors at two offsets.
+fn parse_errors(alloc: Global) -> Result<Vec<Error>, AllocError> {
+    Ok(vec![in alloc; parse_error(alloc, 1)?, parse_error(alloc, 2)?]?)
+}
+
 fn last_errors(alloc: Global) -> Result<String, AllocError> {
-    let others = vec![in alloc; parse_error(alloc, 1)?, parse_error(alloc, 2)?]?;
-    let builder = two_errors(alloc)?.error(alloc, parse_error(alloc, 4)?)?;
-    shown(alloc, builder.errors(others))
+    let errors = parse_errors(alloc)?;
+    shown(alloc, one_error(alloc)?.errors(errors))
 }
 
 #[test]
@@ -121,14 +127,31 @@ fn a_builder_holds_the_errors_that_were_last_given(rt: HostRuntime) {
     assert!(rt; is_text(&shown, want));
 }
 
-/// Whether a parse error at this place can be shown with two files.
-fn is_accepted(alloc: Global, span: Span) -> Result<bool, AllocError> {
+/// A parse error at this place.
+fn error_at(alloc: Global, span: Span) -> Result<Vec<Error>, AllocError> {
     let msg = "m".to_string(alloc)?;
-    let errors = vec![in alloc; Error::ParseError { msg, span }]?;
+    Ok(vec![in alloc; Error::ParseError { msg, span }]?)
+}
+
+/// A name, and this text.
+fn named(alloc: Global, text: &str) -> Result<(String, String), AllocError> {
     let name = "a.isle".to_string(alloc)?;
-    let pairs = vec![in alloc; (name, "(A)".to_string(alloc)?)]?;
-    let files = Files::from_names_and_contents(alloc, pairs)?;
-    Ok(Errors::accepts(errors.as_slice(), &files))
+    Ok((name, text.to_string(alloc)?))
+}
+
+/// So many files of this text.
+fn files(alloc: Global, count: usize, text: &str) -> Result<Files, AllocError> {
+    let mut pairs = Vec::new(alloc);
+    for _ in 0..count {
+        pairs.push(named(alloc, text)?)?;
+    }
+    Files::from_names_and_contents(alloc, pairs)
+}
+
+/// Whether a parse error at this place can be shown with one file.
+fn is_accepted(alloc: Global, span: Span) -> Result<bool, AllocError> {
+    let errors = error_at(alloc, span)?;
+    Ok(Errors::accepts(&errors, &files(alloc, 1, "(A)")?))
 }
 
 /// Whether no errors are accepted with no files, and one in the file that is there, past its end, in
@@ -175,12 +198,7 @@ fn shows_errors_whatever_the_options(rt: HostRuntime) {
 
 /// Whether the errors, which are in file 3, can be shown with so many files.
 fn are_accepted_with(alloc: Global, errors: &[Error], count: usize) -> Result<bool, AllocError> {
-    let mut pairs = Vec::new(alloc);
-    for _ in 0..count {
-        pairs.push(("a.isle".to_string(alloc)?, "a 12ab".to_string(alloc)?))?;
-    }
-    let files = Files::from_names_and_contents(alloc, pairs)?;
-    Ok(Errors::accepts(errors, &files))
+    Ok(Errors::accepts(errors, &files(alloc, count, "a 12ab")?))
 }
 
 /// Whether the error of a text in file 3 can be shown with 1, 3 and 4 files; the fault is another

@@ -62,13 +62,23 @@ fn a_lexer_and_its_copy(rt: HostRuntime) {
     assert!(rt; matches!(is_apart_from_its_copy(rt.alloc()), Ok(true)));
 }
 
+/// Whether `next` refuses the text.
+fn is_refused(alloc: Global, lexer: &mut Lexer) -> bool {
+    matches!(lexer.next(alloc), Err(Fault::Error(_)))
+}
+
+/// Whether `next` answers that the text was refused before.
+fn has_failed(alloc: Global, lexer: &mut Lexer) -> bool {
+    matches!(lexer.next(alloc), Err(Fault::Failed))
+}
+
 /// Whether a lexer refuses its text at the second token, and its copy has failed there.
 fn is_failed(alloc: Global) -> Result<bool, Fault> {
     let mut lexer = Lexer::new(alloc, 3, "a 12ab")?;
-    let is_refused = matches!(lexer.next(alloc), Err(Fault::Error(_)));
+    let is_refused = is_refused(alloc, &mut lexer);
     let mut copy = lexer.clone()?;
     let is_stopped = copy.peek().is_none() && !copy.eof() && copy.pos() == Pos::new(3, 2);
-    Ok(is_refused && is_stopped && matches!(copy.next(alloc), Err(Fault::Failed)))
+    Ok(is_refused && is_stopped && has_failed(alloc, &mut copy))
 }
 
 #[test]

@@ -1,39 +1,10 @@
 //! The parser's calls, and the formatter.
 
-use isle_syntax::ast::Def;
 use isle_syntax::format;
-use isle_syntax::lexer::{Fault, Lexer, Pos};
+use isle_syntax::lexer::{Fault, Lexer};
 use isle_syntax::parser::Parser;
-use isle_test_nodes::trees::{drop_definitions, next_word, parsed, read};
+use isle_test_nodes::trees::next_word;
 use std::alloc::Global;
-
-/// The position of the one conversion.
-fn place(defs: &[Def]) -> Option<Pos> {
-    match defs {
-        [Def::Converter(converter)] => Some(converter.pos),
-        _ => None,
-    }
-}
-
-/// The position of the one conversion among definitions, which are dropped.
-fn place_in(defs: Result<Vec<Def>, Fault>) -> Result<Option<Pos>, Fault> {
-    let defs = defs?;
-    let place = place(&defs);
-    drop_definitions(defs);
-    Ok(place)
-}
-
-#[test]
-fn a_conversion(rt: HostRuntime) {
-    let place = place_in(parsed(rt.alloc(), 2, "(convert A B f)"));
-    assert!(rt; matches!(place, Ok(Some(Pos { file: 2, offset: 9 }))));
-}
-
-#[test]
-fn a_conversion_without_positions(rt: HostRuntime) {
-    let place = place_in(read(rt.alloc(), "(convert A B f)"));
-    assert!(rt; matches!(place, Ok(Some(Pos { file: 0, offset: 0 }))));
-}
 
 /// Whether there is a copy of a parser, which gives what the parser gives.
 fn is_copied(alloc: Global) -> Result<bool, Fault> {
