@@ -9,19 +9,13 @@ use Rattle.isle_cli.specs.declared.failure.Failure.{Failure}
 use Rattle.isle_cli.specs.declared.failure.Failure.TheVariants as failures
 use Rattle.isle_cli.specs.declared.program.Program.{Program}
 use Rattle.isle_document.specs.Refused.{HasNoDocument}
-use Rattle.isle_document.specs.Tidied.{IsTidyTextOf}
+use Rattle.isle_document.specs.Tidied.{IsTidyTextOf, IsUntidy}
 use Rattle.isle_parser_cursor.specs.Outcomes.{RefusesIn}
 
--- the tidy text of the text is another one
-abbrev pub IsUntidy : List ℕ → Type 0
-IsUntidy text = (answer : List ℕ) × IsTidyTextOf text answer × (answer ≢ text)
-
--- a text and its tidy text: it is found to be untidy exactly where they differ
-pub record IsJudged (text : List ℕ) (is_untidy : Bool) : Type 0 where
-  pub answer : List ℕ
-  pub tidied : IsTidyTextOf text answer
-  pub tidy : is_untidy ≡ false → answer ≡ text
-  pub untidy : is_untidy ≡ true → answer ≢ text
+-- whether the text is untidy
+abbrev pub IsJudged : (text : List ℕ) (is_untidy : Bool) → Type 0
+IsJudged text true = IsUntidy text
+IsJudged text false = IsTidyTextOf text text
 
 -- why a text of this name is refused: a line with the place, of a byte of the text or of its end
 abbrev pub IsRefusal : (name text line : List ℕ) → Type 0

@@ -3,9 +3,9 @@
 ghost use Rattle.std.specs.Prelude.{IfErr};
 ghost use Rattle.isle_tidy.specs.Doing.{IsFileFailure};
 
-use crate::program::tidied;
+use crate::pieces::{is_untidy, put_tidied};
 use isle_cli::failure::Failure;
-use isle_cli::streams::{read_text, write_whole};
+use isle_cli::streams::read_text;
 use std::fs::{Files, Metadata, OpenFile, OpenOptions};
 use std::io::ErrorKind;
 use std::os::unix::fs::MetadataExt;
@@ -36,14 +36,11 @@ pub fn tidy_file<R: Files + AllocGlobal>(rt: &R, name: &str, check: bool) -> Res
         .map_err(unreadable)?;
     let text = read_text(rt.alloc(), &mut file)?;
     drop(file);
-    let answer = tidied(rt.alloc(), name, text.as_str())?;
-    if answer.as_str() == text.as_str() {
-        return Ok(false);
+    let is_untidy = is_untidy(rt.alloc(), name, text.as_str())?;
+    if is_untidy && !check {
+        replace(rt, path, &metadata, text.as_str())?;
     }
-    if !check {
-        replace(rt, path, &metadata, answer.as_bytes())?;
-    }
-    Ok(true)
+    Ok(is_untidy)
 }
 
 /// What an error of the system is, where a file is read.
@@ -57,12 +54,12 @@ fn unreadable(error: io::Error) -> Failure
     }
 }
 
-/// Puts a new file with these bytes in the place of a file.
+/// Puts a new file with the tidy text of a text in the place of a file.
 fn replace<R: Files + AllocGlobal>(
     rt: &R,
     path: &str,
     old: &Metadata,
-    bytes: &[u8],
+    text: &str,
 ) -> Result<(), Failure>
     ensures { IfErr result IsFileFailure }
 {
@@ -72,13 +69,23 @@ fn replace<R: Files + AllocGlobal>(
         Err(_) => return Err(Failure::Output),
     }
     let (name, mut file) = new_beside(rt, path)?;
-    let made = fill(rt, name.as_str(), &mut file, old, bytes);
+    let made = fill(rt, name.as_str(), &mut file, old, text);
     drop(file);
-    if made.is_ok() && rt.rename(name.as_str(), path).is_ok() {
-        return Ok(());
+    let placed = match made {
+        Ok(()) => rt.rename(name.as_str(), path).map_err(unwritable),
+        Err(failure) => Err(failure),
+    };
+    if placed.is_err() {
+        let _ = rt.remove_file(name.as_str());
     }
-    let _ = rt.remove_file(name.as_str());
-    Err(Failure::Output)
+    placed
+}
+
+/// What an error of the system is, where a file is written.
+fn unwritable(_error: io::Error) -> Failure
+    ensures { IsFileFailure result }
+{
+    Failure::Output
 }
 
 /// Makes a new, empty file beside another one, and gives its name.
@@ -100,20 +107,27 @@ fn new_beside<R: Files + AllocGlobal>(rt: &R, path: &str) -> Result<(String, R::
     Err(Failure::Output)
 }
 
-/// Gives a new file the owner and the permissions of an old one, and these bytes, down to the
-/// disk.
-fn fill<R: Files>(
+/// Gives a new file the owner and the permissions of an old one, and the tidy text of a text, down
+/// to the disk.
+fn fill<R: Files + AllocGlobal>(
     rt: &R,
     name: &str,
     file: &mut R::File,
     old: &Metadata,
-    bytes: &[u8],
-) -> io::Result<()> {
+    text: &str,
+) -> Result<(), Failure>
+    ensures { IfErr result IsFileFailure }
+{
+    hand_over(rt, name, file, old).map_err(unwritable)?;
+    put_tidied(rt.alloc(), name, text, file)?;
+    file.sync_all().map_err(unwritable)
+}
+
+/// Gives a new file the owner and the permissions of an old one.
+fn hand_over<R: Files>(rt: &R, name: &str, file: &mut R::File, old: &Metadata) -> io::Result<()> {
     let new = file.metadata()?;
     if new.uid() != old.uid() || new.gid() != old.gid() {
         rt.chown(name, Some(old.uid()), Some(old.gid()))?;
     }
-    file.set_permissions(old.permissions())?;
-    write_whole(file, bytes)?;
-    file.sync_all()
+    file.set_permissions(old.permissions())
 }

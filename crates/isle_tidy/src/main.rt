@@ -3,6 +3,7 @@
 #![tactic(auto)]
 
 mod in_place;
+mod pieces;
 mod program;
 
 use isle_cli::failure::Failure;

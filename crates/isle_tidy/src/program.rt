@@ -17,16 +17,14 @@ ghost use Rattle.isle_tidy.specs.Program.{AnswersTo, AreOwn, AsAsked, AskForNoth
 ghost use Rattle.isle_tidy.specs.Program.{IsDiagnostic, IsThis};
 
 use crate::in_place::tidy_file;
-use isle_base::lexer::Fault;
+use crate::pieces::{is_untidy, put_tidied};
 use isle_cli::arguments::{
     Argument, Options, Request, has_flag, names_of, requested, stdin_name_of,
 };
 use isle_cli::failure::Failure;
 use isle_cli::folders::files_of;
-use isle_cli::messages::error_line;
 use isle_cli::program::{Program, put, report, tell};
 use isle_cli::streams::{read_text, write_whole};
-use isle_document::tidy;
 use std::alloc::Global;
 use std::fs::Files;
 use std::io::{Read, Write};
@@ -74,7 +72,7 @@ fn own_options() -> Options
 /// | 2 | the words are none of the usage |
 /// | 3 | the input, or a file, can't be read, or isn't UTF-8 |
 /// | 4 | memory was refused |
-/// | 5 | the output, or a file, can't be written |
+/// | 5 | the output, or a file, can't be written whole |
 ///
 /// A name is that of a file, of a folder, which stands for each `.isle` file beneath it, or `-`,
 /// which stands for standard input. All words are looked at before any file is touched. Of several
@@ -293,8 +291,7 @@ fn tidy_input<I: Read, W: Write>(
         (W.contents output.old) (W.contents output.new)) }
 {
     let text = read_text(alloc, input)?;
-    let answer = tidied(alloc, name, text.as_str())?;
-    put(output, answer.as_str())
+    put_tidied(alloc, name, text.as_str(), output)
 }
 
 /// Names the input on the output where it would change, and tells whether it would not.
@@ -326,8 +323,7 @@ fn is_untidy_input<I: Read>(alloc: Global, name: &str, input: &mut I) -> Result<
         (I.remaining input.old) (I.remaining input.new)) }
 {
     let text = read_text(alloc, input)?;
-    let answer = tidied(alloc, name, text.as_str())?;
-    Ok(answer.as_str() != text.as_str())
+    is_untidy(alloc, name, text.as_str())
 }
 
 /// Writes a text and a line end onto the output.
@@ -340,22 +336,6 @@ fn put_line<W: Write>(output: &mut W, text: &str) -> Result<(), Failure>
 {
     put(output, text)?;
     put(output, "\n")
-}
-
-/// The tidy text, or why there is none.
-pub fn tidied(alloc: Global, name: &str, text: &str) -> Result<String, Failure>
-    ensures ok { IfOk result (λ answer. IsTidyTextOf text.now (string_bytes answer)) }
-    ensures err { IfErr result (λ failure. IsTidyFailure failure name.now text.now) }
-{
-    match tidy(alloc, text) {
-        Ok(answer) => Ok(answer),
-        Err(Fault::Error(error)) => match error_line(alloc, name, text, &error) {
-            Ok(line) => Err(Failure::Refused(line)),
-            Err(_) => Err(Failure::Memory),
-        },
-        Err(Fault::Failed) => unreachable!(),
-        Err(Fault::Memory) => Err(Failure::Memory),
-    }
 }
 
 /// Tells whether `-` is among names.

@@ -1,0 +1,139 @@
+//! The tidy text of a text, written piece by piece, so that it is held nowhere.
+
+ghost use Rattle.std.specs.Prelude.{◌≡◌, ◌≢◌, ◌<◌, List, Ok, ℕ, IfErr, IfOk, OnOk, false, length};
+ghost use Rattle.std.specs.Prelude.{true};
+ghost use Rattle.isle_base.specs.Steps.{IfError};
+ghost use Rattle.isle_base.specs.declared.fault.Fault.TheVariants.{Failed};
+ghost use Rattle.isle_cli.specs.Streams.{Writes};
+ghost use Rattle.isle_cli.specs.declared.failure.Failure.TheVariants.{Output};
+ghost use Rattle.isle_document.specs.Refused.{HasNoDocument, IsRefusedFor, IsWithin};
+ghost use Rattle.isle_document.specs.Streams.{HasWritten};
+ghost use Rattle.isle_document.specs.Tidied.{IsTidyTextOf};
+ghost use Rattle.isle_tidy.specs.Doing.{IsJudged, IsTidyFailure};
+ghost use Rattle.isle_tidy.specs.Pieces.{CutsRest, FailsPiece, FailsTidied, PutsPiece, PutsRest};
+
+use isle_base::lexer::Fault;
+use isle_cli::failure::Failure;
+use isle_cli::messages::error_line;
+use isle_cli::program::put;
+use isle_document::is_tidy;
+use isle_document::tidying::Tidying;
+use std::alloc::Global;
+use std::io::Write;
+
+/// How many bytes are written at once, at least.
+const PIECE: usize = 64 * 1024;
+
+/// Gives what a fault says of a text of this name.
+fn failure_of(alloc: Global, name: &str, text: &str, fault: Fault) -> Failure
+    requires refused { IfError (λ e. HasNoDocument text.now
+        × IsRefusedFor text.now e × IsWithin (length text.now) e) fault }
+    requires never_failed { fault ≢ Failed }
+    ensures { IsTidyFailure result name.now text.now }
+{
+    match fault {
+        Fault::Error(error) => match error_line(alloc, name, text, &error) {
+            Ok(line) => Failure::Refused(line),
+            Err(_) => Failure::Memory,
+        },
+        Fault::Failed => unreachable!(),
+        Fault::Memory => Failure::Memory,
+    }
+}
+
+/// Tells whether the tidy text of a text is another one, or why there is none.
+pub fn is_untidy(alloc: Global, name: &str, text: &str) -> Result<bool, Failure>
+    ensures ok { IfOk result (λ is_untidy. IsJudged text.now is_untidy) }
+    ensures err { IfErr result (λ failure. IsTidyFailure failure name.now text.now) }
+{
+    match is_tidy(alloc, text) {
+        Ok(is_tidy) => Ok(!is_tidy),
+        Err(fault) => Err(failure_of(alloc, name, text, fault)),
+    }
+}
+
+/// Writes the next piece of a tidy text, and tells whether more is to come.
+fn put_piece<W: Write>(
+    tidying: &mut Tidying<'_>,
+    piece: &mut String,
+    output: &mut W,
+) -> Result<bool, Failure>
+    requires { (text before : List ℕ) × HasWritten text before tidying.old }
+    ensures more { result ≡ Ok true → PutsPiece tidying.old tidying.new
+        (W.contents output.old) (W.contents output.new) }
+    ensures moves { result ≡ Ok true → tidying.old.at < tidying.new.at }
+    ensures last { result ≡ Ok false
+        → PutsRest tidying.old (W.contents output.old) (W.contents output.new) }
+    ensures err { IfErr result (λ failure. FailsPiece failure tidying.old
+        (W.contents output.old) (W.contents output.new)) }
+{
+    piece.clear();
+    match tidying.put_some(piece, PIECE) {
+        Ok(more) => match put(output, piece.as_str()) {
+            Ok(()) => Ok(more),
+            Err(failure) => Err(failure),
+        },
+        Err(_) => Err(Failure::Memory),
+    }
+}
+
+/// Writes the pieces of a tidy text that follow the first one. Where memory runs out, the failure
+/// is that the output has a beginning of the text alone.
+fn put_others<W: Write>(
+    tidying: &mut Tidying<'_>,
+    piece: &mut String,
+    output: &mut W,
+) -> Result<(), Failure>
+    requires { (text before : List ℕ) × HasWritten text before tidying.old }
+    ensures ok { OnOk result (PutsRest tidying.old (W.contents output.old) (W.contents output.new)) }
+    ensures err { IfErr result (λ failure. (failure ≡ Output)
+        × CutsRest tidying.old (W.contents output.old) (W.contents output.new)) }
+{
+    loop {
+        match put_piece(tidying, piece, output) {
+            Ok(true) => {}
+            Ok(false) => return Ok(()),
+            Err(_) => return Err(Failure::Output),
+        }
+    }
+}
+
+/// Writes the pieces of a tidy text.
+fn put_pieces<W: Write>(
+    alloc: Global,
+    tidying: &mut Tidying<'_>,
+    output: &mut W,
+) -> Result<(), Failure>
+    requires { (text before : List ℕ) × HasWritten text before tidying.old }
+    ensures ok { OnOk result (PutsRest tidying.old (W.contents output.old) (W.contents output.new)) }
+    ensures err { IfErr result (λ failure. FailsPiece failure tidying.old
+        (W.contents output.old) (W.contents output.new)) }
+{
+    let mut piece = String::new(alloc);
+    match put_piece(tidying, &mut piece, output) {
+        Ok(true) => put_others(tidying, &mut piece, output),
+        Ok(false) => Ok(()),
+        Err(failure) => Err(failure),
+    }
+}
+
+/// Writes the tidy text of a text of this name.
+pub fn put_tidied<W: Write>(
+    alloc: Global,
+    name: &str,
+    text: &str,
+    output: &mut W,
+) -> Result<(), Failure>
+    ensures ok { OnOk result (Writes (W.contents output.old) (W.contents output.new)
+        (IsTidyTextOf text.now)) }
+    ensures err { IfErr result (λ failure. FailsTidied failure name.now text.now
+        (W.contents output.old) (W.contents output.new)) }
+{
+    match Tidying::new(alloc, text) {
+        Ok(tidying) => {
+            let mut tidying = tidying;
+            put_pieces(alloc, &mut tidying, output)
+        }
+        Err(fault) => Err(failure_of(alloc, name, text, fault)),
+    }
+}
