@@ -4,7 +4,8 @@
                 error (writes to standard error), file (open, read, write, fchmod, fsync, chown, rename and unlink, of files)
    AT=N         the Nth of them fails; with ON=1 each one after it too; with KILL=1 the process is killed there instead
    BYTE=1       each read of standard input and each write to standard output moves one byte
-   LOG=FILE     gets a byte for each call that fails; without AT, for each that is counted
+   LOG=FILE     gets a byte for each call that fails; without AT, for each that is counted; and one more where a smaller request for
+                memory follows the failed one at once: a growth that is tried, and done without
 
    Built by tools/faults: cc -shared -fPIC -O2 -o faults.so faults.c, and loaded by LD_PRELOAD. What the loader does isn't counted. */
 
@@ -54,10 +55,22 @@ static int fails(const char *kind, int error)
     return at != 0;
 }
 
-void *malloc(size_t size) { return fails("memory", ENOMEM) ? NULL : __libc_malloc(size); }
-void *calloc(size_t count, size_t size) { return fails("memory", ENOMEM) ? NULL : __libc_calloc(count, size); }
-void *realloc(void *room, size_t size) { return fails("memory", ENOMEM) ? NULL : __libc_realloc(room, size); }
-void *aligned_alloc(size_t alignment, size_t size) { return fails("memory", ENOMEM) ? NULL : __libc_memalign(alignment, size); }
+/* Whether a request for so many bytes fails. */
+static int refuses(size_t size)
+{
+    static size_t refused = 0;
+    int is_refused;
+    if (size < refused)
+        log_byte();
+    is_refused = fails("memory", ENOMEM);
+    refused = is_refused ? size : 0;
+    return is_refused;
+}
+
+void *malloc(size_t size) { return refuses(size) ? NULL : __libc_malloc(size); }
+void *calloc(size_t count, size_t size) { return refuses(count * size) ? NULL : __libc_calloc(count, size); }
+void *realloc(void *room, size_t size) { return refuses(size) ? NULL : __libc_realloc(room, size); }
+void *aligned_alloc(size_t alignment, size_t size) { return refuses(size) ? NULL : __libc_memalign(alignment, size); }
 
 int posix_memalign(void **room, size_t alignment, size_t size)
 {
