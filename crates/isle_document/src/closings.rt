@@ -11,6 +11,7 @@ use isle_document_layout::columns::is_space_or_tab;
 use isle_document_layout::entries::{Entry, Gap, Lexeme};
 
 /// Counts the `)` that follow on the line at an offset.
+#[inline(never)]
 fn closings_at(bytes: &[u8], from: usize) -> usize
     requires { from ≤ length bytes.now }
     ensures { (entries : List EntryNode) → SpellsEntries (Beside 0) entries (drop from bytes.now)

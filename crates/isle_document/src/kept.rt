@@ -176,7 +176,9 @@ fn put_lexeme_at(
     if is_tidy(lexeme) {
         return Ok(kept.from);
     }
-    put_other_lexeme(out, text, kept, lexeme, end)?;
+    // A copy, so that most lexemes stay in registers.
+    let other = *lexeme;
+    put_other_lexeme(out, text, kept, &other, end)?;
     Ok(end)
 }
 

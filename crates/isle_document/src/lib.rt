@@ -14,6 +14,7 @@ ghost use Rattle.isle_document.specs.Tidied.{IsTidyTextOf, IsUntidy};
 
 mod closings;
 mod gaps;
+mod glance;
 mod kept;
 pub mod laws;
 mod lexemes;

@@ -8,6 +8,7 @@ ghost use Rattle.isle_document.specs.Refused.{HasNoDocument, IsRefusedFor, IsWit
 ghost use Rattle.isle_document.specs.Streams.{HasWritten, PutsLast, PutsMore};
 
 use crate::closings::closings_after;
+use crate::glance::has_document;
 use crate::kept::{Kept, is_simple_at, put_end, put_entry};
 use crate::parentheses::check_parentheses;
 use crate::reader::{Step, step_at};
@@ -40,16 +41,19 @@ impl<'src> Tidying<'src> {
             × IsRefusedFor text.now e × IsWithin (length text.now) e)) }
         ensures never_failed { result ≢ Err Failed }
     {
-        match check_parentheses(alloc, text) {
-            Ok(()) => Ok(Tidying {
-                text,
-                at: 0,
-                kept: 0,
-                gap: Gap::Below(0, 0),
-                placer: Placer::new(alloc),
-            }),
-            Err(fault) => Err(fault),
+        if !has_document(text) {
+            match check_parentheses(alloc, text) {
+                Ok(()) => {}
+                Err(fault) => return Err(fault),
+            }
         }
+        Ok(Tidying {
+            text,
+            at: 0,
+            kept: 0,
+            gap: Gap::Below(0, 0),
+            placer: Placer::new(alloc),
+        })
     }
 
     /// Goes past the next entry, and tells whether more is to come. It appends what is before the

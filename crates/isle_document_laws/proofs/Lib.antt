@@ -1,4 +1,6 @@
+pub mod Balanced
 pub mod PlainShapes
 pub mod PrintDocuments
 pub mod PrintTexts
 pub mod PrintedDefinitions
+pub mod Trees

@@ -1,8 +1,12 @@
-//! Laws of printed texts, which run no code.
+//! Laws of texts that spell trees, and of printed texts, which run no code.
 
-ghost use Rattle.std.specs.Prelude.{ℕ, List};
+ghost use Rattle.std.specs.Prelude.{◌↔◌, ℕ, List};
+ghost use Rattle.isle_base.specs.Place.{nowhere};
+ghost use Rattle.isle_base_source.specs.declared.pos.Pos.{Pos};
+ghost use Rattle.isle_ast.specs.Spelt.{IsSpelt};
 ghost use Rattle.isle_ast.specs.Tree.{Definition};
 ghost use Rattle.isle_ast.specs.Writable.{AreWritable};
+ghost use Rattle.isle_document.specs.Refused.{HasDocument};
 ghost use Rattle.isle_document.specs.Tidied.{IsTidyTextOf};
 ghost use Rattle.isle_document_laws.specs.Prints.{AllHaveAtoms, AllHavePlainHeads, print_of};
 ghost use Rattle.isle_printer.specs.Printed.{IsPrinted};
@@ -20,4 +24,17 @@ pub fn prints_of_lists_are_tidy()
 pub fn prints_of_definitions_are_tidy()
     ensures { (width : ℕ) (ds : List Definition) (text : List ℕ) → AreWritable ds
         → IsPrinted width ds text → IsTidyTextOf text text }
+{}
+
+/// A law, which runs no code: a text that spells definitions has a document. So `tidy` accepts each
+/// text that `parse` accepts.
+pub fn spelt_texts_have_documents()
+    ensures { (place : ℕ → Pos) (text : List ℕ) (ds : List Definition)
+        → IsSpelt place text ds → HasDocument text }
+{}
+
+/// A law, which runs no code: a text and its tidy text spell the same definitions, positions aside.
+pub fn tidying_keeps_trees()
+    ensures { (text answer : List ℕ) (ds : List Definition)
+        → IsTidyTextOf text answer → IsSpelt nowhere text ds ↔ IsSpelt nowhere answer ds }
 {}

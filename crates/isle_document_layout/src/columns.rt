@@ -37,6 +37,7 @@ pub(crate) fn placed_as(column: usize, columns: &[Columns]) -> Option<usize>
 
 /// Gives the column after bytes that begin at a column. A byte that continues a character counts
 /// none, and a line end goes back to column 0.
+#[inline(never)]
 pub(crate) fn column_after(column: usize, bytes: &[u8]) -> usize
     requires { column + length bytes.now < 2 ^ 64 }
     ensures { result ≡ column_after_bytes column bytes.now }

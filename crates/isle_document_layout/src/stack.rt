@@ -85,6 +85,7 @@ fn usual_column(list: &Opened, arguments: &[Columns]) -> usize
 }
 
 /// Gives the column of the first line of a list, which the author put at this column.
+#[inline(never)]
 fn first_line(list: &Opened, arguments: &[Columns], column: usize) -> usize
     requires parenthesis { IsSmall list.now.parenthesis }
     requires line { IsSmall list.now.line }
