@@ -1,3 +1,2 @@
 pub mod ExpansionLemmas
-pub mod FailureLemmas
-pub mod TreeLemmas
+pub mod DoingLemmas

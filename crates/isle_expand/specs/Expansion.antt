@@ -1,59 +1,81 @@
--- What the program writes of a text: the print of its expansion, or why there is none.
-use Rattle.std.specs.Prelude.{◌≡◌, ◌⊎◌, ℕ, ◌+◌, ◌-◌, ◌^◌, min, List, codes, string_bytes}
-use Rattle.isle_base.specs.Place.{in_file, nowhere}
+-- What the program makes of its texts: the print of their expansion and what it may lose, or why there is no print.
+use Rattle.std.specs.Prelude.{◌≡◌, ◌≢◌, ◌⊎◌, ℕ, List, Option, codes, string_bytes}
+use Rattle.std.specs.List.{flat_map}
+use Rattle.isle_base.specs.Place.{nowhere}
+use Rattle.isle_base_source.specs.Source.{Source}
 use Rattle.isle_base_source.specs.declared.error.Error.{Error}
-use Rattle.isle_base_source.specs.declared.error.Error.TheVariants.{TypeError}
-use Rattle.isle_base_source.specs.declared.pos.Pos.{Pos}
 use Rattle.isle_ast.specs.Erased.{erase}
 use Rattle.isle_ast.specs.Spelt.{IsSpelt}
 use Rattle.isle_ast.specs.Tree.{Definition}
 use Rattle.isle_printer.specs.Printed.{IsPrinted}
-use Rattle.isle_cli.specs.Diagnostics.{IsRefusal, refusal_text}
+use Rattle.isle_cli.specs.declared.failure.Failure.{Failure}
+use Rattle.isle_cli.specs.declared.failure.Failure.TheVariants as failures
 use Rattle.isle_expansion.specs.Definitions.{AreExpanded, AreFree}
 use Rattle.isle_expansion.specs.Macros.{macros_in}
 use Rattle.isle_expansion.specs.Misuses.{IsFirstMisuse, MisuseNode, misuse_pos, misuse_text}
-use Rattle.isle_expand.specs.Trees.{IsRefused, IsTreeOf}
+use Rattle.isle_expansion.specs.Warnings.{WarningNode, warning_pos, warning_text, warnings_in}
+use Rattle.isle_reading.specs.Messages.{line_at, refusal_lines}
+use Rattle.isle_reading.specs.Reading.{IsReading, refused_count}
 
--- These definitions are the one expansion of the text's one tree: no use of an extractor is left in them, and no
--- extractor.
-pub record IsExpansionOf (text : List ℕ) (expansion : List Definition) : Type 0 where
+-- The texts spell this program: each has its one tree, and these are the definitions of all, one text after another.
+pub record IsProgramOf (sources : List Source) (tree : List Definition) : Type 0 where
+  pub refusals : List (Option Error)
+  pub read : IsReading sources tree refusals
+  pub none : refused_count refusals ≡ 0
+
+-- These definitions are the one expansion of the program: no use of an extractor is left in them, and no extractor.
+pub record IsExpansionOf (sources : List Source) (expansion : List Definition) : Type 0 where
   pub tree : List Definition
-  pub of_text : IsTreeOf text tree
+  pub of_texts : IsProgramOf sources tree
   pub expanded : AreExpanded tree expansion
   pub only : (es : List Definition) → AreExpanded tree es → es ≡ expansion
   pub free : AreFree (macros_in tree) expansion
 
--- The print, at this width, of the expansion of the text's one tree. It spells the expansion, positions erased.
-pub record IsPrintOfExpansion (width : ℕ) (text print : List ℕ) : Type 0 where
+-- The print, at this width, of the expansion of the program. It spells the expansion, positions erased.
+pub record IsPrintOfExpansion (width : ℕ) (sources : List Source) (print : List ℕ) : Type 0 where
   pub expansion : List Definition
-  pub of_text : IsExpansionOf text expansion
+  pub of_texts : IsExpansionOf sources expansion
   pub printed : IsPrinted width expansion print
   pub read_back : IsSpelt nowhere print (erase expansion)
 
--- a type error with these words, whose span is the one byte at this place
-abbrev pub IsTypeErrorAt : List ℕ → Pos → Error → Type 0
-IsTypeErrorAt words pos (TypeError msg span) =
-    (string_bytes msg ≡ words) × (span ≡ record { from = pos; to = record { file = pos.file; offset = pos.offset + 1 } })
-IsTypeErrorAt words pos _ = ⊥
+-- the line of a warning
+abbrev pub warning_line : List Source → WarningNode → List ℕ
+warning_line sources w = line_at sources (warning_pos w) (codes "warning") (warning_text w)
 
--- the place in standard input at which a position is shown: its own offset, if that is not the greatest number
-abbrev pub shown_place : Pos → Pos
-shown_place pos = in_file 0 (min pos.offset (2 ^ 64 - 2))
+abbrev pub warning_lines : List Source → List WarningNode → List ℕ
+warning_lines sources ws = flat_map (warning_line sources) ws
 
--- this shows an error with these words at a position of the text
-abbrev pub IsShownAt : List ℕ → Pos → (text shown : List ℕ) → Type 0
-IsShownAt words pos text shown =
-    (e : Error) × IsTypeErrorAt words (shown_place pos) e × (shown ≡ refusal_text (codes "<stdin>") text e)
-
--- the text's tree has no expansion, and this shows the first misuse of an extractor in it
-pub record IsMisused (text shown : List ℕ) : Type 0 where
+-- this tells what the expansion of the program may lose: a line for each warning, in order
+pub record AreWarnings (sources : List Source) (shown : List ℕ) : Type 0 where
   pub tree : List Definition
-  pub of_text : IsTreeOf text tree
+  pub of_texts : IsProgramOf sources tree
+  pub is : shown ≡ warning_lines sources (warnings_in tree)
+
+-- some of the texts spell no tree, and this says of each why, at its place
+pub record AreRefused (sources : List Source) (shown : List ℕ) : Type 0 where
+  pub tree : List Definition
+  pub refusals : List (Option Error)
+  pub read : IsReading sources tree refusals
+  pub some : refused_count refusals ≢ 0
+  pub is : shown ≡ refusal_lines 0 sources refusals
+
+-- the program has no expansion, and this says what the first misuse of an extractor is, at its place
+pub record IsMisused (sources : List Source) (shown : List ℕ) : Type 0 where
+  pub tree : List Definition
+  pub of_texts : IsProgramOf sources tree
   pub none : (expansion : List Definition) → AreExpanded tree expansion → ⊥
   pub misuse : MisuseNode
   pub first : IsFirstMisuse tree misuse
-  pub is : IsShownAt (misuse_text misuse) (misuse_pos misuse) text shown
+  pub is : shown ≡ line_at sources (misuse_pos misuse) (codes "error") (misuse_text misuse)
 
--- nothing is printed of the text, and this shows why: it spells no tree, or its tree has no expansion
-abbrev pub HasNoPrint : (text shown : List ℕ) → Type 0
-HasNoPrint text shown = (IsRefused text × IsRefusal (codes "<stdin>") text shown) ⊎ IsMisused text shown
+-- nothing is printed of the texts, and this says why: some spell no tree, or the program has no expansion
+abbrev pub HaveNoPrint : (sources : List Source) (shown : List ℕ) → Type 0
+HaveNoPrint sources shown = AreRefused sources shown ⊎ IsMisused sources shown
+
+-- nothing is printed, with the text that says why, or memory was refused
+abbrev pub IsExpandFailure : Failure → List Source → Type 0
+IsExpandFailure (failures.Refused shown) sources = HaveNoPrint sources (string_bytes shown)
+IsExpandFailure failures.Usage sources = ⊥
+IsExpandFailure failures.Input sources = ⊥
+IsExpandFailure failures.Memory sources = Unit {0}
+IsExpandFailure failures.Output sources = ⊥

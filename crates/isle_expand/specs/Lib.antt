@@ -1,4 +1,3 @@
+pub mod Program
 pub mod Expansion
-pub mod Failure
-pub mod Trees
-pub mod Words
+pub mod Doing

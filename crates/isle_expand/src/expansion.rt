@@ -1,65 +1,96 @@
-//! From a text to the print of its expansion.
+//! From the texts of a program to the print of its expansion.
 
-ghost use Rattle.std.specs.Prelude.{◌≡◌, IfErr, IfOk, false, string_bytes};
+ghost use Rattle.std.specs.Prelude.{◌≡◌, IfErr, IfOk, codes, false, map, string_bytes};
 ghost use Rattle.isle_base.specs.Place.{nowhere};
 ghost use Rattle.isle_ast.specs.Erased.{erase};
 ghost use Rattle.isle_ast.specs.MacroArgs.{definitions_have_macro_arg};
 ghost use Rattle.isle_ast.specs.Spelt.{IsSpelt};
 ghost use Rattle.isle_ast.specs.TreeView.{definitions_of};
 ghost use Rattle.isle_ast.specs.Writable.{AreWritable};
+ghost use Rattle.isle_cli.specs.Sources.{source_of};
+ghost use Rattle.isle_cli.specs.declared.failure.Failure.TheVariants.{Memory};
 ghost use Rattle.isle_printer.specs.Printed.{IsPrinted};
-ghost use Rattle.isle_expansion.specs.Misuses.{misuse_pos, misuse_text};
 ghost use Rattle.isle_expansion.specs.Views.{misuse_of};
-ghost use Rattle.isle_expand.specs.Expansion.{IsPrintOfExpansion, IsShownAt};
-ghost use Rattle.isle_expand.specs.Failure.{IsExpandFailure};
-ghost use Rattle.isle_expand.specs.Trees.{IsTreeOf};
+ghost use Rattle.isle_expansion.specs.Misuses.{misuse_pos, misuse_text};
+ghost use Rattle.isle_expansion.specs.Warnings.{warning_of, warnings_of};
+ghost use Rattle.isle_expand.specs.Expansion.{AreWarnings, IsExpandFailure, IsPrintOfExpansion};
+ghost use Rattle.isle_expand.specs.Expansion.{IsProgramOf, warning_line, warning_lines};
+ghost use Rattle.isle_reading.specs.Messages.{line_at};
 
-use crate::failure::Failure;
-use crate::trees::read_defs;
-use isle_cli::diagnostics::{diagnostic, shown_errors};
-use isle_expansion::{ExpandFault, Misuse, expanded};
+use isle_cli::failure::Failure;
+use isle_cli::sources::Source;
+use isle_expansion::{ExpandFault, Misuse, Warning, expanded, warnings};
+use isle_reading::messages::{line_at, refusal_lines};
+use isle_reading::trees::{read_all, refused_count};
 use isle_syntax::ast::Def;
-use isle_syntax::error::{Error, Span};
-use isle_syntax::lexer::{Fault, Pos};
 use isle_syntax::printer::{PrintFault, print};
 use std::alloc::{AllocError, Global};
 
-/// The name that stands for standard input.
-const INPUT_NAME: &str = "<stdin>";
-
-/// Makes the print of a text's expansion, or tells why there is none.
-pub fn printed_expansion(alloc: Global, text: &str, width: usize) -> Result<String, Failure>
-    ensures ok { IfOk result
-        (λ answer. IsPrintOfExpansion width text.now (string_bytes answer)) }
-    ensures err { IfErr result (λ failure. IsExpandFailure failure text.now) }
-{
-    match read_defs(alloc, text) {
-        Ok(defs) => printed_definitions(alloc, text, &defs, width),
-        Err(Fault::Error(error)) => {
-            Err(Failure::Refused(diagnostic(alloc, INPUT_NAME, text, error)?))
-        }
-        Err(Fault::Failed) => unreachable!(),
-        Err(Fault::Memory) => Err(Failure::Memory),
-    }
+/// What the program makes of its texts.
+#[derive(Drop)]
+pub struct Answer {
+    /// The print of the expansion.
+    pub print: String,
+    /// A line for each implicit conversion that the expansion may lose.
+    pub warnings: String,
 }
 
-/// Makes the print of the expansion of a text's definitions, or tells why there is none.
-fn printed_definitions(
+/// Makes the print of the expansion of a program, or tells why there is none.
+pub fn answer_to(alloc: Global, sources: &[Source], width: usize) -> Result<Answer, Failure>
+    ensures print { IfOk result (λ answer. IsPrintOfExpansion width (map source_of sources.now)
+        (string_bytes answer.print)) }
+    ensures warnings { IfOk result
+        (λ answer. AreWarnings (map source_of sources.now) (string_bytes answer.warnings)) }
+    ensures err { IfErr result
+        (λ failure. IsExpandFailure failure (map source_of sources.now)) }
+{
+    let reading = read_all(alloc, sources)?;
+    if refused_count(&reading.refusals) != 0 {
+        let shown = refusal_lines(alloc, sources, &reading.refusals)?;
+        return Err(Failure::Refused(shown));
+    }
+    answer_to_program(alloc, sources, &reading.defs, width)
+}
+
+/// Makes the print of the expansion of a program whose definitions these are.
+fn answer_to_program(
     alloc: Global,
-    text: &str,
+    sources: &[Source],
+    defs: &[Def],
+    width: usize,
+) -> Result<Answer, Failure>
+    requires program { IsProgramOf (map source_of sources.now) (definitions_of defs.now) }
+    requires plain { definitions_have_macro_arg (definitions_of defs.now) ≡ false }
+    ensures print { IfOk result (λ answer. IsPrintOfExpansion width (map source_of sources.now)
+        (string_bytes answer.print)) }
+    ensures warnings { IfOk result
+        (λ answer. AreWarnings (map source_of sources.now) (string_bytes answer.warnings)) }
+    ensures err { IfErr result
+        (λ failure. IsExpandFailure failure (map source_of sources.now)) }
+{
+    let print = printed_expansion(alloc, sources, defs, width)?;
+    let warnings = told_warnings(alloc, sources, defs)?;
+    Ok(Answer { print, warnings })
+}
+
+/// Makes the print of the expansion of definitions, or tells the first misuse of an extractor.
+fn printed_expansion(
+    alloc: Global,
+    sources: &[Source],
     defs: &[Def],
     width: usize,
 ) -> Result<String, Failure>
-    requires tree { IsTreeOf text.now (definitions_of defs.now) }
+    requires program { IsProgramOf (map source_of sources.now) (definitions_of defs.now) }
     requires plain { definitions_have_macro_arg (definitions_of defs.now) ≡ false }
-    ensures ok { IfOk result
-        (λ answer. IsPrintOfExpansion width text.now (string_bytes answer)) }
-    ensures err { IfErr result (λ failure. IsExpandFailure failure text.now) }
+    ensures ok { IfOk result (λ print. IsPrintOfExpansion width (map source_of sources.now)
+        (string_bytes print)) }
+    ensures err { IfErr result
+        (λ failure. IsExpandFailure failure (map source_of sources.now)) }
 {
     match expanded(alloc, defs) {
         Ok(expansion) => print_writable(alloc, &expansion, width),
         Err(ExpandFault::Misuse(misuse)) => {
-            Err(Failure::Refused(shown_misuse(alloc, text, &misuse)?))
+            Err(Failure::Refused(misuse_line(alloc, sources, &misuse)?))
         }
         Err(ExpandFault::Memory) => Err(Failure::Memory),
     }
@@ -72,7 +103,7 @@ fn print_writable(alloc: Global, defs: &[Def], width: usize) -> Result<String, F
         (λ answer. IsPrinted width (definitions_of defs.now) (string_bytes answer)) }
     ensures read_back { IfOk result
         (λ answer. IsSpelt nowhere (string_bytes answer) (erase (definitions_of defs.now))) }
-    ensures err { IfErr result (λ failure. failure ≡ Failure.Memory) }
+    ensures err { IfErr result (λ failure. failure ≡ Memory) }
 {
     match print(alloc, defs, width) {
         Ok(answer) => Ok(answer),
@@ -81,24 +112,48 @@ fn print_writable(alloc: Global, defs: &[Def], width: usize) -> Result<String, F
     }
 }
 
-/// What is shown of a misuse of an extractor.
-fn shown_misuse(alloc: Global, text: &str, misuse: &Misuse) -> Result<String, AllocError>
-    ensures { IfOk result (λ shown. IsShownAt (misuse_text (misuse_of misuse.now))
-        (misuse_pos (misuse_of misuse.now)) text.now (string_bytes shown)) }
+/// Makes the line that tells a misuse of an extractor.
+fn misuse_line(alloc: Global, sources: &[Source], misuse: &Misuse) -> Result<String, AllocError>
+    ensures { IfOk result (λ line. string_bytes line ≡ line_at (map source_of sources.now)
+        (misuse_pos (misuse_of misuse.now)) (codes "error")
+        (misuse_text (misuse_of misuse.now))) }
 {
-    let msg = misuse.to_string(alloc)?;
-    shown_at(alloc, text, msg, misuse.pos())
+    let message = misuse.to_string(alloc)?;
+    line_at(alloc, sources, misuse.pos(), "error", message.as_str())
 }
 
-/// What is shown of an error at a place of a text: the message, and the place with its line.
-fn shown_at(alloc: Global, text: &str, msg: String, pos: Pos) -> Result<String, AllocError>
+/// Tells what the expansion of definitions may lose, a line for each.
+fn told_warnings(alloc: Global, sources: &[Source], defs: &[Def]) -> Result<String, AllocError>
+    requires { IsProgramOf (map source_of sources.now) (definitions_of defs.now) }
     ensures { IfOk result
-        (λ shown. IsShownAt (string_bytes msg) pos text.now (string_bytes shown)) }
+        (λ lines. AreWarnings (map source_of sources.now) (string_bytes lines)) }
 {
-    let offset = pos.offset.min(usize::MAX - 1);
-    let error = Error::TypeError {
-        msg,
-        span: Span::new_single(Pos::new(0, offset)),
-    };
-    shown_errors(alloc, INPUT_NAME, text, vec![in alloc; error]?)
+    let warnings = warnings(alloc, defs)?;
+    warning_lines(alloc, sources, &warnings)
+}
+
+/// Makes the lines of warnings.
+fn warning_lines(
+    alloc: Global,
+    sources: &[Source],
+    warnings: &[Warning],
+) -> Result<String, AllocError>
+    ensures { IfOk result (λ lines. string_bytes lines
+        ≡ warning_lines (map source_of sources.now) (warnings_of warnings.now)) }
+{
+    let mut lines = String::new(alloc);
+    for warning in warnings {
+        let line = warning_line(alloc, sources, warning)?;
+        lines.push_str(line.as_str())?;
+    }
+    Ok(lines)
+}
+
+/// Makes the line of a warning.
+fn warning_line(alloc: Global, sources: &[Source], warning: &Warning) -> Result<String, AllocError>
+    ensures { IfOk result (λ line. string_bytes line
+        ≡ warning_line (map source_of sources.now) (warning_of warning.now)) }
+{
+    let message = warning.to_string(alloc)?;
+    line_at(alloc, sources, warning.pos(), "warning", message.as_str())
 }

@@ -1,27 +1,23 @@
-//! `isle-expand [WIDTH]`: expands the extractors of ISLE source from standard input.
+//! `isle-expand [--width N] [--stdin-name NAME] [FILE ..]`: expands the extractors of a program of
+//! ISLE.
 #![tactic(auto)]
 
 mod expansion;
-mod failure;
+mod options;
 mod program;
-mod trees;
 
-use failure::Failure;
+use isle_cli::failure::Failure;
+use isle_cli::program::report;
 use isle_cli::words::taken_words;
-use program::report;
+use options::this_program;
 pub use program::run;
 use std::process::ExitCode;
 
 fn main(rt: HostRuntime) -> ExitCode {
+    let (mut input, mut output, mut faults) = (rt.stdin(), rt.stdout(), rt.stderr());
     let status = match taken_words(&rt) {
-        Ok(words) => run(
-            rt.alloc(),
-            &words,
-            &mut rt.stdin(),
-            &mut rt.stdout(),
-            &mut rt.stderr(),
-        ),
-        Err(fault) => report(&Failure::from(fault), &mut rt.stderr()),
+        Ok(words) => run(&rt, &words, &mut input, &mut output, &mut faults),
+        Err(fault) => report(&this_program(), &Failure::from(fault), &mut faults),
     };
     ExitCode::from(status)
 }

@@ -1,123 +1,278 @@
-//! The program's work, over any reader and any two writers.
+//! The program's work, over any files, any reader and any two writers.
 
-ghost use Rattle.std.specs.Prelude.{◌≡◌, ◌≢◌, ◌≤◌, map, string_bytes, IfOk, IfErr, OnOk};
-ghost use Rattle.std.specs.Io.KnownBytes.{Appends, Keeps};
-ghost use Rattle.isle_cli.specs.Streams.{AppendsBeginning, ReadsText, Writes, WritesBeginning};
-ghost use Rattle.isle_expand.specs.Expansion.{HasNoPrint, IsPrintOfExpansion};
-ghost use Rattle.isle_expand.specs.Failure.{Explains, IsDiagnostic, status_of, text_of};
-ghost use Rattle.isle_expand.specs.Words.{GiveWidth, given_width};
+ghost use Rattle.std.specs.Prelude.{◌≡◌, ◌≢◌, ◌≤◌, IfErr, IfOk, OnOk, map, string_bytes};
+ghost use Rattle.std.specs.Io.KnownBytes.{Keeps};
+ghost use Rattle.isle_cli.specs.Arguments.{asked, given_of};
+ghost use Rattle.isle_cli.specs.Failure as frame;
+ghost use Rattle.isle_cli.specs.Sources.{source_of};
+ghost use Rattle.isle_cli.specs.Streams.{Writes, WritesBeginning};
+ghost use Rattle.isle_expand.specs.Doing.{Cuts, CutsAsked, DoesAsked, Ends, EndsAs, Expands};
+ghost use Rattle.isle_expand.specs.Doing.{Explains, ExplainsAs, IsPutFailure, IsReadFailure};
+ghost use Rattle.isle_expand.specs.Doing.{Misses, MissesAsked, Refuses, RefusesAsked, Takes};
+ghost use Rattle.isle_expand.specs.Expansion.{AreWarnings, IsPrintOfExpansion};
+ghost use Rattle.isle_expand.specs.Program.{AnswersTo, AsAsked, AskForNothing, GivesWidth};
+ghost use Rattle.isle_expand.specs.Program.{IsDiagnostic, IsMisuse};
 
-use crate::expansion::printed_expansion;
-use crate::failure::Failure;
-use isle_cli::streams::{read_text, write_whole};
-use isle_cli::words::parsed_width;
+use crate::expansion::answer_to;
+use crate::options::{HELP, VERSION, own_options, this_program, width_of};
+use isle_cli::arguments::{Argument, Options, Request, names_of, requested, stdin_name_of};
+use isle_cli::failure::Failure;
+use isle_cli::program::{Program, put, report, tell};
+use isle_cli::sources::{Source, Sources, read_sources};
+use isle_cli::streams::write_whole;
 use std::alloc::Global;
+use std::fs::Files;
 use std::io::{Read, Write};
 
-/// The width of the output where the command line gives none, in bytes.
-const DEFAULT_WIDTH: usize = 78;
-
-/// Expands the extractors of the input onto the output, and answers the program's status.
+/// Expands the extractors of a program onto the output, and gives the status.
 ///
 /// The words are those of the command line, without the program's name. They are looked at before
-/// anything is read; the input is read whole before it is expanded; and the output gets nothing
+/// anything is read; all texts are read whole before they are expanded; and the output gets nothing
 /// before the whole answer stands.
 ///
 /// | Status | When | Standard error gets |
 /// |---|---|---|
-/// | 0 | the output got the print of the expansion | nothing |
-/// | 1 | the input is no text of ISLE; an extractor is used in a wrong way; or the expansion of a rule wouldn't read back | the message, and `<stdin>:LINE:COLUMN: ` with the line itself, counted from 1 |
-/// | 2 | there is more than one word, or one that is no width | `usage: isle-expand [WIDTH]` |
-/// | 3 | the input can't be read to its end, or isn't UTF-8 | `isle-expand: input is unreadable or not UTF-8` |
+/// | 0 | the output got the print of the expansion; or the help or the version, if it is asked for | a line for each implicit conversion that the expansion may lose |
+/// | 1 | a text is no text of ISLE; or an extractor is used in a wrong way | a line for each such text, or for the first such use |
+/// | 2 | the words are none of the usage | the usage |
+/// | 3 | a file, or standard input, can't be read to its end, or isn't UTF-8 | a line for each |
 /// | 4 | memory was refused | `isle-expand: out of memory` |
 /// | 5 | the output failed, with a beginning of the print in it | `isle-expand: output failed` |
 ///
-/// A width is one ASCII digit or more, of a number of bytes that fits `usize`; without a word it
+/// A width is one ASCII digit or more, of a number of bytes that fits `usize`; without `--width` it
 /// is 78. Where standard error refuses bytes, the status stays the same.
-pub fn run<R: Read, W: Write, E: Write>(
-    alloc: Global,
+pub fn run<R: Files + AllocGlobal + Clone + Drop, I: Read, W: Write, E: Write>(
+    rt: &R,
     words: &[String],
-    input: &mut R,
+    input: &mut I,
     output: &mut W,
     faults: &mut E,
 ) -> u8
     ensures statuses { result ≤ 5 }
 
     // The words alone decide on status 2, and then nothing is read.
-    ensures usage { result ≡ 2 → ¬ (GiveWidth (map string_bytes words.now)) }
-    ensures width { result ≢ 2 → GiveWidth (map string_bytes words.now) }
-    ensures unread { result ≡ 2 → Keeps (R.remaining input.old) (R.remaining input.new) }
+    ensures usage { result ≡ 2 → AskForNothing (map string_bytes words.now) }
+    ensures unread { result ≡ 2 → Keeps (I.remaining input.old) (I.remaining input.new) }
 
-    // The whole input is a text in UTF-8 where it was expanded or refused.
-    ensures expanded { result ≡ 0 → ReadsText (R.remaining input.old) (R.remaining input.new)
-        (λ text. Writes (W.contents output.old) (W.contents output.new)
-        (IsPrintOfExpansion (given_width (map string_bytes words.now)) text)) }
-    ensures refused { result ≡ 1 → ReadsText (R.remaining input.old) (R.remaining input.new)
-        (λ text. WritesBeginning (E.contents faults.old) (E.contents faults.new)
-        (HasNoPrint text)) }
-    ensures cut { result ≡ 5 → ReadsText (R.remaining input.old) (R.remaining input.new)
-        (λ text. WritesBeginning (W.contents output.old) (W.contents output.new)
-        (IsPrintOfExpansion (given_width (map string_bytes words.now)) text)) }
+    // What is asked for is done; or the program is refused, or can't be read; or the output is cut.
+    ensures expanded { result ≡ 0 → AsAsked (map string_bytes words.now)
+        (λ program request. DoesAsked program request
+        (I.remaining input.old) (I.remaining input.new)
+        (W.contents output.old) (W.contents output.new)
+        (E.contents faults.old) (E.contents faults.new)) }
+    ensures refused { result ≡ 1 → AsAsked (map string_bytes words.now)
+        (λ program request. RefusesAsked program request
+        (I.remaining input.old) (I.remaining input.new)
+        (E.contents faults.old) (E.contents faults.new)) }
+    ensures missed { result ≡ 3 → AsAsked (map string_bytes words.now)
+        (λ program request. MissesAsked program request
+        (I.remaining input.old) (I.remaining input.new)
+        (E.contents faults.old) (E.contents faults.new)) }
+    ensures cut { result ≡ 5 → AsAsked (map string_bytes words.now)
+        (λ program request. CutsAsked program request
+        (I.remaining input.old) (I.remaining input.new)
+        (W.contents output.old) (W.contents output.new)) }
 
     // Any other status leaves the output alone.
     ensures unwritten { result ≢ 0 → result ≢ 5
         → Keeps (W.contents output.old) (W.contents output.new) }
 
-    // Standard error gets nothing, or the text of the status as far as it takes it.
-    ensures quiet { result ≡ 0 → Keeps (E.contents faults.old) (E.contents faults.new) }
-    ensures told { 2 ≤ result → WritesBeginning (E.contents faults.old) (E.contents faults.new)
+    // Past 1, but for what can't be read, standard error gets the text of the status.
+    ensures told { 2 ≤ result → result ≢ 3
+        → WritesBeginning (E.contents faults.old) (E.contents faults.new)
         (IsDiagnostic result) }
 {
-    match expanded_onto(alloc, words, input, output) {
-        Ok(()) => 0,
-        Err(failure) => report(&failure, faults),
-    }
+    let (program, options) = (this_program(), own_options());
+    run_as(rt, &program, &options, words, input, output, faults)
 }
 
-/// Expands the extractors of the input onto the output.
-fn expanded_onto<R: Read, W: Write>(
-    alloc: Global,
+/// Does the work of `run`, as a program with this name, this usage and these options.
+fn run_as<R: Files + AllocGlobal + Clone + Drop, I: Read, W: Write, E: Write>(
+    rt: &R,
+    program: &Program,
+    options: &Options,
     words: &[String],
-    input: &mut R,
+    input: &mut I,
     output: &mut W,
-) -> Result<(), Failure>
-    ensures width { OnOk result (GiveWidth (map string_bytes words.now)) }
-    ensures ok { OnOk result (ReadsText (R.remaining input.old) (R.remaining input.new)
-        (λ text. Writes (W.contents output.old) (W.contents output.new)
-        (IsPrintOfExpansion (given_width (map string_bytes words.now)) text))) }
-    ensures err { IfErr result (λ failure. Explains failure (map string_bytes words.now)
-        (R.remaining input.old) (R.remaining input.new)
+    faults: &mut E,
+) -> u8
+    ensures statuses { result ≤ 5 }
+    ensures usage { result ≡ 2 → IsMisuse (asked options.now (map string_bytes words.now)) }
+    ensures unread { result ≡ 2 → Keeps (I.remaining input.old) (I.remaining input.new) }
+    ensures expanded { result ≡ 0 → AnswersTo (asked options.now (map string_bytes words.now))
+        (λ request. DoesAsked program.now request
+        (I.remaining input.old) (I.remaining input.new)
+        (W.contents output.old) (W.contents output.new)
+        (E.contents faults.old) (E.contents faults.new)) }
+    ensures refused { result ≡ 1 → AnswersTo (asked options.now (map string_bytes words.now))
+        (λ request. RefusesAsked program.now request
+        (I.remaining input.old) (I.remaining input.new)
+        (E.contents faults.old) (E.contents faults.new)) }
+    ensures missed { result ≡ 3 → AnswersTo (asked options.now (map string_bytes words.now))
+        (λ request. MissesAsked program.now request
+        (I.remaining input.old) (I.remaining input.new)
+        (E.contents faults.old) (E.contents faults.new)) }
+    ensures cut { result ≡ 5 → AnswersTo (asked options.now (map string_bytes words.now))
+        (λ request. CutsAsked program.now request
+        (I.remaining input.old) (I.remaining input.new)
         (W.contents output.old) (W.contents output.new)) }
+    ensures unwritten { result ≢ 0 → result ≢ 5
+        → Keeps (W.contents output.old) (W.contents output.new) }
+    ensures told { 2 ≤ result → result ≢ 3
+        → WritesBeginning (E.contents faults.old) (E.contents faults.new)
+        (frame.IsDiagnostic program.now result) }
 {
-    let width = width_of(words)?;
-    let text = read_text(alloc, input)?;
-    let answer = printed_expansion(alloc, text.as_str(), width)?;
-    match write_whole(output, answer.as_bytes()) {
-        Ok(()) => Ok(()),
-        Err(_) => Err(Failure::Output),
+    match requested(rt.alloc(), options, words) {
+        Ok(Request::Help) => tell(program, HELP, output, faults),
+        Ok(Request::Version) => tell(program, VERSION, output, faults),
+        Ok(Request::Work(arguments)) => work(rt, program, &arguments, input, output, faults),
+        Err(failure) => report(program, &failure, faults),
     }
 }
 
-/// Writes what a failure says to standard error, as far as it takes it, and answers the status.
-pub fn report<E: Write>(failure: &Failure, faults: &mut E) -> u8
-    ensures status { result ≡ status_of failure.now }
-    ensures text { AppendsBeginning (E.contents faults.old) (E.contents faults.new)
-        (text_of failure.now) }
+/// Does the work that arguments ask for.
+fn work<R: Files + AllocGlobal + Clone + Drop, I: Read, W: Write, E: Write>(
+    rt: &R,
+    program: &Program,
+    arguments: &[Argument],
+    input: &mut I,
+    output: &mut W,
+    faults: &mut E,
+) -> u8
+    ensures statuses { result ≤ 5 }
+    ensures usage { result ≡ 2 → (¬ (GivesWidth (map given_of arguments.now)))
+        × Keeps (I.remaining input.old) (I.remaining input.new) }
+    ensures expanded { result ≡ 0 → Expands program.now (map given_of arguments.now)
+        (I.remaining input.old) (I.remaining input.new)
+        (W.contents output.old) (W.contents output.new)
+        (E.contents faults.old) (E.contents faults.new) }
+    ensures refused { result ≡ 1 → Refuses program.now (map given_of arguments.now)
+        (I.remaining input.old) (I.remaining input.new)
+        (E.contents faults.old) (E.contents faults.new) }
+    ensures missed { result ≡ 3 → Misses program.now (map given_of arguments.now)
+        (I.remaining input.old) (I.remaining input.new)
+        (E.contents faults.old) (E.contents faults.new) }
+    ensures cut { result ≡ 5 → Cuts program.now (map given_of arguments.now)
+        (I.remaining input.old) (I.remaining input.new)
+        (W.contents output.old) (W.contents output.new) }
+    ensures unwritten { result ≢ 0 → result ≢ 5
+        → Keeps (W.contents output.old) (W.contents output.new) }
+    ensures told { 2 ≤ result → result ≢ 3
+        → WritesBeginning (E.contents faults.old) (E.contents faults.new)
+        (frame.IsDiagnostic program.now result) }
 {
-    let _ = write_whole(faults, failure.text().as_bytes());
-    failure.status()
-}
-
-/// The width that the words give.
-fn width_of(words: &[String]) -> Result<usize, Failure>
-    ensures ok { IfOk result (λ width. GiveWidth (map string_bytes words.now)
-        × (width ≡ given_width (map string_bytes words.now))) }
-    ensures err { IfErr result (λ failure. (failure ≡ Failure.Usage)
-        × (¬ (GiveWidth (map string_bytes words.now)))) }
-{
-    match words {
-        [] => Ok(DEFAULT_WIDTH),
-        [word] => parsed_width(word.as_str()).ok_or(Failure::Usage),
-        _ => Err(Failure::Usage),
+    match expand(rt, program, arguments, input, output, faults) {
+        Ok(status) => status,
+        Err(failure) => report(program, &failure, faults),
     }
 }
+
+/// Expands what the arguments name onto the output, and gives the status, 0 or 3.
+fn expand<R: Files + AllocGlobal + Clone + Drop, I: Read, W: Write, E: Write>(
+    rt: &R,
+    program: &Program,
+    arguments: &[Argument],
+    input: &mut I,
+    output: &mut W,
+    faults: &mut E,
+) -> Result<u8, Failure>
+    ensures ok { IfOk result (λ status. Ends program.now (map given_of arguments.now) status
+        (I.remaining input.old) (I.remaining input.new)
+        (W.contents output.old) (W.contents output.new)
+        (E.contents faults.old) (E.contents faults.new)) }
+    ensures err { IfErr result (λ failure. Explains failure program.now
+        (map given_of arguments.now) (I.remaining input.old) (I.remaining input.new)
+        (W.contents output.old) (W.contents output.new)) }
+    ensures quiet { IfErr result
+        (λ _. Keeps (E.contents faults.old) (E.contents faults.new)) }
+{
+    match read_program(rt, program, arguments, input) {
+        Ok(read) => put_program(rt.alloc(), &read, output, faults),
+        Err(failure) => Err(failure),
+    }
+}
+
+/// The width that the arguments give, and what was read of what they name.
+#[derive(Drop)]
+pub struct Taken {
+    /// The width.
+    pub width: usize,
+    /// What was read.
+    pub sources: Sources,
+}
+
+/// Reads what the arguments name, where they give a width.
+fn read_program<R: Files + AllocGlobal + Clone + Drop, I: Read>(
+    rt: &R,
+    program: &Program,
+    arguments: &[Argument],
+    input: &mut I,
+) -> Result<Taken, Failure>
+    ensures ok { IfOk result (λ read. Takes program.now (map given_of arguments.now)
+        (I.remaining input.old) (I.remaining input.new) read) }
+    ensures err { IfErr result (λ failure. IsReadFailure failure (map given_of arguments.now)
+        (I.remaining input.old) (I.remaining input.new)) }
+{
+    let width = width_of(arguments)?;
+    let names = names_of(rt.alloc(), arguments)?;
+    let sources = read_sources(rt, program, &names, stdin_name_of(arguments), input)?;
+    Ok(Taken { width, sources })
+}
+
+/// Expands what was read onto the output, if all could be read, and gives the status, 0 or 3.
+fn put_program<W: Write, E: Write>(
+    alloc: Global,
+    read: &Taken,
+    output: &mut W,
+    faults: &mut E,
+) -> Result<u8, Failure>
+    ensures ok { IfOk result (λ status. EndsAs status read.now
+        (W.contents output.old) (W.contents output.new)
+        (E.contents faults.old) (E.contents faults.new)) }
+    ensures err { IfErr result (λ failure. ExplainsAs failure read.now
+        (W.contents output.old) (W.contents output.new)) }
+    ensures quiet { IfErr result
+        (λ _. Keeps (E.contents faults.old) (E.contents faults.new)) }
+{
+    if !read.sources.faults.is_empty() {
+        let _ = write_whole(faults, read.sources.faults.as_bytes());
+        return Ok(3);
+    }
+    match put_expansion(alloc, &read.sources.list, read.width, output, faults) {
+        Ok(()) => Ok(0),
+        Err(failure) => Err(failure),
+    }
+}
+
+/// Expands the texts of a program onto the output.
+fn put_expansion<W: Write, E: Write>(
+    alloc: Global,
+    sources: &[Source],
+    width: usize,
+    output: &mut W,
+    faults: &mut E,
+) -> Result<(), Failure>
+    ensures print { OnOk result (Writes (W.contents output.old) (W.contents output.new)
+        (IsPrintOfExpansion width (map source_of sources.now))) }
+    ensures warnings { OnOk result (WritesBeginning (E.contents faults.old)
+        (E.contents faults.new) (AreWarnings (map source_of sources.now))) }
+    ensures err { IfErr result (λ failure. IsPutFailure failure width (map source_of sources.now)
+        (W.contents output.old) (W.contents output.new)) }
+    ensures quiet { IfErr result
+        (λ _. Keeps (E.contents faults.old) (E.contents faults.new)) }
+{
+    let answer = match answer_to(alloc, sources, width) {
+        Ok(answer) => answer,
+        Err(failure) => return Err(failure),
+    };
+    match put(output, answer.print.as_str()) {
+        Ok(()) => {
+            let _ = write_whole(faults, answer.warnings.as_bytes());
+            Ok(())
+        }
+        Err(failure) => Err(failure),
+    }
+}
+
+#[cfg(test)]
+mod tests;

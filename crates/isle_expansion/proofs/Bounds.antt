@@ -1,5 +1,5 @@
 -- The arguments of a macro in a pattern have indices below a bound.
-use Rattle.std.proofs.Common.{◌≡◌, ℕ, ◌+◌, ◌<◌, zero, suc, List, [], ◌∷◌, ◌++◌, length, Bool, true, false, ◌||◌, nat_le, bytes_eq, Option, None, Some, is_none, option_map, slice_get, if◌then◌else◌, refl, ap, sym, subst, ◌∙◌, arith}
+use Rattle.std.proofs.Common.{◌≡◌, ℕ, ◌+◌, ◌<◌, zero, suc, List, [], ◌∷◌, length, Bool, true, false, ◌||◌, nat_le, bytes_eq, Option, None, Some, is_none, option_map, slice_get, if◌then◌else◌, refl, sym, subst, ◌∙◌, arith}
 use Rattle.std.specs.List.{AllByRecursion, list_any}
 use Rattle.std.proofs.lemmas.Bool.{lt-leb}
 use Rattle.std.proofs.lemmas.List.Folds.{list_any-append}
@@ -7,7 +7,7 @@ use Rattle.isle_base_source.specs.declared.pos.Pos.{Pos}
 use Rattle.isle_ast_names.specs.Tree.{Name}
 use Rattle.isle_ast_rules.specs.Tree.{PatternNode, var_pattern, bind_pattern, bool_pattern, int_pattern, constant_pattern, term_pattern, wildcard_pattern, and_pattern, macro_arg_pattern, PatternList, no_pattern, more_pattern}
 use Rattle.isle_ast_rules.specs.MacroArgs.{has_macro_arg, have_macro_arg}
-use Rattle.isle_ast_rules.specs.Templates.{bound_index, first_from, first_index, indices, is_wildcard, join, lacks, plug, plug_list, put, replace, replace_list, list_indices}
+use Rattle.isle_ast_rules.specs.Templates.{bound_index, first_from, first_index, indices, is_wildcard, join, plug, plug_list, put, replace, replace_list, list_indices}
 use Rattle.isle_ast_rules.proofs.Templates.{plug_lacks}
 use Rattle.isle_expansion.specs.Expansion.{list_list}
 

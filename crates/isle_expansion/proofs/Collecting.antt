@@ -1,5 +1,5 @@
 -- What is collected of a pattern are its terms.
-use Rattle.std.proofs.Common.{◌≡◌, ◌<◌, ◌≤◌, ℕ, ◌+◌, List, [], ◌∷◌, ◌++◌, length, get_or, drop, map, refl, ap, sym, ◌∙◌, append_assoc}
+use Rattle.std.proofs.Common.{◌≡◌, ◌<◌, ℕ, ◌+◌, List, [], ◌∷◌, ◌++◌, length, get_or, drop, ap, sym, ◌∙◌, append_assoc}
 use Rattle.std.proofs.lemmas.List.{append-nil, map-append}
 use Rattle.isle_ast_names.specs.TreeView.{name_of}
 use Rattle.isle_ast_rules.specs.declared.Pattern.{Pattern}
@@ -11,7 +11,7 @@ use Rattle.isle_expansion.specs.Expansion.{list_list}
 use Rattle.isle_expansion.specs.Mentions.{TermUse, root_uses, list_uses, uses}
 use Rattle.isle_expansion.specs.Views.{use_of, uses_of}
 use Rattle.isle_expansion.proofs.Lists.{list_listed}
-use Rattle.isle_expansion.proofs.Steps.{view_end, view_more}
+use Rattle.isle_expansion.proofs.Steps.{view_more}
 
 mutual
   pub collected_uses : (p : PatternNode) (us : List TermUse) → collected p us ≡ us ++ uses p

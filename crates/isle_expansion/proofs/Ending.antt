@@ -1,7 +1,6 @@
 -- The flags of an order tell exactly which templates end.
-use Rattle.std.proofs.Common.{◌≡◌, ◌==◌, ℕ, ◌+◌, ◌<◌, zero, suc, List, [], ◌∷◌, ◌++◌, length, get_or, map, Bool, true, false, ◌&&◌, ◌||◌, Option, None, Some, slice_get, if◌then◌else◌, option_map, ◌⊎◌, inl, inr, refl, ap, sym, subst, ◌∙◌, arith, eqb-true}
-use Rattle.std.specs.List.{list_all, list_any}
-use Rattle.std.proofs.lemmas.List.{length-map}
+use Rattle.std.proofs.Common.{◌≡◌, ◌==◌, ℕ, zero, suc, List, [], ◌∷◌, ◌++◌, length, get_or, Bool, true, false, ◌&&◌, ◌||◌, Option, None, Some, slice_get, option_map, ◌⊎◌, inl, inr, refl, ap, sym, subst, ◌∙◌, eqb-true}
+use Rattle.std.specs.List.{list_all}
 use Rattle.std.proofs.lemmas.Option.{slice_get_within, slice_get-map, get_or_from_slice_get}
 use Rattle.isle_ast_rules.specs.Tree.{PatternNode}
 use Rattle.isle_expansion.specs.Macros.{MacroNode, meant, place_of}
@@ -9,7 +8,7 @@ use Rattle.isle_expansion.specs.Mentions.{TermUse, uses}
 use Rattle.isle_expansion.specs.Misuses.{Ends, ends, fits}
 use Rattle.isle_expansion.specs.Order.{AreAfterCallees, IsClosed, IsOrder, all_end, callee_places, callees_in, has, with_place}
 use Rattle.isle_expansion.proofs.Growth.{deeper, deeper_comm}
-use Rattle.isle_expansion.proofs.Places.{IsMeantAt, no_place, place_means}
+use Rattle.isle_expansion.proofs.Places.{no_place, place_means}
 
 -- two tests
 pub both_true : (a b : Bool) → a ≡ true → b ≡ true → (a && b) ≡ true

@@ -1,27 +1,25 @@
 -- Definitions without a misuse have the expansion that templates give which are expanded in order.
-use Rattle.std.proofs.Common.{◌≡◌, ◌==◌, ◌⊎◌, inl, inr, ℕ, ◌+◌, ◌<◌, zero, suc, List, [], ◌∷◌, ◌++◌, length, get_or, map, Bool, true, false, ◌||◌, Option, None, Some, option_map, slice_get, if◌then◌else◌, bytes_eq, refl, ap, sym, subst, ◌∙◌, arith, eqb-true, eq-eqb, append_assoc}
-use Rattle.std.specs.List.{AllByRecursion, list_all, list_any}
+use Rattle.std.proofs.Common.{◌≡◌, ◌==◌, ℕ, ◌+◌, zero, suc, List, [], ◌∷◌, ◌++◌, length, get_or, map, Bool, true, false, ◌||◌, Option, None, Some, option_map, slice_get, refl, ap, sym, subst, ◌∙◌, arith, eqb-true, eq-eqb, append_assoc}
+use Rattle.std.specs.List.{AllByRecursion, list_all}
 use Rattle.std.proofs.lemmas.List.{append-nil}
 use Rattle.std.proofs.lemmas.List.Folds.{list_any-append}
-use Rattle.isle_ast_names.specs.Tree.{Name}
 use Rattle.isle_ast_rules.specs.MacroArgs.{extractor_has_macro_arg}
 use Rattle.isle_ast_rules.specs.Templates.{first_from}
-use Rattle.isle_ast_rules.specs.Tree.{PatternNode, macro_arg_pattern, ExtractorDefinition}
 use Rattle.isle_ast.specs.MacroArgs.{definition_has_macro_arg, definitions_have_macro_arg}
-use Rattle.isle_ast.specs.Tree.{Definition, type_def, rule, extractor, decl, attr, spec, spec_macro, model, state, form, instantiation, external, converter}
+use Rattle.isle_ast.specs.Tree.{Definition, rule, extractor}
 use Rattle.isle_expansion.specs.Macros.{MacroNode, macros_in, meant, place_of, template_of}
 use Rattle.isle_expansion.specs.Expansion.{expand, expanded_by, known}
-use Rattle.isle_expansion.specs.Definitions.{AreExpanded, AreGivenOnce, expand_definitions}
-use Rattle.isle_expansion.specs.Mentions.{Mention, given_mention, use_mention, TermUse, definition_mentions, mentions, place_after, rule_uses, uses}
-use Rattle.isle_expansion.specs.Misuses.{Ends, HaveNoMisuse, IsFine, IsFineUse}
+use Rattle.isle_expansion.specs.Definitions.{AreExpanded, expand_definitions}
+use Rattle.isle_expansion.specs.Mentions.{use_mention, TermUse, definition_mentions, mentions, place_after, rule_uses, uses}
+use Rattle.isle_expansion.specs.Misuses.{HaveNoMisuse, IsFine, IsFineUse}
 use Rattle.isle_expansion.specs.Order.{AreAfterCallees, IsClosed, IsOrder, callee_places, callees_in, expand_place, expand_places, has, with_place}
-use Rattle.isle_expansion.proofs.Options.{Within, within_at, within_self}
+use Rattle.isle_expansion.proofs.Options.{Within, within_at}
 use Rattle.isle_expansion.proofs.Growth.{Begun, Grows, GrowsTo, SameMacro, definitions_grow, expand_grows, grows_self, grows_trans, known_grows, macros_begun, meant_grows}
-use Rattle.isle_expansion.proofs.Places.{FoundFrom, IsMeantAt, no_place, place_means, terms}
+use Rattle.isle_expansion.proofs.Places.{no_place, place_means, terms}
 use Rattle.isle_expansion.proofs.Ending.{callees_at, first_true, flag_at, order_ends, second_true}
 use Rattle.isle_expansion.proofs.Searching.{AreExact}
 use Rattle.isle_expansion.proofs.Bounds.{IsBounded, template_bounded}
-use Rattle.isle_expansion.proofs.Total.{AreReady, Expansion, IsExpanded, IsReady, definition_uses, definitions_there, expansion_of, ready_parts}
+use Rattle.isle_expansion.proofs.Total.{AreReady, IsExpanded, IsReady, definition_uses, definitions_there, expansion_of, ready_parts}
 
 -- the flags of an order tell exactly which templates come to an end
 pub order_exact : (ms : List MacroNode) (flags : List Bool) (places : List ℕ) → IsOrder (callees_in ms) flags places → IsClosed (callees_in ms) flags (length ms) → AreExact ms flags

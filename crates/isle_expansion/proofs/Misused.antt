@@ -1,16 +1,16 @@
 -- Definitions that have an expansion have no misuse.
-use Rattle.std.proofs.Common.{◌≡◌, ◌==◌, ◌&&◌, ℕ, ◌+◌, zero, suc, List, [], ◌∷◌, ◌++◌, length, map, Bool, true, false, Option, None, Some, option_map, option_and_then, slice_get, if◌then◌else◌, bytes_eq, refl, ap, sym, subst, ◌∙◌, eqb-true, arith}
+use Rattle.std.proofs.Common.{◌≡◌, ◌==◌, ◌&&◌, ℕ, ◌+◌, zero, suc, List, [], ◌∷◌, ◌++◌, length, map, Bool, true, false, Option, None, Some, option_map, option_and_then, slice_get, refl, ap, sym, subst, ◌∙◌, eqb-true, arith}
 use Rattle.std.specs.List.{AllByRecursion, flat_map, list_all}
 use Rattle.isle_base_source.specs.declared.pos.Pos.{Pos}
 use Rattle.isle_ast_names.specs.Tree.{Name}
 use Rattle.isle_ast_rules.specs.Tree.{PatternNode, var_pattern, bind_pattern, bool_pattern, int_pattern, constant_pattern, term_pattern, wildcard_pattern, and_pattern, macro_arg_pattern, PatternList, no_pattern, more_pattern, Condition, RuleDefinition}
-use Rattle.isle_ast_rules.specs.Templates.{join, plug}
+use Rattle.isle_ast_rules.specs.Templates.{plug}
 use Rattle.isle_ast.specs.Tree.{Definition, rule, extractor}
 use Rattle.isle_expansion.specs.Macros.{MacroNode, macros_in, meant, place_of, template_of}
-use Rattle.isle_expansion.specs.Expansion.{expand, expand_list, expand_use, expanded_by, filled, known, list_list}
-use Rattle.isle_expansion.specs.Definitions.{AreExpanded, AreGivenOnce, both, expand_condition, expand_conditions, expand_definition, expand_definitions, expand_root, expand_rule, with_patterns}
-use Rattle.isle_expansion.specs.Mentions.{Mention, given_mention, use_mention, TermUse, mentions, uses, list_uses, root_uses, rule_uses}
-use Rattle.isle_expansion.specs.Misuses.{Ends, HaveNoMisuse, IsFine, IsFineUse, IsFirstMisuse, MisuseNode, ends, fits}
+use Rattle.isle_expansion.specs.Expansion.{expand, expand_list, expand_use, expanded_by, known, list_list}
+use Rattle.isle_expansion.specs.Definitions.{AreExpanded, both, expand_condition, expand_conditions, expand_definition, expand_definitions, expand_root, expand_rule, with_patterns}
+use Rattle.isle_expansion.specs.Mentions.{use_mention, TermUse, mentions, uses, list_uses, root_uses, rule_uses}
+use Rattle.isle_expansion.specs.Misuses.{HaveNoMisuse, IsFine, IsFineUse, IsFirstMisuse, MisuseNode, ends, fits}
 use Rattle.isle_expansion.proofs.Growth.{Begun, macros_begun}
 use Rattle.isle_expansion.proofs.Cases.{if_some, meant_begun, meant_map, then_some}
 use Rattle.isle_expansion.proofs.Bounds.{join_some, map_some}

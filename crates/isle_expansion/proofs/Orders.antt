@@ -1,10 +1,10 @@
 -- An order with one place more.
-use Rattle.std.proofs.Common.{◌≡◌, ◌≢◌, ◌==◌, ◌<◌, ◌≤◌, ℕ, ◌+◌, zero, suc, List, [], ◌∷◌, ◌++◌, length, get_or, set, replicate, Bool, true, false, ◌&&◌, ◌||◌, not, refl, ap, sym, subst, ◌∙◌, arith, eqb-true, eq-eqb, append_assoc}
-use Rattle.std.specs.List.{list_all, list_any}
+use Rattle.std.proofs.Common.{◌≡◌, ◌≢◌, ◌==◌, ◌<◌, ℕ, ◌+◌, zero, suc, List, [], ◌∷◌, ◌++◌, length, get_or, set, replicate, Bool, true, false, ◌&&◌, ◌||◌, not, refl, ap, sym, subst, ◌∙◌, arith, eqb-true, eq-eqb, append_assoc}
+use Rattle.std.specs.List.{list_all}
 use Rattle.std.proofs.lemmas.List.{length-set, length-replicate, append-nil, get_or-set_same, get_or-set_other}
 use Rattle.std.proofs.lemmas.List.Folds.{list_any-append}
 use Rattle.isle_expansion.specs.Order.{AreAfterCallees, IsClosed, IsOrder, all_end, has, unended}
-use Rattle.isle_expansion.proofs.Ending.{all_more, first_true, second_true}
+use Rattle.isle_expansion.proofs.Ending.{all_more}
 
 or_true : (b : Bool) → (b || true) ≡ true
 or_true true = refl

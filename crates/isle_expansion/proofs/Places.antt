@@ -1,5 +1,5 @@
 -- The place of the macro that a symbol means.
-use Rattle.std.proofs.Common.{◌≡◌, ◌==◌, ℕ, ◌+◌, zero, suc, List, [], ◌∷◌, map, Bool, true, false, bytes_eq, Option, None, Some, slice_get, if◌then◌else◌, refl, ap, sym, subst, ◌∙◌, arith}
+use Rattle.std.proofs.Common.{◌≡◌, ℕ, ◌+◌, suc, List, [], ◌∷◌, map, Bool, true, false, bytes_eq, Option, None, Some, slice_get, if◌then◌else◌, refl, ap, subst, ◌∙◌, arith}
 use Rattle.isle_ast_names.specs.Tree.{Name}
 use Rattle.isle_ast_rules.specs.Templates.{first_from}
 use Rattle.isle_expansion.specs.Macros.{MacroNode, meant, place_of}

@@ -1,12 +1,11 @@
 -- What the search finds is the first misuse, and there is none where it finds nothing.
-use Rattle.std.proofs.Common.{◌≡◌, ◌==◌, ◌⊎◌, inl, inr, ℕ, ◌<◌, List, [], ◌∷◌, ◌++◌, length, get_or, map, Bool, true, false, Option, None, Some, slice_get, if◌then◌else◌, refl, ap, sym, subst, ◌∙◌, eqb-true, eq-eqb}
+use Rattle.std.proofs.Common.{◌≡◌, ◌==◌, inl, inr, ℕ, List, [], ◌∷◌, ◌++◌, get_or, map, Bool, true, false, Option, None, Some, slice_get, if◌then◌else◌, refl, ap, sym, subst, ◌∙◌, eqb-true, eq-eqb}
 use Rattle.std.specs.List.{AllByRecursion}
 use Rattle.isle_base_source.specs.declared.pos.Pos.{Pos}
 use Rattle.isle_ast_names.specs.Tree.{Name}
-use Rattle.isle_ast.specs.Tree.{Definition}
-use Rattle.isle_expansion.specs.Macros.{MacroNode, macros_in, meant, place_of}
-use Rattle.isle_expansion.specs.Mentions.{Mention, given_mention, use_mention, TermUse, mentions}
-use Rattle.isle_expansion.specs.Misuses.{Ends, HaveNoMisuse, IsFine, IsFineUse, IsFirstMisuse, IsMisuse, MisuseNode, Misuses, again, arguments, cycle}
+use Rattle.isle_expansion.specs.Macros.{MacroNode, meant, place_of}
+use Rattle.isle_expansion.specs.Mentions.{Mention, given_mention, use_mention, TermUse}
+use Rattle.isle_expansion.specs.Misuses.{Ends, IsFine, IsFineUse, IsMisuse, MisuseNode, Misuses, again, arguments, cycle}
 use Rattle.isle_expansion.specs.Search.{first, given_misuse, macro_misuse, mention_misuse, or_first, place_misuse, use_misuse}
 use Rattle.isle_expansion.proofs.Places.{no_place, place_means}
 

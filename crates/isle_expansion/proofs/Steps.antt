@@ -1,6 +1,6 @@
 -- Steps of the loops of the code.
-use Rattle.std.proofs.Common.{◌≡◌, ◌≢◌, ◌-◌, ◌&&◌, Result, Ok, Err, IfOk, MatchOption, Bor, bytes_eq, eq-eqb, length-drop, ◌<◌, ◌≤◌, ℕ, ◌+◌, zero, suc, List, [], ◌∷◌, ◌++◌, length, get_or, set, take, drop, map, Bool, true, false, Option, None, Some, option_map, slice_get, if◌then◌else◌, refl, ap, sym, subst, ◌∙◌, arith, append_assoc}
-use Rattle.std.specs.List.{cons_option, flat_map}
+use Rattle.std.proofs.Common.{◌≡◌, ◌≢◌, ◌-◌, ◌&&◌, Result, Ok, Err, IfOk, MatchOption, Bor, bytes_eq, eq-eqb, length-drop, ◌<◌, ◌≤◌, ℕ, ◌+◌, zero, suc, List, [], ◌∷◌, ◌++◌, length, get_or, set, drop, map, Bool, true, false, Option, None, Some, option_map, slice_get, if◌then◌else◌, refl, ap, sym, subst, ◌∙◌, arith, append_assoc}
+use Rattle.std.specs.List.{cons_option}
 use Rattle.std.proofs.lemmas.List.{drop_all, drop_more, drop-drop, map-append}
 use Rattle.std.proofs.lemmas.Slice.Eq.{bytes_eq-Decides}
 use Rattle.isle_base_source.specs.declared.pos.Pos.{Pos}
@@ -8,7 +8,7 @@ use Rattle.isle_ast_names.specs.Tree.{Name}
 use Rattle.isle_ast_names.specs.TreeView.{name_of}
 use Rattle.isle_ast_rules.specs.declared.Pattern.{Pattern}
 use Rattle.isle_ast_rules.specs.Tree.{PatternNode, PatternList}
-use Rattle.isle_ast_rules.specs.TreeView.{pattern_of, pattern_list_of, patterns_of}
+use Rattle.isle_ast_rules.specs.TreeView.{pattern_of, pattern_list_of}
 use Rattle.isle_ast.specs.Tree.{Definition, extractor}
 use Rattle.isle_expansion.specs.declared.mentions.TermUse.{TermUse as CodeUse}
 use Rattle.isle_expansion.specs.declared.macros.Macro.{Macro}
@@ -16,7 +16,7 @@ use Rattle.isle_expansion.specs.Macros.{MacroNode, macro_in, macros_in, place_of
 use Rattle.isle_expansion.specs.Expansion.{expand, expanded_by, list_list}
 use Rattle.isle_expansion.specs.Mentions.{Mention, given_mention, use_mention, TermUse, definition_mentions, mentions, place_after, list_uses, uses}
 use Rattle.isle_expansion.specs.Misuses.{MisuseNode, again}
-use Rattle.isle_expansion.specs.Order.{callee_places, expand_place, expand_places, with_place}
+use Rattle.isle_expansion.specs.Order.{callee_places, expand_place, with_place}
 use Rattle.isle_expansion.specs.Search.{first, given_misuse, mention_misuse, or_first, use_misuse}
 use Rattle.isle_expansion.specs.Views.{macro_of, macros_of, use_of, uses_of}
 use Rattle.isle_expansion.proofs.Lists.{list_listed}

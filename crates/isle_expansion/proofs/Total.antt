@@ -1,5 +1,5 @@
 -- A pattern of whose uses nothing is wrong, and whose macros have an expansion, has an expansion.
-use Rattle.std.proofs.Common.{◌≡◌, ◌==◌, ℕ, ◌+◌, zero, suc, List, [], ◌∷◌, ◌++◌, length, map, Bool, true, false, ◌||◌, Option, None, Some, option_map, option_and_then, if◌then◌else◌, bytes_eq, refl, ap, sym, subst, ◌∙◌, eq-eqb}
+use Rattle.std.proofs.Common.{◌≡◌, ℕ, suc, List, [], ◌∷◌, ◌++◌, length, Option, None, Some, option_map, option_and_then, if◌then◌else◌, refl, ap, sym, subst, ◌∙◌, eq-eqb}
 use Rattle.std.specs.List.{AllByRecursion, flat_map}
 use Rattle.isle_base_source.specs.declared.pos.Pos.{Pos}
 use Rattle.isle_ast_names.specs.Tree.{Name}
@@ -7,7 +7,7 @@ use Rattle.isle_ast_rules.specs.Tree.{PatternNode, var_pattern, bind_pattern, bo
 use Rattle.isle_ast_rules.specs.Templates.{join, plug}
 use Rattle.isle_ast.specs.Tree.{Definition, rule, extractor, decl}
 use Rattle.isle_expansion.specs.Macros.{MacroNode, meant, template_of}
-use Rattle.isle_expansion.specs.Expansion.{expand, expand_list, expand_use, filled, list_list}
+use Rattle.isle_expansion.specs.Expansion.{expand, expand_list, expand_use, list_list}
 use Rattle.isle_expansion.specs.Definitions.{both, expand_condition, expand_conditions, expand_definition, expand_definitions, expand_root, expand_rule, is_only_extracted, with_patterns}
 use Rattle.isle_expansion.specs.Mentions.{TermUse, uses, list_uses, root_uses, rule_uses}
 use Rattle.isle_expansion.proofs.Bounds.{IsBounded, IsListBounded, bounded_list, bounded_more, bounded_parts, plug_bounded, plugged}

@@ -1,5 +1,5 @@
 -- The expansion of writable definitions is writable.
-use Rattle.std.proofs.Common.{◌≡◌, ◌==◌, ℕ, zero, suc, List, [], ◌∷◌, ◌++◌, length, map, Bool, true, false, ◌&&◌, ◌||◌, nat_le, not, Option, None, Some, IfSome, option_map, option_and_then, slice_get, bytes_eq, if◌then◌else◌, refl, ap, sym, subst, ◌∙◌}
+use Rattle.std.proofs.Common.{◌≡◌, ◌==◌, ℕ, zero, suc, List, [], ◌∷◌, ◌++◌, length, map, Bool, true, false, Option, None, Some, IfSome, option_map, option_and_then, slice_get, bytes_eq, if◌then◌else◌, refl, sym, subst}
 use Rattle.std.specs.List.{AllByRecursion}
 use Rattle.std.specs.Prelude.{ℤ, codes}
 use Rattle.isle_base_source.specs.declared.pos.Pos.{Pos}
@@ -13,7 +13,7 @@ use Rattle.isle_ast_rules.specs.Writable.{AreWritablePatterns, IsConstantName, I
 use Rattle.isle_ast.specs.Tree.{Declaration, Definition, rule, extractor, decl}
 use Rattle.isle_ast.specs.Writable.{AreWritable, IsWritable}
 use Rattle.isle_expansion.specs.Macros.{MacroNode, macros_in, meant, template_of}
-use Rattle.isle_expansion.specs.Expansion.{expand, expand_list, expand_use, expanded_by, filled, known, list_list}
+use Rattle.isle_expansion.specs.Expansion.{expand, expand_list, expand_use, expanded_by, known, list_list}
 use Rattle.isle_expansion.specs.Definitions.{AreExpanded, both, expand_condition, expand_conditions, expand_definition, expand_definitions, expand_root, expand_rule, is_only_extracted, with_patterns}
 use Rattle.isle_expansion.proofs.Options.{if_some_if, if_some_map, if_some_then}
 use Rattle.isle_expansion.proofs.Growth.{Begun, macros_begun}

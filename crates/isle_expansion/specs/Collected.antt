@@ -1,5 +1,5 @@
 -- The terms of a pattern behind those that were collected before.
-use Rattle.std.specs.Prelude.{ℕ, List, [], ◌∷◌, ◌++◌, length}
+use Rattle.std.specs.Prelude.{List, [], ◌∷◌, ◌++◌, length}
 use Rattle.isle_base_source.specs.declared.pos.Pos.{Pos}
 use Rattle.isle_ast_names.specs.Tree.{Name}
 use Rattle.isle_ast_rules.specs.Tree.{PatternNode, var_pattern, bind_pattern, bool_pattern, int_pattern, constant_pattern, term_pattern, wildcard_pattern, and_pattern, macro_arg_pattern, PatternList, no_pattern, more_pattern}

@@ -1,9 +1,9 @@
 -- The expansion of definitions: the rules, with the patterns expanded that are uses, and all else but
 -- the extractors and the declarations that only they define.
-use Rattle.std.specs.Prelude.{◌≡◌, ℕ, List, [], ◌∷◌, ◌++◌, Bool, true, false, ◌&&◌, not, is_some, Option, None, Some, option_map, option_and_then, slice_get, if◌then◌else◌, codes}
+use Rattle.std.specs.Prelude.{◌≡◌, ℕ, List, [], ◌∷◌, ◌++◌, Bool, false, ◌&&◌, not, is_some, Option, None, Some, option_map, option_and_then, slice_get, if◌then◌else◌, codes}
 use Rattle.std.specs.List.{AllByRecursion, list_any}
 use Rattle.std.specs.Str.{bytes_eq}
-use Rattle.isle_ast_rules.specs.Tree.{PatternNode, var_pattern, bind_pattern, bool_pattern, int_pattern, constant_pattern, term_pattern, wildcard_pattern, and_pattern, macro_arg_pattern, PatternList, Condition, RuleDefinition}
+use Rattle.isle_ast_rules.specs.Tree.{PatternNode, term_pattern, Condition, RuleDefinition}
 use Rattle.isle_ast_rules.specs.TermHeads.{heads, list_heads}
 use Rattle.isle_ast.specs.Tree.{TypeDefinition, TypeContent, enum_type, EnumVariant, ExternDefinition, extern_extractor, extern_constructor, Declaration, Definition, type_def, rule, extractor, decl, external}
 use Rattle.isle_expansion.specs.Macros.{MacroNode, macros_in, meant, place_of, template_of}

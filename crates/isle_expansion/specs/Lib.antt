@@ -8,3 +8,6 @@ pub mod Order
 pub mod Search
 pub mod Collected
 pub mod Views
+pub mod Types
+pub mod Placed
+pub mod Warnings

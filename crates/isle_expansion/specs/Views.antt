@@ -1,5 +1,5 @@
 -- The macros of the code as pure values, and what its calls say of them.
-use Rattle.std.specs.Prelude.{◌≡◌, ℕ, List, Option, None, Some, Result, Ok, Err, option_map, map, length}
+use Rattle.std.specs.Prelude.{◌≡◌, List, Option, None, Some, Result, Ok, Err, option_map, map, length}
 use Rattle.isle_ast_names.specs.TreeView.{name_of}
 use Rattle.isle_ast_rules.specs.TreeView.{pattern_of}
 use Rattle.isle_expansion.specs.Macros.{MacroNode}

@@ -70,7 +70,7 @@ fn is_outside(term: &Ident, outside: &Extern) -> bool
 }
 
 /// Tells whether a term is a variant of a type.
-fn has_variant(term: &Ident, type_def: &TypeDef) -> bool
+pub fn has_variant(term: &Ident, type_def: &TypeDef) -> bool
     ensures { result
         ≡ has_variant (name_of term.now).text (type_definition_of type_def.now)
         (type_definition_of type_def.now).ty }
@@ -96,7 +96,7 @@ fn is_one_of(term: &Ident, type_def: &TypeDef, variants: &[Variant]) -> bool
 }
 
 /// Tells whether a term is this variant of a type, `TYPE.VARIANT`.
-fn is_variant(term: &Ident, type_def: &TypeDef, variant: &Variant) -> bool
+pub fn is_variant(term: &Ident, type_def: &TypeDef, variant: &Variant) -> bool
     ensures { result
         ≡ is_variant (name_of term.now).text (type_definition_of type_def.now)
         (variant_of variant.now) }

@@ -14,6 +14,7 @@ ghost use Rattle.isle_expansion.specs.Macros.{macros_in};
 ghost use Rattle.isle_expansion.specs.Misuses.{IsFirstMisuse};
 ghost use Rattle.isle_expansion.specs.Views.{IfMisuse, misuse_of};
 
+mod conversions;
 mod declarations;
 mod definitions;
 pub mod laws;
@@ -22,8 +23,11 @@ mod mentions;
 mod misuse;
 mod order;
 mod patterns;
+mod placed;
 mod search;
+mod types;
 
+pub use conversions::{Warning, warnings};
 use definitions::expand_definitions;
 use isle_ast::ast::Def;
 use macros::{expansions, templates};

@@ -1,4 +1,3 @@
 pub mod AllowanceLemmas
 pub mod FailureLemmas
-pub mod ReadingLemmas
 pub mod ReportLemmas

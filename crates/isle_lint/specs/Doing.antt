@@ -17,11 +17,11 @@ use Rattle.isle_cli.specs.Streams.{AppendsBeginning}
 use Rattle.isle_cli.specs.declared.failure.Failure.{Failure}
 use Rattle.isle_cli.specs.declared.failure.Failure.TheVariants as failures
 use Rattle.isle_lint.specs.Options.{are_usable, lints_on}
-use Rattle.isle_lint.specs.Reading.{IsReading}
+use Rattle.isle_reading.specs.Reading.{IsReading, refused_count}
 use Rattle.isle_cli.specs.declared.arguments.Options.{Options}
 use Rattle.isle_cli.specs.declared.program.Program.{Program}
 use Rattle.isle_lint.specs.declared.options.TheConstants.{HELP, VERSION}
-use Rattle.isle_lint.specs.Report.{count_text, is_program, refused_count, sources_text, told, usable}
+use Rattle.isle_lint.specs.Report.{count_text, is_program, sources_text, told, usable}
 
 -- What is shown is what these lints find in the trees of the texts, each finding once, in order of place, but for what
 -- comments turn off; and which texts spell no tree; and how many there are of both.

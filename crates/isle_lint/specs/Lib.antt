@@ -1,5 +1,4 @@
 pub mod Allowances
 pub mod Options
-pub mod Reading
 pub mod Report
 pub mod Doing

@@ -1,25 +1,22 @@
 -- What is told of a program: a line for each text that spells no tree, and for each finding.
-use Rattle.std.specs.Prelude.{ℕ, ◌+◌, ◌-◌, ◌^◌, ◌==◌, min, List, [], ◌∷◌, ◌++◌, Bool, true, false, not, ◌&&◌, ◌||◌, if◌then◌else◌, Option, None, Some, codes, count_by, filter, length, slice_get, slice_index_or, string_bytes}
+use Rattle.std.specs.Prelude.{ℕ, ◌+◌, ◌==◌, List, [], ◌∷◌, ◌++◌, Bool, true, false, not, ◌&&◌, ◌||◌, if◌then◌else◌, Option, codes, filter, length, slice_get, slice_index_or}
 use Rattle.std.specs.Fmt.{decimal}
 use Rattle.std.specs.List.{flat_map}
-use Rattle.std.specs.Option.{is_some}
 use Rattle.std.specs.Str.Lines.{lines}
 use Rattle.isle_base_source.specs.Lines.{line}
 use Rattle.isle_base_source.specs.Source.{Source}
 use Rattle.isle_base_source.specs.declared.error.Error.{Error}
-use Rattle.isle_base_source.specs.declared.error.Error.TheVariants as errors
 use Rattle.isle_cli.specs.Messages.{message_line}
 use Rattle.isle_findings.specs.Finding.{Found}
 use Rattle.isle_findings.specs.Lint.{message, name, needs_whole_program}
 use Rattle.isle_findings.specs.declared.lint.Lint.{Lint}
 use Rattle.isle_lint.specs.Allowances.{allows, lines_above}
+use Rattle.isle_reading.specs.Messages.{refusal_text, shown_offset}
+use Rattle.isle_reading.specs.Reading.{refused_count}
 
 -- the lints that can be used: without a whole program, those that need none
 abbrev pub usable : Bool → List Lint → List Lint
 usable is_whole ls = filter (λ l. is_whole || not (needs_whole_program l)) ls
-
-abbrev pub refused_count : List (Option Error) → ℕ
-refused_count refusals = count_by is_some refusals
 
 -- the texts are a whole program: they are said to be, and each spells a tree
 abbrev pub is_program : Bool → List (Option Error) → Bool
@@ -45,25 +42,11 @@ abbrev pub told : ℕ → List Source → List Found → List Found
 told file [] found = []
 told file (source ∷ sources) found = told_in file source found ++ told (file + 1) sources found
 
--- a place is shown at its offset, if that is not the greatest number
-abbrev pub shown_offset : ℕ → ℕ
-shown_offset offset = min offset (2 ^ 64 - 2)
-
 abbrev pub message_text : Found → List ℕ
 message_text f = message f.lint ++ codes " '" ++ f.name ++ codes "' [" ++ name f.lint ++ codes "]"
 
 abbrev pub finding_line : Source → Found → List ℕ
 finding_line source f = message_line source (shown_offset f.pos.offset) (codes "warning") (message_text f)
-
-abbrev pub refusal_line : Source → Error → List ℕ
-refusal_line source (errors.ParseError msg span) = message_line source (shown_offset span.from.offset) (codes "error") (string_bytes msg)
-refusal_line source _ = []
-
--- the line of a text that spells no tree
-abbrev pub refusal_text : Source → Option (Option Error) → List ℕ
-refusal_text source (Some (Some e)) = refusal_line source e
-refusal_text source (Some None) = []
-refusal_text source None = []
 
 -- the lines of the file of this number
 abbrev pub source_text : ℕ → Source → List (Option Error) → List Found → List ℕ

@@ -4,7 +4,6 @@
 mod allowances;
 mod options;
 mod program;
-mod reading;
 mod report;
 
 use isle_cli::failure::Failure;

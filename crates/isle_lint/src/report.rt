@@ -5,27 +5,26 @@ ghost use Rattle.std.specs.Prelude.{string_bytes};
 ghost use Rattle.std.specs.Str.Lines as Lines;
 ghost use Rattle.isle_base_source.specs.Lines.{line_ends};
 ghost use Rattle.isle_base_source.specs.Source as texts;
-ghost use Rattle.isle_cli.specs.Messages.{message_line};
 ghost use Rattle.isle_ast.specs.TreeView.{definitions_of};
 ghost use Rattle.isle_cli.specs.Sources.{source_of};
 ghost use Rattle.isle_cli.specs.declared.failure.Failure.TheVariants.{Memory};
 ghost use Rattle.isle_findings.specs.Finding.{finding_of};
 ghost use Rattle.isle_lint.specs.Allowances.{lines_above};
 ghost use Rattle.isle_lint.specs.Doing.{IsReport};
-ghost use Rattle.isle_lint.specs.Reading.{IsReading};
 ghost use Rattle.isle_lint.specs.Report.{count_text, counted, finding_line, is_allowed, is_program};
 ghost use Rattle.isle_lint.specs.Report.{is_told, kept_if};
-ghost use Rattle.isle_lint.specs.Report.{message_text, refusal_line, refused_count, shown_offset};
+ghost use Rattle.isle_lint.specs.Report.{message_text};
 ghost use Rattle.isle_lint.specs.Report.{source_text, sources_text, told, told_in, usable};
+ghost use Rattle.isle_reading.specs.Reading.{IsReading, refused_count};
 
 use crate::allowances::{allows, lines_above};
-use crate::reading::{Reading, read_all};
 use isle_base_source::error::Error;
 use isle_base_source::files::LineMap;
 use isle_cli::failure::Failure;
-use isle_cli::messages::message_line;
 use isle_cli::sources::Source;
 use isle_findings::{Finding, Lint, findings};
+use isle_reading::messages::{place_line, refusal_line};
+use isle_reading::trees::{Reading, read_all, refused_count};
 use std::alloc::{AllocError, Global};
 
 /// Tells what these lints find in a program, and which of its texts spell no tree: a line for
@@ -104,19 +103,6 @@ fn is_program(is_whole: bool, refusals: &[Option<Error>]) -> bool
     ensures { result ≡ is_program is_whole refusals.now }
 {
     is_whole && refused_count(refusals) == 0
-}
-
-/// Tells how many texts spell no tree.
-fn refused_count(refusals: &[Option<Error>]) -> usize
-    ensures { result ≡ refused_count refusals.now }
-{
-    let mut count = 0;
-    for refusal in refusals {
-        if refusal.is_some() {
-            count += 1;
-        }
-    }
-    count
 }
 
 /// Gives the findings that no comment turns off, in order.
@@ -235,32 +221,6 @@ fn source_text(
     Ok(report)
 }
 
-/// Makes the line of a text that spells no tree.
-fn refusal_line(
-    alloc: Global,
-    source: &Source,
-    lines: &LineMap,
-    error: &Error,
-) -> Result<String, AllocError>
-    requires { lines.now ≡ line_ends (string_bytes source.now.text) }
-    ensures { IfOk result (λ line. string_bytes line
-        ≡ refusal_line (source_of source.now) error.now) }
-{
-    match error {
-        Error::ParseError { msg, span } => {
-            place_line(
-                alloc,
-                source,
-                lines,
-                span.from.offset,
-                "error",
-                msg.as_str(),
-            )
-        }
-        _ => Ok(String::new(alloc)),
-    }
-}
-
 /// Makes the line of a finding.
 fn finding_line(
     alloc: Global,
@@ -275,25 +235,6 @@ fn finding_line(
     let message = message_of(alloc, finding)?;
     let text = message.as_str();
     place_line(alloc, source, lines, finding.pos.offset, "warning", text)
-}
-
-/// Makes the line that says something of a place.
-fn place_line(
-    alloc: Global,
-    source: &Source,
-    lines: &LineMap,
-    offset: usize,
-    kind: &str,
-    message: &str,
-) -> Result<String, AllocError>
-    requires { lines.now ≡ line_ends (string_bytes source.now.text) }
-    ensures { IfOk result (λ line. string_bytes line
-        ≡ message_line (source_of source.now) (shown_offset offset) kind.now message.now) }
-{
-    let offset = offset.min(usize::MAX - 1);
-    let name = source.name.as_str();
-    let text = source.text.as_str();
-    message_line(alloc, name, text, lines, offset, kind, message)
 }
 
 /// What a finding says.

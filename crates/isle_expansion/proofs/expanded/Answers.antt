@@ -1,10 +1,9 @@
 use Rattle.std.proofs.Common.{◌≡◌, None, Some, length, map, option_map, ap, sym, subst, ◌∙◌, rules}
 use Rattle.std.proofs.lemmas.List.{length-map}
 use Rattle.isle_ast.specs.TreeView.{definitions_of}
-use Rattle.isle_expansion.specs.Definitions.{AreExpanded, expand_definitions}
+use Rattle.isle_expansion.specs.Definitions.{expand_definitions}
 use Rattle.isle_expansion.specs.Macros.{macros_in}
 use Rattle.isle_expansion.specs.Mentions.{mentions}
-use Rattle.isle_expansion.specs.Misuses.{IsFirstMisuse}
 use Rattle.isle_expansion.specs.Order.{IsClosed, callees_in, expand_places}
 use Rattle.isle_expansion.specs.Search.{first, mention_misuse}
 use Rattle.isle_expansion.specs.Views.{begun_of, macros_of, misuse_of}

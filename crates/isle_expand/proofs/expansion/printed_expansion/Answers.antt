@@ -1,8 +1,18 @@
-use Rattle.std.proofs.Common.{inl}
+use Rattle.std.proofs.Common.{map, subst, sym}
+use Rattle.isle_ast.specs.TreeView.{definitions_of}
+use Rattle.isle_ast.specs.Writable.{AreWritable}
+use Rattle.isle_cli.specs.Sources.{source_of}
+use Rattle.isle_expand.proofs.ExpansionLemmas.{expansion-writable}
 use Rattle.isle_expand.proofs.expansion.printed_expansion.Goals as goal
 
-pub returns-in_ok-diagnostic-in-Err-Error-clause-err :
-    goal.returns-in_ok-diagnostic-in-Err-Error-clause-err
-returns-in_ok-diagnostic-in-Err-Error-clause-err c =
-    let said = rw c.in-Err-Error.field-0-is at c.in-Err-Error.ensures.err in
-    inl (said.0, (c.in-Err-Error.error, said.1, c.in_ok-diagnostic-in-Err-Error.ensures))
+pub print_writable-requires : goal.print_writable-requires
+print_writable-requires c =
+    subst (λ xs. AreWritable (definitions_of xs)) (sym c.deref.ensures.value)
+    (expansion-writable (map source_of c.args.sources.now) (definitions_of c.in-Ok.expansion.items)
+    (record {
+      tree = definitions_of c.args.defs.now;
+      of_texts = c.requires.program;
+      expanded = c.in-Ok.ensures.expansion;
+      only = c.in-Ok.ensures.only;
+      free = c.in-Ok.ensures.free;
+    }))

@@ -1,4 +1,4 @@
-use Rattle.std.proofs.Common.{◌≡◌, List, ℕ, [], ◌∷◌, ◌++◌, bytes_eq, ap, sym, ◌∙◌, append_assoc}
+use Rattle.std.proofs.Common.{List, ℕ, [], ◌∷◌, ◌++◌, bytes_eq, ap, sym, ◌∙◌, append_assoc}
 use Rattle.std.proofs.lemmas.List.{append_cancel_left}
 use Rattle.std.proofs.lemmas.Bool.Decides.{Decides-eqb}
 use Rattle.std.proofs.lemmas.Slice.Eq.{strip_prefix_is}

@@ -1,4 +1,4 @@
-use Rattle.std.proofs.Common.{◌≡◌, ◌+◌, [], ◌∷◌, ◌++◌, drop, ap, sym, ◌∙◌, append_assoc}
+use Rattle.std.proofs.Common.{◌+◌, [], ◌++◌, drop, ap, sym, ◌∙◌, append_assoc}
 use Rattle.std.specs.List.{flat_map}
 use Rattle.isle_ast_rules.specs.TreeView.{condition_of, conditions_of, pattern_of}
 use Rattle.isle_ast_rules.specs.Tree.{Condition}

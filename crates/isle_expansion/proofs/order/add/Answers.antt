@@ -1,4 +1,4 @@
-use Rattle.std.proofs.Common.{List, ℕ, ◌<◌, ◌∷◌, [], ◌++◌, false, get_or, length, map, slice_set, true, subst, sym, arith}
+use Rattle.std.proofs.Common.{List, ℕ, ◌<◌, [], false, get_or, length, map, slice_set, true, subst, sym, arith}
 use Rattle.std.proofs.lemmas.List.{length-map}
 use Rattle.isle_expansion.specs.Order.{IsOrder, all_end}
 use Rattle.isle_expansion.proofs.Orders.{order_push, ready_ends, ready_unset, unended_set}

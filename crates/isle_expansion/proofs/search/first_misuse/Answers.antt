@@ -1,8 +1,8 @@
-use Rattle.std.proofs.Common.{◌≡◌, ◌≤◌, ◌+◌, ◌∷◌, length, map, option_map, ap, sym, subst, ◌∙◌, None, Some, drop, arith, rules}
+use Rattle.std.proofs.Common.{◌≡◌, ◌+◌, map, option_map, ap, sym, ◌∙◌, None, drop, arith, rules}
 use Rattle.std.proofs.lemmas.List.{length-map}
 use Rattle.isle_ast.specs.TreeView.{definition_of, definitions_of}
 use Rattle.isle_expansion.specs.Macros.{macros_in}
-use Rattle.isle_expansion.specs.Mentions.{mentions, place_after}
+use Rattle.isle_expansion.specs.Mentions.{mentions}
 use Rattle.isle_expansion.specs.Search.{first, mention_misuse}
 use Rattle.isle_expansion.specs.Views.{begun_of, misuse_of}
 use Rattle.isle_expansion.proofs.Steps.{mentions_here, mentions_next, place_next, rest_macros, view_more}
