@@ -1,7 +1,8 @@
 //! The tidy text of a text.
 
-use isle_document::tidy;
+use isle_base::lexer::Fault;
 use isle_document::tidying::Tidying;
+use isle_document::{is_tidy, tidy};
 use std::test::Fail;
 
 #[test]
@@ -30,6 +31,19 @@ fn tidies_entry_by_entry(rt: HostRuntime) -> Result<(), Fail> {
         }
         parts.push_str("|")?;
     }
-    assert_eq!(rt; parts.as_str(), "(|a|\n b|)|\n");
+    // What stays as it is in the text is appended with what is next to it.
+    assert_eq!(rt; parts.as_str(), "|(||a\n b|)\n");
+    Ok(())
+}
+
+#[test]
+fn tells_whether_a_text_is_tidy(rt: HostRuntime) -> Result<(), Fail> {
+    let alloc = rt.alloc();
+    assert!(rt; matches!(is_tidy(alloc, "(a ; one\n b)\n"), Ok(true)));
+    assert!(rt; matches!(is_tidy(alloc, ""), Ok(true)));
+    assert!(rt; matches!(is_tidy(alloc, "( a)\n"), Ok(false)));
+    assert!(rt; matches!(is_tidy(alloc, "(a)\n\n"), Ok(false)));
+    assert!(rt; matches!(is_tidy(alloc, "(a)"), Ok(false)));
+    assert!(rt; matches!(is_tidy(alloc, "(a\n"), Err(Fault::Error(_))));
     Ok(())
 }
