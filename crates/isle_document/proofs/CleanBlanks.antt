@@ -28,7 +28,7 @@ run_replicated text from to b e =
     subst (λ n. take n (drop from text) ≡ replicate n b) count (prefix_replicated b (drop from text))
 
 -- a byte past the space is no blank
-past_space : (b : ℕ) → 32 < b → is_blank b ≡ false
+pub past_space : (b : ℕ) → 32 < b → is_blank b ≡ false
 unfolding is_blank
 past_space b h =
     rw (ne_eqb b 32 (λ e. omega (arith, h, e)), ne_eqb b 9 (λ e. omega (arith, h, e)), ne_eqb b 10 (λ e. omega (arith, h, e)), ne_eqb b 13 (λ e. omega (arith, h, e))) refl

@@ -6,6 +6,7 @@ pub mod Comparing
 pub mod Existing
 pub mod Fitted
 pub mod GapLemmas
+pub mod Glances
 pub mod Keeps
 pub mod Keeping
 pub mod Listing

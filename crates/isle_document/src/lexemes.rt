@@ -14,6 +14,7 @@ use isle_base::lexer::{line_comment_end, symbol_end};
 use isle_document_layout::entries::Lexeme;
 
 /// Gives the part of a text between two offsets.
+#[inline(always)]
 pub(crate) fn part<'src>(text: &'src str, from: usize, to: usize) -> &'src str
     requires order { from ≤ to }
     requires within { to ≤ length text.now }
@@ -25,6 +26,7 @@ pub(crate) fn part<'src>(text: &'src str, from: usize, to: usize) -> &'src str
 }
 
 /// Reads the symbol at an offset.
+#[inline(always)]
 fn symbol_at<'src>(text: &'src str, start: usize) -> (Lexeme<'src>, usize)
     requires within { start < length text.now }
     requires first { IsUtf8 (drop start text.now) }
@@ -36,6 +38,7 @@ fn symbol_at<'src>(text: &'src str, start: usize) -> (Lexeme<'src>, usize)
 }
 
 /// Reads the integer at an offset.
+#[inline(always)]
 fn integer_at<'src>(text: &'src str, start: usize) -> Option<(Lexeme<'src>, usize)>
     requires within { start < length text.now }
     requires first { IsUtf8 (drop start text.now) }
@@ -50,6 +53,7 @@ fn integer_at<'src>(text: &'src str, start: usize) -> Option<(Lexeme<'src>, usiz
 }
 
 /// Reads what begins with the `-` at an offset: a symbol, or an integer.
+#[inline(always)]
 fn minus_at<'src>(text: &'src str, start: usize) -> Option<(Lexeme<'src>, usize)>
     requires within { start < length text.now }
     requires first { IsUtf8 (drop start text.now) }
@@ -64,6 +68,7 @@ fn minus_at<'src>(text: &'src str, start: usize) -> Option<(Lexeme<'src>, usize)
 }
 
 /// Reads the line comment whose `;` is at an offset.
+#[inline(always)]
 fn line_comment_at<'src>(text: &'src str, start: usize) -> (Lexeme<'src>, usize)
     requires within { start < length text.now }
     requires first { IsUtf8 (drop start text.now) }
@@ -75,6 +80,7 @@ fn line_comment_at<'src>(text: &'src str, start: usize) -> (Lexeme<'src>, usize)
 }
 
 /// Reads the block comment whose `(;` is at an offset.
+#[inline(always)]
 fn block_comment_at<'src>(text: &'src str, start: usize) -> Option<(Lexeme<'src>, usize)>
     requires within { start < length text.now }
     requires first { IsUtf8 (drop start text.now) }
@@ -88,6 +94,7 @@ fn block_comment_at<'src>(text: &'src str, start: usize) -> Option<(Lexeme<'src>
 }
 
 /// Reads what begins with the `(` at an offset: a block comment, or that `(`.
+#[inline(always)]
 fn parenthesis_at<'src>(text: &'src str, start: usize) -> Option<(Lexeme<'src>, usize)>
     requires within { start < length text.now }
     requires first { IsUtf8 (drop start text.now) }
@@ -103,6 +110,7 @@ fn parenthesis_at<'src>(text: &'src str, start: usize) -> Option<(Lexeme<'src>, 
 
 /// Reads the lexeme at an offset where no blank is. There is none where a block comment has no
 /// end, at a form feed, and at an integer that writes no number or one that doesn't fit 128 bits.
+#[inline(always)]
 pub fn lexeme_at<'src>(text: &'src str, start: usize) -> Option<(Lexeme<'src>, usize)>
     requires within { start < length text.now }
     requires first { IsUtf8 (drop start text.now) }

@@ -84,7 +84,7 @@ fn clean_blanks_at(bytes: &[u8], from: usize) -> Option<Blanks>
 }
 
 /// Finds the first byte from an offset on that is no blank, or the end of the text.
-fn blanks_end(bytes: &[u8], from: usize) -> usize
+pub(crate) fn blanks_end(bytes: &[u8], from: usize) -> usize
     requires { from ≤ length bytes.now }
     ensures end { result ≡ from + prefix_len is_blank (drop from bytes.now) }
     ensures within { result ≤ length bytes.now }

@@ -2,8 +2,8 @@
 
 use crate::answers::is_text;
 use isle_base::lexer::Fault;
-use isle_document::tidy;
 use isle_document::tidying::Tidying;
+use isle_document::{is_tidy, tidy};
 use std::alloc::Global;
 
 #[test]
@@ -14,7 +14,7 @@ fn keeps_lines_and_comments(rt: HostRuntime) {
     assert!(rt; is_text(&answer, want));
 }
 
-/// The entries of the tidy text of a text, each before a `|`, and its end.
+/// What is appended for each entry of a text, each before a `|`, and then for its end.
 fn entries(alloc: Global, text: &str) -> Result<String, Fault> {
     let mut tidying = Tidying::new(alloc, text)?;
     let mut entries = String::new(alloc);
@@ -30,5 +30,36 @@ fn entries(alloc: Global, text: &str) -> Result<String, Fault> {
 #[test]
 fn tidies_entry_by_entry(rt: HostRuntime) {
     let entries = entries(rt.alloc(), "( a\n b )").ok();
-    assert!(rt; is_text(&entries, "(|a|\n b|)|\n"));
+    // What stays as it is in the text is appended with what is next to it.
+    assert!(rt; is_text(&entries, "|(||a\n b|)\n"));
+}
+
+/// Whether this is told of a text.
+fn is_told(alloc: Global, text: &str, want: bool) -> bool {
+    match is_tidy(alloc, text) {
+        Ok(told) => told == want,
+        Err(_) => false,
+    }
+}
+
+#[test]
+fn tells_that_a_text_is_tidy(rt: HostRuntime) {
+    let alloc = rt.alloc();
+    let are_told = is_told(alloc, "(a ; one\n b)\n", true) && is_told(alloc, "", true);
+    assert!(rt; are_told);
+}
+
+#[test]
+fn tells_that_a_text_is_not_tidy(rt: HostRuntime) {
+    let alloc = rt.alloc();
+    let are_told = is_told(alloc, "( a)\n", false)
+        && is_told(alloc, "(a)\n\n", false)
+        && is_told(alloc, "(a)", false);
+    assert!(rt; are_told);
+}
+
+#[test]
+fn refuses_what_cannot_be_tidied(rt: HostRuntime) {
+    let is_refused = matches!(is_tidy(rt.alloc(), "(a\n"), Err(Fault::Error(_)));
+    assert!(rt; is_refused);
 }

@@ -1,15 +1,10 @@
--- Whatever entries go on, and match what is open, end a document.
-use Rattle.std.proofs.Common.{◌≡◌, ◌-◌, ◌≤◌, List, true, drop, length, IsUtf8}
-use Rattle.isle_document.specs.Grammar.{SpellsEntries, matches, lexemes}
-use Rattle.isle_document.specs.Refused.{HasDocument}
-use Rattle.isle_document.specs.Sizes.{size_of}
-use Rattle.isle_document_layout.specs.Entries.{Entry}
+use Rattle.std.proofs.Common.{◌-◌, ◌≤◌, drop, length, IsUtf8}
+use Rattle.isle_document_layout.specs.declared.entries.Gap.{Gap}
+use Rattle.isle_document.proofs.Glances.{EndDocuments}
 use Rattle.isle_document.proofs.glance.has_document.Given as goal
 
-abbrev pub invariant-loop-entry : goal.invariant-loop-entry
-invariant-loop-entry l =
-    ((es : List Entry) → SpellsEntries l.gap es (drop l.at l.text) → matches l.depth (lexemes es) ≡ true → HasDocument l.text)
-    × (l.at ≤ length l.text) × IsUtf8 (drop l.at l.text) × (size_of l.gap ≡ 0)
+abbrev pub invariant-loop-at : goal.invariant-loop-at
+invariant-loop-at l = ((gap : Gap) × EndDocuments l.text l.depth l.at gap) × (l.at ≤ length l.text) × IsUtf8 (drop l.at l.text)
 
-abbrev pub decreases-loop-entry : goal.decreases-loop-entry
-decreases-loop-entry l = length l.text - l.at
+abbrev pub decreases-loop-at : goal.decreases-loop-at
+decreases-loop-at l = length l.text - l.at
