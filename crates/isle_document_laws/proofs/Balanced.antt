@@ -1,24 +1,24 @@
 -- The parentheses of the tokens that spell a definition match.
-use Rattle.std.proofs.Common.{◌≡◌, ℕ, zero, suc, List, [], ◌∷◌, ◌+◌, ℤ, map, Bool, true, false, Option, None, Some, ◌⊎◌, ⊎_elim, refl, sym, ap, ◌∙◌}
+use Rattle.std.proofs.Common.{◌≡◌, ℕ, suc, List, [], ◌∷◌, ◌+◌, ℤ, map, Bool, true, false, Option, None, Some, codes, ⊎_elim, refl, sym, ap, ◌∙◌}
 use Rattle.isle_base.specs.Place.{Placed, placed}
-use Rattle.isle_base.specs.Token.{Tok, lparen, rparen, symbol, integer, at_sign, Lexeme}
+use Rattle.isle_base.specs.Token.{Tok, symbol, integer, at_sign, Lexeme}
 use Rattle.isle_base_source.specs.declared.pos.Pos.{Pos}
 use Rattle.isle_document.specs.Matched.{match_tokens, token_of, tokens_match}
 use Rattle.isle_ast_names.specs.Tree.{Name}
 use Rattle.isle_ast_names.specs.Words.{SpellsToken, SpellsWord, SpellsAll, InParentheses, SpellsName, SpellsFlag, BehindWord, SpellsOptional, InForm, SpellsConstant}
-use Rattle.isle_ast_names.specs.Numbers.{SpellsNumber, SpellsInteger, SpellsPriority}
+use Rattle.isle_ast_names.specs.Numbers.{SpellsNumber, SpellsPriority}
 use Rattle.isle_ast_rules.specs.Tree.{PatternNode, var_pattern, bind_pattern, bool_pattern, int_pattern, constant_pattern, term_pattern, wildcard_pattern, and_pattern, macro_arg_pattern, PatternList, no_pattern, more_pattern, Expression, term_expression, var_expression, bool_expression, int_expression, constant_expression, let_expression, ExpressionList, no_expression, more_expression, LetList, no_let, more_let, Condition, RuleDefinition, ExtractorDefinition}
 use Rattle.isle_ast_rules.specs.ExpressionGrammar.{SpellsExpression, SpellsExpressions, SpellsLets}
 use Rattle.isle_ast_rules.specs.PatternGrammar.{SpellsPattern, SpellsPatterns}
 use Rattle.isle_ast_rules.specs.RuleGrammar.{SpellsCondition, SpellsRule, SpellsExtractor}
 use Rattle.isle_ast_verification.specs.Tree.{TypeModel, unspecified_model, auto_model, int_model, bool_model, unit_model, bit_vector_model, struct_model, named_model, ModelFieldList, no_model_field, model_field, SpecNode, int_spec, bit_vector_spec, bool_spec, var_spec, as_spec, field_spec, discriminator_spec, op_spec, match_spec, let_spec, with_spec, macro_spec, expand_spec, pair_spec, enum_spec, struct_spec, SpecList, no_spec, more_spec, ArmList, no_arm, more_arm, SpecLetList, no_spec_let, more_spec_let, FieldInitList, no_field_init, more_field_init, SpecDefinition, SpecMacroDefinition, StateDefinition}
 use Rattle.isle_ast_verification.specs.TypeModelGrammar.{SpellsTypeModel, SpellsModelFields}
-use Rattle.isle_ast_verification.specs.SpecGrammar.{SpellsMarked, SpellsNames, SpellsHeaded, SpellsSpec, SpellsSpecs, SpellsCases, SpellsPairs, SpellsArms, SpellsSpecLets, SpellsFieldInits}
+use Rattle.isle_ast_verification.specs.SpecGrammar.{field_mark, discriminator_mark, expansion_mark, SpellsMarked, SpellsNames, SpellsHeaded, SpellsSpec, SpellsSpecs, SpellsCases, SpellsPairs, SpellsArms, SpellsSpecLets, SpellsFieldInits}
 use Rattle.isle_ast_verification.specs.SpecDefinitionGrammar.{SpecClause, provide_clause, require_clause, match_clause, modifies_clause, SpellsClause, SpellsSpecDefinition, SpellsSpecMacro, SpellsState}
 use Rattle.isle_ast.specs.Tree.{TermSignature, FormDefinition, TermInstantiation, ModelContent, type_model, const_model, ModelDefinition, Declaration, Conversion, Attribute, AttributeTarget, term_target, rule_target, AttributeKind, chain_kind, priority_kind, tag_kind, ExternDefinition, extern_extractor, extern_constructor, extern_const, NamedField, IndexedField, FieldList, unit_fields, struct_fields, tuple_fields, EnumVariant, TypeContent, primitive_type, enum_type, struct_type, TypeDefinition, Definition, type_def, rule, extractor, decl, attr, spec, spec_macro, model, state, form, instantiation, external, converter}
 use Rattle.isle_ast.specs.ModelGrammar.{SpellsSignature, SpellsForm, SpellsTag, SpellsInstances, SpellsInstantiation, SpellsModelContent, SpellsModel}
 use Rattle.isle_ast.specs.TermGrammar.{SpellsDeclaration, SpellsConversion, SpellsAttributeKind, SpellsAttributeTarget, SpellsAttribute, SpellsPair, SpellsExtern}
-use Rattle.isle_ast.specs.TypeGrammar.{SpellsNamedField, SpellsIndexedFields, SpellsFields, SpellsVariant, SpellsTypeContent, SpellsModifiers, SpellsTypeDefinition}
+use Rattle.isle_ast.specs.TypeGrammar.{SpellsNamedField, SpellsIndexedFields, SpellsFields, SpellsVariant, SpellsTypeContent, SpellsTypeDefinition}
 use Rattle.isle_ast.specs.Grammar.{SpellsDefinition, SpellsDefinitions}
 
 abbrev tokens_of : List Placed → List Tok
@@ -137,8 +137,8 @@ mutual
 
 condition : (c : Condition) → Evenly (SpellsCondition c)
 condition c all rest s =
-    ⊎_elim (λ t. within _ (behind _ _ (λ inner close p. both inner p.1 close (pattern c.pattern inner p.1 p.2) (expression c.expr p.1 close p.3))) all rest t)
-    (λ t. within _ (behind _ _ (λ inner close p. expression c.expr inner close p.2)) all rest t) s
+    ⊎_elim (λ t. within _ (behind _ _ (λ inner close p. both inner p.1.0 close (pattern c.pattern inner p.1.0 p.1.1) (expression c.expr p.1.0 close p.1.2))) all rest t)
+    (λ t. within _ (behind _ _ (λ inner close p. expression c.expr inner close p.1.1)) all rest t) s
 
 priority : (value : ℤ) → Evenly (SpellsPriority value)
 priority value all rest s = integer_even all rest value s.1
@@ -178,15 +178,15 @@ mutual
 mutual
   spec_even : (x : SpecNode) → Evenly (SpellsSpec x)
   spec_even (int_spec val pos) all rest s = integer_even all rest val s.1.1
-  spec_even (bit_vector_spec val width pos) all rest s = word s.1 all rest s.3
+  spec_even (bit_vector_spec val width pos) all rest s = word s.1.0 all rest s.1.2
   spec_even (bool_spec val pos) all rest s = word _ all rest s.1
   spec_even (var_spec var pos) all rest s = name var all rest s.2
   spec_even (as_spec x ty pos) all rest s =
       within _ (behind _ _ (λ inner close p. both inner p.0 close (spec_even x inner p.0 p.1) (type_model_even ty p.0 close p.2))) all rest s.1
   spec_even (field_spec field x pos) all rest s =
-      within _ (λ inner close p. both inner p.0 close (marked _ field inner p.0 p.1) (spec_even x p.0 close p.2)) all rest s.1
+      within _ (λ inner close p. both inner p.0 close (marked field_mark field inner p.0 p.1) (spec_even x p.0 close p.2)) all rest s.1
   spec_even (discriminator_spec variant x pos) all rest s =
-      within _ (λ inner close p. both inner p.0 close (marked _ variant inner p.0 p.1) (spec_even x p.0 close p.2)) all rest s.1
+      within _ (λ inner close p. both inner p.0 close (marked discriminator_mark variant inner p.0 p.1) (spec_even x p.0 close p.2)) all rest s.1
   spec_even (op_spec operator args pos) all rest s =
       within _ (behind _ _ (λ inner close p. ⊎_elim (λ q. spec_evens args inner close q.1) (λ q. cases_even args inner close q.1) p)) all rest s.1
   spec_even (match_spec x arms pos) all rest s =
@@ -198,7 +198,7 @@ mutual
   spec_even (macro_spec params body pos) all rest s =
       within _ (behind _ _ (λ inner close p. both inner p.0 close (names_within params inner p.0 p.1) (spec_even body p.0 close p.2))) all rest s.1
   spec_even (expand_spec x args pos) all rest s =
-      within _ (λ inner close p. both inner p.0 close (marked _ x inner p.0 p.1) (spec_evens args p.0 close p.2)) all rest s.1
+      within _ (λ inner close p. both inner p.0 close (marked expansion_mark x inner p.0 p.1) (spec_evens args p.0 close p.2)) all rest s.1
   spec_even (pair_spec l r pos) all rest s = absurd s
   spec_even (enum_spec x variant args pos) all rest s = within _ (behind _ _ (spec_evens args)) all rest s.2
   spec_even (struct_spec fields pos) all rest s = within _ (behind _ _ (field_inits fields)) all rest s.1
@@ -307,12 +307,23 @@ attribute a all rest s =
 pair : (first second : Name) → Evenly (SpellsPair first second)
 pair first second all rest s = both all s.0 rest (name first all s.0 s.1) (name second s.0 rest s.2)
 
+abbrev SpellsPicked : (term func : Name) (infallible : Bool) → List Placed → List Placed → Type 0
+SpellsPicked term func infallible inner close = (mid : List Placed) × SpellsFlag (codes "infallible") infallible inner mid × SpellsPair term func mid close
+
+picked : (term func : Name) (infallible : Bool) → Evenly (SpellsPicked term func infallible)
+picked term func infallible inner close p = both inner p.0 close (flag (codes "infallible") infallible inner p.0 p.1) (pair term func p.0 close p.2)
+
+abbrev SpellsTyped : (x ty : Name) → List Placed → List Placed → Type 0
+SpellsTyped x ty inner close = (mid : List Placed) × SpellsConstant x inner mid × SpellsName ty mid close
+
+typed : (x ty : Name) → Evenly (SpellsTyped x ty)
+typed x ty inner close p = both inner p.0 close (constant x inner p.0 p.1) (name ty p.0 close p.2)
+
 extern_even : (e : ExternDefinition) → Evenly (SpellsExtern e)
 extern_even (extern_extractor term func pos infallible) all rest s =
-    behind _ _ (λ inner close p. both inner p.0 close (flag _ infallible inner p.0 p.1) (pair term func p.0 close p.2)) all rest s.2
-extern_even (extern_constructor term func pos) all rest s = behind _ _ (pair term func) all rest s.1
-extern_even (extern_const x ty pos) all rest s =
-    behind _ _ (λ inner close p. both inner p.0 close (constant x inner p.0 p.1) (name ty p.0 close p.2)) all rest s.1
+    behind (codes "extractor") (SpellsPicked term func infallible) (picked term func infallible) all rest s.2
+extern_even (extern_constructor term func pos) all rest s = behind (codes "constructor") (SpellsPair term func) (pair term func) all rest s.1
+extern_even (extern_const x ty pos) all rest s = behind (codes "const") (SpellsTyped x ty) (typed x ty) all rest s.1
 
 named_field : (f : NamedField) → Evenly (SpellsNamedField f)
 named_field f all rest s = within _ (λ inner close p. both inner p.0 close (name f.name inner p.0 p.1) (name f.ty p.0 close p.2)) all rest s.1

@@ -1,5 +1,5 @@
 -- The trees of texts and of their tidy texts.
-use Rattle.std.proofs.Common.{◌≡◌, ◌↔◌, ℕ, List, sym, subst}
+use Rattle.std.proofs.Common.{◌≡◌, ◌↔◌, ℕ, List, Result, Ok, Err, IfOk, sym, subst}
 use Rattle.isle_base.specs.Lexing.{lexes}
 use Rattle.isle_base.specs.Place.{nowhere, placed}
 use Rattle.isle_base.specs.Token.{Lexeme, end}
@@ -10,7 +10,6 @@ use Rattle.isle_ast.specs.Spelt.{IsSpelt}
 use Rattle.isle_ast.specs.Tree.{Definition}
 use Rattle.isle_document.specs.Refused.{HasDocument}
 use Rattle.isle_document.specs.Tidied.{IsTidyTextOf}
-use Rattle.isle_document.specs.Tokens.{HaveSameTokens}
 use Rattle.isle_document.proofs.Existing.{lexed_document}
 use Rattle.isle_document.proofs.SameTokens.{tidied_tokens}
 use Rattle.isle_ast.proofs.Writable.Spelt.{spelt_is_writable}
@@ -36,3 +35,8 @@ tidying_keeps_trees text answer ds t =
 pub formatted_tidy : (text answer : List ℕ) (width : ℕ) → SpellsTree text → OfItsTree text (λ tree. IsPrinted width tree answer) → IsTidyTextOf answer answer
 formatted_tidy text answer width spelt printed =
     definitions_tidy width spelt.0 answer (spelt_is_writable spelt.0 _ spelt.1.2) (printed spelt.0 spelt.1)
+
+pub format_answers : {T E : Type 0} (bytes : T → List ℕ) (result : Result T E) (text : List ℕ) (width : ℕ) → IfOk result (λ _. SpellsTree text)
+    → IfOk result (λ answer. OfItsTree text (λ tree. IsPrinted width tree (bytes answer))) → IfOk result (λ answer. IsTidyTextOf (bytes answer) (bytes answer))
+format_answers bytes (Err fault) text width spelt printed = tt
+format_answers bytes (Ok answer) text width spelt printed = formatted_tidy text (bytes answer) width spelt printed
