@@ -2,8 +2,8 @@
 
 use crate::words::{first_word, word};
 use isle_syntax::ast::{
-    Arm, Def, FieldInit, Model, ModelType, ModelValue, Modifies, Spec, SpecExpr, SpecMacro, SpecOp,
-    State,
+    Arm, Def, FieldInit, Ident, Model, ModelType, ModelValue, Modifies, Spec, SpecExpr, SpecMacro,
+    SpecOp, State,
 };
 use isle_test_nodes::nodes::{ident, pos};
 use std::alloc::{AllocError, Global};
@@ -181,19 +181,34 @@ fn expression(alloc: Global, kind: &str, words: &[String]) -> Result<Option<Spec
     Ok(Some(expr))
 }
 
-/// `(spec (t x) (provide PROVIDED) (modifies s COND))`
-fn spec(alloc: Global, provided: &str, cond: &str) -> Result<Def, AllocError> {
+/// One name.
+fn names(alloc: Global, name: &str) -> Result<Vec<Ident>, AllocError> {
+    Ok(vec![in alloc; ident(alloc, name)?]?)
+}
+
+/// `(modifies s COND)`
+fn modifies(alloc: Global, cond: &str) -> Result<Vec<Modifies>, AllocError> {
     let modifies = Modifies {
         state: ident(alloc, "s")?,
         cond: Some(ident(alloc, cond)?),
     };
+    Ok(vec![in alloc; modifies]?)
+}
+
+/// `(provide PROVIDED)`
+fn provides(alloc: Global, provided: &str) -> Result<Vec<SpecExpr>, AllocError> {
+    Ok(vec![in alloc; var(alloc, provided)?]?)
+}
+
+/// `(spec (t x) (provide PROVIDED) (modifies s COND))`
+fn spec(alloc: Global, provided: &str, cond: &str) -> Result<Def, AllocError> {
     Ok(Def::Spec(Spec {
         term: ident(alloc, "t")?,
-        args: vec![in alloc; ident(alloc, "x")?]?,
-        provides: vec![in alloc; var(alloc, provided)?]?,
+        args: names(alloc, "x")?,
+        modifies: modifies(alloc, cond)?,
+        provides: provides(alloc, provided)?,
         requires_: Vec::new(alloc),
         matches: Vec::new(alloc),
-        modifies: vec![in alloc; modifies]?,
         pos: pos(),
     }))
 }
@@ -202,7 +217,7 @@ fn spec(alloc: Global, provided: &str, cond: &str) -> Result<Def, AllocError> {
 fn spec_macro(alloc: Global, name: &str, body: &str) -> Result<Def, AllocError> {
     Ok(Def::SpecMacro(SpecMacro {
         name: ident(alloc, name)?,
-        params: vec![in alloc; ident(alloc, "x")?]?,
+        params: names(alloc, "x")?,
         body: var(alloc, body)?,
         pos: pos(),
     }))

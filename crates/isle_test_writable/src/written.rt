@@ -8,6 +8,28 @@ use isle_syntax::printer::print;
 use isle_test_nodes::trees::{drop_definitions, read};
 use std::alloc::{AllocError, Global};
 
+/// The definition of a kind that is made of the words and numbers; `None` where there is no such
+/// kind.
+fn definition_of(
+    alloc: Global,
+    kind: &str,
+    words: &[String],
+    numbers: &[usize],
+) -> Result<Option<Def>, AllocError> {
+    if let Some(def) = definition(alloc, kind, words, numbers)? {
+        return Ok(Some(def));
+    }
+    if let Some(def) = rule_definition(alloc, kind, words)? {
+        return Ok(Some(def));
+    }
+    spec_definition(alloc, kind, words)
+}
+
+/// A list of one definition.
+fn alone(alloc: Global, def: Def) -> Result<Vec<Def>, AllocError> {
+    Ok(vec![in alloc; def]?)
+}
+
 /// The definitions of a kind that are made of the words and numbers; `None` where there is no such
 /// kind.
 fn built(
@@ -19,15 +41,25 @@ fn built(
     if kind == "converters" {
         return Ok(Some(converters(alloc, words)?));
     }
-    if let Some(def) = definition(alloc, kind, words, numbers)? {
-        return Ok(Some(vec![in alloc; def]?));
-    }
-    if let Some(def) = rule_definition(alloc, kind, words)? {
-        return Ok(Some(vec![in alloc; def]?));
-    }
-    match spec_definition(alloc, kind, words)? {
-        Some(def) => Ok(Some(vec![in alloc; def]?)),
+    match definition_of(alloc, kind, words, numbers)? {
+        Some(def) => Ok(Some(alone(alloc, def)?)),
         None => Ok(None),
+    }
+}
+
+fn are_equal(defs: &Vec<Def>, others: &Vec<Def>) -> bool {
+    defs == others
+}
+
+/// Whether a text spells these definitions and no others.
+fn spells(alloc: Global, text: &str, defs: &Vec<Def>) -> bool {
+    match read(alloc, text) {
+        Ok(read) => {
+            let is_same = are_equal(&read, defs);
+            drop_definitions(read);
+            is_same
+        }
+        Err(_) => false,
     }
 }
 
@@ -35,14 +67,7 @@ fn built(
 /// print.
 fn reads_back(alloc: Global, defs: &Vec<Def>, width: usize) -> Option<bool> {
     let text = print(alloc, defs, width).ok()?;
-    match read(alloc, &text) {
-        Ok(read) => {
-            let is_same = read == *defs;
-            drop_definitions(read);
-            Some(is_same)
-        }
-        Err(_) => Some(false),
-    }
+    Some(spells(alloc, &text, defs))
 }
 
 /// Whether definitions are writable, where their prints, at widths from the least to the greatest,
