@@ -97,12 +97,9 @@ ssize_t write(int file, const void *bytes, size_t count)
     int name parameters { return fails("file", EIO) ? -1 : (int)syscall(SYS_##name, __VA_ARGS__); }
 
 CALL(open, (const char *path, int flags, mode_t mode), path, flags, mode)
-int open64(const char *path, int flags, mode_t mode) { return open(path, flags, mode); }
 CALL(openat, (int folder, const char *path, int flags, mode_t mode), folder, path, flags, mode)
 CALL(fchmod, (int file, mode_t mode), file, mode)
 CALL(fsync, (int file), file)
 CALL(chown, (const char *path, uid_t owner, gid_t group), path, owner, group)
 CALL(rename, (const char *from, const char *to), from, to)
-CALL(renameat, (int from_folder, const char *from, int to_folder, const char *to), from_folder, from, to_folder, to)
 CALL(unlink, (const char *path), path)
-CALL(unlinkat, (int folder, const char *path, int flags), folder, path, flags)
