@@ -1,0 +1,36 @@
+//! `texts FOLDER`: writes generated texts of ISLE, whole and damaged, and what this package answers
+//! of each: N.isle, N.tidy and N.format, which hold the tidy text and the print at 78, or the refusal.
+
+#[path = "../tests/common/mod.rs"]
+mod common;
+
+use isle_syntax::{Refusal, format, tidy};
+use std::process::ExitCode;
+use std::{env, fs, io};
+
+/// How many texts are written.
+const TEXTS: u64 = 1000;
+
+fn main() -> io::Result<ExitCode> {
+    let Some(folder) = env::args().nth(1) else {
+        eprintln!("usage: texts FOLDER");
+        return Ok(ExitCode::from(2));
+    };
+    for number in 0..TEXTS {
+        let text = common::text(number);
+        let name = format!("{folder}/{number}.isle");
+        fs::write(&name, &text)?;
+        for (end, answer) in [("tidy", tidy(&text)), ("format", format(&text, 78))] {
+            fs::write(format!("{folder}/{number}.{end}"), shown(&answer))?;
+        }
+    }
+    Ok(ExitCode::SUCCESS)
+}
+
+/// An answer, or a refusal as it is shown.
+fn shown(answer: &Result<String, Refusal>) -> String {
+    match answer {
+        Ok(answer) => answer.clone(),
+        Err(refusal) => format!("{refusal}\n"),
+    }
+}
