@@ -1,12 +1,12 @@
 //! Calls that can want memory, and their answers as texts.
 
-use isle_syntax::ast::{Def, Ident, TypeDef, TypeValue, Variant};
+use isle_syntax::ast::{Def, TypeDef, TypeValue, Variant};
 use isle_syntax::error::{Error, ErrorsBuilder, Span};
 use isle_syntax::files::{Files, LineMap};
 use isle_syntax::format;
 use isle_syntax::lexer::{Fault, Lexer, Pos};
 use isle_syntax::parser::Parser;
-use isle_syntax::printer::{Looks, PrintFault, ToSExpr, print, print_counted};
+use isle_syntax::printer::{Looks, PrintFault, SExpr, print, print_counted};
 use isle_test_nodes::parts::{Parts, Way};
 use isle_test_nodes::templates::put_templates;
 use isle_test_nodes::trees::{drop_definitions, parsed, read, show_definitions};
@@ -120,10 +120,20 @@ fn others(alloc: Global, text: &str) -> Result<bool, Fault> {
     let is_files = files.clone()? == files;
     let parser = Parser::new(copy);
     drop(parser.clone()?);
-    let name = Ident("name".to_string(alloc)?, Pos::default());
-    let sexpr = printed(name.to_sexpr(alloc))?;
-    let is_sexpr = sexpr.clone()? == sexpr;
-    Ok(is_token && is_map && is_files && is_sexpr)
+    Ok(is_token && is_map && is_files && is_nest_copied(alloc)?)
+}
+
+/// `name @ (name)`
+fn nest(alloc: Global) -> Result<SExpr, AllocError> {
+    let atom = SExpr::Atom("name".to_string(alloc)?);
+    let list = Box::new(alloc, SExpr::List(vec![in alloc; atom]?))?;
+    Ok(SExpr::Binding("name".to_string(alloc)?, list))
+}
+
+/// Whether the copy of an S-expression that holds others is equal to it.
+fn is_nest_copied(alloc: Global) -> Result<bool, AllocError> {
+    let nest = nest(alloc)?;
+    Ok(nest.clone()? == nest)
 }
 
 fn templates(alloc: Global, text: &str) -> Result<String, Fault> {

@@ -1,7 +1,7 @@
 //! Calls that take no memory, in groups. Each group makes the same things first.
 
 use crate::calls::{error, files_of, printed};
-use isle_syntax::ast::{Def, Expr, Ident, Pattern, writable};
+use isle_syntax::ast::{Def, Expr, Ident, Pattern, SpecExpr, writable};
 use isle_syntax::error::{Error, Errors, ErrorsBuilder, Span};
 use isle_syntax::files::{Files, LineMap};
 use isle_syntax::lexer::{Fault, Lexer, Pos, Token, blank_end, line_comment_end, symbol_end};
@@ -99,8 +99,21 @@ fn group(alloc: Global, call: &str, ready: Ready, defs: &[Def]) -> bool {
     }
 }
 
+/// Whether a lexer at its end says so.
+fn is_at_end(alloc: Global, mut lexer: Lexer) -> bool {
+    lexer.eof() && matches!(lexer.next(alloc), Ok(None))
+}
+
+/// Whether `next` of a lexer of a text without a token is at its end.
+fn ends(alloc: Global) -> bool {
+    match Lexer::new(alloc, 1, " ") {
+        Ok(lexer) => is_at_end(alloc, lexer),
+        Err(_) => false,
+    }
+}
+
 /// The calls of lexers, of tokens and of lanes, and a parser's beginning; `next` of a lexer that has
-/// failed.
+/// failed, and of one at its end.
 fn lexers(alloc: Global, text: &str, lexer: Lexer, mut failed: Lexer) -> bool {
     let is_token = match lexer.peek() {
         Some((pos, token)) => pos.file == 1 && !pos.is_unknown() && !token.is_int(),
@@ -117,7 +130,7 @@ fn lexers(alloc: Global, text: &str, lexer: Lexer, mut failed: Lexer) -> bool {
     let are_ends = blank_end(bytes, 0) == 0 && line_comment_end(bytes, 0) <= text.len();
     let is_failed = !failed.eof() && matches!(failed.next(alloc), Err(Fault::Failed));
     drop(Parser::new(lexer));
-    is_token && is_symbol && is_ahead && is_symbol_end && are_ends && is_failed
+    is_token && is_symbol && is_ahead && is_symbol_end && are_ends && is_failed && ends(alloc)
 }
 
 /// The calls of trees.
@@ -136,6 +149,9 @@ fn trees(defs: &[Def]) -> bool {
             rule.expr.terms(&mut count);
             is_right &= is_placed(&rule.pattern, &rule.expr);
         }
+        if let Def::Spec(spec) = def {
+            is_right &= are_placed(&spec.provides);
+        }
     }
     is_right && known && terms > 0
 }
@@ -144,6 +160,11 @@ fn trees(defs: &[Def]) -> bool {
 fn is_placed(pattern: &Pattern, expr: &Expr) -> bool {
     let is_root = pattern.root_term().map_or(true, |sym| sym.1.file == 1);
     is_root && pattern.pos().file == 1 && expr.pos().file == 1
+}
+
+/// Whether spec expressions stand in file 1.
+fn are_placed(exprs: &[SpecExpr]) -> bool {
+    exprs.iter().all(|expr| expr.pos().file == 1)
 }
 
 /// Whether an S-expression fits rooms.
