@@ -1,13 +1,17 @@
 -- What is said of a failure, and the text that goes with its status.
-use Rattle.std.proofs.Common.{◌≡◌, ℕ, List, Option, string_bytes, refl, subst, sym, ◌∙◌}
-use Rattle.isle_syntax.specs.Format.{IsRefused}
+use Rattle.std.proofs.Common.{◌≡◌, ℕ, List, Option, codes, string_bytes, refl, ap, subst, sym, ◌++◌, ◌∙◌}
+use Rattle.isle_syntax.specs.Format.{IsFormatted, IsRefused}
+use Rattle.isle_cli.specs.Failure as frame
+use Rattle.isle_cli.specs.Failure.{status_of, text_of}
 use Rattle.isle_cli.specs.Streams.{ReadsText, AppendsBeginning, WritesBeginning}
-use Rattle.isle_fmt.specs.declared.program.Failure.{Failure}
-use Rattle.isle_fmt.specs.declared.program.Failure.TheVariants as failures
-use Rattle.isle_fmt.specs.Failure.{status_of, text_of, IsDiagnostic, IsRefusal, Explains}
+use Rattle.isle_cli.specs.Words.{GiveWidth, given_width}
+use Rattle.isle_cli.specs.declared.failure.Failure.{Failure}
+use Rattle.isle_cli.specs.declared.failure.Failure.TheVariants as failures
+use Rattle.isle_cli.specs.declared.program.Program.{Program}
+use Rattle.isle_fmt.specs.Failure.{Explains, IsDiagnostic, IsRefusal, IsThis}
 
-module _ (words : List (List ℕ)) (input input' output output' faults faults' : Option (List ℕ)) where
-  refused_text : (failure : Failure) → Explains failure words input input' output output' → AppendsBeginning faults faults' (text_of failure) → status_of failure ≡ 1 → ReadsText input input' (λ text. IsRefused text × WritesBeginning faults faults' (IsRefusal text))
+module _ (program : Program) (is : IsThis program) (words : List (List ℕ)) (input input' output output' faults faults' : Option (List ℕ)) where
+  refused_text : (failure : Failure) → Explains failure words input input' output output' → AppendsBeginning faults faults' (text_of program failure) → status_of failure ≡ 1 → ReadsText input input' (λ text. IsRefused text × WritesBeginning faults faults' (IsRefusal text))
   refused_text (failures.Refused diagnostic) why told one =
       let read = why.1 in
       record {
@@ -22,22 +26,22 @@ module _ (words : List (List ℕ)) (input input' output output' faults faults' :
   refused_text failures.Memory why told one = absurd (cc)
   refused_text failures.Output why told one = absurd (cc)
 
-  diagnostic_of : (failure : Failure) → Explains failure words input input' output output' → IsDiagnostic (status_of failure) (text_of failure)
+  diagnostic_of : (failure : Failure) → Explains failure words input input' output output' → IsDiagnostic (status_of failure) (text_of program failure)
   diagnostic_of (failures.Refused diagnostic) why =
       let read = why.1 in
       record { refused = λ e. (read.text, read.holds.1); usage = λ e. absurd (cc); input = λ e. absurd (cc); memory = λ e. absurd (cc); output = λ e. absurd (cc) }
   diagnostic_of failures.Usage why =
-      record { refused = λ e. absurd (cc); usage = λ e. refl; input = λ e. absurd (cc); memory = λ e. absurd (cc); output = λ e. absurd (cc) }
+      record { refused = λ e. absurd (cc); usage = λ e. is.usage; input = λ e. absurd (cc); memory = λ e. absurd (cc); output = λ e. absurd (cc) }
   diagnostic_of failures.Input why =
-      record { refused = λ e. absurd (cc); usage = λ e. absurd (cc); input = λ e. refl; memory = λ e. absurd (cc); output = λ e. absurd (cc) }
+      record { refused = λ e. absurd (cc); usage = λ e. absurd (cc); input = λ e. ap (λ name. name ++ codes ": input is unreadable or not UTF-8\n") is.name; memory = λ e. absurd (cc); output = λ e. absurd (cc) }
   diagnostic_of failures.Memory why =
-      record { refused = λ e. absurd (cc); usage = λ e. absurd (cc); input = λ e. absurd (cc); memory = λ e. refl; output = λ e. absurd (cc) }
+      record { refused = λ e. absurd (cc); usage = λ e. absurd (cc); input = λ e. absurd (cc); memory = λ e. ap (λ name. name ++ codes ": out of memory\n") is.name; output = λ e. absurd (cc) }
   diagnostic_of failures.Output why =
-      record { refused = λ e. absurd (cc); usage = λ e. absurd (cc); input = λ e. absurd (cc); memory = λ e. absurd (cc); output = λ e. refl }
+      record { refused = λ e. absurd (cc); usage = λ e. absurd (cc); input = λ e. absurd (cc); memory = λ e. absurd (cc); output = λ e. ap (λ name. name ++ codes ": output failed\n") is.name }
 
-  pub refused-told : (status : ℕ) (failure : Failure) → Explains failure words input input' output output' → AppendsBeginning faults faults' (text_of failure) → status ≡ status_of failure → status ≡ 1 → ReadsText input input' (λ text. IsRefused text × WritesBeginning faults faults' (IsRefusal text))
-  refused-told status failure why told is one = refused_text failure why told (sym is ∙ one)
+  pub refused-told : (status : ℕ) (failure : Failure) → Explains failure words input input' output output' → AppendsBeginning faults faults' (text_of program failure) → status ≡ status_of failure → status ≡ 1 → ReadsText input input' (λ text. IsRefused text × WritesBeginning faults faults' (IsRefusal text))
+  refused-told status failure why told same one = refused_text failure why told (sym same ∙ one)
 
-  pub told-text : (status : ℕ) (failure : Failure) → Explains failure words input input' output output' → AppendsBeginning faults faults' (text_of failure) → status ≡ status_of failure → WritesBeginning faults faults' (IsDiagnostic status)
-  told-text status failure why told is =
-      (text_of failure, subst (λ s. IsDiagnostic s (text_of failure)) (sym is) (diagnostic_of failure why), told)
+  pub told-text : (status : ℕ) (failure : Failure) → Explains failure words input input' output output' → AppendsBeginning faults faults' (text_of program failure) → status ≡ status_of failure → WritesBeginning faults faults' (IsDiagnostic status)
+  told-text status failure why told same =
+      (text_of program failure, subst (λ s. IsDiagnostic s (text_of program failure)) (sym same) (diagnostic_of failure why), told)

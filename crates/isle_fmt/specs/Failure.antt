@@ -1,36 +1,21 @@
--- Why the program writes no formatted text: what each reason says, its status, and what standard
--- error gets.
+-- The program, and why it writes no formatted text: what each reason says, and what standard error gets.
 use Rattle.std.specs.Prelude.{◌≡◌, ℕ, List, Option, codes, string_bytes}
-use Rattle.std.specs.Io.KnownBytes.{Keeps}
 use Rattle.isle_cli.specs.Diagnostics as diagnostics
-use Rattle.isle_cli.specs.Streams.{ReadsText, WritesBeginning}
-use Rattle.isle_cli.specs.declared.streams.ReadFault.{ReadFault}
-use Rattle.isle_cli.specs.declared.streams.ReadFault.TheVariants as read_faults
-use Rattle.isle_cli.specs.declared.words.WordsFault.{WordsFault}
-use Rattle.isle_cli.specs.declared.words.WordsFault.TheVariants as words_faults
+use Rattle.isle_cli.specs.Failure as frame
+use Rattle.isle_cli.specs.Words.{GiveWidth, given_width}
+use Rattle.isle_cli.specs.declared.failure.Failure.{Failure}
+use Rattle.isle_cli.specs.declared.program.Program.{Program}
 use Rattle.isle_syntax.specs.Format.{IsFormatted, IsRefused}
-use Rattle.isle_fmt.specs.declared.program.Failure.{Failure}
-use Rattle.isle_fmt.specs.declared.program.Failure.TheVariants as failures
-use Rattle.isle_fmt.specs.Words.{GiveWidth, given_width}
+use Rattle.isle_cli.specs.declared.failure.Failure.TheVariants as failures
 
-abbrev pub status_of : Failure → ℕ
-status_of (failures.Refused _) = 1
-status_of failures.Usage = 2
-status_of failures.Input = 3
-status_of failures.Memory = 4
-status_of failures.Output = 5
+-- the name of this program, and its usage
+pub record IsThis (program : Program) : Type 0 where
+  pub name : program.name.now ≡ codes "isle-fmt"
+  pub usage : program.usage.now ≡ codes "usage: isle-fmt [WIDTH]\n"
 
 -- this shows a refusal of the text, at one of its bytes or at its end, under the name `<stdin>`
 abbrev pub IsRefusal : List ℕ → List ℕ → Type 0
 IsRefusal text shown = diagnostics.IsRefusal (codes "<stdin>") text shown
-
--- what standard error gets
-abbrev pub text_of : Failure → List ℕ
-text_of (failures.Refused text) = string_bytes text
-text_of failures.Usage = codes "usage: isle-fmt [WIDTH]\n"
-text_of failures.Input = codes "isle-fmt: input is unreadable or not UTF-8\n"
-text_of failures.Memory = codes "isle-fmt: out of memory\n"
-text_of failures.Output = codes "isle-fmt: output failed\n"
 
 -- the text that goes with a status; that of status 1 shows a refusal of some text
 pub record IsDiagnostic (status : ℕ) (text : List ℕ) : Type 0 where
@@ -39,16 +24,6 @@ pub record IsDiagnostic (status : ℕ) (text : List ℕ) : Type 0 where
   pub input : status ≡ 3 → text ≡ codes "isle-fmt: input is unreadable or not UTF-8\n"
   pub memory : status ≡ 4 → text ≡ codes "isle-fmt: out of memory\n"
   pub output : status ≡ 5 → text ≡ codes "isle-fmt: output failed\n"
-
--- what a fault of the words of the command line is to the program
-abbrev pub words_failure : WordsFault → Failure
-words_failure words_faults.NotUtf8 = failures.Usage
-words_failure words_faults.Memory = failures.Memory
-
--- what a fault of reading is to it
-abbrev pub read_failure : ReadFault → Failure
-read_failure read_faults.Unreadable = failures.Input
-read_failure read_faults.Memory = failures.Memory
 
 -- the text is refused, with its diagnostic, or memory was refused
 abbrev pub IsFormatFailure : Failure → List ℕ → Type 0
@@ -61,12 +36,6 @@ IsFormatFailure failures.Output text = ⊥
 
 -- what a failure says of the words, and of the input and the output before and after
 abbrev pub Explains : Failure → List (List ℕ) → Option (List ℕ) → Option (List ℕ) → Option (List ℕ) → Option (List ℕ) → Type 0
-Explains (failures.Refused diagnostic) words input input' output output' =
-    GiveWidth words × ReadsText input input' (λ text. IsRefused text × IsRefusal text (string_bytes diagnostic))
-    × Keeps output output'
-Explains failures.Usage words input input' output output' =
-    (¬ (GiveWidth words)) × Keeps input input' × Keeps output output'
-Explains failures.Input words input input' output output' = GiveWidth words × Keeps output output'
-Explains failures.Memory words input input' output output' = GiveWidth words × Keeps output output'
-Explains failures.Output words input input' output output' =
-    GiveWidth words × ReadsText input input' (λ text. WritesBeginning output output' (IsFormatted (given_width words) text))
+Explains failure words input input' output output' =
+    frame.Explains (GiveWidth words) (λ text shown. IsRefused text × IsRefusal text shown) (λ text. IsFormatted (given_width words) text)
+    failure input input' output output'

@@ -1,2 +1,1 @@
 pub mod Failure
-pub mod Words

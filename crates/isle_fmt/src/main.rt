@@ -3,9 +3,11 @@
 
 mod program;
 
+use isle_cli::failure::Failure;
+use isle_cli::program::report;
 use isle_cli::words::taken_words;
 pub use program::run;
-use program::{Failure, report};
+use program::this_program;
 use std::process::ExitCode;
 
 fn main(rt: HostRuntime) -> ExitCode {
@@ -17,7 +19,7 @@ fn main(rt: HostRuntime) -> ExitCode {
             &mut rt.stdout(),
             &mut rt.stderr(),
         ),
-        Err(fault) => report(&Failure::from(fault), &mut rt.stderr()),
+        Err(fault) => report(&this_program(), &Failure::from(fault), &mut rt.stderr()),
     };
     ExitCode::from(status)
 }

@@ -3,95 +3,27 @@
 ghost use Rattle.std.specs.Prelude.{◌≡◌, ◌≢◌, ◌≤◌, map, string_bytes, IfOk, IfErr, OnOk};
 ghost use Rattle.std.specs.Io.KnownBytes.{Keeps};
 ghost use Rattle.isle_syntax.specs.Format.{IsFormatted, IsRefused};
-ghost use Rattle.isle_cli.specs.Streams.{AppendsBeginning, ReadsText, Writes, WritesBeginning};
+ghost use Rattle.isle_cli.specs.Streams.{ReadsText, Writes, WritesBeginning};
+ghost use Rattle.isle_cli.specs.Words.{GiveWidth, given_width};
 ghost use Rattle.isle_fmt.specs.Failure.{Explains, IsDiagnostic, IsFormatFailure, IsRefusal};
-ghost use Rattle.isle_fmt.specs.Failure.{read_failure, status_of, text_of, words_failure};
-ghost use Rattle.isle_fmt.specs.Words.{GiveWidth, given_width};
-ghost use Rattle.isle_fmt.specs.declared.program.Failure.TheVariants.{Memory};
+ghost use Rattle.isle_fmt.specs.Failure.{IsThis};
 
-use isle_cli::diagnostics::diagnostic;
-use isle_cli::streams::{ReadFault, read_text, write_whole};
-use isle_cli::words::{WordsFault, parsed_width};
+use isle_cli::diagnostics::{INPUT_NAME, diagnostic};
+use isle_cli::failure::Failure;
+use isle_cli::program::{Program, report};
+use isle_cli::streams::{read_text, write_whole};
+use isle_cli::words::width_of;
 use isle_syntax::lexer::Fault;
-use std::alloc::{AllocError, Global};
+use std::alloc::Global;
 use std::io::{Read, Write};
 
-/// The name that stands for standard input.
-const INPUT_NAME: &str = "<stdin>";
-
-/// The width of the output where the command line gives none, in bytes.
-const DEFAULT_WIDTH: usize = 78;
-
-/// Why the program writes no formatted text.
-#[derive(Debug, Drop)]
-pub enum Failure {
-    /// The input is no text of ISLE; with the diagnostic to write.
-    Refused(String),
-    /// The command line gives no width.
-    Usage,
-    /// The input can't be read, or isn't UTF-8.
-    Input,
-    /// A growth of memory was refused.
-    Memory,
-    /// The output refused bytes.
-    Output,
-}
-
-impl From<AllocError> for Failure {
-    ghost from_gives = { λ _ failure. failure ≡ Memory };
-
-    fn from(_error: AllocError) -> Failure {
-        Failure::Memory
-    }
-}
-
-impl From<ReadFault> for Failure {
-    ghost from_gives = { λ fault failure. failure ≡ read_failure fault };
-
-    fn from(fault: ReadFault) -> Failure {
-        match fault {
-            ReadFault::Unreadable => Failure::Input,
-            ReadFault::Memory => Failure::Memory,
-        }
-    }
-}
-
-impl From<WordsFault> for Failure {
-    ghost from_gives = { λ fault failure. failure ≡ words_failure fault };
-
-    fn from(fault: WordsFault) -> Failure {
-        match fault {
-            WordsFault::NotUtf8 => Failure::Usage,
-            WordsFault::Memory => Failure::Memory,
-        }
-    }
-}
-
-impl Failure {
-    /// The status that the program ends with.
-    fn status(&self) -> u8
-        ensures { result ≡ status_of self.now }
-    {
-        match self {
-            Failure::Refused(_) => 1,
-            Failure::Usage => 2,
-            Failure::Input => 3,
-            Failure::Memory => 4,
-            Failure::Output => 5,
-        }
-    }
-
-    /// What goes to standard error.
-    fn text(&self) -> &str
-        ensures { result.now ≡ text_of self.now }
-    {
-        match self {
-            Failure::Refused(diagnostic) => diagnostic.as_str(),
-            Failure::Usage => "usage: isle-fmt [WIDTH]\n",
-            Failure::Input => "isle-fmt: input is unreadable or not UTF-8\n",
-            Failure::Memory => "isle-fmt: out of memory\n",
-            Failure::Output => "isle-fmt: output failed\n",
-        }
+/// What the program says of itself.
+pub fn this_program() -> Program
+    ensures { IsThis result }
+{
+    Program {
+        name: "isle-fmt",
+        usage: "usage: isle-fmt [WIDTH]\n",
     }
 }
 
@@ -148,7 +80,7 @@ pub fn run<R: Read, W: Write, E: Write>(
 {
     match formatted(alloc, words, input, output) {
         Ok(()) => 0,
-        Err(failure) => report(&failure, faults),
+        Err(failure) => report(&this_program(), &failure, faults),
     }
 }
 
@@ -173,30 +105,6 @@ fn formatted<R: Read, W: Write>(
     match write_whole(output, answer.as_bytes()) {
         Ok(()) => Ok(()),
         Err(_) => Err(Failure::Output),
-    }
-}
-
-/// Writes what a failure says to standard error, as far as it takes it, and answers the status.
-pub fn report<E: Write>(failure: &Failure, faults: &mut E) -> u8
-    ensures status { result ≡ status_of failure.now }
-    ensures text { AppendsBeginning (E.contents faults.old) (E.contents faults.new)
-        (text_of failure.now) }
-{
-    let _ = write_whole(faults, failure.text().as_bytes());
-    failure.status()
-}
-
-/// The width that the words give.
-fn width_of(words: &[String]) -> Result<usize, Failure>
-    ensures ok { IfOk result (λ width. GiveWidth (map string_bytes words.now)
-        × (width ≡ given_width (map string_bytes words.now))) }
-    ensures err { IfErr result (λ failure. (failure ≡ Failure.Usage)
-        × (¬ (GiveWidth (map string_bytes words.now)))) }
-{
-    match words {
-        [] => Ok(DEFAULT_WIDTH),
-        [word] => parsed_width(word.as_str()).ok_or(Failure::Usage),
-        _ => Err(Failure::Usage),
     }
 }
 

@@ -1,5 +1,6 @@
 use super::*;
 use isle_cli::words::taken_words;
+use std::alloc::AllocError;
 use std::env::{Env, FillError};
 use std::io;
 use std::io::ErrorKind;
