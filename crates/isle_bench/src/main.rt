@@ -1,5 +1,5 @@
-//! `isle_bench STEP ROUNDS < TEXT`: makes one step of the way from a text to its print, as many times
-//! as `ROUNDS` says, so that the step can be timed from outside.
+//! `isle_bench STEP ROUNDS < TEXT`: makes one step of the way from a text to its print, as many
+//! times as `ROUNDS` says, so that the step can be timed from outside.
 //!
 //! | STEP | What is made | What is written |
 //! |---|---|---|

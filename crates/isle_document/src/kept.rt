@@ -1,7 +1,8 @@
 //! Putting entries onto the tidy text. What is there as it is in the text is kept back, and is put
 //! in long pieces.
 
-ghost use Rattle.std.specs.Prelude.{◌≡◌, ◌≤◌, ◌++◌, [], IfOk, IsUtf8, OnOk, drop, length, string_bytes};
+ghost use Rattle.std.specs.Prelude.{◌≡◌, ◌≤◌, ◌++◌, [], IfOk, IsUtf8};
+ghost use Rattle.std.specs.Prelude.{OnOk, drop, length, string_bytes};
 ghost use Rattle.std.specs.Prelude.{true};
 ghost use Rattle.isle_document.specs.Finds.{AreClean, Stands, part as part_of};
 ghost use Rattle.isle_document.specs.Keeping.{AreKept, Puts};

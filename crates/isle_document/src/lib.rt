@@ -5,7 +5,8 @@
 //! entries of a document, and where each is placed, are those of `isle_document_layout`.
 #![tactic(auto)]
 
-ghost use Rattle.std.specs.Prelude.{◌≡◌, ◌≢◌, ◌≤◌, ◌++◌, Err, IfErr, IfOk, IfSome, List, None, Ok, ℕ};
+ghost use Rattle.std.specs.Prelude.{◌≡◌, ◌≢◌, ◌≤◌, ◌++◌, Err, IfErr, IfOk, IfSome};
+ghost use Rattle.std.specs.Prelude.{List, None, Ok, ℕ};
 ghost use Rattle.std.specs.Prelude.{false, length, string_bytes, take, true};
 ghost use Rattle.isle_base.specs.Steps.{IfError};
 ghost use Rattle.isle_base.specs.declared.fault.Fault.TheVariants.{Failed};

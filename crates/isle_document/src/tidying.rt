@@ -25,8 +25,8 @@ pub struct Tidying<'src> {
     text: &'src str,
     /// The offset of what is next.
     at: usize,
-    /// The offset of what is kept: the bytes from there on, up to what is next, are in the tidy text
-    /// as they are, and aren't appended yet.
+    /// The offset of what is kept: the bytes from there on, up to what is next, are in the tidy
+    /// text as they are, and aren't appended yet.
     kept: usize,
     /// The gap before that offset: none, or the start of the text.
     gap: Gap,

@@ -160,7 +160,8 @@ fn is_body_head(text: &str) -> bool
     text == "let" || text == "type" || text == "spec" || text == "switch" || text == "instantiate"
 }
 
-/// Gives the columns after a lexeme that begins at these, and whose bytes may be known to be simple.
+/// Gives the columns after a lexeme that begins at these, and whose bytes may be known to be
+/// simple.
 fn after(at: Columns, lexeme: &Lexeme, is_simple: bool) -> Result<Columns, AllocError>
     requires small { IsSmall at }
     requires simple { is_simple ≡ true → IsSimple (lexeme_of lexeme.now) }

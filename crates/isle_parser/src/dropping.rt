@@ -1,7 +1,7 @@
 //! Calls that drop trees.
 //!
-//! A crate that drops a tree proves how, node by node. So the crates above hand their trees to these
-//! calls, and prove nothing of it again.
+//! A crate that drops a tree proves how, node by node. So the crates above hand their trees to
+//! these calls, and prove nothing of it again.
 
 use isle_ast::ast::Def;
 

@@ -154,8 +154,8 @@ fn is_accepted(alloc: Global, span: Span) -> Result<bool, AllocError> {
     Ok(Errors::accepts(&errors, &files(alloc, 1, "(A)")?))
 }
 
-/// Whether no errors are accepted with no files, and one in the file that is there, past its end, in
-/// another file, and at a place behind which there is none.
+/// Whether no errors are accepted with no files, and one in the file that is there, past its end,
+/// in another file, and at a place behind which there is none.
 fn accepted(alloc: Global) -> Result<[bool; 4], AllocError> {
     let greatest = Pos::new(0, usize::MAX);
     let past = Span {

@@ -112,8 +112,8 @@ fn ends(alloc: Global) -> bool {
     }
 }
 
-/// The calls of lexers, of tokens and of lanes, and a parser's beginning; `next` of a lexer that has
-/// failed, and of one at its end.
+/// The calls of lexers, of tokens and of lanes, and a parser's beginning; `next` of a lexer that
+/// has failed, and of one at its end.
 fn lexers(alloc: Global, text: &str, lexer: Lexer, mut failed: Lexer) -> bool {
     let is_token = match lexer.peek() {
         Some((pos, token)) => pos.file == 1 && !pos.is_unknown() && !token.is_int(),

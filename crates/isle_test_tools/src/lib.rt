@@ -1,5 +1,5 @@
-//! Calls of the crates behind the programs: tests alone. They stand here, since a crate with tests is
-//! proved twice.
+//! Calls of the crates behind the programs: tests alone. They stand here, since a crate with tests
+//! is proved twice.
 #![tactic(auto)]
 
 #[cfg(test)]

@@ -1,6 +1,7 @@
 //! The S-expressions of definitions.
 
-ghost use Rattle.std.specs.Prelude.{IfOk, IsErrOf, IsSome, None, OnOk, Some, [], false, true, ◌∷◌, ◌≡◌};
+ghost use Rattle.std.specs.Prelude.{IfOk, IsErrOf, IsSome, None, OnOk, Some, [], false, true};
+ghost use Rattle.std.specs.Prelude.{◌∷◌, ◌≡◌};
 ghost use Rattle.isle_ast.specs.MacroArgs.{definition_has_macro_arg};
 ghost use Rattle.isle_ast.specs.TreeView.{definition_of};
 ghost use Rattle.isle_printer.specs.DefinitionShapes.{definition_shape};
