@@ -14,16 +14,15 @@ use Rattle.isle_base.specs.Token.{Ending, Feed, Lexeme, Tok, end, fault}
 use Rattle.isle_ast.specs.declared.ast.Def.{Def}
 use Rattle.isle_parser.specs.declared.parser.Parser.{Parser}
 use Rattle.isle_parser.specs.DefinitionReaders.{definition, definitions}
-use Rattle.isle_parser.specs.NextDefinition.{RefusesNext, SpellsNoDefinition, fault_of, has_failed}
+use Rattle.isle_parser.specs.NextDefinition.{LeavesNone, RefusesNext, SpellsNoDefinition, has_failed}
 use Rattle.isle_parser.specs.Parsed.{FailsAs, Parses, RefusesText, RefusesWith, SpellsOnly}
 use Rattle.isle_parser.specs.Positions.{OneHasKnownPositions, OneHasPositions}
 use Rattle.isle_parser.proofs.Positions.Definitions.{definition_known, definition_positions}
 use Rattle.isle_parser.proofs.Reading.Definitions.{definition_begins, definition_not_read, definition_read, definition_shrinks, definition_sound, one_definition}
 use Rattle.isle_parser.proofs.Whole.{at_end_ends, fault_spells_nothing, not_parsed, parsed, same_ending, same_text}
 use Rattle.isle_parser_cursor.specs.declared.cursor.Cursor.{Cursor}
-use Rattle.isle_parser_cursor.specs.declared.cursor.Stop.{Stop}
-use Rattle.isle_parser_cursor.specs.declared.cursor.Stop.TheVariants as stops
-use Rattle.isle_parser_cursor.specs.Outcomes.{RefusesIn, CursorSource, StandsAtFault, Stops, placing, source, tokens}
+use Rattle.isle_parser_cursor.specs.Outcomes.{RefusesIn, CursorSource, StandsAtFault, left, placing, source, tokens}
+use Rattle.isle_parser_cursor.proofs.Ahead.{left_spent, left_unspent}
 use Rattle.isle_parser_cursor.specs.Reading.{ends, is_ahead, many}
 use Rattle.isle_parser_cursor.proofs.Loops.{behind_front, loop_begin, loop_end, loop_none, loop_push}
 use Rattle.isle_parser_cursor.proofs.Readers.{begins_node}
@@ -44,20 +43,53 @@ same_fault s t e is h = subst (λ (u : CursorSource). StandsAtFault u e) is h
 stands_within : (s : CursorSource) (e : Error) → StandsAtFault s e → RefusesIn s.file s.size e
 stands_within s e h = (h.0, h.2, h.3)
 
-pub next_refused : (old new : Cursor) (stop : Stop) → is_at_end old.scanner ≡ false → source new ≡ source old → Stops (definition (tokens old)) (source new) stop → IfError (RefusesNext old) (fault_of stop)
-next_refused old new (stops.Parser e) before same h =
+-- a cursor of which no token is taken
+abbrev pub fresh : Cursor → Cursor
+fresh p = record p { is_spent = false }
+
+fresh_left : (p : Cursor) → left (fresh p) ≡ tokens p
+unfolding left
+fresh_left p = refl
+
+-- a definition is read, and the token ahead isn't taken
+pub read_whole : (old mid new : Cursor) (d : Definition) → definition (left (fresh old)) ≡ Some (d, left mid) → (mid.is_spent ≡ false) × (new ≡ mid) → definition (tokens old) ≡ Some (d, tokens new)
+read_whole old mid new d read h =
+    let here : definition (tokens old) ≡ Some (d, left mid) = rw (fresh_left old) at read in
+    rw h.1 (here ∙ rw (left_unspent mid h.0) refl)
+
+-- a definition that is read up to the fault leaves nothing
+leaves_none : (all : List Placed) (d : Definition) → definition all ≡ Some (d, []) → LeavesNone all
+leaves_none all d read e rest h = (one_definition e d all rest [] h (definition_sound all [] d read)).1
+
+-- a definition is read, and the lexer refuses its text right after it
+pub refused_after : (old mid : Cursor) (d : Definition) (f : Fault) → is_at_end old.scanner ≡ false → source mid ≡ source old → definition (left (fresh old)) ≡ Some (d, left mid) → mid.is_spent ≡ true
+    → IfError (StandsAtFault (source mid)) f → IfError (RefusesNext old) f
+refused_after old mid d (faults.Error e) before same read spent h =
+    let here : definition (tokens old) ≡ Some (d, left mid) = rw (fresh_left old) at read in
+    let whole : definition (tokens old) ≡ Some (d, []) = rw (left_spent mid spent) at here in
+    let stands = same_fault (source mid) (source old) e same h in
     record {
-      because = inl (spells_none (tokens old) h.0);
-      stands = same_text (source new) (source old) e.value same h.1;
+      because = inr (stands, leaves_none (tokens old) d whole);
+      stands = stands_within (source old) e stands;
       before_end = before;
     }
-next_refused old new (stops.Lexer e) before same h =
+refused_after old mid d faults.Failed before same read spent h = tt
+refused_after old mid d faults.Memory before same read spent h = tt
+
+-- no definition is read, and the error is in the text
+pub refused_in : (old mid : Cursor) (e : Error) → is_at_end old.scanner ≡ false → source mid ≡ source old → definition (left (fresh old)) ≡ None → RefusesIn mid.scanner.file mid.scanner.size e → RefusesNext old e
+refused_in old mid e before same none h =
     record {
-      because = inr (same_fault (source new) (source old) e.value same h);
-      stands = stands_within (source old) e.value (same_fault (source new) (source old) e.value same h);
+      because = inl (spells_none (tokens old) (rw (fresh_left old) at none));
+      stands = same_text (source mid) (source old) e same h;
       before_end = before;
     }
-next_refused old new stops.Memory before same h = tt
+
+-- no definition is read, and the lexer refuses its text before one ends
+pub refused_before : (old mid : Cursor) (f : Fault) → is_at_end old.scanner ≡ false → source mid ≡ source old → definition (left (fresh old)) ≡ None → IfError (StandsAtFault (source mid)) f → IfError (RefusesNext old) f
+refused_before old mid (faults.Error e) before same none h = refused_in old mid e before same none (stands_within (source mid) e h)
+refused_before old mid faults.Failed before same none h = tt
+refused_before old mid faults.Memory before same none h = tt
 
 pub next_spelt : (old new : Cursor) (d : Definition) → definition (tokens old) ≡ Some (d, tokens new) → SpellsDefinition d (tokens old) (tokens new)
 next_spelt old new d e = definition_sound (tokens old) (tokens new) d e
@@ -137,7 +169,7 @@ loop_refused start now front e live same so_far h =
           let nothing = loop_none definition ends definition_shrinks front (tokens now) (definitions (tokens start)) here (definition_not_read (tokens now) none) so_far in
           (not_parsed place start.scanner nothing, stands)
       | inr broken ↦
-          let there = same_fault (source now) (source start) e same broken in
+          let there = same_fault (source now) (source start) e same broken.0 in
           (fault_spells_nothing place start.scanner there.0 there.1, stands)
     ]
 

@@ -1,5 +1,5 @@
 -- What a parser returns where one definition is asked for, by what its lexer has still to give.
-use Rattle.std.specs.Prelude.{◌≡◌, ◌⊎◌, ◌||◌, List, Bool, false, Option, Result, IfOk, IfSome}
+use Rattle.std.specs.Prelude.{◌≡◌, ◌⊎◌, ◌||◌, List, [], Bool, false, Option, Result, IfOk, IfSome}
 use Rattle.isle_ast.specs.Grammar.{SpellsDefinition}
 use Rattle.isle_ast.specs.Tree.{Definition}
 use Rattle.isle_ast.specs.TreeView.{definition_of}
@@ -10,10 +10,7 @@ use Rattle.isle_base.specs.Place.{Placed}
 use Rattle.isle_base.specs.Steps.{is_at_end, is_failed}
 use Rattle.isle_parser.specs.declared.parser.Parser.{Parser}
 use Rattle.isle_parser_cursor.specs.declared.cursor.Cursor.{Cursor}
-use Rattle.isle_parser_cursor.specs.declared.cursor.Stop.{Stop}
 use Rattle.isle_parser_cursor.specs.Outcomes.{RefusesIn, StandsAtFault, source, tokens}
-use Rattle.isle_base.specs.declared.fault.Fault.TheVariants as faults
-use Rattle.isle_parser_cursor.specs.declared.cursor.Stop.TheVariants as stops
 
 -- whether the lexer had refused its text, or an earlier call of the parser was refused
 abbrev pub has_failed : Parser → Bool
@@ -27,15 +24,13 @@ IfFound r P = IfOk r (λ found. IfSome found (λ def. P (definition_of def)))
 abbrev pub SpellsNoDefinition : List Placed → Type 0
 SpellsNoDefinition all = (d : Definition) (rest : List Placed) → SpellsDefinition d all rest → ⊥
 
--- No front of the tokens to come spells a definition, or the error is at the fault that ends them. It is in
--- the text, and something was to come.
+-- each definition that a front of these tokens spells leaves none of them
+abbrev pub LeavesNone : List Placed → Type 0
+LeavesNone all = (d : Definition) (rest : List Placed) → SpellsDefinition d all rest → rest ≡ []
+
+-- No front of the tokens to come spells a definition, or the error is at the fault that ends them, and each
+-- definition that a front spells leaves none of them. It is in the text, and something was to come.
 pub record RefusesNext (old : Cursor) (e : Error) : Type 0 where
-  pub because : SpellsNoDefinition (tokens old) ⊎ StandsAtFault (source old) e
+  pub because : SpellsNoDefinition (tokens old) ⊎ (StandsAtFault (source old) e × LeavesNone (tokens old))
   pub stands : RefusesIn old.scanner.file old.scanner.size e
   pub before_end : is_at_end old.scanner ≡ false
-
--- what a parser returns where reading stops
-abbrev pub fault_of : Stop → Fault
-fault_of (stops.Parser e) = faults.Error e.value
-fault_of (stops.Lexer e) = faults.Error e.value
-fault_of stops.Memory = faults.Memory

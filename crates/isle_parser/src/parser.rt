@@ -1,17 +1,18 @@
 //! Parser for the ISLE language.
 
 ghost use Rattle.std.specs.Prelude.{◌≡◌, ◌↔◌, IfErr, IfOk, IsErrOf, List, None, Ok, OnErr, OnOk};
-ghost use Rattle.std.specs.Prelude.{false, true};
+ghost use Rattle.std.specs.Prelude.{Some, false, true};
 ghost use Rattle.isle_ast.specs.Grammar.{SpellsDefinition};
 ghost use Rattle.isle_ast.specs.Erased.{erase};
 ghost use Rattle.isle_ast.specs.MacroArgs.{definition_has_macro_arg, definitions_have_macro_arg};
 ghost use Rattle.isle_ast.specs.Spelt.{Spells};
 ghost use Rattle.isle_ast.specs.Tree.{Definition};
-ghost use Rattle.isle_ast.specs.TreeView.{definitions_of};
+ghost use Rattle.isle_ast.specs.TreeView.{definition_of, definitions_of};
 ghost use Rattle.isle_base.specs.Place.{Placed, in_file, nowhere};
 ghost use Rattle.isle_base.specs.Steps.{IfError, Rises, is_at_end, is_failed};
 ghost use Rattle.isle_base.specs.declared.fault.Fault.TheVariants.{Failed};
-ghost use Rattle.isle_parser.specs.NextDefinition.{IfFound, RefusesNext, fault_of, has_failed};
+ghost use Rattle.isle_parser.specs.DefinitionReaders.{definition};
+ghost use Rattle.isle_parser.specs.NextDefinition.{IfFound, RefusesNext, has_failed};
 ghost use Rattle.isle_parser.specs.Parsed.{Parses, RefusesText};
 ghost use Rattle.isle_parser.specs.Positions.{HasKnownPositions, HasPositions};
 ghost use Rattle.isle_parser.specs.Positions.{OneHasKnownPositions, OneHasPositions};
@@ -24,6 +25,7 @@ mod models;
 mod terms;
 mod types;
 
+use crate::dropping::drop_definition;
 use crate::parser::definitions::parse_def;
 use isle_ast::ast::Def;
 use isle_base::lexer::{Fault, Lexer};
@@ -139,6 +141,7 @@ impl<'src> Parser<'src> {
             cursor: Cursor {
                 scanner: Scanner::from(lexer),
                 disable_pos: false,
+                is_spent: false,
             },
             refused: false,
         }
@@ -154,6 +157,7 @@ impl<'src> Parser<'src> {
             cursor: Cursor {
                 scanner: Scanner::from(lexer),
                 disable_pos: true,
+                is_spent: false,
             },
             refused: false,
         }
@@ -169,9 +173,9 @@ impl<'src> Parser<'src> {
     /// as it was.
     ///
     /// It returns an error only where no front of the tokens to come spells a definition, or where
-    /// the lexer refuses its text further on. In the second case the error is at that fault, and
-    /// the definition may be spelt before it. The error is a parse error at one byte of the text,
-    /// or at its end. `Memory` comes where a growth of memory was refused.
+    /// the lexer refuses its text right after the definition. In the second case the error is at
+    /// that fault, and the definition takes all tokens before it. The error is a parse error at one
+    /// byte of the text, or at its end. `Memory` comes where a growth of memory was refused.
     ///
     /// After either error the parser has failed. It has failed from the first if its lexer had
     /// refused the text. It returns `Failed` then, and only then, to each later call.
@@ -208,13 +212,9 @@ impl<'src> Parser<'src> {
         if self.cursor.is_at_end() {
             return Ok(None);
         }
-        match parse_def(&mut self.cursor, alloc) {
-            Ok(def) => Ok(Some(def)),
-            Err(stop) => {
-                self.refused = true;
-                Err(fault_of(stop))
-            }
-        }
+        let read = read_def(&mut self.cursor, alloc);
+        self.refused = read.is_err();
+        Ok(Some(read?))
     }
 
     /// Tells whether the lexer had refused its text, or an earlier call was refused.
@@ -240,13 +240,30 @@ impl<'src> Parser<'src> {
     }
 }
 
-/// What the parser returns where reading stops.
-fn fault_of(stop: Stop) -> Fault
-    ensures { result ≡ fault_of stop }
+/// The definition that the tokens to come begin with. Where the last token before a fault of the
+/// lexer is taken for it, the lexer's error is returned: it goes before the parser's own.
+fn read_def(cursor: &mut Cursor, alloc: Global) -> Result<Def, Fault>
+    requires { is_at_end cursor.old.scanner ≡ false }
+    ensures read { IfOk result (λ def. definition (tokens cursor.old)
+        ≡ Some (definition_of def, tokens cursor.new)) }
+    ensures goes_on { OnOk result (is_failed cursor.new.scanner ≡ false) }
+    ensures refused { IfErr result (IfError (RefusesNext cursor.old)) }
+    ensures never_failed { IsErrOf result Failed → ⊥ }
+    ensures same { source cursor.new ≡ source cursor.old }
 {
-    match stop {
-        Stop::Parser(error) => Fault::Error(Box::into_inner(error)),
-        Stop::Lexer(error) => Fault::Error(Box::into_inner(error)),
-        Stop::Memory => Fault::Memory,
+    cursor.is_spent = false;
+    match parse_def(cursor, alloc) {
+        Ok(def) => match cursor.fault(alloc) {
+            None => Ok(def),
+            Some(fault) => {
+                drop_definition(def);
+                Err(fault)
+            }
+        },
+        Err(Stop::Parser(error)) => match cursor.fault(alloc) {
+            None => Err(Fault::Error(Box::into_inner(error))),
+            Some(fault) => Err(fault),
+        },
+        Err(Stop::Memory) => Err(Fault::Memory),
     }
 }

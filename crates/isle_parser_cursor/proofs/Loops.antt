@@ -33,7 +33,6 @@ loop_none read stop shrinks front all total here e so_far =
 pub loop_stops : {A : Type 0} (read : Reader A) (stop : List Placed → Bool) → Shrinks read → (front : List A) (all : List Placed) (total : Option (List A × List Placed)) (s : CursorSource) (e : Stop)
     → stop all ≡ false → Stops (read all) s e → behind_front front (many stop read all) ≡ total → Stops total s e
 loop_stops read stop shrinks front all total s (stops.Parser e) here h so_far = (loop_none read stop shrinks front all total here h.0 so_far, h.1)
-loop_stops read stop shrinks front all total s (stops.Lexer e) here h so_far = h
 loop_stops read stop shrinks front all total s stops.Memory here h so_far = tt
 
 -- the list ends here
@@ -54,7 +53,6 @@ made make read = read >>= λ xs. Some (make xs.0, xs.1)
 -- a node made of a list that isn't read isn't read
 pub made_stops : {A B : Type 0} (make : List A → B) (read : Option (List A × List Placed)) (s : CursorSource) (e : Stop) → Stops read s e → Stops (made make read) s e
 made_stops make read s (stops.Parser e) h = (rw h.0 refl, h.1)
-made_stops make read s (stops.Lexer e) h = h
 made_stops make read s stops.Memory h = tt
 
 -- a node made of a list that is read

@@ -1,8 +1,8 @@
--- What a call that reads returns, by the tokens that its lexer has still to give.
-use Rattle.std.specs.Prelude.{◌≡◌, ℕ, ◌+◌, ◌≤◌, ◌<◌, ◌^◌, List, Bool, true, false, Option, Some, None, Result, Ok, Err}
+-- What a call that reads returns, by the tokens that are left.
+use Rattle.std.specs.Prelude.{◌≡◌, ℕ, ◌+◌, ◌≤◌, ◌<◌, ◌^◌, List, [], Bool, true, false, Option, Some, None, Result, Ok, Err, if◌then◌else◌}
 use Rattle.isle_base_source.specs.declared.pos.Pos.{Pos}
 use Rattle.isle_base.specs.Place.{Placed, in_file, nowhere, placed}
-use Rattle.isle_base.specs.Steps.{RefusesAt}
+use Rattle.isle_base.specs.Steps.{FacesFault, RefusesAt, is_failed}
 use Rattle.isle_base.specs.Token.{Ending, fault}
 use Rattle.isle_parser_cursor.specs.declared.cursor.Cursor.{Cursor}
 use Rattle.isle_parser_cursor.specs.declared.cursor.Stop.{Stop}
@@ -18,6 +18,15 @@ placing false file = in_file file
 -- the tokens to come, each at its position
 abbrev pub tokens : Cursor → List Placed
 tokens p = placed (placing p.disable_pos p.scanner.file) p.scanner.coming
+
+-- the tokens that are left to take: none where the last one before a fault is taken
+unfoldable pub left : Cursor → List Placed
+left p = if p.is_spent then [] else tokens p
+
+-- The lexer isn't failed, and where the token ahead is taken, a fault follows it.
+pub record GoesOn (p : Cursor) : Type 0 where
+  pub live : is_failed p.scanner ≡ false
+  pub spent : p.is_spent ≡ true → (offset : ℕ) × FacesFault p.scanner offset
 
 -- what no call changes
 pub record CursorSource : Type 0 where
@@ -38,14 +47,7 @@ pub record IsPlace (s : CursorSource) (pos : Pos) : Type 0 where
 -- the parser refuses the byte at this position
 abbrev pub IsRefusalAt : Pos → Stop → Type 0
 IsRefusalAt pos (stops.Parser e) = RefusesAt pos e.value
-IsRefusalAt pos (stops.Lexer e) = ⊥
 IsRefusalAt pos stops.Memory = Unit {0}
-
--- the lexer refuses its text with this error
-abbrev pub IsLexerRefusal : Error → Stop → Type 0
-IsLexerRefusal error (stops.Parser e) = ⊥
-IsLexerRefusal error (stops.Lexer e) = e.value ≡ error
-IsLexerRefusal error stops.Memory = Unit {0}
 
 -- a parse error whose span is one byte of the file, or the one after the text's end
 abbrev pub RefusesIn : ℕ → ℕ → Error → Type 0
@@ -58,29 +60,26 @@ StandsAtFault s e = (offset : ℕ) × (s.ending ≡ fault offset) × (offset ≤
 -- a refusal of the parser at some byte of the file, or at the text's end
 abbrev pub IsParserRefusal : CursorSource → Stop → Type 0
 IsParserRefusal s (stops.Parser e) = RefusesIn s.file s.size e.value
-IsParserRefusal s (stops.Lexer e) = ⊥
 IsParserRefusal s stops.Memory = Unit {0}
 
--- Where the parser refuses, reading gives nothing, and where the lexer does, it is at the fault after the tokens.
+-- Where the parser refuses, reading gives nothing.
 abbrev pub Stops : {Y : Type 0} → Option (Y × List Placed) → CursorSource → Stop → Type 0
 Stops read s (stops.Parser e) = (read ≡ None) × RefusesIn s.file s.size e.value
-Stops read s (stops.Lexer e) = StandsAtFault s e.value
 Stops read s stops.Memory = Unit {0}
 
 -- What a call returned, seen by view, is what reading gives of the tokens that were to come.
 abbrev pub MatchesRead : {X Y : Type 0} → (X → Y) → Option (Y × List Placed) → Result X Stop → Cursor → Type 0
-MatchesRead view read (Ok x) new = read ≡ Some (view x, tokens new)
+MatchesRead view read (Ok x) new = read ≡ Some (view x, left new)
 MatchesRead view read (Err e) new = Stops read (source new) e
 
 -- A call takes off the tokens what the reader does, and its result is what was read, seen by the view. The text and
 -- its place in the sources stay as they are.
 pub record ReadsOff {X Y : Type 0} (view : X → Y) (reader : Reader Y) (old : Cursor) (result : Result X Stop) (new : Cursor) : Type 0 where
   pub same : source new ≡ source old
-  pub gives : MatchesRead view (reader (tokens old)) result new
+  pub gives : MatchesRead view (reader (left old)) result new
 
 -- A test of what is at a place is passed, or the parser refuses there.
 abbrev pub PassesOrRefuses : {X : Type 0} → Bool → CursorSource → Result X Stop → Type 0
 PassesOrRefuses passed s (Ok _) = passed ≡ true
 PassesOrRefuses passed s (Err (stops.Parser e)) = (passed ≡ false) × RefusesIn s.file s.size e.value
-PassesOrRefuses passed s (Err (stops.Lexer e)) = ⊥
 PassesOrRefuses passed s (Err stops.Memory) = Unit {0}

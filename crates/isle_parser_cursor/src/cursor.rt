@@ -1,14 +1,17 @@
 //! What is taken off the tokens of a text, one after another.
 #![tactic(auto, unfolding(crate::specs::Reading::text, crate::specs::NumberReaders::integer_within, crate::specs::Reading::flag))]
 
-ghost use Rattle.std.specs.Prelude.{◌≡◌, ◌+◌, ◌<◌, ◌^◌, IfOk, OnOk, false, option_map};
-ghost use Rattle.std.specs.Prelude.{string_bytes};
+ghost use Rattle.std.specs.Prelude.{◌≡◌, ◌≢◌, ◌+◌, ◌<◌, ◌^◌, IfOk, IfSome, None, OnOk, Some};
+ghost use Rattle.std.specs.Prelude.{false, is_some, option_map, string_bytes, true, ℕ};
 ghost use Rattle.isle_ast_names.specs.Words.{is_constant};
-ghost use Rattle.isle_base.specs.Steps.{IsWithin, Rises, is_at_end, is_failed};
+ghost use Rattle.isle_base.specs.Steps.{FacesFault, IfError, IsWithin, Rises, is_at_end};
+ghost use Rattle.isle_base.specs.Steps.{is_failed, lookahead};
 ghost use Rattle.isle_base.specs.Token.{at_sign, integer, is_int, is_symbol, lparen, rparen};
 ghost use Rattle.isle_base.specs.TokenView.{token_of_ref};
-ghost use Rattle.isle_parser_cursor.specs.Outcomes.{IsLexerRefusal, IsParserRefusal, IsPlace};
-ghost use Rattle.isle_parser_cursor.specs.Outcomes.{IsRefusalAt, ReadsOff, source, tokens};
+ghost use Rattle.isle_base.specs.declared.fault.Fault.TheVariants.{Failed};
+ghost use Rattle.isle_parser_cursor.specs.Outcomes.{GoesOn, IsParserRefusal, IsPlace};
+ghost use Rattle.isle_parser_cursor.specs.Outcomes.{IsRefusalAt, ReadsOff, StandsAtFault, left};
+ghost use Rattle.isle_parser_cursor.specs.Outcomes.{source, tokens};
 ghost use Rattle.isle_parser_cursor.specs.NumberReaders.{integer_within};
 ghost use Rattle.isle_parser_cursor.specs.Reading.{is_const, ends, expect, flag, is_ahead, is_at};
 ghost use Rattle.isle_parser_cursor.specs.Reading.{is_lparen, is_rparen, is_symbol_of};
@@ -31,6 +34,8 @@ pub struct Cursor<'src> {
     pub scanner: Scanner<'src>,
     /// Whether the default position is put in place of each.
     pub disable_pos: bool,
+    /// Whether the token ahead is taken: the last one before a fault.
+    pub is_spent: bool,
 }
 
 impl<'src> Clone for Cursor<'src> {
@@ -40,6 +45,7 @@ impl<'src> Clone for Cursor<'src> {
         Ok(Cursor {
             scanner: self.scanner.clone()?,
             disable_pos: self.disable_pos,
+            is_spent: self.is_spent,
         })
     }
 }
@@ -49,8 +55,6 @@ impl<'src> Clone for Cursor<'src> {
 pub enum Stop {
     /// The parser refuses the tokens.
     Parser(Box<Error>),
-    /// The lexer refuses its text.
-    Lexer(Box<Error>),
     /// Out of memory.
     Memory,
 }
@@ -89,30 +93,34 @@ impl<'src> Cursor<'src> {
         self.scanner.eof()
     }
 
-    /// The token ahead.
+    /// The token ahead that is left to take.
+    #[tactic(auto, unfolding(crate::specs::Outcomes::left))]
     pub fn ahead(&self) -> Option<&TokenRef<'src>>
-        ensures { option_map (λ t. token_of_ref t.now) result ≡ token_ahead (tokens self.now) }
+        ensures { option_map (λ t. token_of_ref t.now) result ≡ token_ahead (left self.now) }
     {
+        if self.is_spent {
+            return None;
+        }
         self.scanner.peek().map(|(_, token)| token)
     }
 
     /// Tells whether `(` is ahead.
     pub fn is_lparen(&self) -> bool
-        ensures { result ≡ is_ahead is_lparen (tokens self.now) }
+        ensures { result ≡ is_ahead is_lparen (left self.now) }
     {
         matches!(self.ahead(), Some(TokenRef::LParen))
     }
 
     /// Tells whether `)` is ahead.
     pub fn is_rparen(&self) -> bool
-        ensures { result ≡ is_ahead is_rparen (tokens self.now) }
+        ensures { result ≡ is_ahead is_rparen (left self.now) }
     {
         matches!(self.ahead(), Some(TokenRef::RParen))
     }
 
     /// Tells whether this word is ahead, as a symbol.
     pub fn is_word(&self, word: &str) -> bool
-        ensures { result ≡ is_ahead (is_symbol_of word.now) (tokens self.now) }
+        ensures { result ≡ is_ahead (is_symbol_of word.now) (left self.now) }
     {
         match self.ahead() {
             Some(TokenRef::Symbol(text)) => *text == word,
@@ -122,28 +130,28 @@ impl<'src> Cursor<'src> {
 
     /// Tells whether a symbol is ahead.
     pub fn is_sym(&self) -> bool
-        ensures { result ≡ is_ahead is_symbol (tokens self.now) }
+        ensures { result ≡ is_ahead is_symbol (left self.now) }
     {
         matches!(self.ahead(), Some(TokenRef::Symbol(_)))
     }
 
     /// Tells whether an integer is ahead.
     pub fn is_int(&self) -> bool
-        ensures { result ≡ is_ahead is_int (tokens self.now) }
+        ensures { result ≡ is_ahead is_int (left self.now) }
     {
         matches!(self.ahead(), Some(TokenRef::Int(_)))
     }
 
     /// Tells whether `@` is ahead.
     pub fn is_at(&self) -> bool
-        ensures { result ≡ is_ahead is_at (tokens self.now) }
+        ensures { result ≡ is_ahead is_at (left self.now) }
     {
         matches!(self.ahead(), Some(TokenRef::At))
     }
 
     /// Tells whether a constant is ahead: a symbol that begins with `$`.
     pub fn is_const(&self) -> bool
-        ensures { result ≡ is_ahead is_const (tokens self.now) }
+        ensures { result ≡ is_ahead is_const (left self.now) }
     {
         match self.ahead() {
             Some(TokenRef::Symbol(text)) => begins_constant(text),
@@ -152,10 +160,14 @@ impl<'src> Cursor<'src> {
     }
 
     /// The position of the token ahead, as the tree has it.
+    #[tactic(auto, unfolding(crate::specs::Outcomes::left))]
     pub fn pos(&self) -> Pos
-        ensures { result ≡ pos_ahead (tokens self.now) }
+        ensures { result ≡ pos_ahead (left self.now) }
     {
         if self.disable_pos {
+            return Pos::default();
+        }
+        if self.is_spent {
             return Pos::default();
         }
         self.scanner.peek().map_or(Pos::default(), |(pos, _)| *pos)
@@ -190,29 +202,56 @@ impl<'src> Cursor<'src> {
 
     /// Takes off the token ahead.
     #[inline(always)]
+    #[tactic(auto, unfolding(crate::specs::Outcomes::left))]
     pub fn take(&mut self, alloc: Global) -> Result<TokenRef<'src>, Stop>
         ensures reads { ReadsOff token_of_ref take self.old result self.new }
-        ensures goes_on { OnOk result (is_failed self.new.scanner ≡ false) }
+        ensures goes_on { OnOk result (GoesOn self.new) }
     {
+        if self.is_spent {
+            return Err(self.unexpected(alloc));
+        }
         match self.scanner.step() {
             Some((_, token)) => Ok(token),
-            None => self.take_or_refuse(alloc),
+            None => self.take_last(alloc),
         }
     }
 
-    /// Takes off the token ahead, or tells why there is none to take, or why none follows it.
+    /// Takes off the token ahead, which a fault follows, or tells that there is none. The scanner
+    /// stays where it is, since it hands out no token before a fault: `fault` asks for its error.
     #[inline(never)]
-    fn take_or_refuse(&mut self, alloc: Global) -> Result<TokenRef<'src>, Stop>
+    #[tactic(auto, unfolding(crate::specs::Outcomes::left))]
+    fn take_last(&mut self, alloc: Global) -> Result<TokenRef<'src>, Stop>
+        requires unspent { self.old.is_spent ≡ false }
+        requires last { is_some (lookahead self.old.scanner) ≡ true
+            → (at : ℕ) × FacesFault self.old.scanner at }
         ensures reads { ReadsOff token_of_ref take self.old result self.new }
-        ensures goes_on { OnOk result (is_failed self.new.scanner ≡ false) }
+        ensures goes_on { OnOk result (GoesOn self.new) }
     {
-        let place = self.place();
+        let Some(token) = self.ahead().copied() else {
+            return Err(self.unexpected(alloc));
+        };
+        self.is_spent = true;
+        Ok(token)
+    }
+
+    /// Why the lexer refuses its text, where the last token before the fault is taken.
+    ///
+    /// `None` says that this one isn't taken, and leaves the cursor as it was. `Memory` comes where
+    /// there was no memory for the error.
+    pub fn fault(&mut self, alloc: Global) -> Option<Fault>
+        ensures spent { IfSome result (λ _. self.old.is_spent ≡ true) }
+        ensures at_fault { IfSome result (IfError (StandsAtFault (source self.old))) }
+        ensures never_failed { result ≢ Some Failed }
+        ensures none { result ≡ None → GoesOn self.old → (self.old.is_spent ≡ false)
+            × (self.new ≡ self.old) }
+        ensures same { source self.new ≡ source self.old }
+    {
+        if self.scanner.peek().is_none() || !self.is_spent {
+            return None;
+        }
         match self.scanner.next(alloc) {
-            Ok(Some((_, token))) => Ok(token),
-            Ok(None) => Err(refuse(place, unexpected_message(alloc, None))),
-            Err(Fault::Error(error)) => Err(refused_by_lexer(alloc, error)),
-            Err(Fault::Failed) => Err(refuse(place, unexpected_message(alloc, None))),
-            Err(Fault::Memory) => Err(Stop::Memory),
+            Ok(_) | Err(Fault::Failed) => None,
+            Err(fault) => Some(fault),
         }
     }
 
@@ -220,7 +259,7 @@ impl<'src> Cursor<'src> {
     #[inline(always)]
     pub fn take_if(&mut self, alloc: Global, is_wanted: bool) -> Result<TokenRef<'src>, Stop>
         ensures reads { ReadsOff token_of_ref (take_if is_wanted) self.old result self.new }
-        ensures goes_on { OnOk result (is_failed self.new.scanner ≡ false) }
+        ensures goes_on { OnOk result (GoesOn self.new) }
     {
         if !is_wanted {
             return Err(self.unexpected(alloc));
@@ -242,7 +281,7 @@ impl<'src> Cursor<'src> {
     #[tactic(auto, using(crate::proofs::Expected::expected_rparen))]
     pub fn expect_rparen(&mut self, alloc: Global) -> Result<(), Stop>
         ensures reads { ReadsOff (λ _. rparen) (expect is_rparen) self.old result self.new }
-        ensures goes_on { OnOk result (is_failed self.new.scanner ≡ false) }
+        ensures goes_on { OnOk result (GoesOn self.new) }
     {
         let is_wanted = self.is_rparen();
         self.take_if(alloc, is_wanted)?;
@@ -253,7 +292,7 @@ impl<'src> Cursor<'src> {
     pub fn close<T: Drop>(&mut self, alloc: Global, node: T) -> Result<T, Stop>
         ensures reads { ReadsOff (λ _. rparen) (expect is_rparen) self.old result self.new }
         ensures kept { IfOk result (λ n. n ≡ node) }
-        ensures goes_on { OnOk result (is_failed self.new.scanner ≡ false) }
+        ensures goes_on { OnOk result (GoesOn self.new) }
     {
         self.expect_rparen(alloc)?;
         Ok(node)
@@ -346,16 +385,6 @@ fn refuse(place: Pos, message: Result<String, AllocError>) -> Stop
     match message {
         Ok(msg) => refuse_with(place, msg),
         Err(error) => Stop::from(error),
-    }
-}
-
-/// Hands on what the lexer refuses, where there is memory for it.
-fn refused_by_lexer(alloc: Global, error: Error) -> Stop
-    ensures { IsLexerRefusal error result }
-{
-    match Box::new(alloc, error) {
-        Ok(error) => Stop::Lexer(error),
-        Err(_) => Stop::Memory,
     }
 }
 

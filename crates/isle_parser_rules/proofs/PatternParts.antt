@@ -146,5 +146,4 @@ none_appended read front all e = none_behind (read all) (λ x. (front ++ x.0 ∷
 -- where nothing is appended, nothing is read
 pub appended_none : {A : Type 0} (read : Reader A) (front : List A) (all : List Placed) (s : CursorSource) (e : Stop) → Stops (appended read front all) s e → Stops (read all) s e
 appended_none read front all s (stops.Parser e) h = (none_appended read front all h.0, h.1)
-appended_none read front all s (stops.Lexer e) h = h
 appended_none read front all s stops.Memory h = tt

@@ -39,7 +39,6 @@ side_none front all total e so_far =
 pub side_stops : (front : List Condition) (all : List Placed) (total : Option (RightSide × List Placed)) (s : CursorSource) (e : Stop) → Stops (condition_or_expression all) s e
     → behind_conditions front (right_side all) ≡ total → Stops total s e
 side_stops front all total s (stops.Parser e) h so_far = (side_none front all total h.0 so_far, h.1)
-side_stops front all total s (stops.Lexer e) h so_far = h
 side_stops front all total s stops.Memory h so_far = tt
 
 -- the right side ends with this expression

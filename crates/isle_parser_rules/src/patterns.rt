@@ -4,7 +4,7 @@
 ghost use Rattle.std.specs.Prelude.{◌≡◌, ◌++◌, [], ◌∷◌, IfErr, IfOk};
 ghost use Rattle.isle_ast_names.specs.TreeView.{optional_name_of};
 ghost use Rattle.isle_ast_rules.specs.TreeView.{pattern_of, patterns_of};
-ghost use Rattle.isle_parser_cursor.specs.Outcomes.{IsParserRefusal, ReadsOff, source, tokens};
+ghost use Rattle.isle_parser_cursor.specs.Outcomes.{IsParserRefusal, ReadsOff, left, source};
 ghost use Rattle.isle_parser_cursor.specs.Reading.{at_rparen, in_parentheses, many};
 ghost use Rattle.isle_parser_cursor.specs.declared.cursor.Stop.TheVariants.{Memory};
 ghost use Rattle.isle_parser_rules.specs.Appended.{appended};
@@ -65,7 +65,7 @@ fn refuse_pattern(cursor: &Cursor, alloc: Global) -> Stop
 
 /// Tells whether a constant, `_`, `true` or `false` is ahead. Any other symbol is a variable.
 fn is_fixed(cursor: &Cursor) -> bool
-    ensures { result ≡ is_fixed (tokens cursor.now) }
+    ensures { result ≡ is_fixed (left cursor.now) }
 {
     cursor.is_const() || cursor.is_word("_") || cursor.is_word("true") || cursor.is_word("false")
 }

@@ -14,7 +14,7 @@ use Rattle.isle_ast_verification.specs.Tree.{TypeModel, bit_vector_model, struct
 use Rattle.isle_ast_verification.specs.TreeView.{type_model_of}
 use Rattle.isle_parser_cursor.specs.declared.cursor.Cursor.{Cursor}
 use Rattle.isle_parser_cursor.specs.declared.cursor.Stop.{Stop}
-use Rattle.isle_parser_cursor.specs.Outcomes.{MatchesRead, CursorSource, Stops, source, tokens}
+use Rattle.isle_parser_cursor.specs.Outcomes.{MatchesRead, CursorSource, Stops, left, source}
 use Rattle.isle_parser_cursor.specs.Reading.{◌>>=◌, at_rparen, expect, flag, in_parentheses, is_ahead, is_lparen, is_rparen, many}
 use Rattle.isle_parser_cursor.specs.NameReaders.{name}
 use Rattle.isle_parser_verification.specs.ModelReaders.{model_field_inside, model_fields, model_inside, model_step, model_type, model_word, named_inside, struct_inside, width}
@@ -84,7 +84,6 @@ front_is all = model_type_is all ∙ either (is_ahead is_lparen all) all
 -- a model whose front isn't read isn't read
 pub front_stops : (all : List Placed) (s : CursorSource) (e : Stop) → Stops (model_front all) s e → Stops (model_type all) s e
 front_stops all s (stops.Parser e) h = (rw (front_is all, h.0) refl, h.1)
-front_stops all s (stops.Lexer e) h = h
 front_stops all s stops.Memory h = tt
 
 -- a model that is no struct
@@ -170,14 +169,12 @@ begun_whole before after all rest f e r = (field_of f, r, rw e (map_push field_o
 pub inner_stops : (n : Name) (all inner : List Placed) (s : CursorSource) (e : Stop) → field all ≡ field_rest n inner → Stops (many at_rparen field inner) s e → Stops (field all) s e
 unfolding field_rest
 inner_stops n all inner s (stops.Parser e) is h = (rw (is, h.0) refl, h.1)
-inner_stops n all inner s (stops.Lexer e) is h = h
 inner_stops n all inner s stops.Memory is h = tt
 
 unclosed : (n : Name) (all inner rest : List Placed) (fs : List (Name × TypeModel)) (s : CursorSource) (e : Stop) → field all ≡ field_rest n inner → many at_rparen field inner ≡ Some (fs, rest)
     → Stops (both_closed rest) s e → Stops (field all) s e
 unfolding field_rest
 unclosed n all inner rest fs s (stops.Parser e) is read h = (rw (is, read, h.0) refl, h.1)
-unclosed n all inner rest fs s (stops.Lexer e) is read h = h
 unclosed n all inner rest fs s stops.Memory is read h = tt
 
 closed : (n : Name) (all inner rest behind : List Placed) (fs : List (Name × TypeModel)) (t : Tok) → field all ≡ field_rest n inner → many at_rparen field inner ≡ Some (fs, rest)
@@ -190,7 +187,7 @@ pub ended : {X : Type 0} (result : Result X Stop) (before begun after inner : Li
     → field all ≡ field_rest (name_of f.name) opened → many at_rparen field opened ≡ Some (map field_of inner, rest) → MatchesRead (λ _. rparen) (both_closed rest) result new
     → IfOk result (λ _. HasStruct begun after inner) → AppendsField result before all after new
 ended (Ok x) before begun after inner all opened rest f new is reads fields gives has =
-    ((name_of f.name, struct_model (model_fields (map field_of inner))), closed (name_of f.name) all opened rest (tokens new) (map field_of inner) rparen reads fields gives, has before f is)
+    ((name_of f.name, struct_model (model_fields (map field_of inner))), closed (name_of f.name) all opened rest (left new) (map field_of inner) rparen reads fields gives, has before f is)
 ended (Err e) before begun after inner all opened rest f new is reads fields gives has =
     unclosed (name_of f.name) all opened rest (map field_of inner) (source new) e reads fields gives
 

@@ -25,5 +25,4 @@ head_view (heads.Variant enum case) = variant_head (string_bytes enum) (string_b
 abbrev pub GivesOrRefuses : {X Y : Type 0} → (X → Y) → Option Y → CursorSource → Result X Stop → Type 0
 GivesOrRefuses view found s (Ok x) = found ≡ Some (view x)
 GivesOrRefuses view found s (Err (stops.Parser e)) = (found ≡ None) × RefusesIn s.file s.size e.value
-GivesOrRefuses view found s (Err (stops.Lexer e)) = ⊥
 GivesOrRefuses view found s (Err stops.Memory) = Unit {0}

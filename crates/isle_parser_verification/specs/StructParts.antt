@@ -12,7 +12,7 @@ use Rattle.isle_ast_verification.specs.Tree.{TypeModel, bit_vector_model, struct
 use Rattle.isle_ast_verification.specs.TreeView.{type_model_of}
 use Rattle.isle_parser_cursor.specs.declared.cursor.Cursor.{Cursor}
 use Rattle.isle_parser_cursor.specs.declared.cursor.Stop.{Stop}
-use Rattle.isle_parser_cursor.specs.Outcomes.{Stops, source, tokens}
+use Rattle.isle_parser_cursor.specs.Outcomes.{Stops, left, source}
 use Rattle.isle_parser_cursor.specs.Reading.{Reader, ◌>>=◌, at_rparen, expect, flag, in_parentheses, is_ahead, is_lparen, is_rparen, many}
 use Rattle.isle_parser_cursor.specs.NameReaders.{name}
 use Rattle.isle_parser_verification.specs.ModelReaders.{model_field_inside, model_fields, model_type, model_word, named_inside, width}
@@ -103,15 +103,15 @@ abbrev pub BeginsField : Result Bool Stop → List ModelField → List Placed �
 BeginsField (Ok is_open) before all after new =
     (f : ModelField)
     × (after ≡ before ++ f ∷ [])
-    × (field all ≡ begun_rest is_open f (tokens new))
-    × (length (tokens new) < length all)
+    × (field all ≡ begun_rest is_open f (left new))
+    × (length (left new) < length all)
 BeginsField (Err e) before all after new = Stops (field all) (source new) e
 
 -- One field more is in the list, and it is the one that was read.
 abbrev pub AppendsField : {X : Type 0} → Result X Stop → List ModelField → List Placed → List ModelField → Cursor → Type 0
 AppendsField (Ok _) before all after new =
     (f : Name × TypeModel)
-    × (field all ≡ Some (f, tokens new))
+    × (field all ≡ Some (f, left new))
     × (map field_of after ≡ map field_of before ++ f ∷ [])
 AppendsField (Err e) before all after new = Stops (field all) (source new) e
 

@@ -5,7 +5,7 @@ ghost use Rattle.std.specs.Prelude.{◌≡◌, ◌++◌, ◌∷◌, ◌<◌, [],
 ghost use Rattle.std.specs.Prelude.{option_map};
 ghost use Rattle.isle_ast_verification.specs.TreeView.{type_model_of};
 ghost use Rattle.isle_base.specs.Token.{rparen};
-ghost use Rattle.isle_parser_cursor.specs.Outcomes.{IsPlace, ReadsOff, source, tokens};
+ghost use Rattle.isle_parser_cursor.specs.Outcomes.{IsPlace, ReadsOff, left, source};
 ghost use Rattle.isle_parser_cursor.specs.Reading.{at_rparen, many};
 ghost use Rattle.isle_parser_cursor.specs.declared.cursor.Stop.TheVariants.{Memory};
 ghost use Rattle.isle_parser_verification.specs.ModelReaders.{model_ahead, model_type, model_word};
@@ -45,7 +45,7 @@ pub fn parse_model_type(cursor: &mut Cursor, alloc: Global) -> Result<ModelType,
 fn parse_model_front(cursor: &mut Cursor, alloc: Global) -> Result<Option<ModelType>, Stop>
     ensures reads { ReadsOff (option_map type_model_of) model_front cursor.old result cursor.new }
     ensures shorter { IfOk result (λ front. IfNone front
-        (length (tokens cursor.new) < length (tokens cursor.old))) }
+        (length (left cursor.new) < length (left cursor.old))) }
 {
     if !cursor.is_lparen() {
         return Ok(Some(parse_model_word(cursor, alloc)?));
@@ -67,7 +67,7 @@ fn parse_model_front(cursor: &mut Cursor, alloc: Global) -> Result<Option<ModelT
 
 /// The model that the word ahead means.
 fn model_ahead(cursor: &Cursor) -> Option<ModelType>
-    ensures { option_map type_model_of result ≡ model_ahead (tokens cursor.now) }
+    ensures { option_map type_model_of result ≡ model_ahead (left cursor.now) }
 {
     match cursor.ahead() {
         Some(TokenRef::Symbol(text)) => match *text {
@@ -171,7 +171,7 @@ fn append_model_field(
 ) -> Result<(), Stop>
     ensures same { source cursor.new ≡ source cursor.old }
     ensures gives { AppendsField result
-        fields.old.items (tokens cursor.old) fields.new.items cursor.new }
+        fields.old.items (left cursor.old) fields.new.items cursor.new }
 {
     if begin_model_field(cursor, alloc, fields)? {
         let inner = parse_model_fields(cursor, alloc)?;
@@ -190,7 +190,7 @@ fn begin_model_field(
 ) -> Result<bool, Stop>
     ensures same { source cursor.new ≡ source cursor.old }
     ensures gives { BeginsField result
-        fields.old.items (tokens cursor.old) fields.new.items cursor.new }
+        fields.old.items (left cursor.old) fields.new.items cursor.new }
 {
     cursor.expect_lparen(alloc)?;
     let name = cursor.parse_ident(alloc)?;

@@ -47,6 +47,13 @@ fn a_definition_before_a_refused_one(rt: HostRuntime) {
     assert!(rt; matches!(given, Ok(true)));
 }
 
+#[test]
+fn a_definition_before_one_that_a_fault_follows(rt: HostRuntime) {
+    let words = ["decl", "error", "failed"];
+    let given = gives(rt.alloc(), "(decl f () T) (decl g () T) 12ab", &words);
+    assert!(rt; matches!(given, Ok(true)));
+}
+
 /// Whether a bit vector of so many digits formats as itself.
 fn bit_vector_is_kept(alloc: Global, count: usize) -> Result<bool, Fault> {
     let digits = "0".repeat(alloc, count)?;

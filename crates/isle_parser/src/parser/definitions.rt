@@ -1,12 +1,11 @@
 //! Definitions.
 #![tactic(auto, unfolding(isle_parser_cursor::specs::Reading::closed, crate::specs::DefinitionReaders::as_definition))]
 
-ghost use Rattle.std.specs.Prelude.{◌≡◌, None, OnOk, false};
+ghost use Rattle.std.specs.Prelude.{None, OnOk};
 ghost use Rattle.isle_ast.specs.Tree.{attr, converter, decl, external, extractor, form};
 ghost use Rattle.isle_ast.specs.Tree.{instantiation, model, rule, spec, spec_macro, state};
 ghost use Rattle.isle_ast.specs.Tree.{type_def};
 ghost use Rattle.isle_ast.specs.TreeView.{definition_of};
-ghost use Rattle.isle_base.specs.Steps.{is_failed};
 ghost use Rattle.isle_parser.specs.DefinitionReaders.{as_definition, behind_keyword, conversion};
 ghost use Rattle.isle_parser.specs.DefinitionReaders.{declaration, definition, keyword_form};
 ghost use Rattle.isle_parser.specs.DefinitionReaders.{pragma};
@@ -15,7 +14,8 @@ ghost use Rattle.isle_parser.specs.FormReaders.{form_definition, instantiation_o
 ghost use Rattle.isle_parser.specs.ModelReaders.{model_definition};
 ghost use Rattle.isle_parser.specs.TermReaders.{attribute, extern_definition};
 ghost use Rattle.isle_parser.specs.TypeReaders.{type_definition};
-ghost use Rattle.isle_parser_cursor.specs.Outcomes.{IsPlace, MatchesRead, ReadsOff, source};
+ghost use Rattle.isle_parser_cursor.specs.Outcomes.{GoesOn, IsPlace, MatchesRead, ReadsOff};
+ghost use Rattle.isle_parser_cursor.specs.Outcomes.{source};
 ghost use Rattle.isle_parser_rules.specs.RuleReaders.{extractor_definition, rule_definition};
 ghost use Rattle.isle_parser_verification.specs.SpecDefinitionReaders.{spec_definition};
 ghost use Rattle.isle_parser_verification.specs.SpecDefinitionReaders.{spec_macro_definition};
@@ -35,7 +35,7 @@ use std::alloc::Global;
 #[tactic(auto, unfolding(isle_parser_cursor::specs::Reading::closed, crate::specs::DefinitionReaders::definition, isle_parser_cursor::specs::Reading::in_parentheses))]
 pub(super) fn parse_def(cursor: &mut Cursor, alloc: Global) -> Result<Def, Stop>
     ensures reads { ReadsOff definition_of definition cursor.old result cursor.new }
-    ensures goes_on { OnOk result (is_failed cursor.new.scanner ≡ false) }
+    ensures goes_on { OnOk result (GoesOn cursor.new) }
 {
     cursor.expect_lparen(alloc)?;
     parse_keyword_form(cursor, alloc)
@@ -45,7 +45,7 @@ pub(super) fn parse_def(cursor: &mut Cursor, alloc: Global) -> Result<Def, Stop>
 #[tactic(auto, unfolding(isle_parser_cursor::specs::Reading::closed, crate::specs::DefinitionReaders::keyword_form))]
 fn parse_keyword_form(cursor: &mut Cursor, alloc: Global) -> Result<Def, Stop>
     ensures reads { ReadsOff definition_of (closed keyword_form) cursor.old result cursor.new }
-    ensures goes_on { OnOk result (is_failed cursor.new.scanner ≡ false) }
+    ensures goes_on { OnOk result (GoesOn cursor.new) }
 {
     let place = cursor.place();
     let word = cursor.expect_word(alloc)?;
@@ -60,7 +60,7 @@ fn parse_behind(cursor: &mut Cursor, alloc: Global, place: Pos, word: &str) -> R
     requires { IsPlace (source cursor.old) place }
     ensures reads { ReadsOff definition_of (closed (behind_keyword word.now)) cursor.old result
         cursor.new }
-    ensures goes_on { OnOk result (is_failed cursor.new.scanner ≡ false) }
+    ensures goes_on { OnOk result (GoesOn cursor.new) }
 {
     match word {
         "pragma" => parse_pragma_def(cursor, alloc),
@@ -92,7 +92,7 @@ fn parse_pragma_def(cursor: &mut Cursor, alloc: Global) -> Result<Def, Stop>
 fn parse_type_def(cursor: &mut Cursor, alloc: Global) -> Result<Def, Stop>
     ensures reads { ReadsOff definition_of (closed (as_definition type_def type_definition))
         cursor.old result cursor.new }
-    ensures goes_on { OnOk result (is_failed cursor.new.scanner ≡ false) }
+    ensures goes_on { OnOk result (GoesOn cursor.new) }
 {
     let ty = parse_type(cursor, alloc)?;
     cursor.expect_rparen(alloc)?;
@@ -103,7 +103,7 @@ fn parse_type_def(cursor: &mut Cursor, alloc: Global) -> Result<Def, Stop>
 fn parse_decl_def(cursor: &mut Cursor, alloc: Global) -> Result<Def, Stop>
     ensures reads { ReadsOff definition_of (closed (as_definition decl declaration)) cursor.old
         result cursor.new }
-    ensures goes_on { OnOk result (is_failed cursor.new.scanner ≡ false) }
+    ensures goes_on { OnOk result (GoesOn cursor.new) }
 {
     let decl = parse_decl(cursor, alloc)?;
     cursor.expect_rparen(alloc)?;
@@ -114,7 +114,7 @@ fn parse_decl_def(cursor: &mut Cursor, alloc: Global) -> Result<Def, Stop>
 fn parse_attr_def(cursor: &mut Cursor, alloc: Global) -> Result<Def, Stop>
     ensures reads { ReadsOff definition_of (closed (as_definition attr attribute)) cursor.old
         result cursor.new }
-    ensures goes_on { OnOk result (is_failed cursor.new.scanner ≡ false) }
+    ensures goes_on { OnOk result (GoesOn cursor.new) }
 {
     let attr = parse_attr(cursor, alloc)?;
     cursor.expect_rparen(alloc)?;
@@ -125,7 +125,7 @@ fn parse_attr_def(cursor: &mut Cursor, alloc: Global) -> Result<Def, Stop>
 fn parse_spec_def(cursor: &mut Cursor, alloc: Global) -> Result<Def, Stop>
     ensures reads { ReadsOff definition_of (closed (as_definition spec spec_definition)) cursor.old
         result cursor.new }
-    ensures goes_on { OnOk result (is_failed cursor.new.scanner ≡ false) }
+    ensures goes_on { OnOk result (GoesOn cursor.new) }
 {
     let spec = parse_spec(cursor, alloc)?;
     cursor.expect_rparen(alloc)?;
@@ -136,7 +136,7 @@ fn parse_spec_def(cursor: &mut Cursor, alloc: Global) -> Result<Def, Stop>
 fn parse_spec_macro_def(cursor: &mut Cursor, alloc: Global) -> Result<Def, Stop>
     ensures reads { ReadsOff definition_of (closed (as_definition spec_macro
         spec_macro_definition)) cursor.old result cursor.new }
-    ensures goes_on { OnOk result (is_failed cursor.new.scanner ≡ false) }
+    ensures goes_on { OnOk result (GoesOn cursor.new) }
 {
     let definition = parse_spec_macro(cursor, alloc)?;
     cursor.expect_rparen(alloc)?;
@@ -147,7 +147,7 @@ fn parse_spec_macro_def(cursor: &mut Cursor, alloc: Global) -> Result<Def, Stop>
 fn parse_model_def(cursor: &mut Cursor, alloc: Global) -> Result<Def, Stop>
     ensures reads { ReadsOff definition_of (closed (as_definition model model_definition))
         cursor.old result cursor.new }
-    ensures goes_on { OnOk result (is_failed cursor.new.scanner ≡ false) }
+    ensures goes_on { OnOk result (GoesOn cursor.new) }
 {
     let model = parse_model(cursor, alloc)?;
     cursor.expect_rparen(alloc)?;
@@ -158,7 +158,7 @@ fn parse_model_def(cursor: &mut Cursor, alloc: Global) -> Result<Def, Stop>
 fn parse_state_def(cursor: &mut Cursor, alloc: Global) -> Result<Def, Stop>
     ensures reads { ReadsOff definition_of (closed (as_definition state state_definition))
         cursor.old result cursor.new }
-    ensures goes_on { OnOk result (is_failed cursor.new.scanner ≡ false) }
+    ensures goes_on { OnOk result (GoesOn cursor.new) }
 {
     let state = parse_state(cursor, alloc)?;
     cursor.expect_rparen(alloc)?;
@@ -169,7 +169,7 @@ fn parse_state_def(cursor: &mut Cursor, alloc: Global) -> Result<Def, Stop>
 fn parse_form_def(cursor: &mut Cursor, alloc: Global) -> Result<Def, Stop>
     ensures reads { ReadsOff definition_of (closed (as_definition form form_definition)) cursor.old
         result cursor.new }
-    ensures goes_on { OnOk result (is_failed cursor.new.scanner ≡ false) }
+    ensures goes_on { OnOk result (GoesOn cursor.new) }
 {
     let form = parse_form(cursor, alloc)?;
     cursor.expect_rparen(alloc)?;
@@ -180,7 +180,7 @@ fn parse_form_def(cursor: &mut Cursor, alloc: Global) -> Result<Def, Stop>
 fn parse_instantiation_def(cursor: &mut Cursor, alloc: Global) -> Result<Def, Stop>
     ensures reads { ReadsOff definition_of (closed (as_definition instantiation
         instantiation_of_term)) cursor.old result cursor.new }
-    ensures goes_on { OnOk result (is_failed cursor.new.scanner ≡ false) }
+    ensures goes_on { OnOk result (GoesOn cursor.new) }
 {
     let instantiation = parse_instantiation(cursor, alloc)?;
     cursor.expect_rparen(alloc)?;
@@ -191,7 +191,7 @@ fn parse_instantiation_def(cursor: &mut Cursor, alloc: Global) -> Result<Def, St
 fn parse_rule_def(cursor: &mut Cursor, alloc: Global) -> Result<Def, Stop>
     ensures reads { ReadsOff definition_of (closed (as_definition rule rule_definition)) cursor.old
         result cursor.new }
-    ensures goes_on { OnOk result (is_failed cursor.new.scanner ≡ false) }
+    ensures goes_on { OnOk result (GoesOn cursor.new) }
 {
     let rule = parse_rule(cursor, alloc)?;
     cursor.expect_rparen(alloc)?;
@@ -202,7 +202,7 @@ fn parse_rule_def(cursor: &mut Cursor, alloc: Global) -> Result<Def, Stop>
 fn parse_etor_def(cursor: &mut Cursor, alloc: Global) -> Result<Def, Stop>
     ensures reads { ReadsOff definition_of (closed (as_definition extractor extractor_definition))
         cursor.old result cursor.new }
-    ensures goes_on { OnOk result (is_failed cursor.new.scanner ≡ false) }
+    ensures goes_on { OnOk result (GoesOn cursor.new) }
 {
     let extractor = parse_etor(cursor, alloc)?;
     cursor.expect_rparen(alloc)?;
@@ -213,7 +213,7 @@ fn parse_etor_def(cursor: &mut Cursor, alloc: Global) -> Result<Def, Stop>
 fn parse_extern_def(cursor: &mut Cursor, alloc: Global) -> Result<Def, Stop>
     ensures reads { ReadsOff definition_of (closed (as_definition external extern_definition))
         cursor.old result cursor.new }
-    ensures goes_on { OnOk result (is_failed cursor.new.scanner ≡ false) }
+    ensures goes_on { OnOk result (GoesOn cursor.new) }
 {
     let external = parse_extern(cursor, alloc)?;
     cursor.expect_rparen(alloc)?;
@@ -224,7 +224,7 @@ fn parse_extern_def(cursor: &mut Cursor, alloc: Global) -> Result<Def, Stop>
 fn parse_converter_def(cursor: &mut Cursor, alloc: Global) -> Result<Def, Stop>
     ensures reads { ReadsOff definition_of (closed (as_definition converter conversion)) cursor.old
         result cursor.new }
-    ensures goes_on { OnOk result (is_failed cursor.new.scanner ≡ false) }
+    ensures goes_on { OnOk result (GoesOn cursor.new) }
 {
     let converter = parse_converter(cursor, alloc)?;
     cursor.expect_rparen(alloc)?;

@@ -7,7 +7,7 @@ ghost use Rattle.isle_ast.specs.TreeView.{kind_of};
 ghost use Rattle.isle_parser.specs.DefinitionReaders.{conversion, declaration, pragma};
 ghost use Rattle.isle_parser.specs.TermReaders.{attribute, extern_constant, extern_definition};
 ghost use Rattle.isle_parser.specs.TermReaders.{extern_etor, kind, kind_inside, veri_kind};
-ghost use Rattle.isle_parser_cursor.specs.Outcomes.{IsPlace, ReadsOff, Stops, source, tokens};
+ghost use Rattle.isle_parser_cursor.specs.Outcomes.{IsPlace, ReadsOff, Stops, left, source};
 ghost use Rattle.isle_parser_cursor.specs.Reading.{at_rparen, many};
 
 use isle_ast::ast::{Attr, AttrKind, AttrTarget, Converter, Decl, Extern, Pragma};
@@ -60,7 +60,7 @@ pub(super) fn parse_converter(cursor: &mut Cursor, alloc: Global) -> Result<Conv
 /// There are no pragmas yet: each is refused.
 pub(super) fn parse_pragma(cursor: &mut Cursor, alloc: Global) -> Result<Pragma, Stop>
     ensures same { source cursor.new ≡ source cursor.old }
-    ensures refused { IfErr result (Stops (pragma (tokens cursor.old)) (source cursor.new)) }
+    ensures refused { IfErr result (Stops (pragma (left cursor.old)) (source cursor.new)) }
 {
     let place = cursor.place();
     let ident = cursor.parse_ident(alloc)?;

@@ -162,7 +162,6 @@ clauses_none j all total here e so_far =
 pub clauses_stop : (j : Joined) (all : List Placed) (total : Option (Joined × List Placed)) (s : CursorSource) (e : Stop) → at_rparen all ≡ false → Stops (clause all) s e
     → behind_joined j (many at_rparen clause all) ≡ total → Stops total s e
 clauses_stop j all total s (stops.Parser e) here h so_far = (clauses_none j all total here h.0 so_far, h.1)
-clauses_stop j all total s (stops.Lexer e) here h so_far = h
 clauses_stop j all total s stops.Memory here h so_far = tt
 
 -- the clauses end here

@@ -58,7 +58,6 @@ none_taken (x ∷ xs) e = absurd cc
 
 pub word_stops : (all : List Placed) (s : CursorSource) (e : Stop) → Stops (take all) s e → Stops (model_word all) s e
 word_stops all s (stops.Parser e) h = (none_taken all h.0, h.1)
-word_stops all s (stops.Lexer e) h = h
 word_stops all s stops.Memory h = tt
 
 -- a model is its own step

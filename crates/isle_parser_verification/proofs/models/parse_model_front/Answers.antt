@@ -1,7 +1,7 @@
 use Rattle.std.proofs.Common.{arith}
 use Rattle.std.specs.Prelude.{codes}
 use Rattle.isle_base.specs.Token.{lparen}
-use Rattle.isle_parser_cursor.specs.Outcomes.{tokens}
+use Rattle.isle_parser_cursor.specs.Outcomes.{left}
 use Rattle.isle_parser_cursor.specs.Reading.{is_lparen}
 use Rattle.isle_parser_cursor.proofs.Lengths.{expect_shorter, flag_shorter}
 use Rattle.isle_parser_verification.proofs.models.parse_model_front.Goals as goal
@@ -10,9 +10,9 @@ pub returns-then-branch-2-clause-shorter : goal.returns-then-branch-2-clause-sho
 returns-then-branch-2-clause-shorter c =
     omega (
       arith,
-      expect_shorter is_lparen (tokens c.args.cursor.now) (tokens c.expect_lparen.new.self) lparen c.in_ok-expect_lparen.ensures.gives,
+      expect_shorter is_lparen (left c.args.cursor.now) (left c.expect_lparen.new.self) lparen c.in_ok-expect_lparen.ensures.gives,
       flag_shorter (codes "bv")
-          (tokens c.expect_lparen.new.self) (tokens c.eat_sym_str.new.self) c.in_ok-eat_sym_str.field-0 c.in_ok-eat_sym_str.ensures.gives,
-      flag_shorter (codes "struct") (tokens c.eat_sym_str.new.self)
-          (tokens c.eat_sym_str-2.new.self) c.in_ok-eat_sym_str-2.field-0 c.in_ok-eat_sym_str-2.ensures.gives,
+          (left c.expect_lparen.new.self) (left c.eat_sym_str.new.self) c.in_ok-eat_sym_str.field-0 c.in_ok-eat_sym_str.ensures.gives,
+      flag_shorter (codes "struct") (left c.eat_sym_str.new.self)
+          (left c.eat_sym_str-2.new.self) c.in_ok-eat_sym_str-2.field-0 c.in_ok-eat_sym_str-2.ensures.gives,
     )

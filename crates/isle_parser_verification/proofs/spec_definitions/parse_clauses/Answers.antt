@@ -3,7 +3,7 @@ use Rattle.std.proofs.lemmas.Result.{err_from_is_err_and}
 use Rattle.std.proofs.lemmas.List.{map-append, map_push}
 use Rattle.isle_ast_verification.specs.TreeView.{modified_of, spec_of, specs_of}
 use Rattle.isle_ast_verification.specs.SpecDefinitionGrammar.{match_clause, modifies_clause, provide_clause, require_clause}
-use Rattle.isle_parser_cursor.specs.Outcomes.{source, tokens}
+use Rattle.isle_parser_cursor.specs.Outcomes.{left, source}
 use Rattle.isle_parser_verification.specs.SpecDefinitionReaders.{joined_clauses}
 use Rattle.isle_parser_verification.specs.SpecParts.{clause_of}
 use Rattle.isle_parser_verification.proofs.Reading.Clauses.{clause_shrinks, clauses_end, clauses_push, clauses_stop}
@@ -20,12 +20,12 @@ returns-in_err-exprs c = record {
         matches = specs_of c.loop-alloc.matches.items;
         modifies =
             map modified_of c.loop-alloc.modifies.items;
-      }) (tokens c.loop-alloc.cursor) (joined_clauses (tokens c.args.cursor.now)) (source c.parse_clause.new.cursor) c.in_err-exprs.field-0.0
+      }) (left c.loop-alloc.cursor) (joined_clauses (left c.args.cursor.now)) (source c.parse_clause.new.cursor) c.in_err-exprs.field-0.0
       (sym c.loop-alloc-test.ensures) c.in_err-exprs.ensures.gives c.loop-alloc.invariant.so_far);
 }
 
 pub loop-alloc-smaller-in-Provide : goal.loop-alloc-smaller-in-Provide
-loop-alloc-smaller-in-Provide c = clause_shrinks (tokens c.loop-alloc.cursor) (tokens c.parse_clause.new.cursor) (clause_of c.in_ok-exprs.field-0) c.in_ok-exprs.ensures.gives
+loop-alloc-smaller-in-Provide c = clause_shrinks (left c.loop-alloc.cursor) (left c.parse_clause.new.cursor) (clause_of c.in_ok-exprs.field-0) c.in_ok-exprs.ensures.gives
 
 pub loop-alloc-preserved-in-Provide : goal.loop-alloc-preserved-in-Provide
 loop-alloc-preserved-in-Provide c =
@@ -39,12 +39,12 @@ loop-alloc-preserved-in-Provide c =
         requires_ = specs_of c.loop-alloc.requires_.items;
         matches = specs_of c.loop-alloc.matches.items;
         modifies = map modified_of c.loop-alloc.modifies.items;
-      }) (tokens c.loop-alloc.cursor) (tokens c.parse_clause.new.cursor) (provide_clause (specs_of x.items))
-          (joined_clauses (tokens c.args.cursor.now)) (sym c.loop-alloc-test.ensures) gives c.loop-alloc.invariant.so_far);
+      }) (left c.loop-alloc.cursor) (left c.parse_clause.new.cursor) (provide_clause (specs_of x.items))
+          (joined_clauses (left c.args.cursor.now)) (sym c.loop-alloc-test.ensures) gives c.loop-alloc.invariant.so_far);
     }
 
 pub loop-alloc-smaller-in-Require : goal.loop-alloc-smaller-in-Require
-loop-alloc-smaller-in-Require c = clause_shrinks (tokens c.loop-alloc.cursor) (tokens c.parse_clause.new.cursor) (clause_of c.in_ok-exprs.field-0) c.in_ok-exprs.ensures.gives
+loop-alloc-smaller-in-Require c = clause_shrinks (left c.loop-alloc.cursor) (left c.parse_clause.new.cursor) (clause_of c.in_ok-exprs.field-0) c.in_ok-exprs.ensures.gives
 
 pub loop-alloc-preserved-in-Require : goal.loop-alloc-preserved-in-Require
 loop-alloc-preserved-in-Require c =
@@ -58,12 +58,12 @@ loop-alloc-preserved-in-Require c =
         requires_ = specs_of c.loop-alloc.requires_.items;
         matches = specs_of c.loop-alloc.matches.items;
         modifies = map modified_of c.loop-alloc.modifies.items;
-      }) (tokens c.loop-alloc.cursor) (tokens c.parse_clause.new.cursor) (require_clause (specs_of x.items))
-          (joined_clauses (tokens c.args.cursor.now)) (sym c.loop-alloc-test.ensures) gives c.loop-alloc.invariant.so_far);
+      }) (left c.loop-alloc.cursor) (left c.parse_clause.new.cursor) (require_clause (specs_of x.items))
+          (joined_clauses (left c.args.cursor.now)) (sym c.loop-alloc-test.ensures) gives c.loop-alloc.invariant.so_far);
     }
 
 pub loop-alloc-smaller-in-Match : goal.loop-alloc-smaller-in-Match
-loop-alloc-smaller-in-Match c = clause_shrinks (tokens c.loop-alloc.cursor) (tokens c.parse_clause.new.cursor) (clause_of c.in_ok-exprs.field-0) c.in_ok-exprs.ensures.gives
+loop-alloc-smaller-in-Match c = clause_shrinks (left c.loop-alloc.cursor) (left c.parse_clause.new.cursor) (clause_of c.in_ok-exprs.field-0) c.in_ok-exprs.ensures.gives
 
 pub loop-alloc-preserved-in-Match : goal.loop-alloc-preserved-in-Match
 loop-alloc-preserved-in-Match c =
@@ -77,12 +77,12 @@ loop-alloc-preserved-in-Match c =
         requires_ = specs_of c.loop-alloc.requires_.items;
         matches = specs_of c.loop-alloc.matches.items;
         modifies = map modified_of c.loop-alloc.modifies.items;
-      }) (tokens c.loop-alloc.cursor) (tokens c.parse_clause.new.cursor) (match_clause (specs_of x.items))
-          (joined_clauses (tokens c.args.cursor.now)) (sym c.loop-alloc-test.ensures) gives c.loop-alloc.invariant.so_far);
+      }) (left c.loop-alloc.cursor) (left c.parse_clause.new.cursor) (match_clause (specs_of x.items))
+          (joined_clauses (left c.args.cursor.now)) (sym c.loop-alloc-test.ensures) gives c.loop-alloc.invariant.so_far);
     }
 
 pub loop-alloc-smaller : goal.loop-alloc-smaller
-loop-alloc-smaller c = clause_shrinks (tokens c.loop-alloc.cursor) (tokens c.parse_clause.new.cursor) (clause_of c.in_ok-exprs.field-0) c.in_ok-exprs.ensures.gives
+loop-alloc-smaller c = clause_shrinks (left c.loop-alloc.cursor) (left c.parse_clause.new.cursor) (clause_of c.in_ok-exprs.field-0) c.in_ok-exprs.ensures.gives
 
 pub loop-alloc-preserved : goal.loop-alloc-preserved
 loop-alloc-preserved c =
@@ -96,8 +96,8 @@ loop-alloc-preserved c =
         requires_ = specs_of c.loop-alloc.requires_.items;
         matches = specs_of c.loop-alloc.matches.items;
         modifies = map modified_of c.loop-alloc.modifies.items;
-      }) (tokens c.loop-alloc.cursor) (tokens c.parse_clause.new.cursor) (modifies_clause (modified_of x))
-          (joined_clauses (tokens c.args.cursor.now)) (sym c.loop-alloc-test.ensures) gives c.loop-alloc.invariant.so_far);
+      }) (left c.loop-alloc.cursor) (left c.parse_clause.new.cursor) (modifies_clause (modified_of x))
+          (joined_clauses (left c.args.cursor.now)) (sym c.loop-alloc-test.ensures) gives c.loop-alloc.invariant.so_far);
     }
 
 pub returns : goal.returns
@@ -109,5 +109,5 @@ returns c = record {
     matches = specs_of c.loop-alloc.matches.items;
     modifies = map
         modified_of c.loop-alloc.modifies.items;
-  }) (tokens c.loop-alloc.cursor) (joined_clauses (tokens c.args.cursor.now)) (sym c.loop-alloc-test.ensures) c.loop-alloc.invariant.so_far;
+  }) (left c.loop-alloc.cursor) (joined_clauses (left c.args.cursor.now)) (sym c.loop-alloc-test.ensures) c.loop-alloc.invariant.so_far;
 }

@@ -1,10 +1,10 @@
 use Rattle.std.proofs.Common.{sym, rules}
-use Rattle.isle_parser_cursor.specs.Outcomes.{source, tokens}
+use Rattle.isle_parser_cursor.specs.Outcomes.{left, source}
 use Rattle.isle_parser_verification.proofs.Reading.HeadsAhead.{head_refused}
 use Rattle.isle_parser_verification.proofs.spec_words.parse_spec_head.Goals as goal
 
 pub returns-then-not-is_sym : goal.returns-then-not-is_sym
 returns-then-not-is_sym c = record {
   same = search rules;
-  gives = head_refused (tokens c.args.cursor.now) (source c.args.cursor.now) c.unexpected_spec.result (sym c.if-not-is_sym.ensures) c.unexpected_spec.ensures;
+  gives = head_refused (left c.args.cursor.now) (source c.args.cursor.now) c.unexpected_spec.result (sym c.if-not-is_sym.ensures) c.unexpected_spec.ensures;
 }

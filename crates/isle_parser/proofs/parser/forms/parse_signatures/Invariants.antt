@@ -1,6 +1,6 @@
 use Rattle.std.proofs.Common.{◌≡◌, length}
 use Rattle.isle_ast.specs.TreeView.{signatures_of}
-use Rattle.isle_parser_cursor.specs.Outcomes.{source, tokens}
+use Rattle.isle_parser_cursor.specs.Outcomes.{left, source}
 use Rattle.isle_parser.specs.FormReaders.{signature}
 use Rattle.isle_parser_cursor.specs.Reading.{at_rparen, many}
 use Rattle.isle_parser_cursor.proofs.Loops.{behind_front}
@@ -11,8 +11,8 @@ abbrev pub invariant-loop-alloc : goal.invariant-loop-alloc
 invariant-loop-alloc l =
     record {
       same : source l.cursor ≡ source l.fn.cursor;
-      so_far : behind_front (signatures_of l.signatures.items) (many at_rparen signature (tokens l.cursor)) ≡ many at_rparen signature (tokens l.fn.cursor);
+      so_far : behind_front (signatures_of l.signatures.items) (many at_rparen signature (left l.cursor)) ≡ many at_rparen signature (left l.fn.cursor);
     }
 
 abbrev pub decreases-loop-alloc : goal.decreases-loop-alloc
-decreases-loop-alloc l = length (tokens l.cursor)
+decreases-loop-alloc l = length (left l.cursor)

@@ -2,7 +2,7 @@ use Rattle.std.proofs.Common.{◌≡◌, [], ◌∷◌, ◌++◌, sym, ◌∙◌
 use Rattle.std.proofs.lemmas.Result.{err_from_is_err_and}
 use Rattle.std.proofs.lemmas.List.{map_push}
 use Rattle.isle_ast_names.specs.TreeView.{name_of, names_of}
-use Rattle.isle_parser_cursor.specs.Outcomes.{source, tokens}
+use Rattle.isle_parser_cursor.specs.Outcomes.{left, source}
 use Rattle.isle_parser.specs.FormReaders.{tag}
 use Rattle.isle_parser_cursor.specs.Reading.{at_rparen, many}
 use Rattle.isle_parser_cursor.proofs.Loops.{loop_push, loop_stops, loop_end}
@@ -14,12 +14,12 @@ returns-in_err-parse_tag c = record {
   same = search rules;
   gives =
       let p = err_from_is_err_and c.from_residual.result c.from_residual.ensures.1 in
-      rw (p.1, p.2) (loop_stops tag at_rparen tag_shrinks (names_of c.loop-alloc.tags.items) (tokens c.loop-alloc.cursor) (many at_rparen tag (tokens c.args.cursor.now))
+      rw (p.1, p.2) (loop_stops tag at_rparen tag_shrinks (names_of c.loop-alloc.tags.items) (left c.loop-alloc.cursor) (many at_rparen tag (left c.args.cursor.now))
       (source c.parse_tag.new.cursor) c.in_err-parse_tag.field-0.0 (sym c.loop-alloc-test.ensures) c.in_err-parse_tag.ensures.gives c.loop-alloc.invariant.so_far);
 }
 
 pub loop-alloc-smaller : goal.loop-alloc-smaller
-loop-alloc-smaller c = tag_shrinks (tokens c.loop-alloc.cursor) (tokens c.parse_tag.new.cursor) (name_of c.in_ok-parse_tag.field-0) c.in_ok-parse_tag.ensures.gives
+loop-alloc-smaller c = tag_shrinks (left c.loop-alloc.cursor) (left c.parse_tag.new.cursor) (name_of c.in_ok-parse_tag.field-0) c.in_ok-parse_tag.ensures.gives
 
 pub loop-alloc-preserved : goal.loop-alloc-preserved
 loop-alloc-preserved c =
@@ -27,12 +27,12 @@ loop-alloc-preserved c =
     let e : names_of c.push.new.self.items ≡ names_of c.loop-alloc.tags.items ++ name_of x ∷ [] = rw c.in_ok-push.ensures.items (map_push _ c.loop-alloc.tags.items x) in
     record {
       same = c.in_ok-parse_tag.ensures.same ∙ c.loop-alloc.invariant.same;
-      so_far = rw e (loop_push tag at_rparen tag_shrinks (names_of c.loop-alloc.tags.items) (tokens c.loop-alloc.cursor) (tokens c.parse_tag.new.cursor) (name_of x)
-          (many at_rparen tag (tokens c.args.cursor.now)) (sym c.loop-alloc-test.ensures) c.in_ok-parse_tag.ensures.gives c.loop-alloc.invariant.so_far);
+      so_far = rw e (loop_push tag at_rparen tag_shrinks (names_of c.loop-alloc.tags.items) (left c.loop-alloc.cursor) (left c.parse_tag.new.cursor) (name_of x)
+          (many at_rparen tag (left c.args.cursor.now)) (sym c.loop-alloc-test.ensures) c.in_ok-parse_tag.ensures.gives c.loop-alloc.invariant.so_far);
     }
 
 pub returns : goal.returns
 returns c = record {
   same = search rules;
-  gives = loop_end tag at_rparen tag_shrinks (names_of c.loop-alloc.tags.items) (tokens c.loop-alloc.cursor) (many at_rparen tag (tokens c.args.cursor.now)) (sym c.loop-alloc-test.ensures) c.loop-alloc.invariant.so_far;
+  gives = loop_end tag at_rparen tag_shrinks (names_of c.loop-alloc.tags.items) (left c.loop-alloc.cursor) (many at_rparen tag (left c.args.cursor.now)) (sym c.loop-alloc-test.ensures) c.loop-alloc.invariant.so_far;
 }

@@ -1,6 +1,6 @@
 use Rattle.std.proofs.Common.{◌≡◌, length, map}
 use Rattle.isle_ast.specs.TreeView.{named_field_of}
-use Rattle.isle_parser_cursor.specs.Outcomes.{source, tokens}
+use Rattle.isle_parser_cursor.specs.Outcomes.{left, source}
 use Rattle.isle_parser.specs.TypeReaders.{named_field}
 use Rattle.isle_parser_cursor.specs.Reading.{at_rparen, many}
 use Rattle.isle_parser_cursor.proofs.Loops.{behind_front}
@@ -11,8 +11,8 @@ abbrev pub invariant-loop-alloc : goal.invariant-loop-alloc
 invariant-loop-alloc l =
     record {
       same : source l.cursor ≡ source l.fn.cursor;
-      so_far : behind_front (map named_field_of l.fields.items) (many at_rparen named_field (tokens l.cursor)) ≡ many at_rparen named_field (tokens l.fn.cursor);
+      so_far : behind_front (map named_field_of l.fields.items) (many at_rparen named_field (left l.cursor)) ≡ many at_rparen named_field (left l.fn.cursor);
     }
 
 abbrev pub decreases-loop-alloc : goal.decreases-loop-alloc
-decreases-loop-alloc l = length (tokens l.cursor)
+decreases-loop-alloc l = length (left l.cursor)

@@ -1,6 +1,6 @@
 use Rattle.std.proofs.Common.{◌≡◌, length, map}
 use Rattle.isle_ast.specs.TreeView.{indexed_field_of}
-use Rattle.isle_parser_cursor.specs.Outcomes.{source, tokens}
+use Rattle.isle_parser_cursor.specs.Outcomes.{left, source}
 use Rattle.isle_parser_cursor.specs.NameReaders.{name}
 use Rattle.isle_parser.specs.TypeReaders.{numbered}
 use Rattle.isle_parser_cursor.specs.Reading.{at_rparen, many}
@@ -13,9 +13,9 @@ abbrev pub invariant-loop-alloc : goal.invariant-loop-alloc
 invariant-loop-alloc l =
     record {
       same : source l.cursor ≡ source l.fn.cursor;
-      so_far : behind_front (map type_name l.fields.items) (many at_rparen name (tokens l.cursor)) ≡ many at_rparen name (tokens l.fn.cursor);
+      so_far : behind_front (map type_name l.fields.items) (many at_rparen name (left l.cursor)) ≡ many at_rparen name (left l.fn.cursor);
       counted : map indexed_field_of l.fields.items ≡ numbered 0 (map type_name l.fields.items);
     }
 
 abbrev pub decreases-loop-alloc : goal.decreases-loop-alloc
-decreases-loop-alloc l = length (tokens l.cursor)
+decreases-loop-alloc l = length (left l.cursor)
