@@ -6,7 +6,7 @@ use Rattle.std.specs.List.{prefix_len, list_all}
 use Rattle.isle_base.specs.Skips.{begins_with, is_blank}
 use Rattle.isle_document.specs.Finds.{AreClean, FindsGap, part}
 use Rattle.isle_document.specs.Grammar.{gap_of}
-use Rattle.isle_document.proofs.Keeping.{part_joined}
+use Rattle.isle_document.proofs.Keeping.{part_joined, part_none}
 use Rattle.isle_document.proofs.Keeps.{spaces_beside, spaces_blank, indentation_blank, indentation_gap, is_blank-10}
 use Rattle.isle_document.proofs.Standing.{split_at}
 use Rattle.isle_document_layout.specs.Writing.{gap_text}
@@ -63,3 +63,15 @@ clean_below text from line to within e f some stops =
     let blank : list_all is_blank (gap_text (Below empty column)) ≡ true = rw is_blank-10 (indentation_blank empty column) in
     let read : Below empty column ≡ gap_of (Beside 0) (gap_text (Below empty column)) = sym (indentation_gap 0 empty column ∙ ap (λ k. Below k column) (omega arith)) in
     finds_clean text from to (Below empty column) (omega (arith, some, order)) within stops is blank read
+
+-- one space or none
+pub clean_none : (text : List ℕ) (from to : ℕ) → to ≡ from → from < length text → 32 < get_or text from 0 → FindsGap text (Beside 0) from (Beside 0) to × AreClean text from to (Beside 0)
+clean_none text from to is short h =
+    subst (λ n. FindsGap text (Beside 0) from (Beside 0) n × AreClean text from n (Beside 0)) (sym is)
+    (finds_clean text from from (Beside 0) (omega arith) (omega (arith, short)) (blanks_stop text from short h) (part_none text from) refl refl)
+
+pub clean_one : (text : List ℕ) (from : ℕ) → from + 1 < length text → get_or text from 0 ≡ 32 → 32 < get_or text (from + 1) 0 → FindsGap text (Beside 0) from (Beside 1) (from + 1) × AreClean text from (from + 1) (Beside 1)
+clean_one text from short is h =
+    let count : from + 1 - from ≡ 1 = omega arith in
+    let space : part text from (from + 1) ≡ 32 ∷ [] = ap (λ n. take n (drop from text)) count ∙ ap (take 1) (drop_more text from 0 (omega arith)) ∙ ap (λ b. b ∷ []) is in
+    finds_clean text from (from + 1) (Beside 1) (omega arith) (omega (arith, short)) (blanks_stop text (from + 1) short h) space (spaces_blank 1) (sym (spaces_beside 0 1))

@@ -1,6 +1,6 @@
 -- Tidying a text entry by entry: what is written so far, and then the entries to come, placed, is the
 -- text of a document that is placed.
-use Rattle.std.proofs.Common.{◌≡◌, ℕ, List, [], ◌∷◌, ◌++◌, drop, length, ◌≤◌, ◌<◌, ◌-◌, IsUtf8, refl, sym, ap, subst, ◌∙◌, arith, append_assoc, append-nil}
+use Rattle.std.proofs.Common.{◌≡◌, ℕ, List, [], ◌∷◌, ◌++◌, drop, length, ◌+◌, ◌≤◌, ◌<◌, ◌-◌, IsUtf8, refl, sym, ap, subst, ◌∙◌, arith, append_assoc, append-nil}
 use Rattle.isle_document_layout.specs.declared.entries.Entry.{Entry as Written}
 use Rattle.isle_document_layout.specs.declared.entries.Gap.{Gap}
 use Rattle.isle_document_layout.specs.declared.entries.Gap.TheVariants.{Beside, Below}
@@ -9,7 +9,7 @@ use Rattle.isle_document_layout.specs.declared.placing.Kind.TheVariants.{Start}
 use Rattle.isle_document.specs.declared.reader.Step.TheVariants.{More, End, Refused}
 use Rattle.isle_document_layout.specs.Entries.{Lexeme, opening, closing, at_sign, atom, line_comment, block_comment, Entry}
 use Rattle.isle_document_layout.specs.EntriesView.{lexeme_of, entry_of}
-use Rattle.isle_document.specs.Finds.{FindsEntry, part}
+use Rattle.isle_document.specs.Finds.{FindsCleanGap, FindsEntry, FindsGap, part}
 use Rattle.isle_document.specs.Keeping.{AreKept, Puts}
 use Rattle.isle_document.specs.declared.kept.Kept.{Kept}
 use Rattle.isle_document.specs.declared.reader.Span.{Span}
@@ -218,3 +218,10 @@ goes_with t new before after has more moves =
 pub entry_utf8 : (t : Tidying) (text out : List ℕ) (e : Written) (span : Span) → HasWritten text out t → FindsEntry t.text.now t.gap t.at (More e span) → IsUtf8 (drop span.start t.text.now)
 entry_utf8 t text out e span has found =
     let h = on_text text out t has in gap_utf8 t.text.now t.at span.start t.gap e.gap found.0 h.utf8
+
+-- a character begins behind one space or none
+pub near_utf8 : (t : Tidying) (text out bytes : List ℕ) (width : ℕ) → HasWritten text out t → bytes ≡ t.text.now → (t.at + width < length bytes) × FindsCleanGap bytes t.at (Beside width) (t.at + width) → IsUtf8 (drop (t.at + width) t.text.now)
+near_utf8 t text out bytes width has same found =
+    let h = on_text text out t has in
+    let clean : FindsCleanGap bytes t.at (Beside width) (t.at + width) = found.1 in
+    gap_utf8 t.text.now t.at (t.at + width) (Beside 0) (Beside width) (subst (λ xs. FindsGap xs (Beside 0) t.at (Beside width) (t.at + width)) same clean.0) h.utf8

@@ -1,5 +1,5 @@
 -- What the private calls of the reader find in a text from an offset on.
-use Rattle.std.specs.Prelude.{◌≡◌, ◌<◌, ◌≤◌, ◌-◌, ℕ, List, Option, Some, None, drop, take, length, IsUtf8}
+use Rattle.std.specs.Prelude.{◌≡◌, ◌+◌, ◌<◌, ◌≤◌, ◌-◌, ℕ, List, Option, Some, None, drop, take, length, IsUtf8}
 use Rattle.std.specs.Prelude.{true}
 use Rattle.std.specs.List.{list_all}
 use Rattle.isle_base.specs.Skips.{Longest, is_blank}
@@ -45,9 +45,12 @@ AreClean text from to gap = part text from to ≡ gap_text gap
 abbrev pub FindsBlanks : List ℕ → Gap → ℕ → Blanks → Type 0
 FindsBlanks text before from b = FindsGap text before from b.gap b.end × (b.are_clean ≡ true → AreClean text from b.end b.gap)
 
--- these blanks are what is written of a gap, behind an entry
+-- the blanks between two offsets are what is written of a gap, behind an entry
+abbrev pub FindsCleanGap : List ℕ → ℕ → Gap → ℕ → Type 0
+FindsCleanGap text from gap to = FindsGap text (Beside 0) from gap to × AreClean text from to gap
+
 abbrev pub FindsCleanBlanks : List ℕ → ℕ → Blanks → Type 0
-FindsCleanBlanks text from b = FindsGap text (Beside 0) from b.gap b.end × AreClean text from b.end b.gap
+FindsCleanBlanks text from b = FindsCleanGap text from b.gap b.end
 
 -- what stands behind the blanks at an offset: an entry, or only the end of the text, or nothing that a
 -- document can have
@@ -56,3 +59,8 @@ FindsEntry text gap from (More e s) =
     FindsGap text gap from e.gap s.start × Stands text (lexeme_of e.lexeme) s.start s.end × (s.is_clean ≡ true → AreClean text from s.start e.gap)
 FindsEntry text gap from End = list_all is_blank (drop from text) ≡ true
 FindsEntry text gap from Refused = (entries : List Entry) → SpellsEntries gap entries (drop from text) → ⊥
+
+-- behind an entry, so many spaces and then this lexeme, up to an offset
+abbrev pub FindsBeside : List ℕ → (before : Gap) → (from width : ℕ) → Lexeme → ℕ → Type 0
+FindsBeside text before from width x to =
+    (before ≡ Beside 0) × FindsCleanGap text from (Beside width) (from + width) × Stands text x (from + width) to

@@ -3,8 +3,10 @@
 ghost use Rattle.std.specs.Prelude.{◌≡◌, ◌==◌, ◌+◌, ◌<◌, ◌≤◌, ◌^◌, IfSome, IsUtf8, drop, length};
 ghost use Rattle.std.specs.List.{prefix_len};
 ghost use Rattle.isle_base.specs.Skips.{is_blank};
-ghost use Rattle.isle_document.specs.Finds.{FindsBlanks, FindsCleanBlanks, FindsEntry};
+ghost use Rattle.isle_document.specs.Finds.{FindsBlanks, FindsCleanBlanks, FindsCleanGap};
+ghost use Rattle.isle_document.specs.Finds.{FindsEntry};
 ghost use Rattle.isle_document.specs.Sizes.{size_of};
+ghost use Rattle.isle_document_layout.specs.declared.entries.Gap.TheVariants.{Beside};
 
 use crate::gaps::gap_of;
 use crate::lexemes::lexeme_at;
@@ -81,6 +83,25 @@ fn clean_blanks_at(bytes: &[u8], from: usize) -> Option<Blanks>
         end,
         are_clean: true,
     })
+}
+
+/// Gives how many spaces are at an offset, if they are one or none and no other blank follows. So it
+/// is before most entries.
+#[inline(always)]
+pub fn near_width_at(bytes: &[u8], from: usize) -> Option<usize>
+    requires { from ≤ length bytes.now }
+    ensures { IfSome result (λ width. (from + width < length bytes.now)
+        × FindsCleanGap bytes.now from (Beside width) (from + width)) }
+{
+    if from + 1 < bytes.len() {
+        if bytes[from] > b' ' {
+            return Some(0);
+        }
+        if bytes[from] == b' ' && bytes[from + 1] > b' ' {
+            return Some(1);
+        }
+    }
+    None
 }
 
 /// Finds the first byte from an offset on that is no blank, or the end of the text.

@@ -1,19 +1,23 @@
 //! Tidying a text entry by entry.
 
-ghost use Rattle.std.specs.Prelude.{◌≡◌, ◌≢◌, ◌<◌, [], Err, IfErr, IfOk, List, Ok, ℕ, length};
-ghost use Rattle.std.specs.Prelude.{false, string_bytes, true};
+ghost use Rattle.std.specs.Prelude.{◌≡◌, ◌≢◌, ◌<◌, [], Err, IfErr, IfOk, List, Ok, OnOk, ℕ};
+ghost use Rattle.std.specs.Prelude.{false, length, string_bytes, true};
 ghost use Rattle.isle_base.specs.Steps.{IfError};
 ghost use Rattle.isle_base.specs.declared.fault.Fault.TheVariants.{Failed};
+ghost use Rattle.isle_document.specs.Finds.{FindsBeside, FindsEntry};
 ghost use Rattle.isle_document.specs.Refused.{HasNoDocument, IsRefusedFor, IsWithin};
 ghost use Rattle.isle_document.specs.Streams.{HasWritten, PutsLast, PutsMore};
+ghost use Rattle.isle_document.specs.declared.reader.Step.TheVariants.{More};
+ghost use Rattle.isle_document_layout.specs.EntriesView.{lexeme_of};
 
 use crate::closings::closings_after;
 use crate::glance::has_document;
 use crate::kept::{Kept, is_simple_at, put_end, put_entry};
+use crate::lexemes::lexeme_at;
 use crate::parentheses::check_parentheses;
-use crate::reader::{Step, step_at};
+use crate::reader::{Span, Step, near_width_at, step_at};
 use isle_base::lexer::Fault;
-use isle_document_layout::entries::Gap;
+use isle_document_layout::entries::{Entry, Gap, Lexeme};
 use isle_document_layout::placer::Placer;
 use std::alloc::{AllocError, Global};
 
@@ -62,7 +66,83 @@ impl<'src> Tidying<'src> {
     ///
     /// It isn't called again after that, nor after an error, which comes where a growth was
     /// refused.
+    #[inline(always)]
     pub fn put_next(&mut self, out: &mut String) -> Result<bool, AllocError>
+        requires { (text before : List ℕ) × HasWritten text before self.old }
+        ensures more { result ≡ Ok true
+            → PutsMore self.old self.new (string_bytes out.old) (string_bytes out.new) }
+        ensures moves { result ≡ Ok true → self.old.at < self.new.at }
+        ensures last { result ≡ Ok false
+            → PutsLast self.old (string_bytes out.old) (string_bytes out.new) }
+    {
+        if self.put_near(out)? {
+            return Ok(true);
+        }
+        self.put_any(out)
+    }
+
+    /// Goes past the next entry, if it is like most: no block comment, and after one space or none.
+    /// Else nothing is done.
+    ///
+    /// Each kind of lexeme has a call of its own, so that it is compiled by itself.
+    #[inline(always)]
+    fn put_near(&mut self, out: &mut String) -> Result<bool, AllocError>
+        requires { (text before : List ℕ) × HasWritten text before self.old }
+        ensures more { IfOk result (λ _.
+            PutsMore self.old self.new (string_bytes out.old) (string_bytes out.new)) }
+        ensures moves { result ≡ Ok true → self.old.at < self.new.at }
+        ensures left { result ≡ Ok false → self.new.at ≡ self.old.at }
+    {
+        let Gap::Beside(_) = self.gap else {
+            return Ok(false);
+        };
+        let Some(width) = near_width_at(self.text.as_bytes(), self.at) else {
+            return Ok(false);
+        };
+        match lexeme_at(self.text, self.at + width) {
+            Some((Lexeme::Opening, end)) => self.put_beside(out, width, Lexeme::Opening, end),
+            Some((Lexeme::Closing, end)) => self.put_beside(out, width, Lexeme::Closing, end),
+            Some((Lexeme::At, end)) => self.put_beside(out, width, Lexeme::At, end),
+            Some((Lexeme::Atom(atom), end)) => {
+                self.put_beside(out, width, Lexeme::Atom(atom), end)
+            }
+            Some((Lexeme::LineComment(comment), end)) => {
+                self.put_beside(out, width, Lexeme::LineComment(comment), end)
+            }
+            Some((Lexeme::BlockComment(_), _)) | None => Ok(false),
+        }
+    }
+
+    /// Goes past an entry that is next, so many spaces further, up to this offset.
+    #[inline(always)]
+    fn put_beside(
+        &mut self,
+        out: &mut String,
+        width: usize,
+        lexeme: Lexeme<'_>,
+        end: usize,
+    ) -> Result<bool, AllocError>
+        requires begun { (text before : List ℕ) × HasWritten text before self.old }
+        requires found { FindsBeside self.old.text.now self.old.gap self.old.at width
+            (lexeme_of lexeme) end }
+        ensures more { IfOk result (λ _.
+            PutsMore self.old self.new (string_bytes out.old) (string_bytes out.new)) }
+        ensures moves { result ≡ Ok true → self.old.at < self.new.at }
+        ensures done { result ≢ Ok false }
+    {
+        let gap = Gap::Beside(width);
+        let span = Span {
+            start: self.at + width,
+            end,
+            is_clean: true,
+        };
+        self.put(out, Entry { gap, lexeme }, span)?;
+        Ok(true)
+    }
+
+    /// Goes past the next entry, whatever it is. What it asks and appends is as of `put_next`.
+    #[inline(never)]
+    fn put_any(&mut self, out: &mut String) -> Result<bool, AllocError>
         requires { (text before : List ℕ) × HasWritten text before self.old }
         ensures more { result ≡ Ok true
             → PutsMore self.old self.new (string_bytes out.old) (string_bytes out.new) }
@@ -72,18 +152,7 @@ impl<'src> Tidying<'src> {
     {
         match step_at(self.text, self.gap, self.at) {
             Step::More(entry, span) => {
-                let before = self.placer.before;
-                let closings = closings_after(self.text, &entry, span.end);
-                let is_simple = is_simple_at(self.text, &entry.lexeme, span);
-                let (gap, lexeme) = (entry.gap, &entry.lexeme);
-                let placed = self.placer.place(gap, lexeme, closings, is_simple)?;
-                let kept = Kept {
-                    from: self.kept,
-                    to: self.at,
-                };
-                self.kept = put_entry(out, self.text, kept, &entry, span, before, placed)?;
-                self.gap = Gap::Beside(0);
-                self.at = span.end;
+                self.put(out, entry, span)?;
                 Ok(true)
             }
             Step::End => {
@@ -96,6 +165,30 @@ impl<'src> Tidying<'src> {
             }
             Step::Refused => unreachable!(),
         }
+    }
+
+    /// Goes past an entry that is next.
+    #[inline(always)]
+    fn put(&mut self, out: &mut String, entry: Entry<'_>, span: Span) -> Result<(), AllocError>
+        requires begun { (text before : List ℕ) × HasWritten text before self.old }
+        requires found { FindsEntry self.old.text.now self.old.gap self.old.at (More entry span) }
+        ensures more { OnOk result (
+            PutsMore self.old self.new (string_bytes out.old) (string_bytes out.new)) }
+        ensures moves { OnOk result (self.old.at < self.new.at) }
+    {
+        let before = self.placer.before;
+        let closings = closings_after(self.text, &entry, span.end);
+        let is_simple = is_simple_at(self.text, &entry.lexeme, span);
+        let (gap, lexeme) = (entry.gap, &entry.lexeme);
+        let placed = self.placer.place(gap, lexeme, closings, is_simple)?;
+        let kept = Kept {
+            from: self.kept,
+            to: self.at,
+        };
+        self.kept = put_entry(out, self.text, kept, &entry, span, before, placed)?;
+        self.gap = Gap::Beside(0);
+        self.at = span.end;
+        Ok(())
     }
 
     /// Goes past entries until this many bytes are in the text, and tells whether more is to come.

@@ -1,5 +1,5 @@
 -- The open lists of the code.
-use Rattle.std.proofs.Common.{◌≡◌, ◌-◌, ◌<◌, ◌≤◌, ℕ, zero, suc, List, [], ◌∷◌, ◌++◌, Some, None, drop, length, get_or, refl, sym, ap, subst, ◌∙◌, eqb, arith, length-append, append_assoc, slice_set}
+use Rattle.std.proofs.Common.{◌≡◌, ◌-◌, ◌<◌, ◌≤◌, ℕ, zero, suc, List, [], ◌∷◌, ◌++◌, Bool, true, false, Some, None, drop, length, get_or, refl, sym, ap, subst, ◌∙◌, cond, eqb, arith, length-append, append_assoc, slice_set}
 use Rattle.std.proofs.lemmas.Bool.{cond_both, eq-eqb}
 use Rattle.std.specs.Prelude.{unwrap_or}
 use Rattle.isle_document_layout.specs.declared.columns.Columns.{Columns}
@@ -156,3 +156,12 @@ item_on_row (l ∷ ls) stack arguments more o head row at s some last f g same p
     more_in head row at l ls f ∙ ap (λ x. x ∷ ls) (in_more l.head head row at l (λ e. g (sym heads ∙ e)) ∙ ap (λ b. argument_more b at l) (eq-eqb l.row row rows)) in
     subst (λ xs. IsStack xs stack more) (sym on)
     (subst (λ xs. IsStack (record l { arguments = l.arguments ++ (at ∷ []) } ∷ ls) stack xs) (sym pushed) (argument_pushed l ls stack arguments at s))
+
+-- no item
+pub nothing_more : (row : ℕ) (at : Columns) (ls : List OpenList) → item_more NoHead row at ls ≡ ls
+nothing_more row at [] = refl
+nothing_more row at (l ∷ ls) = refl
+
+pub atom_heads : (b : Bool) → cond b BodyHead PlainHead ≡ NoHead → ⊥
+atom_heads true e = cc
+atom_heads false e = cc

@@ -1,8 +1,10 @@
 //! How the open lists change from entry to entry.
 
-ghost use Rattle.std.specs.Prelude.{◌≡◌, ◌+◌, ◌<◌, ◌≤◌, ◌^◌, ◌∷◌, ◌++◌, ℕ, List, [], IfOk, Some};
+ghost use Rattle.std.specs.Prelude.{◌≡◌, ◌≢◌, ◌+◌, ◌<◌, ◌≤◌, ◌^◌, ◌∷◌, ◌++◌, ℕ, List, [], IfOk, Some};
 ghost use Rattle.std.specs.Prelude.{length};
 ghost use Rattle.isle_document_layout.specs.Placing.{Here, OpenList, begun};
+ghost use Rattle.isle_document_layout.specs.EntriesView.{lexeme_of};
+ghost use Rattle.isle_document_layout.specs.Placing.{head_of as head_in};
 ghost use Rattle.isle_document_layout.specs.Placing.{item_more as one_item_more, outer};
 ghost use Rattle.isle_document_layout.specs.Stack.{IsSmall, IsStack};
 ghost use Rattle.isle_document_layout.specs.declared.placing.Head.TheVariants.{NoHead};
@@ -11,7 +13,8 @@ ghost use Rattle.isle_document_layout.specs.declared.stack.Opened.{Opened};
 ghost use Rattle.std.specs.Prelude.{None};
 
 use crate::columns::Columns;
-use crate::placing::{Head, Kind};
+use crate::entries::Lexeme;
+use crate::placing::{Head, Kind, head_of};
 use crate::stack::{Opened, innermost};
 use std::alloc::AllocError;
 
@@ -43,38 +46,45 @@ pub fn begin(lists: &mut Vec<Opened>, kind: Kind, column: usize)
     }
 }
 
-/// Adds an item to the innermost list: as its head, or as an argument if it is on the row.
+/// Gives the innermost list, which has no head yet, the one that this lexeme begins.
+fn set_head(lists: &mut Vec<Opened>, lexeme: &Lexeme)
+    requires { 0 < length lists.old.items }
+    ensures { (below : List Opened) (o : Opened) → lists.old.items ≡ below ++ (o ∷ [])
+        → lists.new.items ≡ below ++ (record o { head = head_in (lexeme_of lexeme.now) } ∷ []) }
+{
+    let mut list = innermost(lists);
+    list.head = head_of(lexeme);
+    set_innermost(lists, list);
+}
+
+/// Adds an item to the innermost list: as its head, or as an argument if it is on the row. Only
+/// where it is the head its text is looked at.
+#[inline(always)]
 pub fn add_item(
     lists: &mut Vec<Opened>,
     arguments: &mut Vec<Columns>,
-    head: Head,
+    lexeme: &Lexeme,
     row: usize,
     at: Columns,
 ) -> Result<(), AllocError>
+    requires { head_in (lexeme_of lexeme.now) ≢ NoHead }
     ensures { (ls : List OpenList) → IsStack ls lists.old.items arguments.old.items
-        → IfOk result (λ _. IsStack (one_item_more head row at ls) lists.new.items arguments.new.items) }
+        → IfOk result (λ _. IsStack (one_item_more (head_in (lexeme_of lexeme.now)) row at ls)
+        lists.new.items arguments.new.items) }
 {
     if lists.is_empty() {
         return Ok(());
     }
-    match head {
-        Head::NoHead => Ok(()),
+    let list = innermost(lists);
+    match list.head {
+        Head::NoHead => set_head(lists, lexeme),
         _ => {
-            let mut list = innermost(lists);
-            match list.head {
-                Head::NoHead => {
-                    list.head = head;
-                    set_innermost(lists, list);
-                }
-                _ => {
-                    if list.row == row {
-                        arguments.push(at)?;
-                    }
-                }
+            if list.row == row {
+                arguments.push(at)?;
             }
-            Ok(())
         }
     }
+    Ok(())
 }
 
 /// Opens a list at these columns.

@@ -10,9 +10,8 @@ ghost use Rattle.isle_document_layout.specs.Placing.{column_of as column_in};
 ghost use Rattle.isle_document_layout.specs.Placing.{empty_lines as empty_lines_of, kind_of};
 ghost use Rattle.isle_document_layout.specs.Placing.{passed, placed_gap, reached, text_start};
 ghost use Rattle.isle_document_layout.specs.Placing.{width_of as width_in};
-ghost use Rattle.isle_document_layout.specs.Heads.{is_body_head as is_body_head_in};
 ghost use Rattle.isle_document_layout.specs.Placing.{column_after as column_after_of};
-ghost use Rattle.isle_document_layout.specs.Placing.{head_of as head_in, tidied};
+ghost use Rattle.isle_document_layout.specs.Placing.{tidied};
 ghost use Rattle.isle_document_layout.specs.Placing.{trimmed as trimmed_bytes};
 ghost use Rattle.isle_document_layout.specs.Writing.{spelling};
 ghost use Rattle.isle_document_layout.specs.PlacerView.{IsAt};
@@ -23,7 +22,7 @@ ghost use Rattle.isle_document_layout.specs.declared.stack.Opened.{Opened};
 use crate::changes::{add_item, begin, close, open};
 use crate::columns::{Columns, column_after, is_space_or_tab};
 use crate::entries::{Gap, Lexeme};
-use crate::placing::{Head, Kind, widened};
+use crate::placing::{Kind, widened};
 use crate::stack::{Opened, line_column, line_of};
 use std::alloc::{AllocError, Global};
 
@@ -81,6 +80,7 @@ fn width_of(gap: Gap) -> usize
 }
 
 /// Gives these columns, if they can be counted.
+#[inline(always)]
 fn small(in_source: usize, in_result: usize) -> Result<Columns, AllocError>
     ensures { IfOk result (λ r. IsSmall r × (r ≡ record { source = in_source; result = in_result })) }
 {
@@ -95,6 +95,7 @@ fn small(in_source: usize, in_result: usize) -> Result<Columns, AllocError>
 }
 
 /// Gives the columns so many to the right, if they can be counted.
+#[inline(always)]
 fn moved(from: Columns, by_source: usize, by_result: usize) -> Result<Columns, AllocError>
     ensures { IfOk result (λ r. IsSmall r
         × (r ≡ record { source = from.source + by_source; result = from.result + by_result })) }
@@ -134,34 +135,9 @@ pub fn trimmed(text: &str) -> &str
     ""
 }
 
-/// Gives the head of a list whose first item begins with this lexeme.
-fn head_of(lexeme: &Lexeme) -> Head
-    ensures { result ≡ head_in (lexeme_of lexeme.now) }
-{
-    match lexeme {
-        Lexeme::Opening => Head::ListHead,
-        Lexeme::At => Head::PlainHead,
-        Lexeme::Atom(text) => {
-            if is_body_head(text) {
-                Head::BodyHead
-            } else {
-                Head::PlainHead
-            }
-        }
-        Lexeme::Closing | Lexeme::LineComment(_) | Lexeme::BlockComment(_) => Head::NoHead,
-    }
-}
-
-/// Tells whether an atom is `let`, `type`, `spec`, `switch` or `instantiate`.
-#[tactic(auto, unfolding(crate::specs::Heads::is_body_head))]
-fn is_body_head(text: &str) -> bool
-    ensures { result ≡ is_body_head_in text.now }
-{
-    text == "let" || text == "type" || text == "spec" || text == "switch" || text == "instantiate"
-}
-
 /// Gives the columns after a lexeme that begins at these, and whose bytes may be known to be
 /// simple.
+#[inline(always)]
 fn after(at: Columns, lexeme: &Lexeme, is_simple: bool) -> Result<Columns, AllocError>
     requires small { IsSmall at }
     requires simple { is_simple ≡ true → IsSimple (lexeme_of lexeme.now) }
@@ -234,6 +210,7 @@ impl Placer {
     }
 
     /// Gives the gap that an entry has in the result.
+    #[inline(always)]
     fn gap(&self, gap: Gap, kind: Kind, closings: usize) -> Gap
         requires { (here : Here) × IsAt self.now here }
         ensures { (here : Here) → IsAt self.now here
@@ -250,6 +227,7 @@ impl Placer {
     }
 
     /// Goes to an entry, by the gap before it in the source and in the result.
+    #[inline(always)]
     fn reach(&mut self, kind: Kind, gap: Gap, placed: Gap) -> Result<(), AllocError>
         requires { (here : Here) × IsAt self.old here }
         ensures { (here : Here) → IsAt self.old here
@@ -271,6 +249,7 @@ impl Placer {
     }
 
     /// Goes past the lexeme here.
+    #[inline(always)]
     fn pass(&mut self, lexeme: &Lexeme, is_simple: bool) -> Result<(), AllocError>
         requires here { (here : Here) × IsAt self.old here }
         requires simple { is_simple ≡ true → IsSimple (lexeme_of lexeme.now) }
@@ -282,7 +261,7 @@ impl Placer {
                 add_item(
                     &mut self.lists,
                     &mut self.arguments,
-                    Head::ListHead,
+                    lexeme,
                     self.row,
                     self.end,
                 )?;
@@ -295,16 +274,16 @@ impl Placer {
                 )?;
             }
             Lexeme::Closing => close(&mut self.lists, &mut self.arguments),
-            _ => {
-                let head = head_of(lexeme);
+            Lexeme::At | Lexeme::Atom(_) => {
                 add_item(
                     &mut self.lists,
                     &mut self.arguments,
-                    head,
+                    lexeme,
                     self.row,
                     self.end,
                 )?;
             }
+            Lexeme::LineComment(_) | Lexeme::BlockComment(_) => {}
         }
         self.end = after(self.end, lexeme, is_simple)?;
         self.before = Kind::of(lexeme);
@@ -315,6 +294,7 @@ impl Placer {
     /// result. Its bytes may be known to be simple.
     ///
     /// Memory is refused where the lists need more, and where a line is longer than can be counted.
+    #[inline(always)]
     pub fn place(
         &mut self,
         gap: Gap,

@@ -2,7 +2,9 @@
 
 ghost use Rattle.std.specs.Prelude.{◌≡◌, ℕ};
 ghost use Rattle.isle_document_layout.specs.EntriesView.{lexeme_of};
-ghost use Rattle.isle_document_layout.specs.Placing.{kind_of, room, some, widened as widened_in};
+ghost use Rattle.isle_document_layout.specs.Heads.{is_body_head as is_body_head_in};
+ghost use Rattle.isle_document_layout.specs.Placing.{head_of as head_in, kind_of, room, some};
+ghost use Rattle.isle_document_layout.specs.Placing.{widened as widened_in};
 
 use crate::entries::Lexeme;
 
@@ -40,6 +42,7 @@ pub enum Head {
 
 impl Kind {
     /// Gives the kind of a lexeme.
+    #[inline(always)]
     pub fn of(lexeme: &Lexeme) -> Kind
         ensures { result ≡ kind_of (lexeme_of lexeme.now) }
     {
@@ -54,7 +57,34 @@ impl Kind {
     }
 }
 
+/// Gives the head of a list whose first item begins with this lexeme.
+pub(crate) fn head_of(lexeme: &Lexeme) -> Head
+    ensures { result ≡ head_in (lexeme_of lexeme.now) }
+{
+    match lexeme {
+        Lexeme::Opening => Head::ListHead,
+        Lexeme::At => Head::PlainHead,
+        Lexeme::Atom(text) => {
+            if is_body_head(text) {
+                Head::BodyHead
+            } else {
+                Head::PlainHead
+            }
+        }
+        Lexeme::Closing | Lexeme::LineComment(_) | Lexeme::BlockComment(_) => Head::NoHead,
+    }
+}
+
+/// Tells whether an atom is `let`, `type`, `spec`, `switch` or `instantiate`.
+#[tactic(auto, unfolding(crate::specs::Heads::is_body_head))]
+fn is_body_head(text: &str) -> bool
+    ensures { result ≡ is_body_head_in text.now }
+{
+    text == "let" || text == "type" || text == "spec" || text == "switch" || text == "instantiate"
+}
+
 /// Gives the width, but one at least.
+#[inline(always)]
 fn some_width(width: usize) -> usize
     ensures { result ≡ widened_in some width }
 {
@@ -62,6 +92,7 @@ fn some_width(width: usize) -> usize
 }
 
 /// Gives the width in the result of a gap of this width.
+#[inline(always)]
 pub(crate) fn widened(before: Kind, kind: Kind, width: usize) -> usize
     ensures { result ≡ widened_in (room before kind) width }
 {

@@ -1,5 +1,5 @@
 -- What the program does, to streams whose bytes are known or not, before and after.
-use Rattle.std.specs.Prelude.{◌≡◌, ◌≢◌, ◌⊎◌, ◌++◌, ℕ, List, [], Bool, true, false, Option, codes, length, string_bytes}
+use Rattle.std.specs.Prelude.{◌≡◌, ◌≢◌, ◌≤◌, ◌⊎◌, ◌++◌, ℕ, List, [], ◌∷◌, Bool, true, false, Option, codes, length, max, string_bytes}
 use Rattle.std.specs.Io.KnownBytes.{Appends, Keeps}
 use Rattle.isle_base_source.specs.declared.error.Error.{Error}
 use Rattle.isle_cli.specs.Arguments.{Given, Asked, help_asked, version_asked, work_asked, gives_flag, is_among, name_list, stdin_name}
@@ -140,3 +140,35 @@ abbrev pub HasNames : Asked → Type 0
 HasNames help_asked = ⊥
 HasNames version_asked = ⊥
 HasNames (work_asked list) = name_list list ≢ []
+
+-- What comes of one file, with `--check` or without it: a status, and what the output and standard error got. With
+-- status 0 neither got anything. Without `--check` the output gets nothing.
+pub record EndsFile (check : Bool) (status : ℕ) (output output' faults faults' : Option (List ℕ)) : Type 0 where
+  pub known : status ≤ 5
+  pub used : status ≢ 2
+  pub unwritten : status ≡ 0 → Keeps output output'
+  pub quiet : status ≡ 0 → Keeps faults faults'
+  pub in_place : check ≡ false → Keeps output output'
+
+-- files end with these statuses, one after another
+abbrev pub EndFiles : Bool → (statuses : List ℕ) → (output output' faults faults' : Option (List ℕ)) → Type 0
+EndFiles check [] output output' faults faults' = (output' ≡ output) × (faults' ≡ faults)
+EndFiles check (status ∷ statuses) output output' faults faults' =
+    (mid : Option (List ℕ)) × (said : Option (List ℕ)) × EndsFile check status output mid faults said
+    × EndFiles check statuses mid output' said faults'
+
+abbrev pub greatest : List ℕ → ℕ
+greatest [] = 0
+greatest (status ∷ statuses) = max status (greatest statuses)
+
+-- What comes of files, one or several: the status is the greatest of theirs.
+abbrev pub RunsOnFiles : Bool → (status : ℕ) → (output output' faults faults' : Option (List ℕ)) → Type 0
+RunsOnFiles check status output output' faults faults' =
+    (statuses : List ℕ) × (status ≡ greatest statuses) × EndFiles check statuses output output' faults faults'
+
+-- where files alone are named, without `--check`, the output gets nothing
+abbrev pub LeavesOutput : Asked → (output output' : Option (List ℕ)) → Type 0
+LeavesOutput help_asked output output' = Unit {0}
+LeavesOutput version_asked output output' = Unit {0}
+LeavesOutput (work_asked list) output output' =
+    name_list list ≢ [] → names_input list ≡ false → checks list ≡ false → Keeps output output'

@@ -1,6 +1,8 @@
 //! Tidying files in place: whole or not at all.
 
-ghost use Rattle.std.specs.Prelude.{IfErr};
+ghost use Rattle.std.specs.Prelude.{◌≡◌, IfErr, OnOk, false};
+ghost use Rattle.isle_cli.specs.Streams.{Writes};
+ghost use Rattle.isle_document.specs.Tidied.{IsTidyTextOf, IsUntidy};
 ghost use Rattle.isle_tidy.specs.Doing.{IsFileFailure};
 
 use crate::pieces::{is_untidy, put_tidied};
@@ -38,7 +40,7 @@ pub fn tidy_file<R: Files + AllocGlobal>(rt: &R, name: &str, check: bool) -> Res
     drop(file);
     let is_untidy = is_untidy(rt.alloc(), name, text.as_str())?;
     if is_untidy && !check {
-        replace(rt, path, &metadata, text.as_str())?;
+        replace(rt, path, &metadata, text.as_str(), check)?;
     }
     Ok(is_untidy)
 }
@@ -54,13 +56,17 @@ fn unreadable(error: io::Error) -> Failure
     }
 }
 
-/// Puts a new file with the tidy text of a text in the place of a file.
+/// Puts a new file with the tidy text of a text in the place of a file. It asks that this text is
+/// another one, and that there is no `check`.
 fn replace<R: Files + AllocGlobal>(
     rt: &R,
     path: &str,
     old: &Metadata,
     text: &str,
+    check: bool,
 ) -> Result<(), Failure>
+    requires untidy { IsUntidy text.now }
+    requires unchecked { check ≡ false }
     ensures { IfErr result IsFileFailure }
 {
     // Whoever may not write the file may not replace it either.
@@ -116,7 +122,9 @@ fn fill<R: Files + AllocGlobal>(
     old: &Metadata,
     text: &str,
 ) -> Result<(), Failure>
-    ensures { IfErr result IsFileFailure }
+    ensures written { OnOk result (Writes (R.File.contents file.old) (R.File.contents file.new)
+        (IsTidyTextOf text.now)) }
+    ensures failed { IfErr result IsFileFailure }
 {
     hand_over(rt, name, file, old).map_err(unwritable)?;
     put_tidied(rt.alloc(), name, text, file)?;
@@ -124,7 +132,7 @@ fn fill<R: Files + AllocGlobal>(
 }
 
 /// Gives a new file the owner and the permissions of an old one.
-fn hand_over<R: Files>(rt: &R, name: &str, file: &mut R::File, old: &Metadata) -> io::Result<()> {
+fn hand_over<R: Files>(rt: &R, name: &str, file: &R::File, old: &Metadata) -> io::Result<()> {
     let new = file.metadata()?;
     if new.uid() != old.uid() || new.gid() != old.gid() {
         rt.chown(name, Some(old.uid()), Some(old.gid()))?;

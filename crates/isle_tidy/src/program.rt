@@ -11,8 +11,9 @@ ghost use Rattle.isle_cli.specs.declared.failure.Failure.TheVariants.{Output};
 ghost use Rattle.isle_document.specs.Tidied.{IsTidyTextOf};
 ghost use Rattle.isle_tidy.specs.Doing.{Cuts, CutsInput, Does, DoesInput, DoesTask, Explains};
 ghost use Rattle.isle_tidy.specs.Doing.{Finds, FindsInput, HandlesFiles, HasNames};
-ghost use Rattle.isle_tidy.specs.Doing.{IsInputFailure, IsJudged, IsTidyFailure, Judges, Tells};
-ghost use Rattle.isle_tidy.specs.Doing.{TidiesInput, checks, names_input};
+ghost use Rattle.isle_tidy.specs.Doing.{IsInputFailure, IsJudged, IsTidyFailure, Judges};
+ghost use Rattle.isle_tidy.specs.Doing.{LeavesOutput, RunsOnFiles, Tells, TidiesInput, checks};
+ghost use Rattle.isle_tidy.specs.Doing.{names_input};
 ghost use Rattle.isle_tidy.specs.Program.{AnswersTo, AreOwn, AsAsked, AskForNothing, HaveNames};
 ghost use Rattle.isle_tidy.specs.Program.{IsDiagnostic, IsThis};
 
@@ -113,6 +114,12 @@ pub fn run<R: Files + AllocGlobal + Clone + Drop, I: Read, W: Write, E: Write>(
         (I.remaining input.old) (I.remaining input.new)
         (W.contents output.old) (W.contents output.new)) }
 
+    // Files in place leave the output alone.
+    ensures in_place { Keeps (W.contents output.old) (W.contents output.new)
+        ⊎ AsAsked (map string_bytes words.now)
+        (λ program request. LeavesOutput request
+        (W.contents output.old) (W.contents output.new)) }
+
     // Without names, any other status leaves the output alone.
     ensures unwritten { 2 ≤ result → result ≢ 5 → ¬ (HaveNames (map string_bytes words.now))
         → Keeps (W.contents output.old) (W.contents output.new) }
@@ -160,6 +167,9 @@ fn run_as<R: Files + AllocGlobal + Clone + Drop, I: Read, W: Write, E: Write>(
         (λ request. Cuts program.now request
         (I.remaining input.old) (I.remaining input.new)
         (W.contents output.old) (W.contents output.new)) }
+    ensures in_place { Keeps (W.contents output.old) (W.contents output.new)
+        ⊎ AnswersTo (asked options.now (map string_bytes words.now))
+        (λ request. LeavesOutput request (W.contents output.old) (W.contents output.new)) }
     ensures unwritten { 2 ≤ result → result ≢ 5
         → ¬ (AnswersTo (asked options.now (map string_bytes words.now)) HasNames)
         → Keeps (W.contents output.old) (W.contents output.new) }
@@ -191,6 +201,10 @@ fn work<R: Files + AllocGlobal + Clone + Drop, I: Read, W: Write, E: Write>(
     ensures files { name_list (map given_of arguments.now) ≢ []
         → names_input (map given_of arguments.now) ≡ false
         → Keeps (I.remaining input.old) (I.remaining input.new) }
+    ensures in_place { name_list (map given_of arguments.now) ≢ []
+        → names_input (map given_of arguments.now) ≡ false
+        → checks (map given_of arguments.now) ≡ false
+        → Keeps (W.contents output.old) (W.contents output.new) }
     ensures done { result ≡ 0 → DoesTask (map given_of arguments.now)
         (I.remaining input.old) (I.remaining input.new)
         (W.contents output.old) (W.contents output.new) }
@@ -363,6 +377,8 @@ fn run_on_names<R: Files + AllocGlobal + Clone + Drop, I: Read, W: Write, E: Wri
         → Keeps (I.remaining input.old) (I.remaining input.new) }
     ensures unwritten { result ≡ 0 → is_among (map string_bytes names.now) (codes "-") ≡ false
         → Keeps (W.contents output.old) (W.contents output.new) }
+    ensures in_place { is_among (map string_bytes names.now) (codes "-") ≡ false
+        → task.now.check ≡ false → Keeps (W.contents output.old) (W.contents output.new) }
     ensures quiet { result ≡ 0 → Keeps (E.contents faults.old) (E.contents faults.new) }
 {
     if names_stdin(names) {
@@ -385,16 +401,32 @@ fn run_on_all<R: Files + AllocGlobal + Clone + Drop, I: Read, W: Write, E: Write
     ensures used { result ≢ 2 }
     ensures quiet { result ≡ 0 → Keeps (E.contents faults.old) (E.contents faults.new) }
 {
-    let mut status = 0;
+    let mut status: u8 = 0;
     for name in names {
-        let done = if name.as_str() == "-" {
-            run_on_input(rt.alloc(), task, input, output, faults)
-        } else {
-            run_on_path(rt, task, name.as_str(), output, faults)
-        };
+        let done = run_on_name(rt, task, name.as_str(), input, output, faults);
         status = status.max(done);
     }
     status
+}
+
+/// Tidies standard input, a file, or those beneath a folder.
+fn run_on_name<R: Files + AllocGlobal + Clone + Drop, I: Read, W: Write, E: Write>(
+    rt: &R,
+    task: &Task<'_>,
+    name: &str,
+    input: &mut I,
+    output: &mut W,
+    faults: &mut E,
+) -> u8
+    ensures statuses { result ≤ 5 }
+    ensures used { result ≢ 2 }
+    ensures quiet { result ≡ 0 → Keeps (E.contents faults.old) (E.contents faults.new) }
+{
+    if name == "-" {
+        run_on_input(rt.alloc(), task, input, output, faults)
+    } else {
+        run_on_path(rt, task, name, output, faults)
+    }
 }
 
 /// Tidies files, and those beneath folders.
@@ -405,12 +437,10 @@ fn run_on_paths<R: Files + AllocGlobal + Clone + Drop, W: Write, E: Write>(
     output: &mut W,
     faults: &mut E,
 ) -> u8
-    ensures statuses { result ≤ 5 }
-    ensures used { result ≢ 2 }
-    ensures unwritten { result ≡ 0 → Keeps (W.contents output.old) (W.contents output.new) }
-    ensures quiet { result ≡ 0 → Keeps (E.contents faults.old) (E.contents faults.new) }
+    ensures { RunsOnFiles task.now.check result (W.contents output.old) (W.contents output.new)
+        (E.contents faults.old) (E.contents faults.new) }
 {
-    let mut status = 0;
+    let mut status: u8 = 0;
     for name in names {
         let done = run_on_path(rt, task, name.as_str(), output, faults);
         status = status.max(done);
@@ -426,10 +456,8 @@ fn run_on_path<R: Files + AllocGlobal + Clone + Drop, W: Write, E: Write>(
     output: &mut W,
     faults: &mut E,
 ) -> u8
-    ensures statuses { result ≤ 5 }
-    ensures used { result ≢ 2 }
-    ensures unwritten { result ≡ 0 → Keeps (W.contents output.old) (W.contents output.new) }
-    ensures quiet { result ≡ 0 → Keeps (E.contents faults.old) (E.contents faults.new) }
+    ensures { RunsOnFiles task.now.check result (W.contents output.old) (W.contents output.new)
+        (E.contents faults.old) (E.contents faults.new) }
 {
     let mut lines = String::new(rt.alloc());
     match files_of(rt, task.program, name, &mut lines) {
@@ -450,12 +478,10 @@ fn run_on_files<R: Files + AllocGlobal, W: Write, E: Write>(
     output: &mut W,
     faults: &mut E,
 ) -> u8
-    ensures statuses { result ≤ 5 }
-    ensures used { result ≢ 2 }
-    ensures unwritten { result ≡ 0 → Keeps (W.contents output.old) (W.contents output.new) }
-    ensures quiet { result ≡ 0 → Keeps (E.contents faults.old) (E.contents faults.new) }
+    ensures { RunsOnFiles task.now.check result (W.contents output.old) (W.contents output.new)
+        (E.contents faults.old) (E.contents faults.new) }
 {
-    let mut status = 0;
+    let mut status: u8 = 0;
     for name in names {
         let done = run_on_file(rt, task, name.as_str(), output, faults);
         status = status.max(done);
@@ -471,10 +497,8 @@ fn run_on_file<R: Files + AllocGlobal, W: Write, E: Write>(
     output: &mut W,
     faults: &mut E,
 ) -> u8
-    ensures statuses { result ≤ 5 }
-    ensures used { result ≢ 2 }
-    ensures unwritten { result ≡ 0 → Keeps (W.contents output.old) (W.contents output.new) }
-    ensures quiet { result ≡ 0 → Keeps (E.contents faults.old) (E.contents faults.new) }
+    ensures { RunsOnFiles task.now.check result (W.contents output.old) (W.contents output.new)
+        (E.contents faults.old) (E.contents faults.new) }
 {
     match tidy_file(rt, name, task.check) {
         Ok(is_untidy) if is_untidy && task.check => named(task, name, output, faults),

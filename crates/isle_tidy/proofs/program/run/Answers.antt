@@ -33,3 +33,7 @@ returns-clause-told g c =
     λ past none.
     let told = c.run_as.ensures.told past (λ of. none (c.this_program-program.result, c.own_options-options.result, c.this_program-program.ensures, c.own_options-options.ensures, of)) in
     (told.0, (c.this_program-program.result, c.this_program-program.ensures, told.1), told.2)
+
+pub returns-clause-in_place : goal.returns-clause-in_place
+returns-clause-in_place g c =
+    in-second (λ of. (c.this_program-program.result, c.own_options-options.result, c.this_program-program.ensures, c.own_options-options.ensures, of)) c.run_as.ensures.in_place

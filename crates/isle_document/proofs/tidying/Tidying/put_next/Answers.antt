@@ -1,16 +1,18 @@
-use Rattle.std.proofs.Common.{refl, string_bytes}
-use Rattle.isle_document.proofs.Streams.{entry_utf8, puts_more, puts_last}
+use Rattle.std.proofs.Common.{◌++◌, string_bytes}
+use Rattle.isle_document.proofs.Streams.{more_put, last_put}
 use Rattle.isle_document.proofs.tidying.Tidying.put_next.Goals as goal
 
-pub put_entry-requires-clause-first : goal.put_entry-requires-clause-first
-put_entry-requires-clause-first c = entry_utf8 c.args.self.now c.requires.0 c.requires.1 c.in-More.entry c.in-More.span c.requires.2 c.in-More.ensures
+pub put_any-requires : goal.put_any-requires
+put_any-requires c =
+    let now = c.in_ok-put_near.ensures.more c.requires.0 c.requires.1 c.requires.2 in
+    (c.requires.0, c.requires.1 ++ now.0, now.2)
 
-pub returns-in_ok-self-in-More-clause-more : goal.returns-in_ok-self-in-More-clause-more
-returns-in_ok-self-in-More-clause-more c = λ _.
-    puts_more c.args.self.now _ c.in-More.entry c.in-More.span c.closings_after-closings.result c.in_ok-placed-in-More.placed
-    (string_bytes c.args.out.now) (string_bytes c.put_entry.new.out)
-    c.in-More.ensures c.closings_after-closings.ensures c.in_ok-placed-in-More.ensures c.in_ok-self-in-More.ensures refl refl refl
+pub returns-clause-more : goal.returns-clause-more
+returns-clause-more c = λ ok.
+    more_put c.args.self.now c.put_near.new.self c.put_any.new.self (string_bytes c.args.out.now) (string_bytes c.put_near.new.out) (string_bytes c.put_any.new.out)
+    c.in_ok-put_near.ensures.more (c.put_any.ensures.more ok)
 
-pub returns-in_ok-put_end-in-End-clause-last : goal.returns-in_ok-put_end-in-End-clause-last
-returns-in_ok-put_end-in-End-clause-last c = λ _.
-    puts_last c.args.self.now (string_bytes c.args.out.now) (string_bytes c.put_end.new.out) c.in-End.ensures c.in_ok-put_end-in-End.ensures
+pub returns-clause-last : goal.returns-clause-last
+returns-clause-last c = λ ok.
+    last_put c.args.self.now c.put_near.new.self (string_bytes c.args.out.now) (string_bytes c.put_near.new.out) (string_bytes c.put_any.new.out)
+    c.in_ok-put_near.ensures.more (c.put_any.ensures.last ok)
