@@ -3,7 +3,7 @@
    FAULT=KIND   the calls that are counted: memory (requests for it), read (of standard input), write (to standard output),
                 error (writes to standard error), file (open, read, write, fchmod, fsync, chown, rename and unlink, of files)
    AT=N         the Nth of them fails; with ON=1 each one after it too; with KILL=1 the process is killed there instead
-   BYTE=1       each read of standard input and each write to standard output moves one byte
+   BYTE=1       each read of standard input and each write to standard output or standard error moves one byte
    LOG=FILE     gets an x for each call that fails, or without AT for each that is counted; and a - where memory was refused and the
                 next request is for no more: a growth ahead of need is done without
 
@@ -74,9 +74,7 @@ void *aligned_alloc(size_t alignment, size_t size) { return refuses(size) ? NULL
 int posix_memalign(void **room, size_t alignment, size_t size)
 {
     void *found = aligned_alloc(alignment, size);
-    if (found)
-        *room = found;
-    return found ? 0 : ENOMEM;
+    return found ? (*room = found, 0) : ENOMEM;
 }
 
 ssize_t read(int file, void *bytes, size_t count)
@@ -88,7 +86,7 @@ ssize_t read(int file, void *bytes, size_t count)
 ssize_t write(int file, const void *bytes, size_t count)
 {
     const char *kind = file == 1 ? "write" : file == 2 ? "error" : "file";
-    count = file == 1 && count > 1 && number("BYTE") ? 1 : count;
+    count = (file == 1 || file == 2) && count > 1 && number("BYTE") ? 1 : count;
     return fails(kind, EIO) ? -1 : syscall(SYS_write, file, bytes, count);
 }
 

@@ -1,5 +1,6 @@
 -- What is said of a failure, and the text that goes with its status.
-use Rattle.std.proofs.Common.{◌≡◌, ℕ, List, Option, string_bytes, refl, subst, sym, ◌∙◌}
+use Rattle.std.proofs.Common.{◌≡◌, ◌++◌, ℕ, List, Option, None, Some, string_bytes, take, refl, ap, subst, sym, ◌∙◌}
+use Rattle.std.specs.Io.KnownBytes.{Appends, Keeps}
 use Rattle.isle_cli.specs.Streams.{ReadsText, AppendsBeginning, WritesBeginning}
 use Rattle.isle_cli.specs.declared.failure.Failure.{Failure}
 use Rattle.isle_cli.specs.declared.failure.Failure.TheVariants as failures
@@ -18,6 +19,19 @@ diagnostic-of program failures.Output = record { usage = λ e. absurd (cc); inpu
 pub told-text : (program : Program) (status : ℕ) (failure : Failure) (faults faults' : Option (List ℕ)) → AppendsBeginning faults faults' (text_of program failure) → status ≡ status_of failure → WritesBeginning faults faults' (IsDiagnostic program status)
 told-text program status failure faults faults' told is =
     (text_of program failure, subst (λ s. IsDiagnostic program s (text_of program failure)) (sym is) (diagnostic-of program failure), told)
+
+-- what is written after nothing was
+Keeps-Appends : (a b c : Option (List ℕ)) (bytes : List ℕ) → Keeps a b → Appends b c bytes → Appends a c bytes
+Keeps-Appends None b c bytes kept added = tt
+Keeps-Appends (Some xs) None c bytes kept added = absurd kept
+Keeps-Appends (Some xs) (Some ys) None bytes kept added = absurd added
+Keeps-Appends (Some xs) (Some ys) (Some zs) bytes kept added = added ∙ ap (λ l. l ++ bytes) kept
+
+-- the same, where nothing was written before the report
+pub first-told-text : (program : Program) (status : ℕ) (failure : Failure) (faults kept faults' : Option (List ℕ)) → Keeps faults kept
+    → AppendsBeginning kept faults' (text_of program failure) → status ≡ status_of failure → WritesBeginning faults faults' (IsDiagnostic program status)
+first-told-text program status failure faults kept faults' keeps told is =
+    told-text program status failure faults faults' (told.0, Keeps-Appends faults kept faults' (take told.0 (text_of program failure)) keeps told.1) is
 
 -- A failure that ends with status 1 is a refusal of the whole input, and its text is written.
 module _ (usable : Type 0) (Refused Written : List ℕ → List ℕ → Type 0) (program : Program) (input input' output output' faults faults' : Option (List ℕ)) where

@@ -1,11 +1,7 @@
 -- What the program does, from what its parts do.
-use Rattle.std.proofs.Common.{◌≡◌, ◌≢◌, ◌⊎◌, ◌++◌, ℕ, List, [], Option, None, Some, inl, inr, map, string_bytes, take, refl, ap, sym, subst, ◌∙◌}
-use Rattle.std.specs.Io.KnownBytes.{Appends, Keeps}
+use Rattle.std.proofs.Common.{◌≡◌, ◌≢◌, ◌⊎◌, ℕ, List, [], Option, inl, inr, map, string_bytes, sym, subst}
 use Rattle.isle_base_source.specs.Source.{Source}
-use Rattle.isle_cli.proofs.FailureLemmas.{told-text}
 use Rattle.isle_cli.specs.Arguments.{Given}
-use Rattle.isle_cli.specs.Failure as frame
-use Rattle.isle_cli.specs.Failure.{status_of, text_of}
 use Rattle.isle_cli.specs.Sources.{source_of}
 use Rattle.isle_cli.specs.Streams.{AppendsBeginning, Writes, WritesBeginning}
 use Rattle.isle_cli.specs.declared.failure.Failure.{Failure}
@@ -51,16 +47,3 @@ module _ (program : Program) (given : List Given) (input input' output output' f
     explained failures.Output why =
         reads (λ ss ls. (ls ≡ []) × WritesBeginning output output' (IsPrintOfExpansion (given_width given) ss))
         (why.0, subst (λ width. WritesBeginning output output' (IsPrintOfExpansion width sources)) took.0 why.1)
-
--- what is written after nothing was
-Keeps-Appends : (a b c : Option (List ℕ)) (bytes : List ℕ) → Keeps a b → Appends b c bytes → Appends a c bytes
-Keeps-Appends None b c bytes kept added = tt
-Keeps-Appends (Some xs) None c bytes kept added = absurd kept
-Keeps-Appends (Some xs) (Some ys) None bytes kept added = absurd added
-Keeps-Appends (Some xs) (Some ys) (Some zs) bytes kept added = added ∙ ap (λ l. l ++ bytes) kept
-
--- what standard error gets of a failure, where nothing was told before
-pub failure-told : (program : Program) (failure : Failure) (status : ℕ) (faults kept faults' : Option (List ℕ)) → Keeps faults kept → status ≡ status_of failure
-    → AppendsBeginning kept faults' (text_of program failure) → WritesBeginning faults faults' (frame.IsDiagnostic program status)
-failure-told program failure status faults kept faults' keeps is told =
-    told-text program status failure faults faults' (told.0, Keeps-Appends faults kept faults' (take told.0 (text_of program failure)) keeps told.1) is

@@ -13,7 +13,7 @@ use Rattle.isle_cli.specs.declared.failure.Failure.TheVariants as failures
 use Rattle.isle_expansion.specs.Definitions.{AreExpanded, AreFree}
 use Rattle.isle_expansion.specs.Macros.{macros_in}
 use Rattle.isle_expansion.specs.Misuses.{IsFirstMisuse, MisuseNode, misuse_pos, misuse_text}
-use Rattle.isle_expansion.specs.Warnings.{WarningNode, warning_pos, warning_text, warnings_in}
+use Rattle.isle_conversions.specs.Warnings.{WarningNode, warning_pos, warning_text, warnings_in}
 use Rattle.isle_reading.specs.Messages.{line_at, refusal_lines}
 use Rattle.isle_reading.specs.Reading.{IsReading, refused_count}
 

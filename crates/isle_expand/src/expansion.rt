@@ -12,16 +12,18 @@ ghost use Rattle.isle_cli.specs.declared.failure.Failure.TheVariants.{Memory};
 ghost use Rattle.isle_printer.specs.Printed.{IsPrinted};
 ghost use Rattle.isle_expansion.specs.Views.{misuse_of};
 ghost use Rattle.isle_expansion.specs.Misuses.{misuse_pos, misuse_text};
-ghost use Rattle.isle_expansion.specs.Warnings.{warning_of, warnings_of};
+ghost use Rattle.isle_conversions.specs.Warnings.{warning_of, warnings_of};
 ghost use Rattle.isle_expand.specs.Expansion.{AreWarnings, IsExpandFailure, IsPrintOfExpansion};
 ghost use Rattle.isle_expand.specs.Expansion.{IsProgramOf, warning_line, warning_lines};
 ghost use Rattle.isle_reading.specs.Messages.{line_at};
+ghost use Rattle.isle_reading.specs.Reading.{IsReading};
 
 use isle_cli::failure::Failure;
 use isle_cli::sources::Source;
 use isle_expansion::{ExpandFault, Misuse, Warning, expanded, warnings};
+use isle_parser::dropping::drop_definitions;
 use isle_reading::messages::{line_at, refusal_lines};
-use isle_reading::trees::{read_all, refused_count};
+use isle_reading::trees::{Reading, drop_reading, read_all, refused_count};
 use isle_syntax::ast::Def;
 use isle_syntax::printer::{PrintFault, print};
 use std::alloc::{AllocError, Global};
@@ -45,6 +47,27 @@ pub fn answer_to(alloc: Global, sources: &[Source], width: usize) -> Result<Answ
         (λ failure. IsExpandFailure failure (map source_of sources.now)) }
 {
     let reading = read_all(alloc, sources)?;
+    let answer = answer_to_reading(alloc, sources, &reading, width);
+    drop_reading(reading);
+    answer
+}
+
+/// Makes the print of the expansion of a program that is read, or tells why there is none.
+fn answer_to_reading(
+    alloc: Global,
+    sources: &[Source],
+    reading: &Reading,
+    width: usize,
+) -> Result<Answer, Failure>
+    requires { IsReading (map source_of sources.now) (definitions_of reading.now.defs.items)
+        reading.now.refusals.items }
+    ensures print { IfOk result (λ answer. IsPrintOfExpansion width (map source_of sources.now)
+        (string_bytes answer.print)) }
+    ensures warnings { IfOk result
+        (λ answer. AreWarnings (map source_of sources.now) (string_bytes answer.warnings)) }
+    ensures err { IfErr result
+        (λ failure. IsExpandFailure failure (map source_of sources.now)) }
+{
     if refused_count(&reading.refusals) != 0 {
         let shown = refusal_lines(alloc, sources, &reading.refusals)?;
         return Err(Failure::Refused(shown));
@@ -88,7 +111,11 @@ fn printed_expansion(
         (λ failure. IsExpandFailure failure (map source_of sources.now)) }
 {
     match expanded(alloc, defs) {
-        Ok(expansion) => print_writable(alloc, &expansion, width),
+        Ok(expansion) => {
+            let print = print_writable(alloc, &expansion, width);
+            drop_definitions(expansion);
+            print
+        }
         Err(ExpandFault::Misuse(misuse)) => {
             Err(Failure::Refused(misuse_line(alloc, sources, &misuse)?))
         }

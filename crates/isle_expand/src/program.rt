@@ -273,6 +273,3 @@ fn put_expansion<W: Write, E: Write>(
         Err(failure) => Err(failure),
     }
 }
-
-#[cfg(test)]
-mod tests;

@@ -6,7 +6,8 @@ use Rattle.isle_ast_names.specs.Tree.{Name}
 use Rattle.isle_expansion.specs.Macros.{MacroNode, meant, place_of}
 use Rattle.isle_expansion.specs.Mentions.{Mention, given_mention, use_mention, TermUse}
 use Rattle.isle_expansion.specs.Misuses.{Ends, IsFine, IsFineUse, IsMisuse, MisuseNode, Misuses, again, arguments, cycle}
-use Rattle.isle_expansion.specs.Search.{first, given_misuse, macro_misuse, mention_misuse, or_first, place_misuse, use_misuse}
+use Rattle.isle_conversions.specs.First.{first, or_first}
+use Rattle.isle_expansion.specs.Search.{given_misuse, macro_misuse, mention_misuse, place_misuse, use_misuse}
 use Rattle.isle_expansion.proofs.Places.{no_place, place_means}
 
 -- the search over lists after one another

@@ -17,7 +17,8 @@ use Rattle.isle_expansion.specs.Expansion.{expand, expanded_by, list_list}
 use Rattle.isle_expansion.specs.Mentions.{Mention, given_mention, use_mention, TermUse, definition_mentions, mentions, place_after, list_uses, uses}
 use Rattle.isle_expansion.specs.Misuses.{MisuseNode, again}
 use Rattle.isle_expansion.specs.Order.{callee_places, expand_place, with_place}
-use Rattle.isle_expansion.specs.Search.{first, given_misuse, mention_misuse, or_first, use_misuse}
+use Rattle.isle_conversions.specs.First.{first, or_first}
+use Rattle.isle_expansion.specs.Search.{given_misuse, mention_misuse, use_misuse}
 use Rattle.isle_expansion.specs.Views.{macro_of, macros_of, use_of, uses_of}
 use Rattle.isle_expansion.proofs.Lists.{list_listed}
 use Rattle.isle_expansion.proofs.Searching.{first_append, first_map}
@@ -137,24 +138,6 @@ place_next ms place (extractor e) ds rest within =
     let m : MacroNode = record { term = e.term; arity = length e.args; template = template_of e; expansion = None } in
     record { rest = drop_next place ms m (macros_in ds) rest; within = drop_within place ms m (macros_in ds) rest }
 place_next ms place d ds rest within = record { rest = rest; within = within }
-
--- of bytes that begin with a part, what comes behind it
-pub behind : (bytes part : List ℕ) (r : Option (Bor (List ℕ))) (x : Bor (List ℕ)) → MatchOption r ((rest : List ℕ) → bytes ≢ part ++ rest) (λ y. bytes ≡ part ++ y.now) → r ≡ Some x → bytes ≡ part ++ x.now
-behind bytes part r x h is = let found : MatchOption (Some x) ((rest : List ℕ) → bytes ≢ part ++ rest) (λ y. bytes ≡ part ++ y.now) = subst (λ o. MatchOption o ((rest : List ℕ) → bytes ≢ part ++ rest) (λ y. bytes ≡ part ++ y.now)) is h in found
-
-pub nothing_behind : (bytes part : List ℕ) (r : Option (Bor (List ℕ))) → MatchOption r ((rest : List ℕ) → bytes ≢ part ++ rest) (λ y. bytes ≡ part ++ y.now) → r ≡ None → (rest : List ℕ) → bytes ≢ part ++ rest
-nothing_behind bytes part r h is = subst (λ o. MatchOption o ((rest : List ℕ) → bytes ≢ part ++ rest) (λ y. bytes ≡ part ++ y.now)) is h
-
-unequal_at : (xs ys : List ℕ) (b : Bool) → bytes_eq xs ys ≡ b → (xs ≡ ys → ⊥) → false ≡ b
-unequal_at xs ys true is h = absurd (h ((bytes_eq-Decides xs ys).0 is))
-unequal_at xs ys false is h = refl
-
-pub unequal_bytes : (xs ys : List ℕ) → (xs ≡ ys → ⊥) → false ≡ bytes_eq xs ys
-unequal_bytes xs ys h = unequal_at xs ys (bytes_eq xs ys) refl h
-
-pub same_front : (first last rest : List ℕ) → bytes_eq (first ++ last) (first ++ rest) ≡ bytes_eq last rest
-same_front [] last rest = refl
-same_front (x ∷ first) last rest = ap (λ b. b && bytes_eq (first ++ last) (first ++ rest)) (eq-eqb x x refl) ∙ same_front first last rest
 
 -- an extractor that is the first one of its term, and the uses in its template
 pub given_next : (ms : List MacroNode) (flags : List Bool) (term : Name) (place : ℕ) (pos : Pos) (us : List TermUse) → place_of term.text ms ≡ Some place →

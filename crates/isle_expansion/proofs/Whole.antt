@@ -6,7 +6,8 @@ use Rattle.isle_expansion.specs.Macros.{MacroNode, macros_in}
 use Rattle.isle_expansion.specs.Mentions.{mentions}
 use Rattle.isle_expansion.specs.Misuses.{IsFirstMisuse, MisuseNode}
 use Rattle.isle_expansion.specs.Order.{IsClosed, IsOrder, callees_in, expand_places}
-use Rattle.isle_expansion.specs.Search.{first, mention_misuse}
+use Rattle.isle_conversions.specs.First.{first}
+use Rattle.isle_expansion.specs.Search.{mention_misuse}
 use Rattle.isle_expansion.proofs.Searching.{first_wrong, none_wrong}
 use Rattle.isle_expansion.proofs.Expanding.{IsWhole, order_exact, whole}
 

@@ -1,11 +1,12 @@
 -- The expansion of definitions: the rules, with the patterns expanded that are uses, and all else but
 -- the extractors and the declarations that only they define.
-use Rattle.std.specs.Prelude.{◌≡◌, ℕ, List, [], ◌∷◌, ◌++◌, Bool, false, ◌&&◌, not, is_some, Option, None, Some, option_map, option_and_then, slice_get, if◌then◌else◌, codes}
+use Rattle.std.specs.Prelude.{◌≡◌, ℕ, List, [], ◌∷◌, ◌++◌, Bool, false, ◌&&◌, not, is_some, Option, None, Some, option_map, option_and_then, slice_get, if◌then◌else◌}
 use Rattle.std.specs.List.{AllByRecursion, list_any}
 use Rattle.std.specs.Str.{bytes_eq}
 use Rattle.isle_ast_rules.specs.Tree.{PatternNode, term_pattern, Condition, RuleDefinition}
 use Rattle.isle_ast_rules.specs.TermHeads.{heads, list_heads}
-use Rattle.isle_ast.specs.Tree.{TypeDefinition, TypeContent, enum_type, EnumVariant, ExternDefinition, extern_extractor, extern_constructor, Declaration, Definition, type_def, rule, extractor, decl, external}
+use Rattle.isle_ast.specs.Tree.{ExternDefinition, extern_extractor, extern_constructor, Declaration, Definition, type_def, rule, extractor, decl, external}
+use Rattle.isle_conversions.specs.Variants.{has_variant}
 use Rattle.isle_expansion.specs.Macros.{MacroNode, macros_in, meant, place_of, template_of}
 use Rattle.isle_expansion.specs.Expansion.{expand, expand_list, known}
 
@@ -46,14 +47,6 @@ expand_rule r ms =
 abbrev pub has_root : List ℕ → PatternNode → Bool
 has_root text (term_pattern term args place) = bytes_eq term.text text
 has_root text p = false
-
--- whether a variant of a type is the term of this symbol, `TYPE.VARIANT`
-abbrev pub is_variant : List ℕ → TypeDefinition → EnumVariant → Bool
-is_variant text t v = bytes_eq (t.name.text ++ codes "." ++ v.name.text) text
-
-abbrev pub has_variant : List ℕ → TypeDefinition → TypeContent → Bool
-has_variant text t (enum_type variants place) = list_any (is_variant text t) variants
-has_variant text t content = false
 
 abbrev pub is_outside : List ℕ → ExternDefinition → Bool
 is_outside text (extern_extractor term func place infallible) = bytes_eq term.text text

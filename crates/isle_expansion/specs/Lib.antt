@@ -8,6 +8,3 @@ pub mod Order
 pub mod Search
 pub mod Collected
 pub mod Views
-pub mod Types
-pub mod Placed
-pub mod Warnings

@@ -1,19 +1,10 @@
 -- The first misuse, where it is known which templates come to an end.
-use Rattle.std.specs.Prelude.{ℕ, ◌==◌, List, [], ◌∷◌, Bool, false, Option, None, Some, get_or, slice_get, if◌then◌else◌}
+use Rattle.std.specs.Prelude.{ℕ, ◌==◌, List, Bool, false, Option, None, Some, get_or, slice_get, if◌then◌else◌}
 use Rattle.isle_base_source.specs.declared.pos.Pos.{Pos}
 use Rattle.isle_ast_names.specs.Tree.{Name}
 use Rattle.isle_expansion.specs.Macros.{MacroNode, place_of}
 use Rattle.isle_expansion.specs.Mentions.{Mention, given_mention, use_mention, TermUse}
 use Rattle.isle_expansion.specs.Misuses.{MisuseNode, cycle, arguments, again}
-
--- the first value that f gives of a list
-abbrev pub or_first : {B : Type 0} → Option B → Option B → Option B
-or_first None o = o
-or_first (Some y) o = Some y
-
-abbrev pub first : {A B : Type 0} → (A → Option B) → List A → Option B
-first f [] = None
-first f (x ∷ xs) = or_first (f x) (first f xs)
 
 -- what is wrong with a use of the macro that is meant, if any, where its flag says whether its template
 -- comes to an end

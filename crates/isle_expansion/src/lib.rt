@@ -14,7 +14,6 @@ ghost use Rattle.isle_expansion.specs.Macros.{macros_in};
 ghost use Rattle.isle_expansion.specs.Misuses.{IsFirstMisuse};
 ghost use Rattle.isle_expansion.specs.Views.{IfMisuse, misuse_of};
 
-mod conversions;
 mod declarations;
 mod definitions;
 pub mod laws;
@@ -23,13 +22,11 @@ mod mentions;
 mod misuse;
 mod order;
 mod patterns;
-mod placed;
 mod search;
-mod types;
 
-pub use conversions::{Warning, warnings};
 use definitions::expand_definitions;
 use isle_ast::ast::Def;
+pub use isle_conversions::{Warning, warnings};
 use macros::{expansions, templates};
 pub use misuse::{ExpandFault, Misuse};
 use order::callees_first;

@@ -9,7 +9,8 @@ ghost use Rattle.isle_ast_rules.specs.TreeView.{extractor_of};
 ghost use Rattle.isle_expansion.specs.Macros.{MacroNode, macro_in, macros_in};
 ghost use Rattle.isle_expansion.specs.Mentions.{definition_mentions, mentions};
 ghost use Rattle.isle_expansion.specs.Mentions.{place_after, uses};
-ghost use Rattle.isle_expansion.specs.Search.{first, macro_misuse, mention_misuse, use_misuse};
+ghost use Rattle.isle_conversions.specs.First.{first};
+ghost use Rattle.isle_expansion.specs.Search.{macro_misuse, mention_misuse, use_misuse};
 ghost use Rattle.isle_expansion.specs.Views.{begun_of, misuse_of, use_of, uses_of};
 
 use crate::macros::{Template, place_of};

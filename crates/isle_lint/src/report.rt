@@ -24,7 +24,7 @@ use isle_cli::failure::Failure;
 use isle_cli::sources::Source;
 use isle_findings::{Finding, Lint, findings};
 use isle_reading::messages::{place_line, refusal_line};
-use isle_reading::trees::{Reading, read_all, refused_count};
+use isle_reading::trees::{Reading, drop_reading, read_all, refused_count};
 use std::alloc::{AllocError, Global};
 
 /// Tells what these lints find in a program, and which of its texts spell no tree: a line for
@@ -44,8 +44,9 @@ pub fn report_on(
     ensures err { IfErr result (λ failure. failure ≡ Memory) }
 {
     let reading = read_all(alloc, sources)?;
-    let report = report_on_reading(alloc, sources, lints, is_whole, reading)?;
-    Ok(report)
+    let report = report_on_reading(alloc, sources, lints, is_whole, &reading);
+    drop_reading(reading);
+    Ok(report?)
 }
 
 /// Tells what these lints find in what is read.
@@ -54,10 +55,10 @@ fn report_on_reading(
     sources: &[Source],
     lints: &[Lint],
     is_whole: bool,
-    reading: Reading,
+    reading: &Reading,
 ) -> Result<String, AllocError>
-    requires { IsReading (map source_of sources.now) (definitions_of reading.defs.items)
-        reading.refusals.items }
+    requires { IsReading (map source_of sources.now) (definitions_of reading.now.defs.items)
+        reading.now.refusals.items }
     ensures { IfOk result (λ report. IsReport lints.now is_whole (map source_of sources.now)
         (string_bytes report)) }
 {

@@ -11,6 +11,7 @@ use isle_base::lexer::{Fault, Lexer};
 use isle_base_source::error::Error;
 use isle_cli::failure::Failure;
 use isle_cli::sources::Source;
+use isle_parser::dropping::drop_definitions;
 use isle_parser::parser::parse;
 use std::alloc::{AllocError, Global};
 
@@ -48,7 +49,10 @@ fn with(reading: Reading, read: Result<Vec<Def>, Fault>) -> Result<Reading, Fail
     match read {
         Ok(defs) => Ok(with_tree(reading, defs)?),
         Err(Fault::Error(error)) => Ok(with_refusal(reading, Some(error))?),
-        Err(Fault::Failed | Fault::Memory) => Err(Failure::Memory),
+        Err(Fault::Failed | Fault::Memory) => {
+            drop_reading(reading);
+            Err(Failure::Memory)
+        }
     }
 }
 
@@ -59,8 +63,15 @@ fn with_tree(mut reading: Reading, mut defs: Vec<Def>) -> Result<Reading, AllocE
     ensures refusals { IfOk result (λ more. more.refusals.items
         ≡ reading.refusals.items ++ None ∷ []) }
 {
-    reading.defs.append(&mut defs)?;
-    with_refusal(reading, None)
+    let appended = reading.defs.append(&mut defs);
+    drop_definitions(defs);
+    match appended {
+        Ok(()) => with_refusal(reading, None),
+        Err(error) => {
+            drop_reading(reading);
+            Err(error)
+        }
+    }
 }
 
 /// Adds why a text spells no tree, if it doesn't.
@@ -69,8 +80,18 @@ fn with_refusal(mut reading: Reading, refusal: Option<Error>) -> Result<Reading,
     ensures refusals { IfOk result (λ more. more.refusals.items
         ≡ reading.refusals.items ++ refusal ∷ []) }
 {
-    reading.refusals.push(refusal)?;
-    Ok(reading)
+    match reading.refusals.push(refusal) {
+        Ok(()) => Ok(reading),
+        Err(_) => {
+            drop_reading(reading);
+            Err(AllocError)
+        }
+    }
+}
+
+/// Drops what texts spell. A crate that does so itself proves how, node by node.
+pub fn drop_reading(reading: Reading) {
+    drop_definitions(reading.defs);
 }
 
 /// Tells how many texts spell no tree.

@@ -5,7 +5,8 @@ use Rattle.isle_expansion.specs.Definitions.{expand_definitions}
 use Rattle.isle_expansion.specs.Macros.{macros_in}
 use Rattle.isle_expansion.specs.Mentions.{mentions}
 use Rattle.isle_expansion.specs.Order.{IsClosed, callees_in, expand_places}
-use Rattle.isle_expansion.specs.Search.{first, mention_misuse}
+use Rattle.isle_conversions.specs.First.{first}
+use Rattle.isle_expansion.specs.Search.{mention_misuse}
 use Rattle.isle_expansion.specs.Views.{begun_of, macros_of, misuse_of}
 use Rattle.isle_expansion.proofs.Expanding.{IsWhole}
 use Rattle.isle_expansion.proofs.Free.{expanded_free}

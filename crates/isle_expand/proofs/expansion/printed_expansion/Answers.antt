@@ -5,8 +5,8 @@ use Rattle.isle_cli.specs.Sources.{source_of}
 use Rattle.isle_expand.proofs.ExpansionLemmas.{expansion-writable}
 use Rattle.isle_expand.proofs.expansion.printed_expansion.Goals as goal
 
-pub print_writable-requires : goal.print_writable-requires
-print_writable-requires c =
+pub print_writable-print-requires : goal.print_writable-print-requires
+print_writable-print-requires c =
     subst (λ xs. AreWritable (definitions_of xs)) (sym c.deref.ensures.value)
     (expansion-writable (map source_of c.args.sources.now) (definitions_of c.in-Ok.expansion.items)
     (record {

@@ -2,7 +2,8 @@ use Rattle.std.proofs.Common.{◌≡◌, IfOk, map, option_map, ap, sym, subst, 
 use Rattle.isle_ast.specs.TreeView.{definition_of}
 use Rattle.isle_ast_rules.specs.TreeView.{rule_of}
 use Rattle.isle_expansion.specs.Mentions.{definition_mentions, rule_uses, use_mention}
-use Rattle.isle_expansion.specs.Search.{first, mention_misuse, use_misuse}
+use Rattle.isle_conversions.specs.First.{first}
+use Rattle.isle_expansion.specs.Search.{mention_misuse, use_misuse}
 use Rattle.isle_expansion.specs.Views.{begun_of, misuse_of, uses_of}
 use Rattle.isle_expansion.proofs.Searching.{first_map}
 use Rattle.isle_expansion.proofs.Steps.{ok_from}

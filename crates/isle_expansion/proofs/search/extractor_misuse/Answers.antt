@@ -3,7 +3,8 @@ use Rattle.isle_ast.specs.Tree.{extractor}
 use Rattle.isle_ast_rules.specs.TreeView.{extractor_of}
 use Rattle.isle_expansion.specs.Macros.{macro_in, place_of, template_of}
 use Rattle.isle_expansion.specs.Mentions.{uses}
-use Rattle.isle_expansion.specs.Search.{first, use_misuse}
+use Rattle.isle_conversions.specs.First.{first}
+use Rattle.isle_expansion.specs.Search.{use_misuse}
 use Rattle.isle_expansion.specs.Views.{begun_of, misuse_of}
 use Rattle.isle_expansion.proofs.Steps.{given_next, mapped_get, ok_from, template_same}
 use Rattle.isle_expansion.proofs.search.extractor_misuse.Goals as goal

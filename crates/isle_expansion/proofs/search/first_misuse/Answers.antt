@@ -3,7 +3,8 @@ use Rattle.std.proofs.lemmas.List.{length-map}
 use Rattle.isle_ast.specs.TreeView.{definition_of, definitions_of}
 use Rattle.isle_expansion.specs.Macros.{macros_in}
 use Rattle.isle_expansion.specs.Mentions.{mentions}
-use Rattle.isle_expansion.specs.Search.{first, mention_misuse}
+use Rattle.isle_conversions.specs.First.{first}
+use Rattle.isle_expansion.specs.Search.{mention_misuse}
 use Rattle.isle_expansion.specs.Views.{begun_of, misuse_of}
 use Rattle.isle_expansion.proofs.Steps.{mentions_here, mentions_next, place_next, rest_macros, view_more}
 use Rattle.isle_expansion.proofs.search.first_misuse.Goals as goal

@@ -2,7 +2,8 @@ use Rattle.std.proofs.Common.{◌≡◌, ◌≤◌, drop, length, map}
 use Rattle.isle_ast.specs.TreeView.{definitions_of}
 use Rattle.isle_expansion.specs.Macros.{macros_in}
 use Rattle.isle_expansion.specs.Mentions.{mentions}
-use Rattle.isle_expansion.specs.Search.{first, mention_misuse}
+use Rattle.isle_conversions.specs.First.{first}
+use Rattle.isle_expansion.specs.Search.{mention_misuse}
 use Rattle.isle_expansion.specs.Views.{begun_of}
 use Rattle.isle_expansion.proofs.search.first_misuse.Given as goal
 

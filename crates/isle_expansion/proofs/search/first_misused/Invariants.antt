@@ -1,5 +1,6 @@
 use Rattle.std.proofs.Common.{◌≡◌, drop, map}
-use Rattle.isle_expansion.specs.Search.{first, use_misuse}
+use Rattle.isle_conversions.specs.First.{first}
+use Rattle.isle_expansion.specs.Search.{use_misuse}
 use Rattle.isle_expansion.specs.Views.{begun_of, uses_of}
 use Rattle.isle_expansion.proofs.search.first_misused.Given as goal
 

@@ -7,7 +7,7 @@ use Rattle.isle_lint.proofs.program.run.Goals as goal
 
 pub returns-in-Err-clause-told : goal.returns-in-Err-clause-told
 returns-in-Err-clause-told g c =
-    λ two three. failure-told c.in-Err.failure c.report.result _ _ _ (kept-same _) c.report.ensures.status two c.report.ensures.text
+    λ two three. failure-told c.in-Err.failure c.report.result _ _ _ (kept-same _) c.report.ensures.status c.report.ensures.text
 
 pub returns-in-Ok-Work-clause-done : goal.returns-in-Ok-Work-clause-done
 returns-in-Ok-Work-clause-done g c = λ two four five.

@@ -11,8 +11,8 @@ pub returns : goal.returns
 returns c =
     IfOk-weaker c.whole_report.result _ _
     (λ report shown. record {
-      definitions = definitions_of c.args.reading.defs.items;
-      refusals = c.args.reading.refusals.items;
+      definitions = definitions_of c.args.reading.now.defs.items;
+      refusals = c.args.reading.now.refusals.items;
       read = c.requires;
       found = c.in_ok-found.found.items;
       exact = found-as _ _ _ _ _

@@ -1,0 +1,5 @@
+pub mod First
+pub mod Variants
+pub mod Types
+pub mod Placed
+pub mod Warnings
