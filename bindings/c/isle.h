@@ -75,6 +75,13 @@ typedef struct isle_version {
 isle_answer isle_c_format(const uint8_t *text, size_t text_len, size_t width,
                           uint8_t *into, size_t into_len);
 
+/* Parses a text: writes the encoding of the one tree that it spells, whose positions have this
+ * number for their file. What the bytes mean is said in crates/isle_encoding/src/lib.rt.
+ *
+ * ISLE_WRITTEN, ISLE_TOO_SHORT, ISLE_REFUSED, ISLE_NOT_UTF8 or ISLE_MEMORY. */
+isle_answer isle_c_parse(const uint8_t *text, size_t text_len, size_t file,
+                         uint8_t *into, size_t into_len);
+
 /* Tells whether a text is one of ISLE: ISLE_ACCEPTED, ISLE_REFUSED, ISLE_NOT_UTF8 or ISLE_MEMORY. */
 uint32_t isle_c_check(const uint8_t *text, size_t text_len);
 

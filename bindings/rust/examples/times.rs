@@ -38,6 +38,10 @@ fn main() -> Result<(), Box<dyn Error>> {
             Box::new(|| drop(black_box(isle_syntax::check(&text)))),
         ),
         (
+            "parse",
+            Box::new(|| drop(black_box(isle_syntax::parse(&text)))),
+        ),
+        (
             "format",
             Box::new(|| drop(black_box(isle_syntax::format(&text, width)))),
         ),

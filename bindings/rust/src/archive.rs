@@ -79,6 +79,14 @@ unsafe extern "C" {
         into_len: usize,
     ) -> Answer;
 
+    fn isle_c_parse(
+        text: *const u8,
+        text_len: usize,
+        file: usize,
+        into: *mut u8,
+        into_len: usize,
+    ) -> Answer;
+
     fn isle_c_check(text: *const u8, text_len: usize) -> u32;
 
     fn isle_c_refusal(
@@ -127,6 +135,24 @@ pub(crate) fn format(text: &[u8], width: usize, into: &mut [u8]) -> Told {
         )
     };
     answer.told()
+}
+
+/// Gives the encoding of a text's tree, with this number for the file of each position, where it
+/// has at most so many bytes.
+pub(crate) fn parse(text: &[u8], file: usize, room: usize) -> Result<Vec<u8>, Told> {
+    let mut into: Vec<u8> = Vec::with_capacity(room);
+    // SAFETY: the declaration fits the library's. The pointer and the length of the text are those
+    // of one slice, which is borrowed for the call. `into` has so much room, for the call alone; the
+    // call writes the answer there, and reads nothing of it. The call has no `requires`.
+    let answer = unsafe { isle_c_parse(text.as_ptr(), text.len(), file, into.as_mut_ptr(), room) };
+    match answer.told() {
+        Told::Written(len) => {
+            // SAFETY: so many bytes are written, and there was room for them.
+            unsafe { into.set_len(len) };
+            Ok(into)
+        }
+        told => Err(told),
+    }
 }
 
 /// Tells whether a text is one of ISLE.

@@ -17,11 +17,14 @@
 //! **The tree of a text holds no comments and no blank lines, so formatting drops them. Tidying
 //! keeps them.**
 //!
+//! [`parse`] gives the tree, by the types of upstream's module [`ast`]: a call of the library writes
+//! it as bytes, whose meaning is proved, and the decoder here, which is only tested, takes them.
+//!
 //! Calls share nothing and keep nothing, so threads may make them at once.
 //!
 //! # Deep nests
 //!
-//! [`check`], [`format()`] and [`diagnostic`] read and write a nest of parentheses by calls that call
+//! [`check`], [`parse`], [`format()`] and [`diagnostic`] read and write a nest of parentheses by calls that call
 //! themselves, so how deep one may be depends on the stack of the thread. A nest that is too deep
 //! for it ends the process. [`with_stack`] makes the calls on a thread with a stack of a given size.
 //! On 8 MiB these nests are answered, counted in parentheses around the innermost part:
@@ -41,9 +44,12 @@
 #![deny(unsafe_op_in_unsafe_fn, clippy::undocumented_unsafe_blocks)]
 
 mod archive;
+pub mod ast;
+mod decode;
 mod fault;
 
 use archive::{Place, Told};
+use ast::Def;
 pub use fault::{Fault, Refusal};
 use std::alloc::{Layout, handle_alloc_error};
 use std::panic::resume_unwind;
@@ -144,6 +150,51 @@ pub fn try_check(text: &str) -> Result<(), Fault> {
     match archive::check(text.as_bytes()) {
         Told::Accepted => Ok(()),
         told => Err(fault(text, told)),
+    }
+}
+
+/// Parses a text of ISLE: gives the definitions of the one tree that the text spells.
+///
+/// Each position is a byte offset in the text, in file 0; [`parse_file`] takes another number.
+/// Where memory runs out the process ends.
+///
+/// ```
+/// use isle_syntax::ast::{Def, Ident, Pos};
+///
+/// let defs = isle_syntax::parse("(extern constructor add build_add)")?;
+/// let [Def::Extern(add)] = &defs[..] else { unreachable!() };
+/// # let isle_syntax::ast::Extern::Constructor { func, .. } = add else { unreachable!() };
+/// assert_eq!(func, &Ident("build_add".to_string(), Pos { file: 0, offset: 24 }));
+/// # Ok::<(), isle_syntax::Refusal>(())
+/// ```
+///
+/// # Errors
+///
+/// It is refused exactly where [`check`] refuses it.
+pub fn parse(text: &str) -> Result<Vec<Def>, Refusal> {
+    parse_file(text, 0)
+}
+
+/// Parses as [`parse`] does, with this number for the file of each position, so that the trees of
+/// several files can be told apart.
+///
+/// # Errors
+///
+/// It is refused exactly where [`check`] refuses it.
+pub fn parse_file(text: &str, file: usize) -> Result<Vec<Def>, Refusal> {
+    match encoding(text, file) {
+        Ok(bytes) => Ok(decode::tree(&bytes).expect("an answer encodes a tree")),
+        Err(told) => Err(or_end(fault(text, told))),
+    }
+}
+
+/// The encoding of a text's tree, or what is told in its place.
+fn encoding(text: &str, file: usize) -> Result<Vec<u8>, Told> {
+    // Room that isn't written to costs nothing, so there is enough for nearly every tree.
+    let room = text.len().saturating_mul(4).saturating_add(MESSAGE_ROOM);
+    match archive::parse(text.as_bytes(), file, room) {
+        Err(Told::TooShort(len)) => archive::parse(text.as_bytes(), file, len),
+        encoding => encoding,
     }
 }
 

@@ -1,3 +1,4 @@
 pub mod AnswerLemmas
+pub mod ParsingLaw
 pub mod RefusalLemmas
 pub mod StatusLemmas

@@ -2,3 +2,4 @@ pub mod Answers
 pub mod Refusals
 pub mod NoAnswers
 pub mod Tidying
+pub mod Parsing

@@ -8,6 +8,7 @@
 
 ghost use Rattle.std.specs.Prelude.{◌≡◌, ◌≢◌, ◌↔◌, ◌≤◌, IsUtf8};
 ghost use Rattle.isle_c.specs.Answers.{Wants, Writes};
+ghost use Rattle.isle_c.specs.Parsing.{IsEncodedTree};
 ghost use Rattle.isle_c.specs.Refusals.{IsDiagnosticOf, IsRefusedAt, IsUntidiableAt};
 ghost use Rattle.isle_document.specs.Refused.{HasDocument, HasNoDocument};
 ghost use Rattle.isle_document.specs.Tidied.{IsTidyTextOf, IsUntidy};
@@ -15,10 +16,12 @@ ghost use Rattle.isle_syntax.specs.Format.{IsFormatted, IsRefused, SpellsTree};
 
 mod calls;
 pub mod laws;
+mod parsing;
 mod slices;
 mod tidying;
 
 use calls::{diagnostic_of, formatted, refusal_of, refused};
+use parsing::encoded_tree;
 use slices::write;
 use std::alloc::Global;
 use tidying::{is_tidy, tidied, tidy_refusal_of};
@@ -101,6 +104,30 @@ pub extern "C" fn isle_c_format(alloc: Global, text: &[u8], width: usize, into: 
     ensures kept { result.status ≢ WRITTEN → into.new ≡ into.old }
 {
     match formatted(alloc, text, width) {
+        Ok(answer) => write(&answer, into),
+        Err(why) => why.answer(),
+    }
+}
+
+/// Parses a text of ISLE: writes the encoding of the one tree that the text spells.
+///
+/// Each position is a byte offset in the text, with this number for its file. What the bytes mean
+/// is said at the head of the crate `isle_encoding`; they are UTF-8. `REFUSED` comes where no tree
+/// is spelt by the text; `isle_c_refusal` and `isle_c_diagnostic` say why.
+#[unsafe(no_mangle)]
+pub extern "C" fn isle_c_parse(alloc: Global, text: &[u8], file: usize, into: &mut [u8]) -> Answer
+    ensures written { result.status ≡ WRITTEN
+        → Writes into.old into.new result.len (IsEncodedTree file text.now) }
+    ensures too_short { result.status ≡ TOO_SHORT
+        → Wants into.old result.len (IsEncodedTree file text.now) }
+
+    // When there is none, and why.
+    ensures refused { result.status ≡ REFUSED → IsRefused text.now }
+    ensures not_utf8 { (result.status ≡ NOT_UTF8) ↔ (¬ (IsUtf8 text.now)) }
+    ensures statuses { (result.status ≢ ACCEPTED) × (result.status ≤ MEMORY) }
+    ensures kept { result.status ≢ WRITTEN → into.new ≡ into.old }
+{
+    match encoded_tree(alloc, text, file) {
         Ok(answer) => write(&answer, into),
         Err(why) => why.answer(),
     }

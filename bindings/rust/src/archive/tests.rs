@@ -47,6 +47,30 @@ fn formats_into_a_slice_of_every_length() {
 }
 
 #[test]
+fn parses_into_room_of_every_length() {
+    // A kind, then each part: a text has its length in front, a position its file and its offset.
+    let conversion = [
+        &[1, 13][..],
+        &[1, b'c', 3, 13],
+        &[1, b'A', 3, 9],
+        &[1, b'B', 3, 11],
+        &[3, 9, 0],
+    ];
+    let conversion = conversion.concat();
+    for room in 0..conversion.len() + 3 {
+        let told = parse(b"(convert A B c)", 3, room);
+        if room < conversion.len() {
+            assert_eq!(told, Err(Told::TooShort(conversion.len())), "of {room}");
+        } else {
+            assert_eq!(told, Ok(conversion.clone()), "of {room}");
+        }
+    }
+    assert_eq!(parse(b" ; nothing", 0, 2), Ok(vec![1, 0]));
+    assert_eq!(parse(REFUSED, 0, 100), Err(Told::Refused));
+    assert_eq!(parse(NO_UTF8, 0, 100), Err(Told::NotUtf8));
+}
+
+#[test]
 fn tells_a_refusal_into_a_slice_of_every_length() {
     let mut place = Place::default();
     at_every_length(b"Unexpected token LParen", |into| {

@@ -1,0 +1,199 @@
+//! Makes a tree of the bytes that the library writes.
+//!
+//! What the bytes mean is said in `crates/isle_encoding/specs/Encoded.antt`. The decoder takes any
+//! bytes: those that encode no tree are an error, and nothing panics. It calls itself as deep as
+//! the tree goes, and as the bytes do.
+
+mod definitions;
+mod rules;
+mod specs;
+
+use crate::ast::{Def, Ident, Pos};
+use std::fmt;
+
+/// The bytes encode no tree.
+#[derive(Clone, Copy, Debug, PartialEq, Eq)]
+pub(crate) struct Broken;
+
+impl fmt::Display for Broken {
+    fn fmt(&self, f: &mut fmt::Formatter<'_>) -> fmt::Result {
+        f.write_str("the bytes encode no tree")
+    }
+}
+
+/// What is read, or that it isn't there.
+type Read<T> = Result<T, Broken>;
+
+/// The version of the encoding.
+const VERSION: u8 = 1;
+
+/// The tree that the bytes encode, which are all read.
+pub(crate) fn tree(bytes: &[u8]) -> Read<Vec<Def>> {
+    // All bytes that are no text's are below 128, so one look at all of them is enough.
+    let text = str::from_utf8(bytes).map_err(|_| Broken)?;
+    let mut reader = Reader { text, at: 0 };
+    if reader.byte()? != VERSION {
+        return Err(Broken);
+    }
+    let mut defs = Vec::new();
+    while let Some(def) = reader.next_def()? {
+        defs.push(def);
+    }
+    if reader.at == text.len() {
+        Ok(defs)
+    } else {
+        Err(Broken)
+    }
+}
+
+/// The bytes, of which the first are read.
+struct Reader<'a> {
+    /// The bytes, which are UTF-8.
+    text: &'a str,
+    /// How many are read.
+    at: usize,
+}
+
+impl Reader<'_> {
+    #[inline]
+    fn byte(&mut self) -> Read<u8> {
+        let byte = *self.text.as_bytes().get(self.at).ok_or(Broken)?;
+        self.at += 1;
+        Ok(byte)
+    }
+
+    /// A number: its digits to the base 64, the lowest first, each but the last one plus 64.
+    #[inline(always)]
+    fn number(&mut self) -> Read<usize> {
+        match self.text.as_bytes().get(self.at) {
+            Some(&digit @ 0..64) => {
+                self.at += 1;
+                Ok(usize::from(digit))
+            }
+            _ => self.longer_number(),
+        }
+    }
+
+    /// A number of more than one digit.
+    #[inline]
+    fn longer_number(&mut self) -> Read<usize> {
+        // Nearly all have up to four digits, which are looked at together.
+        let bytes = self.text.as_bytes().get(self.at..).unwrap_or_default();
+        let four = u32::from_le_bytes(*bytes.first_chunk().unwrap_or(&[64; 4]));
+        let last = (!four & 0x4040_4040).trailing_zeros();
+        if last == 32 {
+            return self.long_number();
+        }
+        // The last digit's byte ends with the bit after this one.
+        let digits = four & (u32::MAX >> (30 - last));
+        if digits & 0x8080_8080 != 0 {
+            return Err(Broken);
+        }
+        self.at += last as usize / 8 + 1;
+        let low = digits & 0x3F | digits >> 2 & 0xFC0;
+        let high = digits >> 4 & 0x3_F000 | digits >> 6 & 0xFC_0000;
+        Ok((low | high) as usize)
+    }
+
+    /// A number of any length.
+    fn long_number(&mut self) -> Read<usize> {
+        let first = self.byte()?;
+        self.more_digits(first)
+    }
+
+    /// A number whose first digit, which is not the last one, is read.
+    #[inline]
+    fn more_digits(&mut self, first: u8) -> Read<usize> {
+        let mut byte = first;
+        let mut number = usize::from(first & 63);
+        let mut shift = 6;
+        while (64..128).contains(&byte) && shift < usize::BITS {
+            byte = self.byte()?;
+            let digit = usize::from(byte & 63);
+            number |= digit << shift;
+            if number >> shift != digit {
+                return Err(Broken);
+            }
+            shift += 6;
+        }
+        if byte < 64 { Ok(number) } else { Err(Broken) }
+    }
+
+    /// A number of up to 128 bits.
+    fn large_number(&mut self) -> Read<u128> {
+        let mut byte = self.byte()?;
+        let mut number = u128::from(byte & 63);
+        let mut shift = 6;
+        while (64..128).contains(&byte) && shift < u128::BITS {
+            byte = self.byte()?;
+            let digit = u128::from(byte & 63);
+            number |= digit << shift;
+            if number >> shift != digit {
+                return Err(Broken);
+            }
+            shift += 6;
+        }
+        if byte < 64 { Ok(number) } else { Err(Broken) }
+    }
+
+    /// An integer: whether it is negative, and how far it is from 0 or from -1.
+    fn integer(&mut self) -> Read<i128> {
+        let negative = self.flag()?;
+        let distance = i128::try_from(self.large_number()?).map_err(|_| Broken)?;
+        Ok(if negative { !distance } else { distance })
+    }
+
+    fn flag(&mut self) -> Read<bool> {
+        match self.byte()? {
+            0 => Ok(false),
+            1 => Ok(true),
+            _ => Err(Broken),
+        }
+    }
+
+    #[inline]
+    fn pos(&mut self) -> Read<Pos> {
+        let file = self.number()?;
+        let offset = self.number()?;
+        Ok(Pos { file, offset })
+    }
+
+    #[inline]
+    fn name(&mut self) -> Read<Ident> {
+        let len = self.number()?;
+        let end = self.at.checked_add(len).ok_or(Broken)?;
+        let text = self.text.get(self.at..end).ok_or(Broken)?;
+        self.at = end;
+        Ok(Ident(text.to_owned(), self.pos()?))
+    }
+
+    fn names(&mut self) -> Read<Vec<Ident>> {
+        self.list(Reader::name)
+    }
+
+    /// A list: its length, and then its items.
+    #[inline]
+    fn list<T>(&mut self, mut item: impl FnMut(&mut Self) -> Read<T>) -> Read<Vec<T>> {
+        let len = self.number()?;
+        // Each item has a byte at least, so a length past them is broken, and no room is taken.
+        if len > self.text.len() - self.at {
+            return Err(Broken);
+        }
+        let mut items = Vec::with_capacity(len);
+        for _ in 0..len {
+            items.push(item(self)?);
+        }
+        Ok(items)
+    }
+
+    fn option<T>(&mut self, item: impl FnOnce(&mut Self) -> Read<T>) -> Read<Option<T>> {
+        if self.flag()? {
+            item(self).map(Some)
+        } else {
+            Ok(None)
+        }
+    }
+}
+
+#[cfg(test)]
+mod tests;

@@ -1,0 +1,9 @@
+pub mod DefinitionEnds
+pub mod Digits
+pub mod Ends
+pub mod NameEnds
+pub mod RuleCounts
+pub mod RuleEnds
+pub mod Starts
+pub mod VerificationCounts
+pub mod VerificationEnds
