@@ -1,0 +1,7 @@
+pub mod Scopes
+pub mod Names
+pub mod Occurrences
+pub mod Symbols
+pub mod Candidates
+pub mod Renaming
+pub mod Renamed

@@ -1,0 +1,199 @@
+-- When a name may be given another text, and which places change then.
+use Rattle.std.specs.Prelude.{ℕ, List, [], ◌∷◌, Bool, true, false, ◌&&◌, ◌||◌, not, Option, None, Some, Result, Ok, Err, map, filter, codes, if◌then◌else◌, ◌==◌, ◌≡◌}
+use Rattle.std.specs.List.{filter_map, list_any}
+use Rattle.std.specs.List.Sorted.{IsPermutation, IsSorted}
+use Rattle.std.specs.Global.{Vec}
+use Rattle.std.specs.Str.{bytes_eq}
+use Rattle.isle_base.specs.Skips.{begins_with}
+use Rattle.isle_base_source.specs.PositionOrder.{position_cmp}
+use Rattle.isle_base_source.specs.declared.pos.Pos.{Pos}
+use Rattle.isle_ast_names.specs.Identifier.{is_identifier}
+use Rattle.isle_ast_names.specs.Words.{is_dollar}
+use Rattle.isle_index_events.specs.declared.event.Kind.{Kind}
+use Rattle.isle_index_events.specs.declared.event.Kind.TheVariants as kinds
+use Rattle.isle_index_events.specs.Event.{EventNode, defines, uses, defines_variant, occurs, binds, reads, closes, ends}
+use Rattle.isle_index.specs.Scopes.{SeenNode, seen}
+use Rattle.isle_index.specs.Names.{NameNode, global, variable, gives, is_of, is_number, joined, name_text, same_kind}
+use Rattle.isle_index.specs.declared.rename.Refusal.{Refusal}
+use Rattle.isle_index.specs.declared.rename.Refusal.TheVariants as refusals
+
+-- the words that the grammar reads as something else than a name at some place of a name
+abbrev pub is_reserved : List ℕ → Bool
+is_reserved text =
+    bytes_eq text (codes "_") || bytes_eq text (codes "true") || bytes_eq text (codes "false") || bytes_eq text (codes "and")
+    || bytes_eq text (codes "let") || bytes_eq text (codes "if") || bytes_eq text (codes "rule") || bytes_eq text (codes "pure")
+    || bytes_eq text (codes "multi") || bytes_eq text (codes "partial") || bytes_eq text (codes "rec")
+
+-- whether a text may be a new name: an identifier, without `$` in front, that is no reserved word
+abbrev pub is_new_name : List ℕ → Bool
+is_new_name text = is_identifier text && not (begins_with is_dollar text) && not (is_reserved text)
+
+-- the name of a variant, where an event gives one of this type
+abbrev pub member_of : List ℕ → EventNode → Option (List ℕ)
+member_of owner (defines_variant o m) = if bytes_eq o.text owner then Some m.text else None
+member_of owner (defines _ _) = None
+member_of owner (uses _ _) = None
+member_of owner (occurs _) = None
+member_of owner (binds _) = None
+member_of owner (reads _) = None
+member_of owner closes = None
+member_of owner ends = None
+
+-- the variants of a type
+abbrev pub members : List ℕ → List SeenNode → List (List ℕ)
+members owner ss = filter_map (λ s. member_of owner s.event) ss
+
+-- whether a text is that of one of these variants of a type
+abbrev pub is_member : List ℕ → List (List ℕ) → List ℕ → Bool
+is_member owner ms text = list_any (λ m. bytes_eq (joined owner m) text) ms
+
+-- whether an event writes one of these variants of a type, behind the type's name
+abbrev pub writes_member : List ℕ → List (List ℕ) → EventNode → Bool
+writes_member owner ms (defines kind name) = same_kind kind kinds.Term && is_member owner ms name.text
+writes_member owner ms (uses kind name) = same_kind kind kinds.Term && is_member owner ms name.text
+writes_member owner ms (defines_variant _ _) = false
+writes_member owner ms (occurs _) = false
+writes_member owner ms (binds _) = false
+writes_member owner ms (reads _) = false
+writes_member owner ms closes = false
+writes_member owner ms ends = false
+
+-- the text of an event's variable
+abbrev pub variable_text : EventNode → List ℕ
+variable_text (defines _ _) = []
+variable_text (uses _ _) = []
+variable_text (defines_variant _ _) = []
+variable_text (occurs name) = name.text
+variable_text (binds name) = name.text
+variable_text (reads name) = name.text
+variable_text closes = []
+variable_text ends = []
+
+-- whether an event has a variable that the event of this number binds, with this text
+abbrev pub is_variable : ℕ → List ℕ → SeenNode → Bool
+is_variable binder text s = is_number binder s.binder && bytes_eq (variable_text s.event) text
+
+-- whether the text of an event changes with the text of a name. With a type the names of its variants change, which
+-- are these
+abbrev pub changes : List (List ℕ) → NameNode → SeenNode → Bool
+changes ms (global kinds.Type text) s = gives kinds.Type text s.event || writes_member text ms s.event
+changes ms (global kinds.Term text) s = gives kinds.Term text s.event
+changes ms (global kinds.Constant text) s = gives kinds.Constant text s.event
+changes ms (variable binder text) s = is_variable binder text s
+
+-- where the name of an event is written
+abbrev pub position : EventNode → Option Pos
+position (defines _ name) = Some name.pos
+position (uses _ name) = Some name.pos
+position (defines_variant _ member) = Some member.pos
+position (occurs name) = Some name.pos
+position (binds name) = Some name.pos
+position (reads name) = Some name.pos
+position closes = None
+position ends = None
+
+-- the places that change, in the order of the events
+abbrev pub changed_places : NameNode → List SeenNode → List Pos
+changed_places name ss =
+    filter_map (λ s. position s.event) (filter (changes (members (name_text name) ss) name) ss)
+
+-- whether an event defines something, where it may be that it binds its variable
+abbrev pub is_definition : EventNode → Bool → Bool
+is_definition (defines _ _) own = true
+is_definition (uses _ _) own = false
+is_definition (defines_variant _ _) own = true
+is_definition (occurs _) own = own
+is_definition (binds _) own = own
+is_definition (reads _) own = own
+is_definition closes own = false
+is_definition ends own = false
+
+-- whether an event defines what has this name
+abbrev pub defines_it : NameNode → SeenNode → Bool
+defines_it name s = is_of name s && is_definition s.event (is_number s.number s.binder)
+
+abbrev pub is_variant : EventNode → Bool
+is_variant (defines_variant _ _) = true
+is_variant _ = false
+
+-- whether an event gives a variant of this name
+abbrev pub gives_variant : NameNode → SeenNode → Bool
+gives_variant name s = is_of name s && is_variant s.event
+
+-- whether something of a kind has this text
+abbrev pub has : Kind → List ℕ → List SeenNode → Bool
+has kind text ss = list_any (λ s. gives kind text s.event) ss
+
+-- whether one of these variants of a type gets the name of another term
+abbrev pub has_member : List ℕ → List (List ℕ) → List SeenNode → Bool
+has_member new ms ss = list_any (λ m. has kinds.Term (joined new m) ss) ms
+
+-- whether an event gives a variant of another type that is the same term as one of these variants of a type
+abbrev pub shares : List ℕ → List (List ℕ) → EventNode → Bool
+shares owner ms (defines_variant o m) = not (bytes_eq o.text owner) && is_member owner ms (joined o.text m.text)
+shares owner ms (defines _ _) = false
+shares owner ms (uses _ _) = false
+shares owner ms (occurs _) = false
+shares owner ms (binds _) = false
+shares owner ms (reads _) = false
+shares owner ms closes = false
+shares owner ms ends = false
+
+abbrev pub type_is_taken : List ℕ → List ℕ → List (List ℕ) → List SeenNode → Bool
+type_is_taken old new ms ss = has kinds.Type new ss || (has_member new ms ss || list_any (λ s. shares old ms s.event) ss)
+
+-- whether something else has the new name already. With a type the names of its variants change
+abbrev pub is_taken : NameNode → List ℕ → List SeenNode → Bool
+is_taken (global kinds.Type text) new ss = type_is_taken text new (members text ss) ss
+is_taken (global kinds.Term text) new ss = has kinds.Term new ss
+is_taken (global kinds.Constant text) new ss = has kinds.Constant new ss
+is_taken (variable _ _) new ss = false
+
+-- an event with another text in its variable
+abbrev pub with_text : List ℕ → EventNode → EventNode
+with_text new (occurs name) = occurs (record { text = new; pos = name.pos })
+with_text new (binds name) = binds (record { text = new; pos = name.pos })
+with_text new (reads name) = reads (record { text = new; pos = name.pos })
+with_text new e = e
+
+abbrev pub renamed_variable : ℕ → List ℕ → List ℕ → SeenNode → EventNode
+renamed_variable binder old new s = if is_variable binder old s then with_text new s.event else s.event
+
+-- the same variables are bound by the same events
+abbrev pub same_binder : Option ℕ → Option ℕ → Bool
+same_binder None None = true
+same_binder None (Some n) = false
+same_binder (Some m) None = false
+same_binder (Some m) (Some n) = m == n
+
+abbrev pub same_binders : List SeenNode → List SeenNode → Bool
+same_binders [] [] = true
+same_binders [] (_ ∷ _) = false
+same_binders (_ ∷ _) [] = false
+same_binders (s ∷ ss) (t ∷ ts) = same_binder s.binder t.binder && same_binders ss ts
+
+-- whether some variable has another binder once the variable of this binder has the new text
+abbrev pub is_captured : NameNode → List ℕ → List SeenNode → Bool
+is_captured (global _ _) new ss = false
+is_captured (variable binder old) new ss = not (same_binders (seen (map (renamed_variable binder old new) ss)) ss)
+
+-- why a name can't be given a text, if it can't: the first reason that holds
+abbrev pub refusal : NameNode → List ℕ → List SeenNode → Option Refusal
+refusal name new ss =
+    if not (is_new_name new) then Some refusals.NotAName
+    else if not (list_any (defines_it name) ss) then Some refusals.Undefined
+    else if list_any (gives_variant name) ss then Some refusals.Variant
+    else if is_taken name new ss then Some refusals.Taken
+    else if is_captured name new ss then Some refusals.Captured
+    else None
+
+-- the name can have the text, and these are the places that change, in order
+pub record IsAccepted (name : NameNode) (new : List ℕ) (ss : List SeenNode) (places : List Pos) : Type 0 where
+  pub accepted : refusal name new ss ≡ None
+  pub exact : IsPermutation (changed_places name ss) places
+  pub in_order : IsSorted position_cmp places
+
+-- the places that change, or why there are none
+abbrev pub IsAnswer : NameNode → List ℕ → List SeenNode → Result (Vec Pos) Refusal → Type 0
+IsAnswer name new ss (Ok places) = IsAccepted name new ss places.items
+IsAnswer name new ss (Err why) = refusal name new ss ≡ Some why

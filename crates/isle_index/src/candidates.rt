@@ -1,0 +1,183 @@
+//! The names that may be written at a place.
+
+ghost use Rattle.std.specs.Prelude.{◌≡◌, ◌++◌, ◌∷◌, [], IfOk, OnOk, filter, map, string_bytes};
+ghost use Rattle.std.specs.List.{filter_map};
+ghost use Rattle.isle_index.specs.Candidates.{begins_with, bound_at, candidate_of, candidates};
+ghost use Rattle.isle_index.specs.Candidates.{global_candidate, is_behind, is_nearer, nearer_by};
+ghost use Rattle.isle_index.specs.Candidates.{nearest, variable_candidate, visible};
+ghost use Rattle.isle_index.specs.Scopes.{all_seen, bounds_of};
+ghost use Rattle.isle_index.specs.Symbols.{symbol};
+
+use crate::occurrences::{Occurrence, occurrence_in};
+use crate::scopes::{Bound, Seen, bind};
+use crate::symbols::{SymbolKind, defined_symbol};
+use isle_base::lexer::Pos;
+use std::alloc::{AllocError, Global};
+
+/// A name that may be written at a place.
+#[derive(Debug, Drop)]
+pub struct Candidate {
+    /// What it is.
+    pub kind: SymbolKind,
+    /// Its text: of a variant that of the term, `TYPE.VARIANT`, of a constant without its `$`.
+    pub text: String,
+}
+
+/// The number of an event, and where its name begins.
+#[derive(Clone, Copy)]
+pub struct Near {
+    /// The number.
+    pub number: usize,
+    /// The byte offset.
+    pub offset: usize,
+}
+
+/// Gives the names that begin so and may be written at a place.
+pub fn candidates(
+    alloc: Global,
+    seen: &[Seen],
+    place: Pos,
+    prefix: &str,
+) -> Result<Vec<Candidate>, AllocError>
+    ensures { IfOk result (λ found. map candidate_of found.items
+        ≡ candidates place prefix.now (all_seen seen.now)) }
+{
+    let mut found = Vec::new(alloc);
+    add_globals(alloc, seen, prefix, &mut found)?;
+    let bound = visible(alloc, seen, place)?;
+    add_variables(alloc, &bound, prefix, &mut found)?;
+    Ok(found)
+}
+
+/// Adds what the program defines.
+fn add_globals(
+    alloc: Global,
+    seen: &[Seen],
+    prefix: &str,
+    found: &mut Vec<Candidate>,
+) -> Result<(), AllocError>
+    ensures { OnOk result (map candidate_of found.new.items
+        ≡ map candidate_of found.old.items ++ filter (begins_with prefix.now)
+        (map global_candidate (filter_map (λ s. symbol s.event) (all_seen seen.now)))) }
+{
+    for event in seen {
+        if let Some(symbol) = defined_symbol(alloc, &event.event)? {
+            add(symbol.kind, symbol.text, prefix, found)?;
+        }
+    }
+    Ok(())
+}
+
+/// Adds variables.
+fn add_variables(
+    alloc: Global,
+    bound: &[Bound],
+    prefix: &str,
+    found: &mut Vec<Candidate>,
+) -> Result<(), AllocError>
+    ensures { OnOk result (map candidate_of found.new.items
+        ≡ map candidate_of found.old.items ++ filter (begins_with prefix.now)
+        (map variable_candidate (bounds_of bound.now))) }
+{
+    for variable in bound {
+        let text = String::from_str(alloc, variable.text)?;
+        add(SymbolKind::Variable, text, prefix, found)?;
+    }
+    Ok(())
+}
+
+/// Adds a name, if it begins so.
+fn add(
+    kind: SymbolKind,
+    text: String,
+    prefix: &str,
+    found: &mut Vec<Candidate>,
+) -> Result<(), AllocError>
+    ensures { OnOk result (map candidate_of found.new.items
+        ≡ map candidate_of found.old.items ++ filter (begins_with prefix.now)
+        (record { kind = kind; text = string_bytes text } ∷ [])) }
+{
+    if text.as_bytes().starts_with(prefix.as_bytes()) {
+        found.push(Candidate { kind, text })?;
+    }
+    Ok(())
+}
+
+/// Gives the variables that are bound at the name that begins last at a place or before it.
+fn visible<'a>(alloc: Global, seen: &[Seen<'a>], place: Pos) -> Result<Vec<Bound<'a>>, AllocError>
+    ensures { IfOk result
+        (λ bound. bounds_of bound.items ≡ visible place (all_seen seen.now)) }
+{
+    match nearest(seen, place) {
+        Some(near) => bound_at(alloc, seen, near.number),
+        None => Ok(Vec::new(alloc)),
+    }
+}
+
+/// Gives the name that begins last at a place or before it.
+fn nearest(seen: &[Seen], place: Pos) -> Option<Near>
+    ensures { result ≡ nearest place None (all_seen seen.now) }
+{
+    let mut best = None;
+    for event in seen {
+        best = nearer(place, best, event.number, occurrence_in(event));
+    }
+    best
+}
+
+/// Gives the nearer of two names.
+fn nearer(
+    place: Pos,
+    best: Option<Near>,
+    number: usize,
+    occurrence: Option<Occurrence>,
+) -> Option<Near>
+    ensures { result ≡ nearer_by place best number occurrence }
+{
+    match occurrence {
+        Some(occurrence) if is_nearer(place, best, &occurrence) => Some(Near {
+            number,
+            offset: occurrence.pos.offset,
+        }),
+        _ => best,
+    }
+}
+
+/// Tells whether a name begins at a place or before it, and not before the best one.
+fn is_nearer(place: Pos, best: Option<Near>, occurrence: &Occurrence) -> bool
+    ensures { result ≡ is_nearer place best occurrence.now }
+{
+    occurrence.pos.file == place.file
+        && occurrence.pos.offset <= place.offset
+        && is_behind(best, occurrence.pos.offset)
+}
+
+/// Tells whether an offset is not before that of the best name, if there is one.
+fn is_behind(best: Option<Near>, offset: usize) -> bool
+    ensures { result ≡ is_behind best offset }
+{
+    match best {
+        Some(best) => best.offset <= offset,
+        None => true,
+    }
+}
+
+/// Gives the variables that are bound after the event of this number.
+fn bound_at<'a>(
+    alloc: Global,
+    seen: &[Seen<'a>],
+    number: usize,
+) -> Result<Vec<Bound<'a>>, AllocError>
+    ensures { IfOk result
+        (λ bound. bounds_of bound.items ≡ bound_at number [] (all_seen seen.now)) }
+{
+    let mut bound = Vec::new(alloc);
+    for event in seen {
+        bind(&event.event, event.number, &mut bound)?;
+        if event.number == number {
+            return Ok(bound);
+        }
+    }
+    bound.clear();
+    Ok(bound)
+}

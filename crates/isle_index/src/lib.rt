@@ -1,0 +1,151 @@
+//! The index of a program of ISLE: what names there are, and where they are defined and used, by
+//! ISLE's scopes.
+//!
+//! Names are terms (variants of types among them, as `TYPE.VARIANT`), types, constants, and the
+//! variables of a rule or an extractor. The first occurrence of a variable in a rule's patterns
+//! binds it, and every other one uses it; a condition's expression comes before its pattern; a
+//! `let`'s definition is seen by the later ones and by its body. The parameters of an extractor and
+//! the variables of its template are the extractor's own. What stands inside specs and models is
+//! not indexed.
+#![tactic(auto)]
+
+ghost use Rattle.std.specs.Prelude.{◌≡◌, IfOk, filter, map, option_map};
+ghost use Rattle.std.specs.List.Sorted.{IsPermutation, IsSortedByKey};
+ghost use Rattle.isle_base_source.specs.PositionOrder.{position_cmp};
+ghost use Rattle.isle_index.specs.Candidates.{candidate_of, candidates};
+ghost use Rattle.isle_index.specs.Names.{named_of};
+ghost use Rattle.isle_index.specs.Occurrences.{definitions, name_at, occurrence_at, occurrences};
+ghost use Rattle.isle_index.specs.Renaming.{IsAnswer};
+ghost use Rattle.isle_index.specs.Scopes.{all_seen, program_of, seen};
+ghost use Rattle.isle_index.specs.Symbols.{symbol_of, symbols};
+ghost use Rattle.isle_index_events.specs.Events.{events};
+
+mod candidates;
+pub mod laws;
+mod names;
+mod occurrences;
+mod rename;
+mod scopes;
+mod symbols;
+
+pub use candidates::Candidate;
+use isle_ast::ast::Def;
+use isle_base::lexer::Pos;
+use isle_index_events::add_events;
+pub use isle_index_events::event::Kind;
+pub use names::Name;
+pub use occurrences::Occurrence;
+pub use rename::Refusal;
+use scopes::Seen;
+use std::alloc::{AllocError, Global};
+pub use symbols::{Symbol, SymbolKind};
+
+/// The index of a program: its names, each where it is written. It borrows the trees.
+#[derive(Drop)]
+pub struct Index<'a> {
+    seen: Vec<Seen<'a>>,
+}
+
+impl<'a> Index<'a> {
+    /// Makes the index of a program from the definitions of its files. The files are numbered as
+    /// in the positions of the trees; a file that isn't parsed can be left out or be empty. An
+    /// `Err` means that memory ran out.
+    pub fn new(alloc: Global, trees: &'a [Vec<Def>]) -> Result<Self, AllocError>
+        ensures { IfOk result
+            (λ index. all_seen index.seen.items ≡ seen (events (program_of trees.now))) }
+    {
+        let mut events = Vec::new(alloc);
+        for tree in trees {
+            add_events(tree, &mut events)?;
+        }
+        let seen = scopes::numbered(alloc, &events)?;
+        Ok(Self { seen })
+    }
+
+    /// Gives the occurrence at a place: that of the name one of whose bytes is there, or which ends
+    /// there.
+    pub fn occurrence_at(&self, place: Pos) -> Option<Occurrence>
+        ensures { result ≡ occurrence_at place (all_seen self.now.seen.items) }
+    {
+        occurrences::occurrence_at(&self.seen, place)
+    }
+
+    /// Gives what the name at a place names. There is none where no name is at the place, and where
+    /// nothing binds the variable there. An `Err` means that memory ran out.
+    pub fn name_at(&self, alloc: Global, place: Pos) -> Result<Option<Name>, AllocError>
+        ensures { IfOk result (λ name. option_map named_of name
+            ≡ name_at place (all_seen self.now.seen.items)) }
+    {
+        occurrences::name_at(alloc, &self.seen, place)
+    }
+
+    /// Gives all occurrences of a name of this index, each once, in the order of places. An `Err`
+    /// means that memory ran out.
+    pub fn occurrences(&self, alloc: Global, name: &Name) -> Result<Vec<Occurrence>, AllocError>
+        ensures exact { IfOk result (λ found. IsPermutation
+            (occurrences (named_of name.now) (all_seen self.now.seen.items)) found.items) }
+        ensures in_order { IfOk result
+            (λ found. IsSortedByKey (λ o. o.pos) position_cmp found.items) }
+    {
+        let mut found = occurrences::occurrences(alloc, &self.seen, name)?;
+        found.sort()?;
+        Ok(found)
+    }
+
+    /// Gives the definitions of a name of this index, in the order of places: of a term its `decl`
+    /// or its variant, of a type its `type`, of a constant its `extern const`, of a variable the
+    /// occurrence that binds it. Where the program is whole there is one. An `Err` means that
+    /// memory ran out.
+    pub fn definitions(&self, alloc: Global, name: &Name) -> Result<Vec<Occurrence>, AllocError>
+        ensures exact { IfOk result (λ found. IsPermutation
+            (definitions (named_of name.now) (all_seen self.now.seen.items)) found.items) }
+        ensures in_order { IfOk result
+            (λ found. IsSortedByKey (λ o. o.pos) position_cmp found.items) }
+    {
+        let mut found = occurrences::definitions(alloc, &self.seen, name)?;
+        found.sort()?;
+        Ok(found)
+    }
+
+    /// Gives what the file of this number defines, in the order in which it stands there. An `Err`
+    /// means that memory ran out.
+    pub fn symbols(&self, alloc: Global, file: usize) -> Result<Vec<Symbol>, AllocError>
+        ensures { IfOk result (λ found. map symbol_of found.items
+            ≡ symbols file (all_seen self.now.seen.items)) }
+    {
+        symbols::symbols(alloc, &self.seen, file)
+    }
+
+    /// Gives the names that begin so and may be written at a place: all that the program defines,
+    /// and the variables that are bound at the name that begins last at the place or before it. A
+    /// name that is defined twice, or bound twice, is there twice. An `Err` means that memory ran
+    /// out.
+    pub fn candidates(
+        &self,
+        alloc: Global,
+        place: Pos,
+        prefix: &str,
+    ) -> Result<Vec<Candidate>, AllocError>
+        ensures { IfOk result (λ found. map candidate_of found.items
+            ≡ candidates place prefix.now (all_seen self.now.seen.items)) }
+    {
+        candidates::candidates(alloc, &self.seen, place, prefix)
+    }
+
+    /// Gives the places that change where a name of this index gets a new text, in order, or says
+    /// why it can't get it. At each place the bytes of the old text give way to the new one: from
+    /// the place on, of a constant from the byte after its `$` on. With a type the names of its
+    /// variants change, of which the type's name is the first part. An `Err` means that memory ran
+    /// out.
+    pub fn rename(
+        &self,
+        alloc: Global,
+        name: &Name,
+        new: &str,
+    ) -> Result<Result<Vec<Pos>, Refusal>, AllocError>
+        ensures { IfOk result
+            (IsAnswer (named_of name.now) new.now (all_seen self.now.seen.items)) }
+    {
+        rename::rename(alloc, &self.seen, name, new)
+    }
+}

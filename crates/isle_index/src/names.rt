@@ -1,0 +1,163 @@
+//! What events name.
+
+ghost use Rattle.std.specs.Prelude.{◌≡◌, ◌++◌, IfOk, codes, option_map, string_bytes};
+ghost use Rattle.std.specs.Str.{bytes_eq};
+ghost use Rattle.isle_index.specs.Names.{gives, is_number, is_of, joined, meaning, named_of};
+ghost use Rattle.isle_index.specs.Names.{global, name_text, same_kind, variable};
+ghost use Rattle.isle_index.specs.Scopes.{seen_of};
+ghost use Rattle.isle_index_events.specs.EventView.{event_of};
+
+use crate::scopes::Seen;
+use isle_index_events::event::{Event, Kind, Word};
+use std::alloc::{AllocError, Global};
+
+/// A name of an index.
+#[derive(Debug, Drop)]
+pub enum Name {
+    /// A name that holds in the whole program.
+    Global {
+        /// What it names.
+        kind: Kind,
+        /// Its text: of a variant that of the term, `TYPE.VARIANT`, of a constant without its `$`.
+        text: String,
+    },
+    /// A variable of a rule or an extractor.
+    Variable {
+        /// The number of the event that binds it, in the index that gave the name.
+        binder: usize,
+        /// Its text.
+        text: String,
+    },
+}
+
+impl Name {
+    /// Gives the text of the name.
+    pub fn text(&self) -> &str
+        ensures { result.now ≡ name_text (named_of self.now) }
+    {
+        match self {
+            Name::Global { text, .. } | Name::Variable { text, .. } => text.as_str(),
+        }
+    }
+
+    /// Tells whether an event names this.
+    pub fn is_of(&self, seen: &Seen) -> bool
+        ensures { result ≡ is_of (named_of self.now) (seen_of seen.now) }
+    {
+        match self {
+            Name::Global { kind, text } => gives(&seen.event, *kind, text.as_str()),
+            Name::Variable { binder, .. } => is_number(*binder, seen.binder),
+        }
+    }
+}
+
+/// Gives what an event names.
+pub fn meaning(alloc: Global, seen: &Seen) -> Result<Option<Name>, AllocError>
+    ensures { IfOk result (λ name. option_map named_of name
+        ≡ meaning (event_of seen.now.event) seen.now.binder) }
+{
+    match &seen.event {
+        Event::Defines(kind, word) | Event::Uses(kind, word) => global(alloc, *kind, word.text),
+        Event::DefinesVariant { owner, member } => {
+            let text = joined(alloc, owner.text, member.text)?;
+            Ok(Some(Name::Global {
+                kind: Kind::Term,
+                text,
+            }))
+        }
+        Event::Occurs(word) | Event::Binds(word) | Event::Reads(word) => {
+            variable(alloc, seen.binder, word)
+        }
+        Event::Closes | Event::Ends => Ok(None),
+    }
+}
+
+/// Makes the name of what holds in the whole program.
+fn global(alloc: Global, kind: Kind, text: &str) -> Result<Option<Name>, AllocError>
+    ensures { IfOk result (λ name. option_map named_of name ≡ Some (global kind text.now)) }
+{
+    let text = String::from_str(alloc, text)?;
+    Ok(Some(Name::Global { kind, text }))
+}
+
+/// Makes the name of a variable, if it is bound.
+fn variable(alloc: Global, binder: Option<usize>, word: &Word) -> Result<Option<Name>, AllocError>
+    ensures { IfOk result (λ name. option_map named_of name
+        ≡ option_map (λ b. variable b word.now.text.now) binder) }
+{
+    match binder {
+        Some(binder) => {
+            let text = String::from_str(alloc, word.text)?;
+            Ok(Some(Name::Variable { binder, text }))
+        }
+        None => Ok(None),
+    }
+}
+
+/// Gives the term that a variant of a type is.
+pub fn joined(alloc: Global, owner: &str, member: &str) -> Result<String, AllocError>
+    ensures { IfOk result (λ text. string_bytes text ≡ joined owner.now member.now) }
+{
+    let mut text = String::from_str(alloc, owner)?;
+    text.push_str(".")?;
+    text.push_str(member)?;
+    Ok(text)
+}
+
+/// Tells whether two kinds are the same.
+fn same_kind(first: Kind, second: Kind) -> bool
+    ensures { result ≡ same_kind first second }
+{
+    match first {
+        Kind::Term => matches!(second, Kind::Term),
+        Kind::Type => matches!(second, Kind::Type),
+        Kind::Constant => matches!(second, Kind::Constant),
+    }
+}
+
+/// Tells whether an event names what has this kind and this text.
+pub fn gives(event: &Event, kind: Kind, text: &str) -> bool
+    ensures { result ≡ gives kind text.now (event_of event.now) }
+{
+    match event {
+        Event::Defines(other, word) | Event::Uses(other, word) => {
+            same_kind(kind, *other) && word.text == text
+        }
+        Event::DefinesVariant { owner, member } => {
+            same_kind(kind, Kind::Term) && is_joined(text, owner.text, member.text)
+        }
+        Event::Occurs(_) | Event::Binds(_) | Event::Reads(_) | Event::Closes | Event::Ends => {
+            false
+        }
+    }
+}
+
+/// Tells whether a text is that of the term that a variant of a type is.
+pub fn is_joined(text: &str, owner: &str, member: &str) -> bool
+    ensures { result ≡ bytes_eq (joined owner.now member.now) text.now }
+{
+    are_joined(text.as_bytes(), owner.as_bytes(), member.as_bytes())
+}
+
+/// Tells whether bytes are a first part, a dot and a last part.
+fn are_joined(bytes: &[u8], first: &[u8], last: &[u8]) -> bool
+    ensures { result ≡ bytes_eq (first.now ++ codes "." ++ last.now) bytes.now }
+{
+    match bytes.strip_prefix(first) {
+        Some(rest) => match rest.strip_prefix(b".") {
+            Some(name) => last == name,
+            None => false,
+        },
+        None => false,
+    }
+}
+
+/// Tells whether there is a number, and it is this one.
+pub fn is_number(number: usize, other: Option<usize>) -> bool
+    ensures { result ≡ is_number number other }
+{
+    match other {
+        Some(other) => other == number,
+        None => false,
+    }
+}

@@ -1,0 +1,117 @@
+//! Scopes: which event binds the variable of which event.
+
+ghost use Rattle.std.specs.Prelude.{◌≡◌, IfOk, OnOk, map};
+ghost use Rattle.isle_index.specs.Scopes.{after, all_seen, binder, bounds_of, last_bound, or_else};
+ghost use Rattle.isle_index.specs.Scopes.{bound_more, seen};
+ghost use Rattle.isle_index_events.specs.EventView.{event_of, events_of, word_of};
+
+use isle_index_events::event::{Event, Word};
+use std::alloc::{AllocError, Global};
+
+/// A variable that is bound.
+#[derive(Clone, Copy, Debug)]
+pub struct Bound<'a> {
+    /// Its name.
+    pub text: &'a str,
+    /// The number of the event that binds it.
+    pub number: usize,
+}
+
+/// An event with its number, counted from 0.
+#[derive(Clone, Copy, Debug)]
+pub struct Seen<'a> {
+    /// The event.
+    pub event: Event<'a>,
+    /// Its number.
+    pub number: usize,
+    /// The number of the event that binds its variable, if it has a variable that is bound.
+    pub binder: Option<usize>,
+}
+
+/// Gives all events with the events that bind their variables.
+pub fn numbered<'a>(alloc: Global, events: &[Event<'a>]) -> Result<Vec<Seen<'a>>, AllocError>
+    ensures { IfOk result (λ found. all_seen found.items ≡ seen (events_of events.now)) }
+{
+    let mut bound = Vec::new(alloc);
+    let mut found = Vec::with_capacity(alloc, events.len())?;
+    for (number, event) in events.iter().enumerate() {
+        let binder = binder(event, number, &bound);
+        found.push(Seen {
+            event: *event,
+            number,
+            binder,
+        })?;
+        bind(event, number, &mut bound)?;
+    }
+    Ok(found)
+}
+
+/// Gives the number of the event that binds the variable of an event, where it has one.
+pub fn binder(event: &Event, number: usize, bound: &[Bound]) -> Option<usize>
+    ensures { result ≡ binder (event_of event.now) number (bounds_of bound.now) }
+{
+    match event {
+        Event::Occurs(word) => Some(last_bound(bound, word.text).unwrap_or(number)),
+        Event::Binds(_) => Some(number),
+        Event::Reads(word) => last_bound(bound, word.text),
+        Event::Defines(..)
+        | Event::Uses(..)
+        | Event::DefinesVariant { .. }
+        | Event::Closes
+        | Event::Ends => None,
+    }
+}
+
+/// Gives the number of the event that binds the last variable of this name.
+fn last_bound(bound: &[Bound], text: &str) -> Option<usize>
+    ensures { result ≡ last_bound (bounds_of bound.now) text.now }
+{
+    let mut last = None;
+    for variable in bound {
+        if variable.text == text {
+            last = Some(variable.number);
+        }
+    }
+    last
+}
+
+/// Binds and lets go the variables that an event binds or whose scope it ends.
+pub fn bind<'a>(
+    event: &Event<'a>,
+    number: usize,
+    bound: &mut Vec<Bound<'a>>,
+) -> Result<(), AllocError>
+    ensures { OnOk result (bounds_of bound.new.items
+        ≡ after (event_of event.now) number (bounds_of bound.old.items)) }
+{
+    match event {
+        Event::Occurs(word) => {
+            if last_bound(bound, word.text).is_none() {
+                bind_word(word, number, bound)?;
+            }
+        }
+        Event::Binds(word) => bind_word(word, number, bound)?,
+        Event::Closes => {
+            bound.pop();
+        }
+        Event::Ends => bound.clear(),
+        Event::Defines(..) | Event::Uses(..) | Event::DefinesVariant { .. } | Event::Reads(_) => {}
+    }
+    Ok(())
+}
+
+/// Binds a variable.
+fn bind_word<'a>(
+    word: &Word<'a>,
+    number: usize,
+    bound: &mut Vec<Bound<'a>>,
+) -> Result<(), AllocError>
+    ensures { OnOk result (bounds_of bound.new.items
+        ≡ bound_more (bounds_of bound.old.items) (word_of word.now) number) }
+{
+    bound.push(Bound {
+        text: word.text,
+        number,
+    })?;
+    Ok(())
+}

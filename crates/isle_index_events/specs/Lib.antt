@@ -1,0 +1,4 @@
+pub mod Event
+pub mod EventView
+pub mod Events
+pub mod Mapped
