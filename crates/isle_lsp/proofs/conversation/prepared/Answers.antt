@@ -1,0 +1,14 @@
+use Rattle.std.proofs.Common.{option_map, ◌∙◌, ap}
+use Rattle.serde_json.specs.View.{view}
+use Rattle.isle_lsp_machine.specs.Machine.{next_state, turn_of}
+use Rattle.isle_lsp.proofs.Talks.{prepared}
+use Rattle.isle_lsp.proofs.conversation.prepared.Goals as goal
+
+pub returns-clause-ok : goal.returns-clause-ok
+returns-clause-ok g c =
+    let m = c.message_in.ensures in
+    prepared _ _ _ (option_map view c.in_ok-message.message) _ _ c.take_turn.result
+    (rw c.as_slice.ensures.value at c.in_ok-message.ensures.ok)
+    (c.step-state.ensures.state ∙ ap (next_state c.args.server.now.state) m)
+    (c.step-state.ensures.turn ∙ ap (turn_of c.args.server.now.state) m)
+    c.take_turn.ensures.state c.take_turn.ensures.documents c.take_turn.ensures.files c.take_turn.ensures.sends

@@ -1,0 +1,4 @@
+pub mod Conversations
+pub mod Formatted
+pub mod Published
+pub mod Serving

@@ -1,0 +1,30 @@
+//! `isle-lsp`: answers an editor about ISLE source, on standard input and output.
+#![tactic(auto)]
+
+mod conversation;
+mod formatting;
+mod program;
+mod published;
+mod server;
+mod workspace;
+
+pub use conversation::converse;
+use isle_cli::failure::Failure;
+use isle_cli::program::report;
+use isle_cli::words::taken_words;
+use program::PROGRAM;
+pub use program::run;
+use std::io::BufReader;
+use std::process::ExitCode;
+
+fn main(rt: HostRuntime) -> ExitCode {
+    let (mut output, mut faults) = (rt.stdout(), rt.stderr());
+    let Ok(mut input) = BufReader::new(rt.alloc(), rt.stdin()) else {
+        return ExitCode::from(report(&PROGRAM, &Failure::Memory, &mut faults));
+    };
+    let status = match taken_words(&rt) {
+        Ok(words) => run(&rt, &words, &mut input, &mut output, &mut faults),
+        Err(fault) => report(&PROGRAM, &Failure::from(fault), &mut faults),
+    };
+    ExitCode::from(status)
+}

@@ -1,0 +1,64 @@
+-- What an editor is told of a text.
+use Rattle.std.specs.Prelude.{◌≡◌, ℕ, ◌+◌, ◌-◌, ◌⊎◌, List, [], ◌∷◌, ◌++◌, Option, None, Some, Result, filter, length, map, min, codes, string_bytes}
+use Rattle.std.specs.Global.{Vec}
+use Rattle.std.specs.List.Sorted.{IsPermutation, IsSortedByKey}
+use Rattle.isle_ast.specs.Tree.{Definition}
+use Rattle.isle_ast.specs.declared.ast.Def.{Def}
+use Rattle.isle_base.specs.declared.fault.Fault.{Fault}
+use Rattle.isle_base_source.specs.PositionOrder.{position_cmp}
+use Rattle.isle_base_source.specs.declared.error.Error as errors
+use Rattle.isle_base_source.specs.declared.error.Error.TheVariants.{ParseError}
+use Rattle.isle_findings.specs.Finding.{Found, finding_of}
+use Rattle.isle_findings.specs.Findings.{findings_in}
+use Rattle.isle_findings.specs.Lint.{all_lints, is_default, message}
+use Rattle.isle_findings.specs.declared.finding.Finding.{Finding}
+use Rattle.isle_findings.specs.declared.lint.Lint.{Lint}
+use Rattle.isle_reading.specs.Reading as reading
+use Rattle.isle_reading.specs.Reading.{IsRefusedWith, IsTreeOf}
+use Rattle.isle_lsp_diagnostics.specs.declared.Diagnostic.{Diagnostic}
+
+-- what a parser answers of a text
+abbrev pub IsReadAs : ℕ → List ℕ → Result (Vec Def) Fault → Type 0
+IsReadAs = reading.IsReadAs
+
+-- what is told of a part of a text
+pub record Mark : Type 0 where
+  pub start : ℕ
+  pub end : ℕ
+  pub lint : Option Lint
+  pub message : List ℕ
+
+abbrev pub mark_of : Diagnostic → Mark
+mark_of d = record { start = d.start; end = d.end; lint = d.lint; message = string_bytes d.message }
+
+-- what a finding says
+abbrev pub found_text : Found → List ℕ
+found_text f = message f.lint ++ (codes " '" ++ (f.name ++ codes "'"))
+
+-- what is told of a finding, at its name, as far as the text goes
+abbrev pub found_mark : List ℕ → Found → Mark
+found_mark text f =
+    let start : ℕ = min f.pos.offset (length text) in
+    record { start = start; end = start + min (length f.name) (length text - start); lint = Some f.lint; message = found_text f }
+
+abbrev pub finding_mark : List ℕ → Finding → Mark
+finding_mark text f = found_mark text (finding_of f)
+
+-- what is told of a text that spells no tree
+abbrev pub error_mark : List ℕ → errors.Error → List Mark
+error_mark text (ParseError msg span) =
+    record { start = min span.from.offset (length text); end = min span.to.offset (length text); lint = None; message = string_bytes msg } ∷ []
+error_mark text _ = []
+
+-- The marks are those of what the default lints find in the definitions, in order of place.
+pub record AreMarksOf (text : List ℕ) (ds : List Definition) (told : List Mark) : Type 0 where
+  pub found : List Finding
+  pub exact : IsPermutation (findings_in (filter is_default all_lints) ds) (map finding_of found)
+  pub in_order : IsSortedByKey (λ f. f.pos) position_cmp found
+  pub marks : told ≡ map (finding_mark text) found
+
+-- the marks of a text: of its tree, or why it has none
+abbrev pub AreMarks : List ℕ → List Mark → Type 0
+AreMarks text marks =
+    ((ds : List Definition) × IsTreeOf 0 text ds × AreMarksOf text ds marks)
+    ⊎ ((e : errors.Error) × IsRefusedWith 0 text e × (marks ≡ error_mark text e))

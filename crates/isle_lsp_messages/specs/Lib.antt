@@ -1,0 +1,4 @@
+pub mod Decoding
+pub mod Parameters
+pub mod Replies
+pub mod Results

@@ -1,0 +1,102 @@
+-- What a request about the names of a program gets.
+use Rattle.std.specs.Prelude.{◌≡◌, ◌<◌, ◌⊎◌, ℕ, List, Option, None, Some, Result, Ok, Err, map, codes}
+use Rattle.std.specs.Global.{Vec}
+use Rattle.serde_json.specs.Data.{Data, null, array}
+use Rattle.serde_json.specs.View.{items_of, view}
+use Rattle.isle_ast.specs.Tree.{Definition}
+use Rattle.isle_base_source.specs.Source.{Source}
+use Rattle.isle_base_source.specs.declared.error.Error.{Error}
+use Rattle.isle_base_source.specs.declared.pos.Pos.{Pos}
+use Rattle.isle_index.specs.Names.{NameNode}
+use Rattle.isle_index.specs.Occurrences.{name_at, occurrence_at}
+use Rattle.isle_index.specs.Renaming as renaming
+use Rattle.isle_index.specs.declared.rename.Refusal.{Refusal}
+use Rattle.isle_index.specs.Scopes.{SeenNode, seen}
+use Rattle.isle_index.specs.Symbols.{symbols}
+use Rattle.isle_index_events.specs.Events.{events}
+use Rattle.isle_lsp_machine.specs.declared.Request as requests
+use Rattle.isle_lsp_machine.specs.declared.Request.TheVariants.{Definition as AskDefinition, References, DocumentHighlight, DocumentSymbol, WorkspaceSymbol, Hover, Completion, PrepareRename, Rename}
+use Rattle.isle_lsp_messages.specs.Parameters.{new_name_of, wants_definitions}
+use Rattle.isle_reading.specs.Reading.{IsReading, refused_count}
+use Rattle.isle_lsp_names.specs.Located.{AreHighlights, AreReferences, IsDefinition, symbol_data}
+use Rattle.isle_lsp_names.specs.Renamed as renamed
+use Rattle.isle_lsp_names.specs.Places.{File, Place, file_in, place_in}
+use Rattle.isle_lsp_names.specs.declared.Told.{Told as CodeAnswer}
+use Rattle.isle_lsp_names.specs.declared.Told.TheVariants as codes_of
+
+pub data Answer : Type 0 where
+  found : Data → Answer
+  unplaced : Answer
+  refused : List ℕ → Answer
+
+abbrev pub answer_of : CodeAnswer → Answer
+answer_of (codes_of.Found value) = found (view value)
+answer_of codes_of.Unplaced = unplaced
+answer_of (codes_of.Refused reason) = refused reason.now
+
+-- These are all events of the program's trees.
+pub record IsIndex (program : List Source) (all : List SeenNode) : Type 0 where
+  pub trees : List Definition
+  pub refusals : List (Option Error)
+  pub read : IsReading program trees refusals
+  pub seen : all ≡ seen (events trees)
+
+-- what is found at a place
+abbrev pub FindsAt : requests.Request → List Source → List SeenNode → Place → Data → Data → Type 0
+FindsAt AskDefinition program all p message d = IsDefinition program (name_at p.pos all) all d
+FindsAt References program all p message d = AreReferences program (wants_definitions message) (name_at p.pos all) all d
+FindsAt DocumentHighlight program all p message d = AreHighlights p.pos.file p.text (name_at p.pos all) all d
+FindsAt PrepareRename program all p message d = d ≡ renamed.prepared p.text (name_at p.pos all) (occurrence_at p.pos all)
+FindsAt _ program all p message d = Unit {0}
+
+-- what changing a name gets, by what the index answers
+abbrev pub IsRenamingBy : List Source → NameNode → List ℕ → Result (Vec Pos) Refusal → Answer → Type 0
+IsRenamingBy program name new (Ok places) a = a ≡ found (renamed.changes program name new places.items)
+IsRenamingBy program name new (Err why) a = a ≡ refused (renamed.reason_of why)
+
+abbrev pub IsRenaming : List Source → List SeenNode → NameNode → List ℕ → Answer → Type 0
+IsRenaming program all name new a = (answer : Result (Vec Pos) Refusal) × renaming.IsAnswer name new all answer × IsRenamingBy program name new answer a
+
+abbrev pub IsRenamingOf : List Source → List SeenNode → (name : Option NameNode) → (new : Option (List ℕ)) → Answer → Type 0
+IsRenamingOf program all name None a = a ≡ unplaced
+IsRenamingOf program all None (Some new) a = a ≡ refused (codes "there is no name to change")
+IsRenamingOf program all (Some name) (Some new) a = IsRenaming program all name new a
+
+abbrev pub IsRenamingAt : List Source → List SeenNode → Option Place → Data → Answer → Type 0
+IsRenamingAt program all None message a = a ≡ unplaced
+IsRenamingAt program all (Some p) message a = IsRenamingOf program all (name_at p.pos all) (new_name_of message) a
+
+-- what a request about a place gets
+abbrev pub IsAnswerAt : requests.Request → List Source → List SeenNode → Place → Data → Answer → Type 0
+IsAnswerAt request program all p message a = (d : Data) × FindsAt request program all p message d × (a ≡ found d)
+
+abbrev pub IsFoundAt : requests.Request → List Source → List SeenNode → Option Place → Data → Answer → Type 0
+IsFoundAt request program all None message a = a ≡ unplaced
+IsFoundAt request program all (Some p) message a = IsAnswerAt request program all p message a
+
+abbrev pub AreSymbols : List SeenNode → Option File → Answer → Type 0
+AreSymbols all None a = a ≡ unplaced
+AreSymbols all (Some f) a = a ≡ found (array (items_of (map (symbol_data f.text) (symbols f.number all))))
+
+-- what a request about these events gets
+abbrev pub IsAnswerOf : requests.Request → List Source → List SeenNode → Data → Answer → Type 0
+IsAnswerOf DocumentSymbol program all message a = AreSymbols all (file_in message program) a
+IsAnswerOf AskDefinition program all message a = IsFoundAt AskDefinition program all (place_in message program) message a
+IsAnswerOf References program all message a = IsFoundAt References program all (place_in message program) message a
+IsAnswerOf DocumentHighlight program all message a = IsFoundAt DocumentHighlight program all (place_in message program) message a
+IsAnswerOf PrepareRename program all message a = IsFoundAt PrepareRename program all (place_in message program) message a
+IsAnswerOf Rename program all message a = IsRenamingAt program all (place_in message program) message a
+IsAnswerOf _ program all message a = Unit {0}
+
+-- no name is changed while a text of the program spells no tree
+pub record IsHeld (program : List Source) (request : requests.Request) (a : Answer) : Type 0 where
+  pub trees : List Definition
+  pub refusals : List (Option Error)
+  pub read : IsReading program trees refusals
+  pub some : 0 < refused_count refusals
+  pub rename : request ≡ Rename
+  pub is : a ≡ refused (codes "a text of the program spells no tree")
+
+-- what a request about the names of a program gets
+abbrev pub IsAnswer : requests.Request → List Source → Data → Answer → Type 0
+IsAnswer request program message a = IsHeld program request a ⊎ ((all : List SeenNode) × IsIndex program all × IsAnswerOf request program all message a)

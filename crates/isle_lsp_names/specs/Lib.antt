@@ -1,0 +1,4 @@
+pub mod Answers
+pub mod Located
+pub mod Places
+pub mod Renamed

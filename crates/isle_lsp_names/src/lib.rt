@@ -1,0 +1,134 @@
+//! What an editor is told of the names of a program: where they are defined and used, what they
+//! are, and which edits change them.
+//!
+//! A program is a list of texts, each with the URI that the editor knows it by.
+#![tactic(auto)]
+
+ghost use Rattle.std.specs.Prelude.{◌≡◌, IfErr, IfOk, map};
+ghost use Rattle.serde_json.specs.View.{view};
+ghost use Rattle.isle_cli.specs.Sources.{source_of};
+ghost use Rattle.isle_cli.specs.declared.failure.Failure.TheVariants.{Memory};
+ghost use Rattle.isle_index.specs.Scopes.{all_seen, program_of, seen};
+ghost use Rattle.isle_index_events.specs.Events.{events};
+ghost use Rattle.isle_lsp_names.specs.Answers.{IsAnswer, IsAnswerAt, IsAnswerOf, answer_of};
+ghost use Rattle.isle_lsp_names.specs.Places as wanted;
+
+mod completion;
+mod hover;
+mod locations;
+pub mod places;
+mod renaming;
+mod symbols;
+
+use isle_ast::ast::Def;
+use isle_cli::failure::Failure;
+use isle_cli::sources::Source;
+use isle_index::Index;
+use isle_lsp_machine::Request;
+use isle_lsp_messages::parameters::{query_of, wants_definitions};
+use isle_parser::dropping::drop_definitions;
+use isle_reading::trees::{Reading, read_all, refused_count};
+use places::{Place, file_of, place_of};
+use serde_json::Value;
+use std::alloc::{AllocError, Global};
+use std::slice;
+
+/// What a request gets.
+#[derive(Drop)]
+pub enum Told {
+    /// What it asks for.
+    Found(Value),
+    /// It names no text of the program, or no place in one.
+    Unplaced,
+    /// It can't be done, and why.
+    Refused(&'static str),
+}
+
+/// Answers a request about the names of a program.
+///
+/// The texts that spell no tree are left out; while there is one, no name is changed. It fails only
+/// with `Memory`.
+pub fn answer(
+    alloc: Global,
+    program: &[Source],
+    request: Request,
+    message: &Value,
+) -> Result<Told, Failure>
+    ensures ok { IfOk result (λ answer. IsAnswer request (map source_of program.now)
+        (view message.now) (answer_of answer)) }
+    ensures err { IfErr result (λ failure. failure ≡ Memory) }
+{
+    let Reading { defs, refusals } = read_all(alloc, program)?;
+    let is_cut = refused_count(&refusals) > 0;
+    let answer = if is_cut && matches!(request, Request::Rename) {
+        Ok(Told::Refused("a text of the program spells no tree"))
+    } else {
+        answer_of(alloc, program, slice::from_ref(&defs), request, message)
+    };
+    drop_definitions(defs);
+    Ok(answer?)
+}
+
+/// Answers a request about the names of these trees.
+fn answer_of(
+    alloc: Global,
+    program: &[Source],
+    trees: &[Vec<Def>],
+    request: Request,
+    message: &Value,
+) -> Result<Told, AllocError>
+    ensures { IfOk result (λ answer. IsAnswerOf request (map source_of program.now)
+        (seen (events (program_of trees.now))) (view message.now) (answer_of answer)) }
+{
+    let index = Index::new(alloc, trees)?;
+    match request {
+        Request::WorkspaceSymbol => {
+            let query = query_of(message).unwrap_or("");
+            let found = symbols::workspace_symbols(alloc, program, &index, query)?;
+            Ok(Told::Found(found))
+        }
+        Request::DocumentSymbol => match file_of(program, message) {
+            Some(file) => {
+                let found = symbols::document_symbols(alloc, &index, file)?;
+                Ok(Told::Found(found))
+            }
+            None => Ok(Told::Unplaced),
+        },
+        Request::Rename => match place_of(program, message) {
+            Some(place) => renaming::renamed(alloc, program, &index, place, message),
+            None => Ok(Told::Unplaced),
+        },
+        _ => match place_of(program, message) {
+            Some(place) => answer_at(alloc, program, &index, request, place, message),
+            None => Ok(Told::Unplaced),
+        },
+    }
+}
+
+/// Answers a request about the name at a place.
+fn answer_at(
+    alloc: Global,
+    program: &[Source],
+    index: &Index,
+    request: Request,
+    place: Place,
+    message: &Value,
+) -> Result<Told, AllocError>
+    ensures { IfOk result (λ answer. IsAnswerAt request (map source_of program.now)
+        (all_seen index.now.seen.items) (wanted.place_of place.entry) (view message.now)
+        (answer_of answer)) }
+{
+    let found = match request {
+        Request::Definition => locations::definition(alloc, program, index, place)?,
+        Request::References => {
+            let all = wants_definitions(message);
+            locations::references(alloc, program, index, place, all)?
+        }
+        Request::DocumentHighlight => locations::highlights(alloc, index, place)?,
+        Request::Hover => hover::hover(alloc, program, index, place)?,
+        Request::Completion => completion::completion(alloc, index, place)?,
+        Request::PrepareRename => renaming::prepared(alloc, index, place)?,
+        _ => Value::Null,
+    };
+    Ok(Told::Found(found))
+}

@@ -1,0 +1,83 @@
+//! Places in the texts of a program.
+
+ghost use Rattle.std.specs.Prelude.{◌≡◌, map, option_map};
+ghost use Rattle.serde_json.specs.View.{view};
+ghost use Rattle.isle_cli.specs.Sources.{source_of};
+ghost use Rattle.isle_lsp_names.specs.Places as wanted;
+
+use isle_base::lexer::Pos;
+use isle_cli::sources::Source;
+use isle_lsp_messages::parameters::{position_of, uri_of};
+use isle_lsp_text::positions::{Range, START, offset_of, place_at};
+use serde_json::Value;
+
+/// A text of a program.
+#[derive(Clone, Copy, Debug)]
+pub struct File<'a> {
+    /// Its number.
+    pub number: usize,
+    /// The text.
+    pub text: &'a str,
+}
+
+/// A place in a program.
+#[derive(Clone, Copy, Debug)]
+pub struct Place<'a> {
+    /// The number of its text, and the byte offset.
+    pub pos: Pos,
+    /// The text.
+    pub text: &'a str,
+}
+
+/// Gives the text that a message speaks of.
+pub fn file_of<'a>(program: &'a [Source], message: &Value) -> Option<File<'a>>
+    ensures { option_map wanted.file_of result
+        ≡ wanted.file_in (view message.now) (map source_of program.now) }
+{
+    match uri_of(message) {
+        Some(uri) => file_named(program, uri),
+        None => None,
+    }
+}
+
+/// Gives the text of a name.
+fn file_named<'a>(program: &'a [Source], uri: &str) -> Option<File<'a>>
+    ensures { option_map wanted.file_of result
+        ≡ wanted.file_from 0 uri.now (map source_of program.now) }
+{
+    for (number, source) in program.iter().enumerate() {
+        if source.name.as_str() == uri {
+            let text = source.text.as_str();
+            return Some(File { number, text });
+        }
+    }
+    None
+}
+
+/// Gives the place that a message speaks of.
+pub fn place_of<'a>(program: &'a [Source], message: &Value) -> Option<Place<'a>>
+    ensures { option_map wanted.place_of result
+        ≡ wanted.place_in (view message.now) (map source_of program.now) }
+{
+    match (file_of(program, message), position_of(message)) {
+        (Some(file), Some(position)) => Some(Place {
+            pos: Pos::new(file.number, offset_of(file.text, position)),
+            text: file.text,
+        }),
+        _ => None,
+    }
+}
+
+/// Gives the range of so many bytes of a text from an offset on, as far as the text goes.
+pub fn range_at(text: &str, offset: usize, len: usize) -> Range
+    ensures { result ≡ wanted.range_at text.now offset len }
+{
+    let from = offset.min(text.len());
+    let left = text.len() - from;
+    let start = place_at(text, START, from);
+    let end = place_at(text, start, from + len.min(left));
+    Range {
+        start: start.position,
+        end: end.position,
+    }
+}

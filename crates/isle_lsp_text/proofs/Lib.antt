@@ -1,0 +1,4 @@
+pub mod EditSteps
+pub mod Places
+pub mod Units
+pub mod Walks

@@ -1,0 +1,35 @@
+-- The edits that make one text another.
+use Rattle.std.specs.Prelude.{◌≡◌, ℕ, suc, ◌+◌, ◌-◌, ◌<◌, ◌≤◌, ◌||◌, nat_lt, if◌then◌else◌, List, [], ◌∷◌, ◌++◌, length, take, drop, slice_index}
+use Rattle.isle_lsp_text.specs.declared.edits.Edit.{Edit}
+
+-- the bytes of a text between two offsets
+abbrev pub part : List ℕ → (from to : ℕ) → List ℕ
+part text from to = take (to - from) (drop from text)
+
+-- the old text from an offset on, after these edits
+abbrev pub applied : ℕ → List Edit → (old new : List ℕ) → List ℕ
+applied at [] old new = drop at old
+applied at (e ∷ es) old new = part old at e.start ++ (part new e.from e.to ++ applied e.end es old new)
+
+-- a line begins at this offset, or the text ends there
+abbrev pub IsLineStart : List ℕ → ℕ → Type 0
+IsLineStart text n = (n ≤ length text) × ((m : ℕ) → n ≡ suc m → n < length text → slice_index text m ≡ 10)
+
+-- each edit replaces whole lines by whole lines, and an unchanged byte stands between two of them
+abbrev pub AreEdits : ℕ → List Edit → (old new : List ℕ) → Type 0
+AreEdits at [] old new = Unit {0}
+AreEdits at (e ∷ es) old new =
+    (at ≤ e.start) × (e.start ≤ e.end) × (e.from ≤ e.to)
+    × IsLineStart old e.start × IsLineStart old e.end × IsLineStart new e.from × IsLineStart new e.to
+    × AreEdits (e.end + 1) es old new
+
+-- the edit, if it changes anything
+abbrev pub changed_only : Edit → List Edit
+changed_only e = if nat_lt e.start e.end || nat_lt e.from e.to then e ∷ [] else []
+
+-- what an edit among others has
+pub record IsEdit (old new : List ℕ) (e : Edit) : Type 0 where
+  pub old_order : e.start ≤ e.end
+  pub new_order : e.from ≤ e.to
+  pub from : IsLineStart new e.from
+  pub to : IsLineStart new e.to

@@ -1,0 +1,124 @@
+//! The edits that make one text another, run of lines by run of lines.
+
+ghost use Rattle.std.specs.Prelude.{◌≡◌, ◌≢◌, ◌<◌, ◌≤◌, ◌++◌, [], IfOk, OnOk, length, true, false};
+ghost use Rattle.isle_lsp_text.specs.Edits.{AreEdits, IsLineStart, applied, changed_only};
+ghost use Rattle.isle_lsp_text.specs.Edits.{part};
+
+use std::alloc::{AllocError, Global};
+
+/// An edit: a part of the old text becomes a part of the new one. Offsets count bytes.
+#[derive(Clone, Copy, Debug, PartialEq, Eq)]
+pub struct Edit {
+    /// Where the part of the old text begins.
+    pub start: usize,
+    /// Where it ends.
+    pub end: usize,
+    /// Where the part of the new text begins.
+    pub from: usize,
+    /// Where it ends.
+    pub to: usize,
+}
+
+/// Gives the edits that make one text another, in order: one for each run of lines that changes.
+///
+/// Lines are compared one after another. A blank line of the old text is left out where the new
+/// text goes on with another line. So the edits are small where lines change in themselves or blank
+/// lines go, as by tidying, and right for any two texts. It fails only where memory runs out.
+pub fn edits(alloc: Global, old: &str, new: &str) -> Result<Vec<Edit>, AllocError>
+    ensures gives { IfOk result (λ edits. applied 0 edits.items old.now new.now ≡ new.now) }
+    ensures lines { IfOk result (λ edits. AreEdits 0 edits.items old.now new.now) }
+    ensures none { old.now ≡ new.now → IfOk result (λ edits. edits.items ≡ []) }
+{
+    if old == new {
+        return Ok(Vec::new(alloc));
+    }
+    changed_runs(alloc, old, new)
+}
+
+/// Gives the edits, line by line.
+fn changed_runs(alloc: Global, old: &str, new: &str) -> Result<Vec<Edit>, AllocError>
+    ensures gives { IfOk result (λ edits. applied 0 edits.items old.now new.now ≡ new.now) }
+    ensures lines { IfOk result (λ edits. AreEdits 0 edits.items old.now new.now) }
+{
+    let (old, new) = (old.as_bytes(), new.as_bytes());
+    let mut edits = Vec::new(alloc);
+    let mut edit = Edit {
+        start: 0,
+        end: 0,
+        from: 0,
+        to: 0,
+    };
+    while edit.end < old.len() || edit.to < new.len() {
+        let end = next_line(old, edit.end);
+        let to = next_line(new, edit.to);
+        let old_line = &old[edit.end..end];
+        let new_line = &new[edit.to..to];
+        if are_equal(old_line, new_line) {
+            push_changed(&mut edits, edit)?;
+            edit = Edit {
+                start: end,
+                end,
+                from: to,
+                to,
+            };
+        } else {
+            edit.end = end;
+            if !is_left_out(old_line, new_line) {
+                edit.to = to;
+            }
+        }
+    }
+    push_changed(&mut edits, edit)?;
+    Ok(edits)
+}
+
+/// Gives the offset after the line that begins at an offset.
+fn next_line(text: &[u8], start: usize) -> usize
+    requires { start ≤ length text.now }
+    ensures order { start ≤ result }
+    ensures within { result ≤ length text.now }
+    ensures on { start < length text.now → start < result }
+    ensures line { IsLineStart text.now result }
+{
+    for (i, byte) in text.iter().enumerate().skip(start) {
+        if *byte == b'\n' {
+            return i + 1;
+        }
+    }
+    text.len()
+}
+
+/// Tells whether two lines have the same bytes.
+fn are_equal(old_line: &[u8], new_line: &[u8]) -> bool
+    ensures equal { result ≡ true → old_line.now ≡ new_line.now }
+    ensures other { result ≡ false → old_line.now ≢ new_line.now }
+{
+    old_line == new_line
+}
+
+/// Tells whether a line of the old text is blank, and the line of the new text isn't.
+fn is_left_out(old_line: &[u8], new_line: &[u8]) -> bool
+    ensures { result ≡ true → 0 < length old_line.now }
+{
+    !old_line.is_empty() && old_line.trim_ascii().is_empty() && !new_line.trim_ascii().is_empty()
+}
+
+/// Adds an edit, if it changes anything.
+fn push_changed(edits: &mut Vec<Edit>, edit: Edit) -> Result<(), AllocError>
+    ensures { OnOk result (edits.new.items ≡ edits.old.items ++ changed_only edit) }
+{
+    if edit.start < edit.end || edit.from < edit.to {
+        edits.push(edit)?;
+    }
+    Ok(())
+}
+
+/// Gives the part of the new text that an edit puts in.
+pub fn put_in<'a>(edit: Edit, new: &'a str) -> &'a str
+    requires order { edit.from ≤ edit.to }
+    requires from { IsLineStart new.now edit.from }
+    requires to { IsLineStart new.now edit.to }
+    ensures { result.now ≡ part new.now edit.from edit.to }
+{
+    &new[edit.from..edit.to]
+}
