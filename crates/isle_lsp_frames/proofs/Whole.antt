@@ -7,7 +7,7 @@ use Rattle.std.proofs.lemmas.Bool.{lt-ltb, le-ltb}
 use Rattle.std.proofs.lemmas.Grind.{common_steps}
 use Rattle.isle_lsp_frames.specs.declared.FrameFault.{FrameFault}
 use Rattle.isle_lsp_frames.specs.declared.FrameFault.TheVariants.{Malformed, Cut, TooLong, Unreadable, Memory}
-use Rattle.isle_lsp_frames.specs.Frames.{◌>>=◌, head_at, body_at, frame_at, Fails, Gives}
+use Rattle.isle_lsp_frames.specs.Frames.{◌>>=◌, head_at, body_at, frame_at, Fails, Gives, IsBroken}
 
 pub kept_some : (old new : Option (List ℕ)) (bytes : List ℕ) → Keeps old new → old ≡ Some bytes → new ≡ Some bytes
 kept_some None new bytes k e = absurd (cc)
@@ -95,6 +95,13 @@ frame_ok n bytes rest body after h q b = frame_parts bytes h ∙ rw (q, b) refl
 
 pub fails_unreadable : {Y : Type 0} (e : FrameFault) (read : Result Y FrameFault) → e ≡ Unreadable → Fails e read
 fails_unreadable e read h = subst (λ f. Fails f read) (sym h) tt
+
+pub fails_broken : {Y : Type 0} (e : FrameFault) (read : Result Y FrameFault) → IsBroken e → Fails e read
+fails_broken Malformed read h = elim h [ ]
+fails_broken Cut read h = elim h [ ]
+fails_broken TooLong read h = elim h [ ]
+fails_broken Unreadable read h = tt
+fails_broken Memory read h = tt
 
 -- no message is read only at the end
 abbrev found_of : Result (Option (List ℕ) × List ℕ) FrameFault → Option (List ℕ)

@@ -85,6 +85,14 @@ frame_at (b ∷ bytes) = head_at 16 None (b ∷ bytes) >>= λ head. (body_at hea
 
 -- ---- what a reader does
 
+-- the reader or memory failed, whatever the bytes are
+abbrev pub IsBroken : FrameFault → Type 0
+IsBroken Malformed = ⊥
+IsBroken Cut = ⊥
+IsBroken TooLong = ⊥
+IsBroken Unreadable = Unit {0}
+IsBroken Memory = Unit {0}
+
 abbrev pub Fails : {Y : Type 0} → FrameFault → Result Y FrameFault → Type 0
 Fails Malformed read = read ≡ Err Malformed
 Fails Cut read = read ≡ Err Cut

@@ -14,7 +14,8 @@ ghost use Rattle.std.specs.Io.KnownBytes.{Appends, Consumes, Keeps};
 ghost use Rattle.std.specs.Io.BufRead.{take_through, drop_through};
 ghost use Rattle.isle_cli.specs.Streams.{AppendsBeginning};
 ghost use Rattle.isle_cli.specs.declared.failure.Failure as failures;
-ghost use Rattle.isle_lsp_frames.specs.Frames.{Gives, after_blanks, field_length, frame, frame_at};
+ghost use Rattle.isle_lsp_frames.specs.Frames.{Gives, IsBroken, after_blanks, field_length};
+ghost use Rattle.isle_lsp_frames.specs.Frames.{frame, frame_at};
 ghost use Rattle.isle_lsp_frames.specs.Frames.{head, head_at, header_length, length_after};
 ghost use Rattle.isle_lsp_frames.specs.Frames.{length_value, number_of, only_one};
 ghost use Rattle.isle_lsp_frames.specs.declared.FrameFault.TheVariants.{Memory};
@@ -189,11 +190,12 @@ fn read_line<R: BufRead>(alloc: Global, input: &mut R) -> Result<Vec<u8>, FrameF
     ensures ok { (bytes : List ℕ) → R.remaining input.old ≡ Some bytes → IfOk result
         (λ line. (line.items ≡ take_through 10 bytes)
         × (R.remaining input.new ≡ Some (drop_through 10 bytes))) }
-    ensures err { IfErr result (λ fault. fault ≡ FrameFault.Unreadable) }
+    ensures err { IfErr result IsBroken }
 {
     let mut line = Vec::new(alloc);
     match input.read_until(b'\n', &mut line) {
         Ok(_) => Ok(line),
+        Err(error) if error.kind() == ErrorKind::OutOfMemory => Err(FrameFault::Memory),
         Err(_) => Err(FrameFault::Unreadable),
     }
 }

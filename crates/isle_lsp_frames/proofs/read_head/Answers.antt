@@ -1,6 +1,6 @@
 use Rattle.std.proofs.Common.{arith, sym}
 use Rattle.isle_lsp_frames.proofs.Heads.{reads_start, blank_gives, more_gives, bad_gives, none_left, fails_so}
-use Rattle.isle_lsp_frames.proofs.Whole.{exit_gives}
+use Rattle.isle_lsp_frames.proofs.Whole.{exit_gives, fails_broken}
 use Rattle.isle_lsp_frames.proofs.read_head.Goals as goal
 
 pub loop-init : goal.loop-init
@@ -8,6 +8,10 @@ loop-init g c = λ bytes e. reads_start bytes _ e
 
 pub returns : goal.returns
 returns g c = λ bytes e. none_left bytes _ _ _ (omega arith) (c.loop.invariant bytes e)
+
+pub returns-in_err-line : goal.returns-in_err-line
+returns-in_err-line g c = λ bytes e.
+    exit_gives _ _ _ c.in_err-line.field-0.0 _ c.from_residual.ensures.1 (fails_broken _ _ c.in_err-line.ensures.err)
 
 pub loop-preserved : goal.loop-preserved
 loop-preserved g c = λ bytes e.
