@@ -34,12 +34,13 @@ answer_of (codes_of.Found value) = found (view value)
 answer_of codes_of.Unplaced = unplaced
 answer_of (codes_of.Refused reason) = refused reason.now
 
--- These are all events of the program's trees.
-pub record IsIndex (program : List Source) (all : List SeenNode) : Type 0 where
+-- These are all events of the program's trees, and where a name is to be changed each of its texts spells one.
+pub record IsIndex (program : List Source) (request : requests.Request) (all : List SeenNode) : Type 0 where
   pub trees : List Definition
   pub refusals : List (Option Error)
   pub read : IsReading program trees refusals
   pub seen : all ≡ seen (events trees)
+  pub whole : request ≡ Rename → refused_count refusals ≡ 0
 
 -- what is found at a place
 abbrev pub FindsAt : requests.Request → List Source → List SeenNode → Place → Data → Data → Type 0
@@ -99,4 +100,4 @@ pub record IsHeld (program : List Source) (request : requests.Request) (a : Answ
 
 -- what a request about the names of a program gets
 abbrev pub IsAnswer : requests.Request → List Source → Data → Answer → Type 0
-IsAnswer request program message a = IsHeld program request a ⊎ ((all : List SeenNode) × IsIndex program all × IsAnswerOf request program all message a)
+IsAnswer request program message a = IsHeld program request a ⊎ ((all : List SeenNode) × IsIndex program request all × IsAnswerOf request program all message a)
