@@ -1,3 +1,6 @@
+pub mod Readings
 pub mod Results
+pub mod Sent
 pub mod Talks
+pub mod Tokens
 pub mod Values

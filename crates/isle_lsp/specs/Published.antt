@@ -1,10 +1,11 @@
 -- The diagnostics of a document.
-use Rattle.std.specs.Prelude.{◌≡◌, ℕ, List, map, Option, None, Some}
-use Rattle.serde_json.specs.Data.{Data, array, no_items}
+use Rattle.std.specs.Prelude.{◌≡◌, ℕ, List, codes, map, Option, None, Some}
+use Rattle.serde_json.specs.Data.{Data, array, member, no_items, no_members, object, string}
 use Rattle.serde_json.specs.View.{items_of}
 use Rattle.isle_findings.specs.Lint.{name}
 use Rattle.isle_findings.specs.declared.lint.Lint.{Lint}
 use Rattle.isle_lsp_diagnostics.specs.Diagnostics.{AreMarks, Mark}
+use Rattle.isle_lsp_messages.specs.Replies.{IsTextOf, publishing}
 use Rattle.isle_lsp_messages.specs.Results.{error_data, warning_data}
 use Rattle.isle_lsp_text.specs.declared.positions.Range.{Range}
 use Rattle.isle_lsp.specs.Formatted.{range_of}
@@ -17,7 +18,18 @@ told_at range (Some lint) message = warning_data range (name lint) message
 abbrev pub mark_data : List ℕ → Mark → Data
 mark_data text m = told_at (range_of text m.start m.end) m.lint m.message
 
+abbrev pub diagnostics_data : List ℕ → List Mark → Data
+diagnostics_data text marks = array (items_of (map (mark_data text) marks))
+
 -- what is told of a text; of no text, nothing
 abbrev pub AreDiagnostics : Option (List ℕ) → Data → Type 0
 AreDiagnostics None d = d ≡ array no_items
-AreDiagnostics (Some text) d = (marks : List Mark) × AreMarks text marks × (d ≡ array (items_of (map (mark_data text) marks)))
+AreDiagnostics (Some text) d = (marks : List Mark) × AreMarks text marks × (d ≡ diagnostics_data text marks)
+
+-- the parameters of the notification that tells diagnostics of a document
+abbrev pub parameters_data : List ℕ → Data → Data
+parameters_data uri diagnostics = object (member (codes "diagnostics") diagnostics (member (codes "uri") (string uri) no_members))
+
+-- what is sent of a document that has this text, or that has none
+abbrev pub IsPublished : List ℕ → Option (List ℕ) → List ℕ → Type 0
+IsPublished uri text sent = (d : Data) × AreDiagnostics text d × IsTextOf (publishing uri d) sent

@@ -21,7 +21,7 @@ use Rattle.isle_base_source.specs.Source.{Source}
 use Rattle.isle_cli.specs.Sources.{source_of}
 use Rattle.isle_lsp_names.specs.Answers as names
 use Rattle.isle_lsp.specs.Formatted.{IsFormatting}
-use Rattle.isle_lsp.specs.Published.{AreDiagnostics}
+use Rattle.isle_lsp.specs.Published.{IsPublished}
 use Rattle.isle_lsp.specs.declared.server.Outcome as code
 use Rattle.isle_lsp.specs.declared.server.Outcome.TheVariants as codes
 use Rattle.isle_lsp.specs.declared.server.Server.{Server}
@@ -126,7 +126,7 @@ documents_after (Refuse c) d docs = docs
 
 -- the diagnostics of a document, or none where it isn't open, are published
 abbrev pub Publishes : List ℕ → List Document → Option (List ℕ) → Type 0
-Publishes uri docs sent = (text : List ℕ) × (sent ≡ Some text) × (d : Data) × AreDiagnostics (text_of uri docs) d × IsTextOf (replies.publishing uri d) text
+Publishes uri docs sent = (text : List ℕ) × (sent ≡ Some text) × IsPublished uri (text_of uri docs) text
 
 abbrev pub Tells : notices.Notice → List ℕ → List Document → Option (List ℕ) → Type 0
 Tells DidOpen uri docs sent = Publishes uri docs sent

@@ -18,14 +18,14 @@ ghost use Rattle.isle_lsp.specs.Serving.{documents_after, documents_after_note, 
 ghost use Rattle.isle_lsp.specs.Serving.{document_in, held_of, outcome_of, reply};
 
 use crate::formatting::formatting;
-use crate::published::diagnostics_value;
+use crate::published::published_text;
 use crate::workspace::workspace_files;
 use isle_cli::failure::Failure;
 use isle_cli::sources::Source;
 use isle_lsp_documents::{Document, close, open, text_of};
 use isle_lsp_machine::{Code, Notice, Request, State, Turn};
 use isle_lsp_messages::parameters::{root_of, text_after, uri_of};
-use isle_lsp_messages::replies::{publishing, reason_of, reply_id};
+use isle_lsp_messages::replies::{reason_of, reply_id};
 use isle_lsp_messages::results::capabilities;
 use isle_lsp_messages::{parameters, replies};
 use isle_lsp_names::Told;
@@ -184,8 +184,7 @@ fn published(alloc: Global, documents: &[Document], uri: &str) -> Result<Option<
         (option_map string_bytes sent)) }
     ensures err { IfErr result (λ failure. failure ≡ Memory) }
 {
-    let diagnostics = diagnostics_value(alloc, text_of(documents, uri))?;
-    let text = publishing(alloc, uri, diagnostics)?;
+    let text = published_text(alloc, uri, text_of(documents, uri))?;
     Ok(Some(text))
 }
 
