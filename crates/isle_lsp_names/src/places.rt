@@ -81,3 +81,15 @@ pub fn range_at(text: &str, offset: usize, len: usize) -> Range
         end: end.position,
     }
 }
+
+/// Gives the range from one offset of a text to another, as far as the text goes.
+pub fn range_between(text: &str, from: usize, to: usize) -> Range
+    ensures { result ≡ wanted.range_between text.now from to }
+{
+    let start = place_at(text, START, from);
+    let end = place_at(text, start, to);
+    Range {
+        start: start.position,
+        end: end.position,
+    }
+}
