@@ -50,7 +50,7 @@ has_letters letters [] = starts_with nat_eq [] letters
 has_letters letters (b ∷ bs) = starts_with nat_eq (b ∷ bs) letters || has_letters letters bs
 
 -- a definition of a file, if its name has these letters
-abbrev pub symbol_in : List ℕ → Source → SymbolNode → List Data
+unfoldable pub symbol_in : List ℕ → Source → SymbolNode → List Data
 symbol_in letters s x =
     if has_letters letters x.text then results.workspace_symbol x.text (number_of x.kind) s.name (range_at s.text x.pos.offset x.len) ∷ [] else []
 

@@ -1,6 +1,6 @@
 //! What files define.
 
-ghost use Rattle.std.specs.Prelude.{◌≡◌, ◌++◌, IfOk, OnOk, map, option_map, option_to_list};
+ghost use Rattle.std.specs.Prelude.{◌≡◌, ◌++◌, IfOk, OnOk, map, option_map, option_to_list, string_bytes};
 ghost use Rattle.std.specs.List.{flat_map};
 ghost use Rattle.serde_json.specs.Data.{array};
 ghost use Rattle.serde_json.specs.View.{items_of, view};
@@ -9,13 +9,15 @@ ghost use Rattle.isle_index.specs.Scopes.{all_seen};
 ghost use Rattle.isle_index.specs.Symbols.{symbol_of, symbols};
 ghost use Rattle.isle_lsp_names.specs.Defined as wanted;
 ghost use Rattle.isle_lsp_names.specs.Defined.{AreDocumentSymbols};
+ghost use Rattle.isle_lsp_text.specs.Positions.{IsPlace};
 
-use crate::places::{File, range_at, range_between};
+use crate::places::{File, range_between, range_near};
 use crate::wholes::whole_of;
 use isle_cli::sources::Source;
 use isle_index::{Index, Symbol, SymbolKind};
 use isle_lsp_messages::results::{document_symbol, workspace_symbol};
 use isle_lsp_text::lists::{ListSpan, lists};
+use isle_lsp_text::positions::{Place as TextPlace, START};
 use serde_json::Value;
 use std::alloc::{AllocError, Global};
 
@@ -40,8 +42,9 @@ fn symbol_values(
         ≡ array (items_of (map (wanted.symbol_data text.now lists.now) (map symbol_of symbols.now)))) }
 {
     let mut values = Vec::new(alloc);
+    let mut near = START;
     for symbol in symbols {
-        let value = symbol_value(alloc, text, lists, symbol)?;
+        let value = symbol_value(alloc, text, lists, &mut near, symbol)?;
         values.push(value)?;
     }
     Ok(Value::Array(values))
@@ -53,15 +56,18 @@ fn symbol_value(
     alloc: Global,
     text: &str,
     lists: &[ListSpan],
+    near: &mut TextPlace,
     symbol: &Symbol,
 ) -> Result<Value, AllocError>
-    ensures { IfOk result
+    requires { IsPlace text.now near.old }
+    ensures value { IfOk result
         (λ value. view value ≡ wanted.symbol_data text.now lists.now (symbol_of symbol.now)) }
+    ensures near { IsPlace text.now near.new }
 {
     let is_variant = is_variant(symbol.kind);
     let whole = whole_of(text, lists, is_variant, symbol.pos.offset, symbol.len);
-    let range = range_between(text, whole.from, whole.to);
-    let selection = range_at(text, symbol.pos.offset, symbol.len);
+    let range = range_between(text, near, whole.from, whole.to);
+    let selection = range_near(text, near, symbol.pos.offset, symbol.len);
     let kind = number_of(symbol.kind);
     document_symbol(alloc, symbol.text.as_str(), kind, range, selection)
 }
@@ -105,8 +111,9 @@ fn add_matching(
     ensures { OnOk result (map view values.new.items ≡ map view values.old.items
         ++ flat_map (wanted.symbol_in query.now (source_of source.now)) (map symbol_of symbols.now)) }
 {
+    let mut near = START;
     for symbol in symbols {
-        if let Some(value) = matching(alloc, source, symbol, query)? {
+        if let Some(value) = matching(alloc, source, &mut near, symbol, query)? {
             values.push(value)?;
         }
     }
@@ -114,19 +121,23 @@ fn add_matching(
 }
 
 /// Gives a symbol of a file, if its name has these letters.
+#[tactic(auto, unfolding(crate::specs::Defined::symbol_in))]
 fn matching(
     alloc: Global,
     source: &Source,
+    near: &mut TextPlace,
     symbol: &Symbol,
     query: &str,
 ) -> Result<Option<Value>, AllocError>
-    ensures { IfOk result (λ value. option_to_list (option_map view value)
+    requires { IsPlace (string_bytes source.now.text) near.old }
+    ensures value { IfOk result (λ value. option_to_list (option_map view value)
         ≡ wanted.symbol_in query.now (source_of source.now) (symbol_of symbol.now)) }
+    ensures near { IsPlace (string_bytes source.now.text) near.new }
 {
     if !has_letters(symbol.text.as_str(), query) {
         return Ok(None);
     }
-    let range = range_at(source.text.as_str(), symbol.pos.offset, symbol.len);
+    let range = range_near(source.text.as_str(), near, symbol.pos.offset, symbol.len);
     let kind = number_of(symbol.kind);
     let name = symbol.text.as_str();
     let value = workspace_symbol(alloc, name, kind, source.name.as_str(), range)?;
