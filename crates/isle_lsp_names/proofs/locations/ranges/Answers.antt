@@ -1,5 +1,4 @@
-use Rattle.std.proofs.Common.{ap, arith}
-use Rattle.std.proofs.lemmas.Grind.{common_steps}
+use Rattle.std.proofs.Common.{ap}
 use Rattle.isle_lsp_text.proofs.Places.{start_place}
 use Rattle.isle_lsp_names.proofs.locations.ranges.Goals as goal
 use Rattle.serde_json.specs.View.{view}
