@@ -30,11 +30,11 @@ location uri range = object (member (codes "range") (range_data range) (member (
 abbrev pub ranged : Range → Data
 ranged range = object (member (codes "range") (range_data range) no_members)
 
--- a definition in a document, which is shown at its name
-abbrev pub document_symbol : (name : List ℕ) → (kind : ℕ) → Range → Data
-document_symbol name kind range =
+-- a definition in a document: its whole range, and that of its name
+abbrev pub document_symbol : (name : List ℕ) → (kind : ℕ) → (range selection : Range) → Data
+document_symbol name kind range selection =
     object (member (codes "kind") (number (unsigned kind)) (member (codes "name") (string name)
-    (member (codes "range") (range_data range) (member (codes "selectionRange") (range_data range) no_members))))
+    (member (codes "range") (range_data range) (member (codes "selectionRange") (range_data selection) no_members))))
 
 abbrev pub workspace_symbol : (name : List ℕ) → (kind : ℕ) → (uri : List ℕ) → Range → Data
 workspace_symbol name kind uri range =

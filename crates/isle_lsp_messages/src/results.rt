@@ -99,17 +99,20 @@ pub fn ranged(alloc: Global, range: Range) -> Result<Value, AllocError>
     json!(in alloc; {"range": range})
 }
 
-/// Makes what tells of a definition in a document, at its name. The kind is the protocol's number.
+/// Makes what tells of a definition in a document: its whole range, and that of its name. The kind
+/// is the protocol's number.
 pub fn document_symbol(
     alloc: Global,
     name: &str,
     kind: u64,
     range: Range,
+    selection: Range,
 ) -> Result<Value, AllocError>
-    ensures { IfOk result (λ value. view value ≡ wanted.document_symbol name.now kind range) }
+    ensures { IfOk result
+        (λ value. view value ≡ wanted.document_symbol name.now kind range selection) }
 {
     let whole = range_value(alloc, range)?;
-    let selected = range_value(alloc, range)?;
+    let selected = range_value(alloc, selection)?;
     json!(in alloc; {"name": name, "kind": kind, "range": whole, "selectionRange": selected})
 }
 

@@ -1,8 +1,8 @@
 -- What a request about the names of a program gets.
-use Rattle.std.specs.Prelude.{◌≡◌, ◌<◌, ◌⊎◌, ℕ, List, Option, None, Some, Result, Ok, Err, map, codes}
+use Rattle.std.specs.Prelude.{◌≡◌, ◌<◌, ◌⊎◌, ℕ, List, Option, None, Some, Result, Ok, Err, codes}
 use Rattle.std.specs.Global.{Vec}
-use Rattle.serde_json.specs.Data.{Data, null, array}
-use Rattle.serde_json.specs.View.{items_of, view}
+use Rattle.serde_json.specs.Data.{Data}
+use Rattle.serde_json.specs.View.{view}
 use Rattle.isle_ast.specs.Tree.{Definition}
 use Rattle.isle_base_source.specs.Source.{Source}
 use Rattle.isle_base_source.specs.declared.error.Error.{Error}
@@ -16,9 +16,12 @@ use Rattle.isle_index.specs.Symbols.{symbols}
 use Rattle.isle_index_events.specs.Events.{events}
 use Rattle.isle_lsp_machine.specs.declared.Request as requests
 use Rattle.isle_lsp_machine.specs.declared.Request.TheVariants.{Definition as AskDefinition, References, DocumentHighlight, DocumentSymbol, WorkspaceSymbol, Hover, Completion, PrepareRename, Rename}
-use Rattle.isle_lsp_messages.specs.Parameters.{new_name_of, wants_definitions}
+use Rattle.isle_lsp_messages.specs.Parameters.{new_name_of, query_of, wants_definitions}
 use Rattle.isle_reading.specs.Reading.{IsReading, refused_count}
-use Rattle.isle_lsp_names.specs.Located.{AreHighlights, AreReferences, IsDefinition, symbol_data}
+use Rattle.isle_lsp_names.specs.Located.{AreHighlights, AreReferences, IsDefinition}
+use Rattle.isle_lsp_names.specs.Completed.{AreCompletions}
+use Rattle.isle_lsp_names.specs.Defined.{AreDocumentSymbols, letters_of, workspace_symbols}
+use Rattle.isle_lsp_names.specs.Shown.{IsHover}
 use Rattle.isle_lsp_names.specs.Renamed as renamed
 use Rattle.isle_lsp_names.specs.Places.{File, Place, file_in, place_in}
 use Rattle.isle_lsp_names.specs.declared.Told.{Told as CodeAnswer}
@@ -48,6 +51,8 @@ FindsAt AskDefinition program all p message d = IsDefinition program (name_at p.
 FindsAt References program all p message d = AreReferences program (wants_definitions message) (name_at p.pos all) all d
 FindsAt DocumentHighlight program all p message d = AreHighlights p.pos.file p.text (name_at p.pos all) all d
 FindsAt PrepareRename program all p message d = d ≡ renamed.prepared p.text (name_at p.pos all) (occurrence_at p.pos all)
+FindsAt Hover program all p message d = IsHover program p.text (name_at p.pos all) (occurrence_at p.pos all) all d
+FindsAt Completion program all p message d = AreCompletions p.pos p.text all d
 FindsAt _ program all p message d = Unit {0}
 
 -- what changing a name gets, by what the index answers
@@ -77,7 +82,7 @@ IsFoundAt request program all (Some p) message a = IsAnswerAt request program al
 
 abbrev pub AreSymbols : List SeenNode → Option File → Answer → Type 0
 AreSymbols all None a = a ≡ unplaced
-AreSymbols all (Some f) a = a ≡ found (array (items_of (map (symbol_data f.text) (symbols f.number all))))
+AreSymbols all (Some f) a = (d : Data) × AreDocumentSymbols f.text (symbols f.number all) d × (a ≡ found d)
 
 -- what a request about these events gets
 abbrev pub IsAnswerOf : requests.Request → List Source → List SeenNode → Data → Answer → Type 0
@@ -87,6 +92,9 @@ IsAnswerOf References program all message a = IsFoundAt References program all (
 IsAnswerOf DocumentHighlight program all message a = IsFoundAt DocumentHighlight program all (place_in message program) message a
 IsAnswerOf PrepareRename program all message a = IsFoundAt PrepareRename program all (place_in message program) message a
 IsAnswerOf Rename program all message a = IsRenamingAt program all (place_in message program) message a
+IsAnswerOf Hover program all message a = IsFoundAt Hover program all (place_in message program) message a
+IsAnswerOf Completion program all message a = IsFoundAt Completion program all (place_in message program) message a
+IsAnswerOf WorkspaceSymbol program all message a = a ≡ found (workspace_symbols (letters_of (query_of message)) program all)
 IsAnswerOf _ program all message a = Unit {0}
 
 -- no name is changed while a text of the program spells no tree

@@ -1,5 +1,5 @@
 -- Where names stand, as JSON.
-use Rattle.std.specs.Prelude.{◌≡◌, ℕ, List, [], ◌∷◌, Bool, ◌||◌, ◌==◌, true, not, Option, None, Some, map, slice_get, if◌then◌else◌}
+use Rattle.std.specs.Prelude.{◌≡◌, ℕ, List, [], ◌∷◌, Bool, ◌||◌, ◌==◌, true, not, Option, None, Some, slice_get, if◌then◌else◌}
 use Rattle.std.specs.List.{flat_map}
 use Rattle.std.specs.List.Sorted.{IsPermutation, IsSortedByKey}
 use Rattle.serde_json.specs.Data.{Data, null, array}
@@ -9,10 +9,7 @@ use Rattle.isle_base_source.specs.Source.{Source}
 use Rattle.isle_index.specs.Names.{NameNode}
 use Rattle.isle_index.specs.Occurrences.{definitions, occurrences}
 use Rattle.isle_index.specs.Scopes.{SeenNode}
-use Rattle.isle_index.specs.Symbols.{SymbolNode}
 use Rattle.isle_index.specs.declared.occurrences.Occurrence.{Occurrence}
-use Rattle.isle_index.specs.declared.symbols.SymbolKind.{SymbolKind}
-use Rattle.isle_index.specs.declared.symbols.SymbolKind.TheVariants as kinds
 use Rattle.isle_lsp_messages.specs.Results as results
 use Rattle.isle_lsp_names.specs.Places.{range_at}
 
@@ -54,15 +51,3 @@ abbrev pub AreHighlights : ℕ → List ℕ → Option NameNode → List SeenNod
 AreHighlights file text None all d = d ≡ null
 AreHighlights file text (Some name) all d =
     (found : List Occurrence) × InOrder (occurrences name all) found × (d ≡ highlights file text found)
-
--- the protocol's number of a kind
-abbrev pub number_of : SymbolKind → ℕ
-number_of kinds.Term = 12
-number_of kinds.Type = 23
-number_of kinds.Variant = 22
-number_of kinds.Constant = 14
-number_of kinds.Variable = 13
-
--- a definition, at its name
-abbrev pub symbol_data : List ℕ → SymbolNode → Data
-symbol_data text s = results.document_symbol s.text (number_of s.kind) (range_at text s.pos.offset s.len)

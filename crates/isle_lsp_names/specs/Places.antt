@@ -52,3 +52,7 @@ abbrev pub range_at : List ℕ → (offset len : ℕ) → Range
 range_at text offset len =
     let start : ℕ = min offset (length text) in
     record { start = position_at start text; end = position_at (start + min len (length text - start)) text }
+
+-- the range from one offset to another, as far as the text goes
+abbrev pub range_between : List ℕ → (from to : ℕ) → Range
+range_between text from to = record { start = position_at from text; end = position_at to text }

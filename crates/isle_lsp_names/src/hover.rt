@@ -1,9 +1,20 @@
 //! What a name is, as it is written.
 
+ghost use Rattle.std.specs.Prelude.{◌≡◌, IfOk, Some, map, option_map, slice_get, string_bytes};
+ghost use Rattle.serde_json.specs.View.{view};
+ghost use Rattle.isle_cli.specs.Sources.{source_of};
+ghost use Rattle.isle_index.specs.Names.{named_of};
+ghost use Rattle.isle_index.specs.Occurrences.{name_at, occurrence_at};
+ghost use Rattle.isle_index.specs.Scopes.{all_seen};
+ghost use Rattle.isle_lsp_names.specs.Shown.{IsCut, IsHover, IsHoverIn, IsHoverOf, IsShown};
+
 use crate::places::{Place, range_at};
+use crate::wholes::whole_of;
 use isle_cli::sources::Source;
-use isle_index::{Index, Occurrence};
+use isle_index::{Index, Name, Occurrence};
 use isle_lsp_messages::results::hover_value;
+use isle_lsp_text::comments::comments_start;
+use isle_lsp_text::lists::lists;
 use serde_json::Value;
 use std::alloc::{AllocError, Global};
 
@@ -14,102 +25,108 @@ pub fn hover(
     program: &[Source],
     index: &Index,
     place: Place,
-) -> Result<Value, AllocError> {
-    let Some(name) = index.name_at(alloc, place.pos)? else {
-        return Ok(Value::Null);
-    };
-    let Some(occurrence) = index.occurrence_at(place.pos) else {
-        return Ok(Value::Null);
-    };
-    let found = index.definitions(alloc, &name)?;
-    let Some(first) = found.first() else {
-        return Ok(Value::Null);
-    };
-    match program.get(first.pos.file) {
-        Some(source) => {
-            let range = range_at(place.text, occurrence.pos.offset, occurrence.len);
-            let shown = shown_definition(alloc, source.text.as_str(), *first)?;
-            hover_value(alloc, shown.as_str(), range)
+) -> Result<Value, AllocError>
+    ensures { let all = all_seen index.now.seen.items in IfOk result (λ value.
+        IsHover (map source_of program.now) place.entry.text.now (name_at place.entry.pos all)
+        (occurrence_at place.entry.pos all) all (view value)) }
+{
+    match (
+        index.name_at(alloc, place.pos)?,
+        index.occurrence_at(place.pos),
+    ) {
+        (Some(name), Some(occurrence)) => {
+            hover_name(alloc, program, index, place.text, &name, occurrence)
         }
+        _ => Ok(Value::Null),
+    }
+}
+
+/// Gives the definition of a name, for where it occurs.
+fn hover_name(
+    alloc: Global,
+    program: &[Source],
+    index: &Index,
+    text: &str,
+    name: &Name,
+    occurrence: Occurrence,
+) -> Result<Value, AllocError>
+    ensures { IfOk result (λ value. IsHover (map source_of program.now) text.now
+        (Some (named_of name.now)) (Some occurrence) (all_seen index.now.seen.items) (view value)) }
+{
+    let found = index.definitions(alloc, name)?;
+    match found.first() {
+        Some(definition) => hover_of(alloc, program, text, name, *definition, occurrence),
         None => Ok(Value::Null),
     }
+}
+
+/// Gives a definition of a name, for where it occurs.
+fn hover_of(
+    alloc: Global,
+    program: &[Source],
+    text: &str,
+    name: &Name,
+    definition: Occurrence,
+    occurrence: Occurrence,
+) -> Result<Value, AllocError>
+    ensures { IfOk result (λ value. IsHoverOf (map source_of program.now) text.now
+        (named_of name.now) (Some definition) occurrence (view value)) }
+{
+    match source_at(program, definition.pos.file) {
+        Some(source) => hover_in(alloc, source, text, name, definition, occurrence),
+        None => Ok(Value::Null),
+    }
+}
+
+/// Gives the text of a number, with its name.
+fn source_at<'a>(program: &'a [Source], file: usize) -> Option<&'a Source>
+    ensures { option_map (λ s. source_of s.now) result
+        ≡ slice_get (map source_of program.now) file }
+{
+    program.get(file)
+}
+
+/// Gives a definition that stands in a text, for where its name occurs.
+fn hover_in(
+    alloc: Global,
+    source: &Source,
+    text: &str,
+    name: &Name,
+    definition: Occurrence,
+    occurrence: Occurrence,
+) -> Result<Value, AllocError>
+    ensures { IfOk result (λ value. IsHoverIn (Some (source_of source.now)) text.now
+        (named_of name.now) definition occurrence (view value)) }
+{
+    let range = range_at(text, occurrence.pos.offset, occurrence.len);
+    let shown = shown_definition(alloc, source.text.as_str(), name, definition)?;
+    hover_value(alloc, shown.as_str(), range)
 }
 
 /// Makes what is shown of a definition: its text, in a block, after the comments above it.
 fn shown_definition(
     alloc: Global,
     text: &str,
+    name: &Name,
     definition: Occurrence,
-) -> Result<String, AllocError> {
-    let bytes = text.as_bytes();
-    let at = definition.pos.offset.min(bytes.len());
-    let start = list_start(bytes, at);
-    let end = if start < at {
-        list_end(bytes, start)
-    } else {
-        at.saturating_add(definition.len).min(bytes.len())
-    };
-    let comments = comments_start(bytes, start);
-    let part = text.get(comments..end).unwrap_or("");
+) -> Result<String, AllocError>
+    ensures { IfOk result
+        (λ shown. IsShown text.now (named_of name.now) definition (string_bytes shown)) }
+{
+    let lists = lists(alloc, text)?;
+    let is_variant = definition.len < name.text().len();
+    let offset = definition.pos.offset;
+    let whole = whole_of(text, &lists, is_variant, offset, definition.len);
+    let part = cut(text, comments_start(text, whole.from), whole.to);
     format!(in alloc; "```isle\n{part}\n```")
 }
 
-/// Gives the offset of the parenthesis that opens the list around an offset, or the offset itself
-/// where there is none.
-fn list_start(bytes: &[u8], at: usize) -> usize {
-    let mut closed = 0usize;
-    for (i, byte) in bytes.iter().enumerate().take(at).rev() {
-        if *byte == b')' {
-            closed = closed.saturating_add(1);
-        } else if *byte == b'(' {
-            if closed == 0 {
-                return i;
-            }
-            closed -= 1;
-        }
+/// Gives the text from an offset to another, where that cuts no character.
+fn cut(text: &str, from: usize, to: usize) -> &str
+    ensures { IsCut text.now from to result.now }
+{
+    match text.get(from..to) {
+        Some(part) => part,
+        None => "",
     }
-    at
-}
-
-/// Gives the offset after the list that begins at an offset.
-fn list_end(bytes: &[u8], start: usize) -> usize {
-    let mut open = 0usize;
-    for (i, byte) in bytes.iter().enumerate().skip(start) {
-        if *byte == b'(' {
-            open = open.saturating_add(1);
-        } else if *byte == b')' {
-            if open <= 1 {
-                return i + 1;
-            }
-            open -= 1;
-        }
-    }
-    bytes.len()
-}
-
-/// Gives where the line comments directly above the line of an offset begin, or the offset.
-fn comments_start(bytes: &[u8], at: usize) -> usize {
-    let mut first = at;
-    for _ in 0..bytes.len() {
-        let line = line_start(bytes, first);
-        if line == 0 {
-            return first;
-        }
-        let above = line_start(bytes, line - 1);
-        if bytes.get(above) != Some(&b';') {
-            return first;
-        }
-        first = above;
-    }
-    first
-}
-
-/// Gives where the line of an offset begins.
-fn line_start(bytes: &[u8], at: usize) -> usize {
-    for (i, byte) in bytes.iter().enumerate().take(at).rev() {
-        if *byte == b'\n' {
-            return i + 1;
-        }
-    }
-    0
 }

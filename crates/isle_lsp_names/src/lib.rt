@@ -19,6 +19,7 @@ mod locations;
 pub mod places;
 mod renaming;
 mod symbols;
+mod wholes;
 
 use isle_ast::ast::Def;
 use isle_cli::failure::Failure;

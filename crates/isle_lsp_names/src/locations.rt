@@ -7,12 +7,14 @@ ghost use Rattle.isle_cli.specs.Sources.{source_of};
 ghost use Rattle.isle_index.specs.Occurrences.{name_at};
 ghost use Rattle.isle_index.specs.Scopes.{all_seen};
 ghost use Rattle.isle_lsp_names.specs.Located as wanted;
+ghost use Rattle.isle_lsp_text.specs.Positions.{IsPlace};
 ghost use Rattle.isle_lsp_names.specs.Located.{AreHighlights, AreReferences, IsDefinition};
 
-use crate::places::{Place, range_at};
+use crate::places::{Place, range_at, range_near};
 use isle_cli::sources::Source;
 use isle_index::{Index, Occurrence};
 use isle_lsp_messages::results::{location, ranged};
+use isle_lsp_text::positions::{Place as TextPlace, START};
 use serde_json::Value;
 use std::alloc::{AllocError, Global};
 
@@ -123,8 +125,9 @@ fn ranges(alloc: Global, file: usize, text: &str, found: &[Occurrence]) -> Resul
     ensures { IfOk result (λ value. view value ≡ wanted.highlights file text.now found.now) }
 {
     let mut values = Vec::new(alloc);
+    let mut near = START;
     for occurrence in found {
-        if let Some(value) = range_in(alloc, file, text, *occurrence)? {
+        if let Some(value) = range_in(alloc, file, text, &mut near, *occurrence)? {
             values.push(value)?;
         }
     }
@@ -136,15 +139,18 @@ fn range_in(
     alloc: Global,
     file: usize,
     text: &str,
+    near: &mut TextPlace,
     occurrence: Occurrence,
 ) -> Result<Option<Value>, AllocError>
-    ensures { IfOk result (λ value. option_to_list (option_map view value)
+    requires { IsPlace text.now near.old }
+    ensures range { IfOk result (λ value. option_to_list (option_map view value)
         ≡ wanted.highlight_of file text.now occurrence) }
+    ensures near { IsPlace text.now near.new }
 {
     if occurrence.pos.file != file {
         return Ok(None);
     }
-    let range = range_at(text, occurrence.pos.offset, occurrence.len);
+    let range = range_near(text, near, occurrence.pos.offset, occurrence.len);
     let value = ranged(alloc, range)?;
     Ok(Some(value))
 }

@@ -4,11 +4,12 @@ ghost use Rattle.std.specs.Prelude.{◌≡◌, map, option_map};
 ghost use Rattle.serde_json.specs.View.{view};
 ghost use Rattle.isle_cli.specs.Sources.{source_of};
 ghost use Rattle.isle_lsp_names.specs.Places as wanted;
+ghost use Rattle.isle_lsp_text.specs.Positions.{IsPlace};
 
 use isle_base::lexer::Pos;
 use isle_cli::sources::Source;
 use isle_lsp_messages::parameters::{position_of, uri_of};
-use isle_lsp_text::positions::{Range, START, offset_of, place_at};
+use isle_lsp_text::positions::{Place as TextPlace, Range, START, offset_of, place_at};
 use serde_json::Value;
 
 /// A text of a program.
@@ -72,10 +73,37 @@ pub fn place_of<'a>(program: &'a [Source], message: &Value) -> Option<Place<'a>>
 pub fn range_at(text: &str, offset: usize, len: usize) -> Range
     ensures { result ≡ wanted.range_at text.now offset len }
 {
+    let mut near = START;
+    range_near(text, &mut near, offset, len)
+}
+
+/// Gives that range by a walk from a place nearby, which becomes the place where the range begins.
+pub fn range_near(text: &str, near: &mut TextPlace, offset: usize, len: usize) -> Range
+    requires { IsPlace text.now near.old }
+    ensures range { result ≡ wanted.range_at text.now offset len }
+    ensures near { IsPlace text.now near.new }
+{
     let from = offset.min(text.len());
     let left = text.len() - from;
-    let start = place_at(text, START, from);
+    let start = place_at(text, *near, from);
     let end = place_at(text, start, from + len.min(left));
+    *near = start;
+    Range {
+        start: start.position,
+        end: end.position,
+    }
+}
+
+/// Gives the range from one offset of a text to another, as far as the text goes, by a walk from a
+/// place nearby, which becomes the place where the range begins.
+pub fn range_between(text: &str, near: &mut TextPlace, from: usize, to: usize) -> Range
+    requires { IsPlace text.now near.old }
+    ensures range { result ≡ wanted.range_between text.now from to }
+    ensures near { IsPlace text.now near.new }
+{
+    let start = place_at(text, *near, from);
+    let end = place_at(text, start, to);
+    *near = start;
     Range {
         start: start.position,
         end: end.position,

@@ -10,14 +10,16 @@ ghost use Rattle.isle_index.specs.Scopes.{all_seen};
 ghost use Rattle.isle_lsp_names.specs.Answers.{IsRenaming, IsRenamingOf, answer_of};
 ghost use Rattle.isle_lsp_names.specs.Renamed as wanted;
 ghost use Rattle.isle_lsp_messages.specs.Parameters as parameters;
+ghost use Rattle.isle_lsp_text.specs.Positions.{IsPlace};
 
 use crate::Told;
-use crate::places::{Place, range_at};
+use crate::places::{Place, range_at, range_near};
 use isle_base::lexer::Pos;
 use isle_cli::sources::Source;
 use isle_index::{Index, Kind, Name, Occurrence, Refusal};
 use isle_lsp_messages::parameters::new_name_of;
 use isle_lsp_messages::results::{document_edits, range_value, text_edit, workspace_edit};
+use isle_lsp_text::positions::{Place as TextPlace, START};
 use serde_json::Value;
 use std::alloc::{AllocError, Global};
 
@@ -174,8 +176,9 @@ fn edits_in(
         ≡ flat_map (wanted.edit_in number text.now (named_of name.now) new.now) places.now) }
 {
     let mut edits = Vec::new(alloc);
+    let mut near = START;
     for pos in places {
-        if let Some(edit) = edit_in(alloc, number, text, name, new, *pos)? {
+        if let Some(edit) = edit_in(alloc, number, text, &mut near, name, new, *pos)? {
             edits.push(edit)?;
         }
     }
@@ -187,18 +190,21 @@ fn edit_in(
     alloc: Global,
     number: usize,
     text: &str,
+    near: &mut TextPlace,
     name: &Name,
     new: &str,
     pos: Pos,
 ) -> Result<Option<Value>, AllocError>
-    ensures { IfOk result (λ edit. option_to_list (option_map view edit)
+    requires { IsPlace text.now near.old }
+    ensures edit { IfOk result (λ edit. option_to_list (option_map view edit)
         ≡ wanted.edit_in number text.now (named_of name.now) new.now pos) }
+    ensures near { IsPlace text.now near.new }
 {
     if pos.file != number {
         return Ok(None);
     }
     let offset = pos.offset.min(text.len()) + skipped(name);
-    let range = range_at(text, offset, name.text().len());
+    let range = range_near(text, near, offset, name.text().len());
     let edit = text_edit(alloc, range, new)?;
     Ok(Some(edit))
 }

@@ -6,6 +6,9 @@
 #![tactic(auto)]
 
 pub mod changes;
+pub mod comments;
 pub mod edits;
 pub mod laws;
+pub mod lists;
+pub mod names;
 pub mod positions;

@@ -1,5 +1,5 @@
 use Rattle.isle_lsp_text.proofs.Places.{start_place}
 use Rattle.isle_lsp_names.proofs.places.range_at.Goals as goal
 
-pub place_at-start-requires : goal.place_at-start-requires
-place_at-start-requires c = start_place _
+pub range_near-requires : goal.range_near-requires
+range_near-requires c = start_place _

@@ -1,0 +1,48 @@
+-- What a name is, as it is written, as JSON.
+use Rattle.std.specs.Prelude.{◌≡◌, ℕ, ◌≤◌, List, ◌++◌, Option, None, Some, codes, length, nat_lt, slice_get, slice_range, IsCharBoundary}
+use Rattle.serde_json.specs.Data.{Data, null}
+use Rattle.isle_base_source.specs.Source.{Source}
+use Rattle.isle_index.specs.Names.{NameNode, name_text}
+use Rattle.isle_index.specs.Occurrences.{definitions}
+use Rattle.isle_index.specs.Scopes.{SeenNode}
+use Rattle.isle_index.specs.declared.occurrences.Occurrence.{Occurrence}
+use Rattle.isle_lsp_messages.specs.Results as results
+use Rattle.isle_lsp_names.specs.Located.{InOrder}
+use Rattle.isle_lsp_names.specs.Places.{range_at}
+use Rattle.isle_lsp_names.specs.Wholes.{whole_of}
+use Rattle.isle_lsp_names.specs.declared.wholes.Part.{Part}
+use Rattle.isle_lsp_text.specs.Comments.{comments_start}
+use Rattle.isle_lsp_text.specs.Lists.{AreLists}
+use Rattle.isle_lsp_text.specs.declared.lists.ListSpan.{ListSpan}
+
+-- the text from an offset to another, where that cuts no character
+abbrev pub IsCut : List ℕ → (from to : ℕ) → List ℕ → Type 0
+IsCut text from to cut = from ≤ to → IsCharBoundary text from → IsCharBoundary text to → cut ≡ slice_range text from to
+
+-- a part of a text, after the comments above it
+abbrev pub IsPart : List ℕ → Part → List ℕ → Type 0
+IsPart text p part = IsCut text (comments_start text p.from) p.to part
+
+-- The whole of a definition, in a block, after the comments above it. A variant is written shorter than its name, which its type's
+-- name begins.
+abbrev pub IsShown : List ℕ → NameNode → Occurrence → List ℕ → Type 0
+IsShown text name o shown =
+    (lists : List ListSpan) × (part : List ℕ) × AreLists text lists
+    × IsPart text (whole_of text lists (nat_lt o.len (length (name_text name))) o.pos.offset o.len) part
+    × (shown ≡ codes "```isle\n" ++ part ++ codes "\n```")
+
+abbrev pub IsHoverIn : Option Source → List ℕ → NameNode → (definition at : Occurrence) → Data → Type 0
+IsHoverIn None text name o at d = d ≡ null
+IsHoverIn (Some s) text name o at d =
+    (shown : List ℕ) × IsShown s.text name o shown × (d ≡ results.hover shown (range_at text at.pos.offset at.len))
+
+abbrev pub IsHoverOf : List Source → List ℕ → NameNode → Option Occurrence → (at : Occurrence) → Data → Type 0
+IsHoverOf program text name None at d = d ≡ null
+IsHoverOf program text name (Some o) at d = IsHoverIn (slice_get program o.pos.file) text name o at d
+
+-- the first definition of a name, for where it occurs; null of no name
+abbrev pub IsHover : List Source → List ℕ → Option NameNode → Option Occurrence → List SeenNode → Data → Type 0
+IsHover program text None at all d = d ≡ null
+IsHover program text (Some name) None all d = d ≡ null
+IsHover program text (Some name) (Some at) all d =
+    (found : List Occurrence) × InOrder (definitions name all) found × IsHoverOf program text name (slice_get found 0) at d

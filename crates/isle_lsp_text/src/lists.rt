@@ -1,0 +1,94 @@
+//! The lists of a text of ISLE: what stands from a `(` to its `)`.
+
+ghost use Rattle.std.specs.Prelude.{◌≡◌, ◌+◌, ◌<◌, ◌^◌, ◌++◌, [], IfOk, OnOk, reverse};
+ghost use Rattle.isle_base.specs.TokenView.{token_of_ref};
+ghost use Rattle.isle_lsp_text.specs.Lists.{AreLists, closed, holds, list_around, lists_of, opened};
+
+use isle_base::lexer::{Fault, Pos};
+use isle_base::scanner::{Scanner, TokenRef};
+use std::alloc::{AllocError, Global};
+
+/// A list of a text.
+#[derive(Clone, Copy, Debug, PartialEq, Eq)]
+pub struct ListSpan {
+    /// The offset of its `(`.
+    pub from: usize,
+    /// The offset after its `)`.
+    pub to: usize,
+    /// In how many lists it stands.
+    pub depth: usize,
+}
+
+/// Gives the lists of a text, in the order in which they end. They are told by its tokens, so a
+/// parenthesis in a comment is none; where a text is refused, they end. An `Err` means that memory
+/// ran out.
+pub fn lists(alloc: Global, text: &str) -> Result<Vec<ListSpan>, AllocError>
+    ensures { IfOk result (λ found. AreLists text.now found.items) }
+{
+    match Scanner::new(alloc, 0, text) {
+        Ok(scanner) => lists_ahead(alloc, scanner),
+        Err(Fault::Error(_)) => Ok(Vec::new(alloc)),
+        Err(Fault::Failed | Fault::Memory) => Err(AllocError),
+    }
+}
+
+/// Gives the lists of the tokens that a scanner has ahead.
+fn lists_ahead(alloc: Global, mut scanner: Scanner) -> Result<Vec<ListSpan>, AllocError>
+    ensures { IfOk result (λ found. found.items ≡ lists_of [] scanner.entry.coming) }
+{
+    let mut begun = Vec::new(alloc);
+    let mut found = Vec::new(alloc);
+    while let Some(ahead) = scanner.peek() {
+        let ahead = *ahead;
+        add(ahead, &mut begun, &mut found)?;
+        if scanner.step().is_none() {
+            return Ok(found);
+        }
+    }
+    Ok(found)
+}
+
+/// Takes a token: a `(` opens a list, and a `)` ends the last one that is open.
+fn add(
+    ahead: (Pos, TokenRef),
+    begun: &mut Vec<usize>,
+    found: &mut Vec<ListSpan>,
+) -> Result<(), AllocError>
+    requires { ahead.0.offset + 1 < 2 ^ 64 }
+    ensures begun { OnOk result (reverse begun.new.items
+        ≡ opened (token_of_ref ahead.entry.1) ahead.entry.0.offset (reverse begun.old.items)) }
+    ensures found { OnOk result (found.new.items
+        ≡ found.old.items ++ closed (token_of_ref ahead.entry.1) ahead.entry.0.offset (reverse begun.old.items)) }
+{
+    let (pos, token) = ahead;
+    match token {
+        TokenRef::LParen => begun.push(pos.offset)?,
+        TokenRef::RParen => {
+            if let Some(from) = begun.pop() {
+                let (to, depth) = (pos.offset + 1, begun.len());
+                found.push(ListSpan { from, to, depth })?;
+            }
+        }
+        TokenRef::Symbol(_) | TokenRef::Int(_) | TokenRef::At => {}
+    }
+    Ok(())
+}
+
+/// Gives the innermost list around an offset that stands in so many lists at least.
+pub fn list_around(lists: &[ListSpan], depth: usize, offset: usize) -> Option<ListSpan>
+    ensures { result ≡ list_around depth offset lists.now }
+{
+    for list in lists {
+        if holds(list, depth, offset) {
+            return Some(*list);
+        }
+    }
+    None
+}
+
+/// Tells whether an offset is inside of a list that stands in so many lists at least.
+fn holds(list: &ListSpan, depth: usize, offset: usize) -> bool
+    ensures { result ≡ holds depth offset list.now }
+{
+    list.from < offset && offset < list.to && depth <= list.depth
+}
