@@ -1,3 +1,2 @@
-pub mod AllowanceLemmas
 pub mod FailureLemmas
 pub mod ReportLemmas

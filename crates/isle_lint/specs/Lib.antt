@@ -1,4 +1,3 @@
-pub mod Allowances
 pub mod Options
 pub mod Report
 pub mod Doing

@@ -1,16 +1,14 @@
 -- What is told of a program: a line for each text that spells no tree, and for each finding.
-use Rattle.std.specs.Prelude.{ℕ, ◌+◌, ◌==◌, List, [], ◌∷◌, ◌++◌, Bool, true, false, not, ◌&&◌, ◌||◌, if◌then◌else◌, Option, codes, filter, length, slice_get, slice_index_or}
+use Rattle.std.specs.Prelude.{ℕ, ◌+◌, ◌==◌, List, [], ◌∷◌, ◌++◌, Bool, true, false, not, ◌&&◌, ◌||◌, if◌then◌else◌, Option, codes, filter, length, slice_get}
 use Rattle.std.specs.Fmt.{decimal}
 use Rattle.std.specs.List.{flat_map}
-use Rattle.std.specs.Str.Lines.{lines}
-use Rattle.isle_base_source.specs.Lines.{line}
 use Rattle.isle_base_source.specs.Source.{Source}
 use Rattle.isle_base_source.specs.declared.error.Error.{Error}
 use Rattle.isle_cli.specs.Messages.{message_line}
 use Rattle.isle_findings.specs.Finding.{Found}
 use Rattle.isle_findings.specs.Lint.{message, name, needs_whole_program}
 use Rattle.isle_findings.specs.declared.lint.Lint.{Lint}
-use Rattle.isle_lint.specs.Allowances.{allows, lines_above}
+use Rattle.isle_reading.specs.Allowances.{is_allowed}
 use Rattle.isle_reading.specs.Messages.{refusal_text, shown_offset}
 use Rattle.isle_reading.specs.Reading.{refused_count}
 
@@ -22,13 +20,9 @@ usable is_whole ls = filter (λ l. is_whole || not (needs_whole_program l)) ls
 abbrev pub is_program : Bool → List (Option Error) → Bool
 is_program is_whole refusals = is_whole && (refused_count refusals == 0)
 
--- the line above its definition turns a finding in a text off
-abbrev pub is_allowed : Source → Found → Bool
-is_allowed source f = allows (slice_index_or (lines_above [] [] (lines source.text)) (line source.text f.pos.offset) []) f.lint
-
 -- a finding is in the file of this number, and no comment turns it off
 abbrev pub is_told : ℕ → Source → Found → Bool
-is_told file source f = (f.pos.file == file) && not (is_allowed source f)
+is_told file source f = (f.pos.file == file) && not (is_allowed source.text f)
 
 abbrev pub told_in : ℕ → Source → List Found → List Found
 told_in file source found = filter (is_told file source) found

@@ -1,7 +1,6 @@
 //! `isle-lint [OPTION ..] [FILE ..]`: tells what lints find in ISLE source.
 #![tactic(auto)]
 
-mod allowances;
 mod options;
 mod program;
 mod report;

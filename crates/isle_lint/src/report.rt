@@ -9,20 +9,20 @@ ghost use Rattle.isle_ast.specs.TreeView.{definitions_of};
 ghost use Rattle.isle_cli.specs.Sources.{source_of};
 ghost use Rattle.isle_cli.specs.declared.failure.Failure.TheVariants.{Memory};
 ghost use Rattle.isle_findings.specs.Finding.{finding_of};
-ghost use Rattle.isle_lint.specs.Allowances.{lines_above};
 ghost use Rattle.isle_lint.specs.Doing.{IsReport};
-ghost use Rattle.isle_lint.specs.Report.{count_text, counted, finding_line, is_allowed, is_program};
+ghost use Rattle.isle_lint.specs.Report.{count_text, counted, finding_line, is_program};
 ghost use Rattle.isle_lint.specs.Report.{is_told, kept_if};
 ghost use Rattle.isle_lint.specs.Report.{message_text};
 ghost use Rattle.isle_lint.specs.Report.{source_text, sources_text, told, told_in, usable};
+ghost use Rattle.isle_reading.specs.Allowances.{lines_above};
 ghost use Rattle.isle_reading.specs.Reading.{IsReading, refused_count};
 
-use crate::allowances::{allows, lines_above};
 use isle_base_source::error::Error;
 use isle_base_source::files::LineMap;
 use isle_cli::failure::Failure;
 use isle_cli::sources::Source;
 use isle_findings::{Finding, Lint, findings};
+use isle_reading::allowances::{is_allowed, lines_above};
 use isle_reading::messages::{place_line, refusal_line};
 use isle_reading::trees::{Reading, drop_reading, read_all, refused_count};
 use std::alloc::{AllocError, Global};
@@ -165,18 +165,6 @@ fn is_told(file: usize, lines: &LineMap, above: &[&[u8]], finding: &Finding) -> 
         → result ≡ is_told file source (finding_of finding.now) }
 {
     finding.pos.file == file && !is_allowed(lines, above, finding)
-}
-
-/// Tells whether a comment turns a finding off.
-fn is_allowed(lines: &LineMap, above: &[&[u8]], finding: &Finding) -> bool
-    ensures { (source : texts.Source) → lines.now ≡ line_ends source.text
-        → map (λ line. line.now) above.now ≡ lines_above [] [] (Lines.lines source.text)
-        → result ≡ is_allowed source (finding_of finding.now) }
-{
-    match above.get(lines.line(finding.pos.offset)) {
-        Some(line) => allows(line, finding.lint),
-        None => false,
-    }
 }
 
 /// Makes the lines of the texts that spell no tree, and of the findings.

@@ -1,5 +1,5 @@
 -- What an editor is told of a text.
-use Rattle.std.specs.Prelude.{◌≡◌, ℕ, ◌+◌, ◌-◌, ◌⊎◌, List, [], ◌∷◌, ◌++◌, Option, None, Some, Result, filter, length, map, min, codes, string_bytes}
+use Rattle.std.specs.Prelude.{◌≡◌, ℕ, ◌+◌, ◌-◌, ◌⊎◌, List, [], ◌∷◌, ◌++◌, Option, None, Some, Result, filter, length, map, min, not, codes, string_bytes}
 use Rattle.std.specs.Global.{Vec}
 use Rattle.std.specs.List.Sorted.{IsPermutation, IsSortedByKey}
 use Rattle.isle_ast.specs.Tree.{Definition}
@@ -13,6 +13,7 @@ use Rattle.isle_findings.specs.Findings.{findings_in}
 use Rattle.isle_findings.specs.Lint.{all_lints, is_default, message}
 use Rattle.isle_findings.specs.declared.finding.Finding.{Finding}
 use Rattle.isle_findings.specs.declared.lint.Lint.{Lint}
+use Rattle.isle_reading.specs.Allowances.{is_allowed}
 use Rattle.isle_reading.specs.Reading as reading
 use Rattle.isle_reading.specs.Reading.{IsRefusedWith, IsTreeOf}
 use Rattle.isle_lsp_diagnostics.specs.declared.Diagnostic.{Diagnostic}
@@ -41,21 +42,22 @@ found_mark text f =
     let start : ℕ = min f.pos.offset (length text) in
     record { start = start; end = start + min (length f.name) (length text - start); lint = Some f.lint; message = found_text f }
 
-abbrev pub finding_mark : List ℕ → Finding → Mark
-finding_mark text f = found_mark text (finding_of f)
-
 -- what is told of a text that spells no tree
 abbrev pub error_mark : List ℕ → errors.Error → List Mark
 error_mark text (ParseError msg span) =
     record { start = min span.from.offset (length text); end = min span.to.offset (length text); lint = None; message = string_bytes msg } ∷ []
 error_mark text _ = []
 
--- The marks are those of what the default lints find in the definitions, in order of place.
+-- the findings that no comment turns off
+abbrev pub shown : List ℕ → List Found → List Found
+shown text fs = filter (λ f. not (is_allowed text f)) fs
+
+-- The marks are those of what the default lints find in the definitions, in order of place, but for what comments turn off.
 pub record AreMarksOf (text : List ℕ) (ds : List Definition) (told : List Mark) : Type 0 where
   pub found : List Finding
   pub exact : IsPermutation (findings_in (filter is_default all_lints) ds) (map finding_of found)
   pub in_order : IsSortedByKey (λ f. f.pos) position_cmp found
-  pub marks : told ≡ map (finding_mark text) found
+  pub marks : told ≡ map (found_mark text) (shown text (map finding_of found))
 
 -- the marks of a text: of its tree, or why it has none
 abbrev pub AreMarks : List ℕ → List Mark → Type 0

@@ -1,8 +1,7 @@
 //! What an editor is told of a text of ISLE: why it spells no tree, or what the lints find that are
-//! on by default.
+//! on by default, but for what its comments turn off.
 //!
-//! The text is read as a program of its own. So the lints of a whole program find nothing, and a
-//! comment that allows a lint in front of a definition isn't looked at.
+//! The text is read as a program of its own. So the lints of a whole program find nothing.
 #![tactic(auto)]
 
 ghost use Rattle.std.specs.Prelude.{◌≡◌, ◌++◌, ◌∷◌, [], IfErr, IfOk, filter, length, map};
@@ -13,16 +12,18 @@ ghost use Rattle.isle_cli.specs.declared.failure.Failure.TheVariants.{Memory};
 ghost use Rattle.isle_findings.specs.Finding.{finding_of};
 ghost use Rattle.isle_findings.specs.Lint.{all_lints, is_default};
 ghost use Rattle.isle_lsp_diagnostics.specs.Diagnostics.{AreMarks, AreMarksOf, IsReadAs};
-ghost use Rattle.isle_lsp_diagnostics.specs.Diagnostics.{error_mark, finding_mark, found_mark};
-ghost use Rattle.isle_lsp_diagnostics.specs.Diagnostics.{found_text, mark_of};
+ghost use Rattle.isle_lsp_diagnostics.specs.Diagnostics.{error_mark, found_mark, found_text};
+ghost use Rattle.isle_lsp_diagnostics.specs.Diagnostics.{mark_of, shown};
 
 use isle_ast::ast::Def;
 use isle_base::lexer::{Fault, Lexer};
 use isle_base_source::error::Error;
+use isle_base_source::files::LineMap;
 use isle_cli::failure::Failure;
 use isle_findings::{Finding, Lint, findings};
 use isle_parser::dropping::drop_definitions;
 use isle_parser::parser::parse;
+use isle_reading::allowances::{is_allowed, lines_above};
 use std::alloc::{AllocError, Global};
 
 /// Something that is told of a part of a text.
@@ -38,7 +39,8 @@ pub struct Diagnostic {
     pub message: String,
 }
 
-/// Gives what is told of a text, in order of place. It fails only with `Memory`.
+/// Gives what is told of a text, in order of place: what `isle-lint` tells of it, without an option,
+/// and nothing else. It fails only with `Memory`.
 pub fn diagnostics(alloc: Global, text: &str) -> Result<Vec<Diagnostic>, Failure>
     ensures ok { IfOk result (λ told. AreMarks text.now (map mark_of told.items)) }
     ensures err { IfErr result (λ failure. failure ≡ Memory) }
@@ -78,7 +80,7 @@ fn refused(alloc: Global, text: &str, error: Error) -> Result<Vec<Diagnostic>, A
     Ok(told)
 }
 
-/// Gives what lints find in a text that spells these definitions.
+/// Gives what is told of a text that spells these definitions.
 fn told_of(alloc: Global, text: &str, defs: &[Def]) -> Result<Vec<Diagnostic>, AllocError>
     ensures { IfOk result (λ told. AreMarksOf text.now (definitions_of defs.now)
         (map mark_of told.items)) }
@@ -108,15 +110,19 @@ fn defaults_among(alloc: Global, lints: &[Lint]) -> Result<Vec<Lint>, AllocError
     Ok(chosen)
 }
 
-/// Gives what is told of these findings.
+/// Gives what is told of these findings, but for those that comments turn off.
 fn marked(alloc: Global, text: &str, found: &[Finding]) -> Result<Vec<Diagnostic>, AllocError>
     ensures { IfOk result (λ told. map mark_of told.items
-        ≡ map (finding_mark text.now) found.now) }
+        ≡ map (found_mark text.now) (shown text.now (map finding_of found.now))) }
 {
+    let lines = LineMap::from_str(alloc, text)?;
+    let above = lines_above(alloc, text)?;
     let mut told = Vec::new(alloc);
     for finding in found {
-        let diagnostic = diagnostic_of(alloc, text, finding)?;
-        told.push(diagnostic)?;
+        if !is_allowed(&lines, &above, finding) {
+            let diagnostic = diagnostic_of(alloc, text, finding)?;
+            told.push(diagnostic)?;
+        }
     }
     Ok(told)
 }

@@ -1,1 +1,2 @@
+pub mod AllowanceLemmas
 pub mod ReadingLemmas

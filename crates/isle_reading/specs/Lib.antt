@@ -1,2 +1,3 @@
+pub mod Allowances
 pub mod Messages
 pub mod Reading

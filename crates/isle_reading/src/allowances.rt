@@ -1,11 +1,16 @@
 //! The comments that turn a lint off for a definition.
 
-ghost use Rattle.std.specs.Prelude.{◌≡◌, ◌++◌, [], IfOk, map};
+ghost use Rattle.std.specs.Prelude.{◌≡◌, ◌++◌, [], IfOk, List, map, ℕ};
 ghost use Rattle.std.specs.Str.{bytes_eq};
+ghost use Rattle.std.specs.Str.Lines as Lines;
 ghost use Rattle.std.specs.Str.Lines.{lines};
-ghost use Rattle.isle_lint.specs.Allowances.{after_semicolons, allows, begins_with, lines_above};
+ghost use Rattle.isle_base_source.specs.Lines.{line_ends};
+ghost use Rattle.isle_findings.specs.Finding.{finding_of};
+ghost use Rattle.isle_reading.specs.Allowances.{after_semicolons, allows, begins_with};
+ghost use Rattle.isle_reading.specs.Allowances.{is_allowed, lines_above};
 
-use isle_findings::Lint;
+use isle_base_source::files::LineMap;
+use isle_findings::{Finding, Lint};
 use std::alloc::{AllocError, Global};
 
 /// What follows the semicolons of a comment that turns a lint off, before the lint's name.
@@ -46,6 +51,19 @@ fn begins_with(line: &[u8], byte: u8) -> bool
     match line {
         [first, ..] => *first == byte,
         [] => false,
+    }
+}
+
+/// Tells whether a comment turns a finding off, in the text that has these lines, and of each line
+/// this one above its definition.
+pub fn is_allowed(lines: &LineMap, above: &[&[u8]], finding: &Finding) -> bool
+    ensures { (text : List ℕ) → lines.now ≡ line_ends text
+        → map (λ line. line.now) above.now ≡ lines_above [] [] (Lines.lines text)
+        → result ≡ is_allowed text (finding_of finding.now) }
+{
+    match above.get(lines.line(finding.pos.offset)) {
+        Some(line) => allows(line, finding.lint),
+        None => false,
     }
 }
 

@@ -1,6 +1,9 @@
 -- The comments that turn a lint off for a definition.
-use Rattle.std.specs.Prelude.{ℕ, List, [], ◌∷◌, ◌++◌, Bool, false, ◌&&◌, ◌==◌, if◌then◌else◌, codes}
+use Rattle.std.specs.Prelude.{ℕ, List, [], ◌∷◌, ◌++◌, Bool, false, ◌&&◌, ◌==◌, if◌then◌else◌, codes, slice_index_or}
 use Rattle.std.specs.Str.{bytes_eq}
+use Rattle.std.specs.Str.Lines.{lines}
+use Rattle.isle_base_source.specs.Lines.{line}
+use Rattle.isle_findings.specs.Finding.{Found}
 use Rattle.isle_findings.specs.Lint.{name}
 use Rattle.isle_findings.specs.declared.lint.Lint.{Lint}
 
@@ -22,3 +25,7 @@ after_semicolons (b ∷ bs) = if b == 59 then after_semicolons bs else b ∷ bs
 -- a line is a comment that turns a lint off
 abbrev pub allows : List ℕ → Lint → Bool
 allows line lint = begins_with 59 line && bytes_eq (after_semicolons line) (codes " isle-lint: allow " ++ name lint)
+
+-- the line above its definition turns a finding in a text off
+abbrev pub is_allowed : List ℕ → Found → Bool
+is_allowed text f = allows (slice_index_or (lines_above [] [] (lines text)) (line text f.pos.offset) []) f.lint

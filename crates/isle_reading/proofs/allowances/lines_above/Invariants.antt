@@ -1,6 +1,6 @@
 use Rattle.std.proofs.Common.{◌≡◌, ◌++◌, [], drop, map}
-use Rattle.isle_lint.specs.Allowances.{lines_above}
-use Rattle.isle_lint.proofs.allowances.lines_above.Given as goal
+use Rattle.isle_reading.specs.Allowances.{lines_above}
+use Rattle.isle_reading.proofs.allowances.lines_above.Given as goal
 
 abbrev pub invariant-loop-line : goal.invariant-loop-line
 invariant-loop-line l =
