@@ -6,6 +6,7 @@ use Rattle.isle_cli.specs.declared.failure.Failure.{Failure}
 use Rattle.isle_cli.specs.declared.failure.Failure.TheVariants as failures
 use Rattle.isle_cli.specs.declared.program.Program.{Program}
 use Rattle.isle_cli.specs.Failure.{status_of, text_of, IsDiagnostic, Explains}
+use Rattle.isle_cli.proofs.StreamLemmas.{ReadsText-weaker}
 
 -- the text of a failure goes with its status
 pub diagnostic-of : (program : Program) (failure : Failure) → IsDiagnostic program (status_of failure) (text_of program failure)
@@ -36,21 +37,14 @@ first-told-text program status failure faults kept faults' keeps told is =
 -- A failure that ends with status 1 is a refusal of the whole input, and its text is written.
 module _ (usable : Type 0) (Refused Written : List ℕ → List ℕ → Type 0) (program : Program) (input input' output output' faults faults' : Option (List ℕ)) where
   refused_text : (failure : Failure) → Explains usable Refused Written failure input input' output output' → AppendsBeginning faults faults' (text_of program failure) → status_of failure ≡ 1
-      → ReadsText input input' (λ text. (shown : List ℕ) × Refused text shown × (text_of program failure ≡ shown) × AppendsBeginning faults faults' shown)
+      → ReadsText input input' (λ text. WritesBeginning faults faults' (Refused text))
   refused_text (failures.Refused diagnostic) why told one =
-      let read = why.1 in
-      record {
-        text = read.text;
-        consumed = read.consumed;
-        ended = read.ended;
-        utf8 = read.utf8;
-        holds = (string_bytes diagnostic, read.holds, refl, told);
-      }
+      ReadsText-weaker input input' _ _ (λ text said. (string_bytes diagnostic, said, told)) why.1
   refused_text failures.Usage why told one = absurd (cc)
   refused_text failures.Input why told one = absurd (cc)
   refused_text failures.Memory why told one = absurd (cc)
   refused_text failures.Output why told one = absurd (cc)
 
   pub refused-told : (status : ℕ) (failure : Failure) → Explains usable Refused Written failure input input' output output' → AppendsBeginning faults faults' (text_of program failure) → status ≡ status_of failure → status ≡ 1
-      → ReadsText input input' (λ text. (shown : List ℕ) × Refused text shown × (text_of program failure ≡ shown) × AppendsBeginning faults faults' shown)
+      → ReadsText input input' (λ text. WritesBeginning faults faults' (Refused text))
   refused-told status failure why told is one = refused_text failure why told (sym is ∙ one)

@@ -5,7 +5,7 @@ use Rattle.std.proofs.Math.Seq.{take-add, take-append-add}
 use Rattle.std.proofs.lemmas.List.{take-append-le, take_all, take_min}
 use Rattle.std.specs.Io.{StartsWith, appended_bytes}
 use Rattle.std.specs.Io.KnownBytes.{Appends, Consumes}
-use Rattle.isle_cli.specs.Streams.{AppendsBeginning}
+use Rattle.isle_cli.specs.Streams.{AppendsBeginning, ReadsText}
 
 -- the bytes so far were consumed, and then those by which they grew
 pub Consumes-grown : (a b c : Option (List ℕ)) (old new : List ℕ) → StartsWith new old
@@ -31,3 +31,8 @@ AppendsBeginning-front a b xs ys front =
 pub AppendsBeginning-behind : (a b c : Option (List ℕ)) (xs ys : List ℕ) → Appends a b xs → AppendsBeginning b c ys → AppendsBeginning a c (xs ++ ys)
 AppendsBeginning-behind a b c xs ys front rest =
     (length xs + rest.0, subst (Appends a c) (sym (take-append-add xs ys rest.0)) (Appends-trans a b c _ _ front rest.1))
+
+-- what follows of the text that was read
+pub ReadsText-weaker : (old new : Option (List ℕ)) (P Q : List ℕ → Type 0) → ((text : List ℕ) → P text → Q text) → ReadsText old new P → ReadsText old new Q
+ReadsText-weaker old new P Q follows read =
+    record { text = read.text; consumed = read.consumed; ended = read.ended; utf8 = read.utf8; holds = follows read.text read.holds }

@@ -1,5 +1,5 @@
 -- The words of a command line: options, which stand anywhere, and names.
-use Rattle.std.specs.Prelude.{ℕ, ◌==◌, List, [], ◌∷◌, ◌++◌, Bool, false, ◌||◌, not, if◌then◌else◌, Option, None, Some, codes, map, option_to_list, string_bytes, unwrap_or}
+use Rattle.std.specs.Prelude.{◌≡◌, ℕ, ◌==◌, List, [], ◌∷◌, ◌++◌, Bool, false, ◌||◌, not, if◌then◌else◌, Option, None, Some, codes, map, option_to_list, string_bytes, unwrap_or}
 use Rattle.std.specs.List.{list_any}
 use Rattle.std.specs.Option.{option_and_then, option_map}
 use Rattle.std.specs.Str.{bytes_eq}
@@ -115,6 +115,10 @@ asked_by list =
 -- what the words ask for; nothing where they are none of the usage
 abbrev pub asked : Options → List (List ℕ) → Option Asked
 asked options words = option_map asked_by (given options anything_awaited words)
+
+-- something is asked for, and P holds of it
+abbrev pub AnswersTo : Option Asked → (Asked → Type 0) → Type 0
+AnswersTo answer P = (request : Asked) × (answer ≡ Some request) × P request
 
 -- what a value of the code gives, awaits or asks for
 abbrev pub given_of : Argument → Given

@@ -13,6 +13,32 @@ use std::io::{ErrorKind, Read, Write};
 /// How many bytes one read asks for at most.
 const READ_LEN: usize = 64 * 1024;
 
+/// The three streams of a program.
+#[derive(Drop)]
+pub struct Streams<I, W, E> {
+    /// Standard input.
+    pub input: I,
+    /// Standard output.
+    pub output: W,
+    /// Standard error, which gets what is said of failures.
+    pub faults: E,
+}
+
+impl<I, W, E> Streams<I, W, E> {
+    /// Makes one value of the streams.
+    pub fn new(input: I, output: W, faults: E) -> Self
+        ensures input { result.input ≡ input }
+        ensures output { result.output ≡ output }
+        ensures faults { result.faults ≡ faults }
+    {
+        Streams {
+            input,
+            output,
+            faults,
+        }
+    }
+}
+
 /// Why no text was read.
 #[derive(Debug, Drop)]
 pub enum ReadFault {

@@ -1,7 +1,7 @@
 -- The program: its name, its usage, its options, and what its words ask for.
 use Rattle.std.specs.Prelude.{◌≡◌, ◌⊎◌, ℕ, List, [], ◌∷◌, Option, None, Some, codes, map}
 use Rattle.std.specs.Str.Parse.{digits_value}
-use Rattle.isle_cli.specs.Arguments.{Asked, Given, asked, last_setting, work_asked}
+use Rattle.isle_cli.specs.Arguments.{AnswersTo, Asked, Given, asked, last_setting, work_asked}
 use Rattle.isle_cli.specs.Failure as frame
 use Rattle.isle_cli.specs.Words.{IsWidth}
 use Rattle.isle_cli.specs.declared.arguments.Options.{Options}
@@ -33,10 +33,6 @@ GivesWidth given = IsWidthSetting (last_setting (codes "--width") None given)
 -- the width that they give, 78 without `--width`
 abbrev pub given_width : List Given → ℕ
 given_width given = width_setting (last_setting (codes "--width") None given)
-
--- something is asked for, and P holds of it
-abbrev pub AnswersTo : Option Asked → (Asked → Type 0) → Type 0
-AnswersTo answer P = (request : Asked) × (answer ≡ Some request) × P request
 
 -- the words ask this program for something, and P holds of both
 abbrev pub AsAsked : List (List ℕ) → (Program → Asked → Type 0) → Type 0

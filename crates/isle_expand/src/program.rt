@@ -2,24 +2,22 @@
 
 ghost use Rattle.std.specs.Prelude.{◌≡◌, ◌≢◌, ◌≤◌, IfErr, IfOk, OnOk, map, string_bytes};
 ghost use Rattle.std.specs.Io.KnownBytes.{Keeps};
-ghost use Rattle.isle_cli.specs.Arguments.{asked, given_of};
-ghost use Rattle.isle_cli.specs.Failure as frame;
+ghost use Rattle.isle_cli.specs.Arguments.{given_of};
 ghost use Rattle.isle_cli.specs.Sources.{source_of};
 ghost use Rattle.isle_cli.specs.Streams.{Writes, WritesBeginning};
-ghost use Rattle.isle_expand.specs.Doing.{Cuts, CutsAsked, DoesAsked, Ends, EndsAs, Expands};
-ghost use Rattle.isle_expand.specs.Doing.{Explains, ExplainsAs, IsPutFailure, IsReadFailure};
-ghost use Rattle.isle_expand.specs.Doing.{Misses, MissesAsked, Refuses, RefusesAsked, Takes};
+ghost use Rattle.isle_expand.specs.Doing.{CutsAsked, DoesAsked, Ends, EndsAs, Explains, ExplainsAs};
+ghost use Rattle.isle_expand.specs.Doing.{IsPutFailure, IsReadFailure, MissesAsked, RefusesAsked};
+ghost use Rattle.isle_expand.specs.Doing.{Takes};
 ghost use Rattle.isle_expand.specs.Expansion.{AreWarnings, IsPrintOfExpansion};
-ghost use Rattle.isle_expand.specs.Program.{AnswersTo, AsAsked, AskForNothing, GivesWidth};
-ghost use Rattle.isle_expand.specs.Program.{IsDiagnostic, IsMisuse};
+ghost use Rattle.isle_expand.specs.Program.{AsAsked, AskForNothing, IsDiagnostic};
 
 use crate::expansion::answer_to;
 use crate::options::{HELP, VERSION, own_options, this_program, width_of};
-use isle_cli::arguments::{Argument, Options, Request, names_of, requested, stdin_name_of};
+use isle_cli::arguments::{Argument, Request, names_of, requested, stdin_name_of};
 use isle_cli::failure::Failure;
 use isle_cli::program::{Program, put, report, tell};
 use isle_cli::sources::{Source, Sources, read_sources};
-use isle_cli::streams::write_whole;
+use isle_cli::streams::{Streams, write_whole};
 use std::alloc::Global;
 use std::fs::Files;
 use std::io::{Read, Write};
@@ -44,151 +42,54 @@ use std::io::{Read, Write};
 pub fn run<R: Files + AllocGlobal + Clone + Drop, I: Read, W: Write, E: Write>(
     rt: &R,
     words: &[String],
-    input: &mut I,
-    output: &mut W,
-    faults: &mut E,
+    streams: &mut Streams<I, W, E>,
 ) -> u8
+    // What is asked for is done; or the output is cut. Any other status leaves it alone.
+    ensures expanded { result ≡ 0 → AsAsked (map string_bytes words.now)
+        (λ program request. DoesAsked program request
+        (I.remaining streams.old.input) (I.remaining streams.new.input)
+        (W.contents streams.old.output) (W.contents streams.new.output)
+        (E.contents streams.old.faults) (E.contents streams.new.faults)) }
+    ensures cut { result ≡ 5 → AsAsked (map string_bytes words.now)
+        (λ program request. CutsAsked program request
+        (I.remaining streams.old.input) (I.remaining streams.new.input)
+        (W.contents streams.old.output) (W.contents streams.new.output)) }
+    ensures unwritten { result ≢ 0 → result ≢ 5
+        → Keeps (W.contents streams.old.output) (W.contents streams.new.output) }
+
+    // The program is refused, or can't be read.
+    ensures refused { result ≡ 1 → AsAsked (map string_bytes words.now)
+        (λ program request. RefusesAsked program request
+        (I.remaining streams.old.input) (I.remaining streams.new.input)
+        (E.contents streams.old.faults) (E.contents streams.new.faults)) }
+    ensures missed { result ≡ 3 → AsAsked (map string_bytes words.now)
+        (λ program request. MissesAsked program request
+        (I.remaining streams.old.input) (I.remaining streams.new.input)
+        (E.contents streams.old.faults) (E.contents streams.new.faults)) }
+
+    // Past 1, but for what can't be read, standard error gets the text of the status.
+    ensures told { 2 ≤ result → result ≢ 3
+        → WritesBeginning (E.contents streams.old.faults) (E.contents streams.new.faults)
+        (IsDiagnostic result) }
     ensures statuses { result ≤ 5 }
 
     // The words alone decide on status 2, and then nothing is read.
     ensures usage { result ≡ 2 → AskForNothing (map string_bytes words.now) }
-    ensures unread { result ≡ 2 → Keeps (I.remaining input.old) (I.remaining input.new) }
-
-    // What is asked for is done; or the program is refused, or can't be read; or the output is cut.
-    ensures expanded { result ≡ 0 → AsAsked (map string_bytes words.now)
-        (λ program request. DoesAsked program request
-        (I.remaining input.old) (I.remaining input.new)
-        (W.contents output.old) (W.contents output.new)
-        (E.contents faults.old) (E.contents faults.new)) }
-    ensures refused { result ≡ 1 → AsAsked (map string_bytes words.now)
-        (λ program request. RefusesAsked program request
-        (I.remaining input.old) (I.remaining input.new)
-        (E.contents faults.old) (E.contents faults.new)) }
-    ensures missed { result ≡ 3 → AsAsked (map string_bytes words.now)
-        (λ program request. MissesAsked program request
-        (I.remaining input.old) (I.remaining input.new)
-        (E.contents faults.old) (E.contents faults.new)) }
-    ensures cut { result ≡ 5 → AsAsked (map string_bytes words.now)
-        (λ program request. CutsAsked program request
-        (I.remaining input.old) (I.remaining input.new)
-        (W.contents output.old) (W.contents output.new)) }
-
-    // Any other status leaves the output alone.
-    ensures unwritten { result ≢ 0 → result ≢ 5
-        → Keeps (W.contents output.old) (W.contents output.new) }
-
-    // Past 1, but for what can't be read, standard error gets the text of the status.
-    ensures told { 2 ≤ result → result ≢ 3
-        → WritesBeginning (E.contents faults.old) (E.contents faults.new)
-        (IsDiagnostic result) }
+    ensures unread { result ≡ 2
+        → Keeps (I.remaining streams.old.input) (I.remaining streams.new.input) }
 {
     let (program, options) = (this_program(), own_options());
-    run_as(rt, &program, &options, words, input, output, faults)
-}
-
-/// Does the work of `run`, as a program with this name, this usage and these options.
-fn run_as<R: Files + AllocGlobal + Clone + Drop, I: Read, W: Write, E: Write>(
-    rt: &R,
-    program: &Program,
-    options: &Options,
-    words: &[String],
-    input: &mut I,
-    output: &mut W,
-    faults: &mut E,
-) -> u8
-    ensures statuses { result ≤ 5 }
-    ensures usage { result ≡ 2 → IsMisuse (asked options.now (map string_bytes words.now)) }
-    ensures unread { result ≡ 2 → Keeps (I.remaining input.old) (I.remaining input.new) }
-    ensures expanded { result ≡ 0 → AnswersTo (asked options.now (map string_bytes words.now))
-        (λ request. DoesAsked program.now request
-        (I.remaining input.old) (I.remaining input.new)
-        (W.contents output.old) (W.contents output.new)
-        (E.contents faults.old) (E.contents faults.new)) }
-    ensures refused { result ≡ 1 → AnswersTo (asked options.now (map string_bytes words.now))
-        (λ request. RefusesAsked program.now request
-        (I.remaining input.old) (I.remaining input.new)
-        (E.contents faults.old) (E.contents faults.new)) }
-    ensures missed { result ≡ 3 → AnswersTo (asked options.now (map string_bytes words.now))
-        (λ request. MissesAsked program.now request
-        (I.remaining input.old) (I.remaining input.new)
-        (E.contents faults.old) (E.contents faults.new)) }
-    ensures cut { result ≡ 5 → AnswersTo (asked options.now (map string_bytes words.now))
-        (λ request. CutsAsked program.now request
-        (I.remaining input.old) (I.remaining input.new)
-        (W.contents output.old) (W.contents output.new)) }
-    ensures unwritten { result ≢ 0 → result ≢ 5
-        → Keeps (W.contents output.old) (W.contents output.new) }
-    ensures told { 2 ≤ result → result ≢ 3
-        → WritesBeginning (E.contents faults.old) (E.contents faults.new)
-        (frame.IsDiagnostic program.now result) }
-{
-    match requested(rt.alloc(), options, words) {
-        Ok(Request::Help) => tell(program, HELP, output, faults),
-        Ok(Request::Version) => tell(program, VERSION, output, faults),
-        Ok(Request::Work(arguments)) => work(rt, program, &arguments, input, output, faults),
-        Err(failure) => report(program, &failure, faults),
-    }
-}
-
-/// Does the work that arguments ask for.
-fn work<R: Files + AllocGlobal + Clone + Drop, I: Read, W: Write, E: Write>(
-    rt: &R,
-    program: &Program,
-    arguments: &[Argument],
-    input: &mut I,
-    output: &mut W,
-    faults: &mut E,
-) -> u8
-    ensures statuses { result ≤ 5 }
-    ensures usage { result ≡ 2 → (¬ (GivesWidth (map given_of arguments.now)))
-        × Keeps (I.remaining input.old) (I.remaining input.new) }
-    ensures expanded { result ≡ 0 → Expands program.now (map given_of arguments.now)
-        (I.remaining input.old) (I.remaining input.new)
-        (W.contents output.old) (W.contents output.new)
-        (E.contents faults.old) (E.contents faults.new) }
-    ensures refused { result ≡ 1 → Refuses program.now (map given_of arguments.now)
-        (I.remaining input.old) (I.remaining input.new)
-        (E.contents faults.old) (E.contents faults.new) }
-    ensures missed { result ≡ 3 → Misses program.now (map given_of arguments.now)
-        (I.remaining input.old) (I.remaining input.new)
-        (E.contents faults.old) (E.contents faults.new) }
-    ensures cut { result ≡ 5 → Cuts program.now (map given_of arguments.now)
-        (I.remaining input.old) (I.remaining input.new)
-        (W.contents output.old) (W.contents output.new) }
-    ensures unwritten { result ≢ 0 → result ≢ 5
-        → Keeps (W.contents output.old) (W.contents output.new) }
-    ensures told { 2 ≤ result → result ≢ 3
-        → WritesBeginning (E.contents faults.old) (E.contents faults.new)
-        (frame.IsDiagnostic program.now result) }
-{
-    match expand(rt, program, arguments, input, output, faults) {
+    let arguments = match requested(rt.alloc(), &options, words) {
+        Ok(Request::Work(arguments)) => arguments,
+        Ok(Request::Help) => return tell(&program, HELP, &mut streams.output, &mut streams.faults),
+        Ok(Request::Version) => {
+            return tell(&program, VERSION, &mut streams.output, &mut streams.faults);
+        }
+        Err(failure) => return report(&program, &failure, &mut streams.faults),
+    };
+    match expand(rt, &program, &arguments, streams) {
         Ok(status) => status,
-        Err(failure) => report(program, &failure, faults),
-    }
-}
-
-/// Expands what the arguments name onto the output, and gives the status, 0 or 3.
-fn expand<R: Files + AllocGlobal + Clone + Drop, I: Read, W: Write, E: Write>(
-    rt: &R,
-    program: &Program,
-    arguments: &[Argument],
-    input: &mut I,
-    output: &mut W,
-    faults: &mut E,
-) -> Result<u8, Failure>
-    ensures ok { IfOk result (λ status. Ends program.now (map given_of arguments.now) status
-        (I.remaining input.old) (I.remaining input.new)
-        (W.contents output.old) (W.contents output.new)
-        (E.contents faults.old) (E.contents faults.new)) }
-    ensures err { IfErr result (λ failure. Explains failure program.now
-        (map given_of arguments.now) (I.remaining input.old) (I.remaining input.new)
-        (W.contents output.old) (W.contents output.new)) }
-    ensures quiet { IfErr result
-        (λ _. Keeps (E.contents faults.old) (E.contents faults.new)) }
-{
-    match read_program(rt, program, arguments, input) {
-        Ok(read) => put_program(rt.alloc(), &read, output, faults),
-        Err(failure) => Err(failure),
+        Err(failure) => report(&program, &failure, &mut streams.faults),
     }
 }
 
@@ -199,6 +100,29 @@ pub struct Taken {
     pub width: usize,
     /// What was read.
     pub sources: Sources,
+}
+
+/// Expands what the arguments name onto the output, and gives the status, 0 or 3.
+fn expand<R: Files + AllocGlobal + Clone + Drop, I: Read, W: Write, E: Write>(
+    rt: &R,
+    program: &Program,
+    arguments: &[Argument],
+    streams: &mut Streams<I, W, E>,
+) -> Result<u8, Failure>
+    ensures ok { IfOk result (λ status. Ends program.now (map given_of arguments.now) status
+        (I.remaining streams.old.input) (I.remaining streams.new.input)
+        (W.contents streams.old.output) (W.contents streams.new.output)
+        (E.contents streams.old.faults) (E.contents streams.new.faults)) }
+    ensures err { IfErr result (λ failure. Explains failure program.now
+        (map given_of arguments.now) (I.remaining streams.old.input) (I.remaining streams.new.input)
+        (W.contents streams.old.output) (W.contents streams.new.output)) }
+    ensures quiet { IfErr result
+        (λ _. Keeps (E.contents streams.old.faults) (E.contents streams.new.faults)) }
+{
+    match read_program(rt, program, arguments, &mut streams.input) {
+        Ok(read) => put_program(rt.alloc(), read, &mut streams.output, &mut streams.faults),
+        Err(failure) => Err(failure),
+    }
 }
 
 /// Reads what the arguments name, where they give a width.
@@ -222,14 +146,14 @@ fn read_program<R: Files + AllocGlobal + Clone + Drop, I: Read>(
 /// Expands what was read onto the output, if all could be read, and gives the status, 0 or 3.
 fn put_program<W: Write, E: Write>(
     alloc: Global,
-    read: &Taken,
+    read: Taken,
     output: &mut W,
     faults: &mut E,
 ) -> Result<u8, Failure>
-    ensures ok { IfOk result (λ status. EndsAs status read.now
+    ensures ok { IfOk result (λ status. EndsAs status read
         (W.contents output.old) (W.contents output.new)
         (E.contents faults.old) (E.contents faults.new)) }
-    ensures err { IfErr result (λ failure. ExplainsAs failure read.now
+    ensures err { IfErr result (λ failure. ExplainsAs failure read
         (W.contents output.old) (W.contents output.new)) }
     ensures quiet { IfErr result
         (λ _. Keeps (E.contents faults.old) (E.contents faults.new)) }

@@ -1,7 +1,8 @@
 -- What is said of a failure, and the text that goes with its status.
-use Rattle.std.proofs.Common.{◌≡◌, ℕ, List, Option, codes, string_bytes, refl, ap, subst, sym, ◌++◌, ◌∙◌}
+use Rattle.std.proofs.Common.{◌≡◌, ℕ, List, Option, codes, string_bytes, ap, subst, sym, ◌++◌}
 use Rattle.isle_syntax.specs.Format.{IsFormatted, IsRefused}
-use Rattle.isle_cli.specs.Failure as frame
+use Rattle.isle_cli.proofs.FailureLemmas as lemmas
+use Rattle.isle_cli.proofs.StreamLemmas.{ReadsText-weaker}
 use Rattle.isle_cli.specs.Failure.{status_of, text_of}
 use Rattle.isle_cli.specs.Streams.{ReadsText, AppendsBeginning, WritesBeginning}
 use Rattle.isle_cli.specs.Words.{GiveWidth, given_width}
@@ -11,21 +12,6 @@ use Rattle.isle_cli.specs.declared.program.Program.{Program}
 use Rattle.isle_fmt.specs.Failure.{Explains, IsDiagnostic, IsRefusal, IsThis}
 
 module _ (program : Program) (is : IsThis program) (words : List (List ℕ)) (input input' output output' faults faults' : Option (List ℕ)) where
-  refused_text : (failure : Failure) → Explains failure words input input' output output' → AppendsBeginning faults faults' (text_of program failure) → status_of failure ≡ 1 → ReadsText input input' (λ text. IsRefused text × WritesBeginning faults faults' (IsRefusal text))
-  refused_text (failures.Refused diagnostic) why told one =
-      let read = why.1 in
-      record {
-        text = read.text;
-        consumed = read.consumed;
-        ended = read.ended;
-        utf8 = read.utf8;
-        holds = (read.holds.0, (string_bytes diagnostic, read.holds.1, told));
-      }
-  refused_text failures.Usage why told one = absurd (cc)
-  refused_text failures.Input why told one = absurd (cc)
-  refused_text failures.Memory why told one = absurd (cc)
-  refused_text failures.Output why told one = absurd (cc)
-
   diagnostic_of : (failure : Failure) → Explains failure words input input' output output' → IsDiagnostic (status_of failure) (text_of program failure)
   diagnostic_of (failures.Refused diagnostic) why =
       let read = why.1 in
@@ -40,7 +26,10 @@ module _ (program : Program) (is : IsThis program) (words : List (List ℕ)) (in
       record { refused = λ e. absurd (cc); usage = λ e. absurd (cc); input = λ e. absurd (cc); memory = λ e. absurd (cc); output = λ e. ap (λ name. name ++ codes ": output failed\n") is.name }
 
   pub refused-told : (status : ℕ) (failure : Failure) → Explains failure words input input' output output' → AppendsBeginning faults faults' (text_of program failure) → status ≡ status_of failure → status ≡ 1 → ReadsText input input' (λ text. IsRefused text × WritesBeginning faults faults' (IsRefusal text))
-  refused-told status failure why told same one = refused_text failure why told (sym same ∙ one)
+  refused-told status failure why told same one =
+      ReadsText-weaker input input' _ _ (λ text said. (said.1.0, (said.0, said.1.1, said.2)))
+      (lemmas.refused-told (GiveWidth words) (λ text shown. IsRefused text × IsRefusal text shown) (λ text. IsFormatted (given_width words) text)
+      program input input' output output' faults faults' status failure why told same one)
 
   pub told-text : (status : ℕ) (failure : Failure) → Explains failure words input input' output output' → AppendsBeginning faults faults' (text_of program failure) → status ≡ status_of failure → WritesBeginning faults faults' (IsDiagnostic status)
   told-text status failure why told same =

@@ -5,21 +5,16 @@ mod program;
 
 use isle_cli::failure::Failure;
 use isle_cli::program::report;
+use isle_cli::streams::Streams;
 use isle_cli::words::taken_words;
 pub use program::run;
 use program::this_program;
 use std::process::ExitCode;
 
 fn main(rt: HostRuntime) -> ExitCode {
-    let status = match taken_words(&rt) {
-        Ok(words) => run(
-            rt.alloc(),
-            &words,
-            &mut rt.stdin(),
-            &mut rt.stdout(),
-            &mut rt.stderr(),
-        ),
-        Err(fault) => report(&this_program(), &Failure::from(fault), &mut rt.stderr()),
-    };
-    ExitCode::from(status)
+    let mut streams = Streams::new(rt.stdin(), rt.stdout(), rt.stderr());
+    ExitCode::from(match taken_words(&rt) {
+        Ok(words) => run(rt.alloc(), &words, &mut streams),
+        Err(fault) => report(&this_program(), &Failure::from(fault), &mut streams.faults),
+    })
 }

@@ -11,7 +11,7 @@ ghost use Rattle.isle_fmt.specs.Failure.{IsThis};
 use isle_cli::diagnostics::{INPUT_NAME, diagnostic};
 use isle_cli::failure::Failure;
 use isle_cli::program::{Program, report};
-use isle_cli::streams::{read_text, write_whole};
+use isle_cli::streams::{Streams, read_text, write_whole};
 use isle_cli::words::width_of;
 use isle_syntax::lexer::Fault;
 use std::alloc::Global;
@@ -47,40 +47,45 @@ pub fn this_program() -> Program
 pub fn run<R: Read, W: Write, E: Write>(
     alloc: Global,
     words: &[String],
-    input: &mut R,
-    output: &mut W,
-    faults: &mut E,
+    streams: &mut Streams<R, W, E>,
 ) -> u8
     ensures statuses { result ≤ 5 }
 
     // The words alone decide on status 2, and then nothing is read.
     ensures usage { result ≡ 2 → ¬ (GiveWidth (map string_bytes words.now)) }
     ensures width { result ≢ 2 → GiveWidth (map string_bytes words.now) }
-    ensures unread { result ≡ 2 → Keeps (R.remaining input.old) (R.remaining input.new) }
+    ensures unread { result ≡ 2
+        → Keeps (R.remaining streams.old.input) (R.remaining streams.new.input) }
 
     // The whole input is a text in UTF-8 where the formatter had its say.
-    ensures formatted { result ≡ 0 → ReadsText (R.remaining input.old) (R.remaining input.new)
-        (λ text. Writes (W.contents output.old) (W.contents output.new)
+    ensures formatted { result ≡ 0
+        → ReadsText (R.remaining streams.old.input) (R.remaining streams.new.input)
+        (λ text. Writes (W.contents streams.old.output) (W.contents streams.new.output)
         (IsFormatted (given_width (map string_bytes words.now)) text)) }
-    ensures refused { result ≡ 1 → ReadsText (R.remaining input.old) (R.remaining input.new)
+    ensures refused { result ≡ 1
+        → ReadsText (R.remaining streams.old.input) (R.remaining streams.new.input)
         (λ text. IsRefused text
-        × WritesBeginning (E.contents faults.old) (E.contents faults.new) (IsRefusal text)) }
-    ensures cut { result ≡ 5 → ReadsText (R.remaining input.old) (R.remaining input.new)
-        (λ text. WritesBeginning (W.contents output.old) (W.contents output.new)
+        × WritesBeginning (E.contents streams.old.faults) (E.contents streams.new.faults)
+        (IsRefusal text)) }
+    ensures cut { result ≡ 5
+        → ReadsText (R.remaining streams.old.input) (R.remaining streams.new.input)
+        (λ text. WritesBeginning (W.contents streams.old.output) (W.contents streams.new.output)
         (IsFormatted (given_width (map string_bytes words.now)) text)) }
 
     // Any other status leaves the output alone.
     ensures unwritten { result ≢ 0 → result ≢ 5
-        → Keeps (W.contents output.old) (W.contents output.new) }
+        → Keeps (W.contents streams.old.output) (W.contents streams.new.output) }
 
     // Standard error gets nothing, or the text of the status as far as it takes it.
-    ensures quiet { result ≡ 0 → Keeps (E.contents faults.old) (E.contents faults.new) }
-    ensures told { result ≢ 0 → WritesBeginning (E.contents faults.old) (E.contents faults.new)
+    ensures quiet { result ≡ 0
+        → Keeps (E.contents streams.old.faults) (E.contents streams.new.faults) }
+    ensures told { result ≢ 0
+        → WritesBeginning (E.contents streams.old.faults) (E.contents streams.new.faults)
         (IsDiagnostic result) }
 {
-    match formatted(alloc, words, input, output) {
+    match formatted(alloc, words, &mut streams.input, &mut streams.output) {
         Ok(()) => 0,
-        Err(failure) => report(&this_program(), &failure, faults),
+        Err(failure) => report(&this_program(), &failure, &mut streams.faults),
     }
 }
 

@@ -15,7 +15,7 @@ use isle_cli::arguments::{Argument, Options, Request, names_of, requested, stdin
 use isle_cli::failure::Failure;
 use isle_cli::program::{Program, put, report, tell};
 use isle_cli::sources::read_sources;
-use isle_cli::streams::write_whole;
+use isle_cli::streams::{Streams, write_whole};
 use std::fs::Files;
 use std::io::{Read, Write};
 
@@ -51,38 +51,37 @@ pub const OPTIONS: Options = Options {
 pub fn run<R: Files + AllocGlobal + Clone + Drop, I: Read, W: Write, E: Write>(
     rt: &R,
     words: &[String],
-    input: &mut I,
-    output: &mut W,
-    faults: &mut E,
+    streams: &mut Streams<I, W, E>,
 ) -> u8
-    ensures statuses { result ≤ 5 }
-
     // Nothing is read, and nothing is told but the usage, where the words are none of the usage.
     ensures usage { result ≡ 2 → IsMisuse (map string_bytes words.now) }
-    ensures unread { result ≡ 2 → Keeps (I.remaining input.old) (I.remaining input.new) }
+    ensures unread { result ≡ 2
+        → Keeps (I.remaining streams.old.input) (I.remaining streams.new.input) }
 
     // With any other status but 4 and 5 what is asked for is done, as far as texts can be read.
     ensures done { result ≢ 2 → result ≢ 4 → result ≢ 5 → AsAsked (map string_bytes words.now)
-        (λ what. Does what result (I.remaining input.old) (I.remaining input.new)
-        (W.contents output.old) (W.contents output.new)) }
+        (λ what. Does what result (I.remaining streams.old.input) (I.remaining streams.new.input)
+        (W.contents streams.old.output) (W.contents streams.new.output)) }
 
     // The output is left alone, or cut.
     ensures unwritten { result ≡ 2 ⊎ result ≡ 4
-        → Keeps (W.contents output.old) (W.contents output.new) }
+        → Keeps (W.contents streams.old.output) (W.contents streams.new.output) }
     ensures cut { result ≡ 5 → AsAsked (map string_bytes words.now) (λ what. CutsAsked what
-        (I.remaining input.old) (I.remaining input.new)
-        (W.contents output.old) (W.contents output.new)) }
+        (I.remaining streams.old.input) (I.remaining streams.new.input)
+        (W.contents streams.old.output) (W.contents streams.new.output)) }
 
     // Standard error gets nothing, a line for each text that can't be read, or that of the status.
-    ensures quiet { result ≤ 1 → Keeps (E.contents faults.old) (E.contents faults.new) }
-    ensures told { 2 ≤ result → result ≢ 3 → WritesBeginning (E.contents faults.old)
-        (E.contents faults.new) (IsFailureText result) }
+    ensures quiet { result ≤ 1
+        → Keeps (E.contents streams.old.faults) (E.contents streams.new.faults) }
+    ensures told { 2 ≤ result → result ≢ 3 → WritesBeginning (E.contents streams.old.faults)
+        (E.contents streams.new.faults) (IsFailureText result) }
+    ensures statuses { result ≤ 5 }
 {
     match requested(rt.alloc(), &OPTIONS, words) {
-        Ok(Request::Help) => tell(&PROGRAM, HELP, output, faults),
-        Ok(Request::Version) => tell(&PROGRAM, VERSION, output, faults),
-        Ok(Request::Work(arguments)) => work(rt, &arguments, input, output, faults),
-        Err(failure) => report(&PROGRAM, &failure, faults),
+        Ok(Request::Help) => tell(&PROGRAM, HELP, &mut streams.output, &mut streams.faults),
+        Ok(Request::Version) => tell(&PROGRAM, VERSION, &mut streams.output, &mut streams.faults),
+        Ok(Request::Work(arguments)) => work(rt, &arguments, streams),
+        Err(failure) => report(&PROGRAM, &failure, &mut streams.faults),
     }
 }
 
@@ -90,28 +89,27 @@ pub fn run<R: Files + AllocGlobal + Clone + Drop, I: Read, W: Write, E: Write>(
 fn work<R: Files + AllocGlobal + Clone + Drop, I: Read, W: Write, E: Write>(
     rt: &R,
     arguments: &[Argument],
-    input: &mut I,
-    output: &mut W,
-    faults: &mut E,
+    streams: &mut Streams<I, W, E>,
 ) -> u8
     ensures statuses { result ≤ 5 }
     ensures usage { result ≡ 2 → (are_usable (map given_of arguments.now) ≡ false)
-        × Keeps (I.remaining input.old) (I.remaining input.new) }
+        × Keeps (I.remaining streams.old.input) (I.remaining streams.new.input) }
     ensures done { result ≢ 2 → result ≢ 4 → result ≢ 5 → Tells (map given_of arguments.now) result
-        (I.remaining input.old) (I.remaining input.new)
-        (W.contents output.old) (W.contents output.new) }
+        (I.remaining streams.old.input) (I.remaining streams.new.input)
+        (W.contents streams.old.output) (W.contents streams.new.output) }
     ensures unwritten { result ≡ 2 ⊎ result ≡ 4
-        → Keeps (W.contents output.old) (W.contents output.new) }
+        → Keeps (W.contents streams.old.output) (W.contents streams.new.output) }
     ensures cut { result ≡ 5 → Cuts (map given_of arguments.now)
-        (I.remaining input.old) (I.remaining input.new)
-        (W.contents output.old) (W.contents output.new) }
-    ensures quiet { result ≤ 1 → Keeps (E.contents faults.old) (E.contents faults.new) }
-    ensures told { 2 ≤ result → result ≢ 3 → WritesBeginning (E.contents faults.old)
-        (E.contents faults.new) (IsFailureText result) }
+        (I.remaining streams.old.input) (I.remaining streams.new.input)
+        (W.contents streams.old.output) (W.contents streams.new.output) }
+    ensures quiet { result ≤ 1
+        → Keeps (E.contents streams.old.faults) (E.contents streams.new.faults) }
+    ensures told { 2 ≤ result → result ≢ 3 → WritesBeginning (E.contents streams.old.faults)
+        (E.contents streams.new.faults) (IsFailureText result) }
 {
-    match lint(rt, arguments, input, output, faults) {
+    match lint(rt, arguments, streams) {
         Ok(status) => status,
-        Err(failure) => report(&PROGRAM, &failure, faults),
+        Err(failure) => report(&PROGRAM, &failure, &mut streams.faults),
     }
 }
 
@@ -119,33 +117,31 @@ fn work<R: Files + AllocGlobal + Clone + Drop, I: Read, W: Write, E: Write>(
 fn lint<R: Files + AllocGlobal + Clone + Drop, I: Read, W: Write, E: Write>(
     rt: &R,
     arguments: &[Argument],
-    input: &mut I,
-    output: &mut W,
-    faults: &mut E,
+    streams: &mut Streams<I, W, E>,
 ) -> Result<u8, Failure>
     ensures ok { IfOk result (λ status. Tells (map given_of arguments.now) status
-        (I.remaining input.old) (I.remaining input.new)
-        (W.contents output.old) (W.contents output.new)) }
+        (I.remaining streams.old.input) (I.remaining streams.new.input)
+        (W.contents streams.old.output) (W.contents streams.new.output)) }
     ensures err { IfErr result (λ failure. Explains failure (map given_of arguments.now)
-        (I.remaining input.old) (I.remaining input.new)
-        (W.contents output.old) (W.contents output.new)) }
+        (I.remaining streams.old.input) (I.remaining streams.new.input)
+        (W.contents streams.old.output) (W.contents streams.new.output)) }
     ensures quiet { MatchResult result
         (λ status. (status ≤ 3) × (status ≢ 2)
-        × (status ≤ 1 → Keeps (E.contents faults.old) (E.contents faults.new)))
-        (λ _. Keeps (E.contents faults.old) (E.contents faults.new)) }
+        × (status ≤ 1 → Keeps (E.contents streams.old.faults) (E.contents streams.new.faults)))
+        (λ _. Keeps (E.contents streams.old.faults) (E.contents streams.new.faults)) }
 {
     let lints = lints_of(rt.alloc(), arguments)?;
     let names = names_of(rt.alloc(), arguments)?;
     let stdin_name = stdin_name_of(arguments);
-    let sources = read_sources(rt, &PROGRAM, &names, stdin_name, input)?;
+    let sources = read_sources(rt, &PROGRAM, &names, stdin_name, &mut streams.input)?;
     let is_whole = sources.faults.is_empty();
     let told = report_on(rt.alloc(), &sources.list, &lints, is_whole)?;
-    match put(output, told.as_str()) {
+    match put(&mut streams.output, told.as_str()) {
         Ok(()) => {}
         Err(_) => return Err(Failure::Output),
     }
     if !is_whole {
-        let _ = write_whole(faults, sources.faults.as_bytes());
+        let _ = write_whole(&mut streams.faults, sources.faults.as_bytes());
     }
     Ok(status_of(is_whole, told.is_empty()))
 }

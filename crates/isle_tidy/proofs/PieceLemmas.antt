@@ -10,7 +10,7 @@ use Rattle.isle_document.specs.Tidied.{IsTidyTextOf}
 use Rattle.isle_document.specs.declared.tidying.Tidying.{Tidying}
 use Rattle.isle_document.proofs.Streams.{begins_tidy}
 use Rattle.isle_tidy.specs.Pieces.{PutsPiece, PutsRest, CutsRest, FailsPiece, FailsTidied}
-use Rattle.isle_tidy.proofs.StreamLemmas.{AppendsBeginning-front, AppendsBeginning-behind}
+use Rattle.isle_cli.proofs.StreamLemmas.{AppendsBeginning-behind, AppendsBeginning-front}
 
 -- One piece.
 

@@ -1,30 +1,16 @@
 -- Two writes taken together, and what is said of a failure.
-use Rattle.std.proofs.Common.{◌≡◌, ◌≢◌, ◌++◌, [], ◌∷◌, Some, ℕ, ◌+◌, min, List, length, Option, Result, Ok, Err, IfErr, Bool, string_bytes, subst, sym, ◌∙◌, ◌⊎◌, inl, inr, refl, arith}
-use Rattle.std.proofs.KnownBytes.{Appends-trans}
-use Rattle.std.proofs.Math.Seq.{take-append-add}
-use Rattle.std.proofs.lemmas.List.{take-append-le, take_min}
+use Rattle.std.proofs.Common.{◌≡◌, ◌≢◌, ◌++◌, [], ◌∷◌, Some, ℕ, List, Option, Result, Ok, Err, IfErr, Bool, string_bytes, sym, ◌∙◌, inl, refl}
 use Rattle.std.specs.Io.KnownBytes.{Appends}
+use Rattle.isle_cli.proofs.StreamLemmas.{AppendsBeginning-behind, AppendsBeginning-front, ReadsText-weaker}
+use Rattle.isle_cli.specs.Arguments.{AnswersTo, Asked, Given, name_list, work_asked}
+use Rattle.isle_cli.specs.Failure.{status_of, text_of}
 use Rattle.isle_cli.specs.Streams.{AppendsBeginning}
 use Rattle.isle_cli.specs.declared.failure.Failure.{Failure}
 use Rattle.isle_cli.specs.declared.failure.Failure.TheVariants as failures
-use Rattle.isle_cli.specs.Arguments.{Asked, Given, name_list, work_asked}
-use Rattle.isle_tidy.specs.Doing.{Explains, FindsInput, HasNames}
-use Rattle.isle_tidy.specs.Program.{AnswersTo}
-use Rattle.isle_cli.specs.Failure.{status_of, text_of}
 use Rattle.isle_cli.specs.declared.program.Program.{Program}
+use Rattle.isle_tidy.specs.Doing.{Explains, FindsInput, HasNames}
 
--- a beginning of the front is one of the whole
-pub AppendsBeginning-front : (a b : Option (List ℕ)) (xs ys : List ℕ) → AppendsBeginning a b xs → AppendsBeginning a b (xs ++ ys)
-AppendsBeginning-front a b xs ys front =
-    let n = min front.0 (length xs) in
-    (n, subst (Appends a b) (sym (take-append-le n xs ys (omega arith) ∙ take_min front.0 xs)) front.1)
-
--- the front was written, and then a beginning of what is behind it
-pub AppendsBeginning-behind : (a b c : Option (List ℕ)) (xs ys : List ℕ) → Appends a b xs → AppendsBeginning b c ys → AppendsBeginning a c (xs ++ ys)
-AppendsBeginning-behind a b c xs ys front rest =
-    (length xs + rest.0, subst (Appends a c) (sym (take-append-add xs ys rest.0)) (Appends-trans a b c _ _ front rest.1))
-
--- the same of what a call answers that writes the front, or what is behind it
+-- what a call says that writes the front, or what is behind it, of the whole
 pub cut-front : (a b : Option (List ℕ)) (xs ys : List ℕ) (failure : Failure) → (failure ≡ failures.Output) × AppendsBeginning a b xs → (failure ≡ failures.Output) × AppendsBeginning a b (xs ++ ys)
 cut-front a b xs ys failure said = (said.0, AppendsBeginning-front a b xs ys said.1)
 
@@ -32,11 +18,6 @@ pub cut-behind : {T : Type 0} (a b c : Option (List ℕ)) (xs ys : List ℕ) (re
     → IfErr result (λ failure. (failure ≡ failures.Output) × AppendsBeginning b c ys) → IfErr result (λ failure. (failure ≡ failures.Output) × AppendsBeginning a c (xs ++ ys))
 cut-behind a b c xs ys (Ok x) front said = tt
 cut-behind a b c xs ys (Err failure) front said = (said.0, AppendsBeginning-behind a b c xs ys front said.1)
-
--- what follows from the second of two follows in the second place
-pub in-second : {K A B : Type 0} → (A → B) → K ⊎ A → K ⊎ B
-in-second f (inl k) = inl k
-in-second f (inr a) = inr (f a)
 
 -- where nothing with names is asked for, there are none
 empty-by : {A : Type 0} (xs : List A) → ¬ (xs ≢ []) → xs ≡ []
@@ -51,17 +32,7 @@ module _ (program : Program) (check : Bool) (name : List ℕ) (input input' outp
   found_by : (failure : Failure) → Explains failure check name input input' output output' → AppendsBeginning faults faults' (text_of program failure)
       → status_of failure ≡ 1 → FindsInput check name input input' output output' faults faults'
   found_by (failures.Refused diagnostic) why told one =
-      let read = why.0 in
-      inl (
-        record {
-          text = read.text;
-          consumed = read.consumed;
-          ended = read.ended;
-          utf8 = read.utf8;
-          holds = (read.holds.0, (string_bytes diagnostic, read.holds.1, told));
-        },
-        why.1,
-      )
+      inl (ReadsText-weaker input input' _ _ (λ text said. (said.0, (string_bytes diagnostic, said.1, told))) why.0, why.1)
   found_by failures.Usage why told one = absurd (cc)
   found_by failures.Input why told one = absurd (cc)
   found_by failures.Memory why told one = absurd (cc)

@@ -1,6 +1,6 @@
 -- The program: its name, its usage, its options, and what its words ask for.
-use Rattle.std.specs.Prelude.{◌≡◌, ℕ, List, [], ◌∷◌, Option, None, Some, codes, map}
-use Rattle.isle_cli.specs.Arguments.{Asked, asked}
+use Rattle.std.specs.Prelude.{◌≡◌, ℕ, List, [], ◌∷◌, None, codes, map}
+use Rattle.isle_cli.specs.Arguments.{AnswersTo, Asked, asked}
 use Rattle.isle_cli.specs.Failure as frame
 use Rattle.isle_cli.specs.declared.arguments.Options.{Options}
 use Rattle.isle_cli.specs.declared.program.Program.{Program}
@@ -15,10 +15,6 @@ pub record IsThis (program : Program) : Type 0 where
 pub record AreOwn (options : Options) : Type 0 where
   pub flags : map (λ flag. flag.now) options.flags.now ≡ codes "--check" ∷ []
   pub settings : map (λ setting. setting.now) options.settings.now ≡ []
-
--- something is asked for, and P holds of it
-abbrev pub AnswersTo : Option Asked → (Asked → Type 0) → Type 0
-AnswersTo answer P = (request : Asked) × (answer ≡ Some request) × P request
 
 -- the words ask this program for something, and P holds of both
 abbrev pub AsAsked : List (List ℕ) → (Program → Asked → Type 0) → Type 0

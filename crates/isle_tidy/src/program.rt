@@ -1,21 +1,21 @@
 //! The program's work, over any files, any reader and any two writers.
 
-ghost use Rattle.std.specs.Prelude.{◌≡◌, ◌≢◌, ◌≤◌, ◌⊎◌, ◌++◌, [], IfErr, IfOk, None, OnOk, codes};
+ghost use Rattle.std.specs.Prelude.{◌≡◌, ◌≢◌, ◌≤◌, ◌⊎◌, ◌++◌, [], IfErr, IfOk, OnOk, codes};
 ghost use Rattle.std.specs.Prelude.{false, map, string_bytes, true};
 ghost use Rattle.std.specs.Io.KnownBytes.{Appends, Keeps};
-ghost use Rattle.isle_cli.specs.Arguments.{asked, given_of, is_among, name_list, stdin_name};
+ghost use Rattle.isle_cli.specs.Arguments.{given_of, is_among, name_list, stdin_name};
 ghost use Rattle.isle_cli.specs.Failure as frame;
 ghost use Rattle.isle_cli.specs.Failure.{status_of};
 ghost use Rattle.isle_cli.specs.Streams.{AppendsBeginning, ReadsText, WritesBeginning};
 ghost use Rattle.isle_cli.specs.declared.failure.Failure.TheVariants.{Output};
 ghost use Rattle.isle_document.specs.Tidied.{IsTidyTextOf};
 ghost use Rattle.isle_tidy.specs.Doing.{Cuts, CutsInput, Does, DoesInput, DoesTask, Explains};
-ghost use Rattle.isle_tidy.specs.Doing.{Finds, FindsInput, HandlesFiles, HasNames};
+ghost use Rattle.isle_tidy.specs.Doing.{Finds, FindsInput, HandlesFiles};
 ghost use Rattle.isle_tidy.specs.Doing.{IsInputFailure, IsJudged, IsTidyFailure, Judges};
 ghost use Rattle.isle_tidy.specs.Doing.{LeavesOutput, RunsOnFiles, Tells, TidiesInput, checks};
 ghost use Rattle.isle_tidy.specs.Doing.{names_input};
-ghost use Rattle.isle_tidy.specs.Program.{AnswersTo, AreOwn, AsAsked, AskForNothing, HaveNames};
-ghost use Rattle.isle_tidy.specs.Program.{IsDiagnostic, IsThis};
+ghost use Rattle.isle_tidy.specs.Program.{AreOwn, AsAsked, AskForNothing, HaveNames, IsDiagnostic};
+ghost use Rattle.isle_tidy.specs.Program.{IsThis};
 
 use crate::in_place::tidy_file;
 use crate::pieces::{is_untidy, put_tidied};
@@ -25,24 +25,13 @@ use isle_cli::arguments::{
 use isle_cli::failure::Failure;
 use isle_cli::folders::files_of;
 use isle_cli::program::{Program, put, report, tell};
-use isle_cli::streams::{read_text, write_whole};
+use isle_cli::streams::{Streams, read_text, write_whole};
 use std::alloc::Global;
 use std::fs::Files;
 use std::io::{Read, Write};
 
 /// The version: that of the upstream crate whose syntax this is.
 const VERSION: &str = "isle-tidy 0.137.1\n";
-
-/// What is to be done with texts.
-#[derive(Clone, Copy)]
-pub struct Task<'a> {
-    /// What the program says of itself.
-    pub program: &'a Program,
-    /// Whether it is only told what would change.
-    pub check: bool,
-    /// The name of standard input in messages.
-    pub stdin_name: &'a str,
-}
 
 /// What the program says of itself.
 pub fn this_program() -> Program
@@ -81,110 +70,81 @@ fn own_options() -> Options
 pub fn run<R: Files + AllocGlobal + Clone + Drop, I: Read, W: Write, E: Write>(
     rt: &R,
     words: &[String],
-    input: &mut I,
-    output: &mut W,
-    faults: &mut E,
+    streams: &mut Streams<I, W, E>,
 ) -> u8
     ensures statuses { result ≤ 5 }
 
     // The words alone decide on status 2, and then nothing is read.
     ensures usage { result ≡ 2 → AskForNothing (map string_bytes words.now) }
+    ensures unread { result ≡ 2
+        → Keeps (I.remaining streams.old.input) (I.remaining streams.new.input) }
     ensures asked { result ≢ 2 → result ≢ 4 → AsAsked (map string_bytes words.now)
         (λ program request. HandlesFiles request
-        (I.remaining input.old) (I.remaining input.new)) }
-    ensures starved { result ≡ 4 → Keeps (I.remaining input.old) (I.remaining input.new)
+        (I.remaining streams.old.input) (I.remaining streams.new.input)) }
+    ensures starved { result ≡ 4
+        → Keeps (I.remaining streams.old.input) (I.remaining streams.new.input)
         ⊎ AsAsked (map string_bytes words.now)
         (λ program request. HandlesFiles request
-        (I.remaining input.old) (I.remaining input.new)) }
-    ensures unread { result ≡ 2 → Keeps (I.remaining input.old) (I.remaining input.new) }
+        (I.remaining streams.old.input) (I.remaining streams.new.input)) }
 
-    // What is asked for is done; or, of standard input, it is refused or found untidy; or the
-    // output is cut.
+    // What is asked for is done; or, of standard input, it is refused or found untidy.
     ensures done { result ≡ 0 → AsAsked (map string_bytes words.now)
         (λ program request. Does program request
-        (I.remaining input.old) (I.remaining input.new)
-        (W.contents output.old) (W.contents output.new)) }
+        (I.remaining streams.old.input) (I.remaining streams.new.input)
+        (W.contents streams.old.output) (W.contents streams.new.output)) }
     ensures found { result ≡ 1 → AsAsked (map string_bytes words.now)
         (λ program request. Finds request
-        (I.remaining input.old) (I.remaining input.new)
-        (W.contents output.old) (W.contents output.new)
-        (E.contents faults.old) (E.contents faults.new)) }
-    ensures cut { result ≡ 5 → AsAsked (map string_bytes words.now)
-        (λ program request. Cuts program request
-        (I.remaining input.old) (I.remaining input.new)
-        (W.contents output.old) (W.contents output.new)) }
+        (I.remaining streams.old.input) (I.remaining streams.new.input)
+        (W.contents streams.old.output) (W.contents streams.new.output)
+        (E.contents streams.old.faults) (E.contents streams.new.faults)) }
 
     // Files in place leave the output alone.
-    ensures in_place { Keeps (W.contents output.old) (W.contents output.new)
+    ensures in_place { Keeps (W.contents streams.old.output) (W.contents streams.new.output)
         ⊎ AsAsked (map string_bytes words.now)
         (λ program request. LeavesOutput request
-        (W.contents output.old) (W.contents output.new)) }
+        (W.contents streams.old.output) (W.contents streams.new.output)) }
 
-    // Without names, any other status leaves the output alone.
+    // The output is cut. Without names, any other status leaves it alone.
+    ensures cut { result ≡ 5 → AsAsked (map string_bytes words.now)
+        (λ program request. Cuts program request
+        (I.remaining streams.old.input) (I.remaining streams.new.input)
+        (W.contents streams.old.output) (W.contents streams.new.output)) }
     ensures unwritten { 2 ≤ result → result ≢ 5 → ¬ (HaveNames (map string_bytes words.now))
-        → Keeps (W.contents output.old) (W.contents output.new) }
+        → Keeps (W.contents streams.old.output) (W.contents streams.new.output) }
 
     // Standard error gets nothing; or, without names, the text of the status, as far as it takes
     // it.
-    ensures quiet { result ≡ 0 → Keeps (E.contents faults.old) (E.contents faults.new) }
+    ensures quiet { result ≡ 0
+        → Keeps (E.contents streams.old.faults) (E.contents streams.new.faults) }
     ensures told { 2 ≤ result → ¬ (HaveNames (map string_bytes words.now))
-        → WritesBeginning (E.contents faults.old) (E.contents faults.new)
+        → WritesBeginning (E.contents streams.old.faults) (E.contents streams.new.faults)
         (IsDiagnostic result) }
 {
     let (program, options) = (this_program(), own_options());
-    run_as(rt, &program, &options, words, input, output, faults)
+    match requested(rt.alloc(), &options, words) {
+        Ok(Request::Help) => {
+            tell(
+                &program,
+                program.usage,
+                &mut streams.output,
+                &mut streams.faults,
+            )
+        }
+        Ok(Request::Version) => tell(&program, VERSION, &mut streams.output, &mut streams.faults),
+        Ok(Request::Work(arguments)) => work(rt, &program, &arguments, streams),
+        Err(failure) => report(&program, &failure, &mut streams.faults),
+    }
 }
 
-/// Does the work of `run`, as a program with this name, this usage and these options.
-fn run_as<R: Files + AllocGlobal + Clone + Drop, I: Read, W: Write, E: Write>(
-    rt: &R,
-    program: &Program,
-    options: &Options,
-    words: &[String],
-    input: &mut I,
-    output: &mut W,
-    faults: &mut E,
-) -> u8
-    ensures statuses { result ≤ 5 }
-    ensures usage { result ≡ 2 → asked options.now (map string_bytes words.now) ≡ None }
-    ensures asked { result ≢ 2 → result ≢ 4
-        → AnswersTo (asked options.now (map string_bytes words.now))
-        (λ request. HandlesFiles request (I.remaining input.old) (I.remaining input.new)) }
-    ensures starved { result ≡ 4 → Keeps (I.remaining input.old) (I.remaining input.new)
-        ⊎ AnswersTo (asked options.now (map string_bytes words.now))
-        (λ request. HandlesFiles request (I.remaining input.old) (I.remaining input.new)) }
-    ensures unread { result ≡ 2 → Keeps (I.remaining input.old) (I.remaining input.new) }
-    ensures done { result ≡ 0 → AnswersTo (asked options.now (map string_bytes words.now))
-        (λ request. Does program.now request
-        (I.remaining input.old) (I.remaining input.new)
-        (W.contents output.old) (W.contents output.new)) }
-    ensures found { result ≡ 1 → AnswersTo (asked options.now (map string_bytes words.now))
-        (λ request. Finds request
-        (I.remaining input.old) (I.remaining input.new)
-        (W.contents output.old) (W.contents output.new)
-        (E.contents faults.old) (E.contents faults.new)) }
-    ensures cut { result ≡ 5 → AnswersTo (asked options.now (map string_bytes words.now))
-        (λ request. Cuts program.now request
-        (I.remaining input.old) (I.remaining input.new)
-        (W.contents output.old) (W.contents output.new)) }
-    ensures in_place { Keeps (W.contents output.old) (W.contents output.new)
-        ⊎ AnswersTo (asked options.now (map string_bytes words.now))
-        (λ request. LeavesOutput request (W.contents output.old) (W.contents output.new)) }
-    ensures unwritten { 2 ≤ result → result ≢ 5
-        → ¬ (AnswersTo (asked options.now (map string_bytes words.now)) HasNames)
-        → Keeps (W.contents output.old) (W.contents output.new) }
-    ensures quiet { result ≡ 0 → Keeps (E.contents faults.old) (E.contents faults.new) }
-    ensures told { 2 ≤ result
-        → ¬ (AnswersTo (asked options.now (map string_bytes words.now)) HasNames)
-        → WritesBeginning (E.contents faults.old) (E.contents faults.new)
-        (frame.IsDiagnostic program.now result) }
-{
-    match requested(rt.alloc(), options, words) {
-        Ok(Request::Help) => tell(program, program.usage, output, faults),
-        Ok(Request::Version) => tell(program, VERSION, output, faults),
-        Ok(Request::Work(arguments)) => work(rt, program, &arguments, input, output, faults),
-        Err(failure) => report(program, &failure, faults),
-    }
+/// What is to be done with texts.
+#[derive(Clone, Copy)]
+pub struct Task<'a> {
+    /// What the program says of itself.
+    pub program: &'a Program,
+    /// Whether it is only told what would change.
+    pub check: bool,
+    /// The name of standard input in messages.
+    pub stdin_name: &'a str,
 }
 
 /// Does the work that arguments ask for.
@@ -192,36 +152,35 @@ fn work<R: Files + AllocGlobal + Clone + Drop, I: Read, W: Write, E: Write>(
     rt: &R,
     program: &Program,
     arguments: &[Argument],
-    input: &mut I,
-    output: &mut W,
-    faults: &mut E,
+    streams: &mut Streams<I, W, E>,
 ) -> u8
     ensures statuses { result ≤ 5 }
     ensures used { result ≢ 2 }
     ensures files { name_list (map given_of arguments.now) ≢ []
         → names_input (map given_of arguments.now) ≡ false
-        → Keeps (I.remaining input.old) (I.remaining input.new) }
+        → Keeps (I.remaining streams.old.input) (I.remaining streams.new.input) }
     ensures in_place { name_list (map given_of arguments.now) ≢ []
         → names_input (map given_of arguments.now) ≡ false
         → checks (map given_of arguments.now) ≡ false
-        → Keeps (W.contents output.old) (W.contents output.new) }
+        → Keeps (W.contents streams.old.output) (W.contents streams.new.output) }
     ensures done { result ≡ 0 → DoesTask (map given_of arguments.now)
-        (I.remaining input.old) (I.remaining input.new)
-        (W.contents output.old) (W.contents output.new) }
+        (I.remaining streams.old.input) (I.remaining streams.new.input)
+        (W.contents streams.old.output) (W.contents streams.new.output) }
     ensures found { result ≡ 1 → name_list (map given_of arguments.now) ≡ []
         → FindsInput (checks (map given_of arguments.now)) (stdin_name (map given_of arguments.now))
-        (I.remaining input.old) (I.remaining input.new)
-        (W.contents output.old) (W.contents output.new)
-        (E.contents faults.old) (E.contents faults.new) }
+        (I.remaining streams.old.input) (I.remaining streams.new.input)
+        (W.contents streams.old.output) (W.contents streams.new.output)
+        (E.contents streams.old.faults) (E.contents streams.new.faults) }
     ensures cut { result ≡ 5 → name_list (map given_of arguments.now) ≡ []
         → CutsInput (checks (map given_of arguments.now)) (stdin_name (map given_of arguments.now))
-        (I.remaining input.old) (I.remaining input.new)
-        (W.contents output.old) (W.contents output.new) }
+        (I.remaining streams.old.input) (I.remaining streams.new.input)
+        (W.contents streams.old.output) (W.contents streams.new.output) }
     ensures unwritten { 2 ≤ result → result ≢ 5 → name_list (map given_of arguments.now) ≡ []
-        → Keeps (W.contents output.old) (W.contents output.new) }
-    ensures quiet { result ≡ 0 → Keeps (E.contents faults.old) (E.contents faults.new) }
+        → Keeps (W.contents streams.old.output) (W.contents streams.new.output) }
+    ensures quiet { result ≡ 0
+        → Keeps (E.contents streams.old.faults) (E.contents streams.new.faults) }
     ensures told { 2 ≤ result → name_list (map given_of arguments.now) ≡ []
-        → WritesBeginning (E.contents faults.old) (E.contents faults.new)
+        → WritesBeginning (E.contents streams.old.faults) (E.contents streams.new.faults)
         (frame.IsDiagnostic program.now result) }
 {
     let task = Task {
@@ -230,9 +189,9 @@ fn work<R: Files + AllocGlobal + Clone + Drop, I: Read, W: Write, E: Write>(
         stdin_name: stdin_name_of(arguments),
     };
     match names_of(rt.alloc(), arguments) {
-        Ok(names) if names.is_empty() => run_on_input(rt.alloc(), &task, input, output, faults),
-        Ok(names) => run_on_names(rt, &task, &names, input, output, faults),
-        Err(_) => report(program, &Failure::Memory, faults),
+        Ok(names) if names.is_empty() => run_on_input(rt.alloc(), &task, streams),
+        Ok(names) => run_on_names(rt, &task, &names, streams),
+        Err(_) => report(program, &Failure::Memory, &mut streams.faults),
     }
 }
 
@@ -240,32 +199,32 @@ fn work<R: Files + AllocGlobal + Clone + Drop, I: Read, W: Write, E: Write>(
 fn run_on_input<I: Read, W: Write, E: Write>(
     alloc: Global,
     task: &Task<'_>,
-    input: &mut I,
-    output: &mut W,
-    faults: &mut E,
+    streams: &mut Streams<I, W, E>,
 ) -> u8
     ensures statuses { result ≤ 5 }
     ensures used { result ≢ 2 }
     ensures done { result ≡ 0 → DoesInput task.now.check task.now.stdin_name.now
-        (I.remaining input.old) (I.remaining input.new)
-        (W.contents output.old) (W.contents output.new) }
+        (I.remaining streams.old.input) (I.remaining streams.new.input)
+        (W.contents streams.old.output) (W.contents streams.new.output) }
     ensures found { result ≡ 1 → FindsInput task.now.check task.now.stdin_name.now
-        (I.remaining input.old) (I.remaining input.new)
-        (W.contents output.old) (W.contents output.new)
-        (E.contents faults.old) (E.contents faults.new) }
+        (I.remaining streams.old.input) (I.remaining streams.new.input)
+        (W.contents streams.old.output) (W.contents streams.new.output)
+        (E.contents streams.old.faults) (E.contents streams.new.faults) }
     ensures cut { result ≡ 5 → CutsInput task.now.check task.now.stdin_name.now
-        (I.remaining input.old) (I.remaining input.new)
-        (W.contents output.old) (W.contents output.new) }
+        (I.remaining streams.old.input) (I.remaining streams.new.input)
+        (W.contents streams.old.output) (W.contents streams.new.output) }
     ensures unwritten { 2 ≤ result → result ≢ 5
-        → Keeps (W.contents output.old) (W.contents output.new) }
-    ensures quiet { result ≡ 0 → Keeps (E.contents faults.old) (E.contents faults.new) }
-    ensures told { 2 ≤ result → WritesBeginning (E.contents faults.old) (E.contents faults.new)
+        → Keeps (W.contents streams.old.output) (W.contents streams.new.output) }
+    ensures quiet { result ≡ 0
+        → Keeps (E.contents streams.old.faults) (E.contents streams.new.faults) }
+    ensures told { 2 ≤ result
+        → WritesBeginning (E.contents streams.old.faults) (E.contents streams.new.faults)
         (frame.IsDiagnostic task.now.program.now result) }
 {
-    match do_input(alloc, task, input, output) {
+    match do_input(alloc, task, &mut streams.input, &mut streams.output) {
         Ok(true) => 0,
         Ok(false) => 1,
-        Err(failure) => report(task.program, &failure, faults),
+        Err(failure) => report(task.program, &failure, &mut streams.faults),
     }
 }
 
@@ -367,24 +326,24 @@ fn run_on_names<R: Files + AllocGlobal + Clone + Drop, I: Read, W: Write, E: Wri
     rt: &R,
     task: &Task<'_>,
     names: &[String],
-    input: &mut I,
-    output: &mut W,
-    faults: &mut E,
+    streams: &mut Streams<I, W, E>,
 ) -> u8
     ensures statuses { result ≤ 5 }
     ensures used { result ≢ 2 }
     ensures unread { is_among (map string_bytes names.now) (codes "-") ≡ false
-        → Keeps (I.remaining input.old) (I.remaining input.new) }
+        → Keeps (I.remaining streams.old.input) (I.remaining streams.new.input) }
     ensures unwritten { result ≡ 0 → is_among (map string_bytes names.now) (codes "-") ≡ false
-        → Keeps (W.contents output.old) (W.contents output.new) }
+        → Keeps (W.contents streams.old.output) (W.contents streams.new.output) }
     ensures in_place { is_among (map string_bytes names.now) (codes "-") ≡ false
-        → task.now.check ≡ false → Keeps (W.contents output.old) (W.contents output.new) }
-    ensures quiet { result ≡ 0 → Keeps (E.contents faults.old) (E.contents faults.new) }
+        → task.now.check ≡ false
+        → Keeps (W.contents streams.old.output) (W.contents streams.new.output) }
+    ensures quiet { result ≡ 0
+        → Keeps (E.contents streams.old.faults) (E.contents streams.new.faults) }
 {
     if names_stdin(names) {
-        run_on_all(rt, task, names, input, output, faults)
+        run_on_all(rt, task, names, streams)
     } else {
-        run_on_paths(rt, task, names, output, faults)
+        run_on_paths(rt, task, names, &mut streams.output, &mut streams.faults)
     }
 }
 
@@ -393,17 +352,16 @@ fn run_on_all<R: Files + AllocGlobal + Clone + Drop, I: Read, W: Write, E: Write
     rt: &R,
     task: &Task<'_>,
     names: &[String],
-    input: &mut I,
-    output: &mut W,
-    faults: &mut E,
+    streams: &mut Streams<I, W, E>,
 ) -> u8
     ensures statuses { result ≤ 5 }
     ensures used { result ≢ 2 }
-    ensures quiet { result ≡ 0 → Keeps (E.contents faults.old) (E.contents faults.new) }
+    ensures quiet { result ≡ 0
+        → Keeps (E.contents streams.old.faults) (E.contents streams.new.faults) }
 {
     let mut status: u8 = 0;
     for name in names {
-        let done = run_on_name(rt, task, name.as_str(), input, output, faults);
+        let done = run_on_name(rt, task, name.as_str(), streams);
         status = status.max(done);
     }
     status
@@ -414,18 +372,17 @@ fn run_on_name<R: Files + AllocGlobal + Clone + Drop, I: Read, W: Write, E: Writ
     rt: &R,
     task: &Task<'_>,
     name: &str,
-    input: &mut I,
-    output: &mut W,
-    faults: &mut E,
+    streams: &mut Streams<I, W, E>,
 ) -> u8
     ensures statuses { result ≤ 5 }
     ensures used { result ≢ 2 }
-    ensures quiet { result ≡ 0 → Keeps (E.contents faults.old) (E.contents faults.new) }
+    ensures quiet { result ≡ 0
+        → Keeps (E.contents streams.old.faults) (E.contents streams.new.faults) }
 {
     if name == "-" {
-        run_on_input(rt.alloc(), task, input, output, faults)
+        run_on_input(rt.alloc(), task, streams)
     } else {
-        run_on_path(rt, task, name, output, faults)
+        run_on_path(rt, task, name, &mut streams.output, &mut streams.faults)
     }
 }
 

@@ -130,6 +130,15 @@ impl Env for CommandLine<'_> {
     }
 }
 
+/// Streams that give a text, and have room for what a test looks at.
+fn roomy<I>(alloc: Global, input: I) -> Streams<I, Writer, Writer> {
+    Streams::new(
+        input,
+        Writer::with_room(alloc, 1000),
+        Writer::with_room(alloc, 1000),
+    )
+}
+
 fn strings(alloc: Global, words: &[&str]) -> Result<Vec<String>, AllocError> {
     words
         .iter()
@@ -146,18 +155,15 @@ fn assert_formats(
     laid_out: &str,
 ) -> Result<(), AllocError> {
     let words = strings(alloc, words)?;
-    let mut output = Writer::with_room(alloc, 1000);
-    let mut faults = Writer::with_room(alloc, 1000);
-    let status = run(
-        alloc,
-        &words,
-        &mut Reader::of(text),
-        &mut output,
-        &mut faults,
-    );
+    let mut streams = roomy(alloc, Reader::of(text));
+    let status = run(alloc, &words, &mut streams);
     assert_eq!(rt; status, 0, "{text}");
-    assert_eq!(rt; output.held.as_slice(), laid_out.as_bytes(), "{text}");
-    assert!(rt; faults.held.is_empty());
+    assert_eq!(rt;
+        streams.output.held.as_slice(),
+        laid_out.as_bytes(),
+        "{text}"
+    );
+    assert!(rt; streams.faults.held.is_empty());
     Ok(())
 }
 
@@ -182,19 +188,12 @@ fn formats_at_the_width(rt: HostRuntime) -> Result<(), Fail> {
 #[test]
 fn refuses_syntax(rt: HostRuntime) -> Result<(), Fail> {
     let alloc = rt.alloc();
-    let mut output = Writer::with_room(alloc, 1000);
-    let mut faults = Writer::with_room(alloc, 1000);
-    let status = run(
-        alloc,
-        &[],
-        &mut Reader::of(REFUSED),
-        &mut output,
-        &mut faults,
-    );
+    let mut streams = roomy(alloc, Reader::of(REFUSED));
+    let status = run(alloc, &[], &mut streams);
     assert_eq!(rt; status, 1);
     let told = "parse error: Unexpected token LParen\n<stdin>:1:12: (decl pure () T)\n\n";
-    assert_eq!(rt; faults.held.as_slice(), told.as_bytes());
-    assert!(rt; output.held.is_empty());
+    assert_eq!(rt; streams.faults.held.as_slice(), told.as_bytes());
+    assert!(rt; streams.output.held.is_empty());
     Ok(())
 }
 
@@ -213,17 +212,15 @@ fn refuses_words_unread(rt: HostRuntime) -> Result<(), Fail> {
     ];
     for words in cases {
         let words = strings(alloc, words)?;
-        let mut input = Reader::of(DECL);
-        let mut output = Writer::with_room(alloc, 1000);
-        let mut faults = Writer::with_room(alloc, 1000);
-        let status = run(alloc, &words, &mut input, &mut output, &mut faults);
+        let mut streams = roomy(alloc, Reader::of(DECL));
+        let status = run(alloc, &words, &mut streams);
         assert_eq!(rt; status, 2);
         assert_eq!(rt;
-            faults.held.as_slice(),
+            streams.faults.held.as_slice(),
             b"usage: isle-fmt [WIDTH]\n".as_slice()
         );
-        assert_eq!(rt; input.left.len(), DECL.len());
-        assert!(rt; output.held.is_empty());
+        assert_eq!(rt; streams.input.left.len(), DECL.len());
+        assert!(rt; streams.output.held.is_empty());
     }
     Ok(())
 }
@@ -238,19 +235,18 @@ fn tells_of_bad_input(rt: HostRuntime) -> Result<(), Fail> {
         (DECL.as_bytes(), true),
     ];
     for (left, fails) in cases {
-        let mut input = Reader {
+        let input = Reader {
             left,
             step: 2,
             interruptions: 0,
             fails,
         };
-        let mut output = Writer::with_room(alloc, 1000);
-        let mut faults = Writer::with_room(alloc, 1000);
-        let status = run(alloc, &[], &mut input, &mut output, &mut faults);
+        let mut streams = roomy(alloc, input);
+        let status = run(alloc, &[], &mut streams);
         assert_eq!(rt; status, 3);
         let told = "isle-fmt: input is unreadable or not UTF-8\n";
-        assert_eq!(rt; faults.held.as_slice(), told.as_bytes());
-        assert!(rt; output.held.is_empty());
+        assert_eq!(rt; streams.faults.held.as_slice(), told.as_bytes());
+        assert!(rt; streams.output.held.is_empty());
     }
     Ok(())
 }
@@ -259,16 +255,15 @@ fn tells_of_bad_input(rt: HostRuntime) -> Result<(), Fail> {
 fn tells_of_bad_output(rt: HostRuntime) -> Result<(), Fail> {
     let alloc = rt.alloc();
     for room in [0, 7] {
-        let mut output = Writer::with_room(alloc, room);
-        let mut faults = Writer::with_room(alloc, 1000);
-        let mut input = Reader::of("(convert A B c)");
-        let status = run(alloc, &[], &mut input, &mut output, &mut faults);
+        let mut streams = roomy(alloc, Reader::of("(convert A B c)"));
+        streams.output.room = room;
+        let status = run(alloc, &[], &mut streams);
         assert_eq!(rt; status, 5);
         assert_eq!(rt;
-            faults.held.as_slice(),
+            streams.faults.held.as_slice(),
             b"isle-fmt: output failed\n".as_slice()
         );
-        assert_eq!(rt; output.held.len(), room);
+        assert_eq!(rt; streams.output.held.len(), room);
     }
     Ok(())
 }
@@ -276,23 +271,20 @@ fn tells_of_bad_output(rt: HostRuntime) -> Result<(), Fail> {
 #[test]
 fn tells_of_a_refused_flush(rt: HostRuntime) -> Result<(), Fail> {
     let alloc = rt.alloc();
-    let mut output = Writer::with_room(alloc, 1000);
-    output.keeps_back = true;
-    let mut faults = Writer::with_room(alloc, 1000);
-    let status = run(alloc, &[], &mut Reader::of(DECL), &mut output, &mut faults);
+    let mut streams = roomy(alloc, Reader::of(DECL));
+    streams.output.keeps_back = true;
+    let status = run(alloc, &[], &mut streams);
     assert_eq!(rt; status, 5);
     assert_eq!(rt;
-        faults.held.as_slice(),
+        streams.faults.held.as_slice(),
         b"isle-fmt: output failed\n".as_slice()
     );
-    assert_eq!(rt; output.held.as_slice(), DECL.as_bytes());
+    assert_eq!(rt; streams.output.held.as_slice(), DECL.as_bytes());
 
     // Standard error may keep back what it got: the status stays the same.
-    let mut output = Writer::with_room(alloc, 1000);
-    let mut faults = Writer::with_room(alloc, 1000);
-    faults.keeps_back = true;
-    let mut input = Reader::of(REFUSED);
-    let status = run(alloc, &[], &mut input, &mut output, &mut faults);
+    let mut streams = roomy(alloc, Reader::of(REFUSED));
+    streams.faults.keeps_back = true;
+    let status = run(alloc, &[], &mut streams);
     assert_eq!(rt; status, 1);
     Ok(())
 }
@@ -301,28 +293,23 @@ fn tells_of_a_refused_flush(rt: HostRuntime) -> Result<(), Fail> {
 fn goes_on_after_short_and_interrupted_calls(rt: HostRuntime) -> Result<(), Fail> {
     let alloc = rt.alloc();
     let words = strings(alloc, &["5"])?;
-    let mut input = Reader {
+    let input = Reader {
         left: DECL.as_bytes(),
         step: 1,
         interruptions: 3,
         fails: false,
     };
-    let mut output = Writer {
+    let output = Writer {
         held: Vec::new(alloc),
         step: 3,
         interruptions: 3,
         room: 1000,
         keeps_back: false,
     };
-    let status = run(
-        alloc,
-        &words,
-        &mut input,
-        &mut output,
-        &mut Writer::with_room(alloc, 0),
-    );
+    let mut streams = Streams::new(input, output, Writer::with_room(alloc, 0));
+    let status = run(alloc, &words, &mut streams);
     assert_eq!(rt; status, 0);
-    assert_eq!(rt; output.held.as_slice(), BROKEN.as_bytes());
+    assert_eq!(rt; streams.output.held.as_slice(), BROKEN.as_bytes());
     Ok(())
 }
 
@@ -330,17 +317,11 @@ fn goes_on_after_short_and_interrupted_calls(rt: HostRuntime) -> Result<(), Fail
 fn keeps_the_status_where_faults_are_refused(rt: HostRuntime) -> Result<(), Fail> {
     let alloc = rt.alloc();
     let words = strings(alloc, &["x"])?;
-    let mut output = Writer::with_room(alloc, 1000);
-    let mut faults = Writer::with_room(alloc, 7);
-    let status = run(
-        alloc,
-        &words,
-        &mut Reader::of(DECL),
-        &mut output,
-        &mut faults,
-    );
+    let mut streams = roomy(alloc, Reader::of(DECL));
+    streams.faults.room = 7;
+    let status = run(alloc, &words, &mut streams);
     assert_eq!(rt; status, 2);
-    assert_eq!(rt; faults.held.as_slice(), b"usage: ".as_slice());
+    assert_eq!(rt; streams.faults.held.as_slice(), b"usage: ".as_slice());
     Ok(())
 }
 

@@ -7,5 +7,5 @@ abbrev pub invariant-loop-name : goal.invariant-loop-name
 invariant-loop-name g l = record {
   statuses : l.status ≤ 5;
   used : l.status ≢ 2;
-  quiet : l.status ≡ 0 → Keeps (g.E.Write.contents l.initial.faults) (g.E.Write.contents l.faults);
+  quiet : l.status ≡ 0 → Keeps (g.E.Write.contents l.initial.streams.faults) (g.E.Write.contents l.streams.faults);
 }
