@@ -1,10 +1,7 @@
 -- What an editor is told of a text.
-use Rattle.std.specs.Prelude.{◌≡◌, ℕ, ◌+◌, ◌-◌, ◌⊎◌, List, [], ◌∷◌, ◌++◌, Option, None, Some, Result, filter, length, map, min, not, codes, string_bytes}
-use Rattle.std.specs.Global.{Vec}
+use Rattle.std.specs.Prelude.{◌≡◌, ℕ, ◌+◌, ◌-◌, ◌⊎◌, List, [], ◌∷◌, ◌++◌, Option, None, Some, filter, length, map, min, not, codes, string_bytes}
 use Rattle.std.specs.List.Sorted.{IsPermutation, IsSortedByKey}
 use Rattle.isle_ast.specs.Tree.{Definition}
-use Rattle.isle_ast.specs.declared.ast.Def.{Def}
-use Rattle.isle_base.specs.declared.fault.Fault.{Fault}
 use Rattle.isle_base_source.specs.PositionOrder.{position_cmp}
 use Rattle.isle_base_source.specs.declared.error.Error as errors
 use Rattle.isle_base_source.specs.declared.error.Error.TheVariants.{ParseError}
@@ -14,13 +11,8 @@ use Rattle.isle_findings.specs.Lint.{all_lints, is_default, message}
 use Rattle.isle_findings.specs.declared.finding.Finding.{Finding}
 use Rattle.isle_findings.specs.declared.lint.Lint.{Lint}
 use Rattle.isle_reading.specs.Allowances.{is_allowed}
-use Rattle.isle_reading.specs.Reading as reading
 use Rattle.isle_reading.specs.Reading.{IsRefusedWith, IsTreeOf}
 use Rattle.isle_lsp_diagnostics.specs.declared.Diagnostic.{Diagnostic}
-
--- what a parser answers of a text
-abbrev pub IsReadAs : ℕ → List ℕ → Result (Vec Def) Fault → Type 0
-IsReadAs = reading.IsReadAs
 
 -- what is told of a part of a text
 pub record Mark : Type 0 where

@@ -11,19 +11,19 @@ ghost use Rattle.isle_base_source.specs.declared.error.Error as errors;
 ghost use Rattle.isle_cli.specs.declared.failure.Failure.TheVariants.{Memory};
 ghost use Rattle.isle_findings.specs.Finding.{finding_of};
 ghost use Rattle.isle_findings.specs.Lint.{all_lints, is_default};
-ghost use Rattle.isle_lsp_diagnostics.specs.Diagnostics.{AreMarks, AreMarksOf, IsReadAs};
+ghost use Rattle.isle_lsp_diagnostics.specs.Diagnostics.{AreMarks, AreMarksOf};
 ghost use Rattle.isle_lsp_diagnostics.specs.Diagnostics.{error_mark, found_mark, found_text};
 ghost use Rattle.isle_lsp_diagnostics.specs.Diagnostics.{mark_of, shown};
 
 use isle_ast::ast::Def;
-use isle_base::lexer::{Fault, Lexer};
+use isle_base::lexer::Fault;
 use isle_base_source::error::Error;
 use isle_base_source::files::LineMap;
 use isle_cli::failure::Failure;
 use isle_findings::{Finding, Lint, findings};
 use isle_parser::dropping::drop_definitions;
-use isle_parser::parser::parse;
 use isle_reading::allowances::{is_allowed, lines_above};
+use isle_reading::trees::read_defs;
 use std::alloc::{AllocError, Global};
 
 /// Something that is told of a part of a text.
@@ -54,14 +54,6 @@ pub fn diagnostics(alloc: Global, text: &str) -> Result<Vec<Diagnostic>, Failure
         Err(Fault::Error(error)) => Ok(refused(alloc, text, error)?),
         Err(Fault::Failed | Fault::Memory) => Err(Failure::Memory),
     }
-}
-
-/// Reads the definitions that a text spells, as the file of this number.
-pub fn read_defs(alloc: Global, file: usize, text: &str) -> Result<Vec<Def>, Fault>
-    ensures { IsReadAs file text.now result }
-{
-    let lexer = Lexer::new(alloc, file, text)?;
-    parse(alloc, lexer)
 }
 
 /// Gives what is told of a text that spells no tree.

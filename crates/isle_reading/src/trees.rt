@@ -107,8 +107,8 @@ pub fn refused_count(refusals: &[Option<Error>]) -> usize
     count
 }
 
-/// The definitions that a text spells, as the file of this number.
-fn read_defs(alloc: Global, file: usize, text: &str) -> Result<Vec<Def>, Fault>
+/// Reads the definitions that a text spells, as the file of this number.
+pub fn read_defs(alloc: Global, file: usize, text: &str) -> Result<Vec<Def>, Fault>
     ensures { IsReadAs file text.now result }
 {
     let lexer = Lexer::new(alloc, file, text)?;
