@@ -30,12 +30,15 @@ use std::io::{Read, Write};
 ///
 /// | Status | When | Standard error gets |
 /// |---|---|---|
-/// | 0 | the output got the print of the expansion; or the help or the version, if it is asked for | a line for each implicit conversion that the expansion may lose |
-/// | 1 | a text is no text of ISLE; or an extractor is used in a wrong way | a line for each such text, or for the first such use |
+/// | 0 | the output got the print of the expansion, or the help or the version | warnings |
+/// | 1 | a text is no text of ISLE, or an extractor is misused | a line for each, or the first |
 /// | 2 | the words are none of the usage | the usage |
-/// | 3 | a file, or standard input, can't be read to its end, or isn't UTF-8 | a line for each |
+/// | 3 | a file, or standard input, can't be read whole, or isn't UTF-8 | a line for each |
 /// | 4 | memory was refused | `isle-expand: out of memory` |
 /// | 5 | the output failed, with a beginning of the print in it | `isle-expand: output failed` |
+///
+/// A warning is a line for each implicit conversion that the expansion may lose. The help and the
+/// version come where they are asked for; then there is none.
 ///
 /// A width is one ASCII digit or more, of a number of bytes that fits `usize`; without `--width` it
 /// is 78. Where standard error refuses bytes, the status stays the same.

@@ -36,11 +36,13 @@ pub fn this_program() -> Program
 /// | Status | When | Standard error gets |
 /// |---|---|---|
 /// | 0 | the output got the formatted text | nothing |
-/// | 1 | the input is no text of ISLE | the message, and `<stdin>:LINE:COLUMN: ` with the line itself, counted from 1 |
+/// | 1 | the input is no text of ISLE | the message, and the line with its place |
 /// | 2 | there is more than one word, or one that is no width | `usage: isle-fmt [WIDTH]` |
-/// | 3 | the input can't be read to its end, or isn't UTF-8 | `isle-fmt: input is unreadable or not UTF-8` |
+/// | 3 | the input isn't readable or UTF-8 | `isle-fmt: input is unreadable or not UTF-8` |
 /// | 4 | memory was refused | `isle-fmt: out of memory` |
-/// | 5 | the output failed, with a beginning of the formatted text in it | `isle-fmt: output failed` |
+/// | 5 | the output failed, with a beginning of the text in it | `isle-fmt: output failed` |
+///
+/// The line comes after `<stdin>:LINE:COLUMN: `, both counted from 1.
 ///
 /// A width is one ASCII digit or more, of a number of bytes that fits `usize`; without a word it
 /// is 78. Where standard error refuses bytes, the status stays the same.

@@ -13,7 +13,8 @@ ghost use Rattle.isle_cli.specs.Sources.{source_of};
 ghost use Rattle.isle_lsp_names.specs.Answers.{answer_of};
 ghost use Rattle.isle_lsp.specs.Conversations.{nothing};
 ghost use Rattle.isle_lsp.specs.Serving as serving;
-ghost use Rattle.isle_lsp.specs.Serving.{IsNamed, IsResult, IsResultOf, KeepsFiles, Publishes, Sends, Tells};
+ghost use Rattle.isle_lsp.specs.Serving.{IsNamed, IsResult, IsResultOf, KeepsFiles, Publishes};
+ghost use Rattle.isle_lsp.specs.Serving.{Sends, Tells};
 ghost use Rattle.isle_lsp.specs.Serving.{documents_after, documents_after_note, documents_noted};
 ghost use Rattle.isle_lsp.specs.Serving.{document_in, held_of, outcome_of, reply};
 

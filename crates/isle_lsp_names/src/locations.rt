@@ -62,7 +62,8 @@ pub fn references(
 /// Gives where the name at a place stands in its file, or null where there is no name.
 pub fn highlights(alloc: Global, index: &Index, place: Place) -> Result<Value, AllocError>
     ensures { let all = all_seen index.now.seen.items in IfOk result (λ value.
-        AreHighlights place.entry.pos.file place.entry.text.now (name_at place.entry.pos all) all (view value)) }
+        AreHighlights place.entry.pos.file place.entry.text.now (name_at place.entry.pos all) all
+        (view value)) }
 {
     match index.name_at(alloc, place.pos)? {
         Some(name) => {

@@ -26,7 +26,8 @@ use std::alloc::{AllocError, Global};
 /// Gives the range of the name at a place, or null where there is none.
 pub fn prepared(alloc: Global, index: &Index, place: Place) -> Result<Value, AllocError>
     ensures { let all = all_seen index.now.seen.items in IfOk result (λ value. view value
-        ≡ wanted.prepared place.entry.text.now (name_at place.entry.pos all) (occurrence_at place.entry.pos all)) }
+        ≡ wanted.prepared place.entry.text.now (name_at place.entry.pos all)
+        (occurrence_at place.entry.pos all)) }
 {
     match index.name_at(alloc, place.pos)? {
         Some(name) => prepared_name(alloc, place.text, &name, index.occurrence_at(place.pos)),

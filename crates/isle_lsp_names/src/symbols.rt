@@ -1,6 +1,7 @@
 //! What files define.
 
-ghost use Rattle.std.specs.Prelude.{◌≡◌, ◌++◌, IfOk, OnOk, map, option_map, option_to_list, string_bytes};
+ghost use Rattle.std.specs.Prelude.{◌≡◌, ◌++◌, IfOk, OnOk, map, option_map, option_to_list};
+ghost use Rattle.std.specs.Prelude.{string_bytes};
 ghost use Rattle.std.specs.List.{flat_map};
 ghost use Rattle.serde_json.specs.Data.{array};
 ghost use Rattle.serde_json.specs.View.{items_of, view};
@@ -39,7 +40,8 @@ fn symbol_values(
     symbols: &[Symbol],
 ) -> Result<Value, AllocError>
     ensures { IfOk result (λ value. view value
-        ≡ array (items_of (map (wanted.symbol_data text.now lists.now) (map symbol_of symbols.now)))) }
+        ≡ array (items_of (map (wanted.symbol_data text.now lists.now)
+        (map symbol_of symbols.now)))) }
 {
     let mut values = Vec::new(alloc);
     let mut near = START;
@@ -109,7 +111,8 @@ fn add_matching(
     values: &mut Vec<Value>,
 ) -> Result<(), AllocError>
     ensures { OnOk result (map view values.new.items ≡ map view values.old.items
-        ++ flat_map (wanted.symbol_in query.now (source_of source.now)) (map symbol_of symbols.now)) }
+        ++ flat_map (wanted.symbol_in query.now (source_of source.now))
+        (map symbol_of symbols.now)) }
 {
     let mut near = START;
     for symbol in symbols {

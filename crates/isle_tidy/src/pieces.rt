@@ -85,7 +85,8 @@ fn put_others<W: Write>(
     output: &mut W,
 ) -> Result<(), Failure>
     requires { (text before : List ℕ) × HasWritten text before tidying.old }
-    ensures ok { OnOk result (PutsRest tidying.old (W.contents output.old) (W.contents output.new)) }
+    ensures ok { OnOk result (PutsRest tidying.old
+        (W.contents output.old) (W.contents output.new)) }
     ensures err { IfErr result (λ failure. (failure ≡ Output)
         × CutsRest tidying.old (W.contents output.old) (W.contents output.new)) }
 {
@@ -105,7 +106,8 @@ fn put_pieces<W: Write>(
     output: &mut W,
 ) -> Result<(), Failure>
     requires { (text before : List ℕ) × HasWritten text before tidying.old }
-    ensures ok { OnOk result (PutsRest tidying.old (W.contents output.old) (W.contents output.new)) }
+    ensures ok { OnOk result (PutsRest tidying.old
+        (W.contents output.old) (W.contents output.new)) }
     ensures err { IfErr result (λ failure. FailsPiece failure tidying.old
         (W.contents output.old) (W.contents output.new)) }
 {
