@@ -14,7 +14,10 @@ returns-in_err-put_next-clause-put c file text s =
 pub returns-in_err-put_next-clause-refused : goal.returns-in_err-put_next-clause-refused
 returns-in_err-put_next-clause-refused c file text s =
     let p = err_from_is_err_and c.from_residual.result c.from_residual.ensures.1 in
-    rw (p.1, p.2) (refused_next file text (string_bytes c.args.answer.now) (string_bytes c.loop.answer) c.args.parser.now c.loop.parser c.in_err-put_next.field-0.0 s c.loop.invariant c.in_err-put_next.ensures.failed c.in_err-put_next.ensures.refused)
+    rw (p.1, p.2)
+    (refused_next file text (string_bytes c.args.answer.now) (string_bytes c.loop.answer)
+    c.args.parser.now c.loop.parser c.in_err-put_next.field-0.0 s c.loop.invariant
+    c.in_err-put_next.ensures.failed c.in_err-put_next.ensures.refused)
 
 pub returns-in_err-put_next-clause-never_failed : goal.returns-in_err-put_next-clause-never_failed
 returns-in_err-put_next-clause-never_failed c =
@@ -31,4 +34,8 @@ loop-preserved c =
 
 pub returns-clause-put : goal.returns-clause-put
 returns-clause-put c file text s =
-    all_put file text (string_bytes c.args.answer.now) (string_bytes c.loop.answer) (string_bytes c.put_next.new.answer) c.args.parser.now c.loop.parser c.put_next.new.parser s c.loop.invariant (c.in_ok-put_next.ensures.done (ap Ok c.if-branch.false)) (c.in_ok-put_next.ensures.kept (ap Ok c.if-branch.false))
+    all_put file text
+    (string_bytes c.args.answer.now) (string_bytes c.loop.answer) (string_bytes c.put_next.new.answer)
+    c.args.parser.now c.loop.parser c.put_next.new.parser s c.loop.invariant
+    (c.in_ok-put_next.ensures.done (ap Ok c.if-branch.false))
+    (c.in_ok-put_next.ensures.kept (ap Ok c.if-branch.false))
