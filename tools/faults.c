@@ -28,8 +28,7 @@ static long number(const char *name) { return getenv(name) ? atol(getenv(name)) 
 /* Writes a byte to the log, which is opened anew each time: the program's own files are never touched. */
 static void log_byte(const char *byte)
 {
-    const char *name = getenv("LOG");
-    long file = name ? syscall(SYS_openat, AT_FDCWD, name, O_WRONLY | O_APPEND, 0) : -1;
+    long file = syscall(SYS_openat, AT_FDCWD, getenv("LOG"), O_WRONLY | O_APPEND, 0);
     syscall(SYS_write, file, byte, 1);
     syscall(SYS_close, file);
 }

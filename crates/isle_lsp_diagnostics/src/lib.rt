@@ -39,8 +39,8 @@ pub struct Diagnostic {
     pub message: String,
 }
 
-/// Gives what is told of a text, in order of place: what `isle-lint` tells of it, without an option,
-/// and nothing else. It fails only with `Memory`.
+/// Gives what is told of a text, in order of place: what `isle-lint` tells of it alone, without an
+/// option. It fails only with `Memory`.
 pub fn diagnostics(alloc: Global, text: &str) -> Result<Vec<Diagnostic>, Failure>
     ensures ok { IfOk result (λ told. AreMarks text.now (map mark_of told.items)) }
     ensures err { IfErr result (λ failure. failure ≡ Memory) }

@@ -1,0 +1,53 @@
+;; Drives eglot over isle-lsp, by its own commands, and writes a line of JSON for what comes of each. Places are lines and characters,
+;; from 0 on. The configuration is emacs.el.
+(require 'eglot)
+(require 'json)
+(setq eglot-sync-connect 20 make-backup-files nil)
+
+(defun tell (name value) (princ (concat (json-encode `((name . ,name) (value . ,value))) "\n")))
+(defun wait (test)
+  (with-timeout (20) (while (not (funcall test)) (accept-process-output nil 0.02))))
+(defun lines () (vconcat (split-string (buffer-substring-no-properties (point-min) (point-max)) "\n" t)))
+(defun place () (vector (1- (line-number-at-pos)) (- (point) (line-beginning-position))))
+(defun go-to-use () (goto-char (point-min)) (search-forward "twice w") (backward-char 4))
+
+;; No command loop runs here, so what waits for the end of a command is called.
+(find-file "a.isle")
+(run-hooks 'post-command-hook)
+(wait #'flymake-diagnostics)
+(tell "diagnostics"
+      (vconcat (mapcar (lambda (it)
+                         (goto-char (flymake-diagnostic-beg it))
+                         (vector (1- (line-number-at-pos))
+                                 (buffer-substring-no-properties (flymake-diagnostic-beg it) (flymake-diagnostic-end it))
+                                 (replace-regexp-in-string "^isle.*?: " "" (flymake-diagnostic-text it))))
+                       (flymake-diagnostics))))
+
+(set-buffer-modified-p t)
+(save-buffer)
+(tell "saved" (with-temp-buffer (insert-file-contents "a.isle") (lines)))
+
+(go-to-use)
+(xref-find-definitions (xref-backend-identifier-at-point 'eglot))
+(tell "definition" (place))
+
+(go-to-use)
+(tell "references"
+      (vconcat (mapcar (lambda (it)
+                         (goto-char (xref-location-marker (xref-item-location it)))
+                         (place))
+                       (xref-backend-references 'eglot nil))))
+
+(go-to-use)
+(let (shown)
+  (eglot-hover-eldoc-function (lambda (text &rest _) (setq shown text)))
+  (wait (lambda () shown))
+  (tell "hover" (and shown (string-match "(decl.*" shown) (substring-no-properties (match-string 0 shown)))))
+
+(go-to-use)
+(eglot-rename "double")
+(tell "renamed" (lines))
+
+;; It fails where no answer comes.
+(eglot-shutdown (eglot-current-server))
+(tell "stopped" t)

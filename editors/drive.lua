@@ -1,0 +1,64 @@
+-- Drives Neovim over isle-lsp, by its own commands, and writes a line of JSON for what comes of each. Places are lines and characters,
+-- from 0 on. The configuration is neovim.lua.
+
+-- What neovim.lua needs and Neovim 0.7 has not yet.
+if vim.fn.has("nvim-0.8") == 0 then
+  vim.api.nvim_create_autocmd("BufRead", { pattern = "*.isle", command = "setfiletype isle" })
+  vim.lsp.start = function(config) vim.lsp.buf_attach_client(0, vim.lsp.start_client(config)) end
+  vim.lsp.buf.format = vim.lsp.buf.formatting_sync
+  vim.fs = {
+    find = function(name, how) return { vim.fn.fnamemodify(how.path, ":h") .. "/" .. name } end,
+    dirname = function(path) return vim.fn.fnamemodify(path, ":h") end,
+  }
+end
+local active_clients = vim.lsp.get_clients or vim.lsp.get_active_clients
+
+local function tell(name, value) io.stdout:write(vim.json.encode({ name = name, value = value }) .. "\n") end
+local function wait(test) return vim.wait(20000, test, 20) end
+local function lines() return vim.api.nvim_buf_get_lines(0, 0, -1, true) end
+-- A line from 0 on, and of a byte of it, from 1 on, the character.
+local function place(line, byte) return { line, vim.fn.strchars(lines()[line + 1]:sub(1, byte - 1)) } end
+-- Does a command at the last use of `twice`.
+local function at_use(command, ...)
+  vim.fn.search("twice w", "cw")
+  command(...)
+end
+
+vim.cmd("edit a.isle")
+wait(function() return #vim.diagnostic.get(0) > 0 end)
+tell("diagnostics", vim.tbl_map(function(it)
+  return { it.lnum, lines()[it.lnum + 1]:sub(it.col + 1, it.end_col), it.message }
+end, vim.diagnostic.get(0)))
+
+vim.cmd("write")
+tell("saved", vim.fn.readfile("a.isle"))
+
+at_use(vim.lsp.buf.definition)
+wait(function() return vim.fn.line(".") == 3 end)
+tell("definition", place(vim.fn.line(".") - 1, vim.fn.col(".")))
+
+at_use(vim.lsp.buf.references)
+wait(function() return #vim.fn.getqflist() > 0 end)
+vim.cmd("cclose")
+tell("references", vim.tbl_map(function(it) return place(it.lnum - 1, it.col) end, vim.fn.getqflist()))
+
+-- The text of the window that floats.
+local function shown()
+  for _, window in ipairs(vim.api.nvim_list_wins()) do
+    if vim.api.nvim_win_get_config(window).relative ~= "" then
+      return table.concat(vim.api.nvim_buf_get_lines(vim.api.nvim_win_get_buf(window), 0, -1, true), "\n")
+    end
+  end
+end
+at_use(vim.lsp.buf.hover)
+wait(shown)
+tell("hover", (shown() or ""):match("%(decl[^\n]*"))
+
+at_use(vim.lsp.buf.rename, "double")
+wait(function() return vim.fn.search("double w", "cnw") > 0 end)
+tell("renamed", lines())
+
+local client = active_clients()[1].id
+vim.lsp.stop_client(client)
+tell("stopped", wait(function() return vim.lsp.client_is_stopped(client) end))
+vim.cmd("qall!")
