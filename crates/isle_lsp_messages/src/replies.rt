@@ -1,4 +1,4 @@
-//! What the server sends: answers, refusals, and the diagnostics of a document.
+//! What the server sends in reply: answers and refusals.
 
 ghost use Rattle.std.specs.Prelude.{◌≡◌, IfOk, option_map, string_bytes};
 ghost use Rattle.serde_json.specs.Find.{of_integer};
@@ -82,25 +82,4 @@ pub fn reason_of(code: Code) -> &'static str
         Code::ServerNotInitialized => "the session is not initialized",
         Code::RequestFailed => "the request can't be done",
     }
-}
-
-/// Makes the text of the notification that tells the diagnostics of a document.
-pub fn publishing(alloc: Global, uri: &str, diagnostics: Value) -> Result<String, AllocError>
-    ensures { IfOk result (λ text. wanted.IsTextOf (wanted.publishing uri.now (view diagnostics))
-        (string_bytes text)) }
-{
-    let value = publishing_value(alloc, uri, diagnostics)?;
-    value.to_string(alloc)
-}
-
-/// Makes that notification.
-fn publishing_value(alloc: Global, uri: &str, diagnostics: Value) -> Result<Value, AllocError>
-    ensures { IfOk result
-        (λ value. view value ≡ wanted.publishing uri.now (view diagnostics)) }
-{
-    json!(in alloc; {
-        "jsonrpc": "2.0",
-        "method": "textDocument/publishDiagnostics",
-        "params": {"uri": uri, "diagnostics": diagnostics}
-    })
 }

@@ -56,33 +56,6 @@ pub fn text_edit(alloc: Global, range: Range, text: &str) -> Result<Value, Alloc
     json!(in alloc; {"range": range, "newText": text})
 }
 
-/// Makes the diagnostic of an error.
-pub fn error_value(alloc: Global, range: Range, message: &str) -> Result<Value, AllocError>
-    ensures { IfOk result (λ value. view value ≡ wanted.error_data range message.now) }
-{
-    let range = range_value(alloc, range)?;
-    json!(in alloc; {"range": range, "severity": 1u64, "source": "isle", "message": message})
-}
-
-/// Makes the diagnostic of a warning, whose code is the name of a lint.
-pub fn warning_value(
-    alloc: Global,
-    range: Range,
-    code: &str,
-    message: &str,
-) -> Result<Value, AllocError>
-    ensures { IfOk result (λ value. view value ≡ wanted.warning_data range code.now message.now) }
-{
-    let range = range_value(alloc, range)?;
-    json!(in alloc; {
-        "range": range,
-        "severity": 2u64,
-        "code": code,
-        "source": "isle",
-        "message": message
-    })
-}
-
 /// Makes the location of a range in a document.
 pub fn location(alloc: Global, uri: &str, range: Range) -> Result<Value, AllocError>
     ensures { IfOk result (λ value. view value ≡ wanted.location uri.now range) }
