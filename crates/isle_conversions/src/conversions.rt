@@ -12,8 +12,8 @@ ghost use Rattle.isle_conversions.specs.Warnings.{gives_extractor, has_type};
 ghost use Rattle.isle_conversions.specs.Warnings.{is_conversion, is_lossy, is_lossy_by};
 ghost use Rattle.isle_conversions.specs.Warnings.{is_of_type, is_text, may_be};
 ghost use Rattle.isle_conversions.specs.Warnings.{risk_in, risk_view, risks, use_warnings};
-ghost use Rattle.isle_conversions.specs.Warnings.{wanted_type, warning_of, warning_pos, warning_text};
-ghost use Rattle.isle_conversions.specs.Warnings.{warnings_in, warnings_of};
+ghost use Rattle.isle_conversions.specs.Warnings.{wanted_type, warning_of, warning_pos};
+ghost use Rattle.isle_conversions.specs.Warnings.{warning_text, warnings_in, warnings_of};
 
 use crate::placed::{Placed, Wanted, placed_in};
 use crate::types::{argument_type, value_type};

@@ -85,8 +85,8 @@ fn clean_blanks_at(bytes: &[u8], from: usize) -> Option<Blanks>
     })
 }
 
-/// Gives how many spaces are at an offset, if they are one or none and no other blank follows. So it
-/// is before most entries.
+/// Gives how many spaces are at an offset, if they are one or none and no other blank follows. So
+/// it is before most entries.
 #[inline(always)]
 pub fn near_width_at(bytes: &[u8], from: usize) -> Option<usize>
     requires { from ≤ length bytes.now }

@@ -1,7 +1,7 @@
 //! How the open lists change from entry to entry.
 
-ghost use Rattle.std.specs.Prelude.{◌≡◌, ◌≢◌, ◌+◌, ◌<◌, ◌≤◌, ◌^◌, ◌∷◌, ◌++◌, ℕ, List, [], IfOk, Some};
-ghost use Rattle.std.specs.Prelude.{length};
+ghost use Rattle.std.specs.Prelude.{◌≡◌, ◌≢◌, ◌+◌, ◌<◌, ◌≤◌, ◌^◌, ◌∷◌, ◌++◌, ℕ, List, [], IfOk};
+ghost use Rattle.std.specs.Prelude.{Some, length};
 ghost use Rattle.isle_document_layout.specs.Placing.{Here, OpenList, begun};
 ghost use Rattle.isle_document_layout.specs.EntriesView.{lexeme_of};
 ghost use Rattle.isle_document_layout.specs.Placing.{head_of as head_in};

@@ -82,7 +82,8 @@ fn width_of(gap: Gap) -> usize
 /// Gives these columns, if they can be counted.
 #[inline(always)]
 fn small(in_source: usize, in_result: usize) -> Result<Columns, AllocError>
-    ensures { IfOk result (λ r. IsSmall r × (r ≡ record { source = in_source; result = in_result })) }
+    ensures { IfOk result (λ r. IsSmall r
+        × (r ≡ record { source = in_source; result = in_result })) }
 {
     if in_source < MAX_COLUMNS && in_result < MAX_COLUMNS {
         Ok(Columns {

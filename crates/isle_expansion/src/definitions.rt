@@ -26,7 +26,8 @@ pub fn expand_definitions(
 ) -> Result<Vec<Def>, Refusal>
     requires { definitions_have_macro_arg (definitions_of defs.now) ≡ false }
     ensures { Gives (λ made. definitions_of made.items) result
-        (expand_definitions (definitions_of defs.now) (definitions_of defs.now) (macros_of macros.now)) }
+        (expand_definitions (definitions_of defs.now) (definitions_of defs.now)
+        (macros_of macros.now)) }
 {
     let mut made = Vec::new(alloc);
     for def in defs {
@@ -47,7 +48,8 @@ fn expand_definition(
 ) -> Result<Option<Def>, Refusal>
     requires { definition_has_macro_arg (definition_of def.now) ≡ false }
     ensures { Gives (λ left. definitions_of (option_to_list left)) result
-        (expand_definition (definitions_of defs.now) (definition_of def.now) (macros_of macros.now)) }
+        (expand_definition (definitions_of defs.now) (definition_of def.now)
+        (macros_of macros.now)) }
 {
     match def {
         Def::Rule(rule) => Ok(Some(Def::Rule(expand_rule(rule, alloc, macros)?))),
@@ -78,7 +80,8 @@ fn expand_rule(rule: &Rule, alloc: Global, macros: &[Macro]) -> Result<Rule, Ref
 
 /// Expands the arguments of a rule's root. A root that is no term stays as it is.
 fn expand_root(pattern: &Pattern, alloc: Global, macros: &[Macro]) -> Result<Pattern, Refusal>
-    ensures { Gives pattern_of result (expand_root (pattern_of pattern.now) (macros_of macros.now)) }
+    ensures { Gives pattern_of result
+        (expand_root (pattern_of pattern.now) (macros_of macros.now)) }
 {
     match pattern {
         Pattern::Term { sym, args, pos } => Ok(Pattern::Term {

@@ -58,7 +58,8 @@ fn add(
     ensures begun { OnOk result (reverse begun.new.items
         ≡ opened (token_of_ref ahead.entry.1) ahead.entry.0.offset (reverse begun.old.items)) }
     ensures found { OnOk result (found.new.items
-        ≡ found.old.items ++ closed (token_of_ref ahead.entry.1) ahead.entry.0.offset (reverse begun.old.items)) }
+        ≡ found.old.items ++ closed (token_of_ref ahead.entry.1) ahead.entry.0.offset
+        (reverse begun.old.items)) }
 {
     let (pos, token) = ahead;
     match token {
