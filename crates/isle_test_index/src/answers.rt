@@ -1,19 +1,17 @@
 //! The answers to requests.
 
-use isle_ast::ast::Def;
 use isle_base::lexer::Pos;
 use isle_index::{Index, Name};
 use std::alloc::{AllocError, Global};
 
 /// Answers requests to the index of a program, one a line.
-pub fn answers(alloc: Global, trees: &[Vec<Def>], requests: &str) -> Result<String, AllocError> {
-    let index = Index::new(alloc, trees)?;
+pub fn answers(alloc: Global, index: &Index, requests: &str) -> Result<String, AllocError> {
     let mut all = String::new(alloc);
     for line in requests.lines() {
         all.push_str(line)?;
         all.push_str("\n")?;
         if !line.is_empty() && !line.starts_with('#') {
-            all.push_str(answer(alloc, &index, line)?.as_str())?;
+            all.push_str(answer(alloc, index, line)?.as_str())?;
         }
     }
     Ok(all)
