@@ -1,4 +1,5 @@
 pub mod Scopes
+pub mod Held
 pub mod Names
 pub mod Occurrences
 pub mod Symbols

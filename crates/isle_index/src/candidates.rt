@@ -4,7 +4,7 @@ ghost use Rattle.std.specs.Prelude.{◌≡◌, ◌++◌, ◌∷◌, [], IfOk, On
 ghost use Rattle.std.specs.List.{filter_map};
 ghost use Rattle.isle_index.specs.Candidates.{begins_with, bound_at, candidate_of, candidates};
 ghost use Rattle.isle_index.specs.Candidates.{global_candidate, is_behind, is_nearer, nearer_by};
-ghost use Rattle.isle_index.specs.Candidates.{nearest, variable_candidate, visible};
+ghost use Rattle.isle_index.specs.Candidates.{nearest, variable_candidate, visible, written};
 ghost use Rattle.isle_index.specs.Scopes.{all_seen, bounds_of};
 ghost use Rattle.isle_index.specs.Symbols.{symbol};
 
@@ -19,7 +19,8 @@ use std::alloc::{AllocError, Global};
 pub struct Candidate {
     /// What it is.
     pub kind: SymbolKind,
-    /// Its text: of a variant that of the term, `TYPE.VARIANT`, of a constant without its `$`.
+    /// Its text as it is written in a rule: of a variant that of the term, `TYPE.VARIANT`, of a
+    /// constant with its `$`.
     pub text: String,
 }
 
@@ -37,14 +38,15 @@ pub fn candidates(
     alloc: Global,
     seen: &[Seen],
     place: Pos,
-    prefix: &str,
+    from: usize,
+    prefix: &[u8],
 ) -> Result<Vec<Candidate>, AllocError>
     ensures { IfOk result (λ found. map candidate_of found.items
-        ≡ candidates place prefix.now (all_seen seen.now)) }
+        ≡ candidates place from prefix.now (all_seen seen.now)) }
 {
     let mut found = Vec::new(alloc);
     add_globals(alloc, seen, prefix, &mut found)?;
-    let bound = visible(alloc, seen, place)?;
+    let bound = visible(alloc, seen, place, from)?;
     add_variables(alloc, &bound, prefix, &mut found)?;
     Ok(found)
 }
@@ -53,7 +55,7 @@ pub fn candidates(
 fn add_globals(
     alloc: Global,
     seen: &[Seen],
-    prefix: &str,
+    prefix: &[u8],
     found: &mut Vec<Candidate>,
 ) -> Result<(), AllocError>
     ensures { OnOk result (map candidate_of found.new.items
@@ -62,17 +64,33 @@ fn add_globals(
 {
     for event in seen {
         if let Some(symbol) = defined_symbol(alloc, &event.event)? {
-            add(symbol.kind, symbol.text, prefix, found)?;
+            let text = written(alloc, symbol.kind, symbol.text)?;
+            add(symbol.kind, text, prefix, found)?;
         }
     }
     Ok(())
+}
+
+/// Gives the text of a symbol as it is written in a rule.
+fn written(alloc: Global, kind: SymbolKind, text: String) -> Result<String, AllocError>
+    ensures { IfOk result
+        (λ written_text. string_bytes written_text ≡ written kind (string_bytes text)) }
+{
+    match kind {
+        SymbolKind::Constant => {
+            let mut signed = String::from_str(alloc, "$")?;
+            signed.push_str(text.as_str())?;
+            Ok(signed)
+        }
+        _ => Ok(text),
+    }
 }
 
 /// Adds variables.
 fn add_variables(
     alloc: Global,
     bound: &[Bound],
-    prefix: &str,
+    prefix: &[u8],
     found: &mut Vec<Candidate>,
 ) -> Result<(), AllocError>
     ensures { OnOk result (map candidate_of found.new.items
@@ -90,27 +108,33 @@ fn add_variables(
 fn add(
     kind: SymbolKind,
     text: String,
-    prefix: &str,
+    prefix: &[u8],
     found: &mut Vec<Candidate>,
 ) -> Result<(), AllocError>
     ensures { OnOk result (map candidate_of found.new.items
         ≡ map candidate_of found.old.items ++ filter (begins_with prefix.now)
         (record { kind = kind; text = string_bytes text } ∷ [])) }
 {
-    if text.as_bytes().starts_with(prefix.as_bytes()) {
+    if text.as_bytes().starts_with(prefix) {
         found.push(Candidate { kind, text })?;
     }
     Ok(())
 }
 
-/// Gives the variables that are bound at the name that begins last at a place or before it.
-fn visible<'a>(alloc: Global, seen: &[Seen<'a>], place: Pos) -> Result<Vec<Bound<'a>>, AllocError>
+/// Gives the variables that are bound at the name that begins last at a place or before it, if it
+/// begins at this byte offset or after it.
+fn visible<'a>(
+    alloc: Global,
+    seen: &[Seen<'a>],
+    place: Pos,
+    from: usize,
+) -> Result<Vec<Bound<'a>>, AllocError>
     ensures { IfOk result
-        (λ bound. bounds_of bound.items ≡ visible place (all_seen seen.now)) }
+        (λ bound. bounds_of bound.items ≡ visible place from (all_seen seen.now)) }
 {
     match nearest(seen, place) {
-        Some(near) => bound_at(alloc, seen, near.number),
-        None => Ok(Vec::new(alloc)),
+        Some(near) if from <= near.offset => bound_at(alloc, seen, near.number),
+        _ => Ok(Vec::new(alloc)),
     }
 }
 

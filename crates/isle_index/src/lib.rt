@@ -13,10 +13,11 @@ ghost use Rattle.std.specs.Prelude.{◌≡◌, IfOk, filter, map, option_map};
 ghost use Rattle.std.specs.List.Sorted.{IsPermutation, IsSortedByKey};
 ghost use Rattle.isle_base_source.specs.PositionOrder.{position_cmp};
 ghost use Rattle.isle_index.specs.Candidates.{candidate_of, candidates};
+ghost use Rattle.isle_index.specs.Held.{all_in};
 ghost use Rattle.isle_index.specs.Names.{named_of};
 ghost use Rattle.isle_index.specs.Occurrences.{definitions, name_at, occurrence_at, occurrences};
 ghost use Rattle.isle_index.specs.Renaming.{IsAnswer};
-ghost use Rattle.isle_index.specs.Scopes.{all_seen, program_of, seen};
+ghost use Rattle.isle_index.specs.Scopes.{program_of, seen};
 ghost use Rattle.isle_index.specs.Symbols.{symbol_of, symbols};
 ghost use Rattle.isle_index_events.specs.Events.{events};
 
@@ -51,8 +52,7 @@ impl<'a> Index<'a> {
     /// in the positions of the trees; a file that isn't parsed can be left out or be empty. An
     /// `Err` means that memory ran out.
     pub fn new(alloc: Global, trees: &'a [Vec<Def>]) -> Result<Self, AllocError>
-        ensures { IfOk result
-            (λ index. all_seen index.seen.items ≡ seen (events (program_of trees.now))) }
+        ensures { IfOk result (λ index. all_in index ≡ seen (events (program_of trees.now))) }
     {
         let mut events = Vec::new(alloc);
         for tree in trees {
@@ -65,7 +65,7 @@ impl<'a> Index<'a> {
     /// Gives the occurrence at a place: that of the name one of whose bytes is there, or which ends
     /// there.
     pub fn occurrence_at(&self, place: Pos) -> Option<Occurrence>
-        ensures { result ≡ occurrence_at place (all_seen self.now.seen.items) }
+        ensures { result ≡ occurrence_at place (all_in self.now) }
     {
         occurrences::occurrence_at(&self.seen, place)
     }
@@ -74,7 +74,7 @@ impl<'a> Index<'a> {
     /// nothing binds the variable there. An `Err` means that memory ran out.
     pub fn name_at(&self, alloc: Global, place: Pos) -> Result<Option<Name>, AllocError>
         ensures { IfOk result (λ name. option_map named_of name
-            ≡ name_at place (all_seen self.now.seen.items)) }
+            ≡ name_at place (all_in self.now)) }
     {
         occurrences::name_at(alloc, &self.seen, place)
     }
@@ -83,7 +83,7 @@ impl<'a> Index<'a> {
     /// means that memory ran out.
     pub fn occurrences(&self, alloc: Global, name: &Name) -> Result<Vec<Occurrence>, AllocError>
         ensures exact { IfOk result (λ found. IsPermutation
-            (occurrences (named_of name.now) (all_seen self.now.seen.items)) found.items) }
+            (occurrences (named_of name.now) (all_in self.now)) found.items) }
         ensures in_order { IfOk result
             (λ found. IsSortedByKey (λ o. o.pos) position_cmp found.items) }
     {
@@ -98,7 +98,7 @@ impl<'a> Index<'a> {
     /// memory ran out.
     pub fn definitions(&self, alloc: Global, name: &Name) -> Result<Vec<Occurrence>, AllocError>
         ensures exact { IfOk result (λ found. IsPermutation
-            (definitions (named_of name.now) (all_seen self.now.seen.items)) found.items) }
+            (definitions (named_of name.now) (all_in self.now)) found.items) }
         ensures in_order { IfOk result
             (λ found. IsSortedByKey (λ o. o.pos) position_cmp found.items) }
     {
@@ -111,25 +111,28 @@ impl<'a> Index<'a> {
     /// means that memory ran out.
     pub fn symbols(&self, alloc: Global, file: usize) -> Result<Vec<Symbol>, AllocError>
         ensures { IfOk result (λ found. map symbol_of found.items
-            ≡ symbols file (all_seen self.now.seen.items)) }
+            ≡ symbols file (all_in self.now)) }
     {
         symbols::symbols(alloc, &self.seen, file)
     }
 
-    /// Gives the names that begin so and may be written at a place: all that the program defines,
-    /// and the variables that are bound at the name that begins last at the place or before it. A
-    /// name that is defined twice, or bound twice, is there twice. An `Err` means that memory ran
-    /// out.
+    /// Gives the names that may be written at a place and whose texts, as they are written there,
+    /// begin with these bytes: all that the program defines, and the variables that are bound at
+    /// the name that begins last at the place or before it, if it begins at the byte offset `from`
+    /// or after it. So where a definition around the place begins at `from`, the variables of
+    /// earlier ones are left out. A name that is defined twice, or bound twice, is there twice. An
+    /// `Err` means that memory ran out.
     pub fn candidates(
         &self,
         alloc: Global,
         place: Pos,
-        prefix: &str,
+        from: usize,
+        prefix: &[u8],
     ) -> Result<Vec<Candidate>, AllocError>
         ensures { IfOk result (λ found. map candidate_of found.items
-            ≡ candidates place prefix.now (all_seen self.now.seen.items)) }
+            ≡ candidates place from prefix.now (all_in self.now)) }
     {
-        candidates::candidates(alloc, &self.seen, place, prefix)
+        candidates::candidates(alloc, &self.seen, place, from, prefix)
     }
 
     /// Gives the places that change where a name of this index gets a new text, in order, or says
@@ -144,7 +147,7 @@ impl<'a> Index<'a> {
         new: &str,
     ) -> Result<Result<Vec<Pos>, Refusal>, AllocError>
         ensures { IfOk result
-            (IsAnswer (named_of name.now) new.now (all_seen self.now.seen.items)) }
+            (IsAnswer (named_of name.now) new.now (all_in self.now)) }
     {
         rename::rename(alloc, &self.seen, name, new)
     }

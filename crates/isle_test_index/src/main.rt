@@ -8,7 +8,7 @@
 //! |---|---|
 //! | `at OFFSET` | what is named there, and each occurrence, a definition with a `*` |
 //! | `symbols` | what the program defines |
-//! | `candidates OFFSET PREFIX` | what begins so and may be written there |
+//! | `candidates OFFSET PREFIX FROM` | what begins so and may be written, variables from FROM on |
 //! | `rename OFFSET NEW` | the places that change, or why the name can't get the text |
 #![tactic(auto)]
 
