@@ -66,16 +66,12 @@ all_have : (old new : List (String Global)) → Extends old new → (es : List E
 all_have old new more [] e has own = (own, tt)
 all_have old new more (x ∷ xs) e has own = (texts_stay old new more x has.0, all_have old new more xs e has.1 own)
 
-pub unpacked-append : (texts : List (String Global)) (i : ℕ) (es fs : List Entry) → unpacked_from texts i (es ++ fs) ≡ unpacked_from texts i es ++ unpacked_from texts (i + length es) fs
-unpacked-append texts i [] fs = let at : i ≡ i + 0 = omega arith in ap (λ j. unpacked_from texts j fs) at
-unpacked-append texts i (x ∷ xs) fs =
+unpacked_more : (texts : List (String Global)) (i : ℕ) (es : List Entry) (e : Entry) → unpacked_from texts i (es ++ e ∷ []) ≡ unpacked_from texts i es ++ unpacked texts (i + length es) e ∷ []
+unpacked_more texts i [] e = let at : i ≡ i + 0 = omega arith in ap (λ j. unpacked texts j e ∷ []) at
+unpacked_more texts i (x ∷ xs) e =
     let at : i + 1 + length xs ≡ i + length (x ∷ xs) = omega arith in
     ap (λ ss. unpacked texts i x ∷ ss)
-    (unpacked-append texts (i + 1) xs fs ∙ ap (λ j. unpacked_from texts (i + 1) xs ++ unpacked_from texts j fs) at)
-
-pub front-all : {A : Type 0} (Q : A → Type 0) (xs ys : List A) → AllByRecursion Q (xs ++ ys) → AllByRecursion Q xs
-front-all Q [] ys all = tt
-front-all Q (x ∷ xs) ys all = (all.0, front-all Q xs ys all.1)
+    (unpacked_more texts (i + 1) xs e ∙ ap (λ j. unpacked_from texts (i + 1) xs ++ unpacked texts j e ∷ []) at)
 
 pub length-unpacked : (texts : List (String Global)) (i : ℕ) (es : List Entry) → length (unpacked_from texts i es) ≡ length es
 length-unpacked texts i [] = refl
@@ -91,7 +87,7 @@ pub pushed : (old new : List (String Global)) (es : List Entry) (e : Entry) (s :
 pushed old new es e s more has is = let at : 0 + length es ≡ length es = omega arith in record {
   has = all_have old new more es e has is.has_texts;
   is =
-      unpacked-append new 0 es (e ∷ [])
+      unpacked_more new 0 es e
       ∙ ap (λ j. unpacked_from new 0 es ++ unpacked new j e ∷ []) at
       ∙ ap (λ ss. ss ++ unpacked new (length es) e ∷ []) (all_stay old new more 0 es has)
       ∙ ap (λ x. unpacked_from old 0 es ++ x ∷ []) is.is;

@@ -1,6 +1,6 @@
 -- Between definitions no variable is bound.
-use Rattle.std.proofs.Common.{◌≡◌, ℕ, ◌+◌, List, [], ◌∷◌, ◌++◌, length, map, refl, ap, ◌∙◌, suc, arith}
-use Rattle.std.proofs.lemmas.Grind.{flat_map-append}
+use Rattle.std.proofs.Common.{◌≡◌, ℕ, ◌+◌, List, [], ◌∷◌, ◌++◌, length, map, refl, sym, ap, ◌∙◌, append_assoc, suc, arith}
+use Rattle.std.proofs.lemmas.List.{append-nil}
 use Rattle.std.specs.List.{AllByRecursion, flat_map}
 use Rattle.isle_ast_names.specs.Tree.{Name}
 use Rattle.isle_ast.specs.Tree.{NamedField, IndexedField, FieldList, unit_fields, struct_fields, tuple_fields, EnumVariant, TypeContent, primitive_type, enum_type, struct_type, AttributeTarget, term_target, rule_target, ModelContent, type_model, const_model, ExternDefinition, extern_extractor, extern_constructor, extern_const, Definition, type_def, rule, extractor, decl, attr, spec, spec_macro, model, state, form, instantiation, external, converter}
@@ -126,11 +126,15 @@ definitions_end i (d ∷ ds) =
     ∙ ap (λ b. bound_after (i + length (definition_events d)) b (events ds)) (definition_ends i d)
     ∙ definitions_end (i + length (definition_events d)) ds
 
--- the events of more definitions come behind those of the others
-pub seen-more : (ds es : List Definition) → seen (events (ds ++ es)) ≡ seen (events ds) ++ seen_from (length (events ds)) [] (events es)
-seen-more ds es =
+events-append : (ds : List Definition) (d : Definition) → events (ds ++ d ∷ []) ≡ events ds ++ definition_events d
+events-append [] d = append-nil (definition_events d)
+events-append (x ∷ xs) d = ap (λ es. definition_events x ++ es) (events-append xs d) ∙ sym (append_assoc (definition_events x) (events xs) (definition_events d))
+
+-- the events of one more definition come behind those of the others
+pub seen-more : (ds : List Definition) (d : Definition) → seen (events (ds ++ d ∷ [])) ≡ seen (events ds) ++ seen_from (length (events ds)) [] (definition_events d)
+seen-more ds d =
     let at : 0 + length (events ds) ≡ length (events ds) = omega arith in
-    ap seen (flat_map-append definition_events ds es)
-    ∙ seen-append 0 [] (events ds) (events es)
-    ∙ ap (λ j. seen (events ds) ++ seen_from j (bound_after 0 [] (events ds)) (events es)) at
-    ∙ ap (λ b. seen (events ds) ++ seen_from (length (events ds)) b (events es)) (definitions_end 0 ds)
+    ap seen (events-append ds d)
+    ∙ seen-append 0 [] (events ds) (definition_events d)
+    ∙ ap (λ j. seen (events ds) ++ seen_from j (bound_after 0 [] (events ds)) (definition_events d)) at
+    ∙ ap (λ b. seen (events ds) ++ seen_from (length (events ds)) b (definition_events d)) (definitions_end 0 ds)

@@ -23,7 +23,6 @@ ghost use Rattle.isle_index.specs.Renaming.{IsAnswer};
 ghost use Rattle.isle_index.specs.Scopes.{seen_from};
 ghost use Rattle.isle_index.specs.Symbols.{symbol_of, symbols};
 ghost use Rattle.isle_index_events.specs.EventView.{events_of};
-ghost use Rattle.isle_index_events.specs.Events.{events};
 
 mod candidates;
 mod entries;
@@ -84,22 +83,6 @@ impl Index {
             self.add_events(alloc, &events)?;
         }
         Ok(())
-    }
-
-    /// Gives how many events the index holds.
-    pub fn event_count(&self) -> usize
-        ensures { (ds : List Definition) → IsIndexOf ds self.now → result ≡ length (events ds) }
-    {
-        self.entries.len()
-    }
-
-    /// Lets all events go but the first ones, of this number. So definitions that were added last
-    /// are let go, where `event_count` was asked before them.
-    pub fn keep_first(&mut self, count: usize)
-        ensures { (ds es : List Definition) → IsIndexOf (ds ++ es) self.old
-            → count ≡ length (events ds) → IsIndexOf ds self.new }
-    {
-        self.entries.truncate(count);
     }
 
     /// Adds events, where no variable is bound before them.
