@@ -40,8 +40,9 @@ impl Texts {
         number: usize,
         bound: &[Bound],
     ) -> Result<Entry, AllocError>
-        ensures is { IfOk result (IsEntryOf self.new.items.items number (with_binder
-            (event_of event.now) number (binder (event_of event.now) number (bounds_of bound.now)))) }
+        ensures is { IfOk result (IsEntryOf self.new.items.items number
+            (with_binder (event_of event.now) number
+            (binder (event_of event.now) number (bounds_of bound.now)))) }
         ensures kept { OnOk result (Extends self.old.items.items self.new.items.items) }
     {
         match event {

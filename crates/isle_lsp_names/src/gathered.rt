@@ -23,7 +23,8 @@ pub struct Gathered {
     pub refused: usize,
 }
 
-/// Makes the index of a program. The tree of one definition is held at a time. It fails only with `Memory`.
+/// Makes the index of a program. The tree of one definition is held at a time. It fails only with
+/// `Memory`.
 pub fn gather(alloc: Global, program: &[Source]) -> Result<Gathered, Failure>
     ensures ok { IfOk result (λ all.
         IsGathered (map source_of program.now) all.index all.refused) }
@@ -39,8 +40,8 @@ pub fn gather(alloc: Global, program: &[Source]) -> Result<Gathered, Failure>
     Ok(Gathered { index, refused })
 }
 
-/// Adds what a text spells, and tells whether it spells a tree. Where it spells none, the index stays
-/// as it was.
+/// Adds what a text spells, and tells whether it spells a tree. Where it spells none, the index
+/// stays as it was.
 fn add_text(alloc: Global, file: usize, text: &str, index: &mut Index) -> Result<bool, Failure>
     ensures ok { IfOk result (AddsText file text.now index.old index.new) }
     ensures err { IfErr result (λ failure. failure ≡ Memory) }
