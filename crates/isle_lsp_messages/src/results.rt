@@ -14,7 +14,8 @@ use std::alloc::{AllocError, Global};
 /// What the server can do: renaming can be prepared, and documents are told as they open, close and
 /// change by ranges.
 pub const CAPABILITIES: &str = "\
-    {\"capabilities\":{\"completionProvider\":{},\"definitionProvider\":true,\
+    {\"capabilities\":{\"completionProvider\":{\"triggerCharacters\":[\".\",\"$\"]},\
+    \"definitionProvider\":true,\
     \"documentFormattingProvider\":true,\"documentHighlightProvider\":true,\
     \"documentSymbolProvider\":true,\"hoverProvider\":true,\"positionEncoding\":\"utf-16\",\
     \"referencesProvider\":true,\"renameProvider\":{\"prepareProvider\":true},\

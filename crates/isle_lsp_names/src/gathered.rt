@@ -17,13 +17,14 @@ use std::slice;
 /// The index of a program.
 #[derive(Drop)]
 pub struct Gathered {
-    /// The index of the texts that spell a tree.
+    /// The index of what is known of the texts.
     pub index: Index,
-    /// How many texts spell none.
+    /// How many texts spell no tree.
     pub refused: usize,
 }
 
-/// Makes the index of a program. The tree of one definition is held at a time. It fails only with
+/// Makes the index of a program: of the trees that its texts spell, and of a text that spells none
+/// of the definitions that it begins with. One definition is held at a time. It fails only with
 /// `Memory`.
 pub fn gather(alloc: Global, program: &[Source]) -> Result<Gathered, Failure>
     ensures ok { IfOk result (λ all.
@@ -40,19 +41,14 @@ pub fn gather(alloc: Global, program: &[Source]) -> Result<Gathered, Failure>
     Ok(Gathered { index, refused })
 }
 
-/// Adds what a text spells, and tells whether it spells a tree. Where it spells none, the index
-/// stays as it was.
+/// Adds what is known of a text, and tells whether it spells a tree.
 fn add_text(alloc: Global, file: usize, text: &str, index: &mut Index) -> Result<bool, Failure>
     ensures ok { IfOk result (AddsText file text.now index.old index.new) }
     ensures err { IfErr result (λ failure. failure ≡ Memory) }
 {
-    let before = index.event_count();
     match add_definitions(alloc, file, text, index) {
         Ok(()) => Ok(true),
-        Err(Fault::Error(_)) => {
-            index.keep_first(before);
-            Ok(false)
-        }
+        Err(Fault::Error(_)) => Ok(false),
         Err(Fault::Failed | Fault::Memory) => Err(Failure::Memory),
     }
 }

@@ -44,8 +44,8 @@ pub enum Told {
 
 /// Answers a request about the names of a program.
 ///
-/// The texts that spell no tree are left out; while there is one, no name is changed. It fails only
-/// with `Memory`.
+/// Of a text that spells no tree the names are known of the definitions that it begins with, up to
+/// where it is refused; while there is one, no name is changed. It fails only with `Memory`.
 pub fn answer(
     alloc: Global,
     program: &[Source],
