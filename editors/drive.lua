@@ -6,6 +6,7 @@ if vim.fn.has("nvim-0.8") == 0 then
   vim.api.nvim_create_autocmd("BufRead", { pattern = "*.isle", command = "setfiletype isle" })
   vim.lsp.start = function(config) vim.lsp.buf_attach_client(0, vim.lsp.start_client(config)) end
   vim.lsp.buf.format = vim.lsp.buf.formatting_sync
+  vim.api.nvim_create_autocmd("FileType", { pattern = "isle", command = "setlocal omnifunc=v:lua.vim.lsp.omnifunc" })
   vim.fs = {
     find = function(name, how) return { vim.fn.fnamemodify(how.path, ":h") .. "/" .. name } end,
     dirname = function(path) return vim.fn.fnamemodify(path, ":h") end,
@@ -57,6 +58,26 @@ tell("hover", (shown() or ""):match("%(decl[^\n]*"))
 at_use(vim.lsp.buf.rename, "double")
 wait(function() return vim.fn.search("double w", "cnw") > 0 end)
 tell("renamed", lines())
+
+-- Writes the first name that may stand at the end of what a pattern finds.
+local function complete(pattern)
+  vim.fn.search(pattern, "cew")
+  local line, count, timer = vim.fn.getline("."), 0, vim.loop.new_timer()
+  timer:start(20, 20, vim.schedule_wrap(function()
+    count = count + 1
+    if vim.fn.getline(".") ~= line or count == 1000 then
+      timer:stop()
+      vim.api.nvim_input("<C-y><Esc>")
+    end
+  end))
+  vim.api.nvim_feedkeys(vim.api.nvim_replace_termcodes("a<C-x><C-o>", true, true, true), "tx!", false)
+end
+vim.api.nvim_buf_set_lines(0, 0, -1, true, {
+  "(type Tea (enum Alpha Beta))", "(extern const $One Tea)", "(decl f (Tea) Tea)", "(rule (f (Tea.Al)) $)",
+})
+complete("Tea.Al")
+complete("\\$")
+tell("completed", vim.fn.getline("."))
 
 local client = active_clients()[1].id
 vim.lsp.stop_client(client)

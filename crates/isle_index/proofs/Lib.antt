@@ -5,3 +5,6 @@ pub mod Sorting
 pub mod Places
 pub mod Owners
 pub mod Replaced
+pub mod Adding
+pub mod Closing
+pub mod Growing

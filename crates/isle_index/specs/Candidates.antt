@@ -1,5 +1,5 @@
 -- The names that may be written at a place.
-use Rattle.std.specs.Prelude.{ℕ, List, [], ◌∷◌, ◌++◌, Bool, true, ◌&&◌, Option, None, Some, map, filter, string_bytes, nat_le, nat_eq, ◌==◌, if◌then◌else◌}
+use Rattle.std.specs.Prelude.{ℕ, List, [], ◌∷◌, ◌++◌, Bool, true, ◌&&◌, Option, None, Some, map, filter, codes, string_bytes, nat_le, nat_eq, ◌==◌, if◌then◌else◌}
 use Rattle.std.specs.List.{filter_map, starts_with}
 use Rattle.isle_base_source.specs.declared.pos.Pos.{Pos}
 use Rattle.isle_index.specs.Scopes.{SeenNode, BoundNode, after}
@@ -41,16 +41,25 @@ bound_at number bound [] = []
 bound_at number bound (s ∷ ss) =
     if s.number == number then after s.event s.number bound else bound_at number (after s.event s.number bound) ss
 
-abbrev pub visible_by : Option Near → List SeenNode → List BoundNode
-visible_by None ss = []
-visible_by (Some near) ss = bound_at near.number [] ss
+abbrev pub visible_by : ℕ → Option Near → List SeenNode → List BoundNode
+visible_by from None ss = []
+visible_by from (Some near) ss = if nat_le from near.offset then bound_at near.number [] ss else []
 
--- the variables that are bound at the name that begins last at a place or before it
-abbrev pub visible : Pos → List SeenNode → List BoundNode
-visible place ss = visible_by (nearest place None ss) ss
+-- the variables that are bound at the name that begins last at a place or before it, if it begins at this offset or
+-- after it
+abbrev pub visible : Pos → ℕ → List SeenNode → List BoundNode
+visible place from ss = visible_by from (nearest place None ss) ss
+
+-- the text of a symbol as it is written in a rule
+abbrev pub written : SymbolKind → List ℕ → List ℕ
+written symbol_kinds.Term text = text
+written symbol_kinds.Type text = text
+written symbol_kinds.Variant text = text
+written symbol_kinds.Constant text = codes "$" ++ text
+written symbol_kinds.Variable text = text
 
 abbrev pub global_candidate : SymbolNode → CandidateNode
-global_candidate s = record { kind = s.kind; text = s.text }
+global_candidate s = record { kind = s.kind; text = written s.kind s.text }
 
 abbrev pub variable_candidate : BoundNode → CandidateNode
 variable_candidate b = record { kind = symbol_kinds.Variable; text = b.text }
@@ -59,7 +68,7 @@ abbrev pub begins_with : List ℕ → CandidateNode → Bool
 begins_with prefix c = starts_with nat_eq c.text prefix
 
 -- what the program defines, and the variables that are bound at a place, as far as they begin so
-abbrev pub candidates : Pos → List ℕ → List SeenNode → List CandidateNode
-candidates place prefix ss =
+abbrev pub candidates : Pos → ℕ → List ℕ → List SeenNode → List CandidateNode
+candidates place from prefix ss =
     filter (begins_with prefix)
-    (map global_candidate (filter_map (λ s. symbol s.event) ss) ++ map variable_candidate (visible place ss))
+    (map global_candidate (filter_map (λ s. symbol s.event) ss) ++ map variable_candidate (visible place from ss))

@@ -1,4 +1,6 @@
 pub mod Scopes
+pub mod Entries
+pub mod Held
 pub mod Names
 pub mod Occurrences
 pub mod Symbols

@@ -1,12 +1,7 @@
 -- Scopes: which event binds the variable of which event. The events are numbered from 0. The last variable of a name
 -- that is bound hides the others.
 use Rattle.std.specs.Prelude.{ℕ, ◌+◌, ◌-◌, List, [], ◌∷◌, ◌++◌, Option, None, Some, is_some, length, map, take, if◌then◌else◌}
-use Rattle.std.specs.List.{flat_map}
 use Rattle.std.specs.Str.{bytes_eq}
-use Rattle.std.specs.Global.{Vec}
-use Rattle.isle_ast.specs.TreeView.{definitions_of}
-use Rattle.isle_ast.specs.Tree.{Definition}
-use Rattle.isle_ast.specs.declared.ast.Def.{Def}
 use Rattle.isle_ast_names.specs.Tree.{Name}
 use Rattle.isle_index_events.specs.Event.{EventNode, defines, uses, defines_variant, occurs, binds, reads, closes, ends}
 use Rattle.isle_index_events.specs.EventView.{event_of}
@@ -68,9 +63,6 @@ pub record SeenNode : Type 0 where
 abbrev pub seen_of : Seen → SeenNode
 seen_of s = record { event = event_of s.event; number = s.number; binder = s.binder }
 
-abbrev pub all_seen : List Seen → List SeenNode
-all_seen ss = map seen_of ss
-
 -- events, the first of which has this number, where these variables are bound before them
 abbrev pub seen_from : ℕ → List BoundNode → List EventNode → List SeenNode
 seen_from number bound [] = []
@@ -80,7 +72,3 @@ seen_from number bound (e ∷ es) =
 -- all events of a program
 abbrev pub seen : List EventNode → List SeenNode
 seen es = seen_from 0 [] es
-
--- the definitions of the files of a program, one file after another
-abbrev pub program_of : List (Vec Def) → List Definition
-program_of trees = flat_map (λ t. definitions_of t.items) trees

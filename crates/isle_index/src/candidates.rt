@@ -4,12 +4,14 @@ ghost use Rattle.std.specs.Prelude.{◌≡◌, ◌++◌, ◌∷◌, [], IfOk, On
 ghost use Rattle.std.specs.List.{filter_map};
 ghost use Rattle.isle_index.specs.Candidates.{begins_with, bound_at, candidate_of, candidates};
 ghost use Rattle.isle_index.specs.Candidates.{global_candidate, is_behind, is_nearer, nearer_by};
-ghost use Rattle.isle_index.specs.Candidates.{nearest, variable_candidate, visible};
-ghost use Rattle.isle_index.specs.Scopes.{all_seen, bounds_of};
+ghost use Rattle.isle_index.specs.Candidates.{nearest, variable_candidate, visible, written};
+ghost use Rattle.isle_index.specs.Entries.{all_of};
+ghost use Rattle.isle_index.specs.Scopes.{bounds_of};
 ghost use Rattle.isle_index.specs.Symbols.{symbol};
 
+use crate::entries::Entries;
 use crate::occurrences::{Occurrence, occurrence_in};
-use crate::scopes::{Bound, Seen, bind};
+use crate::scopes::{Bound, bind};
 use crate::symbols::{SymbolKind, defined_symbol};
 use isle_base::lexer::Pos;
 use std::alloc::{AllocError, Global};
@@ -19,7 +21,8 @@ use std::alloc::{AllocError, Global};
 pub struct Candidate {
     /// What it is.
     pub kind: SymbolKind,
-    /// Its text: of a variant that of the term, `TYPE.VARIANT`, of a constant without its `$`.
+    /// Its text as it is written in a rule: of a variant that of the term, `TYPE.VARIANT`, of a
+    /// constant with its `$`.
     pub text: String,
 }
 
@@ -35,16 +38,17 @@ pub struct Near {
 /// Gives the names that begin so and may be written at a place.
 pub fn candidates(
     alloc: Global,
-    seen: &[Seen],
+    entries: &Entries,
     place: Pos,
-    prefix: &str,
+    from: usize,
+    prefix: &[u8],
 ) -> Result<Vec<Candidate>, AllocError>
     ensures { IfOk result (λ found. map candidate_of found.items
-        ≡ candidates place prefix.now (all_seen seen.now)) }
+        ≡ candidates place from prefix.now (all_of entries.now)) }
 {
     let mut found = Vec::new(alloc);
-    add_globals(alloc, seen, prefix, &mut found)?;
-    let bound = visible(alloc, seen, place)?;
+    add_globals(alloc, entries, prefix, &mut found)?;
+    let bound = visible(alloc, entries, place, from)?;
     add_variables(alloc, &bound, prefix, &mut found)?;
     Ok(found)
 }
@@ -52,27 +56,44 @@ pub fn candidates(
 /// Adds what the program defines.
 fn add_globals(
     alloc: Global,
-    seen: &[Seen],
-    prefix: &str,
+    entries: &Entries,
+    prefix: &[u8],
     found: &mut Vec<Candidate>,
 ) -> Result<(), AllocError>
     ensures { OnOk result (map candidate_of found.new.items
         ≡ map candidate_of found.old.items ++ filter (begins_with prefix.now)
-        (map global_candidate (filter_map (λ s. symbol s.event) (all_seen seen.now)))) }
+        (map global_candidate (filter_map (λ s. symbol s.event) (all_of entries.now)))) }
 {
-    for event in seen {
+    for (number, entry) in entries.items.iter().enumerate() {
+        let event = entries.unpacked(number, entry);
         if let Some(symbol) = defined_symbol(alloc, &event.event)? {
-            add(symbol.kind, symbol.text, prefix, found)?;
+            let text = written(alloc, symbol.kind, symbol.text)?;
+            add(symbol.kind, text, prefix, found)?;
         }
     }
     Ok(())
+}
+
+/// Gives the text of a symbol as it is written in a rule.
+fn written(alloc: Global, kind: SymbolKind, text: String) -> Result<String, AllocError>
+    ensures { IfOk result
+        (λ written_text. string_bytes written_text ≡ written kind (string_bytes text)) }
+{
+    match kind {
+        SymbolKind::Constant => {
+            let mut signed = String::from_str(alloc, "$")?;
+            signed.push_str(text.as_str())?;
+            Ok(signed)
+        }
+        _ => Ok(text),
+    }
 }
 
 /// Adds variables.
 fn add_variables(
     alloc: Global,
     bound: &[Bound],
-    prefix: &str,
+    prefix: &[u8],
     found: &mut Vec<Candidate>,
 ) -> Result<(), AllocError>
     ensures { OnOk result (map candidate_of found.new.items
@@ -90,37 +111,44 @@ fn add_variables(
 fn add(
     kind: SymbolKind,
     text: String,
-    prefix: &str,
+    prefix: &[u8],
     found: &mut Vec<Candidate>,
 ) -> Result<(), AllocError>
     ensures { OnOk result (map candidate_of found.new.items
         ≡ map candidate_of found.old.items ++ filter (begins_with prefix.now)
         (record { kind = kind; text = string_bytes text } ∷ [])) }
 {
-    if text.as_bytes().starts_with(prefix.as_bytes()) {
+    if text.as_bytes().starts_with(prefix) {
         found.push(Candidate { kind, text })?;
     }
     Ok(())
 }
 
-/// Gives the variables that are bound at the name that begins last at a place or before it.
-fn visible<'a>(alloc: Global, seen: &[Seen<'a>], place: Pos) -> Result<Vec<Bound<'a>>, AllocError>
+/// Gives the variables that are bound at the name that begins last at a place or before it, if it
+/// begins at this byte offset or after it.
+fn visible<'a>(
+    alloc: Global,
+    entries: &Entries<'a>,
+    place: Pos,
+    from: usize,
+) -> Result<Vec<Bound<'a>>, AllocError>
     ensures { IfOk result
-        (λ bound. bounds_of bound.items ≡ visible place (all_seen seen.now)) }
+        (λ bound. bounds_of bound.items ≡ visible place from (all_of entries.now)) }
 {
-    match nearest(seen, place) {
-        Some(near) => bound_at(alloc, seen, near.number),
-        None => Ok(Vec::new(alloc)),
+    match nearest(entries, place) {
+        Some(near) if from <= near.offset => bound_at(alloc, entries, near.number),
+        _ => Ok(Vec::new(alloc)),
     }
 }
 
 /// Gives the name that begins last at a place or before it.
-fn nearest(seen: &[Seen], place: Pos) -> Option<Near>
-    ensures { result ≡ nearest place None (all_seen seen.now) }
+fn nearest(entries: &Entries, place: Pos) -> Option<Near>
+    ensures { result ≡ nearest place None (all_of entries.now) }
 {
     let mut best = None;
-    for event in seen {
-        best = nearer(place, best, event.number, occurrence_in(event));
+    for (number, entry) in entries.items.iter().enumerate() {
+        let event = entries.unpacked(number, entry);
+        best = nearer(place, best, event.number, occurrence_in(&event));
     }
     best
 }
@@ -165,14 +193,15 @@ fn is_behind(best: Option<Near>, offset: usize) -> bool
 /// Gives the variables that are bound after the event of this number.
 fn bound_at<'a>(
     alloc: Global,
-    seen: &[Seen<'a>],
+    entries: &Entries<'a>,
     number: usize,
 ) -> Result<Vec<Bound<'a>>, AllocError>
     ensures { IfOk result
-        (λ bound. bounds_of bound.items ≡ bound_at number [] (all_seen seen.now)) }
+        (λ bound. bounds_of bound.items ≡ bound_at number [] (all_of entries.now)) }
 {
     let mut bound = Vec::new(alloc);
-    for event in seen {
+    for (index, entry) in entries.items.iter().enumerate() {
+        let event = entries.unpacked(index, entry);
         bind(&event.event, event.number, &mut bound)?;
         if event.number == number {
             return Ok(bound);

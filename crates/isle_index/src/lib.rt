@@ -9,85 +9,133 @@
 //! not indexed.
 #![tactic(auto)]
 
-ghost use Rattle.std.specs.Prelude.{◌≡◌, IfOk, filter, map, option_map};
+ghost use Rattle.std.specs.Prelude.{◌≡◌, ◌++◌, [], IfOk, List, OnOk, length, map, option_map};
 ghost use Rattle.std.specs.List.Sorted.{IsPermutation, IsSortedByKey};
+ghost use Rattle.isle_ast.specs.Tree.{Definition};
+ghost use Rattle.isle_ast.specs.TreeView.{definitions_of};
 ghost use Rattle.isle_base_source.specs.PositionOrder.{position_cmp};
 ghost use Rattle.isle_index.specs.Candidates.{candidate_of, candidates};
+ghost use Rattle.isle_index.specs.Entries.{all_of};
+ghost use Rattle.isle_index.specs.Held.{Adds, IsIndexOf, all_in};
 ghost use Rattle.isle_index.specs.Names.{named_of};
 ghost use Rattle.isle_index.specs.Occurrences.{definitions, name_at, occurrence_at, occurrences};
 ghost use Rattle.isle_index.specs.Renaming.{IsAnswer};
-ghost use Rattle.isle_index.specs.Scopes.{all_seen, program_of, seen};
+ghost use Rattle.isle_index.specs.Scopes.{seen_from};
 ghost use Rattle.isle_index.specs.Symbols.{symbol_of, symbols};
-ghost use Rattle.isle_index_events.specs.Events.{events};
+ghost use Rattle.isle_index_events.specs.EventView.{events_of};
 
 mod candidates;
+mod entries;
 pub mod laws;
 mod names;
+mod numbers;
 mod occurrences;
 mod rename;
 mod scopes;
 mod symbols;
 
 pub use candidates::Candidate;
+use entries::{Entries, Entry};
 use isle_ast::ast::Def;
 use isle_base::lexer::Pos;
-use isle_index_events::add_events;
+use isle_index_events::event::Event;
 pub use isle_index_events::event::Kind;
+use isle_index_events::events;
 pub use names::Name;
+use numbers::Texts;
 pub use occurrences::Occurrence;
 pub use rename::Refusal;
-use scopes::Seen;
+use scopes::bind;
 use std::alloc::{AllocError, Global};
+use std::slice;
 pub use symbols::{Symbol, SymbolKind};
 
-/// The index of a program: its names, each where it is written. It borrows the trees.
+/// The index of a program: its names, each where it is written. It holds what it needs, and borrows
+/// no tree.
 #[derive(Drop)]
-pub struct Index<'a> {
-    seen: Vec<Seen<'a>>,
+pub struct Index {
+    texts: Texts,
+    entries: Vec<Entry>,
 }
 
-impl<'a> Index<'a> {
-    /// Makes the index of a program from the definitions of its files. The files are numbered as
-    /// in the positions of the trees; a file that isn't parsed can be left out or be empty. An
-    /// `Err` means that memory ran out.
-    pub fn new(alloc: Global, trees: &'a [Vec<Def>]) -> Result<Self, AllocError>
-        ensures { IfOk result
-            (λ index. all_seen index.seen.items ≡ seen (events (program_of trees.now))) }
+impl Index {
+    /// Makes an index that holds nothing.
+    pub fn new(alloc: Global) -> Self
+        ensures { IsIndexOf [] result }
     {
-        let mut events = Vec::new(alloc);
-        for tree in trees {
-            add_events(tree, &mut events)?;
+        Self {
+            texts: Texts::new(alloc),
+            entries: Vec::new(alloc),
         }
-        let seen = scopes::numbered(alloc, &events)?;
-        Ok(Self { seen })
+    }
+
+    /// Adds definitions behind those that the index holds. The files are numbered as in the
+    /// positions of the definitions; a file that isn't parsed can be left out. An `Err` means that
+    /// memory ran out, and that some of the definitions may have been added: the index is of no use
+    /// then. Numbers past 2^32 are out of memory: no index holds as many texts or names, nor places
+    /// in as many files or past as many bytes of one.
+    pub fn add(&mut self, alloc: Global, defs: &[Def]) -> Result<(), AllocError>
+        ensures { OnOk result ((ds : List Definition) → IsIndexOf ds self.old
+            → IsIndexOf (ds ++ definitions_of defs.now) self.new) }
+    {
+        for def in defs {
+            let events = events(alloc, slice::from_ref(def))?;
+            self.add_events(alloc, &events)?;
+        }
+        Ok(())
+    }
+
+    /// Adds events, where no variable is bound before them.
+    fn add_events(&mut self, alloc: Global, events: &[Event]) -> Result<(), AllocError>
+        ensures { OnOk result (Adds (seen_from (length self.old.entries.items) []
+            (events_of events.now)) self.old self.new) }
+    {
+        let mut bound = Vec::new(alloc);
+        for event in events {
+            let number = self.entries.len();
+            let entry = self.texts.entry_of(alloc, event, number, &bound)?;
+            self.entries.push(entry)?;
+            bind(event, number, &mut bound)?;
+        }
+        Ok(())
+    }
+
+    /// Gives all entries, to be read.
+    fn entries(&self) -> Entries<'_>
+        ensures { all_of result ≡ all_in self.now }
+    {
+        Entries {
+            texts: &self.texts.items,
+            items: &self.entries,
+        }
     }
 
     /// Gives the occurrence at a place: that of the name one of whose bytes is there, or which ends
     /// there.
     pub fn occurrence_at(&self, place: Pos) -> Option<Occurrence>
-        ensures { result ≡ occurrence_at place (all_seen self.now.seen.items) }
+        ensures { result ≡ occurrence_at place (all_in self.now) }
     {
-        occurrences::occurrence_at(&self.seen, place)
+        occurrences::occurrence_at(&self.entries(), place)
     }
 
     /// Gives what the name at a place names. There is none where no name is at the place, and where
     /// nothing binds the variable there. An `Err` means that memory ran out.
     pub fn name_at(&self, alloc: Global, place: Pos) -> Result<Option<Name>, AllocError>
         ensures { IfOk result (λ name. option_map named_of name
-            ≡ name_at place (all_seen self.now.seen.items)) }
+            ≡ name_at place (all_in self.now)) }
     {
-        occurrences::name_at(alloc, &self.seen, place)
+        occurrences::name_at(alloc, &self.entries(), place)
     }
 
     /// Gives all occurrences of a name of this index, each once, in the order of places. An `Err`
     /// means that memory ran out.
     pub fn occurrences(&self, alloc: Global, name: &Name) -> Result<Vec<Occurrence>, AllocError>
         ensures exact { IfOk result (λ found. IsPermutation
-            (occurrences (named_of name.now) (all_seen self.now.seen.items)) found.items) }
+            (occurrences (named_of name.now) (all_in self.now)) found.items) }
         ensures in_order { IfOk result
             (λ found. IsSortedByKey (λ o. o.pos) position_cmp found.items) }
     {
-        let mut found = occurrences::occurrences(alloc, &self.seen, name)?;
+        let mut found = occurrences::occurrences(alloc, &self.entries(), name)?;
         found.sort()?;
         Ok(found)
     }
@@ -98,11 +146,11 @@ impl<'a> Index<'a> {
     /// memory ran out.
     pub fn definitions(&self, alloc: Global, name: &Name) -> Result<Vec<Occurrence>, AllocError>
         ensures exact { IfOk result (λ found. IsPermutation
-            (definitions (named_of name.now) (all_seen self.now.seen.items)) found.items) }
+            (definitions (named_of name.now) (all_in self.now)) found.items) }
         ensures in_order { IfOk result
             (λ found. IsSortedByKey (λ o. o.pos) position_cmp found.items) }
     {
-        let mut found = occurrences::definitions(alloc, &self.seen, name)?;
+        let mut found = occurrences::definitions(alloc, &self.entries(), name)?;
         found.sort()?;
         Ok(found)
     }
@@ -111,25 +159,28 @@ impl<'a> Index<'a> {
     /// means that memory ran out.
     pub fn symbols(&self, alloc: Global, file: usize) -> Result<Vec<Symbol>, AllocError>
         ensures { IfOk result (λ found. map symbol_of found.items
-            ≡ symbols file (all_seen self.now.seen.items)) }
+            ≡ symbols file (all_in self.now)) }
     {
-        symbols::symbols(alloc, &self.seen, file)
+        symbols::symbols(alloc, &self.entries(), file)
     }
 
-    /// Gives the names that begin so and may be written at a place: all that the program defines,
-    /// and the variables that are bound at the name that begins last at the place or before it. A
-    /// name that is defined twice, or bound twice, is there twice. An `Err` means that memory ran
-    /// out.
+    /// Gives the names that may be written at a place and whose texts, as they are written there,
+    /// begin with these bytes: all that the program defines, and the variables that are bound at
+    /// the name that begins last at the place or before it, if it begins at the byte offset `from`
+    /// or after it. So where a definition around the place begins at `from`, the variables of
+    /// earlier ones are left out. A name that is defined twice, or bound twice, is there twice. An
+    /// `Err` means that memory ran out.
     pub fn candidates(
         &self,
         alloc: Global,
         place: Pos,
-        prefix: &str,
+        from: usize,
+        prefix: &[u8],
     ) -> Result<Vec<Candidate>, AllocError>
         ensures { IfOk result (λ found. map candidate_of found.items
-            ≡ candidates place prefix.now (all_seen self.now.seen.items)) }
+            ≡ candidates place from prefix.now (all_in self.now)) }
     {
-        candidates::candidates(alloc, &self.seen, place, prefix)
+        candidates::candidates(alloc, &self.entries(), place, from, prefix)
     }
 
     /// Gives the places that change where a name of this index gets a new text, in order, or says
@@ -144,8 +195,8 @@ impl<'a> Index<'a> {
         new: &str,
     ) -> Result<Result<Vec<Pos>, Refusal>, AllocError>
         ensures { IfOk result
-            (IsAnswer (named_of name.now) new.now (all_seen self.now.seen.items)) }
+            (IsAnswer (named_of name.now) new.now (all_in self.now)) }
     {
-        rename::rename(alloc, &self.seen, name, new)
+        rename::rename(alloc, &self.entries(), name, new)
     }
 }

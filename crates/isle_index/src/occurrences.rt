@@ -1,13 +1,15 @@
 //! Where names are written.
 
 ghost use Rattle.std.specs.Prelude.{◌≡◌, ◌++◌, IfOk, OnOk, length, option_and_then, option_map};
+ghost use Rattle.isle_index.specs.Entries.{all_of};
 ghost use Rattle.isle_index.specs.Names.{named_of};
 ghost use Rattle.isle_index.specs.Occurrences.{covers, definitions, is_covered, name_at};
 ghost use Rattle.isle_index.specs.Occurrences.{occurrence, occurrence_at, occurrence_of};
 ghost use Rattle.isle_index.specs.Occurrences.{occurrences, place, seen_at, written_len};
-ghost use Rattle.isle_index.specs.Scopes.{all_seen, seen_of};
+ghost use Rattle.isle_index.specs.Scopes.{seen_of};
 ghost use Rattle.isle_index_events.specs.EventView.{event_of, word_of};
 
+use crate::entries::Entries;
 use crate::names::{Name, is_number, meaning};
 use crate::scopes::Seen;
 use isle_base::lexer::Pos;
@@ -27,14 +29,19 @@ pub struct Occurrence {
 }
 
 /// Gives the occurrences of a name, in the order of the events.
-pub fn occurrences(alloc: Global, seen: &[Seen], name: &Name) -> Result<Vec<Occurrence>, AllocError>
+pub fn occurrences(
+    alloc: Global,
+    entries: &Entries,
+    name: &Name,
+) -> Result<Vec<Occurrence>, AllocError>
     ensures { IfOk result
-        (λ found. found.items ≡ occurrences (named_of name.now) (all_seen seen.now)) }
+        (λ found. found.items ≡ occurrences (named_of name.now) (all_of entries.now)) }
 {
     let mut found = Vec::new(alloc);
-    for event in seen {
-        if name.is_of(event) {
-            if let Some(occurrence) = occurrence_in(event) {
+    for (number, entry) in entries.items.iter().enumerate() {
+        let event = entries.unpacked(number, entry);
+        if name.is_of(&event) {
+            if let Some(occurrence) = occurrence_in(&event) {
                 found.push(occurrence)?;
             }
         }
@@ -43,11 +50,15 @@ pub fn occurrences(alloc: Global, seen: &[Seen], name: &Name) -> Result<Vec<Occu
 }
 
 /// Gives the definitions of a name, in the order of the events.
-pub fn definitions(alloc: Global, seen: &[Seen], name: &Name) -> Result<Vec<Occurrence>, AllocError>
+pub fn definitions(
+    alloc: Global,
+    entries: &Entries,
+    name: &Name,
+) -> Result<Vec<Occurrence>, AllocError>
     ensures { IfOk result
-        (λ found. found.items ≡ definitions (named_of name.now) (all_seen seen.now)) }
+        (λ found. found.items ≡ definitions (named_of name.now) (all_of entries.now)) }
 {
-    let all = occurrences(alloc, seen, name)?;
+    let all = occurrences(alloc, entries, name)?;
     let mut found = Vec::new(alloc);
     for occurrence in &all {
         if occurrence.is_definition {
@@ -95,32 +106,33 @@ fn place(word: &Word, len: usize, is_definition: bool) -> Option<Occurrence>
 }
 
 /// Gives the occurrence at a place.
-pub fn occurrence_at(seen: &[Seen], place: Pos) -> Option<Occurrence>
-    ensures { result ≡ occurrence_at place (all_seen seen.now) }
+pub fn occurrence_at(entries: &Entries, place: Pos) -> Option<Occurrence>
+    ensures { result ≡ occurrence_at place (all_of entries.now) }
 {
-    match seen_at(seen, place) {
-        Some(event) => occurrence_in(event),
+    match seen_at(entries, place) {
+        Some(event) => occurrence_in(&event),
         None => None,
     }
 }
 
 /// Gives what the name at a place names.
-pub fn name_at(alloc: Global, seen: &[Seen], place: Pos) -> Result<Option<Name>, AllocError>
+pub fn name_at(alloc: Global, entries: &Entries, place: Pos) -> Result<Option<Name>, AllocError>
     ensures { IfOk result
-        (λ name. option_map named_of name ≡ name_at place (all_seen seen.now)) }
+        (λ name. option_map named_of name ≡ name_at place (all_of entries.now)) }
 {
-    match seen_at(seen, place) {
-        Some(event) => meaning(alloc, event),
+    match seen_at(entries, place) {
+        Some(event) => meaning(alloc, &event),
         None => Ok(None),
     }
 }
 
 /// Gives the first event at a place.
-fn seen_at<'s, 'a>(seen: &'s [Seen<'a>], place: Pos) -> Option<&'s Seen<'a>>
-    ensures { option_map (λ s. seen_of s.now) result ≡ seen_at place (all_seen seen.now) }
+fn seen_at<'a>(entries: &Entries<'a>, place: Pos) -> Option<Seen<'a>>
+    ensures { option_map seen_of result ≡ seen_at place (all_of entries.now) }
 {
-    for event in seen {
-        if is_covered(place, occurrence_in(event)) {
+    for (number, entry) in entries.items.iter().enumerate() {
+        let event = entries.unpacked(number, entry);
+        if is_covered(place, occurrence_in(&event)) {
             return Some(event);
         }
     }

@@ -2,6 +2,7 @@
 
 ghost use Rattle.std.specs.Prelude.{◌≡◌, ◌++◌, IfOk, OnOk, map, not, option_map};
 ghost use Rattle.std.specs.List.{list_any};
+ghost use Rattle.isle_index.specs.Entries.{all_of};
 ghost use Rattle.isle_index.specs.Names.{is_number, named_of};
 ghost use Rattle.isle_index.specs.Renaming.{IsAnswer, changed_places, changes, defines_it};
 ghost use Rattle.isle_index.specs.Renaming.{gives_variant, has, has_member, is_captured};
@@ -10,9 +11,10 @@ ghost use Rattle.isle_index.specs.Renaming.{type_is_taken, variable_text};
 ghost use Rattle.isle_index.specs.Renaming.{is_new_name, is_reserved, is_taken, member_of, members};
 ghost use Rattle.isle_index.specs.Renaming.{position, refusal, renamed_variable, same_binder};
 ghost use Rattle.isle_index.specs.Renaming.{same_binders, with_text, writes_member};
-ghost use Rattle.isle_index.specs.Scopes.{all_seen, seen, seen_of};
+ghost use Rattle.isle_index.specs.Scopes.{seen, seen_of};
 ghost use Rattle.isle_index_events.specs.EventView.{event_of};
 
+use crate::entries::Entries;
 use crate::names::{Name, gives, is_joined, is_number, joined};
 use crate::scopes::{Seen, bind, binder};
 use isle_ast_names::identifier::is_identifier;
@@ -38,16 +40,16 @@ pub enum Refusal {
 /// Gives the places that change where a name gets a new text, in order, or says why it can't.
 pub fn rename(
     alloc: Global,
-    seen: &[Seen],
+    entries: &Entries,
     name: &Name,
     new: &str,
 ) -> Result<Result<Vec<Pos>, Refusal>, AllocError>
-    ensures { IfOk result (IsAnswer (named_of name.now) new.now (all_seen seen.now)) }
+    ensures { IfOk result (IsAnswer (named_of name.now) new.now (all_of entries.now)) }
 {
-    match refusal_for(alloc, seen, name, new)? {
+    match refusal_for(alloc, entries, name, new)? {
         Some(refusal) => Ok(Err(refusal)),
         None => {
-            let mut places = changed_places(alloc, seen, name)?;
+            let mut places = changed_places(alloc, entries, name)?;
             places.sort()?;
             Ok(Ok(places))
         }
@@ -57,26 +59,26 @@ pub fn rename(
 /// Says why a name can't get a text, if it can't: the first reason that holds.
 fn refusal_for(
     alloc: Global,
-    seen: &[Seen],
+    entries: &Entries,
     name: &Name,
     new: &str,
 ) -> Result<Option<Refusal>, AllocError>
     ensures { IfOk result
-        (λ why. why ≡ refusal (named_of name.now) new.now (all_seen seen.now)) }
+        (λ why. why ≡ refusal (named_of name.now) new.now (all_of entries.now)) }
 {
     if !is_new_name(new) {
         return Ok(Some(Refusal::NotAName));
     }
-    if !is_defined(seen, name) {
+    if !is_defined(entries, name) {
         return Ok(Some(Refusal::Undefined));
     }
-    if is_variant(seen, name) {
+    if is_variant(entries, name) {
         return Ok(Some(Refusal::Variant));
     }
-    if is_taken(alloc, seen, name, new)? {
+    if is_taken(alloc, entries, name, new)? {
         return Ok(Some(Refusal::Taken));
     }
-    if is_captured(alloc, seen, name, new)? {
+    if is_captured(alloc, entries, name, new)? {
         return Ok(Some(Refusal::Captured));
     }
     Ok(None)
@@ -109,11 +111,12 @@ fn is_reserved(text: &str) -> bool
 }
 
 /// Tells whether the program defines a name.
-fn is_defined(seen: &[Seen], name: &Name) -> bool
-    ensures { result ≡ list_any (defines_it (named_of name.now)) (all_seen seen.now) }
+fn is_defined(entries: &Entries, name: &Name) -> bool
+    ensures { result ≡ list_any (defines_it (named_of name.now)) (all_of entries.now) }
 {
-    for event in seen {
-        if name.is_of(event) && is_definition(event) {
+    for (number, entry) in entries.items.iter().enumerate() {
+        let event = entries.unpacked(number, entry);
+        if name.is_of(&event) && is_definition(&event) {
             return true;
         }
     }
@@ -135,11 +138,12 @@ fn is_definition(seen: &Seen) -> bool
 }
 
 /// Tells whether a name is that of a variant.
-fn is_variant(seen: &[Seen], name: &Name) -> bool
-    ensures { result ≡ list_any (gives_variant (named_of name.now)) (all_seen seen.now) }
+fn is_variant(entries: &Entries, name: &Name) -> bool
+    ensures { result ≡ list_any (gives_variant (named_of name.now)) (all_of entries.now) }
 {
-    for event in seen {
-        if name.is_of(event) && matches!(event.event, Event::DefinesVariant { .. }) {
+    for (number, entry) in entries.items.iter().enumerate() {
+        let event = entries.unpacked(number, entry);
+        if name.is_of(&event) && matches!(event.event, Event::DefinesVariant { .. }) {
             return true;
         }
     }
@@ -147,19 +151,19 @@ fn is_variant(seen: &[Seen], name: &Name) -> bool
 }
 
 /// Tells whether something else has the new name already.
-fn is_taken(alloc: Global, seen: &[Seen], name: &Name, new: &str) -> Result<bool, AllocError>
+fn is_taken(alloc: Global, entries: &Entries, name: &Name, new: &str) -> Result<bool, AllocError>
     ensures { IfOk result
-        (λ taken. taken ≡ is_taken (named_of name.now) new.now (all_seen seen.now)) }
+        (λ taken. taken ≡ is_taken (named_of name.now) new.now (all_of entries.now)) }
 {
     match name {
         Name::Global {
             kind: Kind::Type,
             text,
         } => {
-            let members = members(alloc, seen, text.as_str())?;
-            type_is_taken(alloc, seen, text.as_str(), new, &members)
+            let members = members(alloc, entries, text.as_str())?;
+            type_is_taken(alloc, entries, text.as_str(), new, &members)
         }
-        Name::Global { kind, .. } => Ok(has(seen, *kind, new)),
+        Name::Global { kind, .. } => Ok(has(entries, *kind, new)),
         Name::Variable { .. } => Ok(false),
     }
 }
@@ -168,31 +172,36 @@ fn is_taken(alloc: Global, seen: &[Seen], name: &Name, new: &str) -> Result<bool
 /// gets. These are its variants.
 fn type_is_taken(
     alloc: Global,
-    seen: &[Seen],
+    entries: &Entries,
     old: &str,
     new: &str,
     members: &[&str],
 ) -> Result<bool, AllocError>
     ensures { IfOk result (λ taken. taken ≡ type_is_taken old.now new.now
-        (map (λ m. m.now) members.now) (all_seen seen.now)) }
+        (map (λ m. m.now) members.now) (all_of entries.now)) }
 {
-    if has(seen, Kind::Type, new) {
+    if has(entries, Kind::Type, new) {
         return Ok(true);
     }
-    if has_member(alloc, seen, new, members)? {
+    if has_member(alloc, entries, new, members)? {
         return Ok(true);
     }
-    has_shared(alloc, seen, old, members)
+    has_shared(alloc, entries, old, members)
 }
 
 /// Tells whether one of these variants of a type gets the name of another term.
-fn has_member(alloc: Global, seen: &[Seen], new: &str, members: &[&str]) -> Result<bool, AllocError>
+fn has_member(
+    alloc: Global,
+    entries: &Entries,
+    new: &str,
+    members: &[&str],
+) -> Result<bool, AllocError>
     ensures { IfOk result (λ taken. taken
-        ≡ has_member new.now (map (λ m. m.now) members.now) (all_seen seen.now)) }
+        ≡ has_member new.now (map (λ m. m.now) members.now) (all_of entries.now)) }
 {
     for member in members {
         let term = joined(alloc, new, member)?;
-        if has(seen, Kind::Term, term.as_str()) {
+        if has(entries, Kind::Term, term.as_str()) {
             return Ok(true);
         }
     }
@@ -202,14 +211,15 @@ fn has_member(alloc: Global, seen: &[Seen], new: &str, members: &[&str]) -> Resu
 /// Tells whether a variant of another type is the same term as one of these variants of a type.
 fn has_shared(
     alloc: Global,
-    seen: &[Seen],
+    entries: &Entries,
     owner: &str,
     members: &[&str],
 ) -> Result<bool, AllocError>
     ensures { IfOk result (λ shared. shared ≡ list_any
-        (λ s. shares owner.now (map (λ m. m.now) members.now) s.event) (all_seen seen.now)) }
+        (λ s. shares owner.now (map (λ m. m.now) members.now) s.event) (all_of entries.now)) }
 {
-    for event in seen {
+    for (number, entry) in entries.items.iter().enumerate() {
+        let event = entries.unpacked(number, entry);
         if shares(alloc, &event.event, owner, members)? {
             return Ok(true);
         }
@@ -236,10 +246,11 @@ fn shares(alloc: Global, event: &Event, owner: &str, members: &[&str]) -> Result
 }
 
 /// Tells whether something of a kind has this text.
-fn has(seen: &[Seen], kind: Kind, text: &str) -> bool
-    ensures { result ≡ has kind text.now (all_seen seen.now) }
+fn has(entries: &Entries, kind: Kind, text: &str) -> bool
+    ensures { result ≡ has kind text.now (all_of entries.now) }
 {
-    for event in seen {
+    for (number, entry) in entries.items.iter().enumerate() {
+        let event = entries.unpacked(number, entry);
         if gives(&event.event, kind, text) {
             return true;
         }
@@ -258,12 +269,17 @@ fn member_of<'a>(event: &Event<'a>, owner: &str) -> Option<&'a str>
 }
 
 /// Gives the variants of a type.
-fn members<'a>(alloc: Global, seen: &[Seen<'a>], owner: &str) -> Result<Vec<&'a str>, AllocError>
+fn members<'a>(
+    alloc: Global,
+    entries: &Entries<'a>,
+    owner: &str,
+) -> Result<Vec<&'a str>, AllocError>
     ensures { IfOk result (λ found. map (λ m. m.now) found.items
-        ≡ members owner.now (all_seen seen.now)) }
+        ≡ members owner.now (all_of entries.now)) }
 {
     let mut found = Vec::new(alloc);
-    for event in seen {
+    for (number, entry) in entries.items.iter().enumerate() {
+        let event = entries.unpacked(number, entry);
         if let Some(member) = member_of(&event.event, owner) {
             found.push(member)?;
         }
@@ -313,14 +329,15 @@ fn changes(seen: &Seen, name: &Name, members: &[&str]) -> bool
 }
 
 /// Gives the places that change, in the order of the events.
-fn changed_places(alloc: Global, seen: &[Seen], name: &Name) -> Result<Vec<Pos>, AllocError>
+fn changed_places(alloc: Global, entries: &Entries, name: &Name) -> Result<Vec<Pos>, AllocError>
     ensures { IfOk result
-        (λ places. places.items ≡ changed_places (named_of name.now) (all_seen seen.now)) }
+        (λ places. places.items ≡ changed_places (named_of name.now) (all_of entries.now)) }
 {
-    let members = members(alloc, seen, name.text())?;
+    let members = members(alloc, entries, name.text())?;
     let mut places = Vec::new(alloc);
-    for event in seen {
-        if changes(event, name, &members) {
+    for (number, entry) in entries.items.iter().enumerate() {
+        let event = entries.unpacked(number, entry);
+        if changes(&event, name, &members) {
             if let Some(place) = position(&event.event) {
                 places.push(place)?;
             }
@@ -345,14 +362,14 @@ fn position(event: &Event) -> Option<Pos>
 }
 
 /// Tells whether some variable would have another binder.
-fn is_captured(alloc: Global, seen: &[Seen], name: &Name, new: &str) -> Result<bool, AllocError>
+fn is_captured(alloc: Global, entries: &Entries, name: &Name, new: &str) -> Result<bool, AllocError>
     ensures { IfOk result
-        (λ captured. captured ≡ is_captured (named_of name.now) new.now (all_seen seen.now)) }
+        (λ captured. captured ≡ is_captured (named_of name.now) new.now (all_of entries.now)) }
 {
     match name {
         Name::Global { .. } => Ok(false),
         Name::Variable { binder, text } => {
-            Ok(!keeps_binders(alloc, seen, *binder, text.as_str(), new)?)
+            Ok(!keeps_binders(alloc, entries, *binder, text.as_str(), new)?)
         }
     }
 }
@@ -361,18 +378,19 @@ fn is_captured(alloc: Global, seen: &[Seen], name: &Name, new: &str) -> Result<b
 /// number binds has a new text.
 fn keeps_binders(
     alloc: Global,
-    events: &[Seen],
+    entries: &Entries,
     variable: usize,
     old: &str,
     new: &str,
 ) -> Result<bool, AllocError>
     ensures { IfOk result (λ kept. kept ≡ same_binders
-        (seen (map (renamed_variable variable old.now new.now) (all_seen events.now)))
-        (all_seen events.now)) }
+        (seen (map (renamed_variable variable old.now new.now) (all_of entries.now)))
+        (all_of entries.now)) }
 {
     let mut bound = Vec::new(alloc);
-    for (number, event) in events.iter().enumerate() {
-        let renamed = renamed_variable(event, variable, old, new);
+    for (number, entry) in entries.items.iter().enumerate() {
+        let event = entries.unpacked(number, entry);
+        let renamed = renamed_variable(&event, variable, old, new);
         if !same_binder(binder(&renamed, number, &bound), event.binder) {
             return Ok(false);
         }

@@ -1,9 +1,8 @@
 //! Scopes: which event binds the variable of which event.
 
-ghost use Rattle.std.specs.Prelude.{◌≡◌, IfOk, OnOk, map};
-ghost use Rattle.isle_index.specs.Scopes.{after, all_seen, binder, bounds_of, last_bound, or_else};
-ghost use Rattle.isle_index.specs.Scopes.{bound_more, seen};
-ghost use Rattle.isle_index_events.specs.EventView.{event_of, events_of, word_of};
+ghost use Rattle.std.specs.Prelude.{◌≡◌, OnOk};
+ghost use Rattle.isle_index.specs.Scopes.{after, binder, bound_more, bounds_of, last_bound};
+ghost use Rattle.isle_index_events.specs.EventView.{event_of, word_of};
 
 use isle_index_events::event::{Event, Word};
 use std::alloc::{AllocError, Global};
@@ -28,24 +27,6 @@ pub struct Seen<'a> {
     pub binder: Option<usize>,
 }
 
-/// Gives all events with the events that bind their variables.
-pub fn numbered<'a>(alloc: Global, events: &[Event<'a>]) -> Result<Vec<Seen<'a>>, AllocError>
-    ensures { IfOk result (λ found. all_seen found.items ≡ seen (events_of events.now)) }
-{
-    let mut bound = Vec::new(alloc);
-    let mut found = Vec::with_capacity(alloc, events.len())?;
-    for (number, event) in events.iter().enumerate() {
-        let binder = binder(event, number, &bound);
-        found.push(Seen {
-            event: *event,
-            number,
-            binder,
-        })?;
-        bind(event, number, &mut bound)?;
-    }
-    Ok(found)
-}
-
 /// Gives the number of the event that binds the variable of an event, where it has one.
 pub fn binder(event: &Event, number: usize, bound: &[Bound]) -> Option<usize>
     ensures { result ≡ binder (event_of event.now) number (bounds_of bound.now) }
@@ -63,7 +44,7 @@ pub fn binder(event: &Event, number: usize, bound: &[Bound]) -> Option<usize>
 }
 
 /// Gives the number of the event that binds the last variable of this name.
-fn last_bound(bound: &[Bound], text: &str) -> Option<usize>
+pub fn last_bound(bound: &[Bound], text: &str) -> Option<usize>
     ensures { result ≡ last_bound (bounds_of bound.now) text.now }
 {
     let mut last = None;

@@ -1,13 +1,13 @@
 //! The names that are defined.
 
 ghost use Rattle.std.specs.Prelude.{◌≡◌, IfOk, map, option_map};
-ghost use Rattle.isle_index.specs.Scopes.{all_seen};
+ghost use Rattle.isle_index.specs.Entries.{all_of};
 ghost use Rattle.isle_index.specs.Symbols.{kind_of, symbol, symbol_of, symbols};
 ghost use Rattle.isle_index_events.specs.EventView.{event_of};
 
+use crate::entries::Entries;
 use crate::names::joined;
 use crate::occurrences::written_len;
-use crate::scopes::Seen;
 use isle_base::lexer::Pos;
 use isle_index_events::event::{Event, Kind};
 use std::alloc::{AllocError, Global};
@@ -41,12 +41,13 @@ pub struct Symbol {
 }
 
 /// Gives what a file defines, in order.
-pub fn symbols(alloc: Global, seen: &[Seen], file: usize) -> Result<Vec<Symbol>, AllocError>
+pub fn symbols(alloc: Global, entries: &Entries, file: usize) -> Result<Vec<Symbol>, AllocError>
     ensures { IfOk result
-        (λ found. map symbol_of found.items ≡ symbols file (all_seen seen.now)) }
+        (λ found. map symbol_of found.items ≡ symbols file (all_of entries.now)) }
 {
     let mut found = Vec::new(alloc);
-    for event in seen {
+    for (number, entry) in entries.items.iter().enumerate() {
+        let event = entries.unpacked(number, entry);
         if let Some(symbol) = defined_symbol(alloc, &event.event)? {
             if symbol.pos.file == file {
                 found.push(symbol)?;

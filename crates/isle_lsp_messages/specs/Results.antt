@@ -45,8 +45,10 @@ hover shown range =
     object (member (codes "contents") (object (member (codes "kind") (string (codes "markdown")) (member (codes "value") (string shown) no_members)))
     (member (codes "range") (range_data range) no_members))
 
-abbrev pub completion_item : (name : List ℕ) → (kind : ℕ) → Data
-completion_item name kind = object (member (codes "kind") (number (unsigned kind)) (member (codes "label") (string name) no_members))
+-- a name that may be written in place of what a range has
+abbrev pub completion_item : (name : List ℕ) → (kind : ℕ) → Range → Data
+completion_item name kind range =
+    object (member (codes "kind") (number (unsigned kind)) (member (codes "label") (string name) (member (codes "textEdit") (text_edit range name) no_members)))
 
 abbrev pub document_edits : List ℕ → Data → Data
 document_edits uri edits =

@@ -14,7 +14,8 @@ use std::alloc::{AllocError, Global};
 /// What the server can do: renaming can be prepared, and documents are told as they open, close and
 /// change by ranges.
 pub const CAPABILITIES: &str = "\
-    {\"capabilities\":{\"completionProvider\":{},\"definitionProvider\":true,\
+    {\"capabilities\":{\"completionProvider\":{\"triggerCharacters\":[\".\",\"$\"]},\
+    \"definitionProvider\":true,\
     \"documentFormattingProvider\":true,\"documentHighlightProvider\":true,\
     \"documentSymbolProvider\":true,\"hoverProvider\":true,\"positionEncoding\":\"utf-16\",\
     \"referencesProvider\":true,\"renameProvider\":{\"prepareProvider\":true},\
@@ -112,11 +113,18 @@ pub fn hover_value(alloc: Global, shown: &str, range: Range) -> Result<Value, Al
     json!(in alloc; {"contents": {"kind": "markdown", "value": shown}, "range": range})
 }
 
-/// Makes a name that may be written. The kind is the protocol's number.
-pub fn completion_item(alloc: Global, name: &str, kind: u64) -> Result<Value, AllocError>
-    ensures { IfOk result (λ value. view value ≡ wanted.completion_item name.now kind) }
+/// Makes a name that may be written in place of what a range has. The kind is the protocol's
+/// number.
+pub fn completion_item(
+    alloc: Global,
+    name: &str,
+    kind: u64,
+    range: Range,
+) -> Result<Value, AllocError>
+    ensures { IfOk result (λ value. view value ≡ wanted.completion_item name.now kind range) }
 {
-    json!(in alloc; {"label": name, "kind": kind})
+    let edit = text_edit(alloc, range, name)?;
+    json!(in alloc; {"label": name, "kind": kind, "textEdit": edit})
 }
 
 /// Makes the edits of a document, whatever its version.

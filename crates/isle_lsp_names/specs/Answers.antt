@@ -3,9 +3,7 @@ use Rattle.std.specs.Prelude.{◌≡◌, ◌<◌, ◌⊎◌, ℕ, List, Option, 
 use Rattle.std.specs.Global.{Vec}
 use Rattle.serde_json.specs.Data.{Data}
 use Rattle.serde_json.specs.View.{view}
-use Rattle.isle_ast.specs.Tree.{Definition}
 use Rattle.isle_base_source.specs.Source.{Source}
-use Rattle.isle_base_source.specs.declared.error.Error.{Error}
 use Rattle.isle_base_source.specs.declared.pos.Pos.{Pos}
 use Rattle.isle_index.specs.Names.{NameNode}
 use Rattle.isle_index.specs.Occurrences.{name_at, occurrence_at}
@@ -17,7 +15,7 @@ use Rattle.isle_index_events.specs.Events.{events}
 use Rattle.isle_lsp_machine.specs.declared.Request as requests
 use Rattle.isle_lsp_machine.specs.declared.Request.TheVariants.{Definition as AskDefinition, References, DocumentHighlight, DocumentSymbol, WorkspaceSymbol, Hover, Completion, PrepareRename, Rename}
 use Rattle.isle_lsp_messages.specs.Parameters.{new_name_of, query_of, wants_definitions}
-use Rattle.isle_reading.specs.Reading.{IsReading, refused_count}
+use Rattle.isle_lsp_names.specs.Gathered.{AreParts, Part, all_known, refused_count}
 use Rattle.isle_lsp_names.specs.Located.{AreHighlights, AreReferences, IsDefinition}
 use Rattle.isle_lsp_names.specs.Completed.{AreCompletions}
 use Rattle.isle_lsp_names.specs.Defined.{AreDocumentSymbols, letters_of, workspace_symbols}
@@ -37,13 +35,12 @@ answer_of (codes_of.Found value) = found (view value)
 answer_of codes_of.Unplaced = unplaced
 answer_of (codes_of.Refused reason) = refused reason.now
 
--- These are all events of the program's trees, and where a name is to be changed each of its texts spells one.
+-- These are all events of what is known of the program's texts, and where a name is to be changed each of them spells a tree.
 pub record IsIndex (program : List Source) (request : requests.Request) (all : List SeenNode) : Type 0 where
-  pub trees : List Definition
-  pub refusals : List (Option Error)
-  pub read : IsReading program trees refusals
-  pub seen : all ≡ seen (events trees)
-  pub whole : request ≡ Rename → refused_count refusals ≡ 0
+  pub parts : List Part
+  pub read : AreParts 0 program parts
+  pub seen : all ≡ seen (events (all_known parts))
+  pub whole : request ≡ Rename → refused_count parts ≡ 0
 
 -- what is found at a place
 abbrev pub FindsAt : requests.Request → List Source → List SeenNode → Place → Data → Data → Type 0
@@ -99,10 +96,9 @@ IsAnswerOf _ program all message a = Unit {0}
 
 -- no name is changed while a text of the program spells no tree
 pub record IsHeld (program : List Source) (request : requests.Request) (a : Answer) : Type 0 where
-  pub trees : List Definition
-  pub refusals : List (Option Error)
-  pub read : IsReading program trees refusals
-  pub some : 0 < refused_count refusals
+  pub parts : List Part
+  pub read : AreParts 0 program parts
+  pub some : 0 < refused_count parts
   pub rename : request ≡ Rename
   pub is : a ≡ refused (codes "a text of the program spells no tree")
 

@@ -1,5 +1,5 @@
 -- The names that may stand at a place, as JSON.
-use Rattle.std.specs.Prelude.{◌≡◌, ℕ, List, [], ◌∷◌, Bool, false, Option, None, Some, map, string_bytes, take, bytes_eq, if◌then◌else◌}
+use Rattle.std.specs.Prelude.{◌≡◌, ℕ, ◌-◌, List, [], ◌∷◌, Bool, false, Option, None, Some, length, map, min, string_bytes, bytes_eq, if◌then◌else◌}
 use Rattle.std.specs.Cmp.Lexicographic.{slice_cmp}
 use Rattle.std.specs.List.Sorted.{IsPermutation, IsSortedByKey}
 use Rattle.std.specs.Ordering.{nat_cmp}
@@ -13,7 +13,11 @@ use Rattle.isle_index.specs.declared.candidates.Candidate.{Candidate}
 use Rattle.isle_index.specs.declared.symbols.SymbolKind.{SymbolKind}
 use Rattle.isle_index.specs.declared.symbols.SymbolKind.TheVariants as kinds
 use Rattle.isle_lsp_messages.specs.Results.{completion_item}
-use Rattle.isle_lsp_text.specs.Names.{name_end}
+use Rattle.isle_lsp_names.specs.Places.{range_between}
+use Rattle.isle_lsp_text.specs.Lists.{AreLists, outer_list}
+use Rattle.isle_lsp_text.specs.Names.{name_before}
+use Rattle.isle_lsp_text.specs.declared.lists.ListSpan.{ListSpan}
+use Rattle.isle_lsp_text.specs.declared.positions.Range.{Range}
 
 -- the protocol's number of a kind
 abbrev pub number_of : SymbolKind → ℕ
@@ -23,8 +27,9 @@ number_of kinds.Variant = 20
 number_of kinds.Constant = 21
 number_of kinds.Variable = 6
 
-abbrev pub item : CandidateNode → Data
-item c = completion_item c.text (number_of c.kind)
+-- a name, to be written in place of what a range has
+abbrev pub item : Range → CandidateNode → Data
+item range c = completion_item c.text (number_of c.kind) range
 
 abbrev pub is_again : Option CandidateNode → CandidateNode → Bool
 is_again None c = false
@@ -35,15 +40,29 @@ abbrev pub once : Option CandidateNode → List CandidateNode → List Candidate
 once last [] = []
 once last (c ∷ cs) = if is_again last c then once (Some c) cs else c ∷ once (Some c) cs
 
-abbrev pub items : List CandidateNode → Data
-items cs = array (items_of (map item (once None cs)))
+abbrev pub items : Range → List CandidateNode → Data
+items range cs = array (items_of (map (item range) (once None cs)))
 
 -- texts by their bytes
 abbrev pub text_order : List ℕ → List ℕ → Ordering
 text_order = slice_cmp nat_cmp
 
--- The names that begin as what is written right before a place and may stand there, each once, in order of name.
+-- the range of the part of a name that is written right before an offset
+abbrev pub range_before : List ℕ → (offset : ℕ) → Range
+range_before text offset = let end : ℕ = min offset (length text) in range_between text (end - length (name_before text offset)) end
+
+abbrev pub begins_at : Option ListSpan → (end : ℕ) → ℕ
+begins_at None end = end
+begins_at (Some l) end = l.from
+
+-- where the outermost list around an offset begins; the text's end if there is none
+abbrev pub outer_start : List ℕ → List ListSpan → (offset : ℕ) → ℕ
+outer_start text lists offset = begins_at (outer_list offset lists) (length text)
+
+-- The names that begin as what is written right before a place and may stand there, each once, in order of name, to be written in
+-- place of that. The variables are those of the outermost list around the place.
 abbrev pub AreCompletions : Pos → List ℕ → List SeenNode → Data → Type 0
 AreCompletions place text all d =
-    (found : List Candidate) × IsPermutation (candidates place (name_end (take place.offset text)) all) (map candidate_of found)
-    × IsSortedByKey (λ c. string_bytes c.text) text_order found × (d ≡ items (map candidate_of found))
+    (lists : List ListSpan) × (found : List Candidate) × AreLists text lists
+    × IsPermutation (candidates place (outer_start text lists place.offset) (name_before text place.offset) all) (map candidate_of found)
+    × IsSortedByKey (λ c. string_bytes c.text) text_order found × (d ≡ items (range_before text place.offset) (map candidate_of found))

@@ -1,6 +1,7 @@
 -- What files define, as JSON.
-use Rattle.std.specs.Prelude.{◌≡◌, ℕ, ◌+◌, List, [], ◌∷◌, ◌++◌, Bool, true, false, ◌||◌, Option, None, Some, map, nat_eq, if◌then◌else◌}
-use Rattle.std.specs.List.{flat_map, starts_with}
+use Rattle.std.specs.Prelude.{◌≡◌, ℕ, ◌+◌, List, [], ◌∷◌, ◌++◌, Bool, true, false, Option, None, Some, map, if◌then◌else◌}
+use Rattle.std.specs.Char.{eq_ignore_ascii_case}
+use Rattle.std.specs.List.{flat_map}
 use Rattle.serde_json.specs.Data.{Data, array}
 use Rattle.serde_json.specs.View.{items_of}
 use Rattle.isle_base_source.specs.Source.{Source}
@@ -44,10 +45,16 @@ symbol_data text lists s =
 abbrev pub AreDocumentSymbols : List ℕ → List SymbolNode → Data → Type 0
 AreDocumentSymbols text found d = (lists : List ListSpan) × AreLists text lists × (d ≡ array (items_of (map (symbol_data text lists) found)))
 
--- whether a name has these letters, one after another
+-- whether these letters stand in a name one after the other, side by side or not; capital and small letters of ASCII are the same
 abbrev pub has_letters : (letters name : List ℕ) → Bool
-has_letters letters [] = starts_with nat_eq [] letters
-has_letters letters (b ∷ bs) = starts_with nat_eq (b ∷ bs) letters || has_letters letters bs
+has_letters [] name = true
+has_letters (l ∷ ls) [] = false
+has_letters (l ∷ ls) (b ∷ bs) = if eq_ignore_ascii_case l b then has_letters ls bs else has_letters (l ∷ ls) bs
+
+-- the letters that are still to come after a byte of a name
+abbrev pub letters_left : List ℕ → ℕ → List ℕ
+letters_left [] b = []
+letters_left (l ∷ ls) b = if eq_ignore_ascii_case l b then ls else l ∷ ls
 
 -- a definition of a file, if its name has these letters
 unfoldable pub symbol_in : List ℕ → Source → SymbolNode → List Data

@@ -1,6 +1,7 @@
 pub mod Answers
 pub mod Completed
 pub mod Defined
+pub mod Gathered
 pub mod Located
 pub mod Places
 pub mod Renamed

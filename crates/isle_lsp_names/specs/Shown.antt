@@ -11,7 +11,7 @@ use Rattle.isle_lsp_names.specs.Located.{InOrder}
 use Rattle.isle_lsp_names.specs.Places.{range_at}
 use Rattle.isle_lsp_names.specs.Wholes.{whole_of}
 use Rattle.isle_lsp_names.specs.declared.wholes.Part.{Part}
-use Rattle.isle_lsp_text.specs.Comments.{comments_start}
+use Rattle.isle_lsp_text.specs.Comments.{IsCommentsStart}
 use Rattle.isle_lsp_text.specs.Lists.{AreLists}
 use Rattle.isle_lsp_text.specs.declared.lists.ListSpan.{ListSpan}
 
@@ -21,7 +21,7 @@ IsCut text from to cut = from ≤ to → IsCharBoundary text from → IsCharBoun
 
 -- a part of a text, after the comments above it
 abbrev pub IsPart : List ℕ → Part → List ℕ → Type 0
-IsPart text p part = IsCut text (comments_start text p.from) p.to part
+IsPart text p part = (start : ℕ) × IsCommentsStart text p.from start × IsCut text start p.to part
 
 -- The whole of a definition, in a block, after the comments above it. A variant is written shorter than its name, which its type's
 -- name begins.

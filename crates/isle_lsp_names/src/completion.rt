@@ -5,55 +5,83 @@ ghost use Rattle.std.specs.List.Sorted.{IsPermutation, IsSortedByKey};
 ghost use Rattle.serde_json.specs.Data.{array};
 ghost use Rattle.serde_json.specs.View.{items_of, view};
 ghost use Rattle.isle_index.specs.Candidates.{candidate_of, candidates};
-ghost use Rattle.isle_index.specs.Scopes.{all_seen};
+ghost use Rattle.isle_index.specs.Held.{all_in};
 ghost use Rattle.isle_lsp_names.specs.Completed as wanted;
 ghost use Rattle.isle_lsp_names.specs.Completed.{AreCompletions};
 
-use crate::places::Place;
+use crate::places::{Place, range_between};
 use isle_base::lexer::Pos;
 use isle_index::{Candidate, Index, SymbolKind};
 use isle_lsp_messages::results::completion_item;
+use isle_lsp_text::lists::{ListSpan, lists, outer_list};
 use isle_lsp_text::names::name_before;
+use isle_lsp_text::positions::{Range, START};
 use serde_json::Value;
 use std::alloc::{AllocError, Global};
 
-/// Gives the names that begin as what is written before a place, each once, in order of name.
+/// Gives the names that begin as what is written before a place, each once, in order of name, to be
+/// written in place of that. The variables are those of the outermost list around the place.
 pub fn completion(alloc: Global, index: &Index, place: Place) -> Result<Value, AllocError>
     ensures { IfOk result (λ value. AreCompletions place.entry.pos place.entry.text.now
-        (all_seen index.now.seen.items) (view value)) }
+        (all_in index.now) (view value)) }
 {
+    let lists = lists(alloc, place.text)?;
+    let from = outer_start(place.text, &lists, place.pos.offset);
     let prefix = name_before(place.text, place.pos.offset);
-    let found = sorted(alloc, index, place.pos, prefix)?;
-    items(alloc, &found)
+    let found = sorted(alloc, index, place.pos, from, prefix)?;
+    items(alloc, &found, range_before(place.text, place.pos.offset))
 }
 
-/// Gives the names that begin so and may stand at a place, in order of name.
+/// Gives where the outermost list around an offset begins, or the text's end if there is none.
+fn outer_start(text: &str, lists: &[ListSpan], offset: usize) -> usize
+    ensures { result ≡ wanted.outer_start text.now lists.now offset }
+{
+    match outer_list(lists, offset) {
+        Some(list) => list.from,
+        None => text.len(),
+    }
+}
+
+/// Gives the range of the part of a name that is written right before an offset.
+fn range_before(text: &str, offset: usize) -> Range
+    ensures { result ≡ wanted.range_before text.now offset }
+{
+    let end = offset.min(text.len());
+    let len = name_before(text, offset).len();
+    let mut near = START;
+    range_between(text, &mut near, end - len, end)
+}
+
+/// Gives the names that begin so and may stand at a place, in order of name; of variables those
+/// that are bound at a name from the offset `from` on.
 fn sorted(
     alloc: Global,
     index: &Index,
     place: Pos,
-    prefix: &str,
+    from: usize,
+    prefix: &[u8],
 ) -> Result<Vec<Candidate>, AllocError>
     ensures exact { IfOk result (λ found. IsPermutation
-        (candidates place prefix.now (all_seen index.now.seen.items))
+        (candidates place from prefix.now (all_in index.now))
         (map candidate_of found.items)) }
     ensures in_order { IfOk result
         (λ found. IsSortedByKey (λ c. string_bytes c.text) wanted.text_order found.items) }
 {
-    let mut found = index.candidates(alloc, place, prefix)?;
+    let mut found = index.candidates(alloc, place, from, prefix)?;
     found.sort_by(|a, b| a.text.cmp(&b.text))?;
     Ok(found)
 }
 
 /// Gives names as items, without those that have the name of the one before.
-fn items(alloc: Global, found: &[Candidate]) -> Result<Value, AllocError>
-    ensures { IfOk result (λ value. view value ≡ wanted.items (map candidate_of found.now)) }
+fn items(alloc: Global, found: &[Candidate], range: Range) -> Result<Value, AllocError>
+    ensures { IfOk result
+        (λ value. view value ≡ wanted.items range (map candidate_of found.now)) }
 {
     let mut values = Vec::new(alloc);
     let mut last: Option<&Candidate> = None;
     for candidate in found {
         if !is_again(last, candidate) {
-            let value = item(alloc, candidate)?;
+            let value = item(alloc, candidate, range)?;
             values.push(value)?;
         }
         last = Some(candidate);
@@ -72,12 +100,13 @@ fn is_again(last: Option<&Candidate>, candidate: &Candidate) -> bool
     }
 }
 
-/// Gives a name as an item.
-fn item(alloc: Global, candidate: &Candidate) -> Result<Value, AllocError>
-    ensures { IfOk result (λ value. view value ≡ wanted.item (candidate_of candidate.now)) }
+/// Gives a name as an item, to be written in place of what a range has.
+fn item(alloc: Global, candidate: &Candidate, range: Range) -> Result<Value, AllocError>
+    ensures { IfOk result
+        (λ value. view value ≡ wanted.item range (candidate_of candidate.now)) }
 {
     let kind = number_of(candidate.kind);
-    completion_item(alloc, candidate.text.as_str(), kind)
+    completion_item(alloc, candidate.text.as_str(), kind, range)
 }
 
 /// Gives the protocol's number of a kind of completion.

@@ -5,7 +5,7 @@ ghost use Rattle.serde_json.specs.View.{view};
 ghost use Rattle.isle_cli.specs.Sources.{source_of};
 ghost use Rattle.isle_index.specs.Names.{named_of};
 ghost use Rattle.isle_index.specs.Occurrences.{name_at, occurrence_at};
-ghost use Rattle.isle_index.specs.Scopes.{all_seen};
+ghost use Rattle.isle_index.specs.Held.{all_in};
 ghost use Rattle.isle_lsp_names.specs.Shown.{IsCut, IsHover, IsHoverIn, IsHoverOf, IsShown};
 
 use crate::places::{Place, range_at};
@@ -26,7 +26,7 @@ pub fn hover(
     index: &Index,
     place: Place,
 ) -> Result<Value, AllocError>
-    ensures { let all = all_seen index.now.seen.items in IfOk result (λ value.
+    ensures { let all = all_in index.now in IfOk result (λ value.
         IsHover (map source_of program.now) place.entry.text.now (name_at place.entry.pos all)
         (occurrence_at place.entry.pos all) all (view value)) }
 {
@@ -51,7 +51,7 @@ fn hover_name(
     occurrence: Occurrence,
 ) -> Result<Value, AllocError>
     ensures { IfOk result (λ value. IsHover (map source_of program.now) text.now
-        (Some (named_of name.now)) (Some occurrence) (all_seen index.now.seen.items) (view value)) }
+        (Some (named_of name.now)) (Some occurrence) (all_in index.now) (view value)) }
 {
     let found = index.definitions(alloc, name)?;
     match found.first() {
@@ -117,7 +117,8 @@ fn shown_definition(
     let is_variant = definition.len < name.text().len();
     let offset = definition.pos.offset;
     let whole = whole_of(text, &lists, is_variant, offset, definition.len);
-    let part = cut(text, comments_start(text, whole.from), whole.to);
+    let start = comments_start(alloc, text, whole.from)?;
+    let part = cut(text, start, whole.to);
     format!(in alloc; "```isle\n{part}\n```")
 }
 

@@ -8,12 +8,12 @@ ghost use Rattle.std.specs.Prelude.{◌≡◌, IfErr, IfOk, map};
 ghost use Rattle.serde_json.specs.View.{view};
 ghost use Rattle.isle_cli.specs.Sources.{source_of};
 ghost use Rattle.isle_cli.specs.declared.failure.Failure.TheVariants.{Memory};
-ghost use Rattle.isle_index.specs.Scopes.{all_seen, program_of, seen};
-ghost use Rattle.isle_index_events.specs.Events.{events};
+ghost use Rattle.isle_index.specs.Held.{all_in};
 ghost use Rattle.isle_lsp_names.specs.Answers.{IsAnswer, IsAnswerAt, IsAnswerOf, answer_of};
 ghost use Rattle.isle_lsp_names.specs.Places as wanted;
 
 mod completion;
+mod gathered;
 mod hover;
 mod locations;
 pub mod places;
@@ -21,18 +21,15 @@ mod renaming;
 mod symbols;
 mod wholes;
 
-use isle_ast::ast::Def;
+use gathered::{Gathered, gather};
 use isle_cli::failure::Failure;
 use isle_cli::sources::Source;
 use isle_index::Index;
 use isle_lsp_machine::Request;
 use isle_lsp_messages::parameters::{query_of, wants_definitions};
-use isle_parser::dropping::drop_definitions;
-use isle_reading::trees::{Reading, read_all, refused_count};
 use places::{Place, file_of, place_of};
 use serde_json::Value;
 use std::alloc::{AllocError, Global};
-use std::slice;
 
 /// What a request gets.
 #[derive(Drop)]
@@ -47,8 +44,8 @@ pub enum Told {
 
 /// Answers a request about the names of a program.
 ///
-/// The texts that spell no tree are left out; while there is one, no name is changed. It fails only
-/// with `Memory`.
+/// Of a text that spells no tree the names are known of the definitions that it begins with, up to
+/// where it is refused; while there is one, no name is changed. It fails only with `Memory`.
 pub fn answer(
     alloc: Global,
     program: &[Source],
@@ -59,48 +56,43 @@ pub fn answer(
         (view message.now) (answer_of answer)) }
     ensures err { IfErr result (λ failure. failure ≡ Memory) }
 {
-    let Reading { defs, refusals } = read_all(alloc, program)?;
-    let is_cut = refused_count(&refusals) > 0;
-    let answer = if is_cut && matches!(request, Request::Rename) {
-        Ok(Told::Refused("a text of the program spells no tree"))
-    } else {
-        answer_of(alloc, program, slice::from_ref(&defs), request, message)
-    };
-    drop_definitions(defs);
-    Ok(answer?)
+    let Gathered { index, refused } = gather(alloc, program)?;
+    if refused > 0 && matches!(request, Request::Rename) {
+        return Ok(Told::Refused("a text of the program spells no tree"));
+    }
+    Ok(answer_of(alloc, program, &index, request, message)?)
 }
 
-/// Answers a request about the names of these trees.
+/// Answers a request about the names of an index.
 fn answer_of(
     alloc: Global,
     program: &[Source],
-    trees: &[Vec<Def>],
+    index: &Index,
     request: Request,
     message: &Value,
 ) -> Result<Told, AllocError>
     ensures { IfOk result (λ answer. IsAnswerOf request (map source_of program.now)
-        (seen (events (program_of trees.now))) (view message.now) (answer_of answer)) }
+        (all_in index.now) (view message.now) (answer_of answer)) }
 {
-    let index = Index::new(alloc, trees)?;
     match request {
         Request::WorkspaceSymbol => {
             let query = query_of(message).unwrap_or("");
-            let found = symbols::workspace_symbols(alloc, program, &index, query)?;
+            let found = symbols::workspace_symbols(alloc, program, index, query)?;
             Ok(Told::Found(found))
         }
         Request::DocumentSymbol => match file_of(program, message) {
             Some(file) => {
-                let found = symbols::document_symbols(alloc, &index, file)?;
+                let found = symbols::document_symbols(alloc, index, file)?;
                 Ok(Told::Found(found))
             }
             None => Ok(Told::Unplaced),
         },
         Request::Rename => match place_of(program, message) {
-            Some(place) => renaming::renamed(alloc, program, &index, place, message),
+            Some(place) => renaming::renamed(alloc, program, index, place, message),
             None => Ok(Told::Unplaced),
         },
         _ => match place_of(program, message) {
-            Some(place) => answer_at(alloc, program, &index, request, place, message),
+            Some(place) => answer_at(alloc, program, index, request, place, message),
             None => Ok(Told::Unplaced),
         },
     }
@@ -116,7 +108,7 @@ fn answer_at(
     message: &Value,
 ) -> Result<Told, AllocError>
     ensures { IfOk result (λ answer. IsAnswerAt request (map source_of program.now)
-        (all_seen index.now.seen.items) (wanted.place_of place.entry) (view message.now)
+        (all_in index.now) (wanted.place_of place.entry) (view message.now)
         (answer_of answer)) }
 {
     let found = match request {

@@ -5,7 +5,7 @@ ghost use Rattle.std.specs.Prelude.{option_to_list};
 ghost use Rattle.serde_json.specs.View.{view};
 ghost use Rattle.isle_cli.specs.Sources.{source_of};
 ghost use Rattle.isle_index.specs.Occurrences.{name_at};
-ghost use Rattle.isle_index.specs.Scopes.{all_seen};
+ghost use Rattle.isle_index.specs.Held.{all_in};
 ghost use Rattle.isle_lsp_names.specs.Located as wanted;
 ghost use Rattle.isle_lsp_text.specs.Positions.{IsPlace};
 ghost use Rattle.isle_lsp_names.specs.Located.{AreHighlights, AreReferences, IsDefinition};
@@ -25,7 +25,7 @@ pub fn definition(
     index: &Index,
     place: Place,
 ) -> Result<Value, AllocError>
-    ensures { let all = all_seen index.now.seen.items in IfOk result (λ value.
+    ensures { let all = all_in index.now in IfOk result (λ value.
         IsDefinition (map source_of program.now) (name_at place.entry.pos all) all (view value)) }
 {
     match index.name_at(alloc, place.pos)? {
@@ -46,7 +46,7 @@ pub fn references(
     place: Place,
     with_definitions: bool,
 ) -> Result<Value, AllocError>
-    ensures { let all = all_seen index.now.seen.items in IfOk result (λ value.
+    ensures { let all = all_in index.now in IfOk result (λ value.
         AreReferences (map source_of program.now) with_definitions (name_at place.entry.pos all) all
         (view value)) }
 {
@@ -61,7 +61,7 @@ pub fn references(
 
 /// Gives where the name at a place stands in its file, or null where there is no name.
 pub fn highlights(alloc: Global, index: &Index, place: Place) -> Result<Value, AllocError>
-    ensures { let all = all_seen index.now.seen.items in IfOk result (λ value.
+    ensures { let all = all_in index.now in IfOk result (λ value.
         AreHighlights place.entry.pos.file place.entry.text.now (name_at place.entry.pos all) all
         (view value)) }
 {

@@ -6,7 +6,7 @@ ghost use Rattle.std.specs.List.{flat_map};
 ghost use Rattle.isle_cli.specs.Sources.{source_of};
 ghost use Rattle.isle_index.specs.Names.{named_of};
 ghost use Rattle.isle_index.specs.Occurrences.{name_at, occurrence_at};
-ghost use Rattle.isle_index.specs.Scopes.{all_seen};
+ghost use Rattle.isle_index.specs.Held.{all_in};
 ghost use Rattle.isle_lsp_names.specs.Answers.{IsRenaming, IsRenamingOf, answer_of};
 ghost use Rattle.isle_lsp_names.specs.Renamed as wanted;
 ghost use Rattle.isle_lsp_messages.specs.Parameters as parameters;
@@ -25,7 +25,7 @@ use std::alloc::{AllocError, Global};
 
 /// Gives the range of the name at a place, or null where there is none.
 pub fn prepared(alloc: Global, index: &Index, place: Place) -> Result<Value, AllocError>
-    ensures { let all = all_seen index.now.seen.items in IfOk result (λ value. view value
+    ensures { let all = all_in index.now in IfOk result (λ value. view value
         ≡ wanted.prepared place.entry.text.now (name_at place.entry.pos all)
         (occurrence_at place.entry.pos all)) }
 {
@@ -78,7 +78,7 @@ pub fn renamed(
     place: Place,
     message: &Value,
 ) -> Result<Told, AllocError>
-    ensures { let all = all_seen index.now.seen.items in IfOk result (λ answer. IsRenamingOf
+    ensures { let all = all_in index.now in IfOk result (λ answer. IsRenamingOf
         (map source_of program.now) all (name_at place.entry.pos all)
         (parameters.new_name_of (view message.now)) (answer_of answer)) }
 {
@@ -100,7 +100,7 @@ fn renamed_name(
     new: &str,
 ) -> Result<Told, AllocError>
     ensures { IfOk result (λ answer. IsRenaming (map source_of program.now)
-        (all_seen index.now.seen.items) (named_of name.now) new.now (answer_of answer)) }
+        (all_in index.now) (named_of name.now) new.now (answer_of answer)) }
 {
     match index.rename(alloc, name, new)? {
         Ok(places) => {

@@ -6,7 +6,7 @@ ghost use Rattle.std.specs.List.{flat_map};
 ghost use Rattle.serde_json.specs.Data.{array};
 ghost use Rattle.serde_json.specs.View.{items_of, view};
 ghost use Rattle.isle_cli.specs.Sources.{source_of};
-ghost use Rattle.isle_index.specs.Scopes.{all_seen};
+ghost use Rattle.isle_index.specs.Held.{all_in};
 ghost use Rattle.isle_index.specs.Symbols.{symbol_of, symbols};
 ghost use Rattle.isle_lsp_names.specs.Defined as wanted;
 ghost use Rattle.isle_lsp_names.specs.Defined.{AreDocumentSymbols};
@@ -25,7 +25,7 @@ use std::alloc::{AllocError, Global};
 /// Gives what a text of a program defines, in order.
 pub fn document_symbols(alloc: Global, index: &Index, file: File) -> Result<Value, AllocError>
     ensures { IfOk result (λ value. AreDocumentSymbols file.entry.text.now
-        (symbols file.entry.number (all_seen index.now.seen.items)) (view value)) }
+        (symbols file.entry.number (all_in index.now)) (view value)) }
 {
     let lists = lists(alloc, file.text)?;
     let symbols = index.symbols(alloc, file.number)?;
@@ -92,7 +92,7 @@ pub fn workspace_symbols(
     query: &str,
 ) -> Result<Value, AllocError>
     ensures { IfOk result (λ value. view value ≡ wanted.workspace_symbols query.now
-        (map source_of program.now) (all_seen index.now.seen.items)) }
+        (map source_of program.now) (all_in index.now)) }
 {
     let mut values = Vec::new(alloc);
     for (file, source) in program.iter().enumerate() {
@@ -147,11 +147,26 @@ fn matching(
     Ok(Some(value))
 }
 
-/// Tells whether a name has these letters, one after another.
+/// Tells whether these letters stand in a name one after the other, side by side or not. Capital
+/// and small letters of ASCII are the same.
 fn has_letters(name: &str, query: &str) -> bool
     ensures { result ≡ wanted.has_letters query.now name.now }
 {
-    name.contains(query)
+    let mut letters = query.as_bytes();
+    for byte in name.as_bytes() {
+        letters = letters_left(letters, *byte);
+    }
+    letters.is_empty()
+}
+
+/// Gives the letters that are still to come after a byte of a name.
+fn letters_left(letters: &[u8], byte: u8) -> &[u8]
+    ensures { result.now ≡ wanted.letters_left letters.now byte }
+{
+    match letters.split_first() {
+        Some((first, rest)) if first.eq_ignore_ascii_case(&byte) => rest,
+        _ => letters,
+    }
 }
 
 /// Gives the protocol's number of a kind of symbol.

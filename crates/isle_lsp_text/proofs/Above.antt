@@ -1,11 +1,11 @@
 -- The walk over the lines above a place, one byte at a time.
-use Rattle.std.proofs.Common.{◌≡◌, ℕ, ◌+◌, ◌<◌, ◌≤◌, List, [], ◌∷◌, Bool, true, false, ◌==◌, cond, length, get_or, drop, inl, inr, refl, sym, ◌∙◌, ap, add-one, drop-cons, arith}
+use Rattle.std.proofs.Common.{◌≡◌, ℕ, ◌+◌, ◌<◌, ◌≤◌, List, [], ◌∷◌, Bool, true, false, ◌==◌, cond, length, get_or, drop, ◌⊎◌, inl, inr, refl, sym, ◌∙◌, ap, add-one, drop-cons, arith}
 use Rattle.std.proofs.lemmas.Bool.{cases_Bool}
 use Rattle.std.proofs.lemmas.Grind.{common_steps}
 use Rattle.isle_base.specs.Bytes.{line_feed}
-use Rattle.isle_lsp_text.specs.Comments.{comments, go_on, line_after, line_ended, line_with, start_after}
+use Rattle.isle_lsp_text.specs.Comments.{comments, go_on, is_blank, line_after, line_ended, line_with, start_after}
 use Rattle.isle_lsp_text.specs.declared.comments.Line.{Line}
-use Rattle.isle_lsp_text.specs.declared.comments.Line.TheVariants.{Blank, Comment, Other}
+use Rattle.isle_lsp_text.specs.declared.comments.Line.TheVariants.{Blank, Comment, Commented, Other}
 
 -- what the comments come to, where these lines of comments have been met, and these bytes are to come
 abbrev pub above : Line → (met rest : List ℕ) → List ℕ
@@ -43,6 +43,7 @@ on_line line met b bs e =
 same_start : (line : Line) (start b next : ℕ) → (b == line_feed) ≡ false → start_after start line b next ≡ start
 same_start Blank start b next e = rw e refl
 same_start Comment start b next e = refl
+same_start Commented start b next e = refl
 same_start Other start b next e = rw e refl
 
 same : (line : Line) (before : List ℕ) (start i b : ℕ) (bs : List ℕ) → (b == line_feed) ≡ false → above (line_after line b) (drop (start_after start line b (i + 1)) before) bs ≡ above line (drop start before) (b ∷ bs)
@@ -60,9 +61,9 @@ met_more : (t : Bool) (met bs rest : List ℕ) → cond t met rest ≡ cond t me
 met_more true met bs rest = refl
 met_more false met bs rest = refl
 
-ended : (met bs : List ℕ) (b : ℕ) → (b == line_feed) ≡ true → above Blank met bs ≡ above Comment met (b ∷ bs)
-ended met bs b e =
-    let goes : go_on Comment (b ∷ bs) ≡ go_on Blank bs = ap (λ t. go_on (cond t Blank Comment) bs) e in
+ended : (line : Line) (met bs : List ℕ) (b : ℕ) → (b == line_feed) ≡ true → line_ended line ≡ Blank → above Blank met bs ≡ above line met (b ∷ bs)
+ended line met bs b e blank =
+    let goes : go_on line (b ∷ bs) ≡ go_on Blank bs = ap (λ t. go_on (cond t (line_ended line) (line_with line b)) bs) e ∙ ap (λ x. go_on x bs) blank in
     met_more (go_on Blank bs) met bs (comments false bs)
     ∙ ap (cond (go_on Blank bs) met) (sym (next_line bs b e))
     ∙ ap (λ t. cond t met (comments false (b ∷ bs))) (sym goes)
@@ -81,7 +82,9 @@ broken_other line before start i b bs rest e moved other =
 
 broken : (line : Line) (before : List ℕ) (start i b : ℕ) (bs : List ℕ) → bs ≡ drop (i + 1) before → (b == line_feed) ≡ true → above (line_after line b) (drop (start_after start line b (i + 1)) before) bs ≡ above line (drop start before) (b ∷ bs)
 broken Comment before start i b bs rest e =
-    ap (λ x. above x (drop start before) bs) (ends_line Comment b e) ∙ ended (drop start before) bs b e
+    ap (λ x. above x (drop start before) bs) (ends_line Comment b e) ∙ ended Comment (drop start before) bs b e refl
+broken Commented before start i b bs rest e =
+    ap (λ x. above x (drop start before) bs) (ends_line Commented b e) ∙ ended Commented (drop start before) bs b e refl
 broken Blank before start i b bs rest e = broken_other Blank before start i b bs rest e (rw e refl) refl
 broken Other before start i b bs rest e = broken_other Other before start i b bs rest e (rw e refl) refl
 
@@ -94,6 +97,7 @@ passed line before start i b bs rest =
 
 pub below : (line : Line) (start b next : ℕ) → start ≤ next → start_after start line b next ≤ next
 below Comment start b next h = h
+below Commented start b next h = h
 below Blank start b next h = elim (cases_Bool (b == line_feed)) [ inl e ↦ rw e (omega arith) | inr e ↦ rw e h ]
 below Other start b next h = elim (cases_Bool (b == line_feed)) [ inl e ↦ rw e (omega arith) | inr e ↦ rw e h ]
 
@@ -113,3 +117,8 @@ other_end line before start i h none inv =
     let z : drop i before ≡ [] = grind (arith, common_steps) in
     let all : drop (length before) before ≡ [] = grind (arith, common_steps) in
     all ∙ sym (c_nil false) ∙ (rw (z, none) at inv)
+
+pub not_blank : (line : Line) → (line ≡ Comment) ⊎ ((line ≡ Commented) ⊎ (line ≡ Other)) → is_blank line ≡ false
+not_blank line (inl e) = ap is_blank e
+not_blank line (inr (inl e)) = ap is_blank e
+not_blank line (inr (inr e)) = ap is_blank e

@@ -1,6 +1,6 @@
 pub mod Above
+pub mod Covered
 pub mod EditSteps
-pub mod NameBytes
 pub mod Places
 pub mod Units
 pub mod Walks

@@ -1,5 +1,5 @@
 -- The lists of a text of ISLE: what stands from a `(` to its `)`, told by the tokens of the text.
-use Rattle.std.specs.Prelude.{◌≡◌, ℕ, ◌+◌, List, [], ◌∷◌, ◌++◌, Bool, ◌&&◌, Option, None, Some, length, nat_le, nat_lt, if◌then◌else◌}
+use Rattle.std.specs.Prelude.{◌≡◌, ℕ, ◌+◌, List, [], ◌∷◌, ◌++◌, Bool, ◌&&◌, ◌==◌, Option, None, Some, length, nat_le, nat_lt, if◌then◌else◌}
 use Rattle.isle_base.specs.Lexing.{lexes}
 use Rattle.isle_base.specs.Token.{Tok, lparen, rparen, symbol, integer, at_sign, Lexeme, Ending}
 use Rattle.isle_lsp_text.specs.declared.lists.ListSpan.{ListSpan}
@@ -42,3 +42,8 @@ holds depth offset l = nat_lt l.from offset && nat_lt offset l.to && nat_le dept
 abbrev pub list_around : (depth offset : ℕ) → List ListSpan → Option ListSpan
 list_around depth offset [] = None
 list_around depth offset (l ∷ ls) = if holds depth offset l then Some l else list_around depth offset ls
+
+-- the outermost list around an offset: the one that holds it and stands in no other
+abbrev pub outer_list : (offset : ℕ) → List ListSpan → Option ListSpan
+outer_list offset [] = None
+outer_list offset (l ∷ ls) = if l.depth == 0 && holds 0 offset l then Some l else outer_list offset ls

@@ -1,28 +1,86 @@
 //! The comments above a place.
 
-ghost use Rattle.std.specs.Prelude.{◌≡◌, ◌≤◌, drop, length, true};
-ghost use Rattle.isle_lsp_text.specs.Comments.{comments, comments_start, line_after, line_with};
-ghost use Rattle.isle_lsp_text.specs.Comments.{start_after};
+ghost use Rattle.std.specs.Prelude.{◌≡◌, ◌-◌, ◌<◌, ◌≤◌, IfOk, drop, false, length, replicate};
+ghost use Rattle.std.specs.Prelude.{slice_range, true};
+ghost use Rattle.isle_base.specs.Bytes.{left_parenthesis};
+ghost use Rattle.isle_base.specs.Skips.{opens};
+ghost use Rattle.isle_lsp_text.specs.Comments.{Covers, IsCommentsStart, IsCovered, comments};
+ghost use Rattle.isle_lsp_text.specs.Comments.{line_after, line_with, start_after};
+
+use isle_base::ends::{block_comment_end, opens_at};
+use isle_base::lexer::line_comment_end;
+use std::alloc::{AllocError, Global};
 
 /// What stands on a line so far.
 #[derive(Clone, Copy, Debug, PartialEq, Eq)]
 pub enum Line {
     /// Blanks alone, or nothing.
     Blank,
-    /// A comment, after blanks.
+    /// A comment that goes on, after blanks and comments.
     Comment,
+    /// Comments, and blanks after the last one's end.
+    Commented,
     /// Anything else.
     Other,
 }
 
-/// Gives where the lines of comments begin that end right above the line of an offset, or that
-/// line, where blanks alone stand before the offset there, and the offset elsewhere. An offset
-/// past the text means the text's end.
-pub fn comments_start(text: &str, offset: usize) -> usize
-    ensures { result ≡ comments_start text.now offset }
+/// Gives where the lines of line comments begin that end right above the line of an offset, or that
+/// line, where blanks alone stand before the offset there, and the offset elsewhere.
+///
+/// A line that a block comment is on is none of comments. A line ends with LF; a line comment ends
+/// with LF or CR. An offset past the text means the text's end. It fails only where memory runs
+/// out.
+pub fn comments_start(alloc: Global, text: &str, offset: usize) -> Result<usize, AllocError>
+    ensures { IfOk result (λ start. IsCommentsStart text.now offset start) }
 {
-    let end = offset.min(text.len());
-    start_of_comments(&text.as_bytes()[..end])
+    let covered = covered(alloc, text.as_bytes())?;
+    let end = offset.min(covered.len());
+    Ok(start_of_comments(&covered[..end]))
+}
+
+/// Gives a text with a `(` in place of each byte of its block comments.
+fn covered(alloc: Global, text: &[u8]) -> Result<Vec<u8>, AllocError>
+    ensures { IfOk result (λ covered. IsCovered text.now covered.items) }
+{
+    let mut covered = Vec::new(alloc);
+    while covered.len() < text.len() {
+        let at = covered.len();
+        if opens_at(text, at) {
+            covered.resize(block_end(text, at), b'(')?;
+        } else {
+            covered.extend_from_slice(&text[at..bare_end(text, at)])?;
+        }
+    }
+    Ok(covered)
+}
+
+/// Gives the offset after the block comment that begins at an offset, or the text's end.
+fn block_end(text: &[u8], at: usize) -> usize
+    requires at { at < length text.now }
+    requires opens { opens (drop at text.now) ≡ true }
+    ensures on { at < result }
+    ensures within { result ≤ length text.now }
+    ensures covers { Covers text.now at result (replicate (result - at) left_parenthesis) }
+{
+    match block_comment_end(text, at + 2) {
+        Some(end) => end,
+        None => text.len(),
+    }
+}
+
+/// Gives the offset after the line comment or the byte at an offset.
+fn bare_end(text: &[u8], at: usize) -> usize
+    requires at { at < length text.now }
+    requires opens { opens (drop at text.now) ≡ false }
+    ensures on { at < result }
+    ensures within { result ≤ length text.now }
+    ensures covers { Covers text.now at result (slice_range text.now at result) }
+{
+    if text[at] == b';' {
+        line_comment_end(text, at + 1)
+    } else {
+        at + 1
+    }
 }
 
 /// Gives where the lines of comments begin that these bytes end with.
@@ -38,7 +96,7 @@ fn start_of_comments(before: &[u8]) -> usize
     }
     match line {
         Line::Blank => start,
-        Line::Comment | Line::Other => before.len(),
+        Line::Comment | Line::Commented | Line::Other => before.len(),
     }
 }
 
@@ -47,7 +105,7 @@ fn start_after(start: usize, line: Line, byte: u8, next: usize) -> usize
     ensures { result ≡ start_after start line byte next }
 {
     match line {
-        Line::Comment => start,
+        Line::Comment | Line::Commented => start,
         Line::Blank | Line::Other => { if byte == b'\n' { next } else { start } }
     }
 }
@@ -68,10 +126,10 @@ fn line_with(line: Line, byte: u8) -> Line
     ensures { result ≡ line_with line byte }
 {
     match line {
-        Line::Blank if byte == b';' => Line::Comment,
-        Line::Blank if byte == b' ' || byte == b'\t' || byte == b'\r' => Line::Blank,
-        Line::Blank => Line::Other,
+        Line::Blank | Line::Commented if byte == b';' => Line::Comment,
+        Line::Blank | Line::Commented if byte == b' ' || byte == b'\t' || byte == b'\r' => line,
+        Line::Comment if byte == b'\r' => Line::Commented,
         Line::Comment => Line::Comment,
-        Line::Other => Line::Other,
+        Line::Blank | Line::Commented | Line::Other => Line::Other,
     }
 }

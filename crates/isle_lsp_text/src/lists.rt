@@ -3,6 +3,7 @@
 ghost use Rattle.std.specs.Prelude.{◌≡◌, ◌+◌, ◌<◌, ◌^◌, ◌++◌, [], IfOk, OnOk, reverse};
 ghost use Rattle.isle_base.specs.TokenView.{token_of_ref};
 ghost use Rattle.isle_lsp_text.specs.Lists.{AreLists, closed, holds, list_around, lists_of, opened};
+ghost use Rattle.isle_lsp_text.specs.Lists.{outer_list};
 
 use isle_base::lexer::{Fault, Pos};
 use isle_base::scanner::{Scanner, TokenRef};
@@ -92,4 +93,16 @@ fn holds(list: &ListSpan, depth: usize, offset: usize) -> bool
     ensures { result ≡ holds depth offset list.now }
 {
     list.from < offset && offset < list.to && depth <= list.depth
+}
+
+/// Gives the outermost list around an offset: the one in no other that has it inside.
+pub fn outer_list(lists: &[ListSpan], offset: usize) -> Option<ListSpan>
+    ensures { result ≡ outer_list offset lists.now }
+{
+    for list in lists {
+        if list.depth == 0 && holds(list, 0, offset) {
+            return Some(*list);
+        }
+    }
+    None
 }

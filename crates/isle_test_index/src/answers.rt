@@ -1,19 +1,17 @@
 //! The answers to requests.
 
-use isle_ast::ast::Def;
 use isle_base::lexer::Pos;
 use isle_index::{Index, Name};
 use std::alloc::{AllocError, Global};
 
 /// Answers requests to the index of a program, one a line.
-pub fn answers(alloc: Global, trees: &[Vec<Def>], requests: &str) -> Result<String, AllocError> {
-    let index = Index::new(alloc, trees)?;
+pub fn answers(alloc: Global, index: &Index, requests: &str) -> Result<String, AllocError> {
     let mut all = String::new(alloc);
     for line in requests.lines() {
         all.push_str(line)?;
         all.push_str("\n")?;
         if !line.is_empty() && !line.starts_with('#') {
-            all.push_str(answer(alloc, &index, line)?.as_str())?;
+            all.push_str(answer(alloc, index, line)?.as_str())?;
         }
     }
     Ok(all)
@@ -25,11 +23,12 @@ fn answer(alloc: Global, index: &Index, line: &str) -> Result<String, AllocError
     let call = words.next().unwrap_or("");
     let offset = words.next().unwrap_or("").parse::<usize>().unwrap_or(0);
     let word = words.next().unwrap_or("");
+    let from = words.next().unwrap_or("").parse::<usize>().unwrap_or(0);
     let place = Pos::new(0, offset);
     match call {
         "at" => at(alloc, index, place),
         "symbols" => symbols(alloc, index),
-        "candidates" => candidates(alloc, index, place, word),
+        "candidates" => candidates(alloc, index, place, from, word.as_bytes()),
         "rename" => rename(alloc, index, place, word),
         _ => String::from_str(alloc, "what?\n"),
     }
@@ -79,10 +78,11 @@ fn candidates(
     alloc: Global,
     index: &Index,
     place: Pos,
-    prefix: &str,
+    from: usize,
+    prefix: &[u8],
 ) -> Result<String, AllocError> {
     let mut answer = String::new(alloc);
-    for candidate in &index.candidates(alloc, place, prefix)? {
+    for candidate in &index.candidates(alloc, place, from, prefix)? {
         let (kind, text) = (candidate.kind, candidate.text.as_str());
         let part = format!(in alloc; "{kind:?} {text}\n")?;
         answer.push_str(part.as_str())?;

@@ -8,7 +8,7 @@
 //! |---|---|
 //! | `at OFFSET` | what is named there, and each occurrence, a definition with a `*` |
 //! | `symbols` | what the program defines |
-//! | `candidates OFFSET PREFIX` | what begins so and may be written there |
+//! | `candidates OFFSET PREFIX FROM` | what begins so and may be written, variables from FROM on |
 //! | `rename OFFSET NEW` | the places that change, or why the name can't get the text |
 #![tactic(auto)]
 
@@ -17,6 +17,7 @@ mod answers;
 use answers::answers;
 use isle_ast::ast::Def;
 use isle_base::lexer::{Fault, Lexer};
+use isle_index::Index;
 use isle_parser::dropping::drop_definitions;
 use isle_parser::parser::parse;
 use std::alloc::{AllocError, Global};
@@ -33,15 +34,13 @@ fn main(rt: HostRuntime) -> io::Result<()> {
     }
 }
 
-/// Answers requests to the index of a program, and lets its tree go.
+/// Answers requests to the index of a program, whose tree is let go before.
 fn answers_of(alloc: Global, defs: Vec<Def>, requests: &str) -> Result<String, AllocError> {
-    let mut trees = Vec::new(alloc);
-    trees.push(defs)?;
-    let answers = answers(alloc, &trees, requests);
-    for defs in trees {
-        drop_definitions(defs);
-    }
-    answers
+    let mut index = Index::new(alloc);
+    let added = index.add(alloc, &defs);
+    drop_definitions(defs);
+    added?;
+    answers(alloc, &index, requests)
 }
 
 /// Parses the program, as file 0.

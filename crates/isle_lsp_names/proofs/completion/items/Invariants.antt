@@ -7,5 +7,5 @@ use Rattle.isle_lsp_names.proofs.completion.items.Given as goal
 
 abbrev pub invariant-loop-candidate : goal.invariant-loop-candidate
 invariant-loop-candidate l =
-    map view l.values.items ++ map item (once (option_map (λ c. candidate_of c.now) l.last) (map candidate_of (drop l.candidate-index l.found)))
-    ≡ map item (once None (map candidate_of l.found))
+    map view l.values.items ++ map (item l.range) (once (option_map (λ c. candidate_of c.now) l.last) (map candidate_of (drop l.candidate-index l.found)))
+    ≡ map (item l.range) (once None (map candidate_of l.found))

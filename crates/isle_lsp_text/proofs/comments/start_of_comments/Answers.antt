@@ -1,6 +1,5 @@
-use Rattle.std.proofs.Common.{◌+◌, inl, inr, ap, arith}
-use Rattle.isle_lsp_text.specs.Comments.{is_blank}
-use Rattle.isle_lsp_text.proofs.Above.{at_start, below, other_end, step}
+use Rattle.std.proofs.Common.{◌+◌, arith}
+use Rattle.isle_lsp_text.proofs.Above.{at_start, below, not_blank, other_end, step}
 use Rattle.isle_lsp_text.proofs.comments.start_of_comments.Goals as goal
 
 pub loop-i-init : goal.loop-i-init
@@ -14,10 +13,6 @@ loop-i-preserved c = rw (c.line_after-line.ensures, c.start_after-start.ensures)
 
 pub returns-in-Comment : goal.returns-in-Comment
 returns-in-Comment c = record {
-  start =
-      elim c.in-Comment.is [
-        | inl e ↦ other_end c.loop-i.line c.args.before.now c.loop-i.start c.loop-i.i c.loop-i-test.false (ap is_blank e) c.loop-i.invariant.so_far
-        | inr e ↦ other_end c.loop-i.line c.args.before.now c.loop-i.start c.loop-i.i c.loop-i-test.false (ap is_blank e) c.loop-i.invariant.so_far
-      ];
+  start = other_end c.loop-i.line c.args.before.now c.loop-i.start c.loop-i.i c.loop-i-test.false (not_blank c.loop-i.line c.in-Comment.is) c.loop-i.invariant.so_far;
   within = omega arith;
 }

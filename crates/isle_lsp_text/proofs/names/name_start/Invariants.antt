@@ -1,5 +1,5 @@
-use Rattle.std.proofs.Common.{◌≡◌, ◌+◌, ◌≤◌, length, take, drop, true}
-use Rattle.std.specs.List.{list_all, suffix_len}
+use Rattle.std.proofs.Common.{◌≡◌, ◌+◌, ◌≤◌, length, take}
+use Rattle.std.specs.List.{suffix_len}
 use Rattle.isle_lsp_text.specs.Names.{is_of_name}
 use Rattle.isle_lsp_text.proofs.names.name_start.Given as goal
 
@@ -7,7 +7,6 @@ abbrev pub invariant-loop-start : goal.invariant-loop-start
 invariant-loop-start l = record {
   within : l.start ≤ length l.before;
   left : l.start + suffix_len is_of_name l.before ≡ length l.before + suffix_len is_of_name (take l.start l.before);
-  name : list_all is_of_name (drop l.start l.before) ≡ true;
 }
 
 abbrev pub decreases-loop-start : goal.decreases-loop-start

@@ -1,0 +1,51 @@
+-- How an index holds its events: an entry has the numbers of its texts among the texts of the index. Its own number is
+-- its place among the entries.
+use Rattle.std.specs.Prelude.{ℕ, ◌+◌, List, [], ◌∷◌, Option, None, Some, option_map, string_bytes}
+use Rattle.std.specs.List.{slice_get}
+use Rattle.std.specs.declared.alloc.Global.{Global}
+use Rattle.std.specs.declared.string.String.{String}
+use Rattle.isle_ast_names.specs.Tree.{Name}
+use Rattle.isle_index_events.specs.Event.{EventNode, defines, uses, defines_variant, occurs, binds, reads, closes, ends}
+use Rattle.isle_index.specs.declared.entries.Entries.{Entries}
+use Rattle.isle_index.specs.declared.entries.Entry.{Entry}
+use Rattle.isle_index.specs.declared.entries.Entry.TheVariants as entries
+use Rattle.isle_index.specs.declared.entries.Spot.{Spot}
+use Rattle.isle_index.specs.Scopes.{SeenNode}
+
+-- the text of a number, if there is one
+abbrev pub text_in : List (String Global) → ℕ → Option (List ℕ)
+text_in texts number = option_map string_bytes (slice_get texts number)
+
+abbrev pub or_no_bytes : Option (List ℕ) → List ℕ
+or_no_bytes None = []
+or_no_bytes (Some text) = text
+
+-- the text of a number; where there is none, no bytes
+abbrev pub text_at : List (String Global) → ℕ → List ℕ
+text_at texts number = or_no_bytes (text_in texts number)
+
+abbrev pub word_at : List (String Global) → Spot → Name
+word_at texts s = record { text = text_at texts s.text; pos = record { file = s.file; offset = s.offset } }
+
+abbrev pub with_binder : EventNode → ℕ → Option ℕ → SeenNode
+with_binder event number binder = record { event = event; number = number; binder = binder }
+
+-- the event of an entry with this number
+abbrev pub unpacked : List (String Global) → ℕ → Entry → SeenNode
+unpacked texts number (entries.Defines kind spot) = with_binder (defines kind (word_at texts spot)) number None
+unpacked texts number (entries.Uses kind spot) = with_binder (uses kind (word_at texts spot)) number None
+unpacked texts number (entries.DefinesVariant owner member) =
+    with_binder (defines_variant (word_at texts owner) (word_at texts member)) number None
+unpacked texts number (entries.Occurs spot binder) = with_binder (occurs (word_at texts spot)) number (Some binder)
+unpacked texts number (entries.Binds spot) = with_binder (binds (word_at texts spot)) number (Some number)
+unpacked texts number (entries.Reads spot binder) = with_binder (reads (word_at texts spot)) number binder
+unpacked texts number entries.Closes = with_binder closes number None
+unpacked texts number entries.Ends = with_binder ends number None
+
+-- the events of entries, the first of which has this number
+abbrev pub unpacked_from : List (String Global) → ℕ → List Entry → List SeenNode
+unpacked_from texts number [] = []
+unpacked_from texts number (e ∷ es) = unpacked texts number e ∷ unpacked_from texts (number + 1) es
+
+abbrev pub all_of : Entries → List SeenNode
+all_of e = unpacked_from e.texts.now 0 e.items.now
