@@ -117,6 +117,14 @@ fn step(alloc: Global, next: Result<Option<(Pos, Token)>, Fault>) -> Result<Stri
     }
 }
 
+/// Makes a call of `next`, and adds the lexer's state before it and what it answers.
+fn push_step(alloc: Global, lexer: &mut Lexer, out: &mut String) -> Result<(), AllocError> {
+    let state = state(alloc, lexer)?;
+    let step = step(alloc, lexer.next(alloc))?;
+    let words = format!(in alloc; "{state} {step} ")?;
+    out.push_str(&words)
+}
+
 /// Each call of `next` up to the second that comes when nothing is ahead, with the lexer's state in
 /// front of each.
 fn tokens(alloc: Global, case: &Case) -> Result<String, AllocError> {
@@ -128,10 +136,7 @@ fn tokens(alloc: Global, case: &Case) -> Result<String, AllocError> {
     let mut was_end = false;
     for _ in 0..case.text(0).len() + 2 {
         let is_end = lexer.peek().is_none();
-        let state = state(alloc, &lexer)?;
-        let step = step(alloc, lexer.next(alloc))?;
-        let words = format!(in alloc; "{state} {step} ")?;
-        out.push_str(&words)?;
+        push_step(alloc, &mut lexer, &mut out)?;
         if is_end && was_end {
             break;
         }

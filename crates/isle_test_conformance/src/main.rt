@@ -27,7 +27,7 @@
 //! | `line_map OFFSET.. TEXT` | the line of each place, and the line map |
 //! | `fits ROOM TEXT` | whether the S-expression of each definition fits the room |
 //! | `writable TEXT` | whether the tree is writable |
-//! | `built KIND NUMBER.. WORD..` | whether the tree of this kind by hand, of `isle_test_writable`, is writable, and its print reads back if it is, at widths from the least to the greatest |
+//! | `built KIND NUMBER.. WORD..` | whether the tree of this kind, of `isle_test_writable`, is writable, and its print reads back if it is, at widths from the least to the greatest |
 //! | `built_alone KIND NUMBER.. WORD..` | whether each definition of it is writable, without a print |
 //! | `built_print KIND NUMBER.. WORD..` | whether it is writable, and its print at 78 |
 //! | `nodes FILE TEXT` | the text of each definition and of its parts by themselves, with the positions of patterns and expressions |

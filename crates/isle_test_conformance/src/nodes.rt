@@ -3,8 +3,8 @@
 use crate::answers::{parsed, placed, shown};
 use crate::case::Case;
 use isle_syntax::ast::{
-    Def, Expr, Fields, Model, ModelType, ModelValue, Pattern, Rule, Spec, SpecExpr, TypeDef,
-    TypeValue,
+    Def, Expr, Fields, Model, ModelField, ModelType, ModelValue, Pattern, Rule, Spec, SpecExpr,
+    TypeDef, TypeValue, Variant,
 };
 use isle_syntax::lexer::Pos;
 use isle_syntax::printer::{PrintFault, ToSExpr, print_node};
@@ -39,19 +39,40 @@ fn put_at<N: ToSExpr>(
     put(node, alloc, out)
 }
 
+fn put_fields(fields: &Fields, alloc: Global, out: &mut String) -> Result<(), PrintFault> {
+    match fields {
+        Fields::Unit => Ok(()),
+        Fields::Struct(fields) => put_all(&fields.fields, alloc, out),
+        Fields::Tuple(fields) => put_all(&fields.fields, alloc, out),
+    }
+}
+
+fn put_variants(variants: &[Variant], alloc: Global, out: &mut String) -> Result<(), PrintFault> {
+    put_all(variants, alloc, out)?;
+    for variant in variants {
+        put_fields(&variant.fields, alloc, out)?;
+    }
+    Ok(())
+}
+
 fn put_type(def: &TypeDef, alloc: Global, out: &mut String) -> Result<(), PrintFault> {
     put(def, alloc, out)?;
     put(&def.name, alloc, out)?;
     put(&def.ty, alloc, out)?;
-    if let TypeValue::Enum(variants, _) = &def.ty {
-        put_all(variants, alloc, out)?;
-        for variant in variants {
-            match &variant.fields {
-                Fields::Unit => {}
-                Fields::Struct(fields) => put_all(&fields.fields, alloc, out)?,
-                Fields::Tuple(fields) => put_all(&fields.fields, alloc, out)?,
-            }
-        }
+    match &def.ty {
+        TypeValue::Enum(variants, _) => put_variants(variants, alloc, out),
+        _ => Ok(()),
+    }
+}
+
+fn put_model_fields(
+    fields: &[ModelField],
+    alloc: Global,
+    out: &mut String,
+) -> Result<(), PrintFault> {
+    put_all(fields, alloc, out)?;
+    for field in fields {
+        put(&field.ty, alloc, out)?;
     }
     Ok(())
 }
@@ -59,21 +80,17 @@ fn put_type(def: &TypeDef, alloc: Global, out: &mut String) -> Result<(), PrintF
 fn put_model(model: &Model, alloc: Global, out: &mut String) -> Result<(), PrintFault> {
     put(model, alloc, out)?;
     put(&model.val, alloc, out)?;
-    if let ModelValue::TypeValue(ModelType::Struct(fields)) = &model.val {
-        put_all(fields, alloc, out)?;
-        for field in fields {
-            put(&field.ty, alloc, out)?;
-        }
+    match &model.val {
+        ModelValue::TypeValue(ModelType::Struct(fields)) => put_model_fields(fields, alloc, out),
+        _ => Ok(()),
     }
-    Ok(())
 }
 
 /// Adds a pattern, whose symbol stands in front, if it is a term.
 fn put_pattern(pattern: &Pattern, alloc: Global, out: &mut String) -> Result<(), PrintFault> {
     if let Some(sym) = pattern.root_term() {
-        out.push_str("term ")?;
-        out.push_str(&sym.0)?;
-        out.push(' ')?;
+        let words = format!(in alloc; "term {} ", sym.0)?;
+        out.push_str(&words)?;
     }
     put_at(pattern.pos(), pattern, alloc, out)
 }
@@ -109,21 +126,26 @@ fn put_rule(rule: &Rule, alloc: Global, out: &mut String) -> Result<(), PrintFau
     Ok(())
 }
 
+/// Adds spec expressions, each with its position.
+fn put_args(args: &[SpecExpr], alloc: Global, out: &mut String) -> Result<(), PrintFault> {
+    for arg in args {
+        put_at(arg.pos(), arg, alloc, out)?;
+    }
+    Ok(())
+}
+
 /// Adds a spec expression, and its lists.
 fn put_spec_expr(expr: &SpecExpr, alloc: Global, out: &mut String) -> Result<(), PrintFault> {
     put_at(expr.pos(), expr, alloc, out)?;
     match expr {
         SpecExpr::Op { op, args, .. } => {
             put(op, alloc, out)?;
-            for arg in args {
-                put_at(arg.pos(), arg, alloc, out)?;
-            }
+            put_args(args, alloc, out)
         }
-        SpecExpr::Match { arms, .. } => put_all(arms, alloc, out)?,
-        SpecExpr::Struct { fields, .. } => put_all(fields, alloc, out)?,
-        _ => {}
+        SpecExpr::Match { arms, .. } => put_all(arms, alloc, out),
+        SpecExpr::Struct { fields, .. } => put_all(fields, alloc, out),
+        _ => Ok(()),
     }
-    Ok(())
 }
 
 fn put_spec(spec: &Spec, alloc: Global, out: &mut String) -> Result<(), PrintFault> {

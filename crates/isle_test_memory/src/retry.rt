@@ -46,6 +46,19 @@ fn want_of_memory() -> io::Error {
     io::Error::from(ErrorKind::OutOfMemory)
 }
 
+/// What an answer about the next token is, in a word. The answer is dropped.
+pub fn word_of(next: Result<Option<(Pos, Token)>, Fault>) -> &'static str {
+    let word = match &next {
+        Ok(Some(_)) => "token",
+        Ok(None) => "end",
+        Err(Fault::Error(_)) => "error",
+        Err(Fault::Failed) => "failed",
+        Err(Fault::Memory) => "memory",
+    };
+    drop(next);
+    word
+}
+
 /// Writes a token's position and number.
 fn write_token<W: Write>(output: &mut W, pos: Pos, token: &Token) -> io::Result<()> {
     let number = number_of(token);
@@ -77,13 +90,13 @@ fn lexer_of<'a, E: Write>(
     text: &'a str,
     faults: &mut E,
 ) -> io::Result<Result<Lexer<'a>, Fault>> {
-    match Lexer::new(alloc, 1, text) {
-        Err(Fault::Memory) => {
-            faults.write_all(b"retried\n")?;
-            Ok(Lexer::new(alloc, 1, text))
-        }
-        other => Ok(other),
+    let made = Lexer::new(alloc, 1, text);
+    if !matches!(&made, Err(Fault::Memory)) {
+        return Ok(made);
     }
+    drop(made);
+    faults.write_all(b"retried\n")?;
+    Ok(Lexer::new(alloc, 1, text))
 }
 
 /// Writes each token of a text, and the fault that ends them.

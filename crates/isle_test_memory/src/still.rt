@@ -1,6 +1,7 @@
 //! Calls that take no memory, in groups. Each group makes the same things first.
 
 use crate::calls::{error, files_of, printed};
+use crate::retry::word_of;
 use isle_syntax::ast::{Def, Expr, Ident, Pattern, SpecExpr, writable};
 use isle_syntax::error::{Error, Errors, ErrorsBuilder, Span};
 use isle_syntax::files::{Files, LineMap};
@@ -28,12 +29,9 @@ struct Ready<'a> {
 /// A lexer that has refused its text.
 fn failed(alloc: Global) -> Result<Lexer<'static>, Fault> {
     let mut lexer = Lexer::new(alloc, 1, "a 12ab")?;
-    match lexer.next(alloc) {
-        Err(Fault::Memory) => Err(Fault::Memory),
-        other => {
-            drop(other);
-            Ok(lexer)
-        }
+    match word_of(lexer.next(alloc)) {
+        "memory" => Err(Fault::Memory),
+        _ => Ok(lexer),
     }
 }
 
@@ -101,7 +99,7 @@ fn group(alloc: Global, call: &str, ready: Ready, defs: &[Def]) -> bool {
 
 /// Whether a lexer at its end says so.
 fn is_at_end(alloc: Global, mut lexer: Lexer) -> bool {
-    lexer.eof() && matches!(lexer.next(alloc), Ok(None))
+    lexer.eof() && word_of(lexer.next(alloc)) == "end"
 }
 
 /// Whether `next` of a lexer of a text without a token is at its end.
@@ -128,7 +126,7 @@ fn lexers(alloc: Global, text: &str, lexer: Lexer, mut failed: Lexer) -> bool {
     let bytes = text.as_bytes();
     let is_symbol_end = symbol_end(bytes, 0) <= text.len();
     let are_ends = blank_end(bytes, 0) == 0 && line_comment_end(bytes, 0) <= text.len();
-    let is_failed = !failed.eof() && matches!(failed.next(alloc), Err(Fault::Failed));
+    let is_failed = !failed.eof() && word_of(failed.next(alloc)) == "failed";
     drop(Parser::new(lexer));
     is_token && is_symbol && is_ahead && is_symbol_end && are_ends && is_failed && ends(alloc)
 }

@@ -1,49 +1,23 @@
 //! Trees by hand and their prints: which trees are writable, and which prints read back.
 
-use crate::definitions::{converters, definition};
-use crate::rules::rule_definition;
-use crate::specs::spec_definition;
+use crate::edits::edited;
+use crate::specs::constant;
 use isle_syntax::ast::{Def, writable};
 use isle_syntax::printer::print;
 use isle_test_nodes::trees::{drop_definitions, read};
 use std::alloc::{AllocError, Global};
 
-/// The definition of a kind that is made of the words and numbers; `None` where there is no such
-/// kind.
-fn definition_of(
-    alloc: Global,
-    kind: &str,
-    words: &[String],
-    numbers: &[usize],
-) -> Result<Option<Def>, AllocError> {
-    if let Some(def) = definition(alloc, kind, words, numbers)? {
-        return Ok(Some(def));
-    }
-    if let Some(def) = rule_definition(alloc, kind, words)? {
-        return Ok(Some(def));
-    }
-    spec_definition(alloc, kind, words)
-}
-
-/// A list of one definition.
-fn alone(alloc: Global, def: Def) -> Result<Vec<Def>, AllocError> {
-    Ok(vec![in alloc; def]?)
-}
-
 /// The definitions of a kind that are made of the words and numbers; `None` where there is no such
-/// kind.
+/// kind, or a text is refused.
 fn built(
     alloc: Global,
     kind: &str,
     words: &[String],
     numbers: &[usize],
 ) -> Result<Option<Vec<Def>>, AllocError> {
-    if kind == "converters" {
-        return Ok(Some(converters(alloc, words)?));
-    }
-    match definition_of(alloc, kind, words, numbers)? {
-        Some(def) => Ok(Some(alone(alloc, def)?)),
-        None => Ok(None),
+    match kind {
+        "argument" | "operation" | "bits" => Ok(Some(constant(alloc, kind, words)?)),
+        _ => edited(alloc, kind, words, numbers),
     }
 }
 
