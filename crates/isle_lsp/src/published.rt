@@ -50,7 +50,7 @@ fn notification(
     put_notification(&mut out, uri, text, told)?;
     match String::from_utf8(out.into_inner()) {
         Ok(sent) => Ok(sent),
-        Err(_) => Err(AllocError),
+        Err(_) => unreachable!(),
     }
 }
 
