@@ -1,4 +1,4 @@
-//! The texts of an index, each held once.
+//! The texts of an index, each under one number.
 
 ghost use Rattle.std.specs.Prelude.{◌≡◌, [], IfOk, IfSome, OnOk, Some};
 ghost use Rattle.isle_index.specs.Entries.{text_in, with_binder};

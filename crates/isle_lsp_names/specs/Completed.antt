@@ -60,7 +60,8 @@ abbrev pub outer_start : List ℕ → List ListSpan → (offset : ℕ) → ℕ
 outer_start text lists offset = begins_at (outer_list offset lists) (length text)
 
 -- The names that begin as what is written right before a place and may stand there, each once, in order of name, to be written in
--- place of that. The variables are those of the outermost list around the place.
+-- place of that. The variables are those bound at the last name before the place, if that is in the outermost list around
+-- the place.
 abbrev pub AreCompletions : Pos → List ℕ → List SeenNode → Data → Type 0
 AreCompletions place text all d =
     (lists : List ListSpan) × (found : List Candidate) × AreLists text lists

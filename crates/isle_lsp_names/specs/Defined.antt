@@ -45,7 +45,7 @@ symbol_data text lists s =
 abbrev pub AreDocumentSymbols : List ℕ → List SymbolNode → Data → Type 0
 AreDocumentSymbols text found d = (lists : List ListSpan) × AreLists text lists × (d ≡ array (items_of (map (symbol_data text lists) found)))
 
--- whether these letters stand in a name one after the other, side by side or not; capital and small letters of ASCII are the same
+-- whether these bytes stand in a name one after the other, side by side or not; capital and small letters of ASCII are the same
 abbrev pub has_letters : (letters name : List ℕ) → Bool
 has_letters [] name = true
 has_letters (l ∷ ls) [] = false

@@ -20,7 +20,8 @@ use serde_json::Value;
 use std::alloc::{AllocError, Global};
 
 /// Gives the names that begin as what is written before a place, each once, in order of name, to be
-/// written in place of that. The variables are those of the outermost list around the place.
+/// written in place of that. The variables are those bound at the last name before the place, if
+/// that is in the outermost list around the place.
 pub fn completion(alloc: Global, index: &Index, place: Place) -> Result<Value, AllocError>
     ensures { IfOk result (λ value. AreCompletions place.entry.pos place.entry.text.now
         (all_in index.now) (view value)) }

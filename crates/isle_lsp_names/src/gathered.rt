@@ -23,9 +23,9 @@ pub struct Gathered {
     pub refused: usize,
 }
 
-/// Makes the index of a program: of the trees that its texts spell, and of a text that spells none
-/// of the definitions that it begins with. One definition is held at a time. It fails only with
-/// `Memory`.
+/// Makes the index of a program: of the trees that its texts spell, and, of a text that spells
+/// none, of the definitions that it begins with, but for one right in front of what does not lex.
+/// One definition is held at a time. It fails only with `Memory`.
 pub fn gather(alloc: Global, program: &[Source]) -> Result<Gathered, Failure>
     ensures ok { IfOk result (λ all.
         IsGathered (map source_of program.now) all.index all.refused) }

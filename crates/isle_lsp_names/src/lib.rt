@@ -44,8 +44,9 @@ pub enum Told {
 
 /// Answers a request about the names of a program.
 ///
-/// Of a text that spells no tree the names are known of the definitions that it begins with, up to
-/// where it is refused; while there is one, no name is changed. It fails only with `Memory`.
+/// Of a text that spells no tree the names are known of the definitions that it begins with, but
+/// for one right in front of what does not lex. While there is such a text, no name is changed. It
+/// fails only with `Memory`.
 pub fn answer(
     alloc: Global,
     program: &[Source],

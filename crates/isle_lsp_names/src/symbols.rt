@@ -147,8 +147,8 @@ fn matching(
     Ok(Some(value))
 }
 
-/// Tells whether these letters stand in a name one after the other, side by side or not. Capital
-/// and small letters of ASCII are the same.
+/// Tells whether the bytes of a query stand in a name one after the other, side by side or not.
+/// Capital and small letters of ASCII are the same.
 fn has_letters(name: &str, query: &str) -> bool
     ensures { result ≡ wanted.has_letters query.now name.now }
 {

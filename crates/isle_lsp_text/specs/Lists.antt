@@ -27,7 +27,7 @@ abbrev pub lists_of : List ℕ → List Lexeme → List ListSpan
 lists_of begun [] = []
 lists_of begun (x ∷ xs) = closed x.token x.offset begun ++ lists_of (opened x.token x.offset begun) xs
 
--- These are all lists of a text: of its tokens up to its end, or to what makes it refused.
+-- These are all lists of a text: of its tokens up to its end, or to what does not lex.
 pub record AreLists (text : List ℕ) (lists : List ListSpan) : Type 0 where
   pub tokens : List Lexeme
   pub ending : Ending

@@ -21,8 +21,8 @@ pub struct ListSpan {
 }
 
 /// Gives the lists of a text, in the order in which they end. They are told by its tokens, so a
-/// parenthesis in a comment is none; where a text is refused, they end. An `Err` means that memory
-/// ran out.
+/// parenthesis in a comment is none; where a text does not lex, they end. An `Err` means that
+/// memory ran out.
 pub fn lists(alloc: Global, text: &str) -> Result<Vec<ListSpan>, AllocError>
     ensures { IfOk result (λ found. AreLists text.now found.items) }
 {
