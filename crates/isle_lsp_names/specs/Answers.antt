@@ -35,12 +35,16 @@ answer_of (codes_of.Found value) = found (view value)
 answer_of codes_of.Unplaced = unplaced
 answer_of (codes_of.Refused reason) = refused reason.now
 
+-- a request to change a name, or whether it can be changed
+abbrev pub Renames : requests.Request → Type 0
+Renames request = (request ≡ Rename) ⊎ (request ≡ PrepareRename)
+
 -- These are all events of what is known of the program's texts, and where a name is to be changed each of them spells a tree.
 pub record IsIndex (program : List Source) (request : requests.Request) (all : List SeenNode) : Type 0 where
   pub parts : List Part
   pub read : AreParts 0 program parts
   pub seen : all ≡ seen (events (all_known parts))
-  pub whole : request ≡ Rename → refused_count parts ≡ 0
+  pub whole : Renames request → refused_count parts ≡ 0
 
 -- what is found at a place
 abbrev pub FindsAt : requests.Request → List Source → List SeenNode → Place → Data → Data → Type 0
@@ -99,7 +103,7 @@ pub record IsHeld (program : List Source) (request : requests.Request) (a : Answ
   pub parts : List Part
   pub read : AreParts 0 program parts
   pub some : 0 < refused_count parts
-  pub rename : request ≡ Rename
+  pub rename : Renames request
   pub is : a ≡ refused (codes "a text of the program spells no tree")
 
 -- what a request about the names of a program gets

@@ -45,8 +45,8 @@ pub enum Told {
 /// Answers a request about the names of a program.
 ///
 /// Of a text that spells no tree the names are known of the definitions that it begins with, but
-/// for one right in front of what does not lex. While there is such a text, no name is changed. It
-/// fails only with `Memory`.
+/// for one right in front of what does not lex. While there is such a text, no name is changed, nor
+/// told to be one that can be. It fails only with `Memory`.
 pub fn answer(
     alloc: Global,
     program: &[Source],
@@ -58,7 +58,7 @@ pub fn answer(
     ensures err { IfErr result (λ failure. failure ≡ Memory) }
 {
     let Gathered { index, refused } = gather(alloc, program)?;
-    if refused > 0 && matches!(request, Request::Rename) {
+    if refused > 0 && matches!(request, Request::Rename | Request::PrepareRename) {
         return Ok(Told::Refused("a text of the program spells no tree"));
     }
     Ok(answer_of(alloc, program, &index, request, message)?)
