@@ -79,6 +79,13 @@ complete("Tea.Al")
 complete("\\$")
 tell("completed", vim.fn.getline("."))
 
+-- What is shown of the first name that may stand where the cursor is.
+local function ask(method, params) return vim.lsp.buf_request_sync(0, method, params, 20000)[active_clients()[1].id].result end
+vim.fn.search("(f", "cew")
+vim.api.nvim_win_set_cursor(0, { vim.fn.line("."), vim.fn.col(".") })
+local names = ask("textDocument/completion", vim.lsp.util.make_position_params())
+tell("resolved", ask("completionItem/resolve", (names.items or names)[1]).documentation.value)
+
 local client = active_clients()[1].id
 vim.lsp.stop_client(client)
 tell("stopped", wait(function() return vim.lsp.client_is_stopped(client) end))

@@ -2,7 +2,7 @@
 use Rattle.std.proofs.Common.{◌≡◌, refl}
 use Rattle.serde_json.specs.Data.{Data}
 use Rattle.isle_lsp_machine.specs.declared.Request as requests
-use Rattle.isle_lsp_machine.specs.declared.Request.TheVariants.{Initialize, Shutdown, Formatting, DocumentSymbol, WorkspaceSymbol, Definition, References, DocumentHighlight, Hover, Completion, PrepareRename, Rename, Unknown}
+use Rattle.isle_lsp_machine.specs.declared.Request.TheVariants.{Initialize, Shutdown, Formatting, DocumentSymbol, WorkspaceSymbol, Definition, References, DocumentHighlight, Hover, Completion, ResolveCompletion, PrepareRename, Rename, Unknown}
 use Rattle.isle_lsp.specs.Serving.{Held, IsNamed, IsResult, Outcome}
 
 pub named_result : (request : requests.Request) (d : Data) (held : Held) (o : Outcome) → (request ≡ Initialize → ⊥) → (request ≡ Shutdown → ⊥) → (request ≡ Formatting → ⊥) → (request ≡ Unknown → ⊥) → IsNamed request d held o → IsResult request d held o
@@ -17,5 +17,6 @@ named_result References d held o a b c e n = n
 named_result DocumentHighlight d held o a b c e n = n
 named_result Hover d held o a b c e n = n
 named_result Completion d held o a b c e n = n
+named_result ResolveCompletion d held o a b c e n = n
 named_result PrepareRename d held o a b c e n = n
 named_result Rename d held o a b c e n = n

@@ -9,8 +9,6 @@ use Rattle.isle_lsp_diagnostics.specs.Diagnostics.{mark_of}
 use Rattle.isle_lsp.specs.Published.{mark_data}
 use Rattle.isle_lsp_diagnostics.specs.declared.Diagnostic.{Diagnostic}
 
-pub ruleset appended = (append_assoc)
-
 -- those of diagnostics, with the closing bracket
 abbrev pub told_tokens : List ℕ → List Diagnostic → List Token
 told_tokens text told = items_tokens (items_outline (items_of (map (mark_data text) (map mark_of told))))

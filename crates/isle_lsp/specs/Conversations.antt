@@ -1,10 +1,9 @@
 -- Whole conversations: which bytes are written for the bytes that are read.
-use Rattle.std.specs.Prelude.{◌≡◌, ◌≢◌, ◌⊎◌, ℕ, List, [], ◌∷◌, ◌++◌, Option, None, Some, Ok, Err, option_to_list}
+use Rattle.std.specs.Prelude.{◌≡◌, ◌≢◌, ◌⊎◌, ℕ, List, [], ◌∷◌, ◌++◌, Option, Some, Ok, Err, option_to_list}
 use Rattle.std.specs.Io.KnownBytes.{Appends}
 use Rattle.serde_json.specs.Data.{Data}
 use Rattle.isle_cli.specs.Failure.{status_of}
 use Rattle.isle_cli.specs.Streams.{AppendsBeginning}
-use Rattle.isle_lsp_documents.specs.Documents.{Document}
 use Rattle.isle_lsp_frames.specs.Frames.{frame, frame_at}
 use Rattle.isle_lsp_frames.specs.declared.FrameFault.{FrameFault}
 use Rattle.isle_lsp_frames.specs.declared.FrameFault.TheVariants as faults

@@ -6,12 +6,13 @@ use Rattle.isle_lsp_documents.specs.Documents.{Document, document, document_of, 
 use Rattle.isle_lsp_machine.specs.declared.Code.{Code}
 use Rattle.isle_lsp_machine.specs.declared.Code.TheVariants.{InvalidParams, MethodNotFound, RequestFailed}
 use Rattle.isle_lsp_machine.specs.declared.Notice as notices
-use Rattle.isle_lsp_machine.specs.declared.Notice.TheVariants.{DidOpen, DidChange, DidClose, Initialized, Exit, Other}
+use Rattle.isle_lsp_machine.specs.declared.Notice.TheVariants.{DidOpen, DidChange, DidClose}
 use Rattle.isle_lsp_machine.specs.declared.Request as requests
 use Rattle.isle_lsp_machine.specs.declared.Request.TheVariants.{Initialize, Shutdown, Formatting, Unknown}
 use Rattle.isle_lsp_machine.specs.declared.State.{State}
 use Rattle.isle_lsp_machine.specs.declared.Turn as turns
 use Rattle.isle_lsp_machine.specs.declared.Turn.TheVariants.{Pass, Answer, Refuse, Note}
+use Rattle.isle_lsp_messages.specs.Items.{listing_data}
 use Rattle.isle_lsp_messages.specs.Parameters as parameters
 use Rattle.isle_lsp_messages.specs.Replies as replies
 use Rattle.isle_lsp_messages.specs.Replies.{IsTextOf, reason_of, reply_id}
@@ -43,6 +44,7 @@ pub data Outcome : Type 0 where
 
 abbrev pub outcome_of : code.Outcome → Outcome
 outcome_of (codes.Done value) = done (view value)
+outcome_of (codes.Listed listing) = done (listing_data listing)
 outcome_of (codes.Failed c reason) = failed c reason.now
 
 abbrev pub refused : Code → Outcome

@@ -1,11 +1,11 @@
 //! A conversation with an editor, over any reader and any two writers.
 
-ghost use Rattle.std.specs.Prelude.{◌≡◌, ◌≢◌, ◌⊎◌, ◌≤◌, ℕ, IfErr, IfOk, List, OnErr, OnOk, Some};
+ghost use Rattle.std.specs.Prelude.{◌≡◌, ◌⊎◌, ◌≤◌, ℕ, IfErr, IfOk, List, OnErr, OnOk, Some};
 ghost use Rattle.std.specs.Prelude.{option_map, string_bytes};
 ghost use Rattle.isle_cli.specs.declared.failure.Failure.TheVariants.{Memory, Output};
 ghost use Rattle.isle_lsp.specs.Conversations.{Answers, AnswersAs, Converses, EndsAs, Explains};
 ghost use Rattle.isle_lsp.specs.Conversations.{FromFault};
-ghost use Rattle.isle_lsp.specs.Conversations.{IsOver, IsRefusal, Ran, StopsAt, nothing};
+ghost use Rattle.isle_lsp.specs.Conversations.{IsOver, IsRefusal, Ran, StopsAt};
 ghost use Rattle.isle_lsp.specs.Serving.{held_of};
 
 use crate::program::PROGRAM;

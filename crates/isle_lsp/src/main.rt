@@ -7,7 +7,6 @@ mod program;
 mod published;
 mod server;
 mod workspace;
-mod writing;
 
 pub use conversation::converse;
 use isle_cli::failure::Failure;

@@ -12,10 +12,10 @@ ghost use Rattle.isle_lsp_text.specs.Positions.{IsPlace};
 ghost use Rattle.isle_lsp.specs.Published.{IsPublished, diagnostics_data, mark_data};
 ghost use Rattle.isle_lsp.specs.Published.{parameters_data, told_at};
 
-use crate::writing::{put_error, put_text, put_warning};
 use isle_cli::failure::Failure;
 use isle_findings::Lint;
 use isle_lsp_diagnostics::{Diagnostic, diagnostics};
+use isle_lsp_messages::writing::{put_error, put_text, put_warning, written};
 use isle_lsp_text::positions::{Place, Range, START, place_at};
 use json::Writer;
 use std::alloc::{AllocError, Global};
@@ -48,10 +48,7 @@ fn notification(
 {
     let mut out = Writer::new(Vec::new(alloc));
     put_notification(&mut out, uri, text, told)?;
-    match String::from_utf8(out.into_inner()) {
-        Ok(sent) => Ok(sent),
-        Err(_) => unreachable!(),
-    }
+    Ok(written(out))
 }
 
 /// Writes the notification.

@@ -6,11 +6,12 @@ ghost use Rattle.serde_json.specs.View.{view};
 ghost use Rattle.isle_cli.specs.declared.failure.Failure.TheVariants.{Memory};
 ghost use Rattle.isle_lsp_documents.specs.Documents as wanted;
 ghost use Rattle.isle_lsp_documents.specs.Documents.{document_of};
-ghost use Rattle.isle_lsp_messages.specs.Replies.{IsTextOf};
+ghost use Rattle.isle_lsp_messages.specs.Replies.{IsReplyId, IsTextOf};
 ghost use Rattle.isle_lsp_messages.specs.Parameters as parameters_of;
 ghost use Rattle.isle_lsp_messages.specs.Replies as replies_of;
 ghost use Rattle.isle_cli.specs.Sources.{source_of};
 ghost use Rattle.isle_lsp_names.specs.Answers.{answer_of};
+ghost use Rattle.isle_lsp_names.specs.Programs as programs;
 ghost use Rattle.isle_lsp.specs.Conversations.{nothing};
 ghost use Rattle.isle_lsp.specs.Serving as serving;
 ghost use Rattle.isle_lsp.specs.Serving.{IsNamed, IsResult, IsResultOf, KeepsFiles, Publishes};
@@ -25,11 +26,12 @@ use isle_cli::failure::Failure;
 use isle_cli::sources::Source;
 use isle_lsp_documents::{Document, close, open, text_of};
 use isle_lsp_machine::{Code, Notice, Request, State, Turn};
+use isle_lsp_messages::items::Listing;
 use isle_lsp_messages::parameters::{root_of, text_after, uri_of};
 use isle_lsp_messages::replies::{reason_of, reply_id};
 use isle_lsp_messages::results::capabilities;
 use isle_lsp_messages::{parameters, replies};
-use isle_lsp_names::Told;
+use isle_lsp_names::{Text, Told};
 use serde_json::Value;
 use std::alloc::{AllocError, Global};
 use std::fs::Files;
@@ -60,9 +62,11 @@ impl Server {
 
 /// What a request gets.
 #[derive(Drop)]
-pub enum Outcome {
+pub enum Outcome<'a> {
     /// What it asks for.
     Done(Value),
+    /// What it asks for, as a list.
+    Listed(Listing<'a>),
     /// A refusal, and why.
     Failed(Code, &'static str),
 }
@@ -242,22 +246,23 @@ fn answer(
 
 /// Makes the text of the reply that has this outcome.
 fn reply(alloc: Global, id: Value, outcome: Outcome) -> Result<String, AllocError>
-    ensures { IfOk result (λ text. IsTextOf (reply (view id) (outcome_of outcome))
-        (string_bytes text)) }
+    ensures { IfOk result (λ text. IsReplyId (view id)
+        → IsTextOf (reply (view id) (outcome_of outcome.entry)) (string_bytes text)) }
 {
     match outcome {
         Outcome::Done(value) => replies::answer(alloc, id, value),
+        Outcome::Listed(listing) => replies::listing(alloc, &id, &listing),
         Outcome::Failed(code, reason) => replies::refusal(alloc, id, code, reason),
     }
 }
 
 /// Does what a message asks for.
-fn outcome_of(
+fn outcome_of<'a>(
     alloc: Global,
-    server: &Server,
+    server: &'a Server,
     request: Request,
     message: &Option<Value>,
-) -> Result<Outcome, Failure>
+) -> Result<Outcome<'a>, Failure>
     ensures ok { IfOk result (λ outcome. IsResultOf request (option_map view message.now)
         (held_of server.now) (outcome_of outcome)) }
     ensures err { IfErr result (λ failure. failure ≡ Memory) }
@@ -269,12 +274,12 @@ fn outcome_of(
 }
 
 /// Does what a request asks for.
-fn done(
+fn done<'a>(
     alloc: Global,
-    server: &Server,
+    server: &'a Server,
     request: Request,
     message: &Value,
-) -> Result<Outcome, Failure>
+) -> Result<Outcome<'a>, Failure>
     ensures ok { IfOk result (λ outcome. IsResult request (view message.now)
         (held_of server.now) (outcome_of outcome)) }
     ensures err { IfErr result (λ failure. failure ≡ Memory) }
@@ -289,7 +294,7 @@ fn done(
 }
 
 /// Gives the edits that tidy a document, if it is open.
-fn formatted(alloc: Global, text: Option<&str>) -> Result<Outcome, Failure>
+fn formatted<'a>(alloc: Global, text: Option<&str>) -> Result<Outcome<'a>, Failure>
     ensures ok { IfOk result (λ outcome. serving.IsFormattingOf
         (option_map (λ t. t.now) text.entry) (outcome_of outcome)) }
     ensures err { IfErr result (λ failure. failure ≡ Memory) }
@@ -301,12 +306,12 @@ fn formatted(alloc: Global, text: Option<&str>) -> Result<Outcome, Failure>
 }
 
 /// Answers a request about names.
-fn named(
+fn named<'a>(
     alloc: Global,
-    server: &Server,
+    server: &'a Server,
     request: Request,
     message: &Value,
-) -> Result<Outcome, Failure>
+) -> Result<Outcome<'a>, Failure>
     ensures ok { IfOk result (λ outcome. IsNamed request (view message.now)
         (held_of server.now) (outcome_of outcome)) }
     ensures err { IfErr result (λ failure. failure ≡ Memory) }
@@ -318,60 +323,56 @@ fn named(
 
 /// Gives the outcome that an answer about names is.
 fn outcome_from(answer: Told) -> Outcome
-    ensures { outcome_of result ≡ serving.outcome_from (answer_of answer) }
+    ensures { outcome_of result ≡ serving.outcome_from (answer_of answer.entry) }
 {
     match answer {
         Told::Found(value) => Outcome::Done(value),
+        Told::Listed(listing) => Outcome::Listed(listing),
         Told::Unplaced => refused(Code::InvalidParams),
         Told::Refused(reason) => Outcome::Failed(Code::RequestFailed, reason),
     }
 }
 
 /// Gives the program: the open documents, and the files that aren't open.
-fn program_of(
+fn program_of<'a>(
     alloc: Global,
-    documents: &[Document],
-    files: &[Source],
-) -> Result<Vec<Source>, AllocError>
-    ensures { IfOk result (λ program. map source_of program.items
+    documents: &'a [Document],
+    files: &'a [Source],
+) -> Result<Vec<Text<'a>>, AllocError>
+    ensures { IfOk result (λ program. map programs.source_of program.items
         ≡ serving.program_of (map document_of documents.now) (map source_of files.now)) }
 {
-    let mut program = opened_sources(alloc, documents)?;
+    let mut program = opened_texts(alloc, documents)?;
     for file in files {
         if text_of(documents, file.name.as_str()).is_none() {
-            let copy = copied(alloc, file.name.as_str(), file.text.as_str())?;
-            program.push(copy)?;
+            program.push(text_at(file.name.as_str(), file.text.as_str()))?;
         }
     }
     Ok(program)
 }
 
 /// Gives the open documents, as texts of a program.
-fn opened_sources(alloc: Global, documents: &[Document]) -> Result<Vec<Source>, AllocError>
-    ensures { IfOk result (λ sources. map source_of sources.items
+fn opened_texts<'a>(alloc: Global, documents: &'a [Document]) -> Result<Vec<Text<'a>>, AllocError>
+    ensures { IfOk result (λ texts. map programs.source_of texts.items
         ≡ map serving.source_at (map document_of documents.now)) }
 {
-    let mut sources = Vec::new(alloc);
+    let mut texts = Vec::new(alloc);
     for document in documents {
-        let copy = copied(alloc, document.uri.as_str(), document.text.as_str())?;
-        sources.push(copy)?;
+        texts.push(text_at(document.uri.as_str(), document.text.as_str()))?;
     }
-    Ok(sources)
+    Ok(texts)
 }
 
-/// Makes a text of a program.
-fn copied(alloc: Global, name: &str, text: &str) -> Result<Source, AllocError>
-    ensures { IfOk result (λ copy. source_of copy
-        ≡ serving.source_at (wanted.document name.now text.now)) }
+/// Gives a text of a program.
+fn text_at<'a>(name: &'a str, text: &'a str) -> Text<'a>
+    ensures { programs.source_of result
+        ≡ serving.source_at (wanted.document name.now text.now) }
 {
-    Ok(Source {
-        name: String::from_str(alloc, name)?,
-        text: String::from_str(alloc, text)?,
-    })
+    Text { name, text }
 }
 
 /// Refuses a request.
-fn refused(code: Code) -> Outcome
+fn refused<'a>(code: Code) -> Outcome<'a>
     ensures { outcome_of result ≡ serving.refused code }
 {
     Outcome::Failed(code, reason_of(code))

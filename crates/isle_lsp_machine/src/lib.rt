@@ -44,6 +44,8 @@ pub enum Request {
     Hover,
     /// The names that a name may become.
     Completion,
+    /// What one of these names is.
+    ResolveCompletion,
     /// Whether a name can be changed.
     PrepareRename,
     /// The edits that change a name.

@@ -1,1 +1,5 @@
 pub mod Changes
+pub mod Ids
+pub mod Listings
+pub mod Readings
+pub mod Tokens

@@ -1,10 +1,10 @@
 -- What a client's message is, as JSON.
-use Rattle.std.specs.Prelude.{◌≡◌, List, ℕ, codes, Bool, true, false, ◌||◌, Option, None, Some, is_some, bytes_eq, if◌then◌else◌, IsUtf8}
+use Rattle.std.specs.Prelude.{◌≡◌, List, ℕ, codes, Bool, ◌||◌, Option, None, Some, is_some, bytes_eq, if◌then◌else◌, IsUtf8}
 use Rattle.serde_json.specs.Data.{Data}
 use Rattle.serde_json.specs.Find.{get, as_str, as_number, as_object}
 use Rattle.serde_json.specs.Read.{read}
 use Rattle.isle_lsp_machine.specs.declared.Request as requests
-use Rattle.isle_lsp_machine.specs.declared.Request.TheVariants.{Initialize, Shutdown, Formatting, DocumentSymbol, WorkspaceSymbol, Definition, References, DocumentHighlight, Hover, Completion, PrepareRename, Rename, Unknown}
+use Rattle.isle_lsp_machine.specs.declared.Request.TheVariants.{Initialize, Shutdown, Formatting, DocumentSymbol, WorkspaceSymbol, Definition, References, DocumentHighlight, Hover, Completion, ResolveCompletion, PrepareRename, Rename, Unknown}
 use Rattle.isle_lsp_machine.specs.declared.Notice as notices
 use Rattle.isle_lsp_machine.specs.declared.Notice.TheVariants.{Initialized, Exit, DidOpen, DidChange, DidClose, Other}
 use Rattle.isle_lsp_machine.specs.declared.Message as messages
@@ -40,9 +40,10 @@ request_of name =
     else (if bytes_eq name (codes "textDocument/documentHighlight") then DocumentHighlight
     else (if bytes_eq name (codes "textDocument/hover") then Hover
     else (if bytes_eq name (codes "textDocument/completion") then Completion
+    else (if bytes_eq name (codes "completionItem/resolve") then ResolveCompletion
     else (if bytes_eq name (codes "textDocument/prepareRename") then PrepareRename
     else (if bytes_eq name (codes "textDocument/rename") then Rename
-    else Unknown)))))))))))
+    else Unknown))))))))))))
 
 abbrev pub named_notice : Option (List ℕ) → messages.Message
 named_notice None = Invalid

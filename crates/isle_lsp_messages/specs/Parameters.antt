@@ -1,5 +1,5 @@
 -- What a client's message holds.
-use Rattle.std.specs.Prelude.{ℕ, List, codes, Bool, true, false, Option, None, Some, option_and_then}
+use Rattle.std.specs.Prelude.{ℕ, List, codes, Bool, false, Option, None, Some, option_and_then}
 use Rattle.serde_json.specs.Data.{Data, Items, no_items, item}
 use Rattle.serde_json.specs.Find.{get, pointer, as_str, as_bool, as_number, as_u64, as_array}
 use Rattle.isle_lsp_text.specs.Changes.{changed}
@@ -20,6 +20,19 @@ new_name_of d = option_and_then as_str (pointer (codes "/params/newName") d)
 abbrev pub query_of : Data → Option (List ℕ)
 query_of d = option_and_then as_str (pointer (codes "/params/query") d)
 
+abbrev pub number_at : List ℕ → Data → Option ℕ
+number_at name d = option_and_then as_u64 (option_and_then as_number (get name d))
+
+-- the completion that a message speaks of, its name and its kind
+abbrev pub item_of : Data → Option Data
+item_of d = get (codes "params") d
+
+abbrev pub label_of : Data → Option (List ℕ)
+label_of d = option_and_then as_str (get (codes "label") d)
+
+abbrev pub kind_of : Data → Option ℕ
+kind_of d = number_at (codes "kind") d
+
 abbrev pub root_of : Data → Option (List ℕ)
 root_of d = option_and_then as_str (pointer (codes "/params/rootUri") d)
 
@@ -29,9 +42,6 @@ is_true (Some b) = b
 
 abbrev pub wants_definitions : Data → Bool
 wants_definitions d = is_true (option_and_then as_bool (pointer (codes "/params/context/includeDeclaration") d))
-
-abbrev pub number_at : List ℕ → Data → Option ℕ
-number_at name d = option_and_then as_u64 (option_and_then as_number (get name d))
 
 abbrev pub position_with : (line unit : Option ℕ) → Option Position
 position_with None unit = None

@@ -1,6 +1,6 @@
 -- What the server sends, as JSON.
-use Rattle.std.specs.Prelude.{◌≡◌, ◌≤◌, ℕ, List, codes, Option, None, Some, if◌then◌else◌, negsuc}
-use Rattle.serde_json.specs.Data.{Data, Num, null, number, negative, string, object, member, no_members, depth}
+use Rattle.std.specs.Prelude.{◌≡◌, ◌≤◌, ℕ, List, codes, Option, None, Some, if◌then◌else◌, negsuc, ⊤}
+use Rattle.serde_json.specs.Data.{Data, Num, null, boolean, number, negative, string, array, object, member, no_members, depth}
 use Rattle.serde_json.specs.Find.{get}
 use Rattle.serde_json.specs.Read.{read}
 use Rattle.isle_lsp_machine.specs.declared.Code.{Code}
@@ -19,6 +19,15 @@ usable_id (Some id) = if is_id id then id else null
 abbrev pub reply_id : Option Data → Data
 reply_id None = null
 reply_id (Some d) = usable_id (get (codes "id") d)
+
+-- a text, a number or null
+abbrev pub IsReplyId : Data → Type 0
+IsReplyId null = ⊤
+IsReplyId (number n) = ⊤
+IsReplyId (string s) = ⊤
+IsReplyId (boolean b) = ⊥
+IsReplyId (array ds) = ⊥
+IsReplyId (object ms) = ⊥
 
 abbrev pub answer : (id result : Data) → Data
 answer id result = object (member (codes "id") id (member (codes "jsonrpc") (string (codes "2.0")) (member (codes "result") result no_members)))

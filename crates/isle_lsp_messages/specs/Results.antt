@@ -1,6 +1,6 @@
 -- The parts of what the server sends, as JSON.
 use Rattle.std.specs.Prelude.{ℕ, List, codes}
-use Rattle.serde_json.specs.Data.{Data, null, number, unsigned, string, object, member, no_members}
+use Rattle.serde_json.specs.Data.{Data, null, number, unsigned, string, object, member, no_members, put}
 use Rattle.isle_lsp_text.specs.declared.positions.Position.{Position}
 use Rattle.isle_lsp_text.specs.declared.positions.Range.{Range}
 
@@ -40,20 +40,28 @@ abbrev pub workspace_symbol : (name : List ℕ) → (kind : ℕ) → (uri : List
 workspace_symbol name kind uri range =
     object (member (codes "kind") (number (unsigned kind)) (member (codes "location") (location uri range) (member (codes "name") (string name) no_members)))
 
+abbrev pub markdown : List ℕ → Data
+markdown shown = object (member (codes "kind") (string (codes "markdown")) (member (codes "value") (string shown) no_members))
+
 abbrev pub hover : List ℕ → Range → Data
-hover shown range =
-    object (member (codes "contents") (object (member (codes "kind") (string (codes "markdown")) (member (codes "value") (string shown) no_members)))
-    (member (codes "range") (range_data range) no_members))
+hover shown range = object (member (codes "contents") (markdown shown) (member (codes "range") (range_data range) no_members))
+
+-- a completion with this documentation
+abbrev pub documented : Data → List ℕ → Data
+documented (object ms) shown = object (put (codes "documentation") (markdown shown) ms)
+documented d shown = d
 
 -- a name that may be written in place of what a range has
 abbrev pub completion_item : (name : List ℕ) → (kind : ℕ) → Range → Data
 completion_item name kind range =
     object (member (codes "kind") (number (unsigned kind)) (member (codes "label") (string name) (member (codes "textEdit") (text_edit range name) no_members)))
 
+-- the document of this URI; its version is not told
+abbrev pub document_identifier : List ℕ → Data
+document_identifier uri = object (member (codes "uri") (string uri) (member (codes "version") null no_members))
+
 abbrev pub document_edits : List ℕ → Data → Data
-document_edits uri edits =
-    object (member (codes "edits") edits
-    (member (codes "textDocument") (object (member (codes "uri") (string uri) (member (codes "version") null no_members))) no_members))
+document_edits uri edits = object (member (codes "edits") edits (member (codes "textDocument") (document_identifier uri) no_members))
 
 abbrev pub workspace_edit : Data → Data
 workspace_edit documents = object (member (codes "documentChanges") documents no_members)

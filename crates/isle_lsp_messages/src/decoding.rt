@@ -108,6 +108,7 @@ fn request_of(name: &str) -> Request
         "textDocument/documentHighlight" => Request::DocumentHighlight,
         "textDocument/hover" => Request::Hover,
         "textDocument/completion" => Request::Completion,
+        "completionItem/resolve" => Request::ResolveCompletion,
         "textDocument/prepareRename" => Request::PrepareRename,
         "textDocument/rename" => Request::Rename,
         _ => Request::Unknown,

@@ -3,6 +3,8 @@
 #![tactic(auto)]
 
 pub mod decoding;
+pub mod items;
 pub mod parameters;
 pub mod replies;
 pub mod results;
+pub mod writing;

@@ -44,6 +44,27 @@ pub fn new_name_of(message: &Value) -> Option<&str>
     message.pointer("/params/newName").and_then(Value::as_str)
 }
 
+/// Gives the completion that a message speaks of.
+pub fn item_of(message: &Value) -> Option<&Value>
+    ensures { option_map (λ item. view item.now) result ≡ wanted.item_of (view message.now) }
+{
+    message.get("params")
+}
+
+/// Gives the name that a completion is.
+pub fn label_of(item: &Value) -> Option<&str>
+    ensures { option_map (λ label. label.now) result ≡ wanted.label_of (view item.now) }
+{
+    item.get("label").and_then(Value::as_str)
+}
+
+/// Gives the protocol's number of the kind of a completion.
+pub fn kind_of(item: &Value) -> Option<u64>
+    ensures { result ≡ wanted.kind_of (view item.now) }
+{
+    item.get("kind").and_then(Value::as_u64)
+}
+
 /// Gives the letters that a message asks for.
 pub fn query_of(message: &Value) -> Option<&str>
     ensures { option_map (λ query. query.now) result ≡ wanted.query_of (view message.now) }

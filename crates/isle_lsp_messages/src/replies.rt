@@ -1,17 +1,25 @@
 //! What the server sends in reply: answers and refusals.
 
-ghost use Rattle.std.specs.Prelude.{◌≡◌, IfOk, option_map, string_bytes};
+ghost use Rattle.std.specs.Prelude.{◌≡◌, IfOk, OnOk, option_map, string_bytes};
+ghost use Rattle.serde_json.specs.Data.{number as numeral};
 ghost use Rattle.serde_json.specs.Find.{of_integer};
-ghost use Rattle.serde_json.specs.View.{view};
+ghost use Rattle.serde_json.specs.View.{number_view, view};
+ghost use Rattle.isle_lsp_messages.specs.Items.{listing_data};
 ghost use Rattle.isle_lsp_messages.specs.Replies as wanted;
+ghost use Rattle.isle_lsp_messages.specs.Replies.{IsReplyId};
+ghost use Rattle.isle_lsp_messages.specs.Written.{Adds};
 
+use crate::items::{Listing, put_listing};
+use crate::writing::{put_text, written};
 use isle_lsp_machine::Code;
-use serde_json::{Value, json};
+use json::Writer;
+use serde_json::{Number, Value, json};
 use std::alloc::{AllocError, Global};
 
 /// Gives the `id` that the reply to a message repeats, or null where it has none.
 pub fn reply_id(message: &Option<Value>) -> Result<Value, AllocError>
-    ensures { IfOk result (λ id. view id ≡ wanted.reply_id (option_map view message.now)) }
+    ensures same { IfOk result (λ id. view id ≡ wanted.reply_id (option_map view message.now)) }
+    ensures kind { IfOk result (λ id. IsReplyId (view id)) }
 {
     let id = match message {
         Some(message) => message.get("id"),
@@ -37,6 +45,57 @@ fn answer_value(alloc: Global, id: Value, outcome: Value) -> Result<Value, Alloc
     ensures { IfOk result (λ value. view value ≡ wanted.answer (view id) (view outcome)) }
 {
     json!(in alloc; {"jsonrpc": "2.0", "id": id, "result": outcome})
+}
+
+/// Makes the text of an answer that is a list. The `id` is a text, a number or null.
+pub fn listing(alloc: Global, id: &Value, listing: &Listing) -> Result<String, AllocError>
+    ensures { IfOk result (λ text. IsReplyId (view id.now) → wanted.IsTextOf
+        (wanted.answer (view id.now) (listing_data listing.now)) (string_bytes text)) }
+{
+    let mut out = Writer::new(Vec::new(alloc));
+    put_answer(&mut out, id, listing)?;
+    Ok(written(out))
+}
+
+/// Writes an answer that is a list.
+fn put_answer(out: &mut Writer, id: &Value, listing: &Listing) -> Result<(), AllocError>
+    ensures before { out.new.before ≡ out.old.before }
+    ensures adds { OnOk result (IsReplyId (view id.now) → Adds
+        (wanted.answer (view id.now) (listing_data listing.now)) out.old.tokens out.new.tokens) }
+{
+    out.begin_object()?;
+    out.key("id")?;
+    put_id(out, id)?;
+    put_text(out, "jsonrpc", "2.0")?;
+    out.key("result")?;
+    put_listing(out, listing)?;
+    out.end_object()
+}
+
+/// Writes an `id`.
+fn put_id(out: &mut Writer, id: &Value) -> Result<(), AllocError>
+    ensures before { out.new.before ≡ out.old.before }
+    ensures adds { OnOk result (IsReplyId (view id.now)
+        → Adds (view id.now) out.old.tokens out.new.tokens) }
+{
+    match (id.as_str(), id.as_number()) {
+        (Some(text), _) => out.string(text),
+        (None, Some(number)) => put_number(out, number),
+        (None, None) => out.null(),
+    }
+}
+
+/// Writes a number.
+fn put_number(out: &mut Writer, number: &Number) -> Result<(), AllocError>
+    ensures before { out.new.before ≡ out.old.before }
+    ensures adds { OnOk result
+        (Adds (numeral (number_view number.now)) out.old.tokens out.new.tokens) }
+{
+    match (number.as_u64(), number.as_i64()) {
+        (Some(n), _) => out.u64(n),
+        (None, Some(n)) => out.i64(n),
+        (None, None) => out.float_with_plus(number.as_f64().unwrap_or(0.0)),
+    }
 }
 
 /// Makes the text of a refusal.

@@ -8,13 +8,14 @@ ghost use Rattle.isle_lsp_messages.specs.Results as wanted;
 
 use isle_cli::failure::Failure;
 use isle_lsp_text::positions::{Position, Range};
-use serde_json::{Value, json};
+use serde_json::{Value, json, put};
 use std::alloc::{AllocError, Global};
 
-/// What the server can do: renaming can be prepared, and documents are told as they open, close and
-/// change by ranges.
+/// What the server can do: completions can be resolved, renaming can be prepared, and documents are
+/// told as they open, close and change by ranges.
 pub const CAPABILITIES: &str = "\
-    {\"capabilities\":{\"completionProvider\":{\"triggerCharacters\":[\".\",\"$\"]},\
+    {\"capabilities\":{\"completionProvider\":\
+    {\"resolveProvider\":true,\"triggerCharacters\":[\".\",\"$\"]},\
     \"definitionProvider\":true,\
     \"documentFormattingProvider\":true,\"documentHighlightProvider\":true,\
     \"documentSymbolProvider\":true,\"hoverProvider\":true,\"positionEncoding\":\"utf-16\",\
@@ -57,52 +58,25 @@ pub fn text_edit(alloc: Global, range: Range, text: &str) -> Result<Value, Alloc
     json!(in alloc; {"range": range, "newText": text})
 }
 
-/// Makes the location of a range in a document.
-pub fn location(alloc: Global, uri: &str, range: Range) -> Result<Value, AllocError>
-    ensures { IfOk result (λ value. view value ≡ wanted.location uri.now range) }
+/// Makes a completion that has this documentation, in Markdown.
+pub fn documented(alloc: Global, item: &Value, shown: &str) -> Result<Value, AllocError>
+    ensures { IfOk result (λ value. view value ≡ wanted.documented (view item.now) shown.now) }
 {
-    let range = range_value(alloc, range)?;
-    json!(in alloc; {"uri": uri, "range": range})
+    match item.clone()? {
+        Value::Object(mut members) => {
+            let documentation = markdown(alloc, shown)?;
+            put(&mut members, alloc, "documentation", documentation)?;
+            Ok(Value::Object(members))
+        }
+        other => Ok(other),
+    }
 }
 
-/// Makes a highlight of a range.
-pub fn ranged(alloc: Global, range: Range) -> Result<Value, AllocError>
-    ensures { IfOk result (λ value. view value ≡ wanted.ranged range) }
+/// Makes a text in Markdown.
+fn markdown(alloc: Global, shown: &str) -> Result<Value, AllocError>
+    ensures { IfOk result (λ value. view value ≡ wanted.markdown shown.now) }
 {
-    let range = range_value(alloc, range)?;
-    json!(in alloc; {"range": range})
-}
-
-/// Makes what tells of a definition in a document: its whole range, and that of its name. The kind
-/// is the protocol's number.
-pub fn document_symbol(
-    alloc: Global,
-    name: &str,
-    kind: u64,
-    range: Range,
-    selection: Range,
-) -> Result<Value, AllocError>
-    ensures { IfOk result
-        (λ value. view value ≡ wanted.document_symbol name.now kind range selection) }
-{
-    let whole = range_value(alloc, range)?;
-    let selected = range_value(alloc, selection)?;
-    json!(in alloc; {"name": name, "kind": kind, "range": whole, "selectionRange": selected})
-}
-
-/// Makes what tells of a definition in a program. The kind is the protocol's number.
-pub fn workspace_symbol(
-    alloc: Global,
-    name: &str,
-    kind: u64,
-    uri: &str,
-    range: Range,
-) -> Result<Value, AllocError>
-    ensures { IfOk result
-        (λ value. view value ≡ wanted.workspace_symbol name.now kind uri.now range) }
-{
-    let location = location(alloc, uri, range)?;
-    json!(in alloc; {"name": name, "kind": kind, "location": location})
+    json!(in alloc; {"kind": "markdown", "value": shown})
 }
 
 /// Makes what is shown of the name in a range, in Markdown.
@@ -110,33 +84,6 @@ pub fn hover_value(alloc: Global, shown: &str, range: Range) -> Result<Value, Al
     ensures { IfOk result (λ value. view value ≡ wanted.hover shown.now range) }
 {
     let range = range_value(alloc, range)?;
-    json!(in alloc; {"contents": {"kind": "markdown", "value": shown}, "range": range})
-}
-
-/// Makes a name that may be written in place of what a range has. The kind is the protocol's
-/// number.
-pub fn completion_item(
-    alloc: Global,
-    name: &str,
-    kind: u64,
-    range: Range,
-) -> Result<Value, AllocError>
-    ensures { IfOk result (λ value. view value ≡ wanted.completion_item name.now kind range) }
-{
-    let edit = text_edit(alloc, range, name)?;
-    json!(in alloc; {"label": name, "kind": kind, "textEdit": edit})
-}
-
-/// Makes the edits of a document, whatever its version.
-pub fn document_edits(alloc: Global, uri: &str, edits: Value) -> Result<Value, AllocError>
-    ensures { IfOk result (λ value. view value ≡ wanted.document_edits uri.now (view edits)) }
-{
-    json!(in alloc; {"textDocument": {"uri": uri, "version": null}, "edits": edits})
-}
-
-/// Makes the edits of a program, which are those of its documents.
-pub fn workspace_edit(alloc: Global, documents: Value) -> Result<Value, AllocError>
-    ensures { IfOk result (λ value. view value ≡ wanted.workspace_edit (view documents)) }
-{
-    json!(in alloc; {"documentChanges": documents})
+    let contents = markdown(alloc, shown)?;
+    json!(in alloc; {"contents": contents, "range": range})
 }

@@ -9,8 +9,8 @@ use Rattle.isle_base_source.specs.declared.error.Error.{Error}
 use Rattle.isle_ast.specs.Grammar.{SpellsDefinition}
 use Rattle.isle_ast.specs.Tree.{Definition}
 use Rattle.isle_ast_names.specs.Words.{SpellsAll}
-use Rattle.isle_cli.specs.Sources.{source_of}
-use Rattle.isle_cli.specs.declared.sources.Source.{Source}
+use Rattle.isle_lsp_names.specs.Programs.{source_of}
+use Rattle.isle_lsp_names.specs.declared.Text.{Text}
 use Rattle.isle_index.specs.Held.{IsIndexOf}
 use Rattle.isle_index.specs.declared.Index.{Index}
 use Rattle.isle_reading.specs.Reading.{IsReadAs, IsTreeOf}
@@ -65,18 +65,18 @@ count-more ps (front ds e) spells is =
     ap (λ b. refused-more b (refused_count ps)) is ∙ sym more
 
 -- the index of a loop over the texts has one text more
-pub gathered-step : (xs : List Source) (i : ℕ) (x : Source) (old new : Index) (refused : ℕ) (spells : Bool) →
-    i < length xs → x ≡ get_or xs i x → IsGathered (map source_of (take i xs)) old refused → AddsText i (source_of x).text old new spells →
+pub gathered-step : (xs : List Text) (i : ℕ) (d : Text) (old new : Index) (refused : ℕ) (spells : Bool) →
+    i < length xs → IsGathered (map source_of (take i xs)) old refused → AddsText i (source_of (get_or xs i d)).text old new spells →
     IsGathered (map source_of (take (i + 1) xs)) new (refused-more spells refused)
-gathered-step xs i x old new refused spells within is before adds =
+gathered-step xs i d old new refused spells within before adds =
+    let x : Text = get_or xs i d in
     let count : i ≡ length (map source_of (take i xs)) = sym (length-map (take i xs) source_of ∙ length-take-le i xs (omega arith)) in
     let At : ℕ → Type 0 = λ n. IsPart n (source_of x).text adds.part in
     let Of : List files.Source → Type 0 = λ ss. AreParts 0 ss (before.parts ++ adds.part ∷ []) in
     let first : length (map source_of (take i xs)) ≡ 0 + length (map source_of (take i xs)) = omega arith in
     let grown : map source_of (take i xs) ++ source_of x ∷ [] ≡ map source_of (take (i + 1) xs) =
-    ap (λ y. map source_of (take i xs) ++ source_of y ∷ []) is
-    ∙ sym (map-append source_of (take i xs) (get_or xs i x ∷ []))
-    ∙ ap (λ ys. map source_of ys) (sym (take_at_read xs i x within).1) in
+    sym (map-append source_of (take i xs) (x ∷ []))
+    ∙ ap (λ ys. map source_of ys) (sym (take_at_read xs i d within).1) in
     record {
       parts = before.parts ++ adds.part ∷ [];
       read = subst Of grown (parts-push 0 (map source_of (take i xs)) before.parts (source_of x) adds.part before.read (subst At (count ∙ first) adds.is));

@@ -1,3 +1,4 @@
+pub mod Completing
 pub mod Gathering
 pub mod Letters
-pub mod Values
+pub mod Lists

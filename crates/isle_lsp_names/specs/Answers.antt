@@ -1,7 +1,7 @@
 -- What a request about the names of a program gets.
 use Rattle.std.specs.Prelude.{◌≡◌, ◌<◌, ◌⊎◌, ℕ, List, Option, None, Some, Result, Ok, Err, codes}
 use Rattle.std.specs.Global.{Vec}
-use Rattle.serde_json.specs.Data.{Data}
+use Rattle.serde_json.specs.Data.{Data, null}
 use Rattle.serde_json.specs.View.{view}
 use Rattle.isle_base_source.specs.Source.{Source}
 use Rattle.isle_base_source.specs.declared.pos.Pos.{Pos}
@@ -13,13 +13,15 @@ use Rattle.isle_index.specs.Scopes.{SeenNode, seen}
 use Rattle.isle_index.specs.Symbols.{symbols}
 use Rattle.isle_index_events.specs.Events.{events}
 use Rattle.isle_lsp_machine.specs.declared.Request as requests
-use Rattle.isle_lsp_machine.specs.declared.Request.TheVariants.{Definition as AskDefinition, References, DocumentHighlight, DocumentSymbol, WorkspaceSymbol, Hover, Completion, PrepareRename, Rename}
-use Rattle.isle_lsp_messages.specs.Parameters.{new_name_of, query_of, wants_definitions}
+use Rattle.isle_lsp_machine.specs.declared.Request.TheVariants.{Definition as AskDefinition, References, DocumentHighlight, DocumentSymbol, WorkspaceSymbol, Hover, Completion, ResolveCompletion, PrepareRename, Rename}
+use Rattle.isle_lsp_messages.specs.Items.{items_data, listing_data}
+use Rattle.isle_lsp_messages.specs.declared.items.Item.{Item}
+use Rattle.isle_lsp_messages.specs.Parameters.{item_of, new_name_of, query_of, wants_definitions}
 use Rattle.isle_lsp_names.specs.Gathered.{AreParts, Part, all_known, refused_count}
 use Rattle.isle_lsp_names.specs.Located.{AreHighlights, AreReferences, IsDefinition}
-use Rattle.isle_lsp_names.specs.Completed.{AreCompletions}
+use Rattle.isle_lsp_names.specs.Completed.{AreCompletions, item_name}
 use Rattle.isle_lsp_names.specs.Defined.{AreDocumentSymbols, letters_of, workspace_symbols}
-use Rattle.isle_lsp_names.specs.Shown.{IsHover}
+use Rattle.isle_lsp_names.specs.Shown.{IsHover, IsResolved}
 use Rattle.isle_lsp_names.specs.Renamed as renamed
 use Rattle.isle_lsp_names.specs.Places.{File, Place, file_in, place_in}
 use Rattle.isle_lsp_names.specs.declared.Told.{Told as CodeAnswer}
@@ -32,8 +34,17 @@ pub data Answer : Type 0 where
 
 abbrev pub answer_of : CodeAnswer → Answer
 answer_of (codes_of.Found value) = found (view value)
+answer_of (codes_of.Listed listing) = found (listing_data listing)
 answer_of codes_of.Unplaced = unplaced
 answer_of (codes_of.Refused reason) = refused reason.now
+
+-- a list; null of none
+abbrev pub list_data : Option (Vec Item) → Data
+list_data None = null
+list_data (Some items) = items_data items.items
+
+abbrev pub listed : Option (Vec Item) → Answer
+listed items = found (list_data items)
 
 -- a request to change a name, or whether it can be changed
 abbrev pub Renames : requests.Request → Type 0
@@ -85,6 +96,10 @@ abbrev pub AreSymbols : List SeenNode → Option File → Answer → Type 0
 AreSymbols all None a = a ≡ unplaced
 AreSymbols all (Some f) a = (d : Data) × AreDocumentSymbols f.text (symbols f.number all) d × (a ≡ found d)
 
+abbrev pub IsResolution : List Source → List SeenNode → (item : Option Data) → Answer → Type 0
+IsResolution program all None a = a ≡ unplaced
+IsResolution program all (Some item) a = (d : Data) × IsResolved program all (item_name item) item d × (a ≡ found d)
+
 -- what a request about these events gets
 abbrev pub IsAnswerOf : requests.Request → List Source → List SeenNode → Data → Answer → Type 0
 IsAnswerOf DocumentSymbol program all message a = AreSymbols all (file_in message program) a
@@ -95,6 +110,7 @@ IsAnswerOf PrepareRename program all message a = IsFoundAt PrepareRename program
 IsAnswerOf Rename program all message a = IsRenamingAt program all (place_in message program) message a
 IsAnswerOf Hover program all message a = IsFoundAt Hover program all (place_in message program) message a
 IsAnswerOf Completion program all message a = IsFoundAt Completion program all (place_in message program) message a
+IsAnswerOf ResolveCompletion program all message a = IsResolution program all (item_of message) a
 IsAnswerOf WorkspaceSymbol program all message a = a ≡ found (workspace_symbols (letters_of (query_of message)) program all)
 IsAnswerOf _ program all message a = Unit {0}
 

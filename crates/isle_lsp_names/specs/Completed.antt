@@ -1,5 +1,5 @@
 -- The names that may stand at a place, as JSON.
-use Rattle.std.specs.Prelude.{◌≡◌, ℕ, ◌-◌, List, [], ◌∷◌, Bool, false, Option, None, Some, length, map, min, string_bytes, bytes_eq, if◌then◌else◌}
+use Rattle.std.specs.Prelude.{◌≡◌, ℕ, ◌-◌, ◌||◌, ◌==◌, List, [], ◌∷◌, Bool, false, Option, None, Some, length, map, min, string_bytes, bytes_eq, if◌then◌else◌}
 use Rattle.std.specs.Cmp.Lexicographic.{slice_cmp}
 use Rattle.std.specs.List.Sorted.{IsPermutation, IsSortedByKey}
 use Rattle.std.specs.Ordering.{nat_cmp}
@@ -8,10 +8,13 @@ use Rattle.serde_json.specs.Data.{Data, array}
 use Rattle.serde_json.specs.View.{items_of}
 use Rattle.isle_base_source.specs.declared.pos.Pos.{Pos}
 use Rattle.isle_index.specs.Candidates.{CandidateNode, candidate_of, candidates}
+use Rattle.isle_index.specs.Names.{NameNode, global}
 use Rattle.isle_index.specs.Scopes.{SeenNode}
 use Rattle.isle_index.specs.declared.candidates.Candidate.{Candidate}
 use Rattle.isle_index.specs.declared.symbols.SymbolKind.{SymbolKind}
 use Rattle.isle_index.specs.declared.symbols.SymbolKind.TheVariants as kinds
+use Rattle.isle_index_events.specs.declared.event.Kind.TheVariants as named
+use Rattle.isle_lsp_messages.specs.Parameters.{kind_of, label_of}
 use Rattle.isle_lsp_messages.specs.Results.{completion_item}
 use Rattle.isle_lsp_names.specs.Places.{range_between}
 use Rattle.isle_lsp_text.specs.Lists.{AreLists, outer_list}
@@ -67,3 +70,22 @@ AreCompletions place text all d =
     (lists : List ListSpan) × (found : List Candidate) × AreLists text lists
     × IsPermutation (candidates place (outer_start text lists place.offset) (name_before text place.offset) all) (map candidate_of found)
     × IsSortedByKey (λ c. string_bytes c.text) text_order found × (d ≡ items (range_before text place.offset) (map candidate_of found))
+
+-- ---- the name of a completion
+
+abbrev pub constant_of : List ℕ → Option NameNode
+constant_of [] = None
+constant_of (b ∷ name) = if b == 36 then Some (global named.Constant name) else None
+
+-- the name of a label of this kind, if it holds in the whole program
+abbrev pub labelled : (label : Option (List ℕ)) → (kind : Option ℕ) → Option NameNode
+labelled None kind = None
+labelled (Some label) None = None
+labelled (Some label) (Some kind) =
+    if kind == number_of kinds.Term || kind == number_of kinds.Variant then Some (global named.Term label)
+    else (if kind == number_of kinds.Type then Some (global named.Type label)
+    else (if kind == number_of kinds.Constant then constant_of label else None))
+
+-- the name of a completion, if it holds in the whole program
+abbrev pub item_name : Data → Option NameNode
+item_name item = labelled (label_of item) (kind_of item)

@@ -4,6 +4,7 @@ pub mod Defined
 pub mod Gathered
 pub mod Located
 pub mod Places
+pub mod Programs
 pub mod Renamed
 pub mod Shown
 pub mod Wholes

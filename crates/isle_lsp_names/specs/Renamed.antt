@@ -10,8 +10,10 @@ use Rattle.isle_index.specs.declared.occurrences.Occurrence.{Occurrence}
 use Rattle.isle_index.specs.declared.rename.Refusal.{Refusal}
 use Rattle.isle_index.specs.declared.rename.Refusal.TheVariants.{NotAName, Undefined, Variant, Taken, Captured}
 use Rattle.isle_index_events.specs.declared.event.Kind.TheVariants as kinds
-use Rattle.isle_lsp_messages.specs.Results.{document_edits, range_data, text_edit, workspace_edit}
+use Rattle.isle_lsp_messages.specs.Items.{edits_data}
+use Rattle.isle_lsp_messages.specs.Results.{document_edits, range_data, workspace_edit}
 use Rattle.isle_lsp_names.specs.Places.{range_at}
+use Rattle.isle_lsp_text.specs.declared.positions.Range.{Range}
 
 -- how many bytes stand before the text of a name where it is written: the `$` of a constant
 abbrev pub skipped : NameNode → ℕ
@@ -27,18 +29,18 @@ reason_of Variant = codes "a variant can't be renamed"
 reason_of Taken = codes "the new name is taken"
 reason_of Captured = codes "the new name would be that of another variable"
 
--- the edit of a place, if it is in the text of this number
-abbrev pub edit_in : ℕ → List ℕ → NameNode → List ℕ → Pos → List Data
-edit_in file text name new pos =
-    if pos.file == file then text_edit (range_at text (min pos.offset (length text) + skipped name) (length (name_text name))) new ∷ [] else []
+-- the range of a place, if it is in the text of this number
+abbrev pub range_in : ℕ → List ℕ → NameNode → Pos → List Range
+range_in file text name pos =
+    if pos.file == file then range_at text (min pos.offset (length text) + skipped name) (length (name_text name)) ∷ [] else []
 
-abbrev pub document_change : List ℕ → List Data → List Data
-document_change uri [] = []
-document_change uri (e ∷ es) = document_edits uri (array (items_of (e ∷ es))) ∷ []
+abbrev pub document_change : (uri new : List ℕ) → List Range → List Data
+document_change uri new [] = []
+document_change uri new (r ∷ rs) = document_edits uri (edits_data new (r ∷ rs)) ∷ []
 
 -- the edits of a text, if it has any
 abbrev pub change_in : ℕ → Source → NameNode → List ℕ → List Pos → List Data
-change_in file s name new places = document_change s.name (flat_map (edit_in file s.text name new) places)
+change_in file s name new places = document_change s.name new (flat_map (range_in file s.text name) places)
 
 -- the edits of texts, which are numbered from this number on
 abbrev pub changes_from : ℕ → List Source → NameNode → List ℕ → List Pos → List Data

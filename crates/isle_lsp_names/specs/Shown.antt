@@ -31,18 +31,39 @@ IsShown text name o shown =
     × IsPart text (whole_of text lists (nat_lt o.len (length (name_text name))) o.pos.offset o.len) part
     × (shown ≡ codes "```isle\n" ++ part ++ codes "\n```")
 
-abbrev pub IsHoverIn : Option Source → List ℕ → NameNode → (definition at : Occurrence) → Data → Type 0
-IsHoverIn None text name o at d = d ≡ null
-IsHoverIn (Some s) text name o at d =
-    (shown : List ℕ) × IsShown s.text name o shown × (d ≡ results.hover shown (range_at text at.pos.offset at.len))
+abbrev pub IsShownIn : Option Source → NameNode → Occurrence → Option (List ℕ) → Type 0
+IsShownIn None name o shown = shown ≡ None
+IsShownIn (Some s) name o shown = (text : List ℕ) × IsShown s.text name o text × (shown ≡ Some text)
 
-abbrev pub IsHoverOf : List Source → List ℕ → NameNode → Option Occurrence → (at : Occurrence) → Data → Type 0
-IsHoverOf program text name None at d = d ≡ null
-IsHoverOf program text name (Some o) at d = IsHoverIn (slice_get program o.pos.file) text name o at d
+abbrev pub IsFirstShown : List Source → NameNode → Option Occurrence → Option (List ℕ) → Type 0
+IsFirstShown program name None shown = shown ≡ None
+IsFirstShown program name (Some o) shown = IsShownIn (slice_get program o.pos.file) name o shown
 
--- the first definition of a name, for where it occurs; null of no name
+-- what is shown of a name: its first definition; nothing of a name that has none
+abbrev pub IsShownOf : List Source → NameNode → List SeenNode → Option (List ℕ) → Type 0
+IsShownOf program name all shown =
+    (found : List Occurrence) × InOrder (definitions name all) found × IsFirstShown program name (slice_get found 0) shown
+
+-- ---- where a name occurs
+
+abbrev pub hover_data : List ℕ → (shown : Option (List ℕ)) → (at : Occurrence) → Data
+hover_data text None at = null
+hover_data text (Some shown) at = results.hover shown (range_at text at.pos.offset at.len)
+
+-- what is shown of a name, for where it occurs; null of no name
 abbrev pub IsHover : List Source → List ℕ → Option NameNode → Option Occurrence → List SeenNode → Data → Type 0
 IsHover program text None at all d = d ≡ null
 IsHover program text (Some name) None all d = d ≡ null
 IsHover program text (Some name) (Some at) all d =
-    (found : List Occurrence) × InOrder (definitions name all) found × IsHoverOf program text name (slice_get found 0) at d
+    (shown : Option (List ℕ)) × IsShownOf program name all shown × (d ≡ hover_data text shown at)
+
+-- ---- of a completion
+
+abbrev pub resolved_data : Data → (shown : Option (List ℕ)) → Data
+resolved_data item None = item
+resolved_data item (Some shown) = results.documented item shown
+
+-- a completion with what is shown of its name
+abbrev pub IsResolved : List Source → List SeenNode → Option NameNode → Data → Data → Type 0
+IsResolved program all None item d = d ≡ item
+IsResolved program all (Some name) item d = (shown : Option (List ℕ)) × IsShownOf program name all shown × (d ≡ resolved_data item shown)

@@ -1,18 +1,20 @@
 //! The names that may stand at a place.
 
-ghost use Rattle.std.specs.Prelude.{◌≡◌, IfOk, map, option_map, string_bytes};
+ghost use Rattle.std.specs.Prelude.{◌≡◌, IfOk, Some, map, option_map, string_bytes};
 ghost use Rattle.std.specs.List.Sorted.{IsPermutation, IsSortedByKey};
-ghost use Rattle.serde_json.specs.Data.{array};
-ghost use Rattle.serde_json.specs.View.{items_of, view};
 ghost use Rattle.isle_index.specs.Candidates.{candidate_of, candidates};
 ghost use Rattle.isle_index.specs.Held.{all_in};
+ghost use Rattle.isle_index.specs.Names.{global, named_of};
+ghost use Rattle.serde_json.specs.View.{view};
+ghost use Rattle.isle_lsp_messages.specs.Items.{item_data, items_data};
 ghost use Rattle.isle_lsp_names.specs.Completed as wanted;
 ghost use Rattle.isle_lsp_names.specs.Completed.{AreCompletions};
 
 use crate::places::{Place, range_between};
 use isle_base::lexer::Pos;
-use isle_index::{Candidate, Index, SymbolKind};
-use isle_lsp_messages::results::completion_item;
+use isle_index::{Candidate, Index, Kind, Name, SymbolKind};
+use isle_lsp_messages::items::Item;
+use isle_lsp_messages::parameters::{kind_of, label_of};
 use isle_lsp_text::lists::{ListSpan, lists, outer_list};
 use isle_lsp_text::names::name_before;
 use isle_lsp_text::positions::{Range, START};
@@ -22,9 +24,13 @@ use std::alloc::{AllocError, Global};
 /// Gives the names that begin as what is written before a place, each once, in order of name, to be
 /// written in place of that. The variables are those bound at the last name before the place, if
 /// that is in the outermost list around the place.
-pub fn completion(alloc: Global, index: &Index, place: Place) -> Result<Value, AllocError>
-    ensures { IfOk result (λ value. AreCompletions place.entry.pos place.entry.text.now
-        (all_in index.now) (view value)) }
+pub fn completion<'a>(
+    alloc: Global,
+    index: &Index,
+    place: Place,
+) -> Result<Vec<Item<'a>>, AllocError>
+    ensures { IfOk result (λ items. AreCompletions place.entry.pos place.entry.text.now
+        (all_in index.now) (items_data items.items)) }
 {
     let lists = lists(alloc, place.text)?;
     let from = outer_start(place.text, &lists, place.pos.offset);
@@ -74,20 +80,20 @@ fn sorted(
 }
 
 /// Gives names as items, without those that have the name of the one before.
-fn items(alloc: Global, found: &[Candidate], range: Range) -> Result<Value, AllocError>
+fn items<'a>(alloc: Global, found: &[Candidate], range: Range) -> Result<Vec<Item<'a>>, AllocError>
     ensures { IfOk result
-        (λ value. view value ≡ wanted.items range (map candidate_of found.now)) }
+        (λ items. items_data items.items ≡ wanted.items range (map candidate_of found.now)) }
 {
-    let mut values = Vec::new(alloc);
+    let mut items = Vec::new(alloc);
     let mut last: Option<&Candidate> = None;
     for candidate in found {
         if !is_again(last, candidate) {
-            let value = item(alloc, candidate, range)?;
-            values.push(value)?;
+            let item = item_of(alloc, candidate, range)?;
+            items.push(item)?;
         }
         last = Some(candidate);
     }
-    Ok(Value::Array(values))
+    Ok(items)
 }
 
 /// Tells whether a candidate has the name of the last one.
@@ -102,16 +108,19 @@ fn is_again(last: Option<&Candidate>, candidate: &Candidate) -> bool
 }
 
 /// Gives a name as an item, to be written in place of what a range has.
-fn item(alloc: Global, candidate: &Candidate, range: Range) -> Result<Value, AllocError>
+fn item_of<'a>(alloc: Global, candidate: &Candidate, range: Range) -> Result<Item<'a>, AllocError>
     ensures { IfOk result
-        (λ value. view value ≡ wanted.item range (candidate_of candidate.now)) }
+        (λ item. item_data item ≡ wanted.item range (candidate_of candidate.now)) }
 {
-    let kind = number_of(candidate.kind);
-    completion_item(alloc, candidate.text.as_str(), kind, range)
+    Ok(Item::Completion {
+        name: String::from_str(alloc, candidate.text.as_str())?,
+        kind: number_of(candidate.kind),
+        range,
+    })
 }
 
 /// Gives the protocol's number of a kind of completion.
-fn number_of(kind: SymbolKind) -> u64
+fn number_of(kind: SymbolKind) -> usize
     ensures { result ≡ wanted.number_of kind }
 {
     match kind {
@@ -121,4 +130,35 @@ fn number_of(kind: SymbolKind) -> u64
         SymbolKind::Constant => 21,
         SymbolKind::Variable => 6,
     }
+}
+
+/// Gives the name of a completion, if it holds in the whole program.
+pub fn item_name(alloc: Global, item: &Value) -> Result<Option<Name>, AllocError>
+    ensures { IfOk result
+        (λ name. option_map named_of name ≡ wanted.item_name (view item.now)) }
+{
+    match (label_of(item), kind_of(item)) {
+        (Some(label), Some(3 | 20)) => global(alloc, Kind::Term, label),
+        (Some(label), Some(22)) => global(alloc, Kind::Type, label),
+        (Some(label), Some(21)) => constant(alloc, label),
+        _ => Ok(None),
+    }
+}
+
+/// Makes the name of a constant from its label, which begins with `$`.
+fn constant(alloc: Global, label: &str) -> Result<Option<Name>, AllocError>
+    ensures { IfOk result (λ name. option_map named_of name ≡ wanted.constant_of label.now) }
+{
+    match label.strip_prefix("$") {
+        Some(text) => global(alloc, Kind::Constant, text),
+        None => Ok(None),
+    }
+}
+
+/// Makes a name that holds in the whole program.
+fn global(alloc: Global, kind: Kind, text: &str) -> Result<Option<Name>, AllocError>
+    ensures { IfOk result (λ name. option_map named_of name ≡ Some (global kind text.now)) }
+{
+    let text = String::from_str(alloc, text)?;
+    Ok(Some(Name::Global { kind, text }))
 }

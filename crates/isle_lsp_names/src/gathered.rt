@@ -1,13 +1,13 @@
 //! The index of a program, from its texts.
 
 ghost use Rattle.std.specs.Prelude.{◌≡◌, IfErr, IfOk, map};
-ghost use Rattle.isle_cli.specs.Sources.{source_of};
+ghost use Rattle.isle_lsp_names.specs.Programs.{source_of};
 ghost use Rattle.isle_cli.specs.declared.failure.Failure.TheVariants.{Memory};
 ghost use Rattle.isle_lsp_names.specs.Gathered.{AddsDefinitions, AddsText, IsGathered};
 
+use crate::Text;
 use isle_base::lexer::{Fault, Lexer};
 use isle_cli::failure::Failure;
-use isle_cli::sources::Source;
 use isle_index::Index;
 use isle_parser::dropping::drop_definition;
 use isle_parser::parser::Parser;
@@ -26,7 +26,7 @@ pub struct Gathered {
 /// Makes the index of a program: of the trees that its texts spell, and, of a text that spells
 /// none, of the definitions that it begins with, but for one right in front of what does not lex.
 /// One definition is held at a time. It fails only with `Memory`.
-pub fn gather(alloc: Global, program: &[Source]) -> Result<Gathered, Failure>
+pub fn gather(alloc: Global, program: &[Text]) -> Result<Gathered, Failure>
     ensures ok { IfOk result (λ all.
         IsGathered (map source_of program.now) all.index all.refused) }
     ensures err { IfErr result (λ failure. failure ≡ Memory) }
@@ -34,7 +34,7 @@ pub fn gather(alloc: Global, program: &[Source]) -> Result<Gathered, Failure>
     let mut index = Index::new(alloc);
     let mut refused = 0;
     for (file, source) in program.iter().enumerate() {
-        if !add_text(alloc, file, source.text.as_str(), &mut index)? {
+        if !add_text(alloc, file, source.text, &mut index)? {
             refused += 1;
         }
     }

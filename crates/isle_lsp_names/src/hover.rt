@@ -1,18 +1,22 @@
-//! What a name is, as it is written.
+//! What a name is, as it is written: for hover, and for completions.
 
 ghost use Rattle.std.specs.Prelude.{◌≡◌, IfOk, Some, map, option_map, slice_get, string_bytes};
 ghost use Rattle.serde_json.specs.View.{view};
-ghost use Rattle.isle_cli.specs.Sources.{source_of};
+ghost use Rattle.isle_lsp_names.specs.Programs.{source_of};
 ghost use Rattle.isle_index.specs.Names.{named_of};
 ghost use Rattle.isle_index.specs.Occurrences.{name_at, occurrence_at};
 ghost use Rattle.isle_index.specs.Held.{all_in};
-ghost use Rattle.isle_lsp_names.specs.Shown.{IsCut, IsHover, IsHoverIn, IsHoverOf, IsShown};
+ghost use Rattle.isle_lsp_names.specs.Completed.{item_name};
+ghost use Rattle.isle_lsp_names.specs.Shown as wanted;
+ghost use Rattle.isle_lsp_names.specs.Shown.{IsCut, IsFirstShown, IsHover, IsResolved, IsShown};
+ghost use Rattle.isle_lsp_names.specs.Shown.{IsShownOf};
 
+use crate::Text;
+use crate::completion::item_name;
 use crate::places::{Place, range_at};
 use crate::wholes::whole_of;
-use isle_cli::sources::Source;
 use isle_index::{Index, Name, Occurrence};
-use isle_lsp_messages::results::hover_value;
+use isle_lsp_messages::results::{documented, hover_value};
 use isle_lsp_text::comments::comments_start;
 use isle_lsp_text::lists::lists;
 use serde_json::Value;
@@ -22,7 +26,7 @@ use std::alloc::{AllocError, Global};
 /// or null where there is none.
 pub fn hover(
     alloc: Global,
-    program: &[Source],
+    program: &[Text],
     index: &Index,
     place: Place,
 ) -> Result<Value, AllocError>
@@ -35,72 +39,106 @@ pub fn hover(
         index.occurrence_at(place.pos),
     ) {
         (Some(name), Some(occurrence)) => {
-            hover_name(alloc, program, index, place.text, &name, occurrence)
+            let shown = shown_of(alloc, program, index, &name)?;
+            hover_at(alloc, place.text, shown, occurrence)
         }
         _ => Ok(Value::Null),
     }
 }
 
-/// Gives the definition of a name, for where it occurs.
-fn hover_name(
+/// Gives what is shown of a name, for where it occurs.
+fn hover_at(
     alloc: Global,
-    program: &[Source],
-    index: &Index,
     text: &str,
-    name: &Name,
+    shown: Option<String>,
     occurrence: Occurrence,
 ) -> Result<Value, AllocError>
-    ensures { IfOk result (λ value. IsHover (map source_of program.now) text.now
-        (Some (named_of name.now)) (Some occurrence) (all_in index.now) (view value)) }
+    ensures { IfOk result (λ value. view value
+        ≡ wanted.hover_data text.now (option_map string_bytes shown) occurrence) }
 {
-    let found = index.definitions(alloc, name)?;
-    match found.first() {
-        Some(definition) => hover_of(alloc, program, text, name, *definition, occurrence),
+    match shown {
+        Some(shown) => {
+            let range = range_at(text, occurrence.pos.offset, occurrence.len);
+            hover_value(alloc, shown.as_str(), range)
+        }
         None => Ok(Value::Null),
     }
 }
 
-/// Gives a definition of a name, for where it occurs.
-fn hover_of(
+/// Gives a completion with the definition of its name, as hover shows it, or as it is where the
+/// program does not define the name.
+pub fn resolved(
     alloc: Global,
-    program: &[Source],
-    text: &str,
+    program: &[Text],
+    index: &Index,
+    item: &Value,
+) -> Result<Value, AllocError>
+    ensures { IfOk result (λ value. IsResolved (map source_of program.now) (all_in index.now)
+        (item_name (view item.now)) (view item.now) (view value)) }
+{
+    match item_name(alloc, item)? {
+        Some(name) => {
+            let shown = shown_of(alloc, program, index, &name)?;
+            resolved_with(alloc, item, shown)
+        }
+        None => item.clone(),
+    }
+}
+
+/// Gives a completion with what is shown of its name.
+fn resolved_with(alloc: Global, item: &Value, shown: Option<String>) -> Result<Value, AllocError>
+    ensures { IfOk result (λ value. view value
+        ≡ wanted.resolved_data (view item.now) (option_map string_bytes shown)) }
+{
+    match shown {
+        Some(shown) => documented(alloc, item, shown.as_str()),
+        None => item.clone(),
+    }
+}
+
+/// Makes what is shown of a name: its first definition. There is nothing of a name that the program
+/// does not define.
+fn shown_of(
+    alloc: Global,
+    program: &[Text],
+    index: &Index,
+    name: &Name,
+) -> Result<Option<String>, AllocError>
+    ensures { IfOk result (λ shown. IsShownOf (map source_of program.now)
+        (named_of name.now) (all_in index.now) (option_map string_bytes shown)) }
+{
+    let found = index.definitions(alloc, name)?;
+    match found.first() {
+        Some(definition) => shown_at(alloc, program, name, *definition),
+        None => Ok(None),
+    }
+}
+
+/// Makes what is shown of a definition, if its text is there.
+fn shown_at(
+    alloc: Global,
+    program: &[Text],
     name: &Name,
     definition: Occurrence,
-    occurrence: Occurrence,
-) -> Result<Value, AllocError>
-    ensures { IfOk result (λ value. IsHoverOf (map source_of program.now) text.now
-        (named_of name.now) (Some definition) occurrence (view value)) }
+) -> Result<Option<String>, AllocError>
+    ensures { IfOk result (λ shown. IsFirstShown (map source_of program.now)
+        (named_of name.now) (Some definition) (option_map string_bytes shown)) }
 {
     match source_at(program, definition.pos.file) {
-        Some(source) => hover_in(alloc, source, text, name, definition, occurrence),
-        None => Ok(Value::Null),
+        Some(source) => {
+            let shown = shown_definition(alloc, source.text, name, definition)?;
+            Ok(Some(shown))
+        }
+        None => Ok(None),
     }
 }
 
 /// Gives the text of a number, with its name.
-fn source_at<'a>(program: &'a [Source], file: usize) -> Option<&'a Source>
+fn source_at<'a>(program: &'a [Text<'a>], file: usize) -> Option<&'a Text<'a>>
     ensures { option_map (λ s. source_of s.now) result
         ≡ slice_get (map source_of program.now) file }
 {
     program.get(file)
-}
-
-/// Gives a definition that stands in a text, for where its name occurs.
-fn hover_in(
-    alloc: Global,
-    source: &Source,
-    text: &str,
-    name: &Name,
-    definition: Occurrence,
-    occurrence: Occurrence,
-) -> Result<Value, AllocError>
-    ensures { IfOk result (λ value. IsHoverIn (Some (source_of source.now)) text.now
-        (named_of name.now) definition occurrence (view value)) }
-{
-    let range = range_at(text, occurrence.pos.offset, occurrence.len);
-    let shown = shown_definition(alloc, source.text.as_str(), name, definition)?;
-    hover_value(alloc, shown.as_str(), range)
 }
 
 /// Makes what is shown of a definition: its text, in a block, after the comments above it.

@@ -6,10 +6,11 @@
 
 ghost use Rattle.std.specs.Prelude.{◌≡◌, IfErr, IfOk, map};
 ghost use Rattle.serde_json.specs.View.{view};
-ghost use Rattle.isle_cli.specs.Sources.{source_of};
+ghost use Rattle.isle_lsp_names.specs.Programs.{source_of};
 ghost use Rattle.isle_cli.specs.declared.failure.Failure.TheVariants.{Memory};
 ghost use Rattle.isle_index.specs.Held.{all_in};
 ghost use Rattle.isle_lsp_names.specs.Answers.{IsAnswer, IsAnswerAt, IsAnswerOf, answer_of};
+ghost use Rattle.isle_lsp_names.specs.Answers.{listed};
 ghost use Rattle.isle_lsp_names.specs.Places as wanted;
 
 mod completion;
@@ -23,19 +24,30 @@ mod wholes;
 
 use gathered::{Gathered, gather};
 use isle_cli::failure::Failure;
-use isle_cli::sources::Source;
 use isle_index::Index;
 use isle_lsp_machine::Request;
-use isle_lsp_messages::parameters::{query_of, wants_definitions};
+use isle_lsp_messages::items::{Item, Listing};
+use isle_lsp_messages::parameters::{item_of, query_of, wants_definitions};
 use places::{Place, file_of, place_of};
 use serde_json::Value;
 use std::alloc::{AllocError, Global};
 
+/// A text of a program.
+#[derive(Clone, Copy, Debug)]
+pub struct Text<'a> {
+    /// The URI that the editor knows it by.
+    pub name: &'a str,
+    /// The text.
+    pub text: &'a str,
+}
+
 /// What a request gets.
 #[derive(Drop)]
-pub enum Told {
+pub enum Told<'a> {
     /// What it asks for.
     Found(Value),
+    /// What it asks for, as a list.
+    Listed(Listing<'a>),
     /// It names no text of the program, or no place in one.
     Unplaced,
     /// It can't be done, and why.
@@ -47,12 +59,12 @@ pub enum Told {
 /// Of a text that spells no tree the names are known of the definitions that it begins with, but
 /// for one right in front of what does not lex. While there is such a text, no name is changed, nor
 /// told to be one that can be. It fails only with `Memory`.
-pub fn answer(
+pub fn answer<'a>(
     alloc: Global,
-    program: &[Source],
+    program: &[Text<'a>],
     request: Request,
     message: &Value,
-) -> Result<Told, Failure>
+) -> Result<Told<'a>, Failure>
     ensures ok { IfOk result (λ answer. IsAnswer request (map source_of program.now)
         (view message.now) (answer_of answer)) }
     ensures err { IfErr result (λ failure. failure ≡ Memory) }
@@ -65,13 +77,13 @@ pub fn answer(
 }
 
 /// Answers a request about the names of an index.
-fn answer_of(
+fn answer_of<'a>(
     alloc: Global,
-    program: &[Source],
+    program: &[Text<'a>],
     index: &Index,
     request: Request,
     message: &Value,
-) -> Result<Told, AllocError>
+) -> Result<Told<'a>, AllocError>
     ensures { IfOk result (λ answer. IsAnswerOf request (map source_of program.now)
         (all_in index.now) (view message.now) (answer_of answer)) }
 {
@@ -79,13 +91,17 @@ fn answer_of(
         Request::WorkspaceSymbol => {
             let query = query_of(message).unwrap_or("");
             let found = symbols::workspace_symbols(alloc, program, index, query)?;
-            Ok(Told::Found(found))
+            Ok(listed(Some(found)))
         }
         Request::DocumentSymbol => match file_of(program, message) {
             Some(file) => {
                 let found = symbols::document_symbols(alloc, index, file)?;
-                Ok(Told::Found(found))
+                Ok(listed(Some(found)))
             }
+            None => Ok(Told::Unplaced),
+        },
+        Request::ResolveCompletion => match item_of(message) {
+            Some(item) => Ok(Told::Found(hover::resolved(alloc, program, index, item)?)),
             None => Ok(Told::Unplaced),
         },
         Request::Rename => match place_of(program, message) {
@@ -100,29 +116,39 @@ fn answer_of(
 }
 
 /// Answers a request about the name at a place.
-fn answer_at(
+fn answer_at<'a>(
     alloc: Global,
-    program: &[Source],
+    program: &[Text<'a>],
     index: &Index,
     request: Request,
     place: Place,
     message: &Value,
-) -> Result<Told, AllocError>
+) -> Result<Told<'a>, AllocError>
     ensures { IfOk result (λ answer. IsAnswerAt request (map source_of program.now)
         (all_in index.now) (wanted.place_of place.entry) (view message.now)
         (answer_of answer)) }
 {
-    let found = match request {
-        Request::Definition => locations::definition(alloc, program, index, place)?,
+    match request {
+        Request::Definition => Ok(listed(locations::definition(alloc, program, index, place)?)),
         Request::References => {
             let all = wants_definitions(message);
-            locations::references(alloc, program, index, place, all)?
+            let found = locations::references(alloc, program, index, place, all)?;
+            Ok(listed(found))
         }
-        Request::DocumentHighlight => locations::highlights(alloc, index, place)?,
-        Request::Hover => hover::hover(alloc, program, index, place)?,
-        Request::Completion => completion::completion(alloc, index, place)?,
-        Request::PrepareRename => renaming::prepared(alloc, index, place)?,
-        _ => Value::Null,
-    };
-    Ok(Told::Found(found))
+        Request::DocumentHighlight => Ok(listed(locations::highlights(alloc, index, place)?)),
+        Request::Hover => Ok(Told::Found(hover::hover(alloc, program, index, place)?)),
+        Request::Completion => Ok(listed(Some(completion::completion(alloc, index, place)?))),
+        Request::PrepareRename => Ok(Told::Found(renaming::prepared(alloc, index, place)?)),
+        _ => Ok(Told::Found(Value::Null)),
+    }
+}
+
+/// Gives a list, or null where there is none.
+fn listed(items: Option<Vec<Item>>) -> Told
+    ensures { answer_of result ≡ listed items.entry }
+{
+    match items {
+        Some(items) => Told::Listed(Listing::Items(items)),
+        None => Told::Found(Value::Null),
+    }
 }

@@ -2,12 +2,12 @@
 
 ghost use Rattle.std.specs.Prelude.{◌≡◌, map, option_map};
 ghost use Rattle.serde_json.specs.View.{view};
-ghost use Rattle.isle_cli.specs.Sources.{source_of};
+ghost use Rattle.isle_lsp_names.specs.Programs.{source_of};
 ghost use Rattle.isle_lsp_names.specs.Places as wanted;
 ghost use Rattle.isle_lsp_text.specs.Positions.{IsPlace};
 
+use crate::Text;
 use isle_base::lexer::Pos;
-use isle_cli::sources::Source;
 use isle_lsp_messages::parameters::{position_of, uri_of};
 use isle_lsp_text::positions::{Place as TextPlace, Range, START, offset_of, place_at};
 use serde_json::Value;
@@ -31,7 +31,7 @@ pub struct Place<'a> {
 }
 
 /// Gives the text that a message speaks of.
-pub fn file_of<'a>(program: &'a [Source], message: &Value) -> Option<File<'a>>
+pub fn file_of<'a>(program: &[Text<'a>], message: &Value) -> Option<File<'a>>
     ensures { option_map wanted.file_of result
         ≡ wanted.file_in (view message.now) (map source_of program.now) }
 {
@@ -42,13 +42,13 @@ pub fn file_of<'a>(program: &'a [Source], message: &Value) -> Option<File<'a>>
 }
 
 /// Gives the text of a name.
-fn file_named<'a>(program: &'a [Source], uri: &str) -> Option<File<'a>>
+fn file_named<'a>(program: &[Text<'a>], uri: &str) -> Option<File<'a>>
     ensures { option_map wanted.file_of result
         ≡ wanted.file_from 0 uri.now (map source_of program.now) }
 {
     for (number, source) in program.iter().enumerate() {
-        if source.name.as_str() == uri {
-            let text = source.text.as_str();
+        if source.name == uri {
+            let text = source.text;
             return Some(File { number, text });
         }
     }
@@ -56,7 +56,7 @@ fn file_named<'a>(program: &'a [Source], uri: &str) -> Option<File<'a>>
 }
 
 /// Gives the place that a message speaks of.
-pub fn place_of<'a>(program: &'a [Source], message: &Value) -> Option<Place<'a>>
+pub fn place_of<'a>(program: &[Text<'a>], message: &Value) -> Option<Place<'a>>
     ensures { option_map wanted.place_of result
         ≡ wanted.place_in (view message.now) (map source_of program.now) }
 {

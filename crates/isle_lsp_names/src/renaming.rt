@@ -3,23 +3,25 @@
 ghost use Rattle.std.specs.Prelude.{◌≡◌, ◌≤◌, IfOk, Some, map, option_map, option_to_list};
 ghost use Rattle.serde_json.specs.View.{view};
 ghost use Rattle.std.specs.List.{flat_map};
-ghost use Rattle.isle_cli.specs.Sources.{source_of};
+ghost use Rattle.isle_lsp_names.specs.Programs.{source_of};
 ghost use Rattle.isle_index.specs.Names.{named_of};
 ghost use Rattle.isle_index.specs.Occurrences.{name_at, occurrence_at};
 ghost use Rattle.isle_index.specs.Held.{all_in};
 ghost use Rattle.isle_lsp_names.specs.Answers.{IsRenaming, IsRenamingOf, answer_of};
 ghost use Rattle.isle_lsp_names.specs.Renamed as wanted;
+ghost use Rattle.isle_lsp_messages.specs.Items.{item_data, items_data};
 ghost use Rattle.isle_lsp_messages.specs.Parameters as parameters;
+ghost use Rattle.isle_lsp_messages.specs.Results.{workspace_edit};
 ghost use Rattle.isle_lsp_text.specs.Positions.{IsPlace};
 
-use crate::Told;
 use crate::places::{Place, range_at, range_near};
+use crate::{Text, Told};
 use isle_base::lexer::Pos;
-use isle_cli::sources::Source;
 use isle_index::{Index, Kind, Name, Occurrence, Refusal};
+use isle_lsp_messages::items::{Item, Listing};
 use isle_lsp_messages::parameters::new_name_of;
-use isle_lsp_messages::results::{document_edits, range_value, text_edit, workspace_edit};
-use isle_lsp_text::positions::{Place as TextPlace, START};
+use isle_lsp_messages::results::range_value;
+use isle_lsp_text::positions::{Place as TextPlace, Range, START};
 use serde_json::Value;
 use std::alloc::{AllocError, Global};
 
@@ -71,13 +73,13 @@ fn skipped(name: &Name) -> usize
 }
 
 /// Gives the edits that change the name at a place, or says why it can't be changed.
-pub fn renamed(
+pub fn renamed<'a>(
     alloc: Global,
-    program: &[Source],
+    program: &[Text<'a>],
     index: &Index,
     place: Place,
     message: &Value,
-) -> Result<Told, AllocError>
+) -> Result<Told<'a>, AllocError>
     ensures { let all = all_in index.now in IfOk result (λ answer. IsRenamingOf
         (map source_of program.now) all (name_at place.entry.pos all)
         (parameters.new_name_of (view message.now)) (answer_of answer)) }
@@ -92,20 +94,20 @@ pub fn renamed(
 }
 
 /// Gives the edits that change a name, or says why it can't be changed.
-fn renamed_name(
+fn renamed_name<'a>(
     alloc: Global,
-    program: &[Source],
+    program: &[Text<'a>],
     index: &Index,
     name: &Name,
     new: &str,
-) -> Result<Told, AllocError>
+) -> Result<Told<'a>, AllocError>
     ensures { IfOk result (λ answer. IsRenaming (map source_of program.now)
         (all_in index.now) (named_of name.now) new.now (answer_of answer)) }
 {
     match index.rename(alloc, name, new)? {
         Ok(places) => {
-            let value = changes(alloc, program, name, new, &places)?;
-            Ok(Told::Found(value))
+            let changes = changes(alloc, program, name, new, &places)?;
+            Ok(Told::Listed(Listing::Changes(changes)))
         }
         Err(refusal) => Ok(Told::Refused(reason_of(refusal))),
     }
@@ -125,87 +127,79 @@ fn reason_of(refusal: Refusal) -> &'static str
 }
 
 /// Gives the edits at these places, text by text.
-fn changes(
+fn changes<'a>(
     alloc: Global,
-    program: &[Source],
+    program: &[Text<'a>],
     name: &Name,
     new: &str,
     places: &[Pos],
-) -> Result<Value, AllocError>
-    ensures { IfOk result (λ value. view value
+) -> Result<Vec<Item<'a>>, AllocError>
+    ensures { IfOk result (λ items. workspace_edit (items_data items.items)
         ≡ wanted.changes (map source_of program.now) (named_of name.now) new.now places.now) }
 {
-    let mut texts = Vec::new(alloc);
+    let mut items = Vec::new(alloc);
     for (number, source) in program.iter().enumerate() {
-        if let Some(value) = change_in(alloc, number, source, name, new, places)? {
-            texts.push(value)?;
+        if let Some(item) = change_in(alloc, number, *source, name, new, places)? {
+            items.push(item)?;
         }
     }
-    workspace_edit(alloc, Value::Array(texts))
+    Ok(items)
 }
 
 /// Gives the edits of a text, if it has any.
-fn change_in(
+fn change_in<'a>(
     alloc: Global,
     number: usize,
-    source: &Source,
+    source: Text<'a>,
     name: &Name,
     new: &str,
     places: &[Pos],
-) -> Result<Option<Value>, AllocError>
-    ensures { IfOk result (λ value. option_to_list (option_map view value)
-        ≡ wanted.change_in number (source_of source.now) (named_of name.now) new.now places.now) }
+) -> Result<Option<Item<'a>>, AllocError>
+    ensures { IfOk result (λ item. option_to_list (option_map item_data item)
+        ≡ wanted.change_in number (source_of source.entry) (named_of name.now) new.now places.now) }
 {
-    let edits = edits_in(alloc, number, source.text.as_str(), name, new, places)?;
-    if edits.is_empty() {
+    let ranges = ranges_in(alloc, number, source.text, name, places)?;
+    if ranges.is_empty() {
         return Ok(None);
     }
-    let value = document_edits(alloc, source.name.as_str(), Value::Array(edits))?;
-    Ok(Some(value))
+    Ok(Some(Item::Edits {
+        uri: source.name,
+        ranges,
+        text: String::from_str(alloc, new)?,
+    }))
 }
 
-/// Gives the edits in the text of this number.
-fn edits_in(
+/// Gives the ranges of the places in the text of this number.
+fn ranges_in(
     alloc: Global,
     number: usize,
     text: &str,
     name: &Name,
-    new: &str,
     places: &[Pos],
-) -> Result<Vec<Value>, AllocError>
-    ensures { IfOk result (λ edits. map view edits.items
-        ≡ flat_map (wanted.edit_in number text.now (named_of name.now) new.now) places.now) }
+) -> Result<Vec<Range>, AllocError>
+    ensures { IfOk result (λ ranges. ranges.items
+        ≡ flat_map (wanted.range_in number text.now (named_of name.now)) places.now) }
 {
-    let mut edits = Vec::new(alloc);
+    let mut ranges = Vec::new(alloc);
     let mut near = START;
     for pos in places {
-        if let Some(edit) = edit_in(alloc, number, text, &mut near, name, new, *pos)? {
-            edits.push(edit)?;
+        if let Some(range) = range_in(number, text, &mut near, name, *pos) {
+            ranges.push(range)?;
         }
     }
-    Ok(edits)
+    Ok(ranges)
 }
 
-/// Gives the edit of a place, if it is in the text of this number.
-fn edit_in(
-    alloc: Global,
-    number: usize,
-    text: &str,
-    near: &mut TextPlace,
-    name: &Name,
-    new: &str,
-    pos: Pos,
-) -> Result<Option<Value>, AllocError>
+/// Gives the range of a place, if it is in the text of this number.
+fn range_in(number: usize, text: &str, near: &mut TextPlace, name: &Name, pos: Pos) -> Option<Range>
     requires { IsPlace text.now near.old }
-    ensures edit { IfOk result (λ edit. option_to_list (option_map view edit)
-        ≡ wanted.edit_in number text.now (named_of name.now) new.now pos) }
+    ensures range { option_to_list result
+        ≡ wanted.range_in number text.now (named_of name.now) pos }
     ensures near { IsPlace text.now near.new }
 {
     if pos.file != number {
-        return Ok(None);
+        return None;
     }
     let offset = pos.offset.min(text.len()) + skipped(name);
-    let range = range_near(text, near, offset, name.text().len());
-    let edit = text_edit(alloc, range, new)?;
-    Ok(Some(edit))
+    Some(range_near(text, near, offset, name.text().len()))
 }

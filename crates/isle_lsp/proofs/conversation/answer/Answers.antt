@@ -1,4 +1,3 @@
-use Rattle.std.proofs.Common.{Some, string_bytes}
 use Rattle.std.proofs.lemmas.Result.{on_ok_weaker, on_err_weaker}
 use Rattle.isle_lsp.proofs.Talks.{answers_as, stops_at}
 use Rattle.isle_lsp.proofs.conversation.answer.Goals as goal

@@ -1,10 +1,11 @@
 use Rattle.std.proofs.Common.{◌≡◌, ◌++◌, drop, filter, map}
 use Rattle.isle_cli.specs.Sources.{source_of}
 use Rattle.isle_lsp_documents.specs.Documents.{document_of}
+use Rattle.isle_lsp_names.specs.Programs as programs
 use Rattle.isle_lsp.specs.Serving.{is_closed, program_of}
 use Rattle.isle_lsp.proofs.server.program_of.Given as goal
 
 abbrev pub invariant-loop-file : goal.invariant-loop-file
 invariant-loop-file l =
-    map source_of l.program.items ++ filter (is_closed (map document_of l.documents)) (map source_of (drop l.file-index l.files))
+    map programs.source_of l.program.items ++ filter (is_closed (map document_of l.documents)) (map source_of (drop l.file-index l.files))
     ≡ program_of (map document_of l.documents) (map source_of l.files)

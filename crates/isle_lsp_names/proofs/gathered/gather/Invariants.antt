@@ -1,5 +1,5 @@
 use Rattle.std.proofs.Common.{◌≤◌, map, take}
-use Rattle.isle_cli.specs.Sources.{source_of}
+use Rattle.isle_lsp_names.specs.Programs.{source_of}
 use Rattle.isle_lsp_names.specs.Gathered.{IsGathered}
 use Rattle.isle_lsp_names.proofs.gathered.gather.Given as goal
 

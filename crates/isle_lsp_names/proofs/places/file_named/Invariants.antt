@@ -1,5 +1,5 @@
 use Rattle.std.proofs.Common.{◌≡◌, drop, map}
-use Rattle.isle_cli.specs.Sources.{source_of}
+use Rattle.isle_lsp_names.specs.Programs.{source_of}
 use Rattle.isle_lsp_names.specs.Places.{file_from}
 use Rattle.isle_lsp_names.proofs.places.file_named.Given as goal
 

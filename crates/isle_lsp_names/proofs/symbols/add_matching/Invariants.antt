@@ -1,14 +1,14 @@
-use Rattle.std.proofs.Common.{◌≡◌, ◌++◌, map, drop, string_bytes}
+use Rattle.std.proofs.Common.{◌≡◌, ◌++◌, map, drop}
 use Rattle.std.specs.List.{flat_map}
-use Rattle.serde_json.specs.View.{view}
 use Rattle.isle_lsp_text.specs.Positions.{IsPlace}
-use Rattle.isle_cli.specs.Sources.{source_of}
 use Rattle.isle_index.specs.Symbols.{symbol_of}
+use Rattle.isle_lsp_messages.specs.Items.{item_data}
 use Rattle.isle_lsp_names.specs.Defined.{symbol_in}
+use Rattle.isle_lsp_names.specs.Programs.{source_of}
 use Rattle.isle_lsp_names.proofs.symbols.add_matching.Given as goal
 
 abbrev pub invariant-loop-symbol : goal.invariant-loop-symbol
 invariant-loop-symbol l = record {
-  so_far : map view l.values.items ++ flat_map (symbol_in l.query (source_of l.source)) (map symbol_of (drop l.symbol-index l.symbols)) ≡ map view l.fn.values.items ++ flat_map (symbol_in l.query (source_of l.source)) (map symbol_of l.symbols);
-  near : IsPlace (string_bytes l.source.text) l.near;
+  so_far : map item_data l.items.items ++ flat_map (symbol_in l.query (source_of l.source)) (map symbol_of (drop l.symbol-index l.symbols)) ≡ map item_data l.fn.items.items ++ flat_map (symbol_in l.query (source_of l.source)) (map symbol_of l.symbols);
+  near : IsPlace l.source.text.now l.near;
 }

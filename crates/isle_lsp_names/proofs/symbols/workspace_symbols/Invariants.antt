@@ -1,11 +1,11 @@
 use Rattle.std.proofs.Common.{◌≡◌, ◌++◌, map, drop}
-use Rattle.serde_json.specs.View.{view}
-use Rattle.isle_cli.specs.Sources.{source_of}
 use Rattle.isle_index.specs.Held.{all_in}
+use Rattle.isle_lsp_messages.specs.Items.{item_data}
 use Rattle.isle_lsp_names.specs.Defined.{symbols_from}
+use Rattle.isle_lsp_names.specs.Programs.{source_of}
 use Rattle.isle_lsp_names.proofs.symbols.workspace_symbols.Given as goal
 
 abbrev pub invariant-loop-file : goal.invariant-loop-file
 invariant-loop-file l =
-    map view l.values.items ++ symbols_from l.file l.query (map source_of (drop l.file l.program)) (all_in l.index)
+    map item_data l.items.items ++ symbols_from l.file l.query (map source_of (drop l.file l.program)) (all_in l.index)
     ≡ symbols_from 0 l.query (map source_of l.program) (all_in l.index)
