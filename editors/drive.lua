@@ -84,7 +84,7 @@ local function ask(method, params) return vim.lsp.buf_request_sync(0, method, pa
 vim.fn.search("(f", "cew")
 vim.api.nvim_win_set_cursor(0, { vim.fn.line("."), vim.fn.col(".") })
 local names = ask("textDocument/completion", vim.lsp.util.make_position_params())
-tell("resolved", ask("completionItem/resolve", (names.items or names)[1]).documentation.value)
+tell("resolved", ((ask("completionItem/resolve", (names.items or names)[1]) or {}).documentation or {}).value)
 
 local client = active_clients()[1].id
 vim.lsp.stop_client(client)

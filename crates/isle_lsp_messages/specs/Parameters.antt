@@ -1,7 +1,7 @@
 -- What a client's message holds.
-use Rattle.std.specs.Prelude.{ℕ, List, codes, Bool, false, Option, None, Some, option_and_then}
+use Rattle.std.specs.Prelude.{ℕ, List, codes, Bool, false, Option, None, Some, is_some, option_and_then, if◌then◌else◌}
 use Rattle.serde_json.specs.Data.{Data, Items, no_items, item}
-use Rattle.serde_json.specs.Find.{get, pointer, as_str, as_bool, as_number, as_u64, as_array}
+use Rattle.serde_json.specs.Find.{get, pointer, as_str, as_bool, as_number, as_object, as_u64, as_array}
 use Rattle.isle_lsp_text.specs.Changes.{changed}
 use Rattle.isle_lsp_text.specs.declared.positions.Position.{Position}
 use Rattle.isle_lsp_text.specs.declared.positions.Range.{Range}
@@ -23,10 +23,15 @@ query_of d = option_and_then as_str (pointer (codes "/params/query") d)
 abbrev pub number_at : List ℕ → Data → Option ℕ
 number_at name d = option_and_then as_u64 (option_and_then as_number (get name d))
 
--- the completion that a message speaks of, its name and its kind
-abbrev pub item_of : Data → Option Data
-item_of d = get (codes "params") d
+abbrev pub if_object : Option Data → Option Data
+if_object None = None
+if_object (Some d) = if is_some (as_object d) then Some d else None
 
+-- the item of a completion that a message speaks of
+abbrev pub item_of : Data → Option Data
+item_of d = if_object (get (codes "params") d)
+
+-- the label of an item, and the number of its kind
 abbrev pub label_of : Data → Option (List ℕ)
 label_of d = option_and_then as_str (get (codes "label") d)
 

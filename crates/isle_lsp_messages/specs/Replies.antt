@@ -44,7 +44,7 @@ abbrev pub reason_of : Code → List ℕ
 reason_of ParseError = codes "the message is no JSON"
 reason_of InvalidRequest = codes "no message may come here but one request of the protocol"
 reason_of MethodNotFound = codes "the server has no such method"
-reason_of InvalidParams = codes "no open document is named, or no position in it"
+reason_of InvalidParams = codes "the request lacks an open document, a position in it, or another parameter"
 reason_of ServerNotInitialized = codes "the session is not initialized"
 reason_of RequestFailed = codes "the request can't be done"
 

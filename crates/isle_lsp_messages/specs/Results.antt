@@ -46,7 +46,7 @@ markdown shown = object (member (codes "kind") (string (codes "markdown")) (memb
 abbrev pub hover : List ℕ → Range → Data
 hover shown range = object (member (codes "contents") (markdown shown) (member (codes "range") (range_data range) no_members))
 
--- a completion with this documentation
+-- an item of a completion with this documentation, in place of what it has
 abbrev pub documented : Data → List ℕ → Data
 documented (object ms) shown = object (put (codes "documentation") (markdown shown) ms)
 documented d shown = d

@@ -44,21 +44,24 @@ pub fn new_name_of(message: &Value) -> Option<&str>
     message.pointer("/params/newName").and_then(Value::as_str)
 }
 
-/// Gives the completion that a message speaks of.
+/// Gives the item of a completion that a message speaks of.
 pub fn item_of(message: &Value) -> Option<&Value>
     ensures { option_map (λ item. view item.now) result ≡ wanted.item_of (view message.now) }
 {
-    message.get("params")
+    match message.get("params") {
+        Some(item) if item.is_object() => Some(item),
+        _ => None,
+    }
 }
 
-/// Gives the name that a completion is.
+/// Gives the label of an item of a completion: its name as it is written.
 pub fn label_of(item: &Value) -> Option<&str>
     ensures { option_map (λ label. label.now) result ≡ wanted.label_of (view item.now) }
 {
     item.get("label").and_then(Value::as_str)
 }
 
-/// Gives the protocol's number of the kind of a completion.
+/// Gives the protocol's number of the kind of an item of a completion.
 pub fn kind_of(item: &Value) -> Option<u64>
     ensures { result ≡ wanted.kind_of (view item.now) }
 {

@@ -58,7 +58,7 @@ pub fn text_edit(alloc: Global, range: Range, text: &str) -> Result<Value, Alloc
     json!(in alloc; {"range": range, "newText": text})
 }
 
-/// Makes a completion that has this documentation, in Markdown.
+/// Makes an item of a completion that has this documentation, in Markdown, in place of what it has.
 pub fn documented(alloc: Global, item: &Value, shown: &str) -> Result<Value, AllocError>
     ensures { IfOk result (λ value. view value ≡ wanted.documented (view item.now) shown.now) }
 {

@@ -12,8 +12,8 @@ use Rattle.isle_index.specs.Names.{NameNode, global}
 use Rattle.isle_index.specs.Scopes.{SeenNode}
 use Rattle.isle_index.specs.declared.candidates.Candidate.{Candidate}
 use Rattle.isle_index.specs.declared.symbols.SymbolKind.{SymbolKind}
-use Rattle.isle_index.specs.declared.symbols.SymbolKind.TheVariants as kinds
-use Rattle.isle_index_events.specs.declared.event.Kind.TheVariants as named
+use Rattle.isle_index.specs.declared.symbols.SymbolKind.TheVariants as symbol_kinds
+use Rattle.isle_index_events.specs.declared.event.Kind.TheVariants as kinds
 use Rattle.isle_lsp_messages.specs.Parameters.{kind_of, label_of}
 use Rattle.isle_lsp_messages.specs.Results.{completion_item}
 use Rattle.isle_lsp_names.specs.Places.{range_between}
@@ -24,11 +24,11 @@ use Rattle.isle_lsp_text.specs.declared.positions.Range.{Range}
 
 -- the protocol's number of a kind
 abbrev pub number_of : SymbolKind → ℕ
-number_of kinds.Term = 3
-number_of kinds.Type = 22
-number_of kinds.Variant = 20
-number_of kinds.Constant = 21
-number_of kinds.Variable = 6
+number_of symbol_kinds.Term = 3
+number_of symbol_kinds.Type = 22
+number_of symbol_kinds.Variant = 20
+number_of symbol_kinds.Constant = 21
+number_of symbol_kinds.Variable = 6
 
 -- a name, to be written in place of what a range has
 abbrev pub item : Range → CandidateNode → Data
@@ -71,21 +71,21 @@ AreCompletions place text all d =
     × IsPermutation (candidates place (outer_start text lists place.offset) (name_before text place.offset) all) (map candidate_of found)
     × IsSortedByKey (λ c. string_bytes c.text) text_order found × (d ≡ items (range_before text place.offset) (map candidate_of found))
 
--- ---- the name of a completion
+-- ---- the name of an item
 
+-- the constant of a label, which begins with `$`
 abbrev pub constant_of : List ℕ → Option NameNode
 constant_of [] = None
-constant_of (b ∷ name) = if b == 36 then Some (global named.Constant name) else None
+constant_of (b ∷ name) = if b == 36 then Some (global kinds.Constant name) else None
 
--- the name of a label of this kind, if it holds in the whole program
+-- what a label of this kind names in the whole program; a variable is no name there
 abbrev pub labelled : (label : Option (List ℕ)) → (kind : Option ℕ) → Option NameNode
 labelled None kind = None
 labelled (Some label) None = None
 labelled (Some label) (Some kind) =
-    if kind == number_of kinds.Term || kind == number_of kinds.Variant then Some (global named.Term label)
-    else (if kind == number_of kinds.Type then Some (global named.Type label)
-    else (if kind == number_of kinds.Constant then constant_of label else None))
+    if kind == number_of symbol_kinds.Term || kind == number_of symbol_kinds.Variant then Some (global kinds.Term label)
+    else (if kind == number_of symbol_kinds.Type then Some (global kinds.Type label)
+    else (if kind == number_of symbol_kinds.Constant then constant_of label else None))
 
--- the name of a completion, if it holds in the whole program
 abbrev pub item_name : Data → Option NameNode
 item_name item = labelled (label_of item) (kind_of item)

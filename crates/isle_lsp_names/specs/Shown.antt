@@ -31,9 +31,10 @@ IsShown text name o shown =
     × IsPart text (whole_of text lists (nat_lt o.len (length (name_text name))) o.pos.offset o.len) part
     × (shown ≡ codes "```isle\n" ++ part ++ codes "\n```")
 
+-- what is shown of a definition, if its text is there
 abbrev pub IsShownIn : Option Source → NameNode → Occurrence → Option (List ℕ) → Type 0
 IsShownIn None name o shown = shown ≡ None
-IsShownIn (Some s) name o shown = (text : List ℕ) × IsShown s.text name o text × (shown ≡ Some text)
+IsShownIn (Some s) name o shown = (block : List ℕ) × IsShown s.text name o block × (shown ≡ Some block)
 
 abbrev pub IsFirstShown : List Source → NameNode → Option Occurrence → Option (List ℕ) → Type 0
 IsFirstShown program name None shown = shown ≡ None
@@ -57,13 +58,13 @@ IsHover program text (Some name) None all d = d ≡ null
 IsHover program text (Some name) (Some at) all d =
     (shown : Option (List ℕ)) × IsShownOf program name all shown × (d ≡ hover_data text shown at)
 
--- ---- of a completion
+-- ---- of an item of a completion
 
 abbrev pub resolved_data : Data → (shown : Option (List ℕ)) → Data
 resolved_data item None = item
 resolved_data item (Some shown) = results.documented item shown
 
--- a completion with what is shown of its name
+-- an item with what is shown of its name; as it is where nothing is shown
 abbrev pub IsResolved : List Source → List SeenNode → Option NameNode → Data → Data → Type 0
 IsResolved program all None item d = d ≡ item
 IsResolved program all (Some name) item d = (shown : Option (List ℕ)) × IsShownOf program name all shown × (d ≡ resolved_data item shown)

@@ -88,7 +88,7 @@ fn items<'a>(alloc: Global, found: &[Candidate], range: Range) -> Result<Vec<Ite
     let mut last: Option<&Candidate> = None;
     for candidate in found {
         if !is_again(last, candidate) {
-            let item = item_of(alloc, candidate, range)?;
+            let item = candidate_item(alloc, candidate, range)?;
             items.push(item)?;
         }
         last = Some(candidate);
@@ -108,7 +108,7 @@ fn is_again(last: Option<&Candidate>, candidate: &Candidate) -> bool
 }
 
 /// Gives a name as an item, to be written in place of what a range has.
-fn item_of<'a>(alloc: Global, candidate: &Candidate, range: Range) -> Result<Item<'a>, AllocError>
+fn candidate_item<'a>(alloc: Global, candidate: &Candidate, range: Range) -> Result<Item<'a>, AllocError>
     ensures { IfOk result
         (λ item. item_data item ≡ wanted.item range (candidate_of candidate.now)) }
 {
@@ -132,7 +132,8 @@ fn number_of(kind: SymbolKind) -> usize
     }
 }
 
-/// Gives the name of a completion, if it holds in the whole program.
+/// Gives the name of an item of a completion, if it holds in the whole program. Its kind is a number
+/// that `number_of` gives.
 pub fn item_name(alloc: Global, item: &Value) -> Result<Option<Name>, AllocError>
     ensures { IfOk result
         (λ name. option_map named_of name ≡ wanted.item_name (view item.now)) }
@@ -145,7 +146,7 @@ pub fn item_name(alloc: Global, item: &Value) -> Result<Option<Name>, AllocError
     }
 }
 
-/// Makes the name of a constant from its label, which begins with `$`.
+/// Makes the name of a constant from its label, or none if that does not begin with `$`.
 fn constant(alloc: Global, label: &str) -> Result<Option<Name>, AllocError>
     ensures { IfOk result (λ name. option_map named_of name ≡ wanted.constant_of label.now) }
 {

@@ -65,8 +65,8 @@ fn hover_at(
     }
 }
 
-/// Gives a completion with the definition of its name, as hover shows it, or as it is where the
-/// program does not define the name.
+/// Gives an item of a completion with the definition of its name, as hover shows it, or as it is
+/// where there is none.
 pub fn resolved(
     alloc: Global,
     program: &[Text],
@@ -85,7 +85,7 @@ pub fn resolved(
     }
 }
 
-/// Gives a completion with what is shown of its name.
+/// Gives an item of a completion with what is shown of its name, or as it is.
 fn resolved_with(alloc: Global, item: &Value, shown: Option<String>) -> Result<Value, AllocError>
     ensures { IfOk result (λ value. view value
         ≡ wanted.resolved_data (view item.now) (option_map string_bytes shown)) }

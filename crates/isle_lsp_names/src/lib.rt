@@ -48,7 +48,7 @@ pub enum Told<'a> {
     Found(Value),
     /// What it asks for, as a list.
     Listed(Listing<'a>),
-    /// It names no text of the program, or no place in one.
+    /// The message lacks what the request needs, such as a text of the program or a place in one.
     Unplaced,
     /// It can't be done, and why.
     Refused(&'static str),
