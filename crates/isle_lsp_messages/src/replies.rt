@@ -137,7 +137,8 @@ pub fn reason_of(code: Code) -> &'static str
         Code::ParseError => "the message is no JSON",
         Code::InvalidRequest => "no message may come here but one request of the protocol",
         Code::MethodNotFound => "the server has no such method",
-        Code::InvalidParams => "the request lacks an open document, a position in it, or another parameter",
+        Code::InvalidParams =>
+            "the request lacks an open document, a position in it, or another parameter",
         Code::ServerNotInitialized => "the session is not initialized",
         Code::RequestFailed => "the request can't be done",
     }

@@ -108,7 +108,11 @@ fn is_again(last: Option<&Candidate>, candidate: &Candidate) -> bool
 }
 
 /// Gives a name as an item, to be written in place of what a range has.
-fn candidate_item<'a>(alloc: Global, candidate: &Candidate, range: Range) -> Result<Item<'a>, AllocError>
+fn candidate_item<'a>(
+    alloc: Global,
+    candidate: &Candidate,
+    range: Range,
+) -> Result<Item<'a>, AllocError>
     ensures { IfOk result
         (λ item. item_data item ≡ wanted.item range (candidate_of candidate.now)) }
 {
