@@ -4,7 +4,7 @@ use Rattle.isle_c.specs.NoAnswers.{IsFormatFailure, IsRefusalFailure, IsTidyFail
 use Rattle.isle_c.specs.declared.TheConstants.{REFUSED}
 use Rattle.isle_c.specs.declared.calls.NoAnswer.{NoAnswer}
 use Rattle.isle_c.specs.declared.calls.NoAnswer.TheVariants as reasons
-use Rattle.isle_document.specs.Refused.{HasNoDocument}
+use Rattle.isle_tidy_core.specs.Refused.{HasNoDocument}
 use Rattle.isle_syntax.specs.Format.{IsRefused}
 
 pub refused_format : (text : List ℕ) (why : NoAnswer) → IsFormatFailure text why → status_of why ≡ REFUSED → IsRefused text

@@ -3,7 +3,7 @@ use Rattle.std.specs.Prelude.{ℕ, List, IsUtf8}
 use Rattle.isle_c.specs.declared.TheConstants.{ACCEPTED, MEMORY, NOT_UTF8, REFUSED}
 use Rattle.isle_c.specs.declared.calls.NoAnswer.{NoAnswer}
 use Rattle.isle_c.specs.declared.calls.NoAnswer.TheVariants.{Accepted, Memory, NotUtf8, Refused}
-use Rattle.isle_document.specs.Refused.{HasDocument, HasNoDocument}
+use Rattle.isle_tidy_core.specs.Refused.{HasDocument, HasNoDocument}
 use Rattle.isle_syntax.specs.Format.{IsRefused, SpellsTree}
 
 abbrev pub status_of : NoAnswer → ℕ

@@ -1,8 +1,8 @@
 -- Whether a text is tidy, and why it can't be tidied.
 use Rattle.std.specs.Prelude.{ℕ, List, Bool, true, false, length}
 use Rattle.isle_base_source.specs.declared.error.Error.{Error}
-use Rattle.isle_document.specs.Refused.{HasNoDocument, IsRefusedFor, IsWithin}
-use Rattle.isle_document.specs.Tidied.{IsTidyTextOf, IsUntidy}
+use Rattle.isle_tidy_core.specs.Refused.{HasNoDocument, IsRefusedFor, IsWithin}
+use Rattle.isle_tidy_core.specs.Tidied.{IsTidyTextOf, IsUntidy}
 
 abbrev pub IsWhetherTidy : List ℕ → Bool → Type 0
 IsWhetherTidy text true = IsTidyTextOf text text

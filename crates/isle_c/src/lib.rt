@@ -10,8 +10,8 @@ ghost use Rattle.std.specs.Prelude.{◌≡◌, ◌≢◌, ◌↔◌, ◌≤◌, 
 ghost use Rattle.isle_c.specs.Answers.{Wants, Writes};
 ghost use Rattle.isle_c.specs.Parsing.{IsEncodedTree};
 ghost use Rattle.isle_c.specs.Refusals.{IsDiagnosticOf, IsRefusedAt, IsUntidiableAt};
-ghost use Rattle.isle_document.specs.Refused.{HasDocument, HasNoDocument};
-ghost use Rattle.isle_document.specs.Tidied.{IsTidyTextOf, IsUntidy};
+ghost use Rattle.isle_tidy_core.specs.Refused.{HasDocument, HasNoDocument};
+ghost use Rattle.isle_tidy_core.specs.Tidied.{IsTidyTextOf, IsUntidy};
 ghost use Rattle.isle_syntax.specs.Format.{IsFormatted, IsRefused, SpellsTree};
 
 mod calls;
@@ -208,7 +208,7 @@ pub extern "C" fn isle_c_diagnostic(
     }
 }
 
-/// Tidies a text, as `isle_document::tidy` does: keeps the author's lines and every comment.
+/// Tidies a text, as `isle_tidy_core::tidy` does: keeps the author's lines and every comment.
 ///
 /// The answer is the tidy text, which is UTF-8. A text need not be one of ISLE: `REFUSED` comes
 /// where it doesn't lex or its parentheses don't match, and `isle_c_tidy_refusal` says why.

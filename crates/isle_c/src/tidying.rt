@@ -4,14 +4,14 @@ ghost use Rattle.std.specs.Prelude.{◌≡◌, IfErr, IfOk, IsUtf8, OnOk, string
 ghost use Rattle.isle_c.specs.NoAnswers.{IsTidyFailure, IsTidyRefusalFailure};
 ghost use Rattle.isle_c.specs.Refusals.{IsUntidiableAt};
 ghost use Rattle.isle_c.specs.Tidying.{IsWhetherTidy, RefusesToTidy};
-ghost use Rattle.isle_document.specs.Refused.{HasDocument};
-ghost use Rattle.isle_document.specs.Tidied.{IsTidyTextOf};
+ghost use Rattle.isle_tidy_core.specs.Refused.{HasDocument};
+ghost use Rattle.isle_tidy_core.specs.Tidied.{IsTidyTextOf};
 
 use crate::calls::{NoAnswer, Refusal, parts};
 use crate::slices::text_of;
-use isle_document::tidy;
 use isle_syntax::error::Error;
 use isle_syntax::lexer::Fault;
+use isle_tidy_core::tidy;
 use std::alloc::Global;
 
 /// The tidy text.
@@ -67,7 +67,7 @@ fn whether_tidy(alloc: Global, text: &str) -> Result<bool, NoAnswer>
     ensures ok { IfOk result (IsWhetherTidy text.now) }
     ensures err { IfErr result (IsTidyFailure text.now) }
 {
-    match isle_document::is_tidy(alloc, text) {
+    match isle_tidy_core::is_tidy(alloc, text) {
         Ok(is_tidy) => Ok(is_tidy),
         Err(Fault::Error(_)) => Err(NoAnswer::Refused),
         Err(Fault::Failed) => unreachable!(),

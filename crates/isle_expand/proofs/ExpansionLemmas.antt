@@ -10,9 +10,9 @@ use Rattle.isle_ast.proofs.Writable.Spelt.{spelt_is_writable}
 use Rattle.isle_ast.specs.MacroArgs.{definitions_have_macro_arg}
 use Rattle.isle_ast.specs.Tree.{Definition}
 use Rattle.isle_ast.specs.Writable.{AreWritable, IsWritable}
-use Rattle.isle_expansion.proofs.Writing.{expanded_writable}
+use Rattle.isle_expand_core.proofs.Writing.{expanded_writable}
 use Rattle.isle_expand.specs.Expansion.{IsExpansionOf}
-use Rattle.isle_reading.specs.Reading.{AreOutcomes, IsOutcome, IsReading, Outcome, refusal, tree, tree_of}
+use Rattle.isle_program.specs.Reading.{AreOutcomes, IsOutcome, IsReading, Outcome, refusal, tree, tree_of}
 
 each-append : {A : Type 0} (P : A → Type 0) (xs ys : List A) → Each P xs → Each P ys → Each P (xs ++ ys)
 each-append P [] ys front rest = rest

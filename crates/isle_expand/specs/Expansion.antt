@@ -10,12 +10,12 @@ use Rattle.isle_ast.specs.Tree.{Definition}
 use Rattle.isle_printer.specs.Printed.{IsPrinted}
 use Rattle.isle_cli.specs.declared.failure.Failure.{Failure}
 use Rattle.isle_cli.specs.declared.failure.Failure.TheVariants as failures
-use Rattle.isle_expansion.specs.Definitions.{AreExpanded, AreFree}
-use Rattle.isle_expansion.specs.Macros.{macros_in}
-use Rattle.isle_expansion.specs.Misuses.{IsFirstMisuse, MisuseNode, misuse_pos, misuse_text}
-use Rattle.isle_conversions.specs.Warnings.{WarningNode, warning_pos, warning_text, warnings_in}
-use Rattle.isle_reading.specs.Messages.{line_at, refusal_lines}
-use Rattle.isle_reading.specs.Reading.{IsReading, refused_count}
+use Rattle.isle_expand_core.specs.Definitions.{AreExpanded, AreFree}
+use Rattle.isle_expand_core.specs.Macros.{macros_in}
+use Rattle.isle_expand_core.specs.Misuses.{IsFirstMisuse, MisuseNode, misuse_pos, misuse_text}
+use Rattle.isle_expand_warnings.specs.Warnings.{WarningNode, warning_pos, warning_text, warnings_in}
+use Rattle.isle_program.specs.Messages.{line_at, refusal_lines}
+use Rattle.isle_program.specs.Reading.{IsReading, refused_count}
 
 -- The texts spell this program: each has its one tree, and these are the definitions of all, one text after another.
 pub record IsProgramOf (sources : List Source) (tree : List Definition) : Type 0 where

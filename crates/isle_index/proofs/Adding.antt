@@ -4,7 +4,7 @@ use Rattle.std.specs.List.{AllByRecursion}
 use Rattle.std.specs.declared.alloc.Global.{Global}
 use Rattle.std.specs.declared.string.String.{String}
 use Rattle.isle_ast_names.specs.Tree.{Name}
-use Rattle.isle_index_events.specs.Event.{EventNode, defines, uses, defines_variant, occurs, binds, reads}
+use Rattle.isle_resolve.specs.Event.{EventNode, defines, uses, defines_variant, occurs, binds, reads}
 use Rattle.isle_index.specs.declared.entries.Entry.{Entry}
 use Rattle.isle_index.specs.declared.entries.Entry.TheVariants as entries
 use Rattle.isle_index.specs.declared.entries.Spot.{Spot}

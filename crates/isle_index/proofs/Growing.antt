@@ -5,8 +5,8 @@ use Rattle.std.proofs.lemmas.List.{append-nil, map-append}
 use Rattle.isle_ast.specs.Tree.{Definition}
 use Rattle.isle_ast.specs.TreeView.{definition_of, definitions_of}
 use Rattle.isle_ast.specs.declared.ast.Def.{Def}
-use Rattle.isle_index_events.specs.Event.{EventNode}
-use Rattle.isle_index_events.specs.Events.{definition_events, events}
+use Rattle.isle_resolve.specs.Event.{EventNode}
+use Rattle.isle_resolve.specs.Events.{definition_events, events}
 use Rattle.isle_index.specs.declared.Index.{Index}
 use Rattle.isle_index.specs.Held.{Adds, IsIndexOf}
 use Rattle.isle_index.specs.Scopes.{seen, seen_from}

@@ -3,9 +3,9 @@ use Rattle.std.proofs.Common.{◌≡◌, ℕ, ◌+◌, List, [], ◌∷◌, ◌+
 use Rattle.std.proofs.lemmas.Bool.{eqb-true}
 use Rattle.std.specs.List.{AllByRecursion, cons_option, list_any, filter_map}
 use Rattle.isle_ast_names.specs.Tree.{Name}
-use Rattle.isle_index_events.specs.declared.event.Kind.{Kind}
-use Rattle.isle_index_events.specs.declared.event.Kind.TheVariants as kinds
-use Rattle.isle_index_events.specs.Event.{EventNode, defines, uses, defines_variant, occurs, binds, reads, closes, ends}
+use Rattle.isle_resolve.specs.declared.event.Kind.{Kind}
+use Rattle.isle_resolve.specs.declared.event.Kind.TheVariants as kinds
+use Rattle.isle_resolve.specs.Event.{EventNode, defines, uses, defines_variant, occurs, binds, reads, closes, ends}
 use Rattle.isle_index.specs.Scopes.{BoundNode, SeenNode, after, binder, seen, seen_from}
 use Rattle.isle_index.specs.Names.{NameNode, global, variable, gives, is_number, is_of, joined, same_kind}
 use Rattle.isle_index.specs.Renaming.{gives_variant, has, has_member, is_member, is_variable, member_of, members, renamed_variable, same_binder, same_binders, shares, with_text}

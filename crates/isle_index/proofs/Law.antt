@@ -3,12 +3,12 @@ use Rattle.std.proofs.Common.{◌≡◌, ℕ, ◌+◌, List, [], ◌∷◌, Bool
 use Rattle.std.specs.List.{AllByRecursion, list_any}
 use Rattle.isle_ast.specs.Tree.{Definition}
 use Rattle.isle_ast_names.specs.Tree.{Name}
-use Rattle.isle_index_events.specs.declared.event.Kind.{Kind}
-use Rattle.isle_index_events.specs.declared.event.Kind.TheVariants as kinds
-use Rattle.isle_index_events.specs.Event.{EventNode}
-use Rattle.isle_index_events.specs.Events.{events}
-use Rattle.isle_index_events.specs.Mapped.{map_definitions, map_event}
-use Rattle.isle_index_events.proofs.MappedLemmas.{events_follow}
+use Rattle.isle_resolve.specs.declared.event.Kind.{Kind}
+use Rattle.isle_resolve.specs.declared.event.Kind.TheVariants as kinds
+use Rattle.isle_resolve.specs.Event.{EventNode}
+use Rattle.isle_resolve.specs.Events.{events}
+use Rattle.isle_resolve.specs.Mapped.{map_definitions, map_event}
+use Rattle.isle_resolve.proofs.MappedLemmas.{events_follow}
 use Rattle.isle_index.specs.Scopes.{BoundNode, SeenNode, after, binder, seen, seen_from}
 use Rattle.isle_index.specs.Names.{NameNode, global, variable, gives, is_of}
 use Rattle.isle_index.specs.Renaming.{gives_variant, has, has_member, is_captured, is_new_name, is_taken, defines_it, members, refusal, renamed_variable, same_binders, shares}

@@ -5,11 +5,11 @@ use Rattle.std.specs.List.{AllByRecursion, filter_map, list_any}
 use Rattle.isle_base_source.specs.declared.pos.Pos.{Pos}
 use Rattle.isle_ast.specs.Tree.{Definition}
 use Rattle.isle_ast_names.specs.Tree.{Name}
-use Rattle.isle_index_events.specs.declared.event.Kind.{Kind}
-use Rattle.isle_index_events.specs.declared.event.Kind.TheVariants as kinds
-use Rattle.isle_index_events.specs.Event.{EventNode, defines, uses, defines_variant, occurs, binds, reads, closes, ends}
-use Rattle.isle_index_events.specs.Events.{events}
-use Rattle.isle_index_events.specs.Mapped.{map_event}
+use Rattle.isle_resolve.specs.declared.event.Kind.{Kind}
+use Rattle.isle_resolve.specs.declared.event.Kind.TheVariants as kinds
+use Rattle.isle_resolve.specs.Event.{EventNode, defines, uses, defines_variant, occurs, binds, reads, closes, ends}
+use Rattle.isle_resolve.specs.Events.{events}
+use Rattle.isle_resolve.specs.Mapped.{map_event}
 use Rattle.isle_index.specs.Scopes.{BoundNode, SeenNode, after, binder, seen, seen_from}
 use Rattle.isle_index.specs.Names.{NameNode, global, variable, gives, is_number, name_text}
 use Rattle.isle_index.specs.Renaming.{IsAccepted, changed_places, changes, gives_variant, is_member, members, position, renamed_variable}

@@ -5,7 +5,7 @@ use Rattle.std.specs.declared.alloc.Global.{Global}
 use Rattle.std.specs.declared.string.String.{String}
 use Rattle.isle_ast.specs.Tree.{Definition}
 use Rattle.isle_ast_names.specs.Tree.{Name}
-use Rattle.isle_index_events.specs.Events.{events}
+use Rattle.isle_resolve.specs.Events.{events}
 use Rattle.isle_index.specs.declared.Index.{Index}
 use Rattle.isle_index.specs.declared.entries.Entry.{Entry}
 use Rattle.isle_index.specs.declared.entries.Entry.TheVariants as entries

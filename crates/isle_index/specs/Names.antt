@@ -1,9 +1,9 @@
 -- What events name.
 use Rattle.std.specs.Prelude.{ℕ, List, ◌++◌, Bool, true, false, ◌&&◌, ◌==◌, Option, None, Some, option_map, codes, string_bytes}
 use Rattle.std.specs.Str.{bytes_eq}
-use Rattle.isle_index_events.specs.declared.event.Kind.{Kind}
-use Rattle.isle_index_events.specs.declared.event.Kind.TheVariants as kinds
-use Rattle.isle_index_events.specs.Event.{EventNode, defines, uses, defines_variant, occurs, binds, reads, closes, ends}
+use Rattle.isle_resolve.specs.declared.event.Kind.{Kind}
+use Rattle.isle_resolve.specs.declared.event.Kind.TheVariants as kinds
+use Rattle.isle_resolve.specs.Event.{EventNode, defines, uses, defines_variant, occurs, binds, reads, closes, ends}
 use Rattle.isle_index.specs.declared.names.Name.TheVariants as names
 use Rattle.isle_index.specs.Scopes.{SeenNode}
 use Rattle.isle_index.specs.declared.names.Name as code

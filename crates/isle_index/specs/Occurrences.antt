@@ -3,9 +3,9 @@ use Rattle.std.specs.Prelude.{ℕ, ◌+◌, List, [], ◌∷◌, Bool, true, fal
 use Rattle.std.specs.List.{filter_map}
 use Rattle.isle_base_source.specs.declared.pos.Pos.{Pos}
 use Rattle.isle_ast_names.specs.Tree.{Name}
-use Rattle.isle_index_events.specs.declared.event.Kind.{Kind}
-use Rattle.isle_index_events.specs.declared.event.Kind.TheVariants as kinds
-use Rattle.isle_index_events.specs.Event.{EventNode, defines, uses, defines_variant, occurs, binds, reads, closes, ends}
+use Rattle.isle_resolve.specs.declared.event.Kind.{Kind}
+use Rattle.isle_resolve.specs.declared.event.Kind.TheVariants as kinds
+use Rattle.isle_resolve.specs.Event.{EventNode, defines, uses, defines_variant, occurs, binds, reads, closes, ends}
 use Rattle.isle_index.specs.Scopes.{SeenNode}
 use Rattle.isle_index.specs.Names.{NameNode, is_of, is_number, meaning}
 use Rattle.isle_index.specs.declared.occurrences.Occurrence.{Occurrence}

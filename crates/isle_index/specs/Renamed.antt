@@ -4,10 +4,10 @@ use Rattle.std.specs.List.{AllByRecursion, filter_map, list_any}
 use Rattle.isle_base_source.specs.declared.pos.Pos.{Pos}
 use Rattle.std.specs.Str.{bytes_eq}
 use Rattle.isle_ast_names.specs.Tree.{Name}
-use Rattle.isle_index_events.specs.declared.event.Kind.{Kind}
-use Rattle.isle_index_events.specs.declared.event.Kind.TheVariants as kinds
-use Rattle.isle_index_events.specs.Event.{EventNode, defines, uses, defines_variant, occurs, binds, reads, closes, ends}
-use Rattle.isle_index_events.specs.Mapped.{map_event}
+use Rattle.isle_resolve.specs.declared.event.Kind.{Kind}
+use Rattle.isle_resolve.specs.declared.event.Kind.TheVariants as kinds
+use Rattle.isle_resolve.specs.Event.{EventNode, defines, uses, defines_variant, occurs, binds, reads, closes, ends}
+use Rattle.isle_resolve.specs.Mapped.{map_event}
 use Rattle.isle_index.specs.Scopes.{SeenNode}
 use Rattle.isle_index.specs.Names.{NameNode, global, variable, name_text}
 use Rattle.isle_index.specs.Renaming.{is_member, members, position, renamed_variable}

@@ -9,9 +9,9 @@ use Rattle.isle_base_source.specs.PositionOrder.{position_cmp}
 use Rattle.isle_base_source.specs.declared.pos.Pos.{Pos}
 use Rattle.isle_ast_names.specs.Identifier.{is_identifier}
 use Rattle.isle_ast_names.specs.Words.{is_dollar}
-use Rattle.isle_index_events.specs.declared.event.Kind.{Kind}
-use Rattle.isle_index_events.specs.declared.event.Kind.TheVariants as kinds
-use Rattle.isle_index_events.specs.Event.{EventNode, defines, uses, defines_variant, occurs, binds, reads, closes, ends}
+use Rattle.isle_resolve.specs.declared.event.Kind.{Kind}
+use Rattle.isle_resolve.specs.declared.event.Kind.TheVariants as kinds
+use Rattle.isle_resolve.specs.Event.{EventNode, defines, uses, defines_variant, occurs, binds, reads, closes, ends}
 use Rattle.isle_index.specs.Scopes.{SeenNode, seen}
 use Rattle.isle_index.specs.Names.{NameNode, global, variable, gives, is_of, is_number, joined, name_text, same_kind}
 use Rattle.isle_index.specs.declared.rename.Refusal.{Refusal}

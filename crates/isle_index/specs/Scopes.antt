@@ -3,8 +3,8 @@
 use Rattle.std.specs.Prelude.{ℕ, ◌+◌, ◌-◌, List, [], ◌∷◌, ◌++◌, Option, None, Some, is_some, length, map, take, if◌then◌else◌}
 use Rattle.std.specs.Str.{bytes_eq}
 use Rattle.isle_ast_names.specs.Tree.{Name}
-use Rattle.isle_index_events.specs.Event.{EventNode, defines, uses, defines_variant, occurs, binds, reads, closes, ends}
-use Rattle.isle_index_events.specs.EventView.{event_of}
+use Rattle.isle_resolve.specs.Event.{EventNode, defines, uses, defines_variant, occurs, binds, reads, closes, ends}
+use Rattle.isle_resolve.specs.EventView.{event_of}
 use Rattle.isle_index.specs.declared.scopes.Bound.{Bound}
 use Rattle.isle_index.specs.declared.scopes.Seen.{Seen}
 

@@ -2,9 +2,9 @@
 use Rattle.std.specs.Prelude.{ℕ, List, Option, None, Some, length, filter, string_bytes, ◌==◌}
 use Rattle.std.specs.List.{filter_map}
 use Rattle.isle_base_source.specs.declared.pos.Pos.{Pos}
-use Rattle.isle_index_events.specs.declared.event.Kind.{Kind}
-use Rattle.isle_index_events.specs.declared.event.Kind.TheVariants as kinds
-use Rattle.isle_index_events.specs.Event.{EventNode, defines, uses, defines_variant, occurs, binds, reads, closes, ends}
+use Rattle.isle_resolve.specs.declared.event.Kind.{Kind}
+use Rattle.isle_resolve.specs.declared.event.Kind.TheVariants as kinds
+use Rattle.isle_resolve.specs.Event.{EventNode, defines, uses, defines_variant, occurs, binds, reads, closes, ends}
 use Rattle.isle_index.specs.Scopes.{SeenNode}
 use Rattle.isle_index.specs.Names.{joined}
 use Rattle.isle_index.specs.Occurrences.{written_len}

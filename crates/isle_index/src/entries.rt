@@ -4,11 +4,11 @@
 ghost use Rattle.std.specs.Prelude.{◌≡◌};
 ghost use Rattle.isle_index.specs.Entries.{text_at, unpacked, word_at};
 ghost use Rattle.isle_index.specs.Scopes.{seen_of};
-ghost use Rattle.isle_index_events.specs.EventView.{word_of};
+ghost use Rattle.isle_resolve.specs.EventView.{word_of};
 
 use crate::scopes::Seen;
 use isle_base::lexer::Pos;
-use isle_index_events::event::{Event, Kind, Word};
+use isle_resolve::event::{Event, Kind, Word};
 
 /// A name where it is written, with the number of its text.
 #[derive(Clone, Copy, Debug)]

@@ -10,8 +10,8 @@ ghost use Rattle.isle_index.specs.Renamed.{Renames, after_renaming, are_apart, p
 ghost use Rattle.isle_index.specs.Renamed.{replaced};
 ghost use Rattle.isle_index.specs.Renaming.{IsAccepted, refusal};
 ghost use Rattle.isle_index.specs.Scopes.{seen};
-ghost use Rattle.isle_index_events.specs.Events.{events};
-ghost use Rattle.isle_index_events.specs.Mapped.{map_definitions};
+ghost use Rattle.isle_resolve.specs.Events.{events};
+ghost use Rattle.isle_resolve.specs.Mapped.{map_definitions};
 
 /// A law, which runs no code: the places that `Index::rename` gives are those of the name. Where no
 /// two names of the definitions stand at one place, replacing the old text by the new one at these

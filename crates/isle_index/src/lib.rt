@@ -22,7 +22,7 @@ ghost use Rattle.isle_index.specs.Occurrences.{definitions, name_at, occurrence_
 ghost use Rattle.isle_index.specs.Renaming.{IsAnswer};
 ghost use Rattle.isle_index.specs.Scopes.{seen_from};
 ghost use Rattle.isle_index.specs.Symbols.{symbol_of, symbols};
-ghost use Rattle.isle_index_events.specs.EventView.{events_of};
+ghost use Rattle.isle_resolve.specs.EventView.{events_of};
 
 mod candidates;
 mod entries;
@@ -38,9 +38,9 @@ pub use candidates::Candidate;
 use entries::{Entries, Entry};
 use isle_ast::ast::Def;
 use isle_base::lexer::Pos;
-use isle_index_events::event::Event;
-pub use isle_index_events::event::Kind;
-use isle_index_events::events;
+use isle_resolve::event::Event;
+pub use isle_resolve::event::Kind;
+use isle_resolve::events;
 pub use names::Name;
 use numbers::Texts;
 pub use occurrences::Occurrence;

@@ -5,10 +5,10 @@ ghost use Rattle.std.specs.Str.{bytes_eq};
 ghost use Rattle.isle_index.specs.Names.{gives, is_number, is_of, joined, meaning, named_of};
 ghost use Rattle.isle_index.specs.Names.{global, name_text, same_kind, variable};
 ghost use Rattle.isle_index.specs.Scopes.{seen_of};
-ghost use Rattle.isle_index_events.specs.EventView.{event_of};
+ghost use Rattle.isle_resolve.specs.EventView.{event_of};
 
 use crate::scopes::Seen;
-use isle_index_events::event::{Event, Kind, Word};
+use isle_resolve::event::{Event, Kind, Word};
 use std::alloc::{AllocError, Global};
 
 /// A name of an index.

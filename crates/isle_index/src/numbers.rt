@@ -4,11 +4,11 @@ ghost use Rattle.std.specs.Prelude.{◌≡◌, [], IfOk, IfSome, OnOk, Some};
 ghost use Rattle.isle_index.specs.Entries.{text_in, with_binder};
 ghost use Rattle.isle_index.specs.Held.{Extends, IsEntryOf, IsSpotOf};
 ghost use Rattle.isle_index.specs.Scopes.{binder, bounds_of};
-ghost use Rattle.isle_index_events.specs.EventView.{event_of, word_of};
+ghost use Rattle.isle_resolve.specs.EventView.{event_of, word_of};
 
 use crate::entries::{Entry, Spot};
 use crate::scopes::{Bound, last_bound};
-use isle_index_events::event::{Event, Word};
+use isle_resolve::event::{Event, Word};
 use std::alloc::{AllocError, Global};
 use std::collections::HashMap;
 

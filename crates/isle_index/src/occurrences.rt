@@ -7,13 +7,13 @@ ghost use Rattle.isle_index.specs.Occurrences.{covers, definitions, is_covered, 
 ghost use Rattle.isle_index.specs.Occurrences.{occurrence, occurrence_at, occurrence_of};
 ghost use Rattle.isle_index.specs.Occurrences.{occurrences, place, seen_at, written_len};
 ghost use Rattle.isle_index.specs.Scopes.{seen_of};
-ghost use Rattle.isle_index_events.specs.EventView.{event_of, word_of};
+ghost use Rattle.isle_resolve.specs.EventView.{event_of, word_of};
 
 use crate::entries::Entries;
 use crate::names::{Name, is_number, meaning};
 use crate::scopes::Seen;
 use isle_base::lexer::Pos;
-use isle_index_events::event::{Event, Kind, Word};
+use isle_resolve::event::{Event, Kind, Word};
 use std::alloc::{AllocError, Global};
 
 /// A name where it is written. Occurrences are ordered by place.

@@ -12,14 +12,14 @@ ghost use Rattle.isle_index.specs.Renaming.{is_new_name, is_reserved, is_taken, 
 ghost use Rattle.isle_index.specs.Renaming.{position, refusal, renamed_variable, same_binder};
 ghost use Rattle.isle_index.specs.Renaming.{same_binders, with_text, writes_member};
 ghost use Rattle.isle_index.specs.Scopes.{seen, seen_of};
-ghost use Rattle.isle_index_events.specs.EventView.{event_of};
+ghost use Rattle.isle_resolve.specs.EventView.{event_of};
 
 use crate::entries::Entries;
 use crate::names::{Name, gives, is_joined, is_number, joined};
 use crate::scopes::{Seen, bind, binder};
 use isle_ast_names::identifier::is_identifier;
 use isle_base::lexer::Pos;
-use isle_index_events::event::{Event, Kind, Word};
+use isle_resolve::event::{Event, Kind, Word};
 use std::alloc::{AllocError, Global};
 
 /// Why a name can't get another text.

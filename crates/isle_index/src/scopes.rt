@@ -2,9 +2,9 @@
 
 ghost use Rattle.std.specs.Prelude.{◌≡◌, OnOk};
 ghost use Rattle.isle_index.specs.Scopes.{after, binder, bound_more, bounds_of, last_bound};
-ghost use Rattle.isle_index_events.specs.EventView.{event_of, word_of};
+ghost use Rattle.isle_resolve.specs.EventView.{event_of, word_of};
 
-use isle_index_events::event::{Event, Word};
+use isle_resolve::event::{Event, Word};
 use std::alloc::{AllocError, Global};
 
 /// A variable that is bound.

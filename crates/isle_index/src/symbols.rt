@@ -3,13 +3,13 @@
 ghost use Rattle.std.specs.Prelude.{◌≡◌, IfOk, map, option_map};
 ghost use Rattle.isle_index.specs.Entries.{all_of};
 ghost use Rattle.isle_index.specs.Symbols.{kind_of, symbol, symbol_of, symbols};
-ghost use Rattle.isle_index_events.specs.EventView.{event_of};
+ghost use Rattle.isle_resolve.specs.EventView.{event_of};
 
 use crate::entries::Entries;
 use crate::names::joined;
 use crate::occurrences::written_len;
 use isle_base::lexer::Pos;
-use isle_index_events::event::{Event, Kind};
+use isle_resolve::event::{Event, Kind};
 use std::alloc::{AllocError, Global};
 
 /// What a symbol or a candidate is.

@@ -6,12 +6,12 @@ use Rattle.isle_base_source.specs.Source.{Source}
 use Rattle.isle_base_source.specs.declared.error.Error.{Error}
 use Rattle.isle_ast.specs.TreeView.{definitions_of}
 use Rattle.isle_ast.specs.declared.ast.Def.{Def}
-use Rattle.isle_findings.specs.Finding.{Found, finding_of}
-use Rattle.isle_findings.specs.Findings.{findings_in}
-use Rattle.isle_findings.specs.declared.finding.Finding.{Finding}
-use Rattle.isle_findings.specs.declared.lint.Lint.{Lint}
+use Rattle.isle_lint_core.specs.Finding.{Found, finding_of}
+use Rattle.isle_lint_core.specs.Findings.{findings_in}
+use Rattle.isle_lint_core.specs.declared.finding.Finding.{Finding}
+use Rattle.isle_lint_core.specs.declared.lint.Lint.{Lint}
 use Rattle.isle_lint.specs.Report.{count_text, is_told, kept_if, sources_text, told_in}
-use Rattle.isle_reading.specs.Reading.{refused_count}
+use Rattle.isle_program.specs.Reading.{refused_count}
 
 pub shown-as : (sources : List Source) (given refusals : List (Option Error)) (kept : List Finding) (all : List Found) (shown : List ℕ) →
     given ≡ refusals → map finding_of kept ≡ all →

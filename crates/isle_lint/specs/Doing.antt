@@ -6,10 +6,10 @@ use Rattle.isle_base_source.specs.PositionOrder.{position_cmp}
 use Rattle.isle_base_source.specs.Source.{Source}
 use Rattle.isle_base_source.specs.declared.error.Error.{Error}
 use Rattle.isle_ast.specs.Tree.{Definition}
-use Rattle.isle_findings.specs.Finding.{finding_of}
-use Rattle.isle_findings.specs.Findings.{findings_in}
-use Rattle.isle_findings.specs.declared.finding.Finding.{Finding}
-use Rattle.isle_findings.specs.declared.lint.Lint.{Lint}
+use Rattle.isle_lint_core.specs.Finding.{finding_of}
+use Rattle.isle_lint_core.specs.Findings.{findings_in}
+use Rattle.isle_lint_core.specs.declared.finding.Finding.{Finding}
+use Rattle.isle_lint_core.specs.declared.lint.Lint.{Lint}
 use Rattle.isle_cli.specs.Arguments.{Asked, Given, asked, help_asked, name_list, stdin_name, version_asked, work_asked}
 use Rattle.isle_cli.specs.Failure.{IsDiagnostic}
 use Rattle.isle_cli.specs.Sources.{IsReadFrom}
@@ -17,7 +17,7 @@ use Rattle.isle_cli.specs.Streams.{AppendsBeginning}
 use Rattle.isle_cli.specs.declared.failure.Failure.{Failure}
 use Rattle.isle_cli.specs.declared.failure.Failure.TheVariants as failures
 use Rattle.isle_lint.specs.Options.{are_usable, lints_on}
-use Rattle.isle_reading.specs.Reading.{IsReading, refused_count}
+use Rattle.isle_program.specs.Reading.{IsReading, refused_count}
 use Rattle.isle_cli.specs.declared.arguments.Options.{Options}
 use Rattle.isle_cli.specs.declared.program.Program.{Program}
 use Rattle.isle_lint.specs.declared.options.TheConstants.{HELP, VERSION}

@@ -4,8 +4,8 @@ use Rattle.std.specs.List.{find, list_all, list_any}
 use Rattle.std.specs.Option.{is_some}
 use Rattle.std.specs.Str.{bytes_eq}
 use Rattle.isle_cli.specs.Arguments.{Given, flag_given, setting_given, name_given, gives_flag}
-use Rattle.isle_findings.specs.Lint.{all_lints, is_default, name, needs_whole_program}
-use Rattle.isle_findings.specs.declared.lint.Lint.{Lint}
+use Rattle.isle_lint_core.specs.Lint.{all_lints, is_default, name, needs_whole_program}
+use Rattle.isle_lint_core.specs.declared.lint.Lint.{Lint}
 
 -- an option with a value names a lint
 abbrev pub is_naming : List ℕ → Lint → Given → Bool

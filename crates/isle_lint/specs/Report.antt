@@ -5,12 +5,12 @@ use Rattle.std.specs.List.{flat_map}
 use Rattle.isle_base_source.specs.Source.{Source}
 use Rattle.isle_base_source.specs.declared.error.Error.{Error}
 use Rattle.isle_cli.specs.Messages.{message_line}
-use Rattle.isle_findings.specs.Finding.{Found}
-use Rattle.isle_findings.specs.Lint.{message, name, needs_whole_program}
-use Rattle.isle_findings.specs.declared.lint.Lint.{Lint}
-use Rattle.isle_reading.specs.Allowances.{is_allowed}
-use Rattle.isle_reading.specs.Messages.{refusal_text, shown_offset}
-use Rattle.isle_reading.specs.Reading.{refused_count}
+use Rattle.isle_lint_core.specs.Finding.{Found}
+use Rattle.isle_lint_core.specs.Lint.{message, name, needs_whole_program}
+use Rattle.isle_lint_core.specs.declared.lint.Lint.{Lint}
+use Rattle.isle_program.specs.Allowances.{is_allowed}
+use Rattle.isle_program.specs.Messages.{refusal_text, shown_offset}
+use Rattle.isle_program.specs.Reading.{refused_count}
 
 -- the lints that can be used: without a whole program, those that need none
 abbrev pub usable : Bool → List Lint → List Lint

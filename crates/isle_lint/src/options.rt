@@ -10,7 +10,7 @@ ghost use Rattle.isle_lint.specs.Options.{names_lint};
 
 use isle_cli::arguments::{Argument, has_flag};
 use isle_cli::failure::Failure;
-use isle_findings::Lint;
+use isle_lint_core::Lint;
 use std::alloc::{AllocError, Global};
 
 /// The version: that of the upstream crate whose syntax this is.

@@ -8,23 +8,23 @@ ghost use Rattle.isle_base_source.specs.Source as texts;
 ghost use Rattle.isle_ast.specs.TreeView.{definitions_of};
 ghost use Rattle.isle_cli.specs.Sources.{source_of};
 ghost use Rattle.isle_cli.specs.declared.failure.Failure.TheVariants.{Memory};
-ghost use Rattle.isle_findings.specs.Finding.{finding_of};
+ghost use Rattle.isle_lint_core.specs.Finding.{finding_of};
 ghost use Rattle.isle_lint.specs.Doing.{IsReport};
 ghost use Rattle.isle_lint.specs.Report.{count_text, counted, finding_line, is_program};
 ghost use Rattle.isle_lint.specs.Report.{is_told, kept_if};
 ghost use Rattle.isle_lint.specs.Report.{message_text};
 ghost use Rattle.isle_lint.specs.Report.{source_text, sources_text, told, told_in, usable};
-ghost use Rattle.isle_reading.specs.Allowances.{lines_above};
-ghost use Rattle.isle_reading.specs.Reading.{IsReading, refused_count};
+ghost use Rattle.isle_program.specs.Allowances.{lines_above};
+ghost use Rattle.isle_program.specs.Reading.{IsReading, refused_count};
 
 use isle_base_source::error::Error;
 use isle_base_source::files::LineMap;
 use isle_cli::failure::Failure;
 use isle_cli::sources::Source;
-use isle_findings::{Finding, Lint, findings};
-use isle_reading::allowances::{is_allowed, lines_above};
-use isle_reading::messages::{place_line, refusal_line};
-use isle_reading::trees::{Reading, drop_reading, read_all, refused_count};
+use isle_lint_core::{Finding, Lint, findings};
+use isle_program::allowances::{is_allowed, lines_above};
+use isle_program::messages::{place_line, refusal_line};
+use isle_program::trees::{Reading, drop_reading, read_all, refused_count};
 use std::alloc::{AllocError, Global};
 
 /// Tells what these lints find in a program, and which of its texts spell no tree: a line for

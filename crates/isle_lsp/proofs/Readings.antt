@@ -4,8 +4,8 @@ use Rattle.serde_json.proofs.Numbers.{number_of-decimal}
 use Rattle.serde_json.specs.Read.{of_items}
 use Rattle.serde_json.specs.View.{items_of}
 use Rattle.serde_json.specs.Written.{items_outline}
-use Rattle.isle_findings.specs.Lint.{name}
-use Rattle.isle_findings.specs.declared.lint.Lint.{Lint}
+use Rattle.isle_lint_core.specs.Lint.{name}
+use Rattle.isle_lint_core.specs.declared.lint.Lint.{Lint}
 use Rattle.isle_lsp_diagnostics.specs.Diagnostics.{Mark}
 use Rattle.isle_lsp_messages.proofs.Readings.{error_reads, position_reads, range_reads, warning_reads}
 use Rattle.isle_lsp_messages.specs.Replies.{publishing}

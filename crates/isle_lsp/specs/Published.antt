@@ -2,8 +2,8 @@
 use Rattle.std.specs.Prelude.{◌≡◌, ℕ, List, codes, map, Option, None, Some}
 use Rattle.serde_json.specs.Data.{Data, array, member, no_items, no_members, object, string}
 use Rattle.serde_json.specs.View.{items_of}
-use Rattle.isle_findings.specs.Lint.{name}
-use Rattle.isle_findings.specs.declared.lint.Lint.{Lint}
+use Rattle.isle_lint_core.specs.Lint.{name}
+use Rattle.isle_lint_core.specs.declared.lint.Lint.{Lint}
 use Rattle.isle_lsp_diagnostics.specs.Diagnostics.{AreMarks, Mark}
 use Rattle.isle_lsp_messages.specs.Replies.{IsTextOf, publishing}
 use Rattle.isle_lsp_messages.specs.Results.{error_data, warning_data}

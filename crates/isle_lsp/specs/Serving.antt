@@ -20,7 +20,7 @@ use Rattle.isle_lsp_messages.specs.declared.results.TheConstants.{CAPABILITIES}
 use Rattle.serde_json.specs.Read.{read}
 use Rattle.isle_base_source.specs.Source.{Source}
 use Rattle.isle_cli.specs.Sources.{source_of}
-use Rattle.isle_lsp_names.specs.Answers as names
+use Rattle.isle_lsp_features.specs.Answers as names
 use Rattle.isle_lsp.specs.Formatted.{IsFormatting}
 use Rattle.isle_lsp.specs.Published.{IsPublished}
 use Rattle.isle_lsp.specs.declared.server.Outcome as code

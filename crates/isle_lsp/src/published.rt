@@ -13,7 +13,7 @@ ghost use Rattle.isle_lsp.specs.Published.{IsPublished, diagnostics_data, mark_d
 ghost use Rattle.isle_lsp.specs.Published.{parameters_data, told_at};
 
 use isle_cli::failure::Failure;
-use isle_findings::Lint;
+use isle_lint_core::Lint;
 use isle_lsp_diagnostics::{Diagnostic, diagnostics};
 use isle_lsp_messages::writing::{put_error, put_text, put_warning, written};
 use isle_lsp_text::positions::{Place, Range, START, place_at};

@@ -10,8 +10,8 @@ ghost use Rattle.isle_lsp_messages.specs.Replies.{IsReplyId, IsTextOf};
 ghost use Rattle.isle_lsp_messages.specs.Parameters as parameters_of;
 ghost use Rattle.isle_lsp_messages.specs.Replies as replies_of;
 ghost use Rattle.isle_cli.specs.Sources.{source_of};
-ghost use Rattle.isle_lsp_names.specs.Answers.{answer_of};
-ghost use Rattle.isle_lsp_names.specs.Programs as programs;
+ghost use Rattle.isle_lsp_features.specs.Answers.{answer_of};
+ghost use Rattle.isle_lsp_features.specs.Programs as programs;
 ghost use Rattle.isle_lsp.specs.Conversations.{nothing};
 ghost use Rattle.isle_lsp.specs.Serving as serving;
 ghost use Rattle.isle_lsp.specs.Serving.{IsNamed, IsResult, IsResultOf, KeepsFiles, Publishes};
@@ -25,13 +25,13 @@ use crate::workspace::workspace_files;
 use isle_cli::failure::Failure;
 use isle_cli::sources::Source;
 use isle_lsp_documents::{Document, close, open, text_of};
+use isle_lsp_features::{Text, Told};
 use isle_lsp_machine::{Code, Notice, Request, State, Turn};
 use isle_lsp_messages::items::Listing;
 use isle_lsp_messages::parameters::{root_of, text_after, uri_of};
 use isle_lsp_messages::replies::{reason_of, reply_id};
 use isle_lsp_messages::results::capabilities;
 use isle_lsp_messages::{parameters, replies};
-use isle_lsp_names::{Text, Told};
 use serde_json::Value;
 use std::alloc::{AllocError, Global};
 use std::fs::Files;
@@ -317,7 +317,7 @@ fn named<'a>(
     ensures err { IfErr result (λ failure. failure ≡ Memory) }
 {
     let program = program_of(alloc, &server.documents, &server.files)?;
-    let answer = isle_lsp_names::answer(alloc, &program, request, message)?;
+    let answer = isle_lsp_features::answer(alloc, &program, request, message)?;
     Ok(outcome_from(answer))
 }
 

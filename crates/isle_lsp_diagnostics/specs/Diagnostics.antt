@@ -5,13 +5,13 @@ use Rattle.isle_ast.specs.Tree.{Definition}
 use Rattle.isle_base_source.specs.PositionOrder.{position_cmp}
 use Rattle.isle_base_source.specs.declared.error.Error as errors
 use Rattle.isle_base_source.specs.declared.error.Error.TheVariants.{ParseError}
-use Rattle.isle_findings.specs.Finding.{Found, finding_of}
-use Rattle.isle_findings.specs.Findings.{findings_in}
-use Rattle.isle_findings.specs.Lint.{all_lints, is_default, message}
-use Rattle.isle_findings.specs.declared.finding.Finding.{Finding}
-use Rattle.isle_findings.specs.declared.lint.Lint.{Lint}
-use Rattle.isle_reading.specs.Allowances.{is_allowed}
-use Rattle.isle_reading.specs.Reading.{IsRefusedWith, IsTreeOf}
+use Rattle.isle_lint_core.specs.Finding.{Found, finding_of}
+use Rattle.isle_lint_core.specs.Findings.{findings_in}
+use Rattle.isle_lint_core.specs.Lint.{all_lints, is_default, message}
+use Rattle.isle_lint_core.specs.declared.finding.Finding.{Finding}
+use Rattle.isle_lint_core.specs.declared.lint.Lint.{Lint}
+use Rattle.isle_program.specs.Allowances.{is_allowed}
+use Rattle.isle_program.specs.Reading.{IsRefusedWith, IsTreeOf}
 use Rattle.isle_lsp_diagnostics.specs.declared.Diagnostic.{Diagnostic}
 
 -- what is told of a part of a text

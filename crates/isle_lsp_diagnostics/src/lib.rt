@@ -9,8 +9,8 @@ ghost use Rattle.std.specs.Prelude.{string_bytes};
 ghost use Rattle.isle_ast.specs.TreeView.{definitions_of};
 ghost use Rattle.isle_base_source.specs.declared.error.Error as errors;
 ghost use Rattle.isle_cli.specs.declared.failure.Failure.TheVariants.{Memory};
-ghost use Rattle.isle_findings.specs.Finding.{finding_of};
-ghost use Rattle.isle_findings.specs.Lint.{all_lints, is_default};
+ghost use Rattle.isle_lint_core.specs.Finding.{finding_of};
+ghost use Rattle.isle_lint_core.specs.Lint.{all_lints, is_default};
 ghost use Rattle.isle_lsp_diagnostics.specs.Diagnostics.{AreMarks, AreMarksOf};
 ghost use Rattle.isle_lsp_diagnostics.specs.Diagnostics.{error_mark, found_mark, found_text};
 ghost use Rattle.isle_lsp_diagnostics.specs.Diagnostics.{mark_of, shown};
@@ -20,10 +20,10 @@ use isle_base::lexer::Fault;
 use isle_base_source::error::Error;
 use isle_base_source::files::LineMap;
 use isle_cli::failure::Failure;
-use isle_findings::{Finding, Lint, findings};
+use isle_lint_core::{Finding, Lint, findings};
 use isle_parser::dropping::drop_definitions;
-use isle_reading::allowances::{is_allowed, lines_above};
-use isle_reading::trees::read_defs;
+use isle_program::allowances::{is_allowed, lines_above};
+use isle_program::trees::read_defs;
 use std::alloc::{AllocError, Global};
 
 /// Something that is told of a part of a text.

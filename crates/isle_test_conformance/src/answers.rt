@@ -5,7 +5,6 @@ use crate::errors::{line_map, overlap_error, parse_errors, refusal, shadowed_err
 use crate::nodes::nodes;
 use crate::terms::{substitute, template, terms};
 use crate::texts::{beginnings, damaged};
-use isle_document::tidy;
 use isle_syntax::ast::{Def, writable};
 use isle_syntax::format;
 use isle_syntax::lexer::{Fault, Lexer, Pos, Token};
@@ -13,6 +12,7 @@ use isle_syntax::parser::{parse, parse_without_pos};
 use isle_syntax::printer::{Looks, PrintFault, ToSExpr, fits};
 use isle_test_nodes::trees::{drop_definitions, read, show_definitions};
 use isle_test_writable::told_of_built;
+use isle_tidy_core::tidy;
 use std::alloc::{AllocError, Global};
 use std::fmt::Debug;
 

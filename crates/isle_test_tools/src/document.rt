@@ -2,8 +2,8 @@
 
 use crate::answers::is_text;
 use isle_base::lexer::Fault;
-use isle_document::tidying::Tidying;
-use isle_document::{is_tidy, tidy};
+use isle_tidy_core::tidying::Tidying;
+use isle_tidy_core::{is_tidy, tidy};
 use std::alloc::Global;
 
 #[test]

@@ -1,7 +1,7 @@
 //! Definitions with their extractors expanded.
 
 use crate::answers::is_text;
-use isle_expansion::{ExpandFault, expanded};
+use isle_expand_core::{ExpandFault, expanded};
 use isle_syntax::ast::Def;
 use isle_syntax::lexer::{Fault, Pos};
 use isle_syntax::parse;

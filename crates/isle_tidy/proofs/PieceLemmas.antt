@@ -5,10 +5,10 @@ use Rattle.std.specs.Io.KnownBytes.{Appends}
 use Rattle.isle_cli.specs.Streams.{AppendsBeginning, Writes}
 use Rattle.isle_cli.specs.declared.failure.Failure.{Failure}
 use Rattle.isle_cli.specs.declared.failure.Failure.TheVariants as failures
-use Rattle.isle_document.specs.Streams.{HasWritten, PutsMore, PutsLast}
-use Rattle.isle_document.specs.Tidied.{IsTidyTextOf}
-use Rattle.isle_document.specs.declared.tidying.Tidying.{Tidying}
-use Rattle.isle_document.proofs.Streams.{begins_tidy}
+use Rattle.isle_tidy_core.specs.Streams.{HasWritten, PutsMore, PutsLast}
+use Rattle.isle_tidy_core.specs.Tidied.{IsTidyTextOf}
+use Rattle.isle_tidy_core.specs.declared.tidying.Tidying.{Tidying}
+use Rattle.isle_tidy_core.proofs.Streams.{begins_tidy}
 use Rattle.isle_tidy.specs.Pieces.{PutsPiece, PutsRest, CutsRest, FailsPiece, FailsTidied}
 use Rattle.isle_cli.proofs.StreamLemmas.{AppendsBeginning-behind, AppendsBeginning-front}
 

@@ -8,8 +8,8 @@ use Rattle.isle_cli.specs.Streams.{AppendsBeginning, ReadsText, Writes, WritesBe
 use Rattle.isle_cli.specs.declared.failure.Failure.{Failure}
 use Rattle.isle_cli.specs.declared.failure.Failure.TheVariants as failures
 use Rattle.isle_cli.specs.declared.program.Program.{Program}
-use Rattle.isle_document.specs.Refused.{HasNoDocument}
-use Rattle.isle_document.specs.Tidied.{IsTidyTextOf, IsUntidy}
+use Rattle.isle_tidy_core.specs.Refused.{HasNoDocument}
+use Rattle.isle_tidy_core.specs.Tidied.{IsTidyTextOf, IsUntidy}
 use Rattle.isle_parser_cursor.specs.Outcomes.{RefusesIn}
 
 -- whether the text is untidy

@@ -4,9 +4,9 @@ use Rattle.std.specs.Io.KnownBytes.{Appends, Keeps}
 use Rattle.isle_cli.specs.Streams.{AppendsBeginning, WritesBeginning}
 use Rattle.isle_cli.specs.declared.failure.Failure.{Failure}
 use Rattle.isle_cli.specs.declared.failure.Failure.TheVariants as failures
-use Rattle.isle_document.specs.Streams.{HasWritten}
-use Rattle.isle_document.specs.Tidied.{IsTidyTextOf}
-use Rattle.isle_document.specs.declared.tidying.Tidying.{Tidying}
+use Rattle.isle_tidy_core.specs.Streams.{HasWritten}
+use Rattle.isle_tidy_core.specs.Tidied.{IsTidyTextOf}
+use Rattle.isle_tidy_core.specs.declared.tidying.Tidying.{Tidying}
 use Rattle.isle_tidy.specs.Doing.{IsTidyFailure}
 
 -- the output got more of the tidy text

@@ -2,7 +2,7 @@
 
 ghost use Rattle.std.specs.Prelude.{◌≡◌, IfErr, OnOk, false};
 ghost use Rattle.isle_cli.specs.Streams.{Writes};
-ghost use Rattle.isle_document.specs.Tidied.{IsTidyTextOf, IsUntidy};
+ghost use Rattle.isle_tidy_core.specs.Tidied.{IsTidyTextOf, IsUntidy};
 ghost use Rattle.isle_tidy.specs.Doing.{IsFileFailure};
 
 use crate::pieces::{is_untidy, put_tidied};

@@ -6,9 +6,9 @@ ghost use Rattle.isle_base.specs.Steps.{IfError};
 ghost use Rattle.isle_base.specs.declared.fault.Fault.TheVariants.{Failed};
 ghost use Rattle.isle_cli.specs.Streams.{Writes};
 ghost use Rattle.isle_cli.specs.declared.failure.Failure.TheVariants.{Output};
-ghost use Rattle.isle_document.specs.Refused.{HasNoDocument, IsRefusedFor, IsWithin};
-ghost use Rattle.isle_document.specs.Streams.{HasWritten};
-ghost use Rattle.isle_document.specs.Tidied.{IsTidyTextOf};
+ghost use Rattle.isle_tidy_core.specs.Refused.{HasNoDocument, IsRefusedFor, IsWithin};
+ghost use Rattle.isle_tidy_core.specs.Streams.{HasWritten};
+ghost use Rattle.isle_tidy_core.specs.Tidied.{IsTidyTextOf};
 ghost use Rattle.isle_tidy.specs.Doing.{IsJudged, IsTidyFailure};
 ghost use Rattle.isle_tidy.specs.Pieces.{CutsRest, FailsPiece, FailsTidied, PutsPiece, PutsRest};
 
@@ -16,8 +16,8 @@ use isle_base::lexer::Fault;
 use isle_cli::failure::Failure;
 use isle_cli::messages::error_line;
 use isle_cli::program::put;
-use isle_document::is_tidy;
-use isle_document::tidying::Tidying;
+use isle_tidy_core::is_tidy;
+use isle_tidy_core::tidying::Tidying;
 use std::alloc::Global;
 use std::io::Write;
 

@@ -8,7 +8,7 @@ ghost use Rattle.isle_cli.specs.Failure as frame;
 ghost use Rattle.isle_cli.specs.Failure.{status_of};
 ghost use Rattle.isle_cli.specs.Streams.{AppendsBeginning, ReadsText, WritesBeginning};
 ghost use Rattle.isle_cli.specs.declared.failure.Failure.TheVariants.{Output};
-ghost use Rattle.isle_document.specs.Tidied.{IsTidyTextOf};
+ghost use Rattle.isle_tidy_core.specs.Tidied.{IsTidyTextOf};
 ghost use Rattle.isle_tidy.specs.Doing.{Cuts, CutsInput, Does, DoesInput, DoesTask, Explains};
 ghost use Rattle.isle_tidy.specs.Doing.{Finds, FindsInput, HandlesFiles};
 ghost use Rattle.isle_tidy.specs.Doing.{IsInputFailure, IsJudged, IsTidyFailure, Judges};

@@ -1,5 +1,5 @@
 use Rattle.std.proofs.Common.{◌∙◌, ap, sym}
-use Rattle.isle_document.specs.Tidied.{IsTidyTextOf}
+use Rattle.isle_tidy_core.specs.Tidied.{IsTidyTextOf}
 use Rattle.isle_c.proofs.AnswerLemmas.{wants, writes}
 use Rattle.isle_c.proofs.StatusLemmas.{refused_tidy}
 use Rattle.isle_c.proofs.isle_c_tidy.Goals as goal

@@ -1,5 +1,5 @@
 use Rattle.std.proofs.Common.{◌≡◌, ◌++◌, drop, filter}
-use Rattle.isle_findings.specs.Lint.{is_default}
+use Rattle.isle_lint_core.specs.Lint.{is_default}
 use Rattle.isle_lsp_diagnostics.proofs.defaults_among.Given as goal
 
 abbrev pub invariant-loop-lint : goal.invariant-loop-lint

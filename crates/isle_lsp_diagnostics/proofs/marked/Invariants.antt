@@ -1,5 +1,5 @@
 use Rattle.std.proofs.Common.{◌≡◌, ◌++◌, drop, map}
-use Rattle.isle_findings.specs.Finding.{finding_of}
+use Rattle.isle_lint_core.specs.Finding.{finding_of}
 use Rattle.isle_lsp_diagnostics.specs.Diagnostics.{found_mark, mark_of, shown}
 use Rattle.isle_lsp_diagnostics.proofs.marked.Given as goal
 

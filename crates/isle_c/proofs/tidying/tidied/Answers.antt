@@ -1,7 +1,7 @@
 use Rattle.std.proofs.Common.{string_bytes, subst}
 use Rattle.std.proofs.lemmas.Result.{err_from_is_err_and}
 use Rattle.isle_c.specs.NoAnswers.{IsTidyFailure}
-use Rattle.isle_document.specs.Tidied.{IsTidyTextOf}
+use Rattle.isle_tidy_core.specs.Tidied.{IsTidyTextOf}
 use Rattle.isle_c.proofs.tidying.tidied.Goals as goal
 
 pub returns-in_err-answer-clause-err : goal.returns-in_err-answer-clause-err

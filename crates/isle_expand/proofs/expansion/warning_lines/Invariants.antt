@@ -1,6 +1,6 @@
 use Rattle.std.proofs.Common.{◌≡◌, ◌++◌, drop, map, string_bytes}
 use Rattle.isle_cli.specs.Sources.{source_of}
-use Rattle.isle_conversions.specs.Warnings.{warnings_of}
+use Rattle.isle_expand_warnings.specs.Warnings.{warnings_of}
 use Rattle.isle_expand.specs.Expansion.{warning_lines}
 use Rattle.isle_expand.proofs.expansion.warning_lines.Given as goal
 

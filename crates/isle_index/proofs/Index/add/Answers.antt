@@ -1,7 +1,7 @@
 use Rattle.std.proofs.Common.{ap, ◌∙◌}
 use Rattle.isle_ast.specs.TreeView.{definitions_of}
-use Rattle.isle_index_events.specs.EventView.{events_of}
-use Rattle.isle_index_events.specs.Events.{events}
+use Rattle.isle_resolve.specs.EventView.{events_of}
+use Rattle.isle_resolve.specs.Events.{events}
 use Rattle.isle_index.proofs.Growing.{index-step}
 use Rattle.isle_index.proofs.Index.add.Goals as goal
 

@@ -1,7 +1,7 @@
 use Rattle.std.proofs.Common.{◌≡◌, ◌++◌, [], drop, length}
 use Rattle.isle_index.specs.Held.{IsWhole, all_in}
 use Rattle.isle_index.specs.Scopes.{bounds_of, seen_from}
-use Rattle.isle_index_events.specs.EventView.{events_of}
+use Rattle.isle_resolve.specs.EventView.{events_of}
 use Rattle.isle_index.proofs.Index.add_events.Given as goal
 
 abbrev pub invariant-loop-event : goal.invariant-loop-event

@@ -2,7 +2,7 @@ use Rattle.std.proofs.Common.{[], ap, map, ◌∙◌}
 use Rattle.std.specs.Str.Lines.{lines}
 use Rattle.isle_base_source.specs.Lines.{line_ends}
 use Rattle.isle_cli.specs.Sources.{source_of}
-use Rattle.isle_reading.specs.Allowances.{lines_above}
+use Rattle.isle_program.specs.Allowances.{lines_above}
 use Rattle.isle_lint.proofs.ReportLemmas.{told-step}
 use Rattle.isle_lint.proofs.report.add_told.Goals as goal
 

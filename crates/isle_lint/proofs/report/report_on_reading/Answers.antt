@@ -2,7 +2,7 @@ use Rattle.std.proofs.Common.{List, ap, map, string_bytes, ◌∙◌}
 use Rattle.std.proofs.lemmas.Result.{IfOk-weaker}
 use Rattle.isle_ast.specs.TreeView.{definitions_of}
 use Rattle.isle_cli.specs.Sources.{source_of}
-use Rattle.isle_findings.specs.Finding.{finding_of}
+use Rattle.isle_lint_core.specs.Finding.{finding_of}
 use Rattle.isle_lint.specs.Report.{is_program, told, usable}
 use Rattle.isle_lint.proofs.ReportLemmas.{found-as, shown-as}
 use Rattle.isle_lint.proofs.report.report_on_reading.Goals as goal

@@ -2,7 +2,7 @@ use Rattle.std.proofs.Common.{◌≡◌, ◌++◌, drop, filter, map, string_byt
 use Rattle.std.specs.List.{flat_map}
 use Rattle.std.specs.Prelude.{◌==◌, slice_get}
 use Rattle.isle_cli.specs.Sources.{source_of}
-use Rattle.isle_findings.specs.Finding.{finding_of}
+use Rattle.isle_lint_core.specs.Finding.{finding_of}
 use Rattle.isle_lint.specs.Report.{finding_line, source_text}
 use Rattle.isle_lint.proofs.report.source_text.Given as goal
 

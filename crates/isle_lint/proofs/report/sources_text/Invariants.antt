@@ -1,6 +1,6 @@
 use Rattle.std.proofs.Common.{◌≡◌, ◌++◌, drop, map, string_bytes}
 use Rattle.isle_cli.specs.Sources.{source_of}
-use Rattle.isle_findings.specs.Finding.{finding_of}
+use Rattle.isle_lint_core.specs.Finding.{finding_of}
 use Rattle.isle_lint.specs.Report.{sources_text}
 use Rattle.isle_lint.proofs.report.sources_text.Given as goal
 

@@ -1,6 +1,6 @@
 -- Some of the tidy text is written.
 use Rattle.std.proofs.Common.{ℕ, List}
-use Rattle.isle_document.specs.Streams.{HasWritten}
+use Rattle.isle_tidy_core.specs.Streams.{HasWritten}
 use Rattle.isle_test_tools.proofs.document.entries.Given as goal
 
 abbrev pub invariant-loop : goal.invariant-loop

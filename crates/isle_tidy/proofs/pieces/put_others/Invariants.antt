@@ -1,5 +1,5 @@
 use Rattle.std.proofs.Common.{◌-◌, List, ℕ, length}
-use Rattle.isle_document.specs.Streams.{HasWritten}
+use Rattle.isle_tidy_core.specs.Streams.{HasWritten}
 use Rattle.isle_tidy.specs.Pieces.{PutsPiece}
 use Rattle.isle_tidy.proofs.pieces.put_others.Given as goal
 

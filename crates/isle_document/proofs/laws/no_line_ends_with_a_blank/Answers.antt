@@ -1,5 +1,0 @@
-use Rattle.isle_document.proofs.Outside.{tidy_ends_clean}
-use Rattle.isle_document.proofs.laws.no_line_ends_with_a_blank.Goals as goal
-
-pub returns : goal.returns
-returns c = tidy_ends_clean

@@ -1,5 +1,0 @@
-use Rattle.isle_document.proofs.Again.{tidy_again}
-use Rattle.isle_document.proofs.laws.tidying_again_changes_nothing.Goals as goal
-
-pub returns : goal.returns
-returns c = tidy_again

@@ -1,9 +1,0 @@
-use Rattle.std.proofs.Common.{◌-◌, length, string_bytes}
-use Rattle.isle_document.specs.Streams.{HasWritten}
-use Rattle.isle_document.proofs.tidy.Given as goal
-
-abbrev pub invariant-loop-answer : goal.invariant-loop-answer
-invariant-loop-answer l = HasWritten l.text (string_bytes l.answer) l.tidying
-
-abbrev pub decreases-loop-answer : goal.decreases-loop-answer
-decreases-loop-answer l = length l.text - l.tidying.at

@@ -1,5 +1,0 @@
-use Rattle.isle_document.proofs.Matching.{refusal_told}
-use Rattle.isle_document.proofs.tidying.Tidying.new.Goals as goal
-
-pub returns-in-Err-clause-refused : goal.returns-in-Err-clause-refused
-returns-in-Err-clause-refused c = refusal_told c.args.text.now c.in-Err.fault c.in-Err.ensures.refused

@@ -1,6 +1,0 @@
-use Rattle.std.proofs.Common.{◌≡◌, ◌++◌, replicate, string_bytes}
-use Rattle.isle_base.specs.Bytes.{line_feed}
-use Rattle.isle_document.proofs.writing.put_lines.Given as goal
-
-abbrev pub invariant-loop : goal.invariant-loop
-invariant-loop l = string_bytes l.out ≡ string_bytes l.fn.out ++ replicate l.counter line_feed

@@ -1,5 +1,0 @@
-use Rattle.isle_document_laws.proofs.Trees.{tidying_keeps_trees}
-use Rattle.isle_document_laws.proofs.laws.tidying_keeps_trees.Goals as goal
-
-pub returns : goal.returns
-returns c = tidying_keeps_trees

@@ -1,5 +1,0 @@
-use Rattle.isle_document_layout.proofs.Prints.{prints_tidy}
-use Rattle.isle_document_layout.proofs.laws.prints_stay.Goals as goal
-
-pub returns : goal.returns
-returns c = prints_tidy

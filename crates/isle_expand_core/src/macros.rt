@@ -1,0 +1,143 @@
+//! Extractors as macros: their templates, and these expanded.
+
+ghost use Rattle.std.specs.Prelude.{◌≡◌, ◌<◌, IfOk, IfSome, false, length, map, option_map};
+ghost use Rattle.isle_ast.specs.MacroArgs.{definitions_have_macro_arg};
+ghost use Rattle.isle_ast.specs.TreeView.{definitions_of};
+ghost use Rattle.isle_ast_names.specs.TreeView.{name_of};
+ghost use Rattle.isle_ast_rules.specs.TreeView.{pattern_of};
+ghost use Rattle.isle_expand_core.specs.Expansion.{expand};
+ghost use Rattle.isle_expand_core.specs.Macros.{macros_in, meant, place_of};
+ghost use Rattle.isle_expand_core.specs.Order.{expand_place, expand_places};
+ghost use Rattle.isle_expand_core.specs.Views.{begun_of, macro_of, macros_of};
+
+use crate::patterns::{Refusal, expand};
+use isle_ast::ast::{Def, Extractor, Ident, Pattern};
+use std::alloc::{AllocError, Global};
+
+/// An extractor with its template, in which arguments of a macro stand for the parameters.
+#[derive(Drop)]
+pub struct Template<'a> {
+    /// The extractor.
+    pub extractor: &'a Extractor,
+    /// The template.
+    pub pattern: Pattern,
+}
+
+/// A macro.
+#[derive(Drop)]
+pub struct Macro<'a> {
+    /// The term that it defines.
+    pub term: &'a Ident,
+    /// How many parameters it has.
+    pub arity: usize,
+    /// Its template, as it is written.
+    pub template: &'a Pattern,
+    /// Its template expanded, if that is known.
+    pub expansion: Option<Pattern>,
+}
+
+/// Gives the templates of the extractors, in order.
+pub fn templates(alloc: Global, defs: &[Def]) -> Result<Vec<Template<'_>>, AllocError>
+    requires { definitions_have_macro_arg (definitions_of defs.now) ≡ false }
+    ensures { IfOk result
+        (λ found. map begun_of found.items ≡ macros_in (definitions_of defs.now)) }
+{
+    let mut found = Vec::new(alloc);
+    for def in defs {
+        if let Def::Extractor(extractor) = def {
+            let pattern = extractor
+                .template
+                .make_macro_template(alloc, &extractor.args)?;
+            found.push(Template { extractor, pattern })?;
+        }
+    }
+    Ok(found)
+}
+
+/// Finds the place of the extractor that a symbol means: the first one of its name.
+pub fn place_of(sym: &Ident, templates: &[Template]) -> Option<usize>
+    ensures place { result ≡ place_of (name_of sym.now).text (map begun_of templates.now) }
+    ensures within { IfSome result (λ place. place < length templates.now) }
+{
+    for (place, template) in templates.iter().enumerate() {
+        if template.extractor.term.0 == sym.0 {
+            return Some(place);
+        }
+    }
+    None
+}
+
+/// Expands the templates at these places, each once, in order.
+pub fn expansions<'t, 'a>(
+    alloc: Global,
+    templates: &'t [Template<'a>],
+    order: &[usize],
+) -> Result<Vec<Macro<'t>>, AllocError>
+    ensures { IfOk result
+        (λ macros. macros_of macros.items ≡ expand_places order.now (map begun_of templates.now)) }
+{
+    let mut macros = begun(alloc, templates)?;
+    for place in order {
+        expand_place(alloc, &mut macros, *place)?;
+    }
+    Ok(macros)
+}
+
+/// Expands the template at a place by what is known of the macros.
+fn expand_place(alloc: Global, macros: &mut Vec<Macro>, place: usize) -> Result<(), AllocError>
+    ensures { IfOk result
+        (λ _. macros_of macros.new.items
+        ≡ expand_place place (macros_of macros.old.items) (macros_of macros.old.items)) }
+{
+    if place < macros.len() {
+        let made = expansion(macros[place].template, alloc, macros)?;
+        macros[place].expansion = made;
+    }
+    Ok(())
+}
+
+/// Expands a template, if what is known of the macros is enough.
+fn expansion(
+    template: &Pattern,
+    alloc: Global,
+    macros: &[Macro],
+) -> Result<Option<Pattern>, AllocError>
+    ensures { IfOk result
+        (λ made. option_map pattern_of made
+        ≡ expand (pattern_of template.now) (macros_of macros.now)) }
+{
+    match expand(template, alloc, macros) {
+        Ok(made) => Ok(Some(made)),
+        Err(Refusal::Use) => Ok(None),
+        Err(Refusal::Memory) => Err(AllocError),
+    }
+}
+
+/// Gives the macros of templates, where no expansion is known.
+fn begun<'t, 'a>(alloc: Global, templates: &'t [Template<'a>]) -> Result<Vec<Macro<'t>>, AllocError>
+    ensures { IfOk result (λ macros. macros_of macros.items ≡ map begun_of templates.now) }
+{
+    let mut macros = Vec::with_capacity(alloc, templates.len())?;
+    for template in templates {
+        macros.push(Macro {
+            term: &template.extractor.term,
+            arity: template.extractor.args.len(),
+            template: &template.pattern,
+            expansion: None,
+        })?;
+    }
+    Ok(macros)
+}
+
+/// Finds the macro that a symbol means: the first one of its name.
+pub fn meant<'m, 'a>(sym: &Ident, macros: &'m [Macro<'a>]) -> Option<&'m Macro<'a>>
+    ensures { option_map (λ known. macro_of known.now) result
+        ≡ meant (name_of sym.now).text (macros_of macros.now) }
+{
+    for known in macros {
+        if known.term.0 == sym.0 {
+            return Some(known);
+        }
+    }
+    None
+}

@@ -1,5 +1,0 @@
-use Rattle.isle_expansion.proofs.Misused.{misused_lacks}
-use Rattle.isle_expansion.proofs.laws.misused_have_none.Goals as goal
-
-pub returns : goal.returns
-returns c = λ ds es n f a. misused_lacks ds n f es a

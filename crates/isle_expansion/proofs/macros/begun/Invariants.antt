@@ -1,6 +1,0 @@
-use Rattle.std.proofs.Common.{◌≡◌, ◌++◌, drop, map}
-use Rattle.isle_expansion.specs.Views.{begun_of, macros_of}
-use Rattle.isle_expansion.proofs.macros.begun.Given as goal
-
-abbrev pub invariant-loop-template : goal.invariant-loop-template
-invariant-loop-template l = macros_of l.macros.items ++ map begun_of (drop l.template-index l.templates) ≡ map begun_of l.templates

@@ -1,0 +1,111 @@
+//! What a lint finds in definitions of ISLE: variables that nothing uses or nothing binds, names
+//! that are given twice, terms that take another number of arguments, and terms that nothing
+//! declares or nothing defines.
+//!
+//! `findings` gives what some lints find, in order of place. What can't be known from the
+//! definitions at hand is not told: a symbol that stands alone is always a variable, and how many
+//! arguments a term takes is known only where its `decl` or its variant is among the definitions.
+#![tactic(auto)]
+
+ghost use Rattle.std.specs.Prelude.{◌≡◌, ◌++◌, IfOk, OnOk, map};
+ghost use Rattle.std.specs.List.Sorted.{IsPermutation, IsSortedByKey};
+ghost use Rattle.isle_base_source.specs.PositionOrder.{position_cmp};
+ghost use Rattle.isle_ast.specs.TreeView.{definitions_of};
+ghost use Rattle.isle_lint_core.specs.Finding.{finding_cmp, finding_of};
+ghost use Rattle.isle_lint_core.specs.Findings.{findings_in, names_found};
+ghost use Rattle.isle_lint_core.specs.Names.{names_at};
+
+mod definitions;
+mod expressions;
+mod finding;
+mod lint;
+mod mentions;
+mod names;
+mod patterns;
+mod rules;
+mod signatures;
+mod terms;
+
+use definitions::{Giving, repeated_in};
+pub use finding::Finding;
+use finding::add;
+use isle_ast::ast::{Def, Ident};
+pub use lint::Lint;
+use std::alloc::{AllocError, Global};
+
+/// Finds what these lints find in definitions, in order of place.
+///
+/// | Lint | What is found, each at its name |
+/// |---|---|
+/// | `unused-let` | a variable that a `let` binds and nothing uses |
+/// | `unknown-variable` | a variable that an expression uses, and nothing binds before it |
+/// | `duplicate-rule-name` | the name of a rule that an earlier rule has too |
+/// | `duplicate-declaration` | a term that an earlier `decl` declares too |
+/// | `duplicate-extractor` | a term that an earlier definition gave an extractor |
+/// | `duplicate-constructor` | an `extern constructor` of a term with rules, or an earlier one |
+/// | `wrong-arity` | a term with more or fewer arguments than its `decl` or its variant has |
+/// | `unknown-term` | a term that is used or defined, and that no `decl` and no variant gives |
+/// | `undefined-term` | the term of a `decl` that no rule, extractor or `extern` defines |
+/// | `unused-binding` | a variable in front of an `@` that nothing uses |
+/// | `unused-pattern-variable` | a variable that stands alone in a pattern and that nothing uses |
+/// | `shadowed-variable` | a variable that a `let` binds, and that is bound already |
+///
+/// A name that begins with `_` is never found. The first occurrence of a variable in the patterns
+/// of a rule binds it, and every other one uses it. A condition's expression is computed before its
+/// pattern binds; the definitions of a `let` are seen by those after them and by the body. A
+/// variable that an extractor's template binds is bound in every rule. A lint that stands twice
+/// among the lints gives its findings twice. An `Err` means that memory ran out.
+pub fn findings<'a>(
+    alloc: Global,
+    defs: &'a [Def],
+    lints: &[Lint],
+) -> Result<Vec<Finding<'a>>, AllocError>
+    ensures exact { IfOk result (λ found. IsPermutation
+        (findings_in lints.now (definitions_of defs.now)) (map finding_of found.items)) }
+    ensures in_order { IfOk result
+        (λ found. IsSortedByKey (λ finding. finding.pos) position_cmp found.items) }
+    ensures ties { IfOk result (λ found. IsSortedByKey finding_of finding_cmp found.items) }
+{
+    let mut found = collected(alloc, defs, lints)?;
+    found.sort()?;
+    Ok(found)
+}
+
+/// Finds what these lints find, lint by lint.
+fn collected<'a>(
+    alloc: Global,
+    defs: &'a [Def],
+    lints: &[Lint],
+) -> Result<Vec<Finding<'a>>, AllocError>
+    ensures { IfOk result (λ found. map finding_of found.items
+        ≡ findings_in lints.now (definitions_of defs.now)) }
+{
+    let mut found = Vec::new(alloc);
+    for lint in lints {
+        add(&mut found, *lint, &names_found(alloc, defs, *lint)?)?;
+    }
+    Ok(found)
+}
+
+/// Gives the names that a lint finds.
+fn names_found<'a>(alloc: Global, defs: &'a [Def], lint: Lint) -> Result<Vec<&'a Ident>, AllocError>
+    ensures { IfOk result
+        (λ found. names_at found.items ≡ names_found lint (definitions_of defs.now)) }
+{
+    match lint {
+        Lint::UnusedLet => rules::found_in(alloc, defs, rules::Asked::UnusedLets),
+        Lint::UnknownVariable => rules::found_in(alloc, defs, rules::Asked::UnknownVariables),
+        Lint::DuplicateRuleName => repeated_in(alloc, defs, Giving::RuleName),
+        Lint::DuplicateDeclaration => repeated_in(alloc, defs, Giving::Declaration),
+        Lint::DuplicateExtractor => repeated_in(alloc, defs, Giving::Extractor),
+        Lint::DuplicateConstructor => definitions::constructed_twice(alloc, defs),
+        Lint::WrongArity => terms::wrong_arities(alloc, defs),
+        Lint::UnknownTerm => terms::unknown_terms(alloc, defs),
+        Lint::UndefinedTerm => definitions::undefined_terms(alloc, defs),
+        Lint::UnusedBinding => rules::found_in(alloc, defs, rules::Asked::UnusedBindings),
+        Lint::UnusedPatternVariable => {
+            rules::found_in(alloc, defs, rules::Asked::UnusedPatternVariables)
+        }
+        Lint::ShadowedVariable => rules::found_in(alloc, defs, rules::Asked::ShadowedVariables),
+    }
+}

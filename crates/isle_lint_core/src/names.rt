@@ -1,0 +1,126 @@
+//! Names among other names.
+
+ghost use Rattle.std.specs.Prelude.{◌≡◌, ◌∷◌, ◌++◌, List, IfOk, OnOk, not};
+ghost use Rattle.isle_ast_names.specs.Tree.{Name};
+ghost use Rattle.isle_ast_names.specs.TreeView.{name_of};
+ghost use Rattle.isle_lint_core.specs.Names.{absent, has, is_private, kept_if, names_at};
+ghost use Rattle.isle_lint_core.specs.Names.{repeated};
+ghost use Rattle.isle_lint_core.specs.Seen.{Knows};
+
+use isle_ast::ast::Ident;
+use std::alloc::{AllocError, Global};
+use std::collections::BTreeSet;
+
+/// Adds a name, where it counts.
+pub fn add_if<'a>(
+    counts: bool,
+    name: &'a Ident,
+    found: &mut Vec<&'a Ident>,
+) -> Result<(), AllocError>
+    ensures { OnOk result (names_at found.new.items
+        ≡ names_at found.old.items ++ kept_if counts (name_of name.now)) }
+{
+    if counts {
+        found.push(name)?;
+    }
+    Ok(())
+}
+
+/// Tells whether one of the names has this text.
+pub fn has(names: &[&Ident], text: &str) -> bool
+    ensures { result ≡ has (names_at names.now) text.now }
+{
+    for name in names {
+        if name.0.as_str() == text {
+            return true;
+        }
+    }
+    false
+}
+
+/// Tells whether a name begins with `_`.
+pub fn is_private(text: &str) -> bool
+    ensures { result ≡ is_private text.now }
+{
+    match text.as_bytes() {
+        [first, ..] => *first == b'_',
+        [] => false,
+    }
+}
+
+/// Gives the names whose text one of the earlier names has, or one that stands before.
+pub fn repeated<'a>(
+    alloc: Global,
+    earlier: &[&'a Ident],
+    names: &[&'a Ident],
+) -> Result<Vec<&'a Ident>, AllocError>
+    ensures { IfOk result (λ found. names_at found.items
+        ≡ repeated (names_at earlier.now) (names_at names.now)) }
+{
+    let mut seen = texts(alloc, earlier)?;
+    add_repeated(alloc, &mut seen, names)
+}
+
+/// Gives the names whose text none of the others has.
+pub fn absent<'a>(
+    alloc: Global,
+    others: &[&'a Ident],
+    names: &[&'a Ident],
+) -> Result<Vec<&'a Ident>, AllocError>
+    ensures { IfOk result (λ found. names_at found.items
+        ≡ absent (names_at others.now) (names_at names.now)) }
+{
+    let seen = texts(alloc, others)?;
+    let mut found = Vec::new(alloc);
+    for name in names {
+        let is_seen = is_seen(&seen, name);
+        add_if(!is_seen, name, &mut found)?;
+    }
+    Ok(found)
+}
+
+/// Gives the texts of names.
+fn texts<'a>(alloc: Global, names: &[&'a Ident]) -> Result<BTreeSet<&'a str>, AllocError>
+    ensures { IfOk result (λ seen. Knows seen (names_at names.now)) }
+{
+    let mut seen = BTreeSet::new(alloc);
+    for name in names {
+        put(&mut seen, name)?;
+    }
+    Ok(seen)
+}
+
+/// Tells whether one of the texts is that of the name.
+fn is_seen<'a>(seen: &BTreeSet<&'a str>, name: &'a Ident) -> bool
+    ensures { (names : List Name) → Knows seen.now names
+        → result ≡ has names (name_of name.now).text }
+{
+    seen.contains(&name.0.as_str())
+}
+
+/// Gives the names that are seen already, or that stand after an equal one.
+fn add_repeated<'a>(
+    alloc: Global,
+    seen: &mut BTreeSet<&'a str>,
+    names: &[&'a Ident],
+) -> Result<Vec<&'a Ident>, AllocError>
+    ensures { IfOk result (λ found. (earlier : List Name) → Knows seen.old earlier
+        → names_at found.items ≡ repeated earlier (names_at names.now)) }
+{
+    let mut found = Vec::new(alloc);
+    for name in names {
+        let is_new = put(seen, name)?;
+        add_if(!is_new, name, &mut found)?;
+    }
+    Ok(found)
+}
+
+/// Puts a name to those that are seen, and tells whether it is a new one.
+fn put<'a>(seen: &mut BTreeSet<&'a str>, name: &'a Ident) -> Result<bool, AllocError>
+    ensures new { IfOk result (λ new. (names : List Name) → Knows seen.old names
+        → new ≡ not (has names (name_of name.now).text)) }
+    ensures known { OnOk result ((names : List Name) → Knows seen.old names
+        → Knows seen.new (name_of name.now ∷ names)) }
+{
+    Ok(seen.insert(name.0.as_str())?)
+}

@@ -1,0 +1,315 @@
+//! The variables of rules.
+
+ghost use Rattle.std.specs.Prelude.{◌≡◌, ◌++◌, IfOk, OnOk, count_by, ◌==◌};
+ghost use Rattle.std.specs.List.{flat_map};
+ghost use Rattle.std.specs.Str.{bytes_eq};
+ghost use Rattle.isle_ast.specs.TreeView.{definition_of, definitions_of};
+ghost use Rattle.isle_ast_names.specs.TreeView.{name_of, names_of};
+ghost use Rattle.isle_ast_rules.specs.TreeView.{conditions_of, expression_of, extractor_of};
+ghost use Rattle.isle_ast_rules.specs.TreeView.{pattern_of, rule_of};
+ghost use Rattle.isle_lint_core.specs.Findings.{asked_of, of_rule, of_rules};
+ghost use Rattle.isle_lint_core.specs.Names.{has, names_at};
+ghost use Rattle.isle_lint_core.specs.Shadowed.{conditions_shadowed, shadowed_variables};
+ghost use Rattle.isle_lint_core.specs.Unknown.{conditions_unknown, unknown_variables};
+ghost use Rattle.isle_lint_core.specs.Unused.{conditions_idle, idle, is_idle, rule_idle};
+ghost use Rattle.isle_lint_core.specs.Unused.{unused, unused_lets};
+ghost use Rattle.isle_lint_core.specs.Uses.{uses_after};
+ghost use Rattle.isle_lint_core.specs.Variables.{condition_variables, own_variables};
+ghost use Rattle.isle_lint_core.specs.Variables.{template_variables, variables};
+
+use crate::expressions::{add_shadowed, add_unknown, add_unused, uses};
+use crate::names::{add_if, has};
+use crate::patterns::{ALL, Wanted, add_variables, rule_variables, variables};
+use isle_ast::ast::{Def, Expr, Extractor, Ident, IfLet, Pattern, Rule};
+use std::alloc::{AllocError, Global};
+
+/// Which variables of rules are asked for.
+#[derive(Clone, Copy)]
+pub enum Asked {
+    /// Those that a `let` binds and nothing uses.
+    UnusedLets,
+    /// Those that an expression uses and nothing binds before.
+    UnknownVariables,
+    /// Those in front of an `@` that nothing uses.
+    UnusedBindings,
+    /// Those that stand alone in a pattern and that nothing uses.
+    UnusedPatternVariables,
+    /// Those that a `let` binds, and that are bound already.
+    ShadowedVariables,
+}
+
+/// The variables in front of an `@`.
+const BINDINGS: Wanted = Wanted {
+    alone: false,
+    bindings: true,
+};
+
+/// The variables that stand alone.
+const ALONE: Wanted = Wanted {
+    alone: true,
+    bindings: false,
+};
+
+/// Gives the variables of rules that are asked for.
+pub fn found_in<'a>(
+    alloc: Global,
+    defs: &'a [Def],
+    asked: Asked,
+) -> Result<Vec<&'a Ident>, AllocError>
+    ensures { IfOk result (λ found. names_at found.items
+        ≡ of_rules (asked_of asked (template_variables (definitions_of defs.now)))
+        (definitions_of defs.now)) }
+{
+    let outer = template_variables(alloc, defs)?;
+    let mut found = Vec::new(alloc);
+    for def in defs {
+        if let Def::Rule(rule) = def {
+            add_found(alloc, rule, &outer, asked, &mut found)?;
+        }
+    }
+    Ok(found)
+}
+
+/// Adds those of one rule, where these names are bound around it.
+fn add_found<'a>(
+    alloc: Global,
+    rule: &'a Rule,
+    outer: &[&'a Ident],
+    asked: Asked,
+    found: &mut Vec<&'a Ident>,
+) -> Result<(), AllocError>
+    ensures { OnOk result (names_at found.new.items
+        ≡ names_at found.old.items ++ asked_of asked (names_at outer.now) (rule_of rule.now)) }
+{
+    match asked {
+        Asked::UnusedLets => add_unused_lets(rule, found),
+        Asked::UnknownVariables => add_unknown_variables(alloc, rule, outer, found),
+        Asked::UnusedBindings => add_rule_idle(alloc, rule, BINDINGS, found),
+        Asked::UnusedPatternVariables => add_rule_idle(alloc, rule, ALONE, found),
+        Asked::ShadowedVariables => add_shadowed_variables(alloc, rule, found),
+    }
+}
+
+/// Gives the variables that the templates of extractors bind.
+fn template_variables(alloc: Global, defs: &[Def]) -> Result<Vec<&Ident>, AllocError>
+    ensures { IfOk result
+        (λ names. names_at names.items ≡ template_variables (definitions_of defs.now)) }
+{
+    let mut names = Vec::new(alloc);
+    for def in defs {
+        if let Def::Extractor(extractor) = def {
+            add_own_variables(alloc, extractor, &mut names)?;
+        }
+    }
+    Ok(names)
+}
+
+/// Adds the variables of an extractor's template that are none of its parameters.
+fn add_own_variables<'a>(
+    alloc: Global,
+    extractor: &'a Extractor,
+    names: &mut Vec<&'a Ident>,
+) -> Result<(), AllocError>
+    ensures { OnOk result (names_at names.new.items
+        ≡ names_at names.old.items ++ own_variables (extractor_of extractor.now)) }
+{
+    for name in &variables(alloc, &extractor.template, ALL)? {
+        let is_parameter = is_parameter(&extractor.args, name.0.as_str());
+        add_if(!is_parameter, name, names)?;
+    }
+    Ok(())
+}
+
+/// Tells whether one of the parameters has this text.
+fn is_parameter(parameters: &[Ident], text: &str) -> bool
+    ensures { result ≡ has (names_of parameters.now) text.now }
+{
+    for parameter in parameters {
+        if parameter.0.as_str() == text {
+            return true;
+        }
+    }
+    false
+}
+
+/// Adds the variables of the rule's patterns that are wanted and that nothing uses.
+fn add_rule_idle<'a>(
+    alloc: Global,
+    rule: &'a Rule,
+    wanted: Wanted,
+    found: &mut Vec<&'a Ident>,
+) -> Result<(), AllocError>
+    ensures { OnOk result (names_at found.new.items
+        ≡ names_at found.old.items ++ rule_idle wanted (rule_of rule.now)) }
+{
+    let written = rule_variables(alloc, rule)?;
+    let own = variables(alloc, &rule.pattern, wanted)?;
+    add_idle(&written, &own, &rule.iflets, &rule.expr, found)?;
+    add_conditions_idle(alloc, &written, wanted, &rule.iflets, &rule.expr, found)
+}
+
+/// Adds the variables of the conditions' patterns that are wanted and that nothing uses.
+fn add_conditions_idle<'a>(
+    alloc: Global,
+    written: &[&Ident],
+    wanted: Wanted,
+    conditions: &'a [IfLet],
+    expr: &Expr,
+    found: &mut Vec<&'a Ident>,
+) -> Result<(), AllocError>
+    ensures { OnOk result (names_at found.new.items ≡ names_at found.old.items
+        ++ conditions_idle wanted (names_at written.now) (conditions_of conditions.now)
+        (expression_of expr.now)) }
+{
+    for (i, condition) in conditions.iter().enumerate() {
+        let own = variables(alloc, &condition.pattern, wanted)?;
+        add_idle(written, &own, &conditions[i + 1..], expr, found)?;
+    }
+    Ok(())
+}
+
+/// Adds those of a pattern's own variables that are written once in the rule's patterns and that no
+/// expression after the pattern uses.
+fn add_idle<'a>(
+    written: &[&Ident],
+    own: &[&'a Ident],
+    after: &[IfLet],
+    expr: &Expr,
+    found: &mut Vec<&'a Ident>,
+) -> Result<(), AllocError>
+    ensures { OnOk result (names_at found.new.items ≡ names_at found.old.items
+        ++ idle (names_at written.now) (names_at own.now)
+        (uses_after (conditions_of after.now) (expression_of expr.now))) }
+{
+    for name in own {
+        let is_idle = is_idle(written, after, expr, name.0.as_str());
+        add_if(is_idle, name, found)?;
+    }
+    Ok(())
+}
+
+/// Tells whether a variable is written once in the rule's patterns, and no expression after its
+/// pattern uses it.
+fn is_idle(written: &[&Ident], after: &[IfLet], expr: &Expr, name: &str) -> bool
+    ensures { result ≡ is_idle (names_at written.now)
+        (uses_after (conditions_of after.now) (expression_of expr.now)) name.now }
+{
+    is_single(written, name) && !uses_after(after, expr, name)
+}
+
+/// Tells whether a name is written once.
+fn is_single(written: &[&Ident], text: &str) -> bool
+    ensures { result
+        ≡ (count_by (λ name. bytes_eq name.text text.now) (names_at written.now) == 1) }
+{
+    written
+        .iter()
+        .filter(|name| name.0.as_str() == text)
+        .count()
+        == 1
+}
+
+/// Tells whether the expression of one of the conditions, or the expression, uses a variable.
+fn uses_after(after: &[IfLet], expr: &Expr, name: &str) -> bool
+    ensures { result ≡ uses_after (conditions_of after.now) (expression_of expr.now) name.now }
+{
+    for condition in after {
+        if uses(&condition.expr, name) {
+            return true;
+        }
+    }
+    uses(expr, name)
+}
+
+/// Adds the variables that a `let` of the rule binds and nothing uses.
+fn add_unused_lets<'a>(rule: &'a Rule, found: &mut Vec<&'a Ident>) -> Result<(), AllocError>
+    ensures { OnOk result (names_at found.new.items
+        ≡ names_at found.old.items ++ unused_lets (rule_of rule.now)) }
+{
+    add_conditions_unused(&rule.iflets, found)?;
+    add_unused(&rule.expr, found)
+}
+
+/// Adds the variables that a `let` of the conditions binds and nothing uses.
+fn add_conditions_unused<'a>(
+    conditions: &'a [IfLet],
+    found: &mut Vec<&'a Ident>,
+) -> Result<(), AllocError>
+    ensures { OnOk result (names_at found.new.items
+        ≡ names_at found.old.items
+        ++ flat_map (λ c. unused c.expr) (conditions_of conditions.now)) }
+{
+    for condition in conditions {
+        add_unused(&condition.expr, found)?;
+    }
+    Ok(())
+}
+
+/// Adds the variables that an expression of the rule uses and nothing binds before, where these
+/// names are bound around the rule.
+fn add_unknown_variables<'a>(
+    alloc: Global,
+    rule: &'a Rule,
+    outer: &[&'a Ident],
+    found: &mut Vec<&'a Ident>,
+) -> Result<(), AllocError>
+    ensures { OnOk result (names_at found.new.items ≡ names_at found.old.items
+        ++ unknown_variables (names_at outer.now) (rule_of rule.now)) }
+{
+    let mut bound = variables(alloc, &rule.pattern, ALL)?;
+    bound.extend_from_slice(outer)?;
+    add_conditions_unknown(&rule.iflets, &mut bound, found)?;
+    add_unknown(&rule.expr, &mut bound, found)
+}
+
+/// Adds the variables that the expressions of conditions use and nothing binds before, and binds
+/// those of their patterns.
+fn add_conditions_unknown<'a>(
+    conditions: &'a [IfLet],
+    bound: &mut Vec<&'a Ident>,
+    found: &mut Vec<&'a Ident>,
+) -> Result<(), AllocError>
+    ensures added { OnOk result (names_at found.new.items ≡ names_at found.old.items
+        ++ conditions_unknown (conditions_of conditions.now) (names_at bound.old.items)) }
+    ensures bound { OnOk result (names_at bound.new.items
+        ≡ names_at bound.old.items ++ condition_variables (conditions_of conditions.now)) }
+{
+    for condition in conditions {
+        add_unknown(&condition.expr, bound, found)?;
+        add_variables(&condition.pattern, ALL, bound)?;
+    }
+    Ok(())
+}
+
+/// Adds the variables that a `let` of the rule binds, and that are bound already.
+fn add_shadowed_variables<'a>(
+    alloc: Global,
+    rule: &'a Rule,
+    found: &mut Vec<&'a Ident>,
+) -> Result<(), AllocError>
+    ensures { OnOk result (names_at found.new.items
+        ≡ names_at found.old.items ++ shadowed_variables (rule_of rule.now)) }
+{
+    let mut bound = variables(alloc, &rule.pattern, ALL)?;
+    add_conditions_shadowed(&rule.iflets, &mut bound, found)?;
+    add_shadowed(&rule.expr, &mut bound, found)
+}
+
+/// Adds the variables that a `let` of the conditions binds and that are bound already, and binds
+/// those of their patterns.
+fn add_conditions_shadowed<'a>(
+    conditions: &'a [IfLet],
+    bound: &mut Vec<&'a Ident>,
+    found: &mut Vec<&'a Ident>,
+) -> Result<(), AllocError>
+    ensures added { OnOk result (names_at found.new.items ≡ names_at found.old.items
+        ++ conditions_shadowed (conditions_of conditions.now) (names_at bound.old.items)) }
+    ensures bound { OnOk result (names_at bound.new.items
+        ≡ names_at bound.old.items ++ condition_variables (conditions_of conditions.now)) }
+{
+    for condition in conditions {
+        add_shadowed(&condition.expr, bound, found)?;
+        add_variables(&condition.pattern, ALL, bound)?;
+    }
+    Ok(())
+}

@@ -1,0 +1,12 @@
+use Rattle.std.proofs.Common.{◌≡◌, take}
+use Rattle.std.specs.List.{flat_map}
+use Rattle.isle_index.specs.Names.{named_of}
+use Rattle.isle_lsp_features.specs.Renamed.{range_in}
+use Rattle.isle_lsp_text.specs.Positions.{IsPlace}
+use Rattle.isle_lsp_features.proofs.renaming.ranges_in.Given as goal
+
+abbrev pub invariant-loop-pos : goal.invariant-loop-pos
+invariant-loop-pos l = record {
+  so_far : l.ranges.items ≡ flat_map (range_in l.number l.text (named_of l.name)) (take l.pos-index l.places);
+  near : IsPlace l.text l.near;
+}

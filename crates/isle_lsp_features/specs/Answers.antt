@@ -1,0 +1,127 @@
+-- What a request about the names of a program gets.
+use Rattle.std.specs.Prelude.{◌≡◌, ◌<◌, ◌⊎◌, ℕ, List, Option, None, Some, Result, Ok, Err, codes}
+use Rattle.std.specs.Global.{Vec}
+use Rattle.serde_json.specs.Data.{Data, null}
+use Rattle.serde_json.specs.View.{view}
+use Rattle.isle_base_source.specs.Source.{Source}
+use Rattle.isle_base_source.specs.declared.pos.Pos.{Pos}
+use Rattle.isle_index.specs.Names.{NameNode}
+use Rattle.isle_index.specs.Occurrences.{name_at, occurrence_at}
+use Rattle.isle_index.specs.Renaming as renaming
+use Rattle.isle_index.specs.declared.rename.Refusal.{Refusal}
+use Rattle.isle_index.specs.Scopes.{SeenNode, seen}
+use Rattle.isle_index.specs.Symbols.{symbols}
+use Rattle.isle_resolve.specs.Events.{events}
+use Rattle.isle_lsp_machine.specs.declared.Request as requests
+use Rattle.isle_lsp_machine.specs.declared.Request.TheVariants.{Definition as AskDefinition, References, DocumentHighlight, DocumentSymbol, WorkspaceSymbol, Hover, Completion, ResolveCompletion, PrepareRename, Rename}
+use Rattle.isle_lsp_messages.specs.Items.{items_data, listing_data}
+use Rattle.isle_lsp_messages.specs.declared.items.Item.{Item}
+use Rattle.isle_lsp_messages.specs.Parameters.{item_of, new_name_of, query_of, wants_definitions}
+use Rattle.isle_lsp_features.specs.Gathered.{AreParts, Part, all_known, refused_count}
+use Rattle.isle_lsp_features.specs.Located.{AreHighlights, AreReferences, IsDefinition}
+use Rattle.isle_lsp_features.specs.Completed.{AreCompletions, item_name}
+use Rattle.isle_lsp_features.specs.Defined.{AreDocumentSymbols, letters_of, workspace_symbols}
+use Rattle.isle_lsp_features.specs.Shown.{IsHover, IsResolved}
+use Rattle.isle_lsp_features.specs.Renamed as renamed
+use Rattle.isle_lsp_features.specs.Places.{File, Place, file_in, place_in}
+use Rattle.isle_lsp_features.specs.declared.Told.{Told as CodeAnswer}
+use Rattle.isle_lsp_features.specs.declared.Told.TheVariants as codes_of
+
+pub data Answer : Type 0 where
+  found : Data → Answer
+  unplaced : Answer
+  refused : List ℕ → Answer
+
+abbrev pub answer_of : CodeAnswer → Answer
+answer_of (codes_of.Found value) = found (view value)
+answer_of (codes_of.Listed listing) = found (listing_data listing)
+answer_of codes_of.Unplaced = unplaced
+answer_of (codes_of.Refused reason) = refused reason.now
+
+-- a list; null of none
+abbrev pub list_data : Option (Vec Item) → Data
+list_data None = null
+list_data (Some items) = items_data items.items
+
+abbrev pub listed : Option (Vec Item) → Answer
+listed items = found (list_data items)
+
+-- a request to change a name, or whether it can be changed
+abbrev pub Renames : requests.Request → Type 0
+Renames request = (request ≡ Rename) ⊎ (request ≡ PrepareRename)
+
+-- These are all events of what is known of the program's texts, and where a name is to be changed each of them spells a tree.
+pub record IsIndex (program : List Source) (request : requests.Request) (all : List SeenNode) : Type 0 where
+  pub parts : List Part
+  pub read : AreParts 0 program parts
+  pub seen : all ≡ seen (events (all_known parts))
+  pub whole : Renames request → refused_count parts ≡ 0
+
+-- what is found at a place
+abbrev pub FindsAt : requests.Request → List Source → List SeenNode → Place → Data → Data → Type 0
+FindsAt AskDefinition program all p message d = IsDefinition program (name_at p.pos all) all d
+FindsAt References program all p message d = AreReferences program (wants_definitions message) (name_at p.pos all) all d
+FindsAt DocumentHighlight program all p message d = AreHighlights p.pos.file p.text (name_at p.pos all) all d
+FindsAt PrepareRename program all p message d = d ≡ renamed.prepared p.text (name_at p.pos all) (occurrence_at p.pos all)
+FindsAt Hover program all p message d = IsHover program p.text (name_at p.pos all) (occurrence_at p.pos all) all d
+FindsAt Completion program all p message d = AreCompletions p.pos p.text all d
+FindsAt _ program all p message d = Unit {0}
+
+-- what changing a name gets, by what the index answers
+abbrev pub IsRenamingBy : List Source → NameNode → List ℕ → Result (Vec Pos) Refusal → Answer → Type 0
+IsRenamingBy program name new (Ok places) a = a ≡ found (renamed.changes program name new places.items)
+IsRenamingBy program name new (Err why) a = a ≡ refused (renamed.reason_of why)
+
+abbrev pub IsRenaming : List Source → List SeenNode → NameNode → List ℕ → Answer → Type 0
+IsRenaming program all name new a = (answer : Result (Vec Pos) Refusal) × renaming.IsAnswer name new all answer × IsRenamingBy program name new answer a
+
+abbrev pub IsRenamingOf : List Source → List SeenNode → (name : Option NameNode) → (new : Option (List ℕ)) → Answer → Type 0
+IsRenamingOf program all name None a = a ≡ unplaced
+IsRenamingOf program all None (Some new) a = a ≡ refused (codes "there is no name to change")
+IsRenamingOf program all (Some name) (Some new) a = IsRenaming program all name new a
+
+abbrev pub IsRenamingAt : List Source → List SeenNode → Option Place → Data → Answer → Type 0
+IsRenamingAt program all None message a = a ≡ unplaced
+IsRenamingAt program all (Some p) message a = IsRenamingOf program all (name_at p.pos all) (new_name_of message) a
+
+-- what a request about a place gets
+abbrev pub IsAnswerAt : requests.Request → List Source → List SeenNode → Place → Data → Answer → Type 0
+IsAnswerAt request program all p message a = (d : Data) × FindsAt request program all p message d × (a ≡ found d)
+
+abbrev pub IsFoundAt : requests.Request → List Source → List SeenNode → Option Place → Data → Answer → Type 0
+IsFoundAt request program all None message a = a ≡ unplaced
+IsFoundAt request program all (Some p) message a = IsAnswerAt request program all p message a
+
+abbrev pub AreSymbols : List SeenNode → Option File → Answer → Type 0
+AreSymbols all None a = a ≡ unplaced
+AreSymbols all (Some f) a = (d : Data) × AreDocumentSymbols f.text (symbols f.number all) d × (a ≡ found d)
+
+abbrev pub IsResolution : List Source → List SeenNode → (item : Option Data) → Answer → Type 0
+IsResolution program all None a = a ≡ unplaced
+IsResolution program all (Some item) a = (d : Data) × IsResolved program all (item_name item) item d × (a ≡ found d)
+
+-- what a request about these events gets
+abbrev pub IsAnswerOf : requests.Request → List Source → List SeenNode → Data → Answer → Type 0
+IsAnswerOf DocumentSymbol program all message a = AreSymbols all (file_in message program) a
+IsAnswerOf AskDefinition program all message a = IsFoundAt AskDefinition program all (place_in message program) message a
+IsAnswerOf References program all message a = IsFoundAt References program all (place_in message program) message a
+IsAnswerOf DocumentHighlight program all message a = IsFoundAt DocumentHighlight program all (place_in message program) message a
+IsAnswerOf PrepareRename program all message a = IsFoundAt PrepareRename program all (place_in message program) message a
+IsAnswerOf Rename program all message a = IsRenamingAt program all (place_in message program) message a
+IsAnswerOf Hover program all message a = IsFoundAt Hover program all (place_in message program) message a
+IsAnswerOf Completion program all message a = IsFoundAt Completion program all (place_in message program) message a
+IsAnswerOf ResolveCompletion program all message a = IsResolution program all (item_of message) a
+IsAnswerOf WorkspaceSymbol program all message a = a ≡ found (workspace_symbols (letters_of (query_of message)) program all)
+IsAnswerOf _ program all message a = Unit {0}
+
+-- no name is changed while a text of the program spells no tree
+pub record IsHeld (program : List Source) (request : requests.Request) (a : Answer) : Type 0 where
+  pub parts : List Part
+  pub read : AreParts 0 program parts
+  pub some : 0 < refused_count parts
+  pub rename : Renames request
+  pub is : a ≡ refused (codes "a text of the program spells no tree")
+
+-- what a request about the names of a program gets
+abbrev pub IsAnswer : requests.Request → List Source → Data → Answer → Type 0
+IsAnswer request program message a = IsHeld program request a ⊎ ((all : List SeenNode) × IsIndex program request all × IsAnswerOf request program all message a)

@@ -1,0 +1,68 @@
+//! The index of a program, from its texts.
+
+ghost use Rattle.std.specs.Prelude.{◌≡◌, IfErr, IfOk, map};
+ghost use Rattle.isle_lsp_features.specs.Programs.{source_of};
+ghost use Rattle.isle_cli.specs.declared.failure.Failure.TheVariants.{Memory};
+ghost use Rattle.isle_lsp_features.specs.Gathered.{AddsDefinitions, AddsText, IsGathered};
+
+use crate::Text;
+use isle_base::lexer::{Fault, Lexer};
+use isle_cli::failure::Failure;
+use isle_index::Index;
+use isle_parser::dropping::drop_definition;
+use isle_parser::parser::Parser;
+use std::alloc::Global;
+use std::slice;
+
+/// The index of a program.
+#[derive(Drop)]
+pub struct Gathered {
+    /// The index of what is known of the texts.
+    pub index: Index,
+    /// How many texts spell no tree.
+    pub refused: usize,
+}
+
+/// Makes the index of a program: of the trees that its texts spell, and, of a text that spells
+/// none, of the definitions that it begins with, but for one right in front of what does not lex.
+/// One definition is held at a time. It fails only with `Memory`.
+pub fn gather(alloc: Global, program: &[Text]) -> Result<Gathered, Failure>
+    ensures ok { IfOk result (λ all.
+        IsGathered (map source_of program.now) all.index all.refused) }
+    ensures err { IfErr result (λ failure. failure ≡ Memory) }
+{
+    let mut index = Index::new(alloc);
+    let mut refused = 0;
+    for (file, source) in program.iter().enumerate() {
+        if !add_text(alloc, file, source.text, &mut index)? {
+            refused += 1;
+        }
+    }
+    Ok(Gathered { index, refused })
+}
+
+/// Adds what is known of a text, and tells whether it spells a tree.
+fn add_text(alloc: Global, file: usize, text: &str, index: &mut Index) -> Result<bool, Failure>
+    ensures ok { IfOk result (AddsText file text.now index.old index.new) }
+    ensures err { IfErr result (λ failure. failure ≡ Memory) }
+{
+    match add_definitions(alloc, file, text, index) {
+        Ok(()) => Ok(true),
+        Err(Fault::Error(_)) => Ok(false),
+        Err(Fault::Failed | Fault::Memory) => Err(Failure::Memory),
+    }
+}
+
+/// Adds the definitions that a text begins with, one after another, up to the first place where it
+/// is refused.
+fn add_definitions(alloc: Global, file: usize, text: &str, index: &mut Index) -> Result<(), Fault>
+    ensures { AddsDefinitions file text.now index.old index.new result }
+{
+    let mut parser = Parser::new(Lexer::new(alloc, file, text)?);
+    while let Some(def) = parser.next_def(alloc)? {
+        let added = index.add(alloc, slice::from_ref(&def));
+        drop_definition(def);
+        added?;
+    }
+    Ok(())
+}

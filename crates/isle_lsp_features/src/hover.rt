@@ -1,0 +1,171 @@
+//! What a name is, as it is written: for hover, and for completions.
+
+ghost use Rattle.std.specs.Prelude.{◌≡◌, IfOk, Some, map, option_map, slice_get, string_bytes};
+ghost use Rattle.serde_json.specs.View.{view};
+ghost use Rattle.isle_lsp_features.specs.Programs.{source_of};
+ghost use Rattle.isle_index.specs.Names.{named_of};
+ghost use Rattle.isle_index.specs.Occurrences.{name_at, occurrence_at};
+ghost use Rattle.isle_index.specs.Held.{all_in};
+ghost use Rattle.isle_lsp_features.specs.Completed.{item_name};
+ghost use Rattle.isle_lsp_features.specs.Shown as wanted;
+ghost use Rattle.isle_lsp_features.specs.Shown.{IsCut, IsFirstShown, IsHover, IsResolved, IsShown};
+ghost use Rattle.isle_lsp_features.specs.Shown.{IsShownOf};
+
+use crate::Text;
+use crate::completion::item_name;
+use crate::places::{Place, range_at};
+use crate::wholes::whole_of;
+use isle_index::{Index, Name, Occurrence};
+use isle_lsp_messages::results::{documented, hover_value};
+use isle_lsp_text::comments::comments_start;
+use isle_lsp_text::lists::lists;
+use serde_json::Value;
+use std::alloc::{AllocError, Global};
+
+/// Gives the definition of the name at a place as it is written, with the line comments above it,
+/// or null where there is none.
+pub fn hover(
+    alloc: Global,
+    program: &[Text],
+    index: &Index,
+    place: Place,
+) -> Result<Value, AllocError>
+    ensures { let all = all_in index.now in IfOk result (λ value.
+        IsHover (map source_of program.now) place.entry.text.now (name_at place.entry.pos all)
+        (occurrence_at place.entry.pos all) all (view value)) }
+{
+    match (
+        index.name_at(alloc, place.pos)?,
+        index.occurrence_at(place.pos),
+    ) {
+        (Some(name), Some(occurrence)) => {
+            let shown = shown_of(alloc, program, index, &name)?;
+            hover_at(alloc, place.text, shown, occurrence)
+        }
+        _ => Ok(Value::Null),
+    }
+}
+
+/// Gives what is shown of a name, for where it occurs.
+fn hover_at(
+    alloc: Global,
+    text: &str,
+    shown: Option<String>,
+    occurrence: Occurrence,
+) -> Result<Value, AllocError>
+    ensures { IfOk result (λ value. view value
+        ≡ wanted.hover_data text.now (option_map string_bytes shown) occurrence) }
+{
+    match shown {
+        Some(shown) => {
+            let range = range_at(text, occurrence.pos.offset, occurrence.len);
+            hover_value(alloc, shown.as_str(), range)
+        }
+        None => Ok(Value::Null),
+    }
+}
+
+/// Gives an item of a completion with the definition of its name, as hover shows it, or as it is
+/// where there is none.
+pub fn resolved(
+    alloc: Global,
+    program: &[Text],
+    index: &Index,
+    item: &Value,
+) -> Result<Value, AllocError>
+    ensures { IfOk result (λ value. IsResolved (map source_of program.now) (all_in index.now)
+        (item_name (view item.now)) (view item.now) (view value)) }
+{
+    match item_name(alloc, item)? {
+        Some(name) => {
+            let shown = shown_of(alloc, program, index, &name)?;
+            resolved_with(alloc, item, shown)
+        }
+        None => item.clone(),
+    }
+}
+
+/// Gives an item of a completion with what is shown of its name, or as it is.
+fn resolved_with(alloc: Global, item: &Value, shown: Option<String>) -> Result<Value, AllocError>
+    ensures { IfOk result (λ value. view value
+        ≡ wanted.resolved_data (view item.now) (option_map string_bytes shown)) }
+{
+    match shown {
+        Some(shown) => documented(alloc, item, shown.as_str()),
+        None => item.clone(),
+    }
+}
+
+/// Makes what is shown of a name: its first definition. There is nothing of a name that the program
+/// does not define.
+fn shown_of(
+    alloc: Global,
+    program: &[Text],
+    index: &Index,
+    name: &Name,
+) -> Result<Option<String>, AllocError>
+    ensures { IfOk result (λ shown. IsShownOf (map source_of program.now)
+        (named_of name.now) (all_in index.now) (option_map string_bytes shown)) }
+{
+    let found = index.definitions(alloc, name)?;
+    match found.first() {
+        Some(definition) => shown_at(alloc, program, name, *definition),
+        None => Ok(None),
+    }
+}
+
+/// Makes what is shown of a definition, if its text is there.
+fn shown_at(
+    alloc: Global,
+    program: &[Text],
+    name: &Name,
+    definition: Occurrence,
+) -> Result<Option<String>, AllocError>
+    ensures { IfOk result (λ shown. IsFirstShown (map source_of program.now)
+        (named_of name.now) (Some definition) (option_map string_bytes shown)) }
+{
+    match source_at(program, definition.pos.file) {
+        Some(source) => {
+            let shown = shown_definition(alloc, source.text, name, definition)?;
+            Ok(Some(shown))
+        }
+        None => Ok(None),
+    }
+}
+
+/// Gives the text of a number, with its name.
+fn source_at<'a>(program: &'a [Text<'a>], file: usize) -> Option<&'a Text<'a>>
+    ensures { option_map (λ s. source_of s.now) result
+        ≡ slice_get (map source_of program.now) file }
+{
+    program.get(file)
+}
+
+/// Makes what is shown of a definition: its text, in a block, after the comments above it.
+fn shown_definition(
+    alloc: Global,
+    text: &str,
+    name: &Name,
+    definition: Occurrence,
+) -> Result<String, AllocError>
+    ensures { IfOk result
+        (λ shown. IsShown text.now (named_of name.now) definition (string_bytes shown)) }
+{
+    let lists = lists(alloc, text)?;
+    let is_variant = definition.len < name.text().len();
+    let offset = definition.pos.offset;
+    let whole = whole_of(text, &lists, is_variant, offset, definition.len);
+    let start = comments_start(alloc, text, whole.from)?;
+    let part = cut(text, start, whole.to);
+    format!(in alloc; "```isle\n{part}\n```")
+}
+
+/// Gives the text from an offset to another, where that cuts no character.
+fn cut(text: &str, from: usize, to: usize) -> &str
+    ensures { IsCut text.now from to result.now }
+{
+    match text.get(from..to) {
+        Some(part) => part,
+        None => "",
+    }
+}

@@ -1,0 +1,166 @@
+//! Where names stand.
+
+ghost use Rattle.std.specs.Prelude.{◌≡◌, ◌∷◌, [], IfOk, Some, map, option_map};
+ghost use Rattle.std.specs.Prelude.{option_to_list};
+ghost use Rattle.isle_lsp_features.specs.Programs.{source_of};
+ghost use Rattle.isle_index.specs.Occurrences.{name_at};
+ghost use Rattle.isle_index.specs.Held.{all_in};
+ghost use Rattle.isle_lsp_messages.specs.Items.{item_data, items_data};
+ghost use Rattle.isle_lsp_features.specs.Answers.{list_data};
+ghost use Rattle.isle_lsp_features.specs.Located as wanted;
+ghost use Rattle.isle_lsp_text.specs.Positions.{IsPlace};
+ghost use Rattle.isle_lsp_features.specs.Located.{AreHighlights, AreReferences, IsDefinition};
+
+use crate::Text;
+use crate::places::{Place, range_at, range_near};
+use isle_index::{Index, Occurrence};
+use isle_lsp_messages::items::Item;
+use isle_lsp_text::positions::{Place as TextPlace, START};
+use std::alloc::{AllocError, Global};
+
+/// Gives where the name at a place is defined, or `None` where there is no name.
+pub fn definition<'a>(
+    alloc: Global,
+    program: &[Text<'a>],
+    index: &Index,
+    place: Place,
+) -> Result<Option<Vec<Item<'a>>>, AllocError>
+    ensures { let all = all_in index.now in IfOk result (λ items. IsDefinition
+        (map source_of program.now) (name_at place.entry.pos all) all (list_data items)) }
+{
+    match index.name_at(alloc, place.pos)? {
+        Some(name) => {
+            let found = index.definitions(alloc, &name)?;
+            Ok(Some(locations(alloc, program, true, &found)?))
+        }
+        None => Ok(None),
+    }
+}
+
+/// Gives where the name at a place stands, with its definitions if all are asked for, or `None`
+/// where there is no name.
+pub fn references<'a>(
+    alloc: Global,
+    program: &[Text<'a>],
+    index: &Index,
+    place: Place,
+    with_definitions: bool,
+) -> Result<Option<Vec<Item<'a>>>, AllocError>
+    ensures { let all = all_in index.now in IfOk result (λ items.
+        AreReferences (map source_of program.now) with_definitions (name_at place.entry.pos all) all
+        (list_data items)) }
+{
+    match index.name_at(alloc, place.pos)? {
+        Some(name) => {
+            let found = index.occurrences(alloc, &name)?;
+            Ok(Some(locations(alloc, program, with_definitions, &found)?))
+        }
+        None => Ok(None),
+    }
+}
+
+/// Gives where the name at a place stands in its file, or `None` where there is no name.
+pub fn highlights<'a>(
+    alloc: Global,
+    index: &Index,
+    place: Place,
+) -> Result<Option<Vec<Item<'a>>>, AllocError>
+    ensures { let all = all_in index.now in IfOk result (λ items.
+        AreHighlights place.entry.pos.file place.entry.text.now (name_at place.entry.pos all) all
+        (list_data items)) }
+{
+    match index.name_at(alloc, place.pos)? {
+        Some(name) => {
+            let found = index.occurrences(alloc, &name)?;
+            Ok(Some(highlights_in(alloc, place.pos.file, place.text, &found)?))
+        }
+        None => Ok(None),
+    }
+}
+
+/// Gives the locations of occurrences, without definitions if they aren't wanted.
+fn locations<'a>(
+    alloc: Global,
+    program: &[Text<'a>],
+    with_definitions: bool,
+    found: &[Occurrence],
+) -> Result<Vec<Item<'a>>, AllocError>
+    ensures { IfOk result (λ items. items_data items.items
+        ≡ wanted.locations (map source_of program.now) with_definitions found.now) }
+{
+    let mut items = Vec::new(alloc);
+    for occurrence in found {
+        if let Some(item) = location_of(program, with_definitions, *occurrence) {
+            items.push(item)?;
+        }
+    }
+    Ok(items)
+}
+
+/// Gives the location of an occurrence, if it is wanted and its text is there.
+fn location_of<'a>(
+    program: &[Text<'a>],
+    with_definitions: bool,
+    occurrence: Occurrence,
+) -> Option<Item<'a>>
+    ensures { option_to_list (option_map item_data result)
+        ≡ wanted.location_of (map source_of program.now) with_definitions occurrence }
+{
+    if !with_definitions && occurrence.is_definition {
+        return None;
+    }
+    match program.get(occurrence.pos.file) {
+        Some(source) => Some(location_in(*source, occurrence)),
+        None => None,
+    }
+}
+
+/// Gives the location of an occurrence in its text.
+fn location_in<'a>(source: Text<'a>, occurrence: Occurrence) -> Item<'a>
+    ensures { item_data result ∷ []
+        ≡ wanted.location_in (Some (source_of source.entry)) occurrence }
+{
+    Item::Location {
+        uri: source.name,
+        range: range_at(source.text, occurrence.pos.offset, occurrence.len),
+    }
+}
+
+/// Gives the highlights of those occurrences that are in the text of this number.
+fn highlights_in<'a>(
+    alloc: Global,
+    file: usize,
+    text: &str,
+    found: &[Occurrence],
+) -> Result<Vec<Item<'a>>, AllocError>
+    ensures { IfOk result
+        (λ items. items_data items.items ≡ wanted.highlights file text.now found.now) }
+{
+    let mut items = Vec::new(alloc);
+    let mut near = START;
+    for occurrence in found {
+        if let Some(item) = highlight_of(file, text, &mut near, *occurrence) {
+            items.push(item)?;
+        }
+    }
+    Ok(items)
+}
+
+/// Gives the highlight of an occurrence, if it is in the text of this number.
+fn highlight_of<'a>(
+    file: usize,
+    text: &str,
+    near: &mut TextPlace,
+    occurrence: Occurrence,
+) -> Option<Item<'a>>
+    requires { IsPlace text.now near.old }
+    ensures item { option_to_list (option_map item_data result)
+        ≡ wanted.highlight_of file text.now occurrence }
+    ensures near { IsPlace text.now near.new }
+{
+    if occurrence.pos.file != file {
+        return None;
+    }
+    let range = range_near(text, near, occurrence.pos.offset, occurrence.len);
+    Some(Item::Highlight { range })
+}

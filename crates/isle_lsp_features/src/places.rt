@@ -1,0 +1,111 @@
+//! Places in the texts of a program.
+
+ghost use Rattle.std.specs.Prelude.{◌≡◌, map, option_map};
+ghost use Rattle.serde_json.specs.View.{view};
+ghost use Rattle.isle_lsp_features.specs.Programs.{source_of};
+ghost use Rattle.isle_lsp_features.specs.Places as wanted;
+ghost use Rattle.isle_lsp_text.specs.Positions.{IsPlace};
+
+use crate::Text;
+use isle_base::lexer::Pos;
+use isle_lsp_messages::parameters::{position_of, uri_of};
+use isle_lsp_text::positions::{Place as TextPlace, Range, START, offset_of, place_at};
+use serde_json::Value;
+
+/// A text of a program.
+#[derive(Clone, Copy, Debug)]
+pub struct File<'a> {
+    /// Its number.
+    pub number: usize,
+    /// The text.
+    pub text: &'a str,
+}
+
+/// A place in a program.
+#[derive(Clone, Copy, Debug)]
+pub struct Place<'a> {
+    /// The number of its text, and the byte offset.
+    pub pos: Pos,
+    /// The text.
+    pub text: &'a str,
+}
+
+/// Gives the text that a message speaks of.
+pub fn file_of<'a>(program: &[Text<'a>], message: &Value) -> Option<File<'a>>
+    ensures { option_map wanted.file_of result
+        ≡ wanted.file_in (view message.now) (map source_of program.now) }
+{
+    match uri_of(message) {
+        Some(uri) => file_named(program, uri),
+        None => None,
+    }
+}
+
+/// Gives the text of a name.
+fn file_named<'a>(program: &[Text<'a>], uri: &str) -> Option<File<'a>>
+    ensures { option_map wanted.file_of result
+        ≡ wanted.file_from 0 uri.now (map source_of program.now) }
+{
+    for (number, source) in program.iter().enumerate() {
+        if source.name == uri {
+            let text = source.text;
+            return Some(File { number, text });
+        }
+    }
+    None
+}
+
+/// Gives the place that a message speaks of.
+pub fn place_of<'a>(program: &[Text<'a>], message: &Value) -> Option<Place<'a>>
+    ensures { option_map wanted.place_of result
+        ≡ wanted.place_in (view message.now) (map source_of program.now) }
+{
+    match (file_of(program, message), position_of(message)) {
+        (Some(file), Some(position)) => Some(Place {
+            pos: Pos::new(file.number, offset_of(file.text, position)),
+            text: file.text,
+        }),
+        _ => None,
+    }
+}
+
+/// Gives the range of so many bytes of a text from an offset on, as far as the text goes.
+pub fn range_at(text: &str, offset: usize, len: usize) -> Range
+    ensures { result ≡ wanted.range_at text.now offset len }
+{
+    let mut near = START;
+    range_near(text, &mut near, offset, len)
+}
+
+/// Gives that range by a walk from a place nearby, which becomes the place where the range begins.
+pub fn range_near(text: &str, near: &mut TextPlace, offset: usize, len: usize) -> Range
+    requires { IsPlace text.now near.old }
+    ensures range { result ≡ wanted.range_at text.now offset len }
+    ensures near { IsPlace text.now near.new }
+{
+    let from = offset.min(text.len());
+    let left = text.len() - from;
+    let start = place_at(text, *near, from);
+    let end = place_at(text, start, from + len.min(left));
+    *near = start;
+    Range {
+        start: start.position,
+        end: end.position,
+    }
+}
+
+/// Gives the range from one offset of a text to another, as far as the text goes, by a walk from a
+/// place nearby, which becomes the place where the range begins.
+pub fn range_between(text: &str, near: &mut TextPlace, from: usize, to: usize) -> Range
+    requires { IsPlace text.now near.old }
+    ensures range { result ≡ wanted.range_between text.now from to }
+    ensures near { IsPlace text.now near.new }
+{
+    let start = place_at(text, *near, from);
+    let end = place_at(text, start, to);
+    *near = start;
+    Range {
+        start: start.position,
+        end: end.position,
+    }
+}

@@ -1,0 +1,205 @@
+//! The edits that change a name.
+
+ghost use Rattle.std.specs.Prelude.{◌≡◌, ◌≤◌, IfOk, Some, map, option_map, option_to_list};
+ghost use Rattle.serde_json.specs.View.{view};
+ghost use Rattle.std.specs.List.{flat_map};
+ghost use Rattle.isle_lsp_features.specs.Programs.{source_of};
+ghost use Rattle.isle_index.specs.Names.{named_of};
+ghost use Rattle.isle_index.specs.Occurrences.{name_at, occurrence_at};
+ghost use Rattle.isle_index.specs.Held.{all_in};
+ghost use Rattle.isle_lsp_features.specs.Answers.{IsRenaming, IsRenamingOf, answer_of};
+ghost use Rattle.isle_lsp_features.specs.Renamed as wanted;
+ghost use Rattle.isle_lsp_messages.specs.Items.{item_data, items_data};
+ghost use Rattle.isle_lsp_messages.specs.Parameters as parameters;
+ghost use Rattle.isle_lsp_messages.specs.Results.{workspace_edit};
+ghost use Rattle.isle_lsp_text.specs.Positions.{IsPlace};
+
+use crate::places::{Place, range_at, range_near};
+use crate::{Text, Told};
+use isle_base::lexer::Pos;
+use isle_index::{Index, Kind, Name, Occurrence, Refusal};
+use isle_lsp_messages::items::{Item, Listing};
+use isle_lsp_messages::parameters::new_name_of;
+use isle_lsp_messages::results::range_value;
+use isle_lsp_text::positions::{Place as TextPlace, Range, START};
+use serde_json::Value;
+use std::alloc::{AllocError, Global};
+
+/// Gives the range of the name at a place, or null where there is none.
+pub fn prepared(alloc: Global, index: &Index, place: Place) -> Result<Value, AllocError>
+    ensures { let all = all_in index.now in IfOk result (λ value. view value
+        ≡ wanted.prepared place.entry.text.now (name_at place.entry.pos all)
+        (occurrence_at place.entry.pos all)) }
+{
+    match index.name_at(alloc, place.pos)? {
+        Some(name) => prepared_name(alloc, place.text, &name, index.occurrence_at(place.pos)),
+        None => Ok(Value::Null),
+    }
+}
+
+/// Gives the range of a name where it is written, if it is.
+fn prepared_name(
+    alloc: Global,
+    text: &str,
+    name: &Name,
+    occurrence: Option<Occurrence>,
+) -> Result<Value, AllocError>
+    ensures { IfOk result (λ value. view value
+        ≡ wanted.prepared text.now (Some (named_of name.now)) occurrence) }
+{
+    match occurrence {
+        Some(occurrence) => {
+            let skipped = skipped(name);
+            let offset = occurrence.pos.offset.min(text.len()) + skipped;
+            let range = range_at(text, offset, occurrence.len.saturating_sub(skipped));
+            range_value(alloc, range)
+        }
+        None => Ok(Value::Null),
+    }
+}
+
+/// How many bytes stand before the text of a name where it is written: the `$` of a constant.
+fn skipped(name: &Name) -> usize
+    ensures few { result ≤ 1 }
+    ensures value { result ≡ wanted.skipped (named_of name.now) }
+{
+    match name {
+        Name::Global {
+            kind: Kind::Constant,
+            ..
+        } => 1,
+        _ => 0,
+    }
+}
+
+/// Gives the edits that change the name at a place, or says why it can't be changed.
+pub fn renamed<'a>(
+    alloc: Global,
+    program: &[Text<'a>],
+    index: &Index,
+    place: Place,
+    message: &Value,
+) -> Result<Told<'a>, AllocError>
+    ensures { let all = all_in index.now in IfOk result (λ answer. IsRenamingOf
+        (map source_of program.now) all (name_at place.entry.pos all)
+        (parameters.new_name_of (view message.now)) (answer_of answer)) }
+{
+    let Some(new) = new_name_of(message) else {
+        return Ok(Told::Unplaced);
+    };
+    match index.name_at(alloc, place.pos)? {
+        Some(name) => renamed_name(alloc, program, index, &name, new),
+        None => Ok(Told::Refused("there is no name to change")),
+    }
+}
+
+/// Gives the edits that change a name, or says why it can't be changed.
+fn renamed_name<'a>(
+    alloc: Global,
+    program: &[Text<'a>],
+    index: &Index,
+    name: &Name,
+    new: &str,
+) -> Result<Told<'a>, AllocError>
+    ensures { IfOk result (λ answer. IsRenaming (map source_of program.now)
+        (all_in index.now) (named_of name.now) new.now (answer_of answer)) }
+{
+    match index.rename(alloc, name, new)? {
+        Ok(places) => {
+            let changes = changes(alloc, program, name, new, &places)?;
+            Ok(Told::Listed(Listing::Changes(changes)))
+        }
+        Err(refusal) => Ok(Told::Refused(reason_of(refusal))),
+    }
+}
+
+/// Says why a name can't be changed.
+fn reason_of(refusal: Refusal) -> &'static str
+    ensures { result.now ≡ wanted.reason_of refusal }
+{
+    match refusal {
+        Refusal::NotAName => "the new name is not one of ISLE",
+        Refusal::Undefined => "the program does not define the name",
+        Refusal::Variant => "a variant can't be renamed",
+        Refusal::Taken => "the new name is taken",
+        Refusal::Captured => "the new name would be that of another variable",
+    }
+}
+
+/// Gives the edits at these places, text by text.
+fn changes<'a>(
+    alloc: Global,
+    program: &[Text<'a>],
+    name: &Name,
+    new: &str,
+    places: &[Pos],
+) -> Result<Vec<Item<'a>>, AllocError>
+    ensures { IfOk result (λ items. workspace_edit (items_data items.items)
+        ≡ wanted.changes (map source_of program.now) (named_of name.now) new.now places.now) }
+{
+    let mut items = Vec::new(alloc);
+    for (number, source) in program.iter().enumerate() {
+        if let Some(item) = change_in(alloc, number, *source, name, new, places)? {
+            items.push(item)?;
+        }
+    }
+    Ok(items)
+}
+
+/// Gives the edits of a text, if it has any.
+fn change_in<'a>(
+    alloc: Global,
+    number: usize,
+    source: Text<'a>,
+    name: &Name,
+    new: &str,
+    places: &[Pos],
+) -> Result<Option<Item<'a>>, AllocError>
+    ensures { IfOk result (λ item. option_to_list (option_map item_data item)
+        ≡ wanted.change_in number (source_of source.entry) (named_of name.now) new.now places.now) }
+{
+    let ranges = ranges_in(alloc, number, source.text, name, places)?;
+    if ranges.is_empty() {
+        return Ok(None);
+    }
+    Ok(Some(Item::Edits {
+        uri: source.name,
+        ranges,
+        text: String::from_str(alloc, new)?,
+    }))
+}
+
+/// Gives the ranges of the places in the text of this number.
+fn ranges_in(
+    alloc: Global,
+    number: usize,
+    text: &str,
+    name: &Name,
+    places: &[Pos],
+) -> Result<Vec<Range>, AllocError>
+    ensures { IfOk result (λ ranges. ranges.items
+        ≡ flat_map (wanted.range_in number text.now (named_of name.now)) places.now) }
+{
+    let mut ranges = Vec::new(alloc);
+    let mut near = START;
+    for pos in places {
+        if let Some(range) = range_in(number, text, &mut near, name, *pos) {
+            ranges.push(range)?;
+        }
+    }
+    Ok(ranges)
+}
+
+/// Gives the range of a place, if it is in the text of this number.
+fn range_in(number: usize, text: &str, near: &mut TextPlace, name: &Name, pos: Pos) -> Option<Range>
+    requires { IsPlace text.now near.old }
+    ensures range { option_to_list result
+        ≡ wanted.range_in number text.now (named_of name.now) pos }
+    ensures near { IsPlace text.now near.new }
+{
+    if pos.file != number {
+        return None;
+    }
+    let offset = pos.offset.min(text.len()) + skipped(name);
+    Some(range_near(text, near, offset, name.text().len()))
+}

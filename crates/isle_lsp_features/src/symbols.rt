@@ -1,0 +1,192 @@
+//! What files define.
+
+ghost use Rattle.std.specs.Prelude.{◌≡◌, ◌++◌, IfOk, OnOk, map, option_map, option_to_list};
+ghost use Rattle.std.specs.List.{flat_map};
+ghost use Rattle.serde_json.specs.Data.{array};
+ghost use Rattle.serde_json.specs.View.{items_of};
+ghost use Rattle.isle_lsp_features.specs.Programs.{source_of};
+ghost use Rattle.isle_index.specs.Held.{all_in};
+ghost use Rattle.isle_index.specs.Symbols.{symbol_of, symbols};
+ghost use Rattle.isle_lsp_messages.specs.Items.{item_data, items_data};
+ghost use Rattle.isle_lsp_features.specs.Defined as wanted;
+ghost use Rattle.isle_lsp_features.specs.Defined.{AreDocumentSymbols};
+ghost use Rattle.isle_lsp_text.specs.Positions.{IsPlace};
+
+use crate::Text;
+use crate::places::{File, range_between, range_near};
+use crate::wholes::whole_of;
+use isle_index::{Index, Symbol, SymbolKind};
+use isle_lsp_messages::items::Item;
+use isle_lsp_text::lists::{ListSpan, lists};
+use isle_lsp_text::positions::{Place as TextPlace, START};
+use std::alloc::{AllocError, Global};
+
+/// Gives what a text of a program defines, in order.
+pub fn document_symbols<'a>(
+    alloc: Global,
+    index: &Index,
+    file: File,
+) -> Result<Vec<Item<'a>>, AllocError>
+    ensures { IfOk result (λ items. AreDocumentSymbols file.entry.text.now
+        (symbols file.entry.number (all_in index.now)) (items_data items.items)) }
+{
+    let lists = lists(alloc, file.text)?;
+    let symbols = index.symbols(alloc, file.number)?;
+    symbol_items(alloc, file.text, &lists, &symbols)
+}
+
+/// Gives definitions.
+fn symbol_items<'a>(
+    alloc: Global,
+    text: &str,
+    lists: &[ListSpan],
+    symbols: &[Symbol],
+) -> Result<Vec<Item<'a>>, AllocError>
+    ensures { IfOk result (λ items. items_data items.items
+        ≡ array (items_of (map (wanted.symbol_data text.now lists.now)
+        (map symbol_of symbols.now)))) }
+{
+    let mut items = Vec::new(alloc);
+    let mut near = START;
+    for symbol in symbols {
+        let item = symbol_item(alloc, text, lists, &mut near, symbol)?;
+        items.push(item)?;
+    }
+    Ok(items)
+}
+
+/// Gives a definition.
+#[tactic(auto, unfolding(crate::specs::Defined::symbol_data))]
+fn symbol_item<'a>(
+    alloc: Global,
+    text: &str,
+    lists: &[ListSpan],
+    near: &mut TextPlace,
+    symbol: &Symbol,
+) -> Result<Item<'a>, AllocError>
+    requires { IsPlace text.now near.old }
+    ensures item { IfOk result
+        (λ item. item_data item ≡ wanted.symbol_data text.now lists.now (symbol_of symbol.now)) }
+    ensures near { IsPlace text.now near.new }
+{
+    let is_variant = is_variant(symbol.kind);
+    let whole = whole_of(text, lists, is_variant, symbol.pos.offset, symbol.len);
+    let range = range_between(text, near, whole.from, whole.to);
+    let selection = range_near(text, near, symbol.pos.offset, symbol.len);
+    Ok(Item::DocumentSymbol {
+        name: String::from_str(alloc, symbol.text.as_str())?,
+        kind: number_of(symbol.kind),
+        range,
+        selection,
+    })
+}
+
+/// Tells whether a symbol is a variant of a type.
+fn is_variant(kind: SymbolKind) -> bool
+    ensures { result ≡ wanted.is_variant kind }
+{
+    match kind {
+        SymbolKind::Variant => true,
+        SymbolKind::Term | SymbolKind::Type | SymbolKind::Constant | SymbolKind::Variable => false,
+    }
+}
+
+/// Gives what a program defines under names that have these letters, file by file.
+pub fn workspace_symbols<'a>(
+    alloc: Global,
+    program: &[Text<'a>],
+    index: &Index,
+    query: &str,
+) -> Result<Vec<Item<'a>>, AllocError>
+    ensures { IfOk result (λ items. items_data items.items ≡ wanted.workspace_symbols query.now
+        (map source_of program.now) (all_in index.now)) }
+{
+    let mut items = Vec::new(alloc);
+    for (file, source) in program.iter().enumerate() {
+        let symbols = index.symbols(alloc, file)?;
+        add_matching(alloc, *source, &symbols, query, &mut items)?;
+    }
+    Ok(items)
+}
+
+/// Adds the symbols of a file whose names have these letters.
+fn add_matching<'a>(
+    alloc: Global,
+    source: Text<'a>,
+    symbols: &[Symbol],
+    query: &str,
+    items: &mut Vec<Item<'a>>,
+) -> Result<(), AllocError>
+    ensures { OnOk result (map item_data items.new.items ≡ map item_data items.old.items
+        ++ flat_map (wanted.symbol_in query.now (source_of source.entry))
+        (map symbol_of symbols.now)) }
+{
+    let mut near = START;
+    for symbol in symbols {
+        if let Some(item) = matching(alloc, source, &mut near, symbol, query)? {
+            items.push(item)?;
+        }
+    }
+    Ok(())
+}
+
+/// Gives a symbol of a file, if its name has these letters.
+#[tactic(auto, unfolding(crate::specs::Defined::symbol_in))]
+fn matching<'a>(
+    alloc: Global,
+    source: Text<'a>,
+    near: &mut TextPlace,
+    symbol: &Symbol,
+    query: &str,
+) -> Result<Option<Item<'a>>, AllocError>
+    requires { IsPlace source.text.now near.old }
+    ensures item { IfOk result (λ item. option_to_list (option_map item_data item)
+        ≡ wanted.symbol_in query.now (source_of source.entry) (symbol_of symbol.now)) }
+    ensures near { IsPlace source.entry.text.now near.new }
+{
+    if !has_letters(symbol.text.as_str(), query) {
+        return Ok(None);
+    }
+    let range = range_near(source.text, near, symbol.pos.offset, symbol.len);
+    Ok(Some(Item::WorkspaceSymbol {
+        name: String::from_str(alloc, symbol.text.as_str())?,
+        kind: number_of(symbol.kind),
+        uri: source.name,
+        range,
+    }))
+}
+
+/// Tells whether the bytes of a query stand in a name one after the other, side by side or not.
+/// Capital and small letters of ASCII are the same.
+fn has_letters(name: &str, query: &str) -> bool
+    ensures { result ≡ wanted.has_letters query.now name.now }
+{
+    let mut letters = query.as_bytes();
+    for byte in name.as_bytes() {
+        letters = letters_left(letters, *byte);
+    }
+    letters.is_empty()
+}
+
+/// Gives the letters that are still to come after a byte of a name.
+fn letters_left(letters: &[u8], byte: u8) -> &[u8]
+    ensures { result.now ≡ wanted.letters_left letters.now byte }
+{
+    match letters.split_first() {
+        Some((first, rest)) if first.eq_ignore_ascii_case(&byte) => rest,
+        _ => letters,
+    }
+}
+
+/// Gives the protocol's number of a kind of symbol.
+fn number_of(kind: SymbolKind) -> usize
+    ensures { result ≡ wanted.number_of kind }
+{
+    match kind {
+        SymbolKind::Term => 12,
+        SymbolKind::Type => 23,
+        SymbolKind::Variant => 22,
+        SymbolKind::Constant => 14,
+        SymbolKind::Variable => 13,
+    }
+}

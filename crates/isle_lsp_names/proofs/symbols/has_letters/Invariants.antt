@@ -1,6 +1,0 @@
-use Rattle.std.proofs.Common.{◌≡◌, drop}
-use Rattle.isle_lsp_names.specs.Defined.{has_letters}
-use Rattle.isle_lsp_names.proofs.symbols.has_letters.Given as goal
-
-abbrev pub invariant-loop-byte : goal.invariant-loop-byte
-invariant-loop-byte l = has_letters l.letters (drop l.byte-index l.fn.name) ≡ has_letters l.fn.query l.fn.name

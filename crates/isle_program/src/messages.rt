@@ -1,0 +1,125 @@
+//! Lines that say something of a place in one of several texts, which are numbered from 0.
+
+ghost use Rattle.std.specs.Prelude.{◌≡◌, IfOk, map, option_map, slice_get, string_bytes};
+ghost use Rattle.isle_base_source.specs.Lines.{line_ends};
+ghost use Rattle.isle_cli.specs.Messages.{message_line};
+ghost use Rattle.isle_cli.specs.Sources.{source_of};
+ghost use Rattle.isle_program.specs.Messages.{line_at, line_of, refusal_line, refusal_lines};
+ghost use Rattle.isle_program.specs.Messages.{refusal_text, shown_offset};
+
+use isle_base::lexer::Pos;
+use isle_base_source::error::Error;
+use isle_base_source::files::LineMap;
+use isle_cli::messages::message_line;
+use isle_cli::sources::Source;
+use std::alloc::{AllocError, Global};
+
+/// Makes the lines of the texts that spell no tree: of each why, at its place, in order.
+pub fn refusal_lines(
+    alloc: Global,
+    sources: &[Source],
+    refusals: &[Option<Error>],
+) -> Result<String, AllocError>
+    ensures { IfOk result (λ lines. string_bytes lines
+        ≡ refusal_lines 0 (map source_of sources.now) refusals.now) }
+{
+    let mut lines = String::new(alloc);
+    for (file, source) in sources.iter().enumerate() {
+        let line = refusal_text(alloc, source, file, refusals)?;
+        lines.push_str(line.as_str())?;
+    }
+    Ok(lines)
+}
+
+/// Makes the line of the text of this number, if it spells no tree.
+fn refusal_text(
+    alloc: Global,
+    source: &Source,
+    file: usize,
+    refusals: &[Option<Error>],
+) -> Result<String, AllocError>
+    ensures { IfOk result (λ line. string_bytes line
+        ≡ refusal_text (source_of source.now) (slice_get refusals.now file)) }
+{
+    match refusals.get(file) {
+        Some(Some(error)) => {
+            let lines = LineMap::from_str(alloc, source.text.as_str())?;
+            refusal_line(alloc, source, &lines, error)
+        }
+        _ => Ok(String::new(alloc)),
+    }
+}
+
+/// Makes the line of a text that spells no tree, whose lines these are.
+pub fn refusal_line(
+    alloc: Global,
+    source: &Source,
+    lines: &LineMap,
+    error: &Error,
+) -> Result<String, AllocError>
+    requires { lines.now ≡ line_ends (string_bytes source.now.text) }
+    ensures { IfOk result (λ line. string_bytes line
+        ≡ refusal_line (source_of source.now) error.now) }
+{
+    match error {
+        Error::ParseError { msg, span } => {
+            let offset = span.from.offset;
+            place_line(alloc, source, lines, offset, "error", msg.as_str())
+        }
+        _ => Ok(String::new(alloc)),
+    }
+}
+
+/// Makes the line that says something of a position, in the text that has its file's number. It is
+/// empty where there is no such text.
+pub fn line_at(
+    alloc: Global,
+    sources: &[Source],
+    pos: Pos,
+    kind: &str,
+    message: &str,
+) -> Result<String, AllocError>
+    ensures { IfOk result (λ line. string_bytes line
+        ≡ line_at (map source_of sources.now) pos kind.now message.now) }
+{
+    line_of(alloc, sources.get(pos.file), pos.offset, kind, message)
+}
+
+/// Makes the line that says something of a place, if there is its text.
+fn line_of(
+    alloc: Global,
+    source: Option<&Source>,
+    offset: usize,
+    kind: &str,
+    message: &str,
+) -> Result<String, AllocError>
+    ensures { IfOk result (λ line. string_bytes line
+        ≡ line_of (option_map (λ s. source_of s.now) source.entry) offset kind.now message.now) }
+{
+    match source {
+        Some(source) => {
+            let lines = LineMap::from_str(alloc, source.text.as_str())?;
+            place_line(alloc, source, &lines, offset, kind, message)
+        }
+        None => Ok(String::new(alloc)),
+    }
+}
+
+/// Makes the line that says something of a place of a text, whose lines these are.
+pub fn place_line(
+    alloc: Global,
+    source: &Source,
+    lines: &LineMap,
+    offset: usize,
+    kind: &str,
+    message: &str,
+) -> Result<String, AllocError>
+    requires { lines.now ≡ line_ends (string_bytes source.now.text) }
+    ensures { IfOk result (λ line. string_bytes line
+        ≡ message_line (source_of source.now) (shown_offset offset) kind.now message.now) }
+{
+    let offset = offset.min(usize::MAX - 1);
+    let name = source.name.as_str();
+    let text = source.text.as_str();
+    message_line(alloc, name, text, lines, offset, kind, message)
+}

@@ -1,0 +1,5 @@
+use Rattle.isle_tidy_core.proofs.SameTokens.{tidied_tokens}
+use Rattle.isle_tidy_core.proofs.laws.same_tokens_stay.Goals as goal
+
+pub returns : goal.returns
+returns c = tidied_tokens

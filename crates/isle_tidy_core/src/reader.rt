@@ -1,0 +1,172 @@
+//! The next entry of a text.
+
+ghost use Rattle.std.specs.Prelude.{◌≡◌, ◌==◌, ◌+◌, ◌<◌, ◌≤◌, ◌^◌, IfSome, IsUtf8, drop, length};
+ghost use Rattle.std.specs.List.{prefix_len};
+ghost use Rattle.isle_base.specs.Skips.{is_blank};
+ghost use Rattle.isle_tidy_core.specs.Finds.{FindsBlanks, FindsCleanBlanks, FindsCleanGap};
+ghost use Rattle.isle_tidy_core.specs.Finds.{FindsEntry};
+ghost use Rattle.isle_tidy_core.specs.Sizes.{size_of};
+ghost use Rattle.isle_tidy_layout.specs.declared.entries.Gap.TheVariants.{Beside};
+
+use crate::gaps::gap_of;
+use crate::lexemes::lexeme_at;
+use isle_base::lexer::blank_end;
+use isle_tidy_layout::entries::{Entry, Gap};
+
+/// Blanks: the gap that they make, the offset after them, and whether they are known to be what is
+/// written of that gap.
+#[derive(Clone, Copy, Debug)]
+pub struct Blanks {
+    /// The gap.
+    pub gap: Gap,
+    /// The offset after them.
+    pub end: usize,
+    /// Whether they are known to be what is written of the gap.
+    pub are_clean: bool,
+}
+
+/// Where an entry stands.
+#[derive(Clone, Copy, Debug)]
+pub struct Span {
+    /// The offset of its lexeme.
+    pub start: usize,
+    /// The offset after it.
+    pub end: usize,
+    /// Whether the blanks before it are known to be what is written of its gap.
+    pub is_clean: bool,
+}
+
+/// What follows an offset.
+#[derive(Drop)]
+pub enum Step<'src> {
+    /// An entry, and where it stands.
+    More(Entry<'src>, Span),
+    /// The end of the text.
+    End,
+    /// Nothing that a document can have.
+    Refused,
+}
+
+/// Finds the first byte from an offset on that is another than this one.
+#[inline(always)]
+fn run_end(bytes: &[u8], from: usize, byte: u8) -> usize
+    requires { from ≤ length bytes.now }
+    ensures end { result ≡ from + prefix_len (λ b. b == byte) (drop from bytes.now) }
+    ensures within { result ≤ length bytes.now }
+{
+    let mut at = from;
+    while at < bytes.len() && bytes[at] == byte {
+        at += 1;
+    }
+    at
+}
+
+/// Gives the blanks at an offset, if they are what is written of a gap: the ends of lines, and then
+/// spaces.
+#[inline(always)]
+fn clean_blanks_at(bytes: &[u8], from: usize) -> Option<Blanks>
+    requires { from ≤ length bytes.now }
+    ensures { IfSome result (FindsCleanBlanks bytes.now from) }
+{
+    let line = run_end(bytes, from, b'\n');
+    let end = run_end(bytes, line, b' ');
+    if end < bytes.len() && bytes[end] <= b' ' {
+        return None;
+    }
+    let gap = if line == from {
+        Gap::Beside(end - line)
+    } else {
+        Gap::Below(line - from - 1, end - line)
+    };
+    Some(Blanks {
+        gap,
+        end,
+        are_clean: true,
+    })
+}
+
+/// Gives how many spaces are at an offset, if they are one or none and no other blank follows. So
+/// it is before most entries.
+#[inline(always)]
+pub fn near_width_at(bytes: &[u8], from: usize) -> Option<usize>
+    requires { from ≤ length bytes.now }
+    ensures { IfSome result (λ width. (from + width < length bytes.now)
+        × FindsCleanGap bytes.now from (Beside width) (from + width)) }
+{
+    if from + 1 < bytes.len() {
+        if bytes[from] > b' ' {
+            return Some(0);
+        }
+        if bytes[from] == b' ' && bytes[from + 1] > b' ' {
+            return Some(1);
+        }
+    }
+    None
+}
+
+/// Finds the first byte from an offset on that is no blank, or the end of the text.
+pub(crate) fn blanks_end(bytes: &[u8], from: usize) -> usize
+    requires { from ≤ length bytes.now }
+    ensures end { result ≡ from + prefix_len is_blank (drop from bytes.now) }
+    ensures within { result ≤ length bytes.now }
+{
+    blank_end(bytes, from)
+}
+
+/// Gives the blanks at an offset, after a gap.
+#[inline(never)]
+fn any_blanks_at(bytes: &[u8], gap: Gap, from: usize) -> Blanks
+    requires within { from ≤ length bytes.now }
+    requires short { length bytes.now + 1 < 2 ^ 64 }
+    requires none { size_of gap ≡ 0 }
+    ensures { FindsBlanks bytes.now gap from result }
+{
+    let end = blanks_end(bytes, from);
+    Blanks {
+        gap: gap_of(gap, &bytes[from..end]),
+        end,
+        are_clean: false,
+    }
+}
+
+/// Gives the blanks at an offset, after a gap.
+#[inline(always)]
+fn blanks_at(bytes: &[u8], gap: Gap, from: usize) -> Blanks
+    requires within { from ≤ length bytes.now }
+    requires short { length bytes.now + 1 < 2 ^ 64 }
+    requires none { size_of gap ≡ 0 }
+    ensures { FindsBlanks bytes.now gap from result }
+{
+    if let Gap::Beside(_) = gap {
+        if let Some(blanks) = clean_blanks_at(bytes, from) {
+            return blanks;
+        }
+    }
+    any_blanks_at(bytes, gap, from)
+}
+
+/// Reads what follows an offset, before which there is this gap.
+#[inline(always)]
+pub fn step_at<'src>(text: &'src str, gap: Gap, from: usize) -> Step<'src>
+    requires within { from ≤ length text.now }
+    requires first { IsUtf8 (drop from text.now) }
+    requires none { size_of gap ≡ 0 }
+    ensures { FindsEntry text.now gap from result }
+{
+    let blanks = blanks_at(text.as_bytes(), gap, from);
+    if blanks.end == text.len() {
+        return Step::End;
+    }
+    match lexeme_at(text, blanks.end) {
+        Some((lexeme, end)) => {
+            let gap = blanks.gap;
+            let span = Span {
+                start: blanks.end,
+                end,
+                is_clean: blanks.are_clean,
+            };
+            Step::More(Entry { gap, lexeme }, span)
+        }
+        None => Step::Refused,
+    }
+}

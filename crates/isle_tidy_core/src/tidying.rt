@@ -1,0 +1,211 @@
+//! Tidying a text entry by entry.
+
+ghost use Rattle.std.specs.Prelude.{◌≡◌, ◌≢◌, ◌<◌, [], Err, IfErr, IfOk, List, Ok, OnOk, ℕ};
+ghost use Rattle.std.specs.Prelude.{false, length, string_bytes, true};
+ghost use Rattle.isle_base.specs.Steps.{IfError};
+ghost use Rattle.isle_base.specs.declared.fault.Fault.TheVariants.{Failed};
+ghost use Rattle.isle_tidy_core.specs.Finds.{FindsBeside, FindsEntry};
+ghost use Rattle.isle_tidy_core.specs.Refused.{HasNoDocument, IsRefusedFor, IsWithin};
+ghost use Rattle.isle_tidy_core.specs.Streams.{HasWritten, PutsLast, PutsMore};
+ghost use Rattle.isle_tidy_core.specs.declared.reader.Step.TheVariants.{More};
+ghost use Rattle.isle_tidy_layout.specs.EntriesView.{lexeme_of};
+
+use crate::closings::closings_after;
+use crate::glance::has_document;
+use crate::kept::{Kept, is_simple_at, put_end, put_entry};
+use crate::lexemes::lexeme_at;
+use crate::parentheses::check_parentheses;
+use crate::reader::{Span, Step, near_width_at, step_at};
+use isle_base::lexer::Fault;
+use isle_tidy_layout::entries::{Entry, Gap, Lexeme};
+use isle_tidy_layout::placer::Placer;
+use std::alloc::{AllocError, Global};
+
+/// A text that is being tidied, one entry after another.
+///
+/// Neither the text nor its tidy text is held.
+#[derive(Debug, Drop)]
+pub struct Tidying<'src> {
+    text: &'src str,
+    /// The offset of what is next.
+    at: usize,
+    /// The offset of what is kept: the bytes from there on, up to what is next, are in the tidy
+    /// text as they are, and aren't appended yet.
+    kept: usize,
+    /// The gap before that offset: none, or the start of the text.
+    gap: Gap,
+    placer: Placer,
+}
+
+impl<'src> Tidying<'src> {
+    /// Begins to tidy a text, once it is known to be accepted. The errors are those of `tidy`.
+    pub fn new(alloc: Global, text: &'src str) -> Result<Tidying<'src>, Fault>
+        ensures begun { IfOk result (HasWritten text.now []) }
+        ensures refused { IfErr result (IfError (λ e. HasNoDocument text.now
+            × IsRefusedFor text.now e × IsWithin (length text.now) e)) }
+        ensures never_failed { result ≢ Err Failed }
+    {
+        if !has_document(text) {
+            match check_parentheses(alloc, text) {
+                Ok(()) => {}
+                Err(fault) => return Err(fault),
+            }
+        }
+        Ok(Tidying {
+            text,
+            at: 0,
+            kept: 0,
+            gap: Gap::Below(0, 0),
+            placer: Placer::new(alloc),
+        })
+    }
+
+    /// Goes past the next entry, and tells whether more is to come. It appends what is before the
+    /// entry in the tidy text, and the entry itself where many bytes are to be appended. After the
+    /// last entry it appends the rest of the text.
+    ///
+    /// It isn't called again after that, nor after an error, which comes where a growth was
+    /// refused.
+    #[inline(always)]
+    pub fn put_next(&mut self, out: &mut String) -> Result<bool, AllocError>
+        requires { (text before : List ℕ) × HasWritten text before self.old }
+        ensures more { result ≡ Ok true
+            → PutsMore self.old self.new (string_bytes out.old) (string_bytes out.new) }
+        ensures moves { result ≡ Ok true → self.old.at < self.new.at }
+        ensures last { result ≡ Ok false
+            → PutsLast self.old (string_bytes out.old) (string_bytes out.new) }
+    {
+        if self.put_near(out)? {
+            return Ok(true);
+        }
+        self.put_any(out)
+    }
+
+    /// Goes past the next entry, if it is like most: no block comment, and after one space or none.
+    /// Else nothing is done.
+    ///
+    /// Each kind of lexeme has a call of its own, so that it is compiled by itself.
+    #[inline(always)]
+    fn put_near(&mut self, out: &mut String) -> Result<bool, AllocError>
+        requires { (text before : List ℕ) × HasWritten text before self.old }
+        ensures more { IfOk result (λ _.
+            PutsMore self.old self.new (string_bytes out.old) (string_bytes out.new)) }
+        ensures moves { result ≡ Ok true → self.old.at < self.new.at }
+        ensures left { result ≡ Ok false → self.new.at ≡ self.old.at }
+    {
+        let Gap::Beside(_) = self.gap else {
+            return Ok(false);
+        };
+        let Some(width) = near_width_at(self.text.as_bytes(), self.at) else {
+            return Ok(false);
+        };
+        match lexeme_at(self.text, self.at + width) {
+            Some((Lexeme::Opening, end)) => self.put_beside(out, width, Lexeme::Opening, end),
+            Some((Lexeme::Closing, end)) => self.put_beside(out, width, Lexeme::Closing, end),
+            Some((Lexeme::At, end)) => self.put_beside(out, width, Lexeme::At, end),
+            Some((Lexeme::Atom(atom), end)) => {
+                self.put_beside(out, width, Lexeme::Atom(atom), end)
+            }
+            Some((Lexeme::LineComment(comment), end)) => {
+                self.put_beside(out, width, Lexeme::LineComment(comment), end)
+            }
+            Some((Lexeme::BlockComment(_), _)) | None => Ok(false),
+        }
+    }
+
+    /// Goes past an entry that is next, so many spaces further, up to this offset.
+    #[inline(always)]
+    fn put_beside(
+        &mut self,
+        out: &mut String,
+        width: usize,
+        lexeme: Lexeme<'_>,
+        end: usize,
+    ) -> Result<bool, AllocError>
+        requires begun { (text before : List ℕ) × HasWritten text before self.old }
+        requires found { FindsBeside self.old.text.now self.old.gap self.old.at width
+            (lexeme_of lexeme) end }
+        ensures more { IfOk result (λ _.
+            PutsMore self.old self.new (string_bytes out.old) (string_bytes out.new)) }
+        ensures moves { result ≡ Ok true → self.old.at < self.new.at }
+        ensures done { result ≢ Ok false }
+    {
+        let gap = Gap::Beside(width);
+        let span = Span {
+            start: self.at + width,
+            end,
+            is_clean: true,
+        };
+        self.put(out, Entry { gap, lexeme }, span)?;
+        Ok(true)
+    }
+
+    /// Goes past the next entry, whatever it is. What it asks and appends is as of `put_next`.
+    #[inline(never)]
+    fn put_any(&mut self, out: &mut String) -> Result<bool, AllocError>
+        requires { (text before : List ℕ) × HasWritten text before self.old }
+        ensures more { result ≡ Ok true
+            → PutsMore self.old self.new (string_bytes out.old) (string_bytes out.new) }
+        ensures moves { result ≡ Ok true → self.old.at < self.new.at }
+        ensures last { result ≡ Ok false
+            → PutsLast self.old (string_bytes out.old) (string_bytes out.new) }
+    {
+        match step_at(self.text, self.gap, self.at) {
+            Step::More(entry, span) => {
+                self.put(out, entry, span)?;
+                Ok(true)
+            }
+            Step::End => {
+                let kept = Kept {
+                    from: self.kept,
+                    to: self.at,
+                };
+                put_end(out, self.text, kept, self.placer.before)?;
+                Ok(false)
+            }
+            Step::Refused => unreachable!(),
+        }
+    }
+
+    /// Goes past an entry that is next.
+    #[inline(always)]
+    fn put(&mut self, out: &mut String, entry: Entry<'_>, span: Span) -> Result<(), AllocError>
+        requires begun { (text before : List ℕ) × HasWritten text before self.old }
+        requires found { FindsEntry self.old.text.now self.old.gap self.old.at (More entry span) }
+        ensures more { OnOk result (
+            PutsMore self.old self.new (string_bytes out.old) (string_bytes out.new)) }
+        ensures moves { OnOk result (self.old.at < self.new.at) }
+    {
+        let before = self.placer.before;
+        let closings = closings_after(self.text, &entry, span.end);
+        let is_simple = is_simple_at(self.text, &entry.lexeme, span);
+        let (gap, lexeme) = (entry.gap, &entry.lexeme);
+        let placed = self.placer.place(gap, lexeme, closings, is_simple)?;
+        let kept = Kept {
+            from: self.kept,
+            to: self.at,
+        };
+        self.kept = put_entry(out, self.text, kept, &entry, span, before, placed)?;
+        self.gap = Gap::Beside(0);
+        self.at = span.end;
+        Ok(())
+    }
+
+    /// Goes past entries until this many bytes are in the text, and tells whether more is to come.
+    /// What it asks and appends is as of `put_next`.
+    pub fn put_some(&mut self, out: &mut String, len: usize) -> Result<bool, AllocError>
+        requires { (text before : List ℕ) × HasWritten text before self.old }
+        ensures more { result ≡ Ok true
+            → PutsMore self.old self.new (string_bytes out.old) (string_bytes out.new) }
+        ensures moves { result ≡ Ok true → self.old.at < self.new.at }
+        ensures last { result ≡ Ok false
+            → PutsLast self.old (string_bytes out.old) (string_bytes out.new) }
+    {
+        while self.put_next(out)? {
+            if out.len() >= len {
+                return Ok(true);
+            }
+        }
+        Ok(false)
+    }
+}

@@ -1,0 +1,112 @@
+//! Columns, which count characters.
+
+ghost use Rattle.std.specs.Prelude.{◌≡◌, ◌==◌, ◌||◌, ◌+◌, ◌<◌, ◌≤◌, ◌^◌, drop, length, map, not};
+ghost use Rattle.std.specs.Prelude.{true};
+ghost use Rattle.std.specs.List.{prefix_len};
+ghost use Rattle.std.specs.Simd.Lanes.{mask_l};
+ghost use Rattle.isle_base.specs.Bytes.{space, tab};
+ghost use Rattle.isle_tidy_layout.specs.Columns.{is_simple};
+ghost use Rattle.isle_tidy_layout.specs.Placing.{column_after as column_after_bytes};
+ghost use Rattle.isle_tidy_layout.specs.Placing.{placed_as as result_of};
+
+use std::simd::prelude::*;
+
+/// How many bytes are looked at together.
+const LANES: usize = 32;
+
+/// A column of the source, and the column that it has in the result.
+#[derive(Clone, Copy, Debug)]
+pub struct Columns {
+    /// In the source.
+    pub source: usize,
+    /// In the result.
+    pub result: usize,
+}
+
+/// Gives the column in the result of a column of the source, if it is one of these.
+pub(crate) fn placed_as(column: usize, columns: &[Columns]) -> Option<usize>
+    ensures { result ≡ result_of column columns.now }
+{
+    for one in columns {
+        if one.source == column {
+            return Some(one.result);
+        }
+    }
+    None
+}
+
+/// Gives the column after bytes that begin at a column. A byte that continues a character counts
+/// none, and a line end goes back to column 0.
+#[inline(never)]
+pub(crate) fn column_after(column: usize, bytes: &[u8]) -> usize
+    requires { column + length bytes.now < 2 ^ 64 }
+    ensures { result ≡ column_after_bytes column bytes.now }
+{
+    let mut column = column;
+    for byte in bytes {
+        if *byte == b'\n' || *byte == b'\r' {
+            column = 0;
+        } else if !(128 <= *byte && *byte <= 191) {
+            column += 1;
+        }
+    }
+    column
+}
+
+/// Tells whether a byte is a space or a tab.
+pub fn is_space_or_tab(byte: u8) -> bool
+    ensures { result ≡ (byte == space || byte == tab) }
+{
+    byte == b' ' || byte == b'\t'
+}
+
+/// Tells which of 32 bytes aren't simple: a bit for each, the lowest for the first.
+#[inline(always)]
+fn misses(bytes: u8x32) -> u64
+    ensures { result ≡ mask_l (map (λ byte. not (is_simple byte)) bytes) }
+{
+    let misses = bytes.simd_lt(u8x32::splat(b' ')) | bytes.simd_ge(u8x32::splat(127));
+    misses.to_bitmask()
+}
+
+/// Tells whether a byte is simple.
+#[inline(always)]
+#[tactic(auto, unfolding(crate::specs::Columns::is_simple))]
+fn is_simple_byte(byte: u8) -> bool
+    ensures { result ≡ is_simple byte }
+{
+    b' ' <= byte && byte <= b'~'
+}
+
+/// Finds the first byte from an offset on that isn't simple, byte by byte.
+fn simple_end(bytes: &[u8], from: usize) -> usize
+    requires { from ≤ length bytes.now }
+    ensures { result ≡ from + prefix_len is_simple (drop from bytes.now) }
+{
+    let mut at = from;
+    while at < bytes.len() && is_simple_byte(bytes[at]) {
+        at += 1;
+    }
+    at
+}
+
+/// Tells whether the bytes between two offsets are simple: each is a column by itself.
+#[inline(always)]
+pub fn are_simple(bytes: &[u8], from: usize, to: usize) -> bool
+    requires order { from ≤ to }
+    requires within { to ≤ length bytes.now }
+    ensures { result ≡ true → to ≤ from + prefix_len is_simple (drop from bytes.now) }
+{
+    let mut at = from;
+    while at < to {
+        if bytes.len() - at < LANES {
+            return to <= simple_end(bytes, at);
+        }
+        let misses = misses(u8x32::from_slice(&bytes[at..]));
+        if misses != 0 {
+            return to <= at + misses.trailing_zeros() as usize;
+        }
+        at += LANES;
+    }
+    true
+}

@@ -1,0 +1,14 @@
+//! Where the entries of a document are placed: the layout of `isle_tidy_core`.
+//!
+//! A document is a flat list of entries. Each is a lexeme as it is written (`(`, `)`, `@`, an atom,
+//! a line comment or a block comment) with the gap before it. The layout keeps the author's lines.
+//! It mends columns and gaps, and it knows nothing of definitions. Columns count characters.
+#![tactic(auto)]
+
+mod changes;
+pub mod columns;
+pub mod entries;
+pub mod laws;
+pub mod placer;
+pub mod placing;
+mod stack;

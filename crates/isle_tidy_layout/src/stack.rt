@@ -1,0 +1,161 @@
+//! The open lists, and the columns that they give.
+
+ghost use Rattle.std.specs.Prelude.{◌≡◌, ◌+◌, ◌++◌, ◌∷◌, ◌<◌, ◌≤◌, ◌^◌, ℕ, List, [], None, Some};
+ghost use Rattle.std.specs.Prelude.{drop, length, unwrap_or};
+ghost use Rattle.isle_tidy_layout.specs.Placing.{OpenList, first_line as first_line_of};
+ghost use Rattle.isle_tidy_layout.specs.Placing.{hanging, placed_as as result_of};
+ghost use Rattle.isle_tidy_layout.specs.Placing.{line_column as line_column_in};
+ghost use Rattle.isle_tidy_layout.specs.Placing.{line_of as line_of_lists};
+ghost use Rattle.isle_tidy_layout.specs.Placing.{right_of as right_of_column};
+ghost use Rattle.isle_tidy_layout.specs.Placing.{usual_column as usual_column_of};
+ghost use Rattle.isle_tidy_layout.specs.declared.columns.Columns.{Columns};
+ghost use Rattle.isle_tidy_layout.specs.declared.stack.Opened.{Opened};
+ghost use Rattle.isle_tidy_layout.specs.Stack.{IsSmall, IsStack, IsTop, list_of};
+
+use crate::columns::{Columns, placed_as};
+use crate::placing::{Head, Kind};
+
+/// An open list. Its arguments are those of all open lists from an index on, up to the next list's.
+#[derive(Clone, Copy, Debug)]
+pub struct Opened {
+    /// The number of the line of its `(`.
+    pub row: usize,
+    /// The columns of its `(`.
+    pub parenthesis: Columns,
+    /// The columns of the first entry of that line.
+    pub line: Columns,
+    /// Its first item.
+    pub head: Head,
+    /// The index of its first argument.
+    pub first: usize,
+    /// The column of its own lines in the result, once one is known.
+    pub lines: Option<usize>,
+}
+
+/// Gives the columns so many to the right.
+fn right_of(n: usize, columns: Columns) -> Columns
+    requires small { IsSmall columns }
+    requires near { n ≤ 4 }
+    ensures { result ≡ right_of_column n columns }
+{
+    Columns {
+        source: columns.source + n,
+        result: columns.result + n,
+    }
+}
+
+/// Gives the result of a column 1, 2 or 4 to the right of the `(`.
+fn by_parenthesis(list: &Opened, column: usize) -> Option<usize>
+    requires { IsSmall list.now.parenthesis }
+    ensures { result ≡ result_of column (right_of_column 1 list.now.parenthesis
+        ∷ right_of_column 2 list.now.parenthesis ∷ right_of_column 4 list.now.parenthesis ∷ []) }
+{
+    let p = list.parenthesis;
+    placed_as(column, &[right_of(1, p), right_of(2, p), right_of(4, p)])
+}
+
+/// Gives the result of a column 2 or 4 to the right of the line, where the list has no argument.
+fn by_line(list: &Opened, arguments: &[Columns], column: usize) -> Option<usize>
+    requires { IsSmall list.now.line }
+    ensures { result ≡ result_of column (hanging arguments.now list.now.line) }
+{
+    if arguments.is_empty() {
+        placed_as(column, &[right_of(2, list.line), right_of(4, list.line)])
+    } else {
+        None
+    }
+}
+
+/// Gives the column of the first line of a list where the author's isn't kept.
+fn usual_column(list: &Opened, arguments: &[Columns]) -> usize
+    requires { IsSmall list.now.parenthesis }
+    ensures { result ≡ usual_column_of list.now.head list.now.parenthesis arguments.now }
+{
+    match list.head {
+        Head::NoHead | Head::ListHead => list.parenthesis.result + 1,
+        Head::BodyHead => list.parenthesis.result + 2,
+        Head::PlainHead => {
+            if arguments.is_empty() {
+                list.parenthesis.result + 2
+            } else {
+                arguments[0].result
+            }
+        }
+    }
+}
+
+/// Gives the column of the first line of a list, which the author put at this column.
+#[inline(never)]
+fn first_line(list: &Opened, arguments: &[Columns], column: usize) -> usize
+    requires parenthesis { IsSmall list.now.parenthesis }
+    requires line { IsSmall list.now.line }
+    ensures { result ≡ first_line_of (list_of list.now arguments.now) column }
+{
+    if let Some(result) = placed_as(column, arguments) {
+        return result;
+    }
+    if let Some(result) = by_parenthesis(list, column) {
+        return result;
+    }
+    if let Some(result) = by_line(list, arguments, column) {
+        return result;
+    }
+    usual_column(list, arguments)
+}
+
+/// Gives the innermost list.
+pub fn innermost(lists: &[Opened]) -> Opened
+    requires { 0 < length lists.now }
+    ensures top { (ls : List OpenList) (arguments : List Columns) → IsStack ls lists.now arguments
+        → IsTop ls arguments result }
+    ensures last { (below : List Opened) (o : Opened) → lists.now ≡ below ++ (o ∷ []) → result ≡ o }
+{
+    lists[lists.len() - 1]
+}
+
+/// Gives the arguments from an index on.
+fn arguments_from(arguments: &[Columns], first: usize) -> &[Columns]
+    requires { first ≤ length arguments.now }
+    ensures { result.now ≡ drop first arguments.now }
+{
+    &arguments[first..]
+}
+
+/// Gives the column of a line that begins in a list.
+fn list_column(list: &Opened, arguments: &[Columns], column: usize) -> usize
+    requires within { list.now.first ≤ length arguments.now }
+    requires parenthesis { IsSmall list.now.parenthesis }
+    requires line { IsSmall list.now.line }
+    ensures { result ≡ unwrap_or list.now.lines
+        (first_line_of (list_of list.now (drop list.now.first arguments.now)) column) }
+{
+    match list.lines {
+        Some(known) => known,
+        None => first_line(list, arguments_from(arguments, list.first), column),
+    }
+}
+
+/// Gives the column of a line that begins in the innermost of these lists.
+pub fn line_column(lists: &[Opened], arguments: &[Columns], column: usize) -> usize
+    requires { (ls : List OpenList) × IsStack ls lists.now arguments.now }
+    ensures { (ls : List OpenList) → IsStack ls lists.now arguments.now
+        → result ≡ line_column_in ls column }
+{
+    if lists.is_empty() {
+        return 0;
+    }
+    let list = innermost(lists);
+    list_column(&list, arguments, column)
+}
+
+/// Gives the column of the line with the `(` of a list, which so many inner ones are in.
+pub fn line_of(lists: &[Opened], inner: usize) -> usize
+    ensures { (ls : List OpenList) (arguments : List Columns) → IsStack ls lists.now arguments
+        → result ≡ line_of_lists ls inner }
+{
+    if inner < lists.len() {
+        lists[lists.len() - 1 - inner].line.result
+    } else {
+        0
+    }
+}
