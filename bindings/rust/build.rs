@@ -1,6 +1,6 @@
 //! Finds the static library and has it linked: `out/libisle_c.a` beside this package, which
-//! `bindings/rust/archive` makes, `lib/libisle_c.a` there, as it lies in a package for who has no
-//! kit, or the file that the variable `ISLE_C_ARCHIVE` names.
+//! `bindings/rust/archive` makes; `lib/libisle_c.a` beside it, in the tarball for users without the
+//! kit; or the file that the variable `ISLE_C_ARCHIVE` names.
 
 use std::env;
 use std::ffi::OsStr;
@@ -12,10 +12,10 @@ const ARCHIVE: &str = "ISLE_C_ARCHIVE";
 /// The variable that names a folder with upstream's sources, for the benchmark.
 const UPSTREAM: &str = "CRANELIFT_ISLE";
 
-/// Upstream's modules that the benchmark takes.
+/// Upstream's modules that the benchmark uses.
 const MODULES: [&str; 6] = ["ast", "error", "files", "lexer", "parser", "printer"];
 
-/// What those modules name besides: a log that writes nothing, and a type that no step uses.
+/// Other items that those modules name: a log that writes nothing, and a type that no step uses.
 const STUBS: &str = "
 #[allow(unused_macros)]
 macro_rules! log { ($($word:tt)*) => {}; }
@@ -77,7 +77,7 @@ fn is_whole(archive: &Path) -> bool {
     bytes.starts_with(b"!<arch>\n") && bytes.windows(LAST_MEMBER.len()).any(|it| it == LAST_MEMBER)
 }
 
-/// Writes the modules that the benchmark includes, where the variable names upstream's crate.
+/// Writes the modules that the benchmark includes, if the variable names upstream's crate.
 fn name_upstream() {
     println!("cargo::rerun-if-env-changed={UPSTREAM}");
     println!("cargo::rustc-check-cfg=cfg(upstream)");

@@ -1,5 +1,5 @@
-//! `count_terms FILE..`: counts in how many places the rules of ISLE files use each term, and prints
-//! the terms with their counts, the most used first.
+//! `count_terms FILE..`: counts in how many places the rules of ISLE files use each term, and
+//! prints the terms with their counts, the most used first.
 
 use isle_syntax::ast::{Def, Ident, Pos};
 use isle_syntax::parse;

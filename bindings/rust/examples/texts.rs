@@ -1,5 +1,5 @@
-//! `texts FOLDER`: writes generated texts of ISLE, whole and damaged, and what this package answers
-//! of each: N.isle, N.tidy and N.format, which hold the tidy text and the print at 78, or the refusal.
+//! `texts FOLDER`: writes generated texts of ISLE, whole and damaged, with the answers of this
+//! package: N.isle, N.tidy and N.format, the tidy text and the print at 78, or the error.
 
 #[path = "../tests/common/mod.rs"]
 mod common;
@@ -27,7 +27,7 @@ fn main() -> io::Result<ExitCode> {
     Ok(ExitCode::SUCCESS)
 }
 
-/// An answer, or a refusal as it is shown.
+/// An answer, or an error as it is displayed.
 fn shown(answer: &Result<String, Refusal>) -> String {
     match answer {
         Ok(answer) => answer.clone(),

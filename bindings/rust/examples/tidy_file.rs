@@ -1,8 +1,8 @@
 //! `tidy_file FILE..`: tidies files in place. No comment is lost.
 //!
-//! It goes through all files, and ends with the greatest of these: 1 where a file isn't tidied, since
-//! it doesn't lex or its parentheses don't match; 3 where one can't be read or written, or isn't
-//! UTF-8; 4 where memory ran out. Such a file is left as it was, and standard error says why.
+//! The status is the greatest of all files': 1 if a file has a bad token or unmatched parentheses,
+//! 3 if it can't be read or written or isn't UTF-8, 4 when out of memory. Such a file is left as it
+//! was, and the reason is printed to standard error.
 
 use isle_syntax::{Fault, try_tidy};
 use std::io::Write;
@@ -19,7 +19,7 @@ fn main() -> ExitCode {
     ExitCode::from(statuses.max().unwrap_or(0))
 }
 
-/// Tidies a file, and gives the status.
+/// Tidies a file, and returns the status.
 fn tidy_file(file: &str) -> u8 {
     let text = match fs::read_to_string(file) {
         Ok(text) => text,
@@ -39,7 +39,7 @@ fn tidy_file(file: &str) -> u8 {
     }
 }
 
-/// The status of an error of the system's.
+/// The status of a system error.
 fn status_of(error: &io::Error) -> u8 {
     match error.kind() {
         io::ErrorKind::OutOfMemory => 4,
@@ -47,7 +47,7 @@ fn status_of(error: &io::Error) -> u8 {
     }
 }
 
-/// Puts a text into a file, which has the old one or the new one, whole, at each moment.
+/// Replaces the text of a file. At every moment the file has the old text or the new one, whole.
 fn replace(file: &str, text: &str) -> io::Result<()> {
     let beside = format!("{file}.tidy");
     let mut new = fs::File::create_new(&beside)?;
@@ -58,7 +58,7 @@ fn replace(file: &str, text: &str) -> io::Result<()> {
     done.inspect_err(|_| drop(fs::remove_file(&beside)))
 }
 
-/// Says why a file isn't tidied, and gives the status.
+/// Prints why a file isn't tidied, and returns the status.
 fn told(status: u8, file: &str, why: &dyn std::fmt::Display) -> u8 {
     eprintln!("{file}: {why}");
     status

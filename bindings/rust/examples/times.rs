@@ -1,7 +1,7 @@
 //! `cargo run --release --example times [FILE [WIDTH [ROUNDS]]]`: times a text in one process.
 //!
-//! Without a file the text is the repository's `examples/rules.isle`, again and again up to 2 MB. Each
-//! line is a step, in milliseconds, the median of the rounds. Where the variable `CRANELIFT_ISLE`
+//! Without a file the text is the repository's `examples/rules.isle`, repeated up to 2 MB. Each
+//! line is a step, with the median of the rounds in milliseconds. If the variable `CRANELIFT_ISLE`
 //! names the folder of upstream's crate `cranelift-isle`, its syntax layer is compiled into this
 //! program and takes turns: lexing alone, parsing with the lexing that it needs, and the whole way
 //! from text to text. The library has no call for lexing alone.
@@ -11,11 +11,11 @@ use std::hint::black_box;
 use std::time::{Duration, Instant};
 use std::{env, fs};
 
-// Upstream's modules name one another by `crate`, so they stand at the root.
+// Upstream's modules name one another by `crate`, so they are at the root.
 #[cfg(upstream)]
 include!(concat!(env!("OUT_DIR"), "/upstream.rs"));
 
-/// What is timed: its name, and a run of it.
+/// A step to time: its name, and a run of it.
 type Step<'a> = (&'static str, Box<dyn Fn() + 'a>);
 
 fn main() -> Result<(), Box<dyn Error>> {
@@ -49,7 +49,7 @@ fn main() -> Result<(), Box<dyn Error>> {
     #[cfg(upstream)]
     steps.extend(beside::steps(&text, width));
     steps.shrink_to_fit();
-    // In turns, so that what else the machine does falls on all alike.
+    // In turns, so that other load on the machine affects all alike.
     let mut times = vec![Vec::new(); steps.len()];
     for _ in 0..rounds {
         for ((_, step), times) in steps.iter().zip(&mut times) {

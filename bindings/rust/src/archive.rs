@@ -1,29 +1,29 @@
 //! The calls of the static library, over slices.
 //!
-//! The declarations fit `crates/isle_c/src/lib.rt`, where each call's contract stands: a `&[u8]`
-//! crosses as a pointer and then a length, and the parameter for the allocator takes no bytes, so
-//! it isn't passed. `bindings/c/test` holds the two texts and the header for C against each other.
+//! The declarations match `crates/isle_c/src/lib.rt`, which has each call's contract. A `&[u8]`
+//! crosses as a pointer and then a length. The parameter for the allocator takes no bytes, so it
+//! isn't passed. `bindings/c/test` compares the two files and the header for C.
 
-/// What a call tells.
+/// The status of a call.
 #[derive(Clone, Copy, Debug, PartialEq, Eq)]
 pub(crate) enum Told {
-    /// The whole answer stands at the front of the slice, and has so many bytes. It is UTF-8.
+    /// The whole answer is at the front of the slice, and has this many bytes. It is UTF-8.
     Written(usize),
-    /// The slice is left as it was: it is too short for the answer, which has so many bytes.
+    /// The slice is too short, and left unchanged. The answer has this many bytes.
     TooShort(usize),
-    /// The text is one of ISLE.
+    /// The text is valid ISLE.
     Accepted,
-    /// The text is none of ISLE.
+    /// The text is not valid ISLE.
     Refused,
     /// A text isn't UTF-8.
     NotUtf8,
-    /// A growth of memory was refused.
+    /// Out of memory.
     Memory,
     /// The text can be tidied, and isn't tidy.
     Untidy,
 }
 
-/// What a call tells, as it crosses.
+/// The status and the length of an answer, as they cross.
 #[repr(C)]
 struct Answer {
     status: u32,
@@ -31,7 +31,7 @@ struct Answer {
 }
 
 impl Answer {
-    /// What a call tells that has a number alone.
+    /// The answer of a call that returns a status alone.
     fn of(status: u32) -> Answer {
         Answer { status, len: 0 }
     }
@@ -50,7 +50,7 @@ impl Answer {
     }
 }
 
-/// Where a text is refused.
+/// The place of an error.
 #[repr(C)]
 #[derive(Clone, Copy, Debug, Default, PartialEq, Eq)]
 pub(crate) struct Place {
@@ -137,13 +137,13 @@ pub(crate) fn format(text: &[u8], width: usize, into: &mut [u8]) -> Told {
     answer.told()
 }
 
-/// Gives the encoding of a text's tree, with this number for the file of each position, where it
-/// has at most so many bytes.
+/// Returns the encoding of a text's tree, with this number for the file of each position, if it has
+/// at most `room` bytes.
 pub(crate) fn parse(text: &[u8], file: usize, room: usize) -> Result<Vec<u8>, Told> {
     let mut into: Vec<u8> = Vec::with_capacity(room);
     // SAFETY: the declaration fits the library's. The pointer and the length of the text are those
-    // of one slice, which is borrowed for the call. `into` has so much room, for the call alone; the
-    // call writes the answer there, and reads nothing of it. The call has no `requires`.
+    // of one slice, which is borrowed for the call. `into` has so much room, for the call alone;
+    // the call writes the answer there, and reads nothing of it. The call has no `requires`.
     let answer = unsafe { isle_c_parse(text.as_ptr(), text.len(), file, into.as_mut_ptr(), room) };
     match answer.told() {
         Told::Written(len) => {
@@ -155,7 +155,7 @@ pub(crate) fn parse(text: &[u8], file: usize, room: usize) -> Result<Vec<u8>, To
     }
 }
 
-/// Tells whether a text is one of ISLE.
+/// Checks whether a text is valid ISLE.
 pub(crate) fn check(text: &[u8]) -> Told {
     // SAFETY: the declaration fits the library's. The pointer and the length are those of one
     // slice, which is borrowed for the call. The call has no `requires`.
@@ -163,7 +163,7 @@ pub(crate) fn check(text: &[u8]) -> Told {
     Answer::of(status).told()
 }
 
-/// Tells why and where a text is refused.
+/// Writes the message and the place of an error.
 pub(crate) fn refusal(text: &[u8], reason: &mut [u8], place: &mut Place) -> Told {
     // SAFETY: the declaration fits the library's. Each pointer and length are those of one slice,
     // which is borrowed for the call, `reason` and `place` for it alone. The call has no
@@ -180,7 +180,7 @@ pub(crate) fn refusal(text: &[u8], reason: &mut [u8], place: &mut Place) -> Told
     answer.told()
 }
 
-/// Gives the diagnostic of a text that is refused, with this name for its file.
+/// Writes the diagnostic of a text that is not valid, with this name for its file.
 pub(crate) fn diagnostic(name: &[u8], text: &[u8], into: &mut [u8]) -> Told {
     // SAFETY: the declaration fits the library's. Each pointer and length are those of one slice,
     // which is borrowed for the call, `into` for it alone. The call has no `requires`.
@@ -205,7 +205,7 @@ pub(crate) fn tidy(text: &[u8], into: &mut [u8]) -> Told {
     answer.told()
 }
 
-/// Tells whether a text is tidy.
+/// Checks whether a text is tidy.
 pub(crate) fn is_tidy(text: &[u8]) -> Told {
     // SAFETY: the declaration fits the library's. The pointer and the length are those of one
     // slice, which is borrowed for the call. The call has no `requires`.
@@ -213,7 +213,7 @@ pub(crate) fn is_tidy(text: &[u8]) -> Told {
     Answer::of(status).told()
 }
 
-/// Tells why and where a text can't be tidied.
+/// Writes the reason why a text can't be tidied, and the place.
 pub(crate) fn tidy_refusal(text: &[u8], reason: &mut [u8], place: &mut Place) -> Told {
     // SAFETY: the declaration fits the library's. Each pointer and length are those of one slice,
     // which is borrowed for the call, `reason` and `place` for it alone. The call has no
@@ -230,7 +230,7 @@ pub(crate) fn tidy_refusal(text: &[u8], reason: &mut [u8], place: &mut Place) ->
     answer.told()
 }
 
-/// The version of `cranelift-isle` that the library answers as.
+/// The version of `cranelift-isle` whose behaviour the library has.
 pub(crate) fn version() -> Version {
     isle_c_version()
 }

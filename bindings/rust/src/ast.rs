@@ -1,4 +1,4 @@
-//! The tree of a text, by the types of upstream's module of this name.
+//! The tree of a text, in the types of upstream's module of this name.
 //!
 //! Names, fields and variants are upstream's, so code that walks its tree walks this one.
 
@@ -32,7 +32,7 @@ pub struct Ident(pub String, pub Pos);
 /// A definition, the toplevel form of an ISLE source.
 #[derive(Clone, Debug, PartialEq, Eq)]
 pub enum Def {
-    /// A pragma. There are none yet, so a value can't be had.
+    /// A pragma. There are none yet, so there is no value of this variant.
     Pragma(Pragma),
     /// A type definition, `(type ..)`.
     Type(Type),
@@ -44,13 +44,13 @@ pub enum Def {
     Decl(Decl),
     /// Attributes of a term or a rule, `(attr ..)`.
     Attr(Attr),
-    /// What holds of a term, `(spec ..)`.
+    /// A specification of a term, `(spec ..)`.
     Spec(Spec),
     /// A macro of spec expressions, `(macro ..)`.
     SpecMacro(SpecMacro),
     /// A model of a type, `(model ..)`.
     Model(Model),
-    /// A state that specs speak of, `(state ..)`.
+    /// A state that specs name, `(state ..)`.
     State(State),
     /// A form: signatures under a name, `(form ..)`.
     Form(Form),
@@ -75,13 +75,13 @@ pub struct Type {
     pub is_extern: bool,
     /// Whether the type has no debug text.
     pub is_nodebug: bool,
-    /// What the type consists of.
+    /// The content of the type.
     pub ty: TypeValue,
     /// The position of the token after the keyword.
     pub pos: Pos,
 }
 
-/// What a type consists of. The position is that of its first token.
+/// The content of a type. The position is that of its first token.
 #[derive(Clone, Debug, PartialEq, Eq)]
 pub enum TypeValue {
     /// A primitive type, known by its name.
@@ -161,13 +161,13 @@ pub struct Decl {
     pub term: Ident,
     /// The types of its arguments.
     pub arg_tys: Vec<Ident>,
-    /// The type of its value.
+    /// The type of its result.
     pub ret_ty: Ident,
     /// Whether the term is pure.
     pub pure: bool,
     /// Whether the term is a multi-term.
     pub multi: bool,
-    /// Whether the term may fail to give a value.
+    /// Whether the term may fail.
     pub partial: bool,
     /// Whether the term may be recursive.
     pub rec: bool,
@@ -190,18 +190,18 @@ pub struct Instantiation {
     pub pos: Pos,
 }
 
-/// What is said of a term or a rule.
+/// Attributes of a term or a rule.
 #[derive(Clone, Debug, PartialEq, Eq)]
 pub struct Attr {
     /// The term or the rule.
     pub target: AttrTarget,
-    /// What is said of it.
+    /// The attributes.
     pub kinds: Vec<AttrKind>,
     /// The position of the token after the keyword.
     pub pos: Pos,
 }
 
-/// What an attribute speaks of.
+/// The target of an attribute.
 #[derive(Clone, Debug, PartialEq, Eq)]
 pub enum AttrTarget {
     /// A term.
@@ -210,7 +210,7 @@ pub enum AttrTarget {
     Rule(Ident),
 }
 
-/// What an attribute says.
+/// An attribute.
 #[derive(Clone, Debug, PartialEq, Eq)]
 pub enum AttrKind {
     /// Verification chains the term, `(veri chain)`.
@@ -221,7 +221,7 @@ pub enum AttrKind {
     Tag(Ident),
 }
 
-/// What a model is given by.
+/// The value of a model.
 #[derive(Clone, Debug, PartialEq, Eq)]
 pub enum ModelValue {
     /// A model of the type, `(type ..)`.
@@ -235,16 +235,16 @@ pub enum ModelValue {
 pub struct Model {
     /// The name of the type.
     pub name: Ident,
-    /// What its model is.
+    /// Its model.
     pub val: ModelValue,
 }
 
-/// The models of a term's arguments and of its value.
+/// The models of a term's arguments and of its result.
 #[derive(Clone, Debug, PartialEq, Eq)]
 pub struct Signature {
     /// The models of the arguments.
     pub args: Vec<ModelType>,
-    /// The model of the value.
+    /// The model of the result.
     pub ret: ModelType,
     /// The position of the token after its `(`.
     pub pos: Pos,
@@ -272,7 +272,7 @@ pub enum Extern {
         func: Ident,
         /// The position of the token after the keyword.
         pos: Pos,
-        /// Whether it always gives values, `infallible`.
+        /// Whether it always matches, `infallible`.
         infallible: bool,
     },
     /// An outside constructor: `(extern constructor Term func)`.
@@ -302,7 +302,7 @@ pub struct Converter {
     pub term: Ident,
     /// The type of the expression that is converted.
     pub inner_ty: Ident,
-    /// The type that the place of the expression wants.
+    /// The type that is expected in the place of the expression.
     pub outer_ty: Ident,
     /// The position of the token after the keyword.
     pub pos: Pos,

@@ -1,8 +1,8 @@
-//! Makes a tree of the bytes that the library writes.
+//! Decodes a tree from the bytes that the library writes.
 //!
-//! What the bytes mean is said in `crates/isle_encoding/specs/Encoded.antt`. The decoder takes any
-//! bytes: those that encode no tree are an error, and nothing panics. It calls itself as deep as
-//! the tree goes, and as the bytes do.
+//! `crates/isle_encoding/specs/Encoded.antt` defines the bytes. The decoder takes any bytes: if
+//! they encode no tree it returns an error, and nothing panics. It recurses as deep as the tree, or
+//! as the bytes demand.
 
 mod definitions;
 mod rules;
@@ -21,15 +21,15 @@ impl fmt::Display for Broken {
     }
 }
 
-/// What is read, or that it isn't there.
+/// A decoded value, or a broken encoding.
 type Read<T> = Result<T, Broken>;
 
 /// The version of the encoding.
 const VERSION: u8 = 1;
 
-/// The tree that the bytes encode, which are all read.
+/// The tree that the bytes encode. All bytes must be read.
 pub(crate) fn tree(bytes: &[u8]) -> Read<Vec<Def>> {
-    // All bytes that are no text's are below 128, so one look at all of them is enough.
+    // All bytes outside texts are below 128, so one check of all of them is enough.
     let text = str::from_utf8(bytes).map_err(|_| Broken)?;
     let mut reader = Reader { text, at: 0 };
     if reader.byte()? != VERSION {
@@ -46,7 +46,7 @@ pub(crate) fn tree(bytes: &[u8]) -> Read<Vec<Def>> {
     }
 }
 
-/// The bytes, of which the first are read.
+/// The bytes, and how many are read.
 struct Reader<'a> {
     /// The bytes, which are UTF-8.
     text: &'a str,
@@ -77,7 +77,7 @@ impl Reader<'_> {
     /// A number of more than one digit.
     #[inline]
     fn longer_number(&mut self) -> Read<usize> {
-        // Nearly all have up to four digits, which are looked at together.
+        // Nearly all have up to four digits, which are read together.
         let bytes = self.text.as_bytes().get(self.at..).unwrap_or_default();
         let four = u32::from_le_bytes(*bytes.first_chunk().unwrap_or(&[64; 4]));
         let last = (!four & 0x4040_4040).trailing_zeros();
@@ -175,7 +175,7 @@ impl Reader<'_> {
     #[inline]
     fn list<T>(&mut self, mut item: impl FnMut(&mut Self) -> Read<T>) -> Read<Vec<T>> {
         let len = self.number()?;
-        // Each item has a byte at least, so a length past them is broken, and no room is taken.
+        // Each item has at least a byte, so a length past them is broken, and nothing is allocated.
         if len > self.text.len() - self.at {
             return Err(Broken);
         }

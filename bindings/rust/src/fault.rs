@@ -1,27 +1,27 @@
-//! Why a call gives no answer.
+//! The errors of calls.
 
 use std::error::Error;
 use std::fmt;
 
-/// Why and where a text is refused.
+/// An error in a text, with its place.
 ///
-/// It shows as `LINE:COLUMN: MESSAGE`, so that a file's name and a colon go in front:
+/// It is displayed as `LINE:COLUMN: MESSAGE`, for a file's name and a colon in front:
 ///
 /// ```
 /// let refusal = isle_syntax::check("(decl f () T)\n(decl pure () T)\n").unwrap_err();
 /// assert_eq!(refusal.to_string(), "2:12: Unexpected token LParen");
 /// ```
 ///
-/// [`diagnostic`](crate::diagnostic) gives the text that upstream shows.
+/// [`diagnostic`](crate::diagnostic) returns the text that upstream prints.
 #[derive(Clone, Debug, PartialEq, Eq)]
 pub struct Refusal {
-    /// What is wrong, as upstream says it.
+    /// The message, as upstream words it.
     pub message: String,
-    /// The line of the byte that is refused, from 1.
+    /// The line of the error, from 1.
     pub line: usize,
     /// Its column in bytes, from 1.
     pub column: usize,
-    /// Its byte offset in the text, from 0; the text's length, where the text ends too early.
+    /// Its byte offset in the text, from 0; the text's length if the text ends too early.
     pub offset: usize,
     /// That line, without its line feed.
     pub source_line: String,
@@ -41,13 +41,13 @@ impl fmt::Display for Refusal {
 
 impl Error for Refusal {}
 
-/// Why [`try_tidy`](crate::try_tidy), [`try_format`](crate::try_format) or
-/// [`try_check`](crate::try_check) gives no answer.
+/// The error of [`try_tidy`](crate::try_tidy), [`try_format`](crate::try_format) and
+/// [`try_check`](crate::try_check).
 #[derive(Clone, Debug, PartialEq, Eq)]
 pub enum Fault {
-    /// The text is refused.
+    /// The text is rejected.
     Refused(Refusal),
-    /// A growth of memory was refused. It says nothing of the text.
+    /// Out of memory, whatever the text is.
     Memory,
 }
 

@@ -9,25 +9,24 @@
 //! # Ok::<(), isle_syntax::Refusal>(())
 //! ```
 //!
-//! The work is done by a static library that is proved, the crate `isle_c` of this repository. This
-//! package hands it slices and takes the answers; it isn't proved, and its tests hold it against the
-//! cases and the program of the repository. What is promised of the answers stands in the repository's
-//! `README.md`, and of the library's calls in `crates/isle_c/src/lib.rt`.
+//! A proved static library does the work, the crate `isle_c` of this repository. This package
+//! passes it slices and returns its answers. The package isn't proved; its tests compare it with
+//! the cases and the programs of the repository. `docs/PROMISES.md` there lists the promises.
 //!
-//! **The tree of a text holds no comments and no blank lines, so formatting drops them. Tidying
-//! keeps them.**
+//! **The tree of a text has no comments and no blank lines, so formatting drops them. Tidying keeps
+//! them.**
 //!
-//! [`parse`] gives the tree, by the types of upstream's module [`ast`]: a call of the library writes
-//! it as bytes, whose meaning is proved, and the decoder here, which is only tested, takes them.
+//! [`parse`] returns the tree, in the types of upstream's module [`ast`]. The library writes it as
+//! bytes, whose meaning is proved; the decoder in this package is only tested.
 //!
-//! Calls share nothing and keep nothing, so threads may make them at once.
+//! All functions are thread-safe.
 //!
-//! # Deep nests
+//! # Deep nesting
 //!
-//! [`check`], [`parse`], [`format()`] and [`diagnostic`] read and write a nest of parentheses by calls that call
-//! themselves, so how deep one may be depends on the stack of the thread. A nest that is too deep
-//! for it ends the process. [`with_stack`] makes the calls on a thread with a stack of a given size.
-//! On 8 MiB these nests are answered, counted in parentheses around the innermost part:
+//! [`check`], [`parse`], [`format()`] and [`diagnostic`] recurse, so the depth of nesting is
+//! limited by the thread's stack, and an input that is too deep aborts the process. [`with_stack`]
+//! runs calls on a thread with a stack of a given size. 8 MiB suffice for these depths, counted in
+//! parentheses around the innermost part:
 //!
 //! | Nest | Levels |
 //! |---|---|
@@ -37,8 +36,8 @@
 //! | expressions of specs, `(not (not ..))` | 4,000 |
 //! | structs of model types | 34,000 |
 //!
-//! The main thread has 8 MiB on most systems, a thread of Rust's 2 MiB. [`tidy`] and [`is_tidy`]
-//! need no stack for nests.
+//! The main thread has 8 MiB on most systems, a thread that Rust starts has 2 MiB. [`tidy`] and
+//! [`is_tidy`] do not recurse.
 
 #![deny(missing_docs)]
 #![deny(unsafe_op_in_unsafe_fn, clippy::undocumented_unsafe_blocks)]
@@ -55,19 +54,18 @@ use std::alloc::{Layout, handle_alloc_error};
 use std::panic::resume_unwind;
 use std::thread;
 
-/// Room in bytes for nearly every message.
+/// Bytes that suffice for nearly every message.
 const MESSAGE_ROOM: usize = 256;
 
-/// Tidies a text: keeps the author's lines, every comment and each token as it is written, and mends
-/// columns and gaps as Cranelift's authors indent.
+/// Fixes indentation and spacing to match Cranelift's style, and keeps the author's lines, every
+/// comment and every token as it is written.
 ///
-/// Tidying the answer gives it back. A text need not be one of ISLE, only have tokens, comments and
-/// matching parentheses. Where memory runs out the process ends, as it does where a [`String`] can't
-/// grow; [`try_tidy`] answers instead.
+/// Tidying the result changes nothing. The text need not parse: it only needs valid tokens and
+/// matching parentheses. Out of memory aborts the process; [`try_tidy`] returns an error instead.
 ///
 /// # Errors
 ///
-/// A [`Refusal`] says where the text doesn't lex, or which parenthesis has no other:
+/// A [`Refusal`] has the place of the bad token or of the unmatched parenthesis:
 ///
 /// ```
 /// let refusal = isle_syntax::tidy("(rule (f x)\n  y").unwrap_err();
@@ -77,9 +75,9 @@ pub fn tidy(text: &str) -> Result<String, Refusal> {
     try_tidy(text).map_err(or_end)
 }
 
-/// Tells whether a text is tidy: whether [`tidy`] gives it back.
+/// Returns whether a text is tidy: whether [`tidy`] would change nothing.
 ///
-/// Where memory runs out the process ends.
+/// Out of memory aborts the process.
 ///
 /// ```
 /// assert_eq!(isle_syntax::is_tidy("(rule (f x) y)\n"), Ok(true));
@@ -88,7 +86,7 @@ pub fn tidy(text: &str) -> Result<String, Refusal> {
 ///
 /// # Errors
 ///
-/// It is refused exactly where [`tidy`] refuses it.
+/// The same as those of [`tidy`].
 pub fn is_tidy(text: &str) -> Result<bool, Refusal> {
     match archive::is_tidy(text.as_bytes()) {
         Told::Accepted => Ok(true),
@@ -97,55 +95,55 @@ pub fn is_tidy(text: &str) -> Result<bool, Refusal> {
     }
 }
 
-/// Tidies as [`tidy`] does, and answers [`Fault::Memory`] where memory runs out.
+/// Tidies as [`tidy`] does, but returns an error when it is out of memory.
 ///
 /// # Errors
 ///
-/// [`Fault::Refused`] where [`tidy`] refuses the text, and [`Fault::Memory`].
+/// [`Fault::Refused`] if [`tidy`] rejects the text, and [`Fault::Memory`].
 pub fn try_tidy(text: &str) -> Result<String, Fault> {
     let room = text.len().saturating_add(text.len() / 8 + MESSAGE_ROOM);
     whole(room, |into| archive::tidy(text.as_bytes(), into)).map_err(|told| tidy_fault(text, told))
 }
 
-/// Formats a text of ISLE: the print, at this width in bytes, of the one tree that the text spells.
+/// Parses a text and prints its tree, at this width in bytes.
 ///
-/// The answer is accepted, and formats to itself at this width. Where memory runs out the process
-/// ends; [`try_format`] answers instead.
+/// The result parses, and formatting it again at this width changes nothing. Out of memory aborts
+/// the process; [`try_format`] returns an error instead.
 ///
 /// # Errors
 ///
-/// A [`Refusal`] says why the text is none of ISLE.
+/// A [`Refusal`] if the text does not parse.
 pub fn format(text: &str, width: usize) -> Result<String, Refusal> {
     try_format(text, width).map_err(or_end)
 }
 
-/// Tells whether a text is one of ISLE, without formatting it.
+/// Checks whether a text parses.
 ///
-/// Where memory runs out the process ends; [`try_check`] answers instead.
+/// Out of memory aborts the process; [`try_check`] returns an error instead.
 ///
 /// # Errors
 ///
-/// It is refused exactly where [`format()`] refuses it.
+/// The same as those of [`format()`].
 pub fn check(text: &str) -> Result<(), Refusal> {
     try_check(text).map_err(or_end)
 }
 
-/// Formats as [`format()`] does, and answers [`Fault::Memory`] where memory runs out.
+/// Formats as [`format()`] does, but returns an error when it is out of memory.
 ///
 /// # Errors
 ///
-/// [`Fault::Refused`] where [`format()`] refuses the text, and [`Fault::Memory`].
+/// [`Fault::Refused`] if [`format()`] rejects the text, and [`Fault::Memory`].
 pub fn try_format(text: &str, width: usize) -> Result<String, Fault> {
     let room = text.len().saturating_mul(2).saturating_add(MESSAGE_ROOM);
     whole(room, |into| archive::format(text.as_bytes(), width, into))
         .map_err(|told| fault(text, told))
 }
 
-/// Checks as [`check`] does, and answers [`Fault::Memory`] where memory runs out.
+/// Checks as [`check`] does, but returns an error when it is out of memory.
 ///
 /// # Errors
 ///
-/// [`Fault::Refused`] where [`check`] refuses the text, and [`Fault::Memory`].
+/// [`Fault::Refused`] if [`check`] rejects the text, and [`Fault::Memory`].
 pub fn try_check(text: &str) -> Result<(), Fault> {
     match archive::check(text.as_bytes()) {
         Told::Accepted => Ok(()),
@@ -153,10 +151,10 @@ pub fn try_check(text: &str) -> Result<(), Fault> {
     }
 }
 
-/// Parses a text of ISLE: gives the definitions of the one tree that the text spells.
+/// Parses a text, and returns its definitions.
 ///
-/// Each position is a byte offset in the text, in file 0; [`parse_file`] takes another number.
-/// Where memory runs out the process ends.
+/// Each position is a byte offset in the text, in file 0; [`parse_file`] takes another number. Out
+/// of memory aborts the process.
 ///
 /// ```
 /// use isle_syntax::ast::{Def, Ident, Pos};
@@ -170,17 +168,17 @@ pub fn try_check(text: &str) -> Result<(), Fault> {
 ///
 /// # Errors
 ///
-/// It is refused exactly where [`check`] refuses it.
+/// The same as those of [`check`].
 pub fn parse(text: &str) -> Result<Vec<Def>, Refusal> {
     parse_file(text, 0)
 }
 
-/// Parses as [`parse`] does, with this number for the file of each position, so that the trees of
-/// several files can be told apart.
+/// Parses as [`parse`] does, with this number for the file of each position, to distinguish the
+/// trees of several files.
 ///
 /// # Errors
 ///
-/// It is refused exactly where [`check`] refuses it.
+/// The same as those of [`check`].
 pub fn parse_file(text: &str, file: usize) -> Result<Vec<Def>, Refusal> {
     match encoding(text, file) {
         Ok(bytes) => Ok(decode::tree(&bytes).expect("an answer encodes a tree")),
@@ -188,9 +186,9 @@ pub fn parse_file(text: &str, file: usize) -> Result<Vec<Def>, Refusal> {
     }
 }
 
-/// The encoding of a text's tree, or what is told in its place.
+/// The encoding of a text's tree, or the status in its place.
 fn encoding(text: &str, file: usize) -> Result<Vec<u8>, Told> {
-    // Room that isn't written to costs nothing, so there is enough for nearly every tree.
+    // Memory that isn't written to costs nothing, so this is enough for nearly every tree.
     let room = text.len().saturating_mul(4).saturating_add(MESSAGE_ROOM);
     match archive::parse(text.as_bytes(), file, room) {
         Err(Told::TooShort(len)) => archive::parse(text.as_bytes(), file, len),
@@ -198,10 +196,9 @@ fn encoding(text: &str, file: usize) -> Result<Vec<u8>, Told> {
     }
 }
 
-/// Gives the diagnostic of a text, with this name for its file, or `None` where the text is one of
-/// ISLE.
+/// The diagnostic of a text, with this name for its file, or `None` if the text parses.
 ///
-/// It is upstream's plain text, with a line feed behind a source line that has none: the message;
+/// It is upstream's plain text, with a line feed after a source line that has none: the message;
 /// file, line and column, counted from 1, with the line itself; and an empty line.
 ///
 /// ```
@@ -210,7 +207,7 @@ fn encoding(text: &str, file: usize) -> Result<Vec<u8>, Told> {
 /// assert_eq!(shown, format!("parse error: Unexpected token LParen\n{place}\n\n"));
 /// ```
 ///
-/// Where memory runs out the process ends.
+/// Out of memory aborts the process.
 pub fn diagnostic(file: &str, text: &str) -> Option<String> {
     let room = file.len().saturating_add(2 * MESSAGE_ROOM);
     let call = |into: &mut [u8]| archive::diagnostic(file.as_bytes(), text.as_bytes(), into);
@@ -222,7 +219,7 @@ pub fn diagnostic(file: &str, text: &str) -> Option<String> {
     }
 }
 
-/// The version of `cranelift-isle` that the library answers as, by its three numbers.
+/// The version of `cranelift-isle` whose behaviour the library has, as three numbers.
 pub fn version() -> (u32, u32, u32) {
     let archive::Version {
         major,
@@ -232,8 +229,8 @@ pub fn version() -> (u32, u32, u32) {
     (major, minor, patch)
 }
 
-/// Makes calls on a thread with so many bytes of stack, and gives what they give, so that a deep
-/// nest of a stranger's text finds room:
+/// Runs a closure on a thread with this many bytes of stack, and returns its result. Use it for
+/// input that may be deeply nested:
 ///
 /// ```
 /// let text = format!("(rule (f x) {}y{})", "(g ".repeat(50_000), ")".repeat(50_000));
@@ -242,11 +239,11 @@ pub fn version() -> (u32, u32, u32) {
 /// # Ok::<(), std::io::Error>(())
 /// ```
 ///
-/// A panic of the closure goes on in the caller.
+/// A panic of the closure is resumed in the caller.
 ///
 /// # Errors
 ///
-/// The system's, where there can be no such thread.
+/// The system's, if it can't start such a thread.
 pub fn with_stack<T: Send>(bytes: usize, calls: impl FnOnce() -> T + Send) -> std::io::Result<T> {
     thread::scope(|scope| {
         let made = thread::Builder::new()
@@ -259,8 +256,8 @@ pub fn with_stack<T: Send>(bytes: usize, calls: impl FnOnce() -> T + Send) -> st
     })
 }
 
-/// Makes a call with so much room, and again where its answer wants more. Gives the answer, or what
-/// is told in its place.
+/// Makes a call with a buffer of `room` bytes, and again with a larger one if the answer needs it.
+/// Returns the answer, or the status in its place.
 fn whole(room: usize, mut call: impl FnMut(&mut [u8]) -> Told) -> Result<String, Told> {
     let mut into = Vec::new();
     let mut wanted = room;
@@ -279,15 +276,15 @@ fn whole(room: usize, mut call: impl FnMut(&mut [u8]) -> Told) -> Result<String,
     }
 }
 
-/// A call that tells why and where a text is refused.
+/// A call that writes the message and the place of an error.
 type Reason = fn(&[u8], &mut [u8], &mut Place) -> Told;
 
-/// Why a text is none of ISLE, by what was told of it.
+/// The fault of a text that does not parse.
 fn fault(text: &str, told: Told) -> Fault {
     fault_of(text, told, archive::refusal)
 }
 
-/// Why a text isn't tidied, by what was told of it.
+/// The fault of a text that can't be tidied.
 fn tidy_fault(text: &str, told: Told) -> Fault {
     fault_of(text, told, archive::tidy_refusal)
 }
@@ -300,11 +297,11 @@ fn fault_of(text: &str, told: Told, reason: Reason) -> Fault {
     }
 }
 
-/// The refusal of a text that is refused.
+/// The message and the place of the error in a text that was rejected.
 fn refusal(text: &str, reason: Reason) -> Result<Refusal, Fault> {
     let mut place = Place::default();
     let call = |into: &mut [u8]| reason(text.as_bytes(), into, &mut place);
-    // The text is refused, so nothing but out of memory is told in place of a reason.
+    // The text is rejected, so the only other status is out of memory.
     let message = whole(MESSAGE_ROOM, call).map_err(|_| Fault::Memory)?;
     let line = &text[place.line_begin..place.line_end];
     let line = line.strip_suffix('\n').unwrap_or(line);
@@ -322,7 +319,7 @@ fn refusal(text: &str, reason: Reason) -> Result<Refusal, Fault> {
     })
 }
 
-/// The refusal of a text. Where memory ran out, the process ends.
+/// The refusal in a fault. Out of memory aborts the process.
 fn or_end(fault: Fault) -> Refusal {
     match fault {
         Fault::Refused(refusal) => refusal,
@@ -330,7 +327,7 @@ fn or_end(fault: Fault) -> Refusal {
     }
 }
 
-/// Ends the process because memory ran out, as the standard library does.
+/// Aborts the process for lack of memory, as the standard library does.
 fn end() -> ! {
     handle_alloc_error(Layout::new::<u8>())
 }

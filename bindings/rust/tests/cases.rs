@@ -1,5 +1,5 @@
-//! The cases of the conformance data that ask what `format`, `check` or `diagnostic` answers. The
-//! data stands in `crates/isle_test_conformance`: a question a line in `stdin`, its answer in `stdout`.
+//! The cases of the conformance data for `format`, `check` and `diagnostic`. The data is in
+//! `crates/isle_test_conformance`: a question a line in `stdin`, its answer in `stdout`.
 
 use isle_syntax::{check, diagnostic, format};
 use std::fs::read_to_string;
@@ -22,14 +22,14 @@ fn cases(call: &str) -> Vec<(String, String)> {
         .collect()
 }
 
-/// The words in front of a quoted text, as numbers, and the text.
+/// The words before a quoted text, as numbers, and the text.
 fn numbers_and_text(question: &str) -> (Vec<usize>, String) {
     let (words, quoted) = question.split_at(question.find('"').unwrap());
     let numbers = words.split_whitespace().map(|it| it.parse().unwrap());
     (numbers.collect(), unquoted(quoted))
 }
 
-/// The text that Debug writes so.
+/// The text with this Debug output.
 fn unquoted(quoted: &str) -> String {
     let inside = quoted.strip_prefix('"').unwrap().strip_suffix('"').unwrap();
     let mut text = String::new();

@@ -15,7 +15,7 @@ const TEXTS: u64 = 1000;
 /// Where a proved program may be, from the package: built in the repository, or packed beside it.
 const FOLDERS: [&str; 2] = ["../../crates/NAME/out/NAME", "../bin/NAME"];
 
-/// The proved program of a name, where there is one.
+/// The proved program of a name, if there is one.
 fn path_of(name: &str) -> Option<PathBuf> {
     let here = Path::new(env!("CARGO_MANIFEST_DIR"));
     let built = here.join(FOLDERS[0].replace("NAME", &name.replace('-', "_")));
@@ -28,7 +28,7 @@ fn width(seed: u64) -> usize {
     [0, 1, 20, 40, 78, 200, usize::MAX][Chance::new(seed).below(7)]
 }
 
-/// What a program ends with and writes.
+/// The status and the output of a program.
 fn ran(program: &Path, word: Option<String>, text: &str) -> (Option<i32>, String, String) {
     let mut run = Command::new(program)
         .args(word)
@@ -167,7 +167,7 @@ fn threads_format_at_once() {
 
 #[test]
 fn a_long_answer_is_whole() {
-    // The answer is a dozen times as long as its text, so the first room is too short for it.
+    // The answer is a dozen times as long as its text, so the first buffer is too small for it.
     let text = format!("(rule {}x{} y)", "(a ".repeat(50), ")".repeat(50));
     let formatted = format(&text, 1).unwrap();
     assert!(formatted.len() > 10 * text.len());

@@ -1,4 +1,4 @@
-//! Trees: those that the repository's cases state, and of generated texts, printed again.
+//! Trees of the repository's cases, and of generated texts, printed again.
 
 mod common;
 mod printer;
@@ -117,7 +117,7 @@ fn the_file_is_that_of_each_position() {
 #[test]
 fn dense_and_long_texts() {
     assert_eq!(parse(""), Ok(vec![]));
-    // More bytes than the text has room for at first, and names that are longer than the rest.
+    // More bytes than the first buffer has room for, and names that are longer than the rest.
     let dense = format!("(rule (f {}) x)", "x ".repeat(20_000));
     assert_eq!(parse(&dense).map(|defs| defs.len()), Ok(1));
     let long = format!("(convert A B {})", "x".repeat(100_000));

@@ -65,7 +65,7 @@ fn main() -> ExitCode {
     }
 }
 
-/// The code of a program, whose files are parsed so, or why there is none.
+/// The code of a program whose files are parsed this way, or the reason why there is none.
 fn code(
     names: &[String],
     texts: &[String],
@@ -84,7 +84,7 @@ fn code(
     compile::compile(files, &defs, &options).map_err(|errors| format!("{errors:?}"))
 }
 
-/// The text with blanks in the place of each definition of verification, so that nothing moves.
+/// The text with blanks in place of each definition for verification, so that nothing moves.
 fn blanked(text: &str) -> String {
     let mut bytes = text.as_bytes().to_vec();
     let (mut at, mut depth, mut from) = (0, 0usize, None);

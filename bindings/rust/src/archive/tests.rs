@@ -1,8 +1,8 @@
-//! The calls on slices of every length, on bytes that are no text, and on the empty text.
+//! The calls on slices of every length, on bytes that are not UTF-8, and on the empty text.
 
 use super::*;
 
-/// What stands in a slice before a call.
+/// The content of a slice before a call.
 const BEFORE: u8 = b'#';
 
 const DECL: &[u8] = b"(decl foo (A) B)\n";
@@ -13,8 +13,8 @@ const REFUSED: &[u8] = b"(decl f () T)\n(decl pure () T)\n";
 
 const NO_UTF8: &[u8] = b"(decl foo (A) \xff)";
 
-/// Makes a call with a slice of each length up to two past the answer's: it is too short as long as
-/// the answer doesn't fit in, and then has it at its front. The rest of it stays as it was.
+/// Makes a call with a slice of each length up to two past the answer's. It is too short as long as
+/// the answer doesn't fit, and then has the answer at its front. The rest of it stays as it was.
 fn at_every_length(answer: &[u8], mut call: impl FnMut(&mut [u8]) -> Told) {
     for len in 0..answer.len() + 3 {
         let mut room = vec![BEFORE; len + 2];
@@ -30,7 +30,7 @@ fn at_every_length(answer: &[u8], mut call: impl FnMut(&mut [u8]) -> Told) {
     }
 }
 
-/// Makes a call that writes nothing, and gives what it tells.
+/// Makes a call that writes nothing, and returns its status.
 fn told_alone(call: impl FnOnce(&mut [u8]) -> Told) -> Told {
     let mut room = [BEFORE; 100];
     let told = call(&mut room);
@@ -48,7 +48,7 @@ fn formats_into_a_slice_of_every_length() {
 
 #[test]
 fn parses_into_room_of_every_length() {
-    // A kind, then each part: a text has its length in front, a position its file and its offset.
+    // A kind, then each part: a text has its length before it, a position its file and its offset.
     let conversion = [
         &[1, 13][..],
         &[1, b'c', 3, 13],

@@ -2,7 +2,7 @@
 
 use super::{Ident, Pos};
 
-/// A rule: what the pattern matches is rewritten to the expression, where the conditions hold.
+/// A rule: a value that matches the pattern is rewritten to the expression, if the conditions hold.
 #[derive(Clone, Debug, PartialEq, Eq)]
 pub struct Rule {
     /// The left side.
@@ -13,16 +13,16 @@ pub struct Rule {
     pub expr: Expr,
     /// The position of the token after the keyword.
     pub pos: Pos,
-    /// The priority, if the rule gives one.
+    /// The priority, if the rule has one.
     pub prio: Option<i64>,
-    /// The name, if the rule gives one.
+    /// The name, if the rule has one.
     pub name: Option<Ident>,
 }
 
 /// A condition of a rule, `(if-let ..)`. `(if ..)` is one whose pattern is a wildcard.
 #[derive(Clone, Debug, PartialEq, Eq)]
 pub struct IfLet {
-    /// What the value of the expression has to match.
+    /// The pattern that the value of the expression must match.
     pub pattern: Pattern,
     /// The expression.
     pub expr: Expr,
@@ -43,18 +43,18 @@ pub struct Extractor {
     pub pos: Pos,
 }
 
-/// A pattern: what a rule, a condition or an extractor matches. Each position is that of the
-/// pattern's first token.
+/// A pattern of a rule, a condition or an extractor. Each position is that of the pattern's first
+/// token.
 #[derive(Clone, Debug, PartialEq, Eq)]
 pub enum Pattern {
-    /// A variable: the first one of its name is bound, a later one has to have the same value.
+    /// A variable: the first one of its name is bound, a later one must have the same value.
     Var {
         /// The variable.
         var: Ident,
         /// Its position.
         pos: Pos,
     },
-    /// A variable that is bound to what a pattern matches, `x @ ..`.
+    /// A variable that is bound to the value that a pattern matches, `x @ ..`.
     BindPattern {
         /// The variable.
         var: Ident,
@@ -98,24 +98,23 @@ pub enum Pattern {
         /// Its position.
         pos: Pos,
     },
-    /// Patterns that all have to match, `(and ..)`.
+    /// Patterns that must all match, `(and ..)`.
     And {
         /// The patterns.
         subpats: Vec<Pattern>,
         /// Its position.
         pos: Pos,
     },
-    /// An argument of a macro, in a template. No text spells it.
+    /// An argument of a macro, in a template. No text parses as it.
     MacroArg {
         /// The place of the argument, counted from 0.
         index: usize,
-        /// The position of what it stands for.
+        /// The position of the variable that it replaces.
         pos: Pos,
     },
 }
 
-/// An expression: what a rule or a condition computes. Each position is that of the expression's
-/// first token.
+/// An expression of a rule or a condition. Each position is that of the expression's first token.
 #[derive(Clone, Debug, PartialEq, Eq)]
 pub enum Expr {
     /// A term and its arguments.

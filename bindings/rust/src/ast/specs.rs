@@ -1,9 +1,9 @@
-//! The part of the tree that verification speaks of: specs, their expressions, and models of types.
+//! The part of the tree for verification: specs, their expressions, and models of types.
 
 use super::{Ident, Pos};
 
-/// A spec expression. Each position is that of the expression's first token, but a `Pair` stands at
-/// the token after its `(`.
+/// A spec expression. Each position is that of the expression's first token, but for a `Pair` it is
+/// that of the token after its `(`.
 #[derive(Clone, Debug, PartialEq, Eq)]
 pub enum SpecExpr {
     /// An integer.
@@ -103,7 +103,7 @@ pub enum SpecExpr {
     Macro {
         /// The parameters, in order.
         params: Vec<Ident>,
-        /// What it stands for.
+        /// The body.
         body: Box<SpecExpr>,
         /// Its position.
         pos: Pos,
@@ -128,9 +128,9 @@ pub enum SpecExpr {
     },
     /// A variant of an enum, `(name.variant arg ..)`.
     Enum {
-        /// The name of the enum. It stands at the `(`.
+        /// The name of the enum. Its position is that of the `(`.
         name: Ident,
-        /// The name of the variant. It stands at the `(`.
+        /// The name of the variant. Its position is that of the `(`.
         variant: Ident,
         /// The values of its fields.
         args: Vec<SpecExpr>,

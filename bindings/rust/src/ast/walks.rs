@@ -1,4 +1,4 @@
-//! What is asked of a node: its position, the term at its root, and all its terms.
+//! Parts of a node: its position, the term at its root, and all its terms.
 
 use super::{Expr, Ident, Pattern, Pos, SpecExpr, Variant};
 
@@ -8,15 +8,15 @@ impl Pos {
         Self { file, offset }
     }
 
-    /// Tells whether this is the default position, which stands for an unknown place.
+    /// Returns whether this is the default position, which stands for an unknown place.
     pub fn is_unknown(&self) -> bool {
         *self == Self::default()
     }
 }
 
 impl Variant {
-    /// Gives the full name of a variant: the enum's name, a dot and the variant's name, at the
-    /// position of the variant's name.
+    /// The full name of a variant: the enum's name, a dot and the variant's name, at the position
+    /// of the variant's name.
     pub fn full_name(enum_name: &Ident, variant_name: &Ident) -> Ident {
         Ident(
             format!("{}.{}", enum_name.0, variant_name.0),
@@ -26,7 +26,7 @@ impl Variant {
 }
 
 impl Pattern {
-    /// The term of a pattern that is one, or `None`.
+    /// The symbol of a term, or `None` for another pattern.
     pub fn root_term(&self) -> Option<&Ident> {
         match self {
             Pattern::Term { sym, .. } => Some(sym),

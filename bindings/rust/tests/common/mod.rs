@@ -1,6 +1,6 @@
 //! Generated texts of ISLE, whole and damaged, the same in each run.
 
-/// Numbers that look like chance, from a seed.
+/// Pseudorandom numbers from a seed.
 pub struct Chance(u64);
 
 impl Chance {
@@ -72,7 +72,7 @@ fn definition(chance: &mut Chance) -> String {
     }
 }
 
-/// A list of a name and some nodes, of which each is so deep at most.
+/// A list of a name and some nodes, each at most this deep.
 fn list(chance: &mut Chance, depth: usize, node: fn(&mut Chance, usize) -> String) -> String {
     let mut list = format!("({}", chance.one_of(&NAMES[..7]));
     for _ in 0..chance.below(5) {
@@ -112,7 +112,7 @@ fn leaf(chance: &mut Chance, _depth: usize) -> String {
     }
 }
 
-/// Takes a character away, puts one in, or cuts the text.
+/// Removes a character, inserts one, or cuts the text.
 fn damage(chance: &mut Chance, text: &mut String) {
     let mut at = chance.below(text.len() + 1);
     while !text.is_char_boundary(at) {

@@ -1,4 +1,4 @@
-//! Prints a tree, each definition on one line, as the formatter does where everything fits.
+//! Prints a tree, each definition on one line, as the formatter does if everything fits.
 
 use isle_syntax::ast::*;
 
