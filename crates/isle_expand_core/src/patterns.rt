@@ -1,4 +1,4 @@
-//! The expansion of patterns, where macros are known.
+//! The expansion of patterns by macros.
 
 ghost use Rattle.std.specs.Prelude.{◌≡◌, IfOk, option_map};
 ghost use Rattle.isle_ast_names.specs.TreeView.{name_of};
@@ -16,10 +16,10 @@ use std::alloc::{AllocError, AllocFailed, Global};
 /// Why a pattern is not expanded.
 #[derive(Clone, Copy)]
 pub enum Refusal {
-    /// A use gives another number of arguments than its macro has parameters, or the expansion of
-    /// its macro isn't known.
+    /// A use has another number of arguments than its macro has parameters, or the expansion of its
+    /// macro is not known.
     Use,
-    /// A growth of memory was refused.
+    /// Out of memory.
     Memory,
 }
 
@@ -39,7 +39,6 @@ impl<T: Drop> From<AllocFailed<T>> for Refusal {
     }
 }
 
-/// Expands a pattern.
 #[cycle(expand)]
 pub fn expand(pattern: &Pattern, alloc: Global, macros: &[Macro]) -> Result<Pattern, Refusal>
     ensures { Gives pattern_of result (expand (pattern_of pattern.now) (macros_of macros.now)) }
@@ -70,7 +69,6 @@ pub fn expand(pattern: &Pattern, alloc: Global, macros: &[Macro]) -> Result<Patt
     }
 }
 
-/// Expands patterns, in order.
 #[cycle(expand)]
 pub fn expand_list(
     patterns: &Vec<Pattern>,
@@ -87,7 +85,7 @@ pub fn expand_list(
     Ok(made)
 }
 
-/// Expands a term whose arguments are expanded.
+/// Expands a term whose arguments are expanded already.
 fn expand_use(
     sym: &Ident,
     args: Vec<Pattern>,
@@ -112,8 +110,8 @@ fn expand_use(
     }
 }
 
-/// Gives what a macro stands for with these arguments. None if it takes another number of them, or
-/// its expansion isn't known.
+/// Returns what a macro stands for with these arguments, or `None` if it takes another number of
+/// them or its expansion is not known.
 fn filled(known: &Macro, args: &[Pattern], alloc: Global) -> Result<Option<Pattern>, AllocError>
     ensures { IfOk result
         (λ made. option_map pattern_of made
