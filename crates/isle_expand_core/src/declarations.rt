@@ -9,7 +9,7 @@ ghost use Rattle.isle_expand_core.specs.Definitions.{defines, has_root, is_only_
 ghost use Rattle.isle_expand_core.specs.Definitions.{is_outside};
 ghost use Rattle.isle_expand_core.specs.Views.{macros_of};
 
-use crate::macros::{Macro, meant};
+use crate::macros::{Macro, find_macro};
 use isle_ast::ast::{Decl, Def, Extern, Ident, Pattern};
 use isle_expand_warnings::variants::has_variant;
 
@@ -19,7 +19,7 @@ pub fn is_only_extracted(decl: &Decl, defs: &[Def], macros: &[Macro]) -> bool
         ≡ is_only_extracted (definitions_of defs.now) (macros_of macros.now)
         (declaration_of decl.now) }
 {
-    meant(&decl.term, macros).is_some() && !is_defined(&decl.term, defs)
+    find_macro(&decl.term, macros).is_some() && !is_defined(&decl.term, defs)
 }
 
 /// Returns whether one of the definitions defines a term in another way than by an extractor.

@@ -1,7 +1,7 @@
 //! The expansion of extractors that are macros of patterns.
 //!
 //! `(extractor (E a b) (F a (G b)))` defines a macro: the use `(E p q)` of it in a pattern stands
-//! for `(F p (G q))`. `expanded` replaces each use by what it stands for, and drops the definitions
+//! for `(F p (G q))`. `expand` replaces each use by what it stands for, and drops the definitions
 //! of the macros.
 #![tactic(auto)]
 
@@ -29,7 +29,7 @@ use isle_ast::ast::Def;
 pub use isle_expand_warnings::{Warning, warnings};
 use macros::{expansions, templates};
 pub use misuse::{ExpandFault, Misuse};
-use order::callees_first;
+use order::callee_order;
 use patterns::Refusal;
 use search::first_misuse;
 use std::alloc::Global;
@@ -57,7 +57,7 @@ use std::alloc::Global;
 /// Extractors that nothing uses are checked too. `Memory` means out of memory.
 ///
 /// No definition may hold a macro argument, `Pattern::MacroArg`. The parser never makes one.
-pub fn expanded(alloc: Global, defs: &[Def]) -> Result<Vec<Def>, ExpandFault>
+pub fn expand(alloc: Global, defs: &[Def]) -> Result<Vec<Def>, ExpandFault>
     requires { definitions_have_macro_arg (definitions_of defs.now) ≡ false }
     // The result.
     ensures expansion { IfOk result
@@ -77,7 +77,7 @@ pub fn expanded(alloc: Global, defs: &[Def]) -> Result<Vec<Def>, ExpandFault>
         (λ misuse. IsFirstMisuse (definitions_of defs.now) (misuse_of misuse))) }
 {
     let templates = templates(alloc, defs)?;
-    let order = callees_first(alloc, &templates)?;
+    let order = callee_order(alloc, &templates)?;
     if let Some(misuse) = first_misuse(alloc, defs, &templates, &order.ends)? {
         return Err(ExpandFault::Misuse(misuse));
     }

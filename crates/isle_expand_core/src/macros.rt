@@ -74,7 +74,7 @@ pub fn expansions<'t, 'a>(
     ensures { IfOk result
         (λ macros. macros_of macros.items ≡ expand_places order.now (map begun_of templates.now)) }
 {
-    let mut macros = begun(alloc, templates)?;
+    let mut macros = unexpanded_macros(alloc, templates)?;
     for place in order {
         expand_place(alloc, &mut macros, *place)?;
     }
@@ -112,7 +112,10 @@ fn expansion(
 }
 
 /// Makes the macros of templates. No expansion is known yet.
-fn begun<'t, 'a>(alloc: Global, templates: &'t [Template<'a>]) -> Result<Vec<Macro<'t>>, AllocError>
+fn unexpanded_macros<'t, 'a>(
+    alloc: Global,
+    templates: &'t [Template<'a>],
+) -> Result<Vec<Macro<'t>>, AllocError>
     ensures { IfOk result (λ macros. macros_of macros.items ≡ map begun_of templates.now) }
 {
     let mut macros = Vec::with_capacity(alloc, templates.len())?;
@@ -128,7 +131,7 @@ fn begun<'t, 'a>(alloc: Global, templates: &'t [Template<'a>]) -> Result<Vec<Mac
 }
 
 /// Returns the first macro with this name.
-pub fn meant<'m, 'a>(sym: &Ident, macros: &'m [Macro<'a>]) -> Option<&'m Macro<'a>>
+pub fn find_macro<'m, 'a>(sym: &Ident, macros: &'m [Macro<'a>]) -> Option<&'m Macro<'a>>
     ensures { option_map (λ known. macro_of known.now) result
         ≡ meant (name_of sym.now).text (macros_of macros.now) }
 {

@@ -23,7 +23,7 @@ pub struct Order {
 }
 
 /// Finds and orders the templates whose expansion ends.
-pub fn callees_first(alloc: Global, templates: &[Template]) -> Result<Order, AllocError>
+pub fn callee_order(alloc: Global, templates: &[Template]) -> Result<Order, AllocError>
     ensures order { IfOk result
         (λ order. IsOrder (callees_in (map begun_of templates.now)) order.ends.items
         order.places.items) }
@@ -32,11 +32,11 @@ pub fn callees_first(alloc: Global, templates: &[Template]) -> Result<Order, All
         (length templates.now)) }
 {
     let callees = callees(alloc, templates)?;
-    settled(alloc, &callees)
+    settle(alloc, &callees)
 }
 
 /// Adds templates to the order until no further one has all its callees in it.
-fn settled(alloc: Global, callees: &[Vec<usize>]) -> Result<Order, AllocError>
+fn settle(alloc: Global, callees: &[Vec<usize>]) -> Result<Order, AllocError>
     ensures order { IfOk result
         (λ order. IsOrder (map (λ v. v.items) callees.now) order.ends.items order.places.items) }
     ensures closed { IfOk result
@@ -48,14 +48,14 @@ fn settled(alloc: Global, callees: &[Vec<usize>]) -> Result<Order, AllocError>
         places: Vec::new(alloc),
     };
     loop {
-        if !round(callees, &mut order)? {
+        if !add_ready(callees, &mut order)? {
             return Ok(order);
         }
     }
 }
 
 /// Adds the templates whose callees are all in the order. Returns whether there were any.
-fn round(callees: &[Vec<usize>], order: &mut Order) -> Result<bool, AllocError>
+fn add_ready(callees: &[Vec<usize>], order: &mut Order) -> Result<bool, AllocError>
     requires { IsOrder (map (λ v. v.items) callees.now) order.old.ends.items
         order.old.places.items }
     ensures order { IfOk result
@@ -71,7 +71,7 @@ fn round(callees: &[Vec<usize>], order: &mut Order) -> Result<bool, AllocError>
     let mut more = false;
     for place in 0..callees.len() {
         if is_ready(callees, order, place) {
-            add(callees, order, place)?;
+            add_template(callees, order, place)?;
             more = true;
         }
     }
@@ -89,7 +89,7 @@ fn is_ready(callees: &[Vec<usize>], order: &Order, place: usize) -> bool
     !order.ends[place] && all_end(&callees[place], &order.ends)
 }
 
-fn add(callees: &[Vec<usize>], order: &mut Order, place: usize) -> Result<(), AllocError>
+fn add_template(callees: &[Vec<usize>], order: &mut Order, place: usize) -> Result<(), AllocError>
     requires order { IsOrder (map (λ v. v.items) callees.now) order.old.ends.items
         order.old.places.items }
     requires within { place < length callees.now }

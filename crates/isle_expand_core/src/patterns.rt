@@ -8,7 +8,7 @@ ghost use Rattle.isle_expand_core.specs.Macros.{meant};
 ghost use Rattle.isle_expand_core.specs.Views.{Gives, macro_of, macros_of};
 ghost use Rattle.isle_expand_core.specs.declared.patterns.Refusal.TheVariants.{Memory};
 
-use crate::macros::{Macro, meant};
+use crate::macros::{Macro, find_macro};
 use isle_ast::ast::{Ident, Pattern};
 use isle_base::lexer::Pos;
 use std::alloc::{AllocError, AllocFailed, Global};
@@ -97,13 +97,13 @@ fn expand_use(
         (expand_use (name_of sym.now) pos (meant (name_of sym.now).text (macros_of macros.now))
         (pattern_list_of (patterns_of args.items))) }
 {
-    match meant(sym, macros) {
+    match find_macro(sym, macros) {
         None => Ok(Pattern::Term {
             sym: sym.clone()?,
             args,
             pos,
         }),
-        Some(used) => match filled(used, &args, alloc)? {
+        Some(used) => match fill_template(used, &args, alloc)? {
             Some(made) => Ok(made),
             None => Err(Refusal::Use),
         },
@@ -112,7 +112,11 @@ fn expand_use(
 
 /// Returns what a macro stands for with these arguments, or `None` if it takes another number of
 /// them or its expansion is not known.
-fn filled(known: &Macro, args: &[Pattern], alloc: Global) -> Result<Option<Pattern>, AllocError>
+fn fill_template(
+    known: &Macro,
+    args: &[Pattern],
+    alloc: Global,
+) -> Result<Option<Pattern>, AllocError>
     ensures { IfOk result
         (λ made. option_map pattern_of made
         ≡ filled (macro_of known.now) (patterns_of args.now)) }

@@ -72,7 +72,7 @@ fn definition_misuse(
         (definition_mentions place (definition_of def.now))) }
 {
     match def {
-        Def::Rule(rule) => first_misused(&rule_uses(alloc, rule)?, templates, ends),
+        Def::Rule(rule) => first_use_misuse(&rule_uses(alloc, rule)?, templates, ends),
         Def::Extractor(extractor) => extractor_misuse(alloc, extractor, place, templates, ends),
         _ => Ok(None),
     }
@@ -117,11 +117,11 @@ fn template_misuse(
         ≡ first (use_misuse (map begun_of templates.now) ends.now)
         (uses (begun_of template.now).template)) }
 {
-    first_misused(&uses(alloc, &template.pattern)?, templates, ends)
+    first_use_misuse(&uses(alloc, &template.pattern)?, templates, ends)
 }
 
 /// Finds the first misuse among uses.
-fn first_misused(
+fn first_use_misuse(
     uses: &[TermUse],
     templates: &[Template],
     ends: &[bool],
