@@ -20,7 +20,7 @@ ghost use Rattle.isle_program.specs.Reading.{IsReading};
 
 use isle_cli::failure::Failure;
 use isle_cli::sources::Source;
-use isle_expand_core::{ExpandFault, Misuse, Warning, expanded, warnings};
+use isle_expand_core::{ExpandFault, Misuse, Warning, expand, warnings};
 use isle_parser::dropping::drop_definitions;
 use isle_program::messages::{line_at, refusal_lines};
 use isle_program::trees::{Reading, drop_reading, read_all, refused_count};
@@ -110,7 +110,7 @@ fn printed_expansion(
     ensures err { IfErr result
         (λ failure. IsExpandFailure failure (map source_of sources.now)) }
 {
-    match expanded(alloc, defs) {
+    match expand(alloc, defs) {
         Ok(expansion) => {
             let print = print_writable(alloc, &expansion, width);
             drop_definitions(expansion);

@@ -1,4 +1,4 @@
-//! The declarations that only an extractor defines.
+//! The declarations of terms that only an extractor defines.
 
 ghost use Rattle.std.specs.Prelude.{◌≡◌};
 ghost use Rattle.std.specs.List.{list_any};
@@ -9,20 +9,20 @@ ghost use Rattle.isle_expand_core.specs.Definitions.{defines, has_root, is_only_
 ghost use Rattle.isle_expand_core.specs.Definitions.{is_outside};
 ghost use Rattle.isle_expand_core.specs.Views.{macros_of};
 
-use crate::macros::{Macro, meant};
+use crate::macros::{Macro, find_macro};
 use isle_ast::ast::{Decl, Def, Extern, Ident, Pattern};
 use isle_expand_warnings::variants::has_variant;
 
-/// Tells whether only an extractor defines what is declared, among these definitions.
+/// Returns whether a macro, and no other definition, defines the declared term.
 pub fn is_only_extracted(decl: &Decl, defs: &[Def], macros: &[Macro]) -> bool
     ensures { result
         ≡ is_only_extracted (definitions_of defs.now) (macros_of macros.now)
         (declaration_of decl.now) }
 {
-    meant(&decl.term, macros).is_some() && !is_defined(&decl.term, defs)
+    find_macro(&decl.term, macros).is_some() && !is_defined(&decl.term, defs)
 }
 
-/// Tells whether one of the definitions defines a term in another way than as an extractor.
+/// Returns whether one of the definitions defines a term in another way than by an extractor.
 fn is_defined(term: &Ident, defs: &[Def]) -> bool
     ensures { result ≡ list_any (defines (name_of term.now).text) (definitions_of defs.now) }
 {
@@ -34,7 +34,7 @@ fn is_defined(term: &Ident, defs: &[Def]) -> bool
     false
 }
 
-/// Tells whether a definition defines a term in another way than as an extractor.
+/// Returns whether a definition defines a term in another way than by an extractor.
 fn defines(term: &Ident, def: &Def) -> bool
     ensures { result ≡ defines (name_of term.now).text (definition_of def.now) }
 {
@@ -46,7 +46,7 @@ fn defines(term: &Ident, def: &Def) -> bool
     }
 }
 
-/// Tells whether a pattern is a term of this symbol.
+/// Returns whether a pattern is a term with this symbol.
 fn has_root(term: &Ident, pattern: &Pattern) -> bool
     ensures { result ≡ has_root (name_of term.now).text (pattern_of pattern.now) }
 {
@@ -56,7 +56,7 @@ fn has_root(term: &Ident, pattern: &Pattern) -> bool
     }
 }
 
-/// Tells whether a term is defined outside.
+/// Returns whether an `extern` defines a term.
 fn is_outside(term: &Ident, outside: &Extern) -> bool
     ensures { result ≡ is_outside (name_of term.now).text (extern_of outside.now) }
 {

@@ -1,4 +1,4 @@
-//! The expansion of definitions, where macros are known.
+//! The expansion of definitions by macros.
 
 ghost use Rattle.std.specs.Prelude.{◌≡◌, false, option_to_list};
 ghost use Rattle.isle_ast.specs.MacroArgs.{definition_has_macro_arg, definitions_have_macro_arg};
@@ -18,7 +18,6 @@ use crate::patterns::{Refusal, expand, expand_list};
 use isle_ast::ast::{Def, Extractor, IfLet, Pattern, Rule};
 use std::alloc::Global;
 
-/// Expands definitions, in order.
 pub fn expand_definitions(
     alloc: Global,
     defs: &[Def],
@@ -38,8 +37,8 @@ pub fn expand_definitions(
     Ok(made)
 }
 
-/// Expands one of the definitions `defs`. None is left of an extractor, whose template has to have
-/// an expansion too, and of the declaration of a term that only an extractor defines.
+/// Expands one of the definitions `defs`. Returns `None` for an extractor, whose template must have
+/// an expansion too, and for the declaration of a term that only an extractor defines.
 fn expand_definition(
     def: &Def,
     alloc: Global,
@@ -78,7 +77,7 @@ fn expand_rule(rule: &Rule, alloc: Global, macros: &[Macro]) -> Result<Rule, Ref
     })
 }
 
-/// Expands the arguments of a rule's root. A root that is no term stays as it is.
+/// Expands the arguments of a rule's root. A root that is not a term stays as it is.
 fn expand_root(pattern: &Pattern, alloc: Global, macros: &[Macro]) -> Result<Pattern, Refusal>
     ensures { Gives pattern_of result
         (expand_root (pattern_of pattern.now) (macros_of macros.now)) }
@@ -93,7 +92,7 @@ fn expand_root(pattern: &Pattern, alloc: Global, macros: &[Macro]) -> Result<Pat
     }
 }
 
-/// Expands the patterns of conditions, in order.
+/// Expands the patterns of conditions.
 fn expand_conditions(
     conditions: &[IfLet],
     alloc: Global,
@@ -113,7 +112,6 @@ fn expand_conditions(
     Ok(made)
 }
 
-/// Expands the template of an extractor.
 fn expand_template(
     extractor: &Extractor,
     alloc: Global,

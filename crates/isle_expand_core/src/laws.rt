@@ -12,7 +12,7 @@ ghost use Rattle.isle_expand_core.specs.Expansion.{Expands};
 ghost use Rattle.isle_expand_core.specs.Misuses.{IsFirstMisuse, MisuseNode};
 ghost use Rattle.isle_expand_core.specs.Macros.{MacroNode, macros_in, meant};
 
-/// A law, which runs no code: a pattern has one expansion at most, and so have definitions.
+/// A law, which runs no code: a pattern has at most one expansion, and so have definitions.
 pub fn one_expansion()
     ensures pattern { (ds : List Definition) (p q r : PatternNode)
         → Expands ds p q → Expands ds p r → q ≡ r }
@@ -20,7 +20,7 @@ pub fn one_expansion()
         → AreExpanded ds es → AreExpanded ds fs → es ≡ fs }
 {}
 
-/// A law, which runs no code: no use of an extractor is left in what is expanded.
+/// A law, which runs no code: no use of an extractor is left in an expansion.
 pub fn no_use_is_left()
     ensures pattern { (ds : List Definition) (p q : PatternNode)
         → Expands ds p q → IsFree (macros_in ds) q }
@@ -28,9 +28,9 @@ pub fn no_use_is_left()
         → AreExpanded ds es → AreFree (macros_in ds) es }
 {}
 
-/// A law, which runs no code: a use expands to the expansion of its macro's template, with its
-/// arguments, expanded, in their places, and to nothing else; a term that is no use to itself with
-/// its arguments expanded.
+/// A law, which runs no code: a use expands to its macro's template, expanded, with its arguments,
+/// expanded, in their places, and to nothing else. A term that is no use expands to itself with its
+/// arguments expanded.
 pub fn terms_by_cases()
     ensures uses { (ds : List Definition) (term : Name) (args : PatternList) (place : Pos)
         (m : MacroNode) (q : PatternNode) → meant term.text (macros_in ds) ≡ Some m

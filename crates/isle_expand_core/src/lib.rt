@@ -1,8 +1,8 @@
 //! The expansion of extractors that are macros of patterns.
 //!
 //! `(extractor (E a b) (F a (G b)))` defines a macro: the use `(E p q)` of it in a pattern stands
-//! for `(F p (G q))`. `expanded` puts in what each use stands for, and leaves the definitions of
-//! the macros out.
+//! for `(F p (G q))`. `expand` replaces each use by what it stands for, and drops the definitions
+//! of the macros.
 #![tactic(auto)]
 
 ghost use Rattle.std.specs.Prelude.{◌≡◌, IfErr, IfOk, List, false};
@@ -29,35 +29,37 @@ use isle_ast::ast::Def;
 pub use isle_expand_warnings::{Warning, warnings};
 use macros::{expansions, templates};
 pub use misuse::{ExpandFault, Misuse};
-use order::callees_first;
+use order::callee_order;
 use patterns::Refusal;
 use search::first_misuse;
 use std::alloc::Global;
 
-/// Expands the extractors of definitions: the rules, with each use of an extractor replaced by what
-/// it stands for, and every other definition as it is, without the extractors and without the
-/// declarations of terms that only they define.
+/// Returns the definitions with each use of an extractor replaced by what it stands for, without
+/// the extractors and the declarations of terms that only they define.
 ///
 /// A use of `E` is a term whose symbol is the term of an `extractor`, in a condition of a rule or
-/// beneath its root, in whatever depth. The root is no use: it names the term that the rule
-/// defines; a root that is no term stays as it is. A use stands for the template of its extractor,
-/// itself expanded, with the arguments of the use, expanded too, in the places of the parameters: a
-/// place is a variable `x`, or `x @ _`, as for `Pattern::make_macro_template`. The positions are
-/// those of the template and of the arguments.
+/// below its root, at any depth. The root itself is no use, since it names the term that the rule
+/// defines; a root that is not a term stays as it is. A use stands for its extractor's template,
+/// expanded, with the arguments of the use, also expanded, in place of the parameters. In the
+/// template a parameter is a variable `x`, or `x @ _`, as for `Pattern::make_macro_template`. The
+/// positions are those of the template and of the arguments.
 ///
-/// The declaration of a term goes where the term has an extractor and nothing else defines it: it
-/// is the root of no rule, no `extern` names it, and it is no variant of a type.
+/// A declaration is dropped if its term has an extractor and nothing else defines the term: it is
+/// the root of no rule, no `extern` names it, and it is not a variant of a type.
 ///
-/// It answers `Misuse` exactly where there is no expansion, and tells the first misuse in the order
-/// of the definitions and of the places in them. A misuse is a use with another number of arguments
-/// than the extractor has parameters, a use of an extractor that comes back to itself or uses one
-/// that does, and an extractor of a term that has one before. Extractors that nothing uses are
-/// looked at too. `Memory` comes where a growth of memory was refused.
+/// `Misuse` means that there is no expansion. It holds the first misuse, in the order of the
+/// definitions and of the places in them. There are three kinds:
 ///
-/// It asks that no definition holds the argument of a macro, which no text spells.
-pub fn expanded(alloc: Global, defs: &[Def]) -> Result<Vec<Def>, ExpandFault>
+/// - a use with another number of arguments than the extractor has parameters,
+/// - a use of an extractor that comes back to itself, or uses one that does,
+/// - an extractor of a term that already has one.
+///
+/// Extractors that nothing uses are checked too. `Memory` means out of memory.
+///
+/// No definition may hold a macro argument, `Pattern::MacroArg`. The parser never makes one.
+pub fn expand(alloc: Global, defs: &[Def]) -> Result<Vec<Def>, ExpandFault>
     requires { definitions_have_macro_arg (definitions_of defs.now) ≡ false }
-    // What `Ok` holds.
+    // The result.
     ensures expansion { IfOk result
         (λ made. AreExpanded (definitions_of defs.now) (definitions_of made.items)) }
     ensures only { IfOk result
@@ -66,7 +68,7 @@ pub fn expanded(alloc: Global, defs: &[Def]) -> Result<Vec<Def>, ExpandFault>
     ensures free { IfOk result
         (λ made. AreFree (macros_in (definitions_of defs.now)) (definitions_of made.items)) }
 
-    // When `Misuse` comes, and which.
+    // The misuse.
     ensures refused { IfErr result
         (λ fault. IfMisuse fault
         (λ _. (es : List Definition) → AreExpanded (definitions_of defs.now) es → ⊥)) }
@@ -75,7 +77,7 @@ pub fn expanded(alloc: Global, defs: &[Def]) -> Result<Vec<Def>, ExpandFault>
         (λ misuse. IsFirstMisuse (definitions_of defs.now) (misuse_of misuse))) }
 {
     let templates = templates(alloc, defs)?;
-    let order = callees_first(alloc, &templates)?;
+    let order = callee_order(alloc, &templates)?;
     if let Some(misuse) = first_misuse(alloc, defs, &templates, &order.ends)? {
         return Err(ExpandFault::Misuse(misuse));
     }

@@ -1,4 +1,4 @@
-//! Extractors as macros: their templates, and these expanded.
+//! Extractors as macros: their templates, and the expansions of these.
 
 ghost use Rattle.std.specs.Prelude.{◌≡◌, ◌<◌, IfOk, IfSome, false, length, map, option_map};
 ghost use Rattle.isle_ast.specs.MacroArgs.{definitions_have_macro_arg};
@@ -14,29 +14,27 @@ use crate::patterns::{Refusal, expand};
 use isle_ast::ast::{Def, Extractor, Ident, Pattern};
 use std::alloc::{AllocError, Global};
 
-/// An extractor with its template, in which arguments of a macro stand for the parameters.
+/// An extractor with its template, in which macro arguments stand for the parameters.
 #[derive(Drop)]
 pub struct Template<'a> {
-    /// The extractor.
     pub extractor: &'a Extractor,
-    /// The template.
     pub pattern: Pattern,
 }
 
-/// A macro.
+/// The macro that an extractor defines.
 #[derive(Drop)]
 pub struct Macro<'a> {
-    /// The term that it defines.
+    /// The extractor's term.
     pub term: &'a Ident,
     /// How many parameters it has.
     pub arity: usize,
-    /// Its template, as it is written.
+    /// Its template, not expanded.
     pub template: &'a Pattern,
-    /// Its template expanded, if that is known.
+    /// Its expanded template, once it is known.
     pub expansion: Option<Pattern>,
 }
 
-/// Gives the templates of the extractors, in order.
+/// Returns the templates of the extractors among the definitions, in order.
 pub fn templates(alloc: Global, defs: &[Def]) -> Result<Vec<Template<'_>>, AllocError>
     requires { definitions_have_macro_arg (definitions_of defs.now) ≡ false }
     ensures { IfOk result
@@ -54,7 +52,7 @@ pub fn templates(alloc: Global, defs: &[Def]) -> Result<Vec<Template<'_>>, Alloc
     Ok(found)
 }
 
-/// Finds the place of the extractor that a symbol means: the first one of its name.
+/// Returns the index of the first extractor with this name.
 pub fn place_of(sym: &Ident, templates: &[Template]) -> Option<usize>
     ensures place { result ≡ place_of (name_of sym.now).text (map begun_of templates.now) }
     ensures within { IfSome result (λ place. place < length templates.now) }
@@ -67,7 +65,7 @@ pub fn place_of(sym: &Ident, templates: &[Template]) -> Option<usize>
     None
 }
 
-/// Expands the templates at these places, each once, in order.
+/// Expands the templates at these indices, in this order.
 pub fn expansions<'t, 'a>(
     alloc: Global,
     templates: &'t [Template<'a>],
@@ -76,14 +74,14 @@ pub fn expansions<'t, 'a>(
     ensures { IfOk result
         (λ macros. macros_of macros.items ≡ expand_places order.now (map begun_of templates.now)) }
 {
-    let mut macros = begun(alloc, templates)?;
+    let mut macros = unexpanded_macros(alloc, templates)?;
     for place in order {
         expand_place(alloc, &mut macros, *place)?;
     }
     Ok(macros)
 }
 
-/// Expands the template at a place by what is known of the macros.
+/// Expands the template at an index, by the expansions that are known. Out of range, does nothing.
 fn expand_place(alloc: Global, macros: &mut Vec<Macro>, place: usize) -> Result<(), AllocError>
     ensures { IfOk result
         (λ _. macros_of macros.new.items
@@ -96,7 +94,7 @@ fn expand_place(alloc: Global, macros: &mut Vec<Macro>, place: usize) -> Result<
     Ok(())
 }
 
-/// Expands a template, if what is known of the macros is enough.
+/// Expands a template. Returns `None` if an expansion that it needs is not known.
 fn expansion(
     template: &Pattern,
     alloc: Global,
@@ -113,8 +111,11 @@ fn expansion(
     }
 }
 
-/// Gives the macros of templates, where no expansion is known.
-fn begun<'t, 'a>(alloc: Global, templates: &'t [Template<'a>]) -> Result<Vec<Macro<'t>>, AllocError>
+/// Makes the macros of templates. No expansion is known yet.
+fn unexpanded_macros<'t, 'a>(
+    alloc: Global,
+    templates: &'t [Template<'a>],
+) -> Result<Vec<Macro<'t>>, AllocError>
     ensures { IfOk result (λ macros. macros_of macros.items ≡ map begun_of templates.now) }
 {
     let mut macros = Vec::with_capacity(alloc, templates.len())?;
@@ -129,8 +130,8 @@ fn begun<'t, 'a>(alloc: Global, templates: &'t [Template<'a>]) -> Result<Vec<Mac
     Ok(macros)
 }
 
-/// Finds the macro that a symbol means: the first one of its name.
-pub fn meant<'m, 'a>(sym: &Ident, macros: &'m [Macro<'a>]) -> Option<&'m Macro<'a>>
+/// Returns the first macro with this name.
+pub fn find_macro<'m, 'a>(sym: &Ident, macros: &'m [Macro<'a>]) -> Option<&'m Macro<'a>>
     ensures { option_map (λ known. macro_of known.now) result
         ≡ meant (name_of sym.now).text (macros_of macros.now) }
 {

@@ -1,4 +1,4 @@
-//! The terms of patterns, with the numbers of their arguments.
+//! The terms of patterns, each with its number of arguments.
 
 ghost use Rattle.std.specs.Prelude.{◌≡◌, IfOk};
 ghost use Rattle.isle_ast_names.specs.TreeView.{name_of};
@@ -19,11 +19,10 @@ pub struct TermUse<'p> {
     pub term: &'p Ident,
     /// How many arguments it has.
     pub given: usize,
-    /// Its position.
     pub pos: Pos,
 }
 
-/// Gives the terms of a pattern, in the order in which they are written.
+/// Returns the terms of a pattern, in the order in which they are written.
 pub fn uses<'p>(alloc: Global, pattern: &'p Pattern) -> Result<Vec<TermUse<'p>>, AllocError>
     ensures { IfOk result (λ found. uses_of found.items ≡ uses (pattern_of pattern.now)) }
 {
@@ -32,7 +31,7 @@ pub fn uses<'p>(alloc: Global, pattern: &'p Pattern) -> Result<Vec<TermUse<'p>>,
     Ok(found)
 }
 
-/// Gives the terms of the patterns of a rule, without the root of the rule.
+/// Returns the terms in the patterns of a rule, without its root.
 pub fn rule_uses<'p>(alloc: Global, rule: &'p Rule) -> Result<Vec<TermUse<'p>>, AllocError>
     ensures { IfOk result (λ found. uses_of found.items ≡ rule_uses (rule_of rule.now)) }
 {
@@ -44,7 +43,7 @@ pub fn rule_uses<'p>(alloc: Global, rule: &'p Rule) -> Result<Vec<TermUse<'p>>, 
     Ok(found)
 }
 
-/// Adds the terms beneath the root of a rule, if that is a term.
+/// Adds the terms below the root of a rule, if the root is a term.
 fn add_root_uses<'p>(pattern: &'p Pattern, found: &mut Vec<TermUse<'p>>) -> Result<(), AllocError>
     ensures { IfOk result
         (λ _. uses_of found.new.items
@@ -56,7 +55,6 @@ fn add_root_uses<'p>(pattern: &'p Pattern, found: &mut Vec<TermUse<'p>>) -> Resu
     }
 }
 
-/// Adds the terms of a pattern.
 #[cycle(add_uses)]
 fn add_uses<'p>(pattern: &'p Pattern, found: &mut Vec<TermUse<'p>>) -> Result<(), AllocError>
     ensures { IfOk result
@@ -79,7 +77,6 @@ fn add_uses<'p>(pattern: &'p Pattern, found: &mut Vec<TermUse<'p>>) -> Result<()
     }
 }
 
-/// Adds a term.
 fn add_term<'p>(
     term: &'p Ident,
     args: &Vec<Pattern>,
@@ -96,7 +93,6 @@ fn add_term<'p>(
     Ok(())
 }
 
-/// Adds the terms of patterns, in order.
 #[cycle(add_uses)]
 fn add_list_uses<'p>(
     patterns: &'p Vec<Pattern>,

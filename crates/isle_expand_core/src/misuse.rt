@@ -1,4 +1,4 @@
-//! Misuses of extractors, for which definitions have no expansion.
+//! Misuses of extractors. Definitions with one have no expansion.
 
 ghost use Rattle.std.specs.Prelude.{◌≡◌, Some};
 ghost use Rattle.isle_expand_core.specs.Misuses.{misuse_pos, misuse_text};
@@ -10,10 +10,10 @@ use isle_base::lexer::Pos;
 use std::alloc::AllocError;
 use std::fmt;
 
-/// A use of an extractor that has no expansion, or an extractor that is given again.
+/// A use of an extractor that has no expansion, or a second extractor of a term.
 #[derive(Debug, Drop)]
 pub enum Misuse {
-    /// The use of an extractor whose expansion doesn't end: it comes back to itself, or uses one
+    /// The use of an extractor whose expansion does not end: it comes back to itself, or uses one
     /// that does.
     Cycle {
         /// The term that is used.
@@ -29,10 +29,10 @@ pub enum Misuse {
         pos: Pos,
         /// How many parameters the extractor has.
         expected: usize,
-        /// How many arguments the use gives.
+        /// How many arguments the use has.
         given: usize,
     },
-    /// An extractor of a term that has one before.
+    /// An extractor of a term that already has one.
     Again {
         /// The term.
         term: Ident,
@@ -42,7 +42,7 @@ pub enum Misuse {
 }
 
 impl Misuse {
-    /// Where the use, or the later extractor, stands.
+    /// The position of the use, or of the later extractor.
     pub fn pos(&self) -> Pos
         ensures { result ≡ misuse_pos (misuse_of self.now) }
     {
@@ -54,7 +54,7 @@ impl Misuse {
     }
 }
 
-/// Writes what is wrong, on one line and without its place.
+/// Writes the message, one line without the position.
 impl fmt::Display for Misuse {
     ghost output = { λ misuse. Some (misuse_text (misuse_of misuse)) };
 
@@ -87,9 +87,9 @@ impl fmt::Display for Misuse {
 /// Why definitions were not expanded.
 #[derive(Debug, Drop)]
 pub enum ExpandFault {
-    /// They have no expansion, for this misuse.
+    /// They have no expansion, because of this misuse.
     Misuse(Misuse),
-    /// A growth of memory was refused.
+    /// Out of memory.
     Memory,
 }
 

@@ -13,17 +13,17 @@ use crate::mentions::uses;
 use isle_ast::ast::Pattern;
 use std::alloc::{AllocError, Global};
 
-/// The templates whose uses come to an end.
+/// The templates whose expansion ends, in an order in which they can be expanded.
 #[derive(Drop)]
 pub struct Order {
-    /// For each template, whether its uses come to an end.
+    /// For each template, whether its expansion ends.
     pub ends: Vec<bool>,
-    /// The places of these templates, each after the places of those that it uses.
+    /// The indices of the templates whose expansion ends, each after those that it uses.
     pub places: Vec<usize>,
 }
 
-/// Finds the templates whose uses come to an end.
-pub fn callees_first(alloc: Global, templates: &[Template]) -> Result<Order, AllocError>
+/// Finds and orders the templates whose expansion ends.
+pub fn callee_order(alloc: Global, templates: &[Template]) -> Result<Order, AllocError>
     ensures order { IfOk result
         (λ order. IsOrder (callees_in (map begun_of templates.now)) order.ends.items
         order.places.items) }
@@ -32,11 +32,11 @@ pub fn callees_first(alloc: Global, templates: &[Template]) -> Result<Order, All
         (length templates.now)) }
 {
     let callees = callees(alloc, templates)?;
-    settled(alloc, &callees)
+    settle(alloc, &callees)
 }
 
-/// Adds templates to an order as long as all callees of one are there.
-fn settled(alloc: Global, callees: &[Vec<usize>]) -> Result<Order, AllocError>
+/// Adds templates to the order until no further one has all its callees in it.
+fn settle(alloc: Global, callees: &[Vec<usize>]) -> Result<Order, AllocError>
     ensures order { IfOk result
         (λ order. IsOrder (map (λ v. v.items) callees.now) order.ends.items order.places.items) }
     ensures closed { IfOk result
@@ -48,14 +48,14 @@ fn settled(alloc: Global, callees: &[Vec<usize>]) -> Result<Order, AllocError>
         places: Vec::new(alloc),
     };
     loop {
-        if !round(callees, &mut order)? {
+        if !add_ready(callees, &mut order)? {
             return Ok(order);
         }
     }
 }
 
-/// Adds the templates whose callees are all there. Tells whether there are any.
-fn round(callees: &[Vec<usize>], order: &mut Order) -> Result<bool, AllocError>
+/// Adds the templates whose callees are all in the order. Returns whether there were any.
+fn add_ready(callees: &[Vec<usize>], order: &mut Order) -> Result<bool, AllocError>
     requires { IsOrder (map (λ v. v.items) callees.now) order.old.ends.items
         order.old.places.items }
     ensures order { IfOk result
@@ -71,14 +71,14 @@ fn round(callees: &[Vec<usize>], order: &mut Order) -> Result<bool, AllocError>
     let mut more = false;
     for place in 0..callees.len() {
         if is_ready(callees, order, place) {
-            add(callees, order, place)?;
+            add_template(callees, order, place)?;
             more = true;
         }
     }
     Ok(more)
 }
 
-/// Tells whether a template isn't there, but all its callees are.
+/// Returns whether a template is not in the order, but all its callees are.
 fn is_ready(callees: &[Vec<usize>], order: &Order, place: usize) -> bool
     requires within { place < length callees.now }
     requires count { length order.now.ends.items ≡ length callees.now }
@@ -89,8 +89,7 @@ fn is_ready(callees: &[Vec<usize>], order: &Order, place: usize) -> bool
     !order.ends[place] && all_end(&callees[place], &order.ends)
 }
 
-/// Adds a template to the order.
-fn add(callees: &[Vec<usize>], order: &mut Order, place: usize) -> Result<(), AllocError>
+fn add_template(callees: &[Vec<usize>], order: &mut Order, place: usize) -> Result<(), AllocError>
     requires order { IsOrder (map (λ v. v.items) callees.now) order.old.ends.items
         order.old.places.items }
     requires within { place < length callees.now }
@@ -107,21 +106,21 @@ fn add(callees: &[Vec<usize>], order: &mut Order, place: usize) -> Result<(), Al
     Ok(())
 }
 
-/// Tells whether the uses of all these templates come to an end.
+/// Returns whether the expansions of all these templates end.
 fn all_end(places: &[usize], ends: &[bool]) -> bool
     ensures { result ≡ all_end ends.now places.now }
 {
     places.iter().all(|place| is_set(ends, *place))
 }
 
-/// Tells whether there is a flag at a place that is set.
+/// Returns the flag at an index, or `false` if there is none.
 fn is_set(flags: &[bool], place: usize) -> bool
     ensures { result ≡ get_or flags.now place false }
 {
     place < flags.len() && flags[place]
 }
 
-/// Gives the places of the extractors that each template uses.
+/// Returns, for each template, the indices of the extractors that it uses.
 fn callees(alloc: Global, templates: &[Template]) -> Result<Vec<Vec<usize>>, AllocError>
     ensures { IfOk result
         (λ found. map (λ v. v.items) found.items ≡ callees_in (map begun_of templates.now)) }
@@ -133,7 +132,7 @@ fn callees(alloc: Global, templates: &[Template]) -> Result<Vec<Vec<usize>>, All
     Ok(found)
 }
 
-/// Gives the places of the extractors that a pattern uses.
+/// Returns the indices of the extractors that a pattern uses.
 fn callees_of(
     alloc: Global,
     pattern: &Pattern,

@@ -1,4 +1,4 @@
-//! The expansion of patterns, where macros are known.
+//! The expansion of patterns by macros.
 
 ghost use Rattle.std.specs.Prelude.{◌≡◌, IfOk, option_map};
 ghost use Rattle.isle_ast_names.specs.TreeView.{name_of};
@@ -8,7 +8,7 @@ ghost use Rattle.isle_expand_core.specs.Macros.{meant};
 ghost use Rattle.isle_expand_core.specs.Views.{Gives, macro_of, macros_of};
 ghost use Rattle.isle_expand_core.specs.declared.patterns.Refusal.TheVariants.{Memory};
 
-use crate::macros::{Macro, meant};
+use crate::macros::{Macro, find_macro};
 use isle_ast::ast::{Ident, Pattern};
 use isle_base::lexer::Pos;
 use std::alloc::{AllocError, AllocFailed, Global};
@@ -16,10 +16,10 @@ use std::alloc::{AllocError, AllocFailed, Global};
 /// Why a pattern is not expanded.
 #[derive(Clone, Copy)]
 pub enum Refusal {
-    /// A use gives another number of arguments than its macro has parameters, or the expansion of
-    /// its macro isn't known.
+    /// A use has another number of arguments than its macro has parameters, or the expansion of its
+    /// macro is not known.
     Use,
-    /// A growth of memory was refused.
+    /// Out of memory.
     Memory,
 }
 
@@ -39,7 +39,6 @@ impl<T: Drop> From<AllocFailed<T>> for Refusal {
     }
 }
 
-/// Expands a pattern.
 #[cycle(expand)]
 pub fn expand(pattern: &Pattern, alloc: Global, macros: &[Macro]) -> Result<Pattern, Refusal>
     ensures { Gives pattern_of result (expand (pattern_of pattern.now) (macros_of macros.now)) }
@@ -70,7 +69,6 @@ pub fn expand(pattern: &Pattern, alloc: Global, macros: &[Macro]) -> Result<Patt
     }
 }
 
-/// Expands patterns, in order.
 #[cycle(expand)]
 pub fn expand_list(
     patterns: &Vec<Pattern>,
@@ -87,7 +85,7 @@ pub fn expand_list(
     Ok(made)
 }
 
-/// Expands a term whose arguments are expanded.
+/// Expands a term whose arguments are expanded already.
 fn expand_use(
     sym: &Ident,
     args: Vec<Pattern>,
@@ -99,22 +97,26 @@ fn expand_use(
         (expand_use (name_of sym.now) pos (meant (name_of sym.now).text (macros_of macros.now))
         (pattern_list_of (patterns_of args.items))) }
 {
-    match meant(sym, macros) {
+    match find_macro(sym, macros) {
         None => Ok(Pattern::Term {
             sym: sym.clone()?,
             args,
             pos,
         }),
-        Some(used) => match filled(used, &args, alloc)? {
+        Some(used) => match fill_template(used, &args, alloc)? {
             Some(made) => Ok(made),
             None => Err(Refusal::Use),
         },
     }
 }
 
-/// Gives what a macro stands for with these arguments. None if it takes another number of them, or
-/// its expansion isn't known.
-fn filled(known: &Macro, args: &[Pattern], alloc: Global) -> Result<Option<Pattern>, AllocError>
+/// Returns what a macro stands for with these arguments, or `None` if it takes another number of
+/// them or its expansion is not known.
+fn fill_template(
+    known: &Macro,
+    args: &[Pattern],
+    alloc: Global,
+) -> Result<Option<Pattern>, AllocError>
     ensures { IfOk result
         (λ made. option_map pattern_of made
         ≡ filled (macro_of known.now) (patterns_of args.now)) }

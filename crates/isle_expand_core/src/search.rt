@@ -19,8 +19,8 @@ use crate::misuse::Misuse;
 use isle_ast::ast::{Def, Extractor};
 use std::alloc::{AllocError, Global};
 
-/// Finds the first misuse in definitions, whose extractors have these templates, where it is known
-/// whose uses come to an end.
+/// Finds the first misuse in definitions. `templates` are those of their extractors, and `ends`
+/// says for each template whether its expansion ends.
 pub fn first_misuse(
     alloc: Global,
     defs: &[Def],
@@ -44,7 +44,7 @@ pub fn first_misuse(
     Ok(None)
 }
 
-/// Gives the place of the next extractor.
+/// Returns the index of the first extractor after a definition.
 fn place_after(def: &Def, place: usize) -> usize
     requires { place_after place (definition_of def.now) < 2 ^ 64 }
     ensures { result ≡ place_after place (definition_of def.now) }
@@ -55,7 +55,7 @@ fn place_after(def: &Def, place: usize) -> usize
     }
 }
 
-/// Finds the first misuse in a definition. An extractor has this place.
+/// Finds the first misuse in a definition. If it is an extractor, `place` is its index.
 fn definition_misuse(
     alloc: Global,
     def: &Def,
@@ -72,14 +72,13 @@ fn definition_misuse(
         (definition_mentions place (definition_of def.now))) }
 {
     match def {
-        Def::Rule(rule) => first_misused(&rule_uses(alloc, rule)?, templates, ends),
+        Def::Rule(rule) => first_use_misuse(&rule_uses(alloc, rule)?, templates, ends),
         Def::Extractor(extractor) => extractor_misuse(alloc, extractor, place, templates, ends),
         _ => Ok(None),
     }
 }
 
-/// Finds the first misuse in an extractor: its term has an extractor before, or the template has a
-/// misuse.
+/// Finds the first misuse in an extractor: its term already has one, or the template has a misuse.
 fn extractor_misuse(
     alloc: Global,
     given: &Extractor,
@@ -106,7 +105,6 @@ fn extractor_misuse(
     }
 }
 
-/// Finds the first misuse in a template.
 fn template_misuse(
     alloc: Global,
     template: &Template,
@@ -119,11 +117,11 @@ fn template_misuse(
         ≡ first (use_misuse (map begun_of templates.now) ends.now)
         (uses (begun_of template.now).template)) }
 {
-    first_misused(&uses(alloc, &template.pattern)?, templates, ends)
+    first_use_misuse(&uses(alloc, &template.pattern)?, templates, ends)
 }
 
 /// Finds the first misuse among uses.
-fn first_misused(
+fn first_use_misuse(
     uses: &[TermUse],
     templates: &[Template],
     ends: &[bool],
@@ -141,7 +139,7 @@ fn first_misused(
     Ok(None)
 }
 
-/// Tells what is wrong with a use.
+/// Returns the misuse that a use is, if it is one.
 fn misuse_of(
     term_use: &TermUse,
     templates: &[Template],
@@ -158,7 +156,8 @@ fn misuse_of(
     }
 }
 
-/// Tells what is wrong with a use of an extractor, where it is known whether that comes to an end.
+/// Returns the misuse that a use of an extractor is, if it is one. `end` says whether the
+/// extractor's expansion ends.
 fn macro_misuse(
     term_use: &TermUse,
     template: &Template,

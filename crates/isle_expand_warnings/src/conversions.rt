@@ -1,4 +1,4 @@
-//! What the expansion may lose: implicit conversions, which the compiler puts in by types.
+//! The implicit conversions that the expansion may lose. The compiler adds them by types.
 
 ghost use Rattle.std.specs.Prelude.{◌≡◌, ◌++◌, IfOk, OnOk, Some, map, option_map};
 ghost use Rattle.std.specs.List.{flat_map, list_any};
@@ -15,38 +15,38 @@ ghost use Rattle.isle_expand_warnings.specs.Warnings.{risk_in, risk_view, risks,
 ghost use Rattle.isle_expand_warnings.specs.Warnings.{wanted_type, warning_of, warning_pos};
 ghost use Rattle.isle_expand_warnings.specs.Warnings.{warning_text, warnings_in, warnings_of};
 
-use crate::placed::{Placed, Wanted, placed_in};
+use crate::placed::{Placed, Wanted, placed_terms};
 use crate::types::{argument_type, value_type};
 use isle_ast::ast::{Converter, Def, Extractor, Ident, Pattern};
 use isle_base::lexer::Pos;
 use std::alloc::{AllocError, Global};
 use std::fmt;
 
-/// Something that the expansion may lose.
+/// A conversion that the expansion may lose.
 #[derive(Clone, Copy, Debug)]
 pub enum Warning<'d> {
-    /// The use of an extractor around which the compiler may put a conversion: around what it
-    /// stands for it puts none.
+    /// The use of an extractor that the compiler may wrap in a conversion. What the use stands for
+    /// is not wrapped.
     LossyUse(&'d Ident),
-    /// A conversion whose own term is an extractor, which goes.
+    /// A conversion whose own term is an extractor, which the expansion drops.
     LostConversion(&'d Ident),
 }
 
-/// An extractor whose template is no term of the type with which the extractor is declared.
+/// An extractor whose template is not a term of the type with which the extractor is declared.
 #[derive(Clone, Copy)]
 struct Risk<'d> {
     term: &'d Ident,
     ty: &'d Ident,
 }
 
-/// Gives what the expansion of definitions may lose, in the order of the definitions and of the
-/// places in them.
+/// Returns the conversions that the expansion of definitions may lose, in the order of the
+/// definitions and of the places in them.
 ///
-/// The compiler expands with types in hand. It puts the term of a `convert` around a term in a
-/// pattern that has another type than is wanted there. So it is told where an extractor is used
-/// whose template isn't a term that is declared with the extractor's own type, at a place that
-/// wants a type to which a `convert` leads from there, or whose type the definitions don't say. And
-/// each `convert` is told whose term has an `extractor`, since that goes.
+/// If a term in a pattern has another type than is wanted there, the compiler wraps it in the term
+/// of a `convert`. It has done so when it expands extractors. So there is a warning for each use of
+/// an extractor whose template is not a term declared with the extractor's own type, if a `convert`
+/// leads from that type to the one wanted, or to any type if the definitions do not say which is
+/// wanted. There is also one for each `convert` whose term has an `extractor`, which is dropped.
 pub fn warnings(alloc: Global, defs: &[Def]) -> Result<Vec<Warning<'_>>, AllocError>
     ensures { IfOk result
         (λ found. warnings_of found.items ≡ warnings_in (definitions_of defs.now)) }
@@ -55,8 +55,7 @@ pub fn warnings(alloc: Global, defs: &[Def]) -> Result<Vec<Warning<'_>>, AllocEr
     all_warnings(alloc, defs, &risks)
 }
 
-/// Gives what may be lost, where these are the extractors whose template is no term of their own
-/// type.
+/// Returns all warnings. `risks` are the extractors whose template is not a term of their own type.
 fn all_warnings<'d>(
     alloc: Global,
     defs: &'d [Def],
@@ -68,12 +67,12 @@ fn all_warnings<'d>(
 {
     let mut found = Vec::new(alloc);
     for def in defs {
-        add_in_definition(alloc, def, defs, risks, &mut found)?;
+        add_definition_warnings(alloc, def, defs, risks, &mut found)?;
     }
     Ok(found)
 }
 
-/// Gives the extractors whose template is no term of their own type.
+/// Returns the extractors whose template is not a term of their own type.
 fn risks(alloc: Global, defs: &[Def]) -> Result<Vec<Risk<'_>>, AllocError>
     ensures { IfOk result
         (λ found. map risk_view found.items ≡ risks (definitions_of defs.now)) }
@@ -87,7 +86,7 @@ fn risks(alloc: Global, defs: &[Def]) -> Result<Vec<Risk<'_>>, AllocError>
     Ok(found)
 }
 
-/// Gives the extractor that a definition gives, if its template is no term of its own type.
+/// Returns the risk of a definition, if it is an extractor and has one.
 fn risk_in<'d>(def: &'d Def, defs: &'d [Def]) -> Option<Risk<'d>>
     ensures { option_map risk_view result
         ≡ risk_in (definitions_of defs.now) (definition_of def.now) }
@@ -98,7 +97,7 @@ fn risk_in<'d>(def: &'d Def, defs: &'d [Def]) -> Option<Risk<'d>>
     }
 }
 
-/// Gives an extractor, if its template is no term of its own type.
+/// Returns the risk of an extractor, if its template is not a term of its own type.
 fn risk_of<'d>(extractor: &'d Extractor, defs: &'d [Def]) -> Option<Risk<'d>>
     ensures { option_map risk_view result
         ≡ extractor_risk (definitions_of defs.now) (extractor_of extractor.now) }
@@ -112,7 +111,7 @@ fn risk_of<'d>(extractor: &'d Extractor, defs: &'d [Def]) -> Option<Risk<'d>>
     }
 }
 
-/// Tells whether a pattern is a term that is declared with this type.
+/// Returns whether a pattern is a term that is declared with this type.
 fn has_type(pattern: &Pattern, ty: &Ident, defs: &[Def]) -> bool
     ensures { result
         ≡ has_type (definitions_of defs.now) (name_of ty.now).text (pattern_of pattern.now) }
@@ -120,7 +119,7 @@ fn has_type(pattern: &Pattern, ty: &Ident, defs: &[Def]) -> bool
     is_of_type(pattern.root_term(), ty, defs)
 }
 
-/// Tells whether there is a term, and it is declared with this type.
+/// Returns whether there is a term, and it is declared with this type.
 fn is_of_type(term: Option<&Ident>, ty: &Ident, defs: &[Def]) -> bool
     ensures { result ≡ is_of_type (definitions_of defs.now) (name_of ty.now).text
         (option_map (λ t. name_of t.now) term.entry) }
@@ -131,7 +130,7 @@ fn is_of_type(term: Option<&Ident>, ty: &Ident, defs: &[Def]) -> bool
     }
 }
 
-/// Tells whether a type that is known is this one.
+/// Returns whether the type `own` is known and is `ty`.
 fn is_type(own: Option<&Ident>, ty: &Ident) -> bool
     ensures { result
         ≡ is_text (name_of ty.now).text (option_map (λ o. (name_of o.now).text) own.entry) }
@@ -142,8 +141,8 @@ fn is_type(own: Option<&Ident>, ty: &Ident) -> bool
     }
 }
 
-/// Adds what may be lost of one of the definitions `defs`.
-fn add_in_definition<'d>(
+/// Adds the warnings for one of the definitions `defs`.
+fn add_definition_warnings<'d>(
     alloc: Global,
     def: &'d Def,
     defs: &[Def],
@@ -156,7 +155,7 @@ fn add_in_definition<'d>(
 {
     match def {
         Def::Converter(converter) => add_conversion(converter, defs, found),
-        _ => add_uses(&placed_in(alloc, def)?, defs, risks, found),
+        _ => add_lossy_uses(&placed_terms(alloc, def)?, defs, risks, found),
     }
 }
 
@@ -175,21 +174,20 @@ fn add_conversion<'d>(
     Ok(())
 }
 
-/// Tells whether one of the definitions is an extractor of a term.
+/// Returns whether one of the definitions is an extractor of a term.
 fn has_extractor(term: &Ident, defs: &[Def]) -> bool
     ensures { result
         ≡ list_any (gives_extractor (name_of term.now).text) (definitions_of defs.now) }
 {
     for def in defs {
-        if gives_extractor(term, def) {
+        if is_extractor_of(term, def) {
             return true;
         }
     }
     false
 }
 
-/// Tells whether a definition is an extractor of a term.
-fn gives_extractor(term: &Ident, def: &Def) -> bool
+fn is_extractor_of(term: &Ident, def: &Def) -> bool
     ensures { result ≡ gives_extractor (name_of term.now).text (definition_of def.now) }
 {
     match def {
@@ -198,8 +196,8 @@ fn gives_extractor(term: &Ident, def: &Def) -> bool
     }
 }
 
-/// Adds those of the terms whose conversion may be lost.
-fn add_uses<'d>(
+/// Adds the terms whose conversion may be lost.
+fn add_lossy_uses<'d>(
     placed: &[Placed<'d>],
     defs: &[Def],
     risks: &[Risk],
@@ -217,8 +215,8 @@ fn add_uses<'d>(
     Ok(())
 }
 
-/// Tells whether a term at its place is one of the extractors, and a conversion from its type may
-/// be put in there.
+/// Returns whether a term is one of the extractors at risk, and may be converted from its type at
+/// its place.
 fn is_lossy(placed: &Placed, defs: &[Def], risks: &[Risk]) -> bool
     ensures { result ≡ is_lossy (definitions_of defs.now) (map risk_view risks.now)
         (placed_of placed.now) }
@@ -231,8 +229,8 @@ fn is_lossy(placed: &Placed, defs: &[Def], risks: &[Risk]) -> bool
     false
 }
 
-/// Tells whether a term at its place is this extractor, and a conversion from its type may be put
-/// in there.
+/// Returns whether a term is this extractor at risk, and may be converted from its type at its
+/// place.
 fn is_lossy_by(placed: &Placed, defs: &[Def], risk: &Risk) -> bool
     ensures { result ≡ is_lossy_by (definitions_of defs.now) (placed_of placed.now)
         (risk_view risk.now) }
@@ -240,7 +238,7 @@ fn is_lossy_by(placed: &Placed, defs: &[Def], risk: &Risk) -> bool
     risk.term.0 == placed.term.0 && converts(risk.ty, wanted_type(placed.wanted, defs), defs)
 }
 
-/// Gives the type that is wanted at a place, if the definitions say it.
+/// Returns the type that is wanted at a place, if the definitions say it.
 fn wanted_type<'d>(wanted: Wanted, defs: &'d [Def]) -> Option<&'d Ident>
     ensures { option_map (λ ty. (name_of ty.now).text) result
         ≡ wanted_type (definitions_of defs.now) (wanted_of wanted.entry) }
@@ -252,7 +250,8 @@ fn wanted_type<'d>(wanted: Wanted, defs: &'d [Def]) -> Option<&'d Ident>
     }
 }
 
-/// Tells whether one of the definitions converts from this type to what is wanted.
+/// Returns whether one of the definitions converts from `ty` to the wanted type, or to any if that
+/// is not known.
 fn converts(ty: &Ident, wanted: Option<&Ident>, defs: &[Def]) -> bool
     ensures { result ≡ converts (definitions_of defs.now) (name_of ty.now).text
         (option_map (λ w. (name_of w.now).text) wanted.entry) }
@@ -265,7 +264,8 @@ fn converts(ty: &Ident, wanted: Option<&Ident>, defs: &[Def]) -> bool
     false
 }
 
-/// Tells whether a definition converts from this type to what is wanted.
+/// Returns whether a definition converts from `ty` to the wanted type, or to any if that is not
+/// known.
 fn is_conversion(ty: &Ident, wanted: Option<&Ident>, def: &Def) -> bool
     ensures { result ≡ is_conversion (name_of ty.now).text
         (option_map (λ w. (name_of w.now).text) wanted.entry) (definition_of def.now) }
@@ -278,7 +278,7 @@ fn is_conversion(ty: &Ident, wanted: Option<&Ident>, def: &Def) -> bool
     }
 }
 
-/// Tells whether a type may be the wanted one: it is, or it isn't known.
+/// Returns whether a type is the wanted one, or that is not known.
 fn may_be(wanted: Option<&Ident>, ty: &Ident) -> bool
     ensures { result
         ≡ may_be (option_map (λ w. (name_of w.now).text) wanted.entry) (name_of ty.now).text }
@@ -290,7 +290,7 @@ fn may_be(wanted: Option<&Ident>, ty: &Ident) -> bool
 }
 
 impl Warning<'_> {
-    /// Where the use, or the conversion's term, stands.
+    /// The position of the use, or of the conversion's term.
     pub fn pos(&self) -> Pos
         ensures { result ≡ warning_pos (warning_of self.now) }
     {
@@ -300,7 +300,7 @@ impl Warning<'_> {
     }
 }
 
-/// Writes what may be lost, on one line and without its place.
+/// Writes the message, one line without the position.
 impl fmt::Display for Warning<'_> {
     ghost output = { λ warning. Some (warning_text (warning_of warning)) };
 

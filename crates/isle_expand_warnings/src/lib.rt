@@ -1,7 +1,7 @@
 //! The implicit conversions that an expansion of extractors may lose.
 //!
-//! The compiler puts the term of a `convert` around a term in a pattern that has another type than
-//! is wanted there. `warnings` finds where the expansion of extractors may take away the reason.
+//! If a term in a pattern has another type than is wanted there, the compiler wraps it in the term
+//! of a `convert`. `warnings` finds where the expansion of extractors may lose that.
 #![tactic(auto)]
 
 mod conversions;

@@ -1,4 +1,4 @@
-//! The terms of patterns, each with what says which type is wanted at its place.
+//! The terms of patterns, each with the source of the type that is wanted at its place.
 
 ghost use Rattle.std.specs.Prelude.{◌≡◌, ◌++◌, IfOk, OnOk};
 ghost use Rattle.std.specs.List.{flat_map};
@@ -13,63 +13,62 @@ ghost use Rattle.isle_expand_warnings.specs.Placed.{rule_placed, wanted_by, want
 use isle_ast::ast::{Def, Expr, Ident, IfLet, Pattern, Rule};
 use std::alloc::{AllocError, Global};
 
-/// What says which type is wanted at a place of a pattern.
+/// The source of the type that is wanted at a place of a pattern.
 #[derive(Clone, Copy)]
 pub enum Wanted<'p> {
-    /// Nothing.
+    /// Nothing says the type.
     Unsaid,
-    /// The term whose argument of this number is there, counted from 0.
+    /// The term whose argument stands there, and its number, counted from 0.
     Argument(&'p Ident, usize),
-    /// The term whose value is matched with the pattern.
+    /// The term whose value is matched against the pattern.
     Value(&'p Ident),
 }
 
-/// A term in a pattern, and what says which type is wanted at its place.
+/// A term in a pattern, and the source of the type that is wanted at its place.
 #[derive(Clone, Copy)]
 pub struct Placed<'p> {
     /// The term's symbol.
     pub term: &'p Ident,
-    /// What says the type.
     pub wanted: Wanted<'p>,
 }
 
-/// Gives the terms of the patterns of a definition, in the order in which they are written.
-pub fn placed_in(alloc: Global, def: &Def) -> Result<Vec<Placed<'_>>, AllocError>
+/// Returns the terms in the patterns of a definition, in the order in which they are written.
+pub fn placed_terms(alloc: Global, def: &Def) -> Result<Vec<Placed<'_>>, AllocError>
     ensures { IfOk result (λ found. all_placed found.items ≡ placed_in (definition_of def.now)) }
 {
     let mut found = Vec::new(alloc);
     match def {
-        Def::Rule(rule) => add_in_rule(rule, &mut found)?,
+        Def::Rule(rule) => add_rule_terms(rule, &mut found)?,
         Def::Extractor(extractor) => {
-            add_placed(&extractor.template, Wanted::Unsaid, &mut found)?;
+            add_terms(&extractor.template, Wanted::Unsaid, &mut found)?;
         }
         _ => {}
     }
     Ok(found)
 }
 
-/// Adds those of the patterns of a rule, without the root of the rule.
-fn add_in_rule<'p>(rule: &'p Rule, found: &mut Vec<Placed<'p>>) -> Result<(), AllocError>
+/// Adds the terms in the patterns of a rule, without its root.
+fn add_rule_terms<'p>(rule: &'p Rule, found: &mut Vec<Placed<'p>>) -> Result<(), AllocError>
     ensures { OnOk result (all_placed found.new.items
         ≡ all_placed found.old.items ++ rule_placed (rule_of rule.now)) }
 {
-    add_in_root(&rule.pattern, found)?;
-    add_in_conditions(&rule.iflets, found)
+    add_root_terms(&rule.pattern, found)?;
+    add_condition_terms(&rule.iflets, found)
 }
 
-/// Adds those beneath the root of a rule, if that is a term.
-fn add_in_root<'p>(pattern: &'p Pattern, found: &mut Vec<Placed<'p>>) -> Result<(), AllocError>
+/// Adds the terms below the root of a rule, if the root is a term.
+fn add_root_terms<'p>(pattern: &'p Pattern, found: &mut Vec<Placed<'p>>) -> Result<(), AllocError>
     ensures { OnOk result (all_placed found.new.items
         ≡ all_placed found.old.items ++ root_placed (pattern_of pattern.now)) }
 {
     match pattern {
-        Pattern::Term { sym, args, .. } => add_arguments(sym, args, found),
+        Pattern::Term { sym, args, .. } => add_argument_terms(sym, args, found),
         _ => Ok(()),
     }
 }
 
-/// Adds those of the patterns of conditions.
-fn add_in_conditions<'p>(
+/// Adds the terms in the patterns of conditions.
+fn add_condition_terms<'p>(
     conditions: &'p [IfLet],
     found: &mut Vec<Placed<'p>>,
 ) -> Result<(), AllocError>
@@ -77,12 +76,12 @@ fn add_in_conditions<'p>(
         ++ flat_map condition_placed (conditions_of conditions.now)) }
 {
     for condition in conditions {
-        add_placed(&condition.pattern, wanted_by(&condition.expr), found)?;
+        add_terms(&condition.pattern, wanted_by(&condition.expr), found)?;
     }
     Ok(())
 }
 
-/// What an expression says of the pattern that its value is matched with.
+/// Returns the source of the type of a pattern that the expression's value is matched against.
 fn wanted_by(expr: &Expr) -> Wanted<'_>
     ensures { wanted_of result ≡ wanted_by (expression_of expr.now) }
 {
@@ -92,9 +91,8 @@ fn wanted_by(expr: &Expr) -> Wanted<'_>
     }
 }
 
-/// Adds the terms of a pattern.
-#[cycle(placed)]
-fn add_placed<'p>(
+#[cycle(add_terms)]
+fn add_terms<'p>(
     pattern: &'p Pattern,
     wanted: Wanted<'p>,
     found: &mut Vec<Placed<'p>>,
@@ -105,10 +103,10 @@ fn add_placed<'p>(
     match pattern {
         Pattern::Term { sym, args, .. } => {
             found.push(Placed { term: sym, wanted })?;
-            add_arguments(sym, args, found)
+            add_argument_terms(sym, args, found)
         }
-        Pattern::BindPattern { subpat, .. } => add_placed(subpat, wanted, found),
-        Pattern::And { subpats, .. } => add_each(subpats, wanted, found),
+        Pattern::BindPattern { subpat, .. } => add_terms(subpat, wanted, found),
+        Pattern::And { subpats, .. } => add_list_terms(subpats, wanted, found),
         Pattern::Var { .. }
         | Pattern::ConstBool { .. }
         | Pattern::ConstInt { .. }
@@ -118,9 +116,9 @@ fn add_placed<'p>(
     }
 }
 
-/// Adds the terms of patterns of each of which the same is wanted.
-#[cycle(placed)]
-fn add_each<'p>(
+/// Adds the terms of patterns that all have the same source of their type.
+#[cycle(add_terms)]
+fn add_list_terms<'p>(
     patterns: &'p Vec<Pattern>,
     wanted: Wanted<'p>,
     found: &mut Vec<Placed<'p>>,
@@ -130,14 +128,14 @@ fn add_each<'p>(
         (pattern_list_of (patterns_of patterns.now.items))) }
 {
     for pattern in patterns {
-        add_placed(pattern, wanted, found)?;
+        add_terms(pattern, wanted, found)?;
     }
     Ok(())
 }
 
-/// Adds the terms of the arguments of a term.
-#[cycle(placed)]
-fn add_arguments<'p>(
+/// Adds the terms in the arguments of a term.
+#[cycle(add_terms)]
+fn add_argument_terms<'p>(
     term: &'p Ident,
     args: &'p Vec<Pattern>,
     found: &mut Vec<Placed<'p>>,
@@ -147,7 +145,7 @@ fn add_arguments<'p>(
         (pattern_list_of (patterns_of args.now.items))) }
 {
     for (number, pattern) in args.iter().enumerate() {
-        add_placed(pattern, Wanted::Argument(term, number), found)?;
+        add_terms(pattern, Wanted::Argument(term, number), found)?;
     }
     Ok(())
 }

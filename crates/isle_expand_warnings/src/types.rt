@@ -1,4 +1,4 @@
-//! The types of terms, as far as definitions say them.
+//! The types of terms, as far as the definitions say them.
 
 ghost use Rattle.std.specs.Prelude.{◌≡◌, map, option_map};
 ghost use Rattle.isle_ast.specs.TreeView.{definition_of, definitions_of, fields_of};
@@ -6,12 +6,13 @@ ghost use Rattle.isle_ast.specs.TreeView.{type_definition_of, variant_of};
 ghost use Rattle.isle_ast_names.specs.TreeView.{name_of};
 ghost use Rattle.isle_expand_warnings.specs.First.{first};
 ghost use Rattle.isle_expand_warnings.specs.Types.{argument_type, argument_type_in, content_type};
-ghost use Rattle.isle_expand_warnings.specs.Types.{field_type, value_type, value_type_in, variant_type};
+ghost use Rattle.isle_expand_warnings.specs.Types.{field_type, value_type, value_type_in};
+ghost use Rattle.isle_expand_warnings.specs.Types.{variant_type};
 
 use crate::variants::{has_variant, is_variant};
 use isle_ast::ast::{Def, Fields, Ident, TypeDef, TypeValue, Variant};
 
-/// Gives the type of a term's value, if a declaration or an enum says it.
+/// Returns the type of a term's value, if a declaration or an enum says it.
 pub fn value_type<'d>(term: &Ident, defs: &'d [Def]) -> Option<&'d Ident>
     ensures { option_map (λ ty. (name_of ty.now).text) result
         ≡ value_type (definitions_of defs.now) (name_of term.now).text }
@@ -24,7 +25,7 @@ pub fn value_type<'d>(term: &Ident, defs: &'d [Def]) -> Option<&'d Ident>
     None
 }
 
-/// Gives the type of a term's value, if this definition says it.
+/// Returns the type of a term's value, if this definition says it.
 fn value_type_in<'d>(term: &Ident, def: &'d Def) -> Option<&'d Ident>
     ensures { option_map (λ ty. (name_of ty.now).text) result
         ≡ value_type_in (name_of term.now).text (definition_of def.now) }
@@ -36,7 +37,8 @@ fn value_type_in<'d>(term: &Ident, def: &'d Def) -> Option<&'d Ident>
     }
 }
 
-/// Gives the type of a term's argument by its number, if a declaration or an enum says it.
+/// Returns the type of a term's argument, if a declaration or an enum says it. `number` counts the
+/// arguments from 0.
 pub fn argument_type<'d>(term: &Ident, number: usize, defs: &'d [Def]) -> Option<&'d Ident>
     ensures { option_map (λ ty. (name_of ty.now).text) result
         ≡ argument_type (definitions_of defs.now) (name_of term.now).text number }
@@ -49,7 +51,7 @@ pub fn argument_type<'d>(term: &Ident, number: usize, defs: &'d [Def]) -> Option
     None
 }
 
-/// Gives the type of a term's argument by its number, if this definition says it.
+/// Returns the type of a term's argument, if this definition says it.
 fn argument_type_in<'d>(term: &Ident, number: usize, def: &'d Def) -> Option<&'d Ident>
     ensures { option_map (λ ty. (name_of ty.now).text) result
         ≡ argument_type_in (name_of term.now).text number (definition_of def.now) }
@@ -61,7 +63,7 @@ fn argument_type_in<'d>(term: &Ident, number: usize, def: &'d Def) -> Option<&'d
     }
 }
 
-/// Gives the type of a field by its number, of the variant that a term is.
+/// Returns the type of a field, if the term is a variant of this type.
 fn content_type<'d>(term: &Ident, number: usize, type_def: &'d TypeDef) -> Option<&'d Ident>
     ensures { option_map (λ ty. (name_of ty.now).text) result
         ≡ content_type (name_of term.now).text number (type_definition_of type_def.now)
@@ -73,7 +75,7 @@ fn content_type<'d>(term: &Ident, number: usize, type_def: &'d TypeDef) -> Optio
     }
 }
 
-/// Gives the type of a field by its number, of the one of these variants that a term is.
+/// Returns the type of a field, if the term is one of these variants.
 fn variants_type<'d>(
     term: &Ident,
     number: usize,
@@ -92,7 +94,7 @@ fn variants_type<'d>(
     None
 }
 
-/// Gives the type of a field by its number, if a term is this variant.
+/// Returns the type of a field, if the term is this variant.
 fn variant_type<'d>(
     term: &Ident,
     number: usize,
@@ -109,7 +111,6 @@ fn variant_type<'d>(
     None
 }
 
-/// Gives the type of a field by its number.
 fn field_type(number: usize, fields: &Fields) -> Option<&Ident>
     ensures { option_map (λ ty. (name_of ty.now).text) result
         ≡ field_type number (fields_of fields.now) }

@@ -9,7 +9,7 @@ ghost use Rattle.isle_expand_warnings.specs.Variants.{has_variant, is_variant};
 
 use isle_ast::ast::{Ident, TypeDef, TypeValue, Variant};
 
-/// Tells whether a term is a variant of a type.
+/// Returns whether a term is a variant of a type, `TYPE.VARIANT`.
 pub fn has_variant(term: &Ident, type_def: &TypeDef) -> bool
     ensures { result
         ≡ has_variant (name_of term.now).text (type_definition_of type_def.now)
@@ -21,7 +21,7 @@ pub fn has_variant(term: &Ident, type_def: &TypeDef) -> bool
     }
 }
 
-/// Tells whether a term is one of these variants of a type.
+/// Returns whether a term is one of these variants of a type.
 fn is_one_of(term: &Ident, type_def: &TypeDef, variants: &[Variant]) -> bool
     ensures { result
         ≡ list_any (is_variant (name_of term.now).text (type_definition_of type_def.now))
@@ -35,7 +35,7 @@ fn is_one_of(term: &Ident, type_def: &TypeDef, variants: &[Variant]) -> bool
     false
 }
 
-/// Tells whether a term is this variant of a type, `TYPE.VARIANT`.
+/// Returns whether a term is this variant of a type, `TYPE.VARIANT`.
 pub fn is_variant(term: &Ident, type_def: &TypeDef, variant: &Variant) -> bool
     ensures { result
         ≡ is_variant (name_of term.now).text (type_definition_of type_def.now)
@@ -48,7 +48,7 @@ pub fn is_variant(term: &Ident, type_def: &TypeDef, variant: &Variant) -> bool
     )
 }
 
-/// Tells whether bytes are a first part, a dot and a last part.
+/// Returns whether bytes are `first`, a dot and `last`.
 fn is_joined(bytes: &[u8], first: &[u8], last: &[u8]) -> bool
     ensures { result ≡ bytes_eq (first.now ++ codes "." ++ last.now) bytes.now }
 {

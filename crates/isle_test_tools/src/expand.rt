@@ -1,7 +1,7 @@
 //! Definitions with their extractors expanded.
 
 use crate::answers::is_text;
-use isle_expand_core::{ExpandFault, expanded};
+use isle_expand_core::{ExpandFault, expand};
 use isle_syntax::ast::Def;
 use isle_syntax::lexer::{Fault, Pos};
 use isle_syntax::parse;
@@ -12,7 +12,7 @@ use std::alloc::Global;
 /// Expands the definitions of a text.
 fn outcome(alloc: Global, text: &str) -> Result<Result<Vec<Def>, ExpandFault>, Fault> {
     let defs = parse(alloc, text)?;
-    let outcome = expanded(alloc, &defs);
+    let outcome = expand(alloc, &defs);
     drop_definitions(defs);
     Ok(outcome)
 }

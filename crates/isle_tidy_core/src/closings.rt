@@ -10,7 +10,7 @@ ghost use Rattle.isle_tidy_layout.specs.declared.entries.Gap.TheVariants.{Beside
 use isle_tidy_layout::columns::is_space_or_tab;
 use isle_tidy_layout::entries::{Entry, Gap, Lexeme};
 
-/// Counts the `)` that follow on the line at an offset.
+/// Counts the `)` at an offset, with only spaces and tabs among them.
 #[inline(never)]
 fn closings_at(bytes: &[u8], from: usize) -> usize
     requires { from ≤ length bytes.now }
@@ -31,8 +31,8 @@ fn closings_at(bytes: &[u8], from: usize) -> usize
     count
 }
 
-/// Counts the `)` that follow an entry on its line, where its place depends on them: where it is a
-/// `)` that begins a line. So each run of `)` is counted once.
+/// Counts the `)` that follow an entry on its line, if its place depends on them: if it is a `)`
+/// that begins a line. Otherwise returns 0. So each run of `)` is counted once.
 pub(crate) fn closings_after(text: &str, entry: &Entry, end: usize) -> usize
     requires { end ≤ length text.now }
     ensures { (here : Here) (entries : List EntryNode)

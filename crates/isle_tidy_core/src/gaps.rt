@@ -12,7 +12,6 @@ ghost use Rattle.isle_tidy_core.specs.Sizes.{size_of};
 
 use isle_tidy_layout::entries::Gap;
 
-/// Gives the gap with one space more.
 fn space_more(gap: Gap) -> Gap
     requires { size_of gap + 1 < 2 ^ 64 }
     ensures { result ≡ one_space_more gap }
@@ -24,7 +23,6 @@ fn space_more(gap: Gap) -> Gap
     }
 }
 
-/// Gives the gap with one tab more.
 fn tab_more(gap: Gap) -> Gap
     requires { size_of gap + 1 < 2 ^ 64 }
     ensures { result ≡ one_tab_more gap }
@@ -36,7 +34,6 @@ fn tab_more(gap: Gap) -> Gap
     }
 }
 
-/// Gives the gap with one line end more.
 fn line_more(gap: Gap) -> Gap
     requires { size_of gap + 1 < 2 ^ 64 }
     ensures { result ≡ one_line_more gap }
@@ -47,7 +44,7 @@ fn line_more(gap: Gap) -> Gap
     }
 }
 
-/// Gives the gap with one blank more, a CR before a LF with that.
+/// Adds a blank to a gap. A CR before a LF adds nothing, since the LF does.
 fn blank_more(gap: Gap, blank: u8, before_feed: bool) -> Gap
     requires { size_of gap + 1 < 2 ^ 64 }
     ensures { result ≡ one_blank_more gap blank before_feed }
@@ -63,7 +60,6 @@ fn blank_more(gap: Gap, blank: u8, before_feed: bool) -> Gap
     }
 }
 
-/// Tells whether a LF is at an offset.
 fn is_feed_at(bytes: &[u8], at: usize) -> bool
     requires { at ≤ length bytes.now }
     ensures { result ≡ begins_with (λ b. b == line_feed) (drop at bytes.now) }
@@ -71,7 +67,7 @@ fn is_feed_at(bytes: &[u8], at: usize) -> bool
     at < bytes.len() && bytes[at] == b'\n'
 }
 
-/// Gives the gap that blanks make after another one.
+/// Adds blanks to a gap.
 pub(crate) fn gap_of(gap: Gap, blanks: &[u8]) -> Gap
     requires { size_of gap + length blanks.now + 1 < 2 ^ 64 }
     ensures { result ≡ gap_with gap blanks.now }

@@ -1,4 +1,4 @@
-//! A first look at a text, which makes no error.
+//! A quick check that a text has a document. It makes no error message.
 
 ghost use Rattle.std.specs.Prelude.{◌≡◌, ◌≤◌, ◌+◌, ◌∷◌, IfSome, List, drop, length, true};
 ghost use Rattle.std.specs.List.{prefix_len};
@@ -12,7 +12,8 @@ use crate::lexemes::lexeme_at;
 use crate::reader::blanks_end;
 use isle_tidy_layout::entries::Lexeme;
 
-/// Gives how many lists are open after a lexeme, of so many before it, if they can be counted.
+/// Returns how many lists are open after a lexeme, if `depth` are open before it. Returns `None` at
+/// a `)` without its `(`.
 #[inline(always)]
 fn depth_after(depth: usize, lexeme: &Lexeme) -> Option<usize>
     ensures { IfSome result (λ after. (xs : List LexemeNode)
@@ -25,8 +26,8 @@ fn depth_after(depth: usize, lexeme: &Lexeme) -> Option<usize>
     }
 }
 
-/// Finds the first byte from an offset on that is no blank, or the end of the text. Most blanks are
-/// one space, and the byte after it shows that.
+/// Finds the first byte at or after `from` that is not a blank, or the end. Most runs of blanks are
+/// one space, so that is tried first.
 #[inline(always)]
 fn start_at(bytes: &[u8], from: usize) -> usize
     requires { from ≤ length bytes.now }
@@ -44,8 +45,8 @@ fn start_at(bytes: &[u8], from: usize) -> usize
     blanks_end(bytes, from)
 }
 
-/// Tells whether a text is known to have a document. Where it isn't, `check_parentheses` finds out
-/// why.
+/// Returns `true` only if a text has a document. After `false`, call `check_parentheses` for the
+/// error.
 pub(crate) fn has_document(text: &str) -> bool
     ensures { result ≡ true → HasDocument text.now }
 {

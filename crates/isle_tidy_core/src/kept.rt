@@ -1,5 +1,4 @@
-//! Putting entries onto the tidy text. What is there as it is in the text is kept back, and is put
-//! in long pieces.
+//! Output. Unchanged input is kept back as a byte range and copied in large chunks.
 
 ghost use Rattle.std.specs.Prelude.{◌≡◌, ◌≤◌, ◌++◌, [], IfOk, IsUtf8};
 ghost use Rattle.std.specs.Prelude.{OnOk, drop, length, string_bytes};
@@ -20,19 +19,19 @@ use isle_tidy_layout::entries::{Entry, Gap, Lexeme};
 use isle_tidy_layout::placing::Kind;
 use std::alloc::AllocError;
 
-/// How many bytes are kept back at most, and those of one entry.
+/// How many bytes may be pending, beside those of one entry.
 const MOST: usize = 64 * 1024;
 
-/// Two offsets: the bytes between them are in the tidy text as they are, and aren't put yet.
+/// A range of the text that is next in the tidy text as it is, but is not written yet.
 #[derive(Clone, Copy, Debug)]
 pub struct Kept {
-    /// The offset of the first of them.
+    /// The byte offset of its first byte.
     pub from: usize,
-    /// The offset after the last.
+    /// The byte offset after its last byte.
     pub to: usize,
 }
 
-/// Tells whether the bytes of a lexeme are known to be simple.
+/// Returns `true` only if all bytes of a lexeme are printable ASCII.
 #[inline(always)]
 pub(crate) fn is_simple_at(text: &str, lexeme: &Lexeme, span: Span) -> bool
     requires { Stands text.now (lexeme_of lexeme.now) span.start span.end }
@@ -46,7 +45,7 @@ pub(crate) fn is_simple_at(text: &str, lexeme: &Lexeme, span: Span) -> bool
     }
 }
 
-/// Tells whether two gaps are known to be the same.
+/// Returns `true` only if two gaps are the same.
 #[inline(always)]
 fn are_same(gap: Gap, other: Gap) -> bool
     ensures { result ≡ true → gap ≡ other }
@@ -58,7 +57,8 @@ fn are_same(gap: Gap, other: Gap) -> bool
     }
 }
 
-/// Tells whether something is before an entry, and its gap is known to stay.
+/// Returns `true` only if the gap before an entry is written as it is in the text. The first gap of
+/// a text is never taken to be.
 #[inline(always)]
 fn stays(before: Kind, gap: Gap, placed: Gap) -> bool
     ensures { result ≡ true → gap_text gap ≡ gap_text_from before placed }
@@ -69,7 +69,7 @@ fn stays(before: Kind, gap: Gap, placed: Gap) -> bool
     }
 }
 
-/// Tells whether a lexeme is known to stay as it is.
+/// Returns `true` only if a lexeme stays as it is. Line comments with blanks at their ends do not.
 #[inline(always)]
 fn is_tidy(lexeme: &Lexeme) -> bool
     ensures { result ≡ true → tidied (lexeme_of lexeme.now) ≡ lexeme_of lexeme.now }
@@ -83,7 +83,7 @@ fn is_tidy(lexeme: &Lexeme) -> bool
     }
 }
 
-/// Puts what is kept.
+/// Writes the pending bytes.
 #[inline(never)]
 fn put_kept(out: &mut String, text: &str, kept: Kept) -> Result<(), AllocError>
     requires { AreKept text.now kept }
@@ -93,7 +93,7 @@ fn put_kept(out: &mut String, text: &str, kept: Kept) -> Result<(), AllocError>
     out.push_str(part(text, kept.from, kept.to))
 }
 
-/// Puts another gap than the one that is there.
+/// Writes the pending bytes, and a gap in place of the one in the text.
 #[inline(never)]
 fn put_other_gap(
     out: &mut String,
@@ -113,7 +113,7 @@ fn put_other_gap(
     put_gap_after(out, before, placed)
 }
 
-/// Puts another lexeme than the one that is there.
+/// Writes the pending bytes, and a tidy lexeme in place of the one in the text.
 #[inline(never)]
 fn put_other_lexeme(
     out: &mut String,
@@ -132,8 +132,8 @@ fn put_other_lexeme(
     put_lexeme(out, lexeme)
 }
 
-/// Puts the gap before an entry, and gives the offset from which on bytes are kept now, up to the
-/// lexeme.
+/// Writes the gap before an entry, or adds it to the pending bytes. Returns the offset from which
+/// bytes are pending now, up to the lexeme.
 #[inline(always)]
 fn put_gap(
     out: &mut String,
@@ -159,7 +159,8 @@ fn put_gap(
     Ok(span.start)
 }
 
-/// Puts a lexeme, and gives the offset from which on bytes are kept now, up to its end.
+/// Writes a lexeme, or adds it to the pending bytes. Returns the offset from which bytes are
+/// pending now, up to its end.
 #[inline(always)]
 fn put_lexeme_at(
     out: &mut String,
@@ -183,7 +184,7 @@ fn put_lexeme_at(
     Ok(end)
 }
 
-/// Puts what is kept if that is much, and gives the offset from which on bytes are kept now.
+/// Writes the pending bytes if they are many. Returns the offset from which bytes are pending now.
 #[inline(always)]
 fn put_much(out: &mut String, text: &str, kept: Kept) -> Result<usize, AllocError>
     requires { AreKept text.now kept }
@@ -197,8 +198,8 @@ fn put_much(out: &mut String, text: &str, kept: Kept) -> Result<usize, AllocErro
     Ok(kept.to)
 }
 
-/// Puts an entry after one of this kind, and gives the offset from which on bytes are kept now, up
-/// to its end.
+/// Writes an entry after one of the kind `before`, or adds it to the pending bytes. Returns the
+/// offset from which bytes are pending now, up to its end.
 #[inline(always)]
 pub(crate) fn put_entry(
     out: &mut String,
@@ -225,7 +226,7 @@ pub(crate) fn put_entry(
     put_much(out, text, Kept { from, to })
 }
 
-/// Puts what is kept, and the end of a text, after an entry of this kind.
+/// Writes the pending bytes, and the end of a text whose last entry is of the kind `before`.
 pub(crate) fn put_end(
     out: &mut String,
     text: &str,

@@ -30,9 +30,8 @@ pub fn tidying_again_changes_nothing()
         → IsTidyTextOf text answer → IsTidyTextOf answer again → again ≡ answer }
 {}
 
-/// A law, which runs no code: the same lexemes stay in the same order, a line comment without the
-/// spaces and tabs at its end, and the same of them begin lines, with two empty lines before at
-/// most.
+/// A law, which runs no code: the same lexemes stay in the same order, line comments without the
+/// spaces and tabs at their ends. The same lexemes begin lines, after at most two empty lines.
 pub fn lexemes_and_lines_stay()
     ensures same_lexemes { (entries : List Entry)
         → lexemes (placed entries) ≡ map tidied (lexemes entries) }
@@ -40,7 +39,7 @@ pub fn lexemes_and_lines_stay()
         → breaks (placed entries) ≡ capped_breaks (breaks entries) }
 {}
 
-/// A law, which runs no code: the tidy text of a text has the same tokens, their offsets aside.
+/// A law, which runs no code: a text and its tidy text have the same tokens, offsets aside.
 pub fn same_tokens_stay()
     ensures { (text answer : List ℕ) → IsTidyTextOf text answer → HaveSameTokens text answer }
 {}
@@ -54,14 +53,14 @@ pub fn matched_texts_have_documents()
         → (tokens : List Lexeme) × lexes text tokens end × (tokens_match tokens ≡ true) }
 {}
 
-/// A law, which runs no code: no line of a tidy text ends with a space or a tab, but in block
-/// comments.
+/// A law, which runs no code: outside block comments, no line of a tidy text ends with a space or a
+/// tab.
 pub fn no_line_ends_with_a_blank()
     ensures { (text answer : List ℕ) → IsTidyTextOf text answer → Outside ends_clean answer }
 {}
 
-/// A law, which runs no code: no more than two empty lines stand in a row in a tidy text, but in
-/// block comments.
+/// A law, which runs no code: outside block comments, at most two empty lines stand in a row in a
+/// tidy text.
 pub fn no_three_lines_are_empty()
     ensures { (text answer : List ℕ) → IsTidyTextOf text answer → Outside has_few_lines answer }
 {}

@@ -1,4 +1,4 @@
-//! The lexemes of a text.
+//! Reading the lexemes of a text. Each call returns a lexeme with the byte offset after it.
 
 ghost use Rattle.std.specs.Prelude.{◌≡◌, ◌==◌, ◌-◌, ◌<◌, ◌≤◌, IsUtf8, drop, false, length, take};
 ghost use Rattle.std.specs.Prelude.{true};
@@ -13,7 +13,7 @@ use isle_base::ends::{block_comment_end, integer_end, is_lone_minus_at, opens_at
 use isle_base::lexer::{line_comment_end, symbol_end};
 use isle_tidy_layout::entries::Lexeme;
 
-/// Gives the part of a text between two offsets.
+/// Returns the part of a text between two byte offsets.
 #[inline(always)]
 pub(crate) fn part<'src>(text: &'src str, from: usize, to: usize) -> &'src str
     requires order { from ≤ to }
@@ -25,7 +25,6 @@ pub(crate) fn part<'src>(text: &'src str, from: usize, to: usize) -> &'src str
     &text[from..to]
 }
 
-/// Reads the symbol at an offset.
 #[inline(always)]
 fn symbol_at<'src>(text: &'src str, start: usize) -> (Lexeme<'src>, usize)
     requires within { start < length text.now }
@@ -37,7 +36,7 @@ fn symbol_at<'src>(text: &'src str, start: usize) -> (Lexeme<'src>, usize)
     (Lexeme::Atom(part(text, start, end)), end)
 }
 
-/// Reads the integer at an offset.
+/// Reads the integer at an offset, if it is well formed and fits in 128 bits.
 #[inline(always)]
 fn integer_at<'src>(text: &'src str, start: usize) -> Option<(Lexeme<'src>, usize)>
     requires within { start < length text.now }
@@ -52,7 +51,7 @@ fn integer_at<'src>(text: &'src str, start: usize) -> Option<(Lexeme<'src>, usiz
     }
 }
 
-/// Reads what begins with the `-` at an offset: a symbol, or an integer.
+/// Reads the symbol or integer that begins with the `-` at an offset.
 #[inline(always)]
 fn minus_at<'src>(text: &'src str, start: usize) -> Option<(Lexeme<'src>, usize)>
     requires within { start < length text.now }
@@ -79,7 +78,7 @@ fn line_comment_at<'src>(text: &'src str, start: usize) -> (Lexeme<'src>, usize)
     (Lexeme::LineComment(part(text, start + 1, end)), end)
 }
 
-/// Reads the block comment whose `(;` is at an offset.
+/// Reads the block comment whose `(;` is at an offset, if it has its `;)`.
 #[inline(always)]
 fn block_comment_at<'src>(text: &'src str, start: usize) -> Option<(Lexeme<'src>, usize)>
     requires within { start < length text.now }
@@ -93,7 +92,7 @@ fn block_comment_at<'src>(text: &'src str, start: usize) -> Option<(Lexeme<'src>
     }
 }
 
-/// Reads what begins with the `(` at an offset: a block comment, or that `(`.
+/// Reads the `(` at an offset, or the block comment that begins with it.
 #[inline(always)]
 fn parenthesis_at<'src>(text: &'src str, start: usize) -> Option<(Lexeme<'src>, usize)>
     requires within { start < length text.now }
@@ -108,8 +107,8 @@ fn parenthesis_at<'src>(text: &'src str, start: usize) -> Option<(Lexeme<'src>, 
     }
 }
 
-/// Reads the lexeme at an offset where no blank is. There is none where a block comment has no
-/// end, at a form feed, and at an integer that writes no number or one that doesn't fit 128 bits.
+/// Reads the lexeme at an offset, where no blank is. Returns `None` at a form feed, at a block
+/// comment without its `;)`, and at an integer that is malformed or does not fit in 128 bits.
 #[inline(always)]
 pub fn lexeme_at<'src>(text: &'src str, start: usize) -> Option<(Lexeme<'src>, usize)>
     requires within { start < length text.now }

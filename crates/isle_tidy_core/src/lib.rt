@@ -1,8 +1,7 @@
-//! The document of a text, and its tidy text: the author's lines, indented as Cranelift's authors
-//! indent.
+//! The tidier: it keeps the author's lines, and indents them as Cranelift's authors do.
 //!
-//! A text has a document if it lexes and its parentheses match; it need not spell definitions. The
-//! entries of a document, and where each is placed, are those of `isle_tidy_layout`.
+//! A text has a document if it lexes and its parentheses match; it need not parse as definitions.
+//! The entries of a document, and the place of each, are those of `isle_tidy_layout`.
 #![tactic(auto)]
 
 ghost use Rattle.std.specs.Prelude.{◌≡◌, ◌≢◌, ◌≤◌, ◌++◌, Err, IfErr, IfOk, IfSome};
@@ -28,17 +27,16 @@ use isle_base::lexer::Fault;
 use std::alloc::Global;
 use tidying::Tidying;
 
-/// Tidies a text of ISLE: keeps the author's lines and every comment, and mends columns and gaps.
+/// Tidies a text of ISLE: keeps the author's lines and every comment, and fixes columns and gaps.
 ///
-/// The answer has the same lexemes as they are written (`0x10` stays `0x10`) in the same order, a
-/// line comment without the spaces and tabs at its end. The same of them begin lines. No more than
-/// two empty lines stand in a row, and none at the start. Lines end with LF, also the last.
-/// Tidying the answer gives it back.
+/// The result has the same lexemes in the same order, as they are written: `0x10` stays `0x10`.
+/// Only line comments change: they lose the spaces and tabs at their ends. The same lexemes begin
+/// lines. At most two empty lines stand in a row, and none at the start. Each line ends with LF,
+/// the last one too. Tidying the result again changes nothing.
 ///
-/// `Error` comes exactly where the text has no document. It is a parse error in file 0. Its span
-/// is one byte: that at which the lexer's fault begins, the first `)` without its `(`, or a `(`
-/// without its `)` that is in no other list. `Memory` comes where a growth was refused. `Failed`
-/// never comes.
+/// `Error` means that the text has no document. It is a parse error in file 0, whose span is one
+/// byte: the one where the lexical error begins, the first `)` without its `(`, or a `(` without
+/// its `)` that is in no other list. `Memory` means out of memory. `Failed` is never returned.
 pub fn tidy(alloc: Global, text: &str) -> Result<String, Fault>
     ensures tidied { IfOk result (λ answer. IsTidyTextOf text.now (string_bytes answer)) }
     ensures refused { IfErr result (IfError (λ e. HasNoDocument text.now
@@ -51,12 +49,12 @@ pub fn tidy(alloc: Global, text: &str) -> Result<String, Fault>
     Ok(answer)
 }
 
-/// How many bytes of a tidy text are compared at once, at least.
+/// At least this many bytes of a tidy text are compared at once.
 const COMPARED: usize = 64 * 1024;
 
-/// Tells whether a text is tidy: whether its tidy text is the text itself. No tidy text is held.
+/// Returns whether a text is its own tidy text, which is compared in parts and never held whole.
 ///
-/// The errors are those of `tidy`, so the answer is true exactly where `tidy` returns the text.
+/// The errors are those of `tidy`. The result is `true` exactly if `tidy` returns the text itself.
 pub fn is_tidy(alloc: Global, text: &str) -> Result<bool, Fault>
     ensures tidy { result ≡ Ok true → IsTidyTextOf text.now text.now }
     ensures untidy { result ≡ Ok false → IsUntidy text.now }
@@ -80,7 +78,7 @@ pub fn is_tidy(alloc: Global, text: &str) -> Result<bool, Fault>
     }
 }
 
-/// Gives the offset after a part of a text, if it stands at an offset.
+/// Returns the byte offset after `part`, if the text has it at the byte offset `at`.
 fn goes_on(text: &str, at: usize, part: &str) -> Option<usize>
     requires { at ≤ length text.now }
     ensures some { IfSome result (λ next. (next ≤ length text.now)

@@ -1,4 +1,4 @@
-//! Whether a text lexes and its parentheses match.
+//! Checking that a text lexes and that its parentheses match.
 
 ghost use Rattle.std.specs.Prelude.{◌≡◌, ◌≢◌, ◌≤◌, ◌<◌, ◌++◌, ◌∷◌, [], Err, IfErr, IfOk, IfSome};
 ghost use Rattle.std.specs.Prelude.{List, None};
@@ -16,17 +16,17 @@ use isle_base::lexer::{Fault, Pos};
 use isle_base::scanner::{Scanner, TokenRef};
 use std::alloc::{AllocError, Global};
 
-/// The parentheses of a text up to a token.
+/// The lists that are open after some tokens of a text.
 #[derive(Clone, Copy, Debug)]
 pub struct Parentheses {
-    /// How many lists are open.
+    /// How many there are.
     depth: usize,
-    /// The offset of the `(` of the outermost of them.
+    /// The byte offset of the outermost one's `(`.
     outermost: usize,
 }
 
 impl Parentheses {
-    /// Those up to a `(` at an offset. The error is for more lists than can be counted.
+    /// Opens a list whose `(` is at this byte offset. Fails if the count overflows.
     fn opened(self, at: usize) -> Result<Parentheses, AllocError>
         ensures { (taken : List Lexeme) (x : Lexeme) → IsAfter taken self → x.token ≡ lparen
             → x.offset ≡ at → IfOk result (IsAfter (taken ++ x ∷ [])) }
@@ -46,7 +46,7 @@ impl Parentheses {
         }
     }
 
-    /// Those up to a `)`, if it has its `(`.
+    /// Closes a list, or returns `None` if none is open.
     fn closed(self) -> Option<Parentheses>
         ensures some { (taken : List Lexeme) (x : Lexeme) → IsAfter taken self → x.token ≡ rparen
             → IfSome result (IsAfter (taken ++ x ∷ [])) }
@@ -61,7 +61,7 @@ impl Parentheses {
         })
     }
 
-    /// Those up to a token at an offset. There are none at a `)` without its `(`.
+    /// Goes past a token at this byte offset. Returns `None` at a `)` without its `(`.
     fn counted(self, token: &TokenRef, at: usize) -> Result<Option<Parentheses>, AllocError>
         ensures some { (taken : List Lexeme) (x : Lexeme) → IsAfter taken self
             → x.token ≡ token_of_ref token.now → x.offset ≡ at
@@ -80,18 +80,18 @@ impl Parentheses {
     }
 }
 
-/// What is next in a text.
+/// What `take_next` found.
 #[derive(Clone, Copy, Debug)]
 pub enum Found {
-    /// A token.
+    /// A token, which is counted.
     Token,
     /// The end of the text.
     End,
-    /// A `)` without its `(`, at this offset.
+    /// A `)` without its `(`, at this byte offset.
     Unmatched(usize),
 }
 
-/// Takes the next token off a text.
+/// Reads the next token, and counts it.
 fn take_next(
     alloc: Global,
     scanner: &mut Scanner,
@@ -123,7 +123,7 @@ fn take_next(
     }
 }
 
-/// Makes the error of a parenthesis at an offset.
+/// Makes a parse error whose span is the byte at an offset.
 fn refusal(alloc: Global, text: &str, at: usize, message: &str) -> Result<Error, AllocError>
     requires { at ≤ length text.now }
     ensures { IfOk result (StandsAt at) }

@@ -1,4 +1,4 @@
-//! The next entry of a text.
+//! Reading the entries of a text.
 
 ghost use Rattle.std.specs.Prelude.{◌≡◌, ◌==◌, ◌+◌, ◌<◌, ◌≤◌, ◌^◌, IfSome, IsUtf8, drop, length};
 ghost use Rattle.std.specs.List.{prefix_len};
@@ -13,41 +13,41 @@ use crate::lexemes::lexeme_at;
 use isle_base::lexer::blank_end;
 use isle_tidy_layout::entries::{Entry, Gap};
 
-/// Blanks: the gap that they make, the offset after them, and whether they are known to be what is
-/// written of that gap.
+/// A run of blanks before a lexeme. It is canonical if it has the very bytes that its gap is
+/// written as.
 #[derive(Clone, Copy, Debug)]
 pub struct Blanks {
-    /// The gap.
+    /// The gap that they make.
     pub gap: Gap,
-    /// The offset after them.
+    /// The byte offset after them.
     pub end: usize,
-    /// Whether they are known to be what is written of the gap.
+    /// Whether they are known to be canonical.
     pub are_clean: bool,
 }
 
-/// Where an entry stands.
+/// The place of an entry.
 #[derive(Clone, Copy, Debug)]
 pub struct Span {
-    /// The offset of its lexeme.
+    /// The byte offset of its lexeme.
     pub start: usize,
-    /// The offset after it.
+    /// The byte offset after its lexeme.
     pub end: usize,
-    /// Whether the blanks before it are known to be what is written of its gap.
+    /// Whether the blanks before it are known to be canonical.
     pub is_clean: bool,
 }
 
-/// What follows an offset.
+/// What `step_at` found.
 #[derive(Drop)]
 pub enum Step<'src> {
-    /// An entry, and where it stands.
+    /// An entry, and its place.
     More(Entry<'src>, Span),
     /// The end of the text.
     End,
-    /// Nothing that a document can have.
+    /// No lexeme, so the text has no document.
     Refused,
 }
 
-/// Finds the first byte from an offset on that is another than this one.
+/// Finds the first byte at or after `from` that is not `byte`, or the end.
 #[inline(always)]
 fn run_end(bytes: &[u8], from: usize, byte: u8) -> usize
     requires { from ≤ length bytes.now }
@@ -61,8 +61,7 @@ fn run_end(bytes: &[u8], from: usize, byte: u8) -> usize
     at
 }
 
-/// Gives the blanks at an offset, if they are what is written of a gap: the ends of lines, and then
-/// spaces.
+/// Reads the blanks at an offset, if they are canonical: line ends, and then spaces.
 #[inline(always)]
 fn clean_blanks_at(bytes: &[u8], from: usize) -> Option<Blanks>
     requires { from ≤ length bytes.now }
@@ -85,8 +84,8 @@ fn clean_blanks_at(bytes: &[u8], from: usize) -> Option<Blanks>
     })
 }
 
-/// Gives how many spaces are at an offset, if they are one or none and no other blank follows. So
-/// it is before most entries.
+/// Returns the number of spaces at an offset, if it is 0 or 1 and no other blank follows. It is so
+/// before most entries.
 #[inline(always)]
 pub fn near_width_at(bytes: &[u8], from: usize) -> Option<usize>
     requires { from ≤ length bytes.now }
@@ -104,7 +103,7 @@ pub fn near_width_at(bytes: &[u8], from: usize) -> Option<usize>
     None
 }
 
-/// Finds the first byte from an offset on that is no blank, or the end of the text.
+/// Finds the first byte at or after `from` that is not a blank, or the end.
 pub(crate) fn blanks_end(bytes: &[u8], from: usize) -> usize
     requires { from ≤ length bytes.now }
     ensures end { result ≡ from + prefix_len is_blank (drop from bytes.now) }
@@ -113,7 +112,7 @@ pub(crate) fn blanks_end(bytes: &[u8], from: usize) -> usize
     blank_end(bytes, from)
 }
 
-/// Gives the blanks at an offset, after a gap.
+/// Reads the blanks at an offset, byte by byte.
 #[inline(never)]
 fn any_blanks_at(bytes: &[u8], gap: Gap, from: usize) -> Blanks
     requires within { from ≤ length bytes.now }
@@ -129,7 +128,7 @@ fn any_blanks_at(bytes: &[u8], gap: Gap, from: usize) -> Blanks
     }
 }
 
-/// Gives the blanks at an offset, after a gap.
+/// Reads the blanks at an offset. `gap` is the gap so far: none, or the start of the text.
 #[inline(always)]
 fn blanks_at(bytes: &[u8], gap: Gap, from: usize) -> Blanks
     requires within { from ≤ length bytes.now }
@@ -145,7 +144,7 @@ fn blanks_at(bytes: &[u8], gap: Gap, from: usize) -> Blanks
     any_blanks_at(bytes, gap, from)
 }
 
-/// Reads what follows an offset, before which there is this gap.
+/// Reads the next entry from an offset. `gap` is the gap so far: none, or the start of the text.
 #[inline(always)]
 pub fn step_at<'src>(text: &'src str, gap: Gap, from: usize) -> Step<'src>
     requires within { from ≤ length text.now }

@@ -23,22 +23,22 @@ use std::alloc::{AllocError, Global};
 
 /// A text that is being tidied, one entry after another.
 ///
-/// Neither the text nor its tidy text is held.
+/// It borrows the text, and holds no copy of it or of its tidy text.
 #[derive(Debug, Drop)]
 pub struct Tidying<'src> {
     text: &'src str,
-    /// The offset of what is next.
+    /// The byte offset after the last entry.
     at: usize,
-    /// The offset of what is kept: the bytes from there on, up to what is next, are in the tidy
-    /// text as they are, and aren't appended yet.
+    /// The byte offset from which bytes are pending, up to `at`: they are next in the tidy text as
+    /// they are, and are not appended yet.
     kept: usize,
-    /// The gap before that offset: none, or the start of the text.
+    /// The gap before `at`: none, or the start of the text.
     gap: Gap,
     placer: Placer,
 }
 
 impl<'src> Tidying<'src> {
-    /// Begins to tidy a text, once it is known to be accepted. The errors are those of `tidy`.
+    /// Checks a text, and begins to tidy it. The errors are those of `tidy`.
     pub fn new(alloc: Global, text: &'src str) -> Result<Tidying<'src>, Fault>
         ensures begun { IfOk result (HasWritten text.now []) }
         ensures refused { IfErr result (IfError (λ e. HasNoDocument text.now
@@ -60,12 +60,12 @@ impl<'src> Tidying<'src> {
         })
     }
 
-    /// Goes past the next entry, and tells whether more is to come. It appends what is before the
-    /// entry in the tidy text, and the entry itself where many bytes are to be appended. After the
-    /// last entry it appends the rest of the text.
+    /// Goes past the next entry and returns `true`. After the last entry, appends the rest of the
+    /// tidy text and returns `false`.
     ///
-    /// It isn't called again after that, nor after an error, which comes where a growth was
-    /// refused.
+    /// Bytes that stay as they are may be appended by a later call, many at once.
+    ///
+    /// Fails if memory runs out. Do not call it again after an error or after `false`.
     #[inline(always)]
     pub fn put_next(&mut self, out: &mut String) -> Result<bool, AllocError>
         requires { (text before : List ℕ) × HasWritten text before self.old }
@@ -81,10 +81,10 @@ impl<'src> Tidying<'src> {
         self.put_any(out)
     }
 
-    /// Goes past the next entry, if it is like most: no block comment, and after one space or none.
-    /// Else nothing is done.
+    /// Goes past the next entry, if it is like most: after one space or none, and no block comment.
+    /// Otherwise does nothing and returns `false`.
     ///
-    /// Each kind of lexeme has a call of its own, so that it is compiled by itself.
+    /// Each kind of lexeme has a call of its own, so that each is compiled by itself.
     #[inline(always)]
     fn put_near(&mut self, out: &mut String) -> Result<bool, AllocError>
         requires { (text before : List ℕ) × HasWritten text before self.old }
@@ -113,7 +113,7 @@ impl<'src> Tidying<'src> {
         }
     }
 
-    /// Goes past an entry that is next, so many spaces further, up to this offset.
+    /// Goes past the next entry: `width` spaces, and a lexeme that ends at the byte offset `end`.
     #[inline(always)]
     fn put_beside(
         &mut self,
@@ -140,7 +140,7 @@ impl<'src> Tidying<'src> {
         Ok(true)
     }
 
-    /// Goes past the next entry, whatever it is. What it asks and appends is as of `put_next`.
+    /// Goes past the next entry, whatever it is, as `put_next` does.
     #[inline(never)]
     fn put_any(&mut self, out: &mut String) -> Result<bool, AllocError>
         requires { (text before : List ℕ) × HasWritten text before self.old }
@@ -167,7 +167,7 @@ impl<'src> Tidying<'src> {
         }
     }
 
-    /// Goes past an entry that is next.
+    /// Goes past the next entry, which was read already.
     #[inline(always)]
     fn put(&mut self, out: &mut String, entry: Entry<'_>, span: Span) -> Result<(), AllocError>
         requires begun { (text before : List ℕ) × HasWritten text before self.old }
@@ -191,8 +191,10 @@ impl<'src> Tidying<'src> {
         Ok(())
     }
 
-    /// Goes past entries until this many bytes are in the text, and tells whether more is to come.
-    /// What it asks and appends is as of `put_next`.
+    /// Goes past entries until `out` has `len` bytes or more, and returns `true`. After the last
+    /// entry, appends the rest of the tidy text and returns `false`.
+    ///
+    /// Fails if memory runs out. Do not call it again after an error or after `false`.
     pub fn put_some(&mut self, out: &mut String, len: usize) -> Result<bool, AllocError>
         requires { (text before : List ℕ) × HasWritten text before self.old }
         ensures more { result ≡ Ok true

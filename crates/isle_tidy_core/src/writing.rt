@@ -12,7 +12,6 @@ use isle_tidy_layout::placer::trimmed;
 use isle_tidy_layout::placing::Kind;
 use std::alloc::AllocError;
 
-/// Puts so many spaces.
 fn put_spaces(out: &mut String, count: usize) -> Result<(), AllocError>
     ensures { OnOk result (string_bytes out.new ≡ string_bytes out.old ++ replicate count space) }
 {
@@ -22,7 +21,7 @@ fn put_spaces(out: &mut String, count: usize) -> Result<(), AllocError>
     Ok(())
 }
 
-/// Puts so many line ends.
+/// Writes line ends.
 fn put_lines(out: &mut String, count: usize) -> Result<(), AllocError>
     ensures { OnOk result (string_bytes out.new
         ≡ string_bytes out.old ++ replicate count line_feed) }
@@ -33,7 +32,7 @@ fn put_lines(out: &mut String, count: usize) -> Result<(), AllocError>
     Ok(())
 }
 
-/// Puts line ends for empty lines, and spaces up to a column.
+/// Writes the line ends of empty lines, and spaces up to a column.
 fn put_indentation(out: &mut String, empty: usize, column: usize) -> Result<(), AllocError>
     ensures { OnOk result (string_bytes out.new
         ≡ string_bytes out.old ++ indentation empty column) }
@@ -42,7 +41,7 @@ fn put_indentation(out: &mut String, empty: usize, column: usize) -> Result<(), 
     put_spaces(out, column)
 }
 
-/// Puts a gap between two entries.
+/// Writes a gap between two entries.
 fn put_gap(out: &mut String, gap: Gap) -> Result<(), AllocError>
     ensures { OnOk result (string_bytes out.new ≡ string_bytes out.old ++ gap_text gap) }
 {
@@ -60,7 +59,6 @@ fn put_gap(out: &mut String, gap: Gap) -> Result<(), AllocError>
     }
 }
 
-/// Puts the gap before the first entry.
 fn put_start(out: &mut String, gap: Gap) -> Result<(), AllocError>
     ensures { OnOk result (string_bytes out.new ≡ string_bytes out.old ++ start_text gap) }
 {
@@ -70,7 +68,7 @@ fn put_start(out: &mut String, gap: Gap) -> Result<(), AllocError>
     }
 }
 
-/// Puts a lexeme, a line comment without the spaces and tabs at its end.
+/// Writes a lexeme: a line comment without the spaces and tabs at its end, any other as it is.
 pub(crate) fn put_lexeme(out: &mut String, lexeme: &Lexeme) -> Result<(), AllocError>
     ensures { OnOk result (string_bytes out.new
         ≡ string_bytes out.old ++ spelling (tidied (lexeme_of lexeme.now))) }
@@ -91,7 +89,7 @@ pub(crate) fn put_lexeme(out: &mut String, lexeme: &Lexeme) -> Result<(), AllocE
     }
 }
 
-/// Puts a gap after an entry of this kind.
+/// Writes a gap after an entry of the kind `before`, or at the start of a text.
 pub(crate) fn put_gap_after(out: &mut String, before: Kind, gap: Gap) -> Result<(), AllocError>
     ensures { OnOk result (string_bytes out.new
         ≡ string_bytes out.old ++ gap_text_from before gap) }
@@ -102,7 +100,7 @@ pub(crate) fn put_gap_after(out: &mut String, before: Kind, gap: Gap) -> Result<
     }
 }
 
-/// Puts the last line end of a text, after an entry of this kind.
+/// Writes the last line end of a text, unless it has no entries.
 pub(crate) fn put_final(out: &mut String, before: Kind) -> Result<(), AllocError>
     ensures { OnOk result (string_bytes out.new ≡ string_bytes out.old ++ text_from before []) }
 {

@@ -1,4 +1,4 @@
-//! Laws of texts that spell trees, and of printed texts, which run no code.
+//! Laws of texts that parse, and of printed texts, which run no code.
 
 ghost use Rattle.std.specs.Prelude.{◌↔◌, ℕ, List};
 ghost use Rattle.isle_base.specs.Place.{nowhere};
@@ -19,21 +19,22 @@ pub fn prints_of_lists_are_tidy()
         → IsTidyTextOf (print_of width ss) (print_of width ss) }
 {}
 
-/// A law, which runs no code: the print of writable definitions at a width, as each tree is that a
-/// text spells, is its own tidy text. So what `format` answers at any width, `tidy` gives back.
+/// A law, which runs no code: the print of writable definitions at a width is its own tidy text.
+/// Definitions that a text parses as are writable, so `tidy` never changes the output of `format`.
 pub fn prints_of_definitions_are_tidy()
     ensures { (width : ℕ) (ds : List Definition) (text : List ℕ) → AreWritable ds
         → IsPrinted width ds text → IsTidyTextOf text text }
 {}
 
-/// A law, which runs no code: a text that spells definitions has a document. So `tidy` accepts each
-/// text that `parse` accepts.
+/// A law, which runs no code: a text that parses as definitions has a document. So `tidy` accepts
+/// each text that `parse` accepts.
 pub fn spelt_texts_have_documents()
     ensures { (place : ℕ → Pos) (text : List ℕ) (ds : List Definition)
         → IsSpelt place text ds → HasDocument text }
 {}
 
-/// A law, which runs no code: a text and its tidy text spell the same definitions, positions aside.
+/// A law, which runs no code: a text and its tidy text parse as the same definitions, positions
+/// aside.
 pub fn tidying_keeps_trees()
     ensures { (text answer : List ℕ) (ds : List Definition)
         → IsTidyTextOf text answer → IsSpelt nowhere text ds ↔ IsSpelt nowhere answer ds }

@@ -1,5 +1,5 @@
-//! Laws of tidy texts that speak of trees and of prints: `tidy` keeps the tree of a text, and what
-//! the printer writes is tidy at every width.
+//! Laws of tidy texts, trees and prints: `tidy` keeps the tree of a text, and the output of the
+//! printer is tidy at every width.
 #![tactic(auto)]
 
 pub mod formatting;

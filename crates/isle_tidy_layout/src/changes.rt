@@ -1,4 +1,4 @@
-//! How the open lists change from entry to entry.
+//! How an entry changes the open lists.
 
 ghost use Rattle.std.specs.Prelude.{◌≡◌, ◌≢◌, ◌+◌, ◌<◌, ◌≤◌, ◌^◌, ◌∷◌, ◌++◌, ℕ, List, [], IfOk};
 ghost use Rattle.std.specs.Prelude.{Some, length};
@@ -18,7 +18,7 @@ use crate::placing::{Head, Kind, head_of};
 use crate::stack::{Opened, innermost};
 use std::alloc::AllocError;
 
-/// Puts another list in the place of the innermost one.
+/// Replaces the innermost list.
 fn set_innermost(lists: &mut Vec<Opened>, list: Opened)
     requires { 0 < length lists.old.items }
     ensures { (below : List Opened) (o : Opened) → lists.old.items ≡ below ++ (o ∷ [])
@@ -28,7 +28,7 @@ fn set_innermost(lists: &mut Vec<Opened>, list: Opened)
     lists[last] = list;
 }
 
-/// Keeps the column of a line that begins in the innermost list. A `)` begins none.
+/// Records the column of a line that begins in the innermost list. A `)` begins none.
 pub fn begin(lists: &mut Vec<Opened>, kind: Kind, column: usize)
     ensures { (ls : List OpenList) (arguments : List Columns) → IsStack ls lists.old.items arguments
         → IsStack (begun kind column ls) lists.new.items arguments }
@@ -46,7 +46,7 @@ pub fn begin(lists: &mut Vec<Opened>, kind: Kind, column: usize)
     }
 }
 
-/// Gives the innermost list, which has no head yet, the one that this lexeme begins.
+/// Sets the head of the innermost list, by the lexeme that its first item begins with.
 fn set_head(lists: &mut Vec<Opened>, lexeme: &Lexeme)
     requires { 0 < length lists.old.items }
     ensures { (below : List Opened) (o : Opened) → lists.old.items ≡ below ++ (o ∷ [])
@@ -57,8 +57,8 @@ fn set_head(lists: &mut Vec<Opened>, lexeme: &Lexeme)
     set_innermost(lists, list);
 }
 
-/// Adds an item to the innermost list: as its head, or as an argument if it is on the row. Only
-/// where it is the head its text is looked at.
+/// Adds an item to the innermost list: as its head, or as an argument if it is on the row of the
+/// list's `(`. The text of the lexeme is read only for a head.
 #[inline(always)]
 pub fn add_item(
     lists: &mut Vec<Opened>,
@@ -87,7 +87,7 @@ pub fn add_item(
     Ok(())
 }
 
-/// Opens a list at these columns.
+/// Opens a list whose `(` is at the columns `at`, on a line that begins at `line`.
 pub fn open(
     lists: &mut Vec<Opened>,
     arguments: &Vec<Columns>,

@@ -1,4 +1,4 @@
-//! Columns, which count characters.
+//! Columns, counted in characters.
 
 ghost use Rattle.std.specs.Prelude.{◌≡◌, ◌==◌, ◌||◌, ◌+◌, ◌<◌, ◌≤◌, ◌^◌, drop, length, map, not};
 ghost use Rattle.std.specs.Prelude.{true};
@@ -11,19 +11,17 @@ ghost use Rattle.isle_tidy_layout.specs.Placing.{placed_as as result_of};
 
 use std::simd::prelude::*;
 
-/// How many bytes are looked at together.
+/// How many bytes are examined at once.
 const LANES: usize = 32;
 
-/// A column of the source, and the column that it has in the result.
+/// A column of the source, and its column in the result.
 #[derive(Clone, Copy, Debug)]
 pub struct Columns {
-    /// In the source.
     pub source: usize,
-    /// In the result.
     pub result: usize,
 }
 
-/// Gives the column in the result of a column of the source, if it is one of these.
+/// Returns the column in the result of a column of the source, if `columns` has it.
 pub(crate) fn placed_as(column: usize, columns: &[Columns]) -> Option<usize>
     ensures { result ≡ result_of column columns.now }
 {
@@ -35,8 +33,8 @@ pub(crate) fn placed_as(column: usize, columns: &[Columns]) -> Option<usize>
     None
 }
 
-/// Gives the column after bytes that begin at a column. A byte that continues a character counts
-/// none, and a line end goes back to column 0.
+/// Returns the column after bytes that begin at `column`. A byte that continues a character counts
+/// nothing, and a line end goes back to column 0.
 #[inline(never)]
 pub(crate) fn column_after(column: usize, bytes: &[u8]) -> usize
     requires { column + length bytes.now < 2 ^ 64 }
@@ -53,14 +51,13 @@ pub(crate) fn column_after(column: usize, bytes: &[u8]) -> usize
     column
 }
 
-/// Tells whether a byte is a space or a tab.
 pub fn is_space_or_tab(byte: u8) -> bool
     ensures { result ≡ (byte == space || byte == tab) }
 {
     byte == b' ' || byte == b'\t'
 }
 
-/// Tells which of 32 bytes aren't simple: a bit for each, the lowest for the first.
+/// Returns a bit for each byte, set if the byte is not printable ASCII. The lowest is the first's.
 #[inline(always)]
 fn misses(bytes: u8x32) -> u64
     ensures { result ≡ mask_l (map (λ byte. not (is_simple byte)) bytes) }
@@ -69,7 +66,7 @@ fn misses(bytes: u8x32) -> u64
     misses.to_bitmask()
 }
 
-/// Tells whether a byte is simple.
+/// Returns whether a byte is printable ASCII, from the space to `~`.
 #[inline(always)]
 #[tactic(auto, unfolding(crate::specs::Columns::is_simple))]
 fn is_simple_byte(byte: u8) -> bool
@@ -78,7 +75,7 @@ fn is_simple_byte(byte: u8) -> bool
     b' ' <= byte && byte <= b'~'
 }
 
-/// Finds the first byte from an offset on that isn't simple, byte by byte.
+/// Finds the first byte at or after `from` that is not printable ASCII, byte by byte.
 fn simple_end(bytes: &[u8], from: usize) -> usize
     requires { from ≤ length bytes.now }
     ensures { result ≡ from + prefix_len is_simple (drop from bytes.now) }
@@ -90,7 +87,7 @@ fn simple_end(bytes: &[u8], from: usize) -> usize
     at
 }
 
-/// Tells whether the bytes between two offsets are simple: each is a column by itself.
+/// Returns `true` only if all bytes between two offsets are printable ASCII, one column each.
 #[inline(always)]
 pub fn are_simple(bytes: &[u8], from: usize, to: usize) -> bool
     requires order { from ≤ to }

@@ -5,7 +5,7 @@ ghost use Rattle.isle_tidy_layout.specs.Entries.{Entry};
 ghost use Rattle.isle_tidy_layout.specs.Placing.{placed};
 ghost use Rattle.isle_tidy_layout.specs.Printed.{AllHavePlainHeads, Print, printed};
 
-/// A law, which runs no code: what is placed stays where it is.
+/// A law, which runs no code: entries that are placed stay where they are.
 pub fn placed_again()
     ensures { (entries : List Entry) → placed (placed entries) ≡ placed entries }
 {}

@@ -26,29 +26,28 @@ use crate::placing::{Kind, widened};
 use crate::stack::{Opened, line_column, line_of};
 use std::alloc::{AllocError, Global};
 
-/// How many columns are counted, which no line that memory holds has.
+/// Columns stay below this. No line that fits in memory is as long.
 const MAX_COLUMNS: usize = 1 << 62;
 
-/// Places the entries of a document, one after another, and is at one of them.
+/// Places the entries of a document, one after another.
 ///
-/// It holds the open lists and their arguments, and no entry.
+/// It keeps the open lists and their arguments, but no entries.
 #[derive(Debug, Drop)]
 pub struct Placer {
-    /// The kind of the entry before.
+    /// The kind of the last entry.
     pub before: Kind,
-    /// The number of the line.
+    /// The number of the current line.
     row: usize,
     /// The columns of its first entry.
     line: Columns,
-    /// The columns where the entry before ends.
+    /// The columns after the last entry.
     end: Columns,
     /// The open lists, the innermost last.
     lists: Vec<Opened>,
-    /// Their arguments, those of an inner list after those of an outer one.
+    /// Their arguments, an inner list's after an outer one's.
     arguments: Vec<Columns>,
 }
 
-/// Gives so many empty lines, but two at most.
 fn at_most_two(empty: usize) -> usize
     ensures { result ≡ two_at_most empty }
 {
@@ -59,7 +58,7 @@ fn at_most_two(empty: usize) -> usize
     }
 }
 
-/// Gives the empty lines in the result.
+/// Returns how many of `empty` empty lines are kept: at most two, and none at the start.
 fn empty_lines(before: Kind, empty: usize) -> usize
     ensures { result ≡ empty_lines_of before empty }
 {
@@ -69,7 +68,7 @@ fn empty_lines(before: Kind, empty: usize) -> usize
     }
 }
 
-/// Gives the width of a gap on a line, or the column below one.
+/// Returns the width of a gap on a line, or the column after one that begins a line.
 fn width_of(gap: Gap) -> usize
     ensures { result ≡ width_in gap }
 {
@@ -79,7 +78,7 @@ fn width_of(gap: Gap) -> usize
     }
 }
 
-/// Gives these columns, if they can be counted.
+/// Makes columns. Fails if one is not below `MAX_COLUMNS`.
 #[inline(always)]
 fn small(in_source: usize, in_result: usize) -> Result<Columns, AllocError>
     ensures { IfOk result (λ r. IsSmall r
@@ -95,7 +94,7 @@ fn small(in_source: usize, in_result: usize) -> Result<Columns, AllocError>
     }
 }
 
-/// Gives the columns so many to the right, if they can be counted.
+/// Shifts columns to the right. Fails if one is not below `MAX_COLUMNS` then.
 #[inline(always)]
 fn moved(from: Columns, by_source: usize, by_result: usize) -> Result<Columns, AllocError>
     ensures { IfOk result (λ r. IsSmall r
@@ -110,7 +109,7 @@ fn moved(from: Columns, by_source: usize, by_result: usize) -> Result<Columns, A
     }
 }
 
-/// Gives the next number.
+/// Adds one. Fails if the sum does not fit.
 fn next(number: usize) -> Result<usize, AllocError>
     ensures { IfOk result (λ n. n ≡ suc number) }
 {
@@ -120,7 +119,7 @@ fn next(number: usize) -> Result<usize, AllocError>
     }
 }
 
-/// Gives a line comment's text without the spaces and tabs at its end.
+/// Removes the spaces and tabs at the end of a line comment's text.
 #[tactic(auto, using(crate::proofs::Trims::trimmed_less, crate::proofs::Trims::trimmed_here, crate::proofs::Trims::boundary_less))]
 pub fn trimmed(text: &str) -> &str
     ensures { result.now ≡ trimmed_bytes text.now }
@@ -136,8 +135,8 @@ pub fn trimmed(text: &str) -> &str
     ""
 }
 
-/// Gives the columns after a lexeme that begins at these, and whose bytes may be known to be
-/// simple.
+/// Returns the columns after a lexeme that begins at `at`. With `is_simple` its bytes are known
+/// to be printable ASCII.
 #[inline(always)]
 fn after(at: Columns, lexeme: &Lexeme, is_simple: bool) -> Result<Columns, AllocError>
     requires small { IsSmall at }
@@ -180,7 +179,7 @@ fn after(at: Columns, lexeme: &Lexeme, is_simple: bool) -> Result<Columns, Alloc
 }
 
 impl Placer {
-    /// Begins a document.
+    /// Makes a placer that is at the start of a document.
     pub fn new(alloc: Global) -> Placer
         ensures { IsAt result text_start }
     {
@@ -198,7 +197,7 @@ impl Placer {
         }
     }
 
-    /// Gives the column of a line that begins with this entry, after which so many `)` follow.
+    /// Returns the column of a line that begins with an entry, which `closings` further `)` follow.
     fn column_of(&self, kind: Kind, closings: usize, column: usize) -> usize
         requires { (here : Here) × IsAt self.now here }
         ensures { (here : Here) → IsAt self.now here
@@ -210,7 +209,7 @@ impl Placer {
         }
     }
 
-    /// Gives the gap that an entry has in the result.
+    /// Returns the gap in the result before the next entry.
     #[inline(always)]
     fn gap(&self, gap: Gap, kind: Kind, closings: usize) -> Gap
         requires { (here : Here) × IsAt self.now here }
@@ -227,7 +226,7 @@ impl Placer {
         }
     }
 
-    /// Goes to an entry, by the gap before it in the source and in the result.
+    /// Goes past a gap, which is `gap` in the source and `placed` in the result.
     #[inline(always)]
     fn reach(&mut self, kind: Kind, gap: Gap, placed: Gap) -> Result<(), AllocError>
         requires { (here : Here) × IsAt self.old here }
@@ -249,7 +248,7 @@ impl Placer {
         Ok(())
     }
 
-    /// Goes past the lexeme here.
+    /// Goes past a lexeme.
     #[inline(always)]
     fn pass(&mut self, lexeme: &Lexeme, is_simple: bool) -> Result<(), AllocError>
         requires here { (here : Here) × IsAt self.old here }
@@ -291,10 +290,12 @@ impl Placer {
         Ok(())
     }
 
-    /// Places the next entry, after which so many `)` follow on the line, and gives its gap in the
-    /// result. Its bytes may be known to be simple.
+    /// Places the next entry, and returns its gap in the result.
     ///
-    /// Memory is refused where the lists need more, and where a line is longer than can be counted.
+    /// `closings` is the number of `)` that follow the entry on its line. `is_simple` may be
+    /// `true` only if all bytes of the entry are printable ASCII. That is faster.
+    ///
+    /// Fails if memory runs out, or if a line is 2^62 columns long. The placer is of no use then.
     #[inline(always)]
     pub fn place(
         &mut self,

@@ -1,4 +1,4 @@
-//! Where the entries of a document are placed.
+//! The kinds of entries, the heads of lists, and the widths of gaps between entries.
 
 ghost use Rattle.std.specs.Prelude.{◌≡◌, ℕ};
 ghost use Rattle.isle_tidy_layout.specs.EntriesView.{lexeme_of};
@@ -8,26 +8,24 @@ ghost use Rattle.isle_tidy_layout.specs.Placing.{widened as widened_in};
 
 use crate::entries::Lexeme;
 
-/// What an entry is, or what is before one.
+/// The kind of an entry, or the start of the text.
 #[derive(Clone, Copy, Debug, PartialEq, Eq)]
 pub enum Kind {
-    /// Nothing: the start of the text.
+    /// The start of the text.
     Start,
-    /// A `(`.
+    /// `(`.
     Open,
-    /// A `)`.
+    /// `)`.
     Close,
-    /// The at sign, `@`.
+    /// `@`.
     At,
-    /// An atom.
+    /// A symbol or an integer.
     Atom,
-    /// A line comment.
     LineComment,
-    /// A block comment.
     BlockComment,
 }
 
-/// What the first item of a list is, by which a new line of the list gets its column.
+/// The kind of a list's first item, on which the column of a new line in the list depends.
 #[derive(Clone, Copy, Debug, PartialEq, Eq)]
 pub enum Head {
     /// There is no item yet.
@@ -41,7 +39,6 @@ pub enum Head {
 }
 
 impl Kind {
-    /// Gives the kind of a lexeme.
     #[inline(always)]
     pub fn of(lexeme: &Lexeme) -> Kind
         ensures { result ≡ kind_of (lexeme_of lexeme.now) }
@@ -57,7 +54,7 @@ impl Kind {
     }
 }
 
-/// Gives the head of a list whose first item begins with this lexeme.
+/// Returns the head of a list whose first item begins with this lexeme.
 pub(crate) fn head_of(lexeme: &Lexeme) -> Head
     ensures { result ≡ head_in (lexeme_of lexeme.now) }
 {
@@ -75,7 +72,6 @@ pub(crate) fn head_of(lexeme: &Lexeme) -> Head
     }
 }
 
-/// Tells whether an atom is `let`, `type`, `spec`, `switch` or `instantiate`.
 #[tactic(auto, unfolding(crate::specs::Heads::is_body_head))]
 fn is_body_head(text: &str) -> bool
     ensures { result ≡ is_body_head_in text.now }
@@ -83,7 +79,7 @@ fn is_body_head(text: &str) -> bool
     text == "let" || text == "type" || text == "spec" || text == "switch" || text == "instantiate"
 }
 
-/// Gives the width, but one at least.
+/// Returns the width, or 1 if it is 0.
 #[inline(always)]
 fn some_width(width: usize) -> usize
     ensures { result ≡ widened_in some width }
@@ -91,7 +87,7 @@ fn some_width(width: usize) -> usize
     if width == 0 { 1 } else { width }
 }
 
-/// Gives the width in the result of a gap of this width.
+/// Returns the width in the result of a gap on a line, between entries of these kinds.
 #[inline(always)]
 pub(crate) fn widened(before: Kind, kind: Kind, width: usize) -> usize
     ensures { result ≡ widened_in (room before kind) width }

@@ -1,4 +1,4 @@
-//! The open lists, and the columns that they give.
+//! The open lists, and the columns of the lines that begin in them.
 
 ghost use Rattle.std.specs.Prelude.{◌≡◌, ◌+◌, ◌++◌, ◌∷◌, ◌<◌, ◌≤◌, ◌^◌, ℕ, List, [], None, Some};
 ghost use Rattle.std.specs.Prelude.{drop, length, unwrap_or};
@@ -15,24 +15,24 @@ ghost use Rattle.isle_tidy_layout.specs.Stack.{IsSmall, IsStack, IsTop, list_of}
 use crate::columns::{Columns, placed_as};
 use crate::placing::{Head, Kind};
 
-/// An open list. Its arguments are those of all open lists from an index on, up to the next list's.
+/// An open list. All open lists keep their arguments in one vector, an inner list after an outer
+/// one.
 #[derive(Clone, Copy, Debug)]
 pub struct Opened {
-    /// The number of the line of its `(`.
+    /// The line number of its `(`.
     pub row: usize,
     /// The columns of its `(`.
     pub parenthesis: Columns,
-    /// The columns of the first entry of that line.
+    /// The columns of the first entry on that line.
     pub line: Columns,
-    /// Its first item.
+    /// The kind of its first item.
     pub head: Head,
-    /// The index of its first argument.
+    /// The index of its first argument in that vector.
     pub first: usize,
-    /// The column of its own lines in the result, once one is known.
+    /// The column in the result of the lines that begin in it, once there is one.
     pub lines: Option<usize>,
 }
 
-/// Gives the columns so many to the right.
 fn right_of(n: usize, columns: Columns) -> Columns
     requires small { IsSmall columns }
     requires near { n ≤ 4 }
@@ -44,7 +44,7 @@ fn right_of(n: usize, columns: Columns) -> Columns
     }
 }
 
-/// Gives the result of a column 1, 2 or 4 to the right of the `(`.
+/// Returns the column in the result of one 1, 2 or 4 to the right of the `(`.
 fn by_parenthesis(list: &Opened, column: usize) -> Option<usize>
     requires { IsSmall list.now.parenthesis }
     ensures { result ≡ result_of column (right_of_column 1 list.now.parenthesis
@@ -54,7 +54,8 @@ fn by_parenthesis(list: &Opened, column: usize) -> Option<usize>
     placed_as(column, &[right_of(1, p), right_of(2, p), right_of(4, p)])
 }
 
-/// Gives the result of a column 2 or 4 to the right of the line, where the list has no argument.
+/// Returns the column in the result of one 2 or 4 to the right of the line, if the list has no
+/// argument.
 fn by_line(list: &Opened, arguments: &[Columns], column: usize) -> Option<usize>
     requires { IsSmall list.now.line }
     ensures { result ≡ result_of column (hanging arguments.now list.now.line) }
@@ -66,7 +67,7 @@ fn by_line(list: &Opened, arguments: &[Columns], column: usize) -> Option<usize>
     }
 }
 
-/// Gives the column of the first line of a list where the author's isn't kept.
+/// Returns the column of the first line that begins in a list, if the author's is not kept.
 fn usual_column(list: &Opened, arguments: &[Columns]) -> usize
     requires { IsSmall list.now.parenthesis }
     ensures { result ≡ usual_column_of list.now.head list.now.parenthesis arguments.now }
@@ -84,7 +85,7 @@ fn usual_column(list: &Opened, arguments: &[Columns]) -> usize
     }
 }
 
-/// Gives the column of the first line of a list, which the author put at this column.
+/// Returns the column of the first line that begins in a list, and that the author put at `column`.
 #[inline(never)]
 fn first_line(list: &Opened, arguments: &[Columns], column: usize) -> usize
     requires parenthesis { IsSmall list.now.parenthesis }
@@ -103,7 +104,6 @@ fn first_line(list: &Opened, arguments: &[Columns], column: usize) -> usize
     usual_column(list, arguments)
 }
 
-/// Gives the innermost list.
 pub fn innermost(lists: &[Opened]) -> Opened
     requires { 0 < length lists.now }
     ensures top { (ls : List OpenList) (arguments : List Columns) → IsStack ls lists.now arguments
@@ -113,7 +113,6 @@ pub fn innermost(lists: &[Opened]) -> Opened
     lists[lists.len() - 1]
 }
 
-/// Gives the arguments from an index on.
 fn arguments_from(arguments: &[Columns], first: usize) -> &[Columns]
     requires { first ≤ length arguments.now }
     ensures { result.now ≡ drop first arguments.now }
@@ -121,7 +120,7 @@ fn arguments_from(arguments: &[Columns], first: usize) -> &[Columns]
     &arguments[first..]
 }
 
-/// Gives the column of a line that begins in a list.
+/// Returns the column of a line that begins in a list.
 fn list_column(list: &Opened, arguments: &[Columns], column: usize) -> usize
     requires within { list.now.first ≤ length arguments.now }
     requires parenthesis { IsSmall list.now.parenthesis }
@@ -135,7 +134,7 @@ fn list_column(list: &Opened, arguments: &[Columns], column: usize) -> usize
     }
 }
 
-/// Gives the column of a line that begins in the innermost of these lists.
+/// Returns the column of a line that begins in the innermost list, or 0 if none is open.
 pub fn line_column(lists: &[Opened], arguments: &[Columns], column: usize) -> usize
     requires { (ls : List OpenList) × IsStack ls lists.now arguments.now }
     ensures { (ls : List OpenList) → IsStack ls lists.now arguments.now
@@ -148,7 +147,8 @@ pub fn line_column(lists: &[Opened], arguments: &[Columns], column: usize) -> us
     list_column(&list, arguments, column)
 }
 
-/// Gives the column of the line with the `(` of a list, which so many inner ones are in.
+/// Returns the column of the line with the `(` of the list that has `inner` open lists in it, or 0
+/// if there is none.
 pub fn line_of(lists: &[Opened], inner: usize) -> usize
     ensures { (ls : List OpenList) (arguments : List Columns) → IsStack ls lists.now arguments
         → result ≡ line_of_lists ls inner }

@@ -14,7 +14,7 @@ returns-in_ok-rule_uses-in-Rule c =
     let ms = map begun_of c.args.templates.now in
     let f = mention_misuse ms c.args.ends.now in
     let g = use_misuse ms c.args.ends.now in
-    subst (λ d. IfOk c.first_misused.result (λ found. option_map misuse_of found ≡ first f (definition_mentions c.args.place (definition_of d)))) (sym c.in-Rule.is)
-    (ok_from c.first_misused.result (λ found. option_map misuse_of found ≡ first g (uses_of c.deref.result.now)) _
+    subst (λ d. IfOk c.first_use_misuse.result (λ found. option_map misuse_of found ≡ first f (definition_mentions c.args.place (definition_of d)))) (sym c.in-Rule.is)
+    (ok_from c.first_use_misuse.result (λ found. option_map misuse_of found ≡ first g (uses_of c.deref.result.now)) _
     (λ found h. h ∙ ap (λ us. first g (uses_of us)) c.deref.ensures.value ∙ ap (first g) c.in_ok-rule_uses-in-Rule.ensures ∙ sym (first_map f use_mention (rule_uses (rule_of c.in-Rule.rule))))
-    c.first_misused.ensures)
+    c.first_use_misuse.ensures)

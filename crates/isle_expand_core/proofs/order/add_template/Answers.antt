@@ -2,7 +2,7 @@ use Rattle.std.proofs.Common.{List, ℕ, ◌<◌, [], false, get_or, length, map
 use Rattle.std.proofs.lemmas.List.{length-map}
 use Rattle.isle_expand_core.specs.Order.{IsOrder, all_end}
 use Rattle.isle_expand_core.proofs.Orders.{order_push, ready_ends, ready_unset, unended_set}
-use Rattle.isle_expand_core.proofs.order.add.Goals as goal
+use Rattle.isle_expand_core.proofs.order.add_template.Goals as goal
 
 pub returns-clause-order : goal.returns-clause-order
 returns-clause-order c =

@@ -2,7 +2,7 @@ use Rattle.std.proofs.Common.{◌≡◌, ◌++◌, drop}
 use Rattle.std.specs.List.{flat_map}
 use Rattle.isle_ast_rules.specs.TreeView.{conditions_of}
 use Rattle.isle_expand_warnings.specs.Placed.{all_placed, condition_placed}
-use Rattle.isle_expand_warnings.proofs.placed.add_in_conditions.Given as goal
+use Rattle.isle_expand_warnings.proofs.placed.add_condition_terms.Given as goal
 
 abbrev pub invariant-loop-condition : goal.invariant-loop-condition
 invariant-loop-condition l =

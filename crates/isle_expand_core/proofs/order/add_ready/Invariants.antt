@@ -1,6 +1,6 @@
 use Rattle.std.proofs.Common.{◌≡◌, ◌<◌, ◌≤◌, false, true, map}
 use Rattle.isle_expand_core.specs.Order.{IsClosed, IsOrder, unended}
-use Rattle.isle_expand_core.proofs.order.round.Given as goal
+use Rattle.isle_expand_core.proofs.order.add_ready.Given as goal
 
 abbrev pub invariant-loop-place : goal.invariant-loop-place
 invariant-loop-place l = record {

@@ -2,7 +2,7 @@ use Rattle.std.proofs.Common.{◌≡◌, drop, map}
 use Rattle.isle_expand_warnings.specs.First.{first}
 use Rattle.isle_expand_core.specs.Search.{use_misuse}
 use Rattle.isle_expand_core.specs.Views.{begun_of, uses_of}
-use Rattle.isle_expand_core.proofs.search.first_misused.Given as goal
+use Rattle.isle_expand_core.proofs.search.first_use_misuse.Given as goal
 
 abbrev pub invariant-loop-term_use : goal.invariant-loop-term_use
 invariant-loop-term_use l =

@@ -13,7 +13,7 @@ use Rattle.isle_expand_core.proofs.Free.{expanded_free}
 use Rattle.isle_expand_core.proofs.Growth.{expanded_one}
 use Rattle.isle_expand_core.proofs.Misused.{misused_lacks}
 use Rattle.isle_expand_core.proofs.Whole.{first_found, whole_found}
-use Rattle.isle_expand_core.proofs.expanded.Goals as goal
+use Rattle.isle_expand_core.proofs.expand.Goals as goal
 
 pub returns-in-Some-clause-first : goal.returns-in-Some-clause-first
 returns-in-Some-clause-first c =
