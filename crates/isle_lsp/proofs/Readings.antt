@@ -7,10 +7,10 @@ use Rattle.serde_json.specs.Written.{items_outline}
 use Rattle.isle_lint_core.specs.Lint.{name}
 use Rattle.isle_lint_core.specs.declared.lint.Lint.{Lint}
 use Rattle.isle_lsp_diagnostics.specs.Diagnostics.{Mark}
-use Rattle.isle_lsp_messages.proofs.Readings.{error_reads, position_reads, range_reads, warning_reads}
-use Rattle.isle_lsp_messages.specs.Replies.{publishing}
-use Rattle.isle_lsp_messages.specs.Results.{position_data, range_data}
-use Rattle.isle_lsp_messages.specs.Written.{Reads}
+use Rattle.isle_lsp_protocol.proofs.Readings.{error_reads, position_reads, range_reads, warning_reads}
+use Rattle.isle_lsp_protocol.specs.Replies.{publishing}
+use Rattle.isle_lsp_protocol.specs.Results.{position_data, range_data}
+use Rattle.isle_lsp_protocol.specs.Written.{Reads}
 use Rattle.isle_lsp_text.proofs.Places.{clamped, few_lines, few_units_on}
 use Rattle.isle_lsp_text.specs.Positions.{position_at}
 use Rattle.isle_lsp_text.specs.declared.positions.Range.{Range}

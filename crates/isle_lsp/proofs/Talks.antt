@@ -8,17 +8,17 @@ use Rattle.isle_cli.specs.Streams.{AppendsBeginning}
 use Rattle.isle_cli.specs.declared.failure.Failure.{Failure}
 use Rattle.isle_cli.specs.declared.failure.Failure.TheVariants.{Refused, Usage, Input, Memory, Output}
 use Rattle.isle_cli.proofs.StreamLemmas.{AppendsBeginning-behind}
-use Rattle.isle_lsp_frames.specs.Frames.{frame, frame_at, Fails}
-use Rattle.isle_lsp_frames.specs.declared.FrameFault.{FrameFault}
-use Rattle.isle_lsp_frames.specs.declared.FrameFault.TheVariants as faults
-use Rattle.isle_lsp_frames.proofs.Whole.{none_at_end}
-use Rattle.isle_lsp_machine.specs.declared.State.{State}
-use Rattle.isle_lsp_machine.specs.declared.State.TheVariants.{Fresh, Running, ShutDown, Ended, Aborted}
+use Rattle.isle_lsp_protocol.specs.Frames.{frame, frame_at, Fails}
+use Rattle.isle_lsp_protocol.specs.declared.frames.FrameFault.{FrameFault}
+use Rattle.isle_lsp_protocol.specs.declared.frames.FrameFault.TheVariants as faults
+use Rattle.isle_lsp_protocol.proofs.Whole.{none_at_end}
+use Rattle.isle_lsp_protocol.specs.declared.machine.State.{State}
+use Rattle.isle_lsp_protocol.specs.declared.machine.State.TheVariants.{Fresh, Running, ShutDown, Ended, Aborted}
 use Rattle.serde_json.specs.Data.{Data}
 use Rattle.std.specs.declared.alloc.Global.{Global}
-use Rattle.isle_lsp_machine.specs.Machine.{next_state, turn_of}
-use Rattle.isle_lsp_machine.specs.declared.Turn.{Turn}
-use Rattle.isle_lsp_messages.specs.Decoding.{Decodes, message_in}
+use Rattle.isle_lsp_protocol.specs.Machine.{next_state, turn_of}
+use Rattle.isle_lsp_protocol.specs.declared.machine.Turn.{Turn}
+use Rattle.isle_lsp_protocol.specs.Decoding.{Decodes, message_in}
 use Rattle.isle_lsp.specs.Serving.{Held, KeepsFiles, Sends, documents_after}
 use Rattle.isle_lsp.specs.Conversations.{Answers, AnswersAs, Conversation, Converses, EndsAs, Explains, FromFault, IsCut, IsEarly, IsOver, IsRefusal, IsShort, Ran, StopsAt, answered, begun, frames, nothing}
 

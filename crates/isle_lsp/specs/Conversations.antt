@@ -4,15 +4,15 @@ use Rattle.std.specs.Io.KnownBytes.{Appends}
 use Rattle.serde_json.specs.Data.{Data}
 use Rattle.isle_cli.specs.Failure.{status_of}
 use Rattle.isle_cli.specs.Streams.{AppendsBeginning}
-use Rattle.isle_lsp_frames.specs.Frames.{frame, frame_at}
-use Rattle.isle_lsp_frames.specs.declared.FrameFault.{FrameFault}
-use Rattle.isle_lsp_frames.specs.declared.FrameFault.TheVariants as faults
+use Rattle.isle_lsp_protocol.specs.Frames.{frame, frame_at}
+use Rattle.isle_lsp_protocol.specs.declared.frames.FrameFault.{FrameFault}
+use Rattle.isle_lsp_protocol.specs.declared.frames.FrameFault.TheVariants as faults
 use Rattle.isle_cli.specs.declared.failure.Failure.{Failure}
 use Rattle.isle_cli.specs.declared.failure.Failure.TheVariants.{Refused, Usage, Input, Memory, Output}
-use Rattle.isle_lsp_machine.specs.Machine.{next_state, turn_of}
-use Rattle.isle_lsp_machine.specs.declared.State.{State}
-use Rattle.isle_lsp_machine.specs.declared.State.TheVariants.{Fresh, Running, ShutDown, Ended, Aborted}
-use Rattle.isle_lsp_messages.specs.Decoding.{Decodes, message_in}
+use Rattle.isle_lsp_protocol.specs.Machine.{next_state, turn_of}
+use Rattle.isle_lsp_protocol.specs.declared.machine.State.{State}
+use Rattle.isle_lsp_protocol.specs.declared.machine.State.TheVariants.{Fresh, Running, ShutDown, Ended, Aborted}
+use Rattle.isle_lsp_protocol.specs.Decoding.{Decodes, message_in}
 use Rattle.isle_lsp.specs.Serving.{Held, KeepsFiles, documents_after, Sends}
 
 -- The message leads from what was held to what is held, and this is sent, if anything.

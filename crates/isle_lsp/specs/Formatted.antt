@@ -4,7 +4,7 @@ use Rattle.serde_json.specs.Data.{Data, null, array}
 use Rattle.serde_json.specs.View.{items_of}
 use Rattle.isle_tidy_core.specs.Refused.{HasNoDocument}
 use Rattle.isle_tidy_core.specs.Tidied.{IsTidyTextOf}
-use Rattle.isle_lsp_messages.specs.Results.{text_edit}
+use Rattle.isle_lsp_protocol.specs.Results.{text_edit}
 use Rattle.isle_lsp_text.specs.Edits.{AreEdits, applied, part}
 use Rattle.isle_lsp_text.specs.Positions.{position_at}
 use Rattle.isle_lsp_text.specs.declared.edits.Edit.{Edit}

@@ -3,20 +3,20 @@ use Rattle.std.specs.Prelude.{◌≡◌, ℕ, List, [], ◌∷◌, ◌++◌, Boo
 use Rattle.serde_json.specs.Data.{Data, null}
 use Rattle.serde_json.specs.View.{view}
 use Rattle.isle_lsp_documents.specs.Documents.{Document, document, document_of, text_of, without}
-use Rattle.isle_lsp_machine.specs.declared.Code.{Code}
-use Rattle.isle_lsp_machine.specs.declared.Code.TheVariants.{InvalidParams, MethodNotFound, RequestFailed}
-use Rattle.isle_lsp_machine.specs.declared.Notice as notices
-use Rattle.isle_lsp_machine.specs.declared.Notice.TheVariants.{DidOpen, DidChange, DidClose}
-use Rattle.isle_lsp_machine.specs.declared.Request as requests
-use Rattle.isle_lsp_machine.specs.declared.Request.TheVariants.{Initialize, Shutdown, Formatting, Unknown}
-use Rattle.isle_lsp_machine.specs.declared.State.{State}
-use Rattle.isle_lsp_machine.specs.declared.Turn as turns
-use Rattle.isle_lsp_machine.specs.declared.Turn.TheVariants.{Pass, Answer, Refuse, Note}
-use Rattle.isle_lsp_messages.specs.Items.{listing_data}
-use Rattle.isle_lsp_messages.specs.Parameters as parameters
-use Rattle.isle_lsp_messages.specs.Replies as replies
-use Rattle.isle_lsp_messages.specs.Replies.{IsTextOf, reason_of, reply_id}
-use Rattle.isle_lsp_messages.specs.declared.results.TheConstants.{CAPABILITIES}
+use Rattle.isle_lsp_protocol.specs.declared.machine.Code.{Code}
+use Rattle.isle_lsp_protocol.specs.declared.machine.Code.TheVariants.{InvalidParams, MethodNotFound, RequestFailed}
+use Rattle.isle_lsp_protocol.specs.declared.machine.Notice as notices
+use Rattle.isle_lsp_protocol.specs.declared.machine.Notice.TheVariants.{DidOpen, DidChange, DidClose}
+use Rattle.isle_lsp_protocol.specs.declared.machine.Request as requests
+use Rattle.isle_lsp_protocol.specs.declared.machine.Request.TheVariants.{Initialize, Shutdown, Formatting, Unknown}
+use Rattle.isle_lsp_protocol.specs.declared.machine.State.{State}
+use Rattle.isle_lsp_protocol.specs.declared.machine.Turn as turns
+use Rattle.isle_lsp_protocol.specs.declared.machine.Turn.TheVariants.{Pass, Answer, Refuse, Note}
+use Rattle.isle_lsp_protocol.specs.Items.{listing_data}
+use Rattle.isle_lsp_protocol.specs.Parameters as parameters
+use Rattle.isle_lsp_protocol.specs.Replies as replies
+use Rattle.isle_lsp_protocol.specs.Replies.{IsTextOf, reason_of, reply_id}
+use Rattle.isle_lsp_protocol.specs.declared.results.TheConstants.{CAPABILITIES}
 use Rattle.serde_json.specs.Read.{read}
 use Rattle.isle_base_source.specs.Source.{Source}
 use Rattle.isle_cli.specs.Sources.{source_of}

@@ -9,7 +9,7 @@ ghost use Rattle.isle_lsp.specs.Formatted.{IsChange, IsFormatting, edit_data, ed
 
 use isle_base::lexer::Fault;
 use isle_cli::failure::Failure;
-use isle_lsp_messages::results::text_edit;
+use isle_lsp_protocol::results::text_edit;
 use isle_lsp_text::edits::{Edit, edits, put_in};
 use isle_lsp_text::positions::{Place, Range, START, place_at};
 use isle_tidy_core::tidy;

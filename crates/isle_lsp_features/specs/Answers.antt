@@ -12,11 +12,11 @@ use Rattle.isle_index.specs.declared.rename.Refusal.{Refusal}
 use Rattle.isle_index.specs.Scopes.{SeenNode, seen}
 use Rattle.isle_index.specs.Symbols.{symbols}
 use Rattle.isle_resolve.specs.Events.{events}
-use Rattle.isle_lsp_machine.specs.declared.Request as requests
-use Rattle.isle_lsp_machine.specs.declared.Request.TheVariants.{Definition as AskDefinition, References, DocumentHighlight, DocumentSymbol, WorkspaceSymbol, Hover, Completion, ResolveCompletion, PrepareRename, Rename}
-use Rattle.isle_lsp_messages.specs.Items.{items_data, listing_data}
-use Rattle.isle_lsp_messages.specs.declared.items.Item.{Item}
-use Rattle.isle_lsp_messages.specs.Parameters.{item_of, new_name_of, query_of, wants_definitions}
+use Rattle.isle_lsp_protocol.specs.declared.machine.Request as requests
+use Rattle.isle_lsp_protocol.specs.declared.machine.Request.TheVariants.{Definition as AskDefinition, References, DocumentHighlight, DocumentSymbol, WorkspaceSymbol, Hover, Completion, ResolveCompletion, PrepareRename, Rename}
+use Rattle.isle_lsp_protocol.specs.Items.{items_data, listing_data}
+use Rattle.isle_lsp_protocol.specs.declared.items.Item.{Item}
+use Rattle.isle_lsp_protocol.specs.Parameters.{item_of, new_name_of, query_of, wants_definitions}
 use Rattle.isle_lsp_features.specs.Gathered.{AreParts, Part, all_known, refused_count}
 use Rattle.isle_lsp_features.specs.Located.{AreHighlights, AreReferences, IsDefinition}
 use Rattle.isle_lsp_features.specs.Completed.{AreCompletions, item_name}

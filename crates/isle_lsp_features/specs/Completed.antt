@@ -14,8 +14,8 @@ use Rattle.isle_index.specs.declared.candidates.Candidate.{Candidate}
 use Rattle.isle_index.specs.declared.symbols.SymbolKind.{SymbolKind}
 use Rattle.isle_index.specs.declared.symbols.SymbolKind.TheVariants as symbol_kinds
 use Rattle.isle_resolve.specs.declared.event.Kind.TheVariants as kinds
-use Rattle.isle_lsp_messages.specs.Parameters.{kind_of, label_of}
-use Rattle.isle_lsp_messages.specs.Results.{completion_item}
+use Rattle.isle_lsp_protocol.specs.Parameters.{kind_of, label_of}
+use Rattle.isle_lsp_protocol.specs.Results.{completion_item}
 use Rattle.isle_lsp_features.specs.Places.{range_between}
 use Rattle.isle_lsp_text.specs.Lists.{AreLists, outer_list}
 use Rattle.isle_lsp_text.specs.Names.{name_before}

@@ -9,7 +9,7 @@ use Rattle.isle_index.specs.Scopes.{SeenNode}
 use Rattle.isle_index.specs.Symbols.{SymbolNode, symbols}
 use Rattle.isle_index.specs.declared.symbols.SymbolKind.{SymbolKind}
 use Rattle.isle_index.specs.declared.symbols.SymbolKind.TheVariants as kinds
-use Rattle.isle_lsp_messages.specs.Results as results
+use Rattle.isle_lsp_protocol.specs.Results as results
 use Rattle.isle_lsp_features.specs.Places.{range_at, range_between}
 use Rattle.isle_lsp_features.specs.Wholes.{whole_of}
 use Rattle.isle_lsp_text.specs.Lists.{AreLists}

@@ -10,7 +10,7 @@ use Rattle.isle_index.specs.Names.{NameNode}
 use Rattle.isle_index.specs.Occurrences.{definitions, occurrences}
 use Rattle.isle_index.specs.Scopes.{SeenNode}
 use Rattle.isle_index.specs.declared.occurrences.Occurrence.{Occurrence}
-use Rattle.isle_lsp_messages.specs.Results as results
+use Rattle.isle_lsp_protocol.specs.Results as results
 use Rattle.isle_lsp_features.specs.Places.{range_at}
 
 -- these occurrences, each once, in order of place

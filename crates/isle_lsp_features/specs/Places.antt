@@ -3,7 +3,7 @@ use Rattle.std.specs.Prelude.{ℕ, ◌+◌, ◌-◌, List, [], ◌∷◌, Option
 use Rattle.serde_json.specs.Data.{Data}
 use Rattle.isle_base_source.specs.Source.{Source}
 use Rattle.isle_base_source.specs.declared.pos.Pos.{Pos}
-use Rattle.isle_lsp_messages.specs.Parameters.{position_of, uri_of}
+use Rattle.isle_lsp_protocol.specs.Parameters.{position_of, uri_of}
 use Rattle.isle_lsp_features.specs.declared.places.File.{File as CodeFile}
 use Rattle.isle_lsp_features.specs.declared.places.Place.{Place as CodePlace}
 use Rattle.isle_lsp_text.specs.Positions.{offset_at, position_at}

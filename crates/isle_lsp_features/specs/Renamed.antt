@@ -10,8 +10,8 @@ use Rattle.isle_index.specs.declared.occurrences.Occurrence.{Occurrence}
 use Rattle.isle_index.specs.declared.rename.Refusal.{Refusal}
 use Rattle.isle_index.specs.declared.rename.Refusal.TheVariants.{NotAName, Undefined, Variant, Taken, Captured}
 use Rattle.isle_resolve.specs.declared.event.Kind.TheVariants as kinds
-use Rattle.isle_lsp_messages.specs.Items.{edits_data}
-use Rattle.isle_lsp_messages.specs.Results.{document_edits, range_data, workspace_edit}
+use Rattle.isle_lsp_protocol.specs.Items.{edits_data}
+use Rattle.isle_lsp_protocol.specs.Results.{document_edits, range_data, workspace_edit}
 use Rattle.isle_lsp_features.specs.Places.{range_at}
 use Rattle.isle_lsp_text.specs.declared.positions.Range.{Range}
 

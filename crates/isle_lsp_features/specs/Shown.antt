@@ -6,7 +6,7 @@ use Rattle.isle_index.specs.Names.{NameNode, name_text}
 use Rattle.isle_index.specs.Occurrences.{definitions}
 use Rattle.isle_index.specs.Scopes.{SeenNode}
 use Rattle.isle_index.specs.declared.occurrences.Occurrence.{Occurrence}
-use Rattle.isle_lsp_messages.specs.Results as results
+use Rattle.isle_lsp_protocol.specs.Results as results
 use Rattle.isle_lsp_features.specs.Located.{InOrder}
 use Rattle.isle_lsp_features.specs.Places.{range_at}
 use Rattle.isle_lsp_features.specs.Wholes.{whole_of}

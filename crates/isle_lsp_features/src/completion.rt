@@ -6,15 +6,15 @@ ghost use Rattle.isle_index.specs.Candidates.{candidate_of, candidates};
 ghost use Rattle.isle_index.specs.Held.{all_in};
 ghost use Rattle.isle_index.specs.Names.{global, named_of};
 ghost use Rattle.serde_json.specs.View.{view};
-ghost use Rattle.isle_lsp_messages.specs.Items.{item_data, items_data};
+ghost use Rattle.isle_lsp_protocol.specs.Items.{item_data, items_data};
 ghost use Rattle.isle_lsp_features.specs.Completed as wanted;
 ghost use Rattle.isle_lsp_features.specs.Completed.{AreCompletions};
 
 use crate::places::{Place, range_between};
 use isle_base::lexer::Pos;
 use isle_index::{Candidate, Index, Kind, Name, SymbolKind};
-use isle_lsp_messages::items::Item;
-use isle_lsp_messages::parameters::{kind_of, label_of};
+use isle_lsp_protocol::items::Item;
+use isle_lsp_protocol::parameters::{kind_of, label_of};
 use isle_lsp_text::lists::{ListSpan, lists, outer_list};
 use isle_lsp_text::names::name_before;
 use isle_lsp_text::positions::{Range, START};

@@ -16,7 +16,7 @@ use crate::completion::item_name;
 use crate::places::{Place, range_at};
 use crate::wholes::whole_of;
 use isle_index::{Index, Name, Occurrence};
-use isle_lsp_messages::results::{documented, hover_value};
+use isle_lsp_protocol::results::{documented, hover_value};
 use isle_lsp_text::comments::comments_start;
 use isle_lsp_text::lists::lists;
 use serde_json::Value;

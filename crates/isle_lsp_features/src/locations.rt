@@ -5,7 +5,7 @@ ghost use Rattle.std.specs.Prelude.{option_to_list};
 ghost use Rattle.isle_lsp_features.specs.Programs.{source_of};
 ghost use Rattle.isle_index.specs.Occurrences.{name_at};
 ghost use Rattle.isle_index.specs.Held.{all_in};
-ghost use Rattle.isle_lsp_messages.specs.Items.{item_data, items_data};
+ghost use Rattle.isle_lsp_protocol.specs.Items.{item_data, items_data};
 ghost use Rattle.isle_lsp_features.specs.Answers.{list_data};
 ghost use Rattle.isle_lsp_features.specs.Located as wanted;
 ghost use Rattle.isle_lsp_text.specs.Positions.{IsPlace};
@@ -14,7 +14,7 @@ ghost use Rattle.isle_lsp_features.specs.Located.{AreHighlights, AreReferences, 
 use crate::Text;
 use crate::places::{Place, range_at, range_near};
 use isle_index::{Index, Occurrence};
-use isle_lsp_messages::items::Item;
+use isle_lsp_protocol::items::Item;
 use isle_lsp_text::positions::{Place as TextPlace, START};
 use std::alloc::{AllocError, Global};
 

@@ -8,7 +8,7 @@ ghost use Rattle.isle_lsp_text.specs.Positions.{IsPlace};
 
 use crate::Text;
 use isle_base::lexer::Pos;
-use isle_lsp_messages::parameters::{position_of, uri_of};
+use isle_lsp_protocol::parameters::{position_of, uri_of};
 use isle_lsp_text::positions::{Place as TextPlace, Range, START, offset_of, place_at};
 use serde_json::Value;
 

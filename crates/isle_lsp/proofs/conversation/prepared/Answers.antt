@@ -1,6 +1,6 @@
 use Rattle.std.proofs.Common.{option_map, ◌∙◌, ap}
 use Rattle.serde_json.specs.View.{view}
-use Rattle.isle_lsp_machine.specs.Machine.{next_state, turn_of}
+use Rattle.isle_lsp_protocol.specs.Machine.{next_state, turn_of}
 use Rattle.isle_lsp.proofs.Talks.{prepared}
 use Rattle.isle_lsp.proofs.conversation.prepared.Goals as goal
 

@@ -4,8 +4,8 @@ use Rattle.json.specs.Tree.{json_tokens}
 use Rattle.serde_json.specs.Written.{outline}
 use Rattle.isle_lsp_diagnostics.specs.Diagnostics.{mark_of}
 use Rattle.isle_lsp.specs.Published.{diagnostics_data}
-use Rattle.isle_lsp_messages.proofs.Readings.{adds_outline, is_text}
-use Rattle.isle_lsp_messages.specs.Replies.{publishing}
+use Rattle.isle_lsp_protocol.proofs.Readings.{adds_outline, is_text}
+use Rattle.isle_lsp_protocol.specs.Replies.{publishing}
 use Rattle.isle_lsp.proofs.Readings.{publishing_reads}
 use Rattle.isle_lsp.proofs.published.notification.Goals as goal
 
