@@ -6,7 +6,7 @@ use Rattle.serde_json.specs.View.{items_of}
 use Rattle.serde_json.specs.Written.{items_outline}
 use Rattle.isle_lint_core.specs.Lint.{name}
 use Rattle.isle_lint_core.specs.declared.lint.Lint.{Lint}
-use Rattle.isle_lsp_diagnostics.specs.Diagnostics.{Mark}
+use Rattle.isle_lsp.specs.Diagnostics.{Mark}
 use Rattle.isle_lsp_protocol.proofs.Readings.{error_reads, position_reads, range_reads, warning_reads}
 use Rattle.isle_lsp_protocol.specs.Replies.{publishing}
 use Rattle.isle_lsp_protocol.specs.Results.{position_data, range_data}

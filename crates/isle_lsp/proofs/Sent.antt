@@ -1,7 +1,7 @@
 -- What is sent of a document, from what is told of its text.
 use Rattle.std.proofs.Common.{◌≡◌, ℕ, List, Some, map, refl, subst, sym}
-use Rattle.isle_lsp_diagnostics.specs.Diagnostics.{AreMarks, mark_of}
-use Rattle.isle_lsp_diagnostics.specs.declared.Diagnostic.{Diagnostic}
+use Rattle.isle_lsp.specs.Diagnostics.{AreMarks, mark_of}
+use Rattle.isle_lsp.specs.declared.diagnostics.Diagnostic.{Diagnostic}
 use Rattle.isle_lsp_protocol.specs.Replies.{IsTextOf, publishing}
 use Rattle.isle_lsp.specs.Published.{IsPublished, diagnostics_data}
 

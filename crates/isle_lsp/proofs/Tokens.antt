@@ -5,9 +5,9 @@ use Rattle.json.specs.Token.{Token}
 use Rattle.json.specs.Tree.{items_tokens, json_tokens}
 use Rattle.serde_json.specs.View.{items_of}
 use Rattle.serde_json.specs.Written.{items_outline, outline}
-use Rattle.isle_lsp_diagnostics.specs.Diagnostics.{mark_of}
+use Rattle.isle_lsp.specs.Diagnostics.{mark_of}
 use Rattle.isle_lsp.specs.Published.{mark_data}
-use Rattle.isle_lsp_diagnostics.specs.declared.Diagnostic.{Diagnostic}
+use Rattle.isle_lsp.specs.declared.diagnostics.Diagnostic.{Diagnostic}
 
 -- those of diagnostics, with the closing bracket
 abbrev pub told_tokens : List ℕ → List Diagnostic → List Token

@@ -4,7 +4,7 @@ use Rattle.serde_json.specs.Data.{Data, array, member, no_items, no_members, obj
 use Rattle.serde_json.specs.View.{items_of}
 use Rattle.isle_lint_core.specs.Lint.{name}
 use Rattle.isle_lint_core.specs.declared.lint.Lint.{Lint}
-use Rattle.isle_lsp_diagnostics.specs.Diagnostics.{AreMarks, Mark}
+use Rattle.isle_lsp.specs.Diagnostics.{AreMarks, Mark}
 use Rattle.isle_lsp_protocol.specs.Replies.{IsTextOf, publishing}
 use Rattle.isle_lsp_protocol.specs.Results.{error_data, warning_data}
 use Rattle.isle_lsp_text.specs.declared.positions.Range.{Range}

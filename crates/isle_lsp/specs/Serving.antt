@@ -2,7 +2,7 @@
 use Rattle.std.specs.Prelude.{◌≡◌, ℕ, List, [], ◌∷◌, ◌++◌, Bool, Option, None, Some, is_none, filter, map, option_and_then}
 use Rattle.serde_json.specs.Data.{Data, null}
 use Rattle.serde_json.specs.View.{view}
-use Rattle.isle_lsp_documents.specs.Documents.{Document, document, document_of, text_of, without}
+use Rattle.isle_lsp.specs.Documents.{Document, document, document_of, text_of, without}
 use Rattle.isle_lsp_protocol.specs.declared.machine.Code.{Code}
 use Rattle.isle_lsp_protocol.specs.declared.machine.Code.TheVariants.{InvalidParams, MethodNotFound, RequestFailed}
 use Rattle.isle_lsp_protocol.specs.declared.machine.Notice as notices

@@ -6,15 +6,15 @@ ghost use Rattle.json.specs.Token.{key};
 ghost use Rattle.json.specs.Tree.{json_tokens};
 ghost use Rattle.serde_json.specs.Written.{outline};
 ghost use Rattle.isle_cli.specs.declared.failure.Failure.TheVariants.{Memory};
-ghost use Rattle.isle_lsp_diagnostics.specs.Diagnostics.{mark_of};
+ghost use Rattle.isle_lsp.specs.Diagnostics.{mark_of};
 ghost use Rattle.isle_lsp_protocol.specs.Replies.{IsTextOf, publishing};
 ghost use Rattle.isle_lsp_text.specs.Positions.{IsPlace};
 ghost use Rattle.isle_lsp.specs.Published.{IsPublished, diagnostics_data, mark_data};
 ghost use Rattle.isle_lsp.specs.Published.{parameters_data, told_at};
 
+use crate::diagnostics::{Diagnostic, diagnostics};
 use isle_cli::failure::Failure;
 use isle_lint_core::Lint;
-use isle_lsp_diagnostics::{Diagnostic, diagnostics};
 use isle_lsp_protocol::writing::{put_error, put_text, put_warning, written};
 use isle_lsp_text::positions::{Place, Range, START, place_at};
 use json::Writer;

@@ -4,8 +4,8 @@ ghost use Rattle.std.specs.Prelude.{◌≡◌, IfErr, IfOk, OnOk, Some, map, opt
 ghost use Rattle.std.specs.Prelude.{string_bytes};
 ghost use Rattle.serde_json.specs.View.{view};
 ghost use Rattle.isle_cli.specs.declared.failure.Failure.TheVariants.{Memory};
-ghost use Rattle.isle_lsp_documents.specs.Documents as wanted;
-ghost use Rattle.isle_lsp_documents.specs.Documents.{document_of};
+ghost use Rattle.isle_lsp.specs.Documents as wanted;
+ghost use Rattle.isle_lsp.specs.Documents.{document_of};
 ghost use Rattle.isle_lsp_protocol.specs.Replies.{IsReplyId, IsTextOf};
 ghost use Rattle.isle_lsp_protocol.specs.Parameters as parameters_of;
 ghost use Rattle.isle_lsp_protocol.specs.Replies as replies_of;
@@ -19,12 +19,12 @@ ghost use Rattle.isle_lsp.specs.Serving.{Sends, Tells};
 ghost use Rattle.isle_lsp.specs.Serving.{documents_after, documents_after_note, documents_noted};
 ghost use Rattle.isle_lsp.specs.Serving.{document_in, held_of, outcome_of, reply};
 
+use crate::documents::{Document, close, open, text_of};
 use crate::formatting::formatting;
 use crate::published::published_text;
 use crate::workspace::workspace_files;
 use isle_cli::failure::Failure;
 use isle_cli::sources::Source;
-use isle_lsp_documents::{Document, close, open, text_of};
 use isle_lsp_features::{Text, Told};
 use isle_lsp_protocol::items::Listing;
 use isle_lsp_protocol::machine::{Code, Notice, Request, State, Turn};

@@ -1,5 +1,5 @@
 use Rattle.std.proofs.Common.{◌≡◌, map, take}
-use Rattle.isle_lsp_documents.specs.Documents.{document_of}
+use Rattle.isle_lsp.specs.Documents.{document_of}
 use Rattle.isle_lsp_features.specs.Programs.{source_of}
 use Rattle.isle_lsp.specs.Serving.{source_at}
 use Rattle.isle_lsp.proofs.server.opened_texts.Given as goal

@@ -1,10 +1,9 @@
 //! The documents that an editor has open, each with its name and its text.
-#![tactic(auto)]
 
 ghost use Rattle.std.specs.Prelude.{◌≡◌, ◌<◌, ◌++◌, ◌∷◌, [], IfSome, OnOk, length, map};
 ghost use Rattle.std.specs.Prelude.{option_map, string_bytes};
 ghost use Rattle.std.specs.List.{remove};
-ghost use Rattle.isle_lsp_documents.specs.Documents.{document, document_of, text_of, without};
+ghost use Rattle.isle_lsp.specs.Documents.{document, document_of, text_of, without};
 
 use std::alloc::{AllocError, Global};
 

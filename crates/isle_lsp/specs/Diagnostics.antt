@@ -12,7 +12,7 @@ use Rattle.isle_lint_core.specs.declared.finding.Finding.{Finding}
 use Rattle.isle_lint_core.specs.declared.lint.Lint.{Lint}
 use Rattle.isle_program.specs.Allowances.{is_allowed}
 use Rattle.isle_program.specs.Reading.{IsRefusedWith, IsTreeOf}
-use Rattle.isle_lsp_diagnostics.specs.declared.Diagnostic.{Diagnostic}
+use Rattle.isle_lsp.specs.declared.diagnostics.Diagnostic.{Diagnostic}
 
 -- what is told of a part of a text
 pub record Mark : Type 0 where

@@ -2,7 +2,6 @@
 //! on by default, but for what its comments turn off.
 //!
 //! The text is read as a program of its own. So the lints of a whole program find nothing.
-#![tactic(auto)]
 
 ghost use Rattle.std.specs.Prelude.{◌≡◌, ◌++◌, ◌∷◌, [], IfErr, IfOk, filter, length, map};
 ghost use Rattle.std.specs.Prelude.{string_bytes};
@@ -11,9 +10,9 @@ ghost use Rattle.isle_base_source.specs.declared.error.Error as errors;
 ghost use Rattle.isle_cli.specs.declared.failure.Failure.TheVariants.{Memory};
 ghost use Rattle.isle_lint_core.specs.Finding.{finding_of};
 ghost use Rattle.isle_lint_core.specs.Lint.{all_lints, is_default};
-ghost use Rattle.isle_lsp_diagnostics.specs.Diagnostics.{AreMarks, AreMarksOf};
-ghost use Rattle.isle_lsp_diagnostics.specs.Diagnostics.{error_mark, found_mark, found_text};
-ghost use Rattle.isle_lsp_diagnostics.specs.Diagnostics.{mark_of, shown};
+ghost use Rattle.isle_lsp.specs.Diagnostics.{AreMarks, AreMarksOf};
+ghost use Rattle.isle_lsp.specs.Diagnostics.{error_mark, found_mark, found_text};
+ghost use Rattle.isle_lsp.specs.Diagnostics.{mark_of, shown};
 
 use isle_ast::ast::Def;
 use isle_base::lexer::Fault;

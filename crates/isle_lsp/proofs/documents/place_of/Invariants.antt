@@ -1,6 +1,6 @@
 use Rattle.std.proofs.Common.{◌≡◌, ◌++◌, take, drop, map}
-use Rattle.isle_lsp_documents.specs.Documents.{document_of, without}
-use Rattle.isle_lsp_documents.proofs.place_of.Given as goal
+use Rattle.isle_lsp.specs.Documents.{document_of, without}
+use Rattle.isle_lsp.proofs.documents.place_of.Given as goal
 
 abbrev pub invariant-loop-i : goal.invariant-loop-i
 invariant-loop-i l =

@@ -1,6 +1,6 @@
 -- The documents that an editor has open.
 use Rattle.std.specs.Prelude.{ℕ, List, [], ◌∷◌, Option, None, Some, bytes_eq, if◌then◌else◌, string_bytes}
-use Rattle.isle_lsp_documents.specs.declared.Document.{Document as Code}
+use Rattle.isle_lsp.specs.declared.documents.Document.{Document as Code}
 
 -- a document: its name and its text
 pub record Document : Type 0 where

@@ -1,6 +1,6 @@
 use Rattle.std.proofs.Common.{◌≡◌, drop, map}
-use Rattle.isle_lsp_documents.specs.Documents.{document_of, text_of}
-use Rattle.isle_lsp_documents.proofs.text_of.Given as goal
+use Rattle.isle_lsp.specs.Documents.{document_of, text_of}
+use Rattle.isle_lsp.proofs.documents.text_of.Given as goal
 
 abbrev pub invariant-loop-document : goal.invariant-loop-document
 invariant-loop-document l =

@@ -1,5 +1,5 @@
 use Rattle.std.proofs.Common.{inr}
-use Rattle.isle_lsp_diagnostics.proofs.diagnostics.Goals as goal
+use Rattle.isle_lsp.proofs.diagnostics.diagnostics.Goals as goal
 
 pub returns-in_ok-refused-in-Err-Error-clause-ok :
     goal.returns-in_ok-refused-in-Err-Error-clause-ok
