@@ -15,9 +15,9 @@ use Rattle.isle_lsp_text.proofs.Places.{clamped, few_lines, few_units_on}
 use Rattle.isle_lsp_text.specs.Positions.{position_at}
 use Rattle.isle_lsp_text.specs.declared.positions.Range.{Range}
 use Rattle.isle_lsp.specs.Formatted.{range_of}
-use Rattle.isle_lsp.specs.Published.{diagnostics_data, mark_data, told_at}
+use Rattle.isle_lsp.specs.Published.{diagnostics_data, mark_data, diagnostic_data_at}
 
-told_reads : (r : Range) (lint : Option Lint) (message : List ℕ) → Reads (range_data r) → Reads (told_at r lint message)
+told_reads : (r : Range) (lint : Option Lint) (message : List ℕ) → Reads (range_data r) → Reads (diagnostic_data_at r lint message)
 told_reads r None message h = error_reads r message h
 told_reads r (Some lint) message h = warning_reads r (name lint) message h
 

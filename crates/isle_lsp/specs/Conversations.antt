@@ -9,7 +9,7 @@ use Rattle.isle_lsp_protocol.specs.declared.frames.FrameFault.{FrameFault}
 use Rattle.isle_lsp_protocol.specs.declared.frames.FrameFault.TheVariants as faults
 use Rattle.isle_cli.specs.declared.failure.Failure.{Failure}
 use Rattle.isle_cli.specs.declared.failure.Failure.TheVariants.{Refused, Usage, Input, Memory, Output}
-use Rattle.isle_lsp_protocol.specs.Machine.{next_state, turn_of}
+use Rattle.isle_lsp_protocol.specs.Machine.{next_state, action_of}
 use Rattle.isle_lsp_protocol.specs.declared.machine.State.{State}
 use Rattle.isle_lsp_protocol.specs.declared.machine.State.TheVariants.{Fresh, Running, ShutDown, Ended, Aborted}
 use Rattle.isle_lsp_protocol.specs.Decoding.{Decodes, message_in}
@@ -20,9 +20,9 @@ pub record Answers (old : Held) (body : List ℕ) (new : Held) (sent : Option (L
   pub json : Option Data
   pub decodes : Decodes body json
   pub state : new.state ≡ next_state old.state (message_in json)
-  pub documents : new.documents ≡ documents_after (turn_of old.state (message_in json)) json old.documents
-  pub files : KeepsFiles (turn_of old.state (message_in json)) old.files new.files
-  pub sends : Sends (turn_of old.state (message_in json)) json new sent
+  pub documents : new.documents ≡ documents_after (action_of old.state (message_in json)) json old.documents
+  pub files : KeepsFiles (action_of old.state (message_in json)) old.files new.files
+  pub sends : Sends (action_of old.state (message_in json)) json new sent
 
 abbrev pub frames : List (List ℕ) → List ℕ
 frames [] = []

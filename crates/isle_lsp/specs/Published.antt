@@ -10,13 +10,13 @@ use Rattle.isle_lsp_protocol.specs.Results.{error_data, warning_data}
 use Rattle.isle_lsp_text.specs.declared.positions.Range.{Range}
 use Rattle.isle_lsp.specs.Formatted.{range_of}
 
-abbrev pub told_at : Range → Option Lint → List ℕ → Data
-told_at range None message = error_data range message
-told_at range (Some lint) message = warning_data range (name lint) message
+abbrev pub diagnostic_data_at : Range → Option Lint → List ℕ → Data
+diagnostic_data_at range None message = error_data range message
+diagnostic_data_at range (Some lint) message = warning_data range (name lint) message
 
 -- a diagnostic, at its range
 abbrev pub mark_data : List ℕ → Mark → Data
-mark_data text m = told_at (range_of text m.start m.end) m.lint m.message
+mark_data text m = diagnostic_data_at (range_of text m.start m.end) m.lint m.message
 
 abbrev pub diagnostics_data : List ℕ → List Mark → Data
 diagnostics_data text marks = array (items_of (map (mark_data text) marks))

@@ -1,7 +1,7 @@
-//! What an editor is told of a text of ISLE: why it spells no tree, or what the lints find that are
-//! on by default, but for what its comments turn off.
+//! The diagnostics of an ISLE text: its parse error, or else the findings of the lints that are on
+//! by default, except those that comments allow.
 //!
-//! The text is read as a program of its own. So the lints of a whole program find nothing.
+//! The text is read on its own, so lints of whole programs find nothing.
 
 ghost use Rattle.std.specs.Prelude.{◌≡◌, ◌++◌, ◌∷◌, [], IfErr, IfOk, filter, length, map};
 ghost use Rattle.std.specs.Prelude.{string_bytes};
@@ -25,70 +25,71 @@ use isle_program::allowances::{is_allowed, lines_above};
 use isle_program::trees::read_defs;
 use std::alloc::{AllocError, Global};
 
-/// Something that is told of a part of a text.
+/// A message about a part of a text.
 #[derive(Debug, Drop)]
 pub struct Diagnostic {
-    /// The byte offset where the part begins.
+    /// The byte offset at which the part begins.
     pub start: usize,
-    /// The byte offset where it ends.
+    /// The byte offset at which it ends.
     pub end: usize,
-    /// The lint that finds it; none if the text spells no tree.
+    /// The lint that found it, or `None` for a parse error.
     pub lint: Option<Lint>,
-    /// What is told.
+    /// The message.
     pub message: String,
 }
 
-/// Gives what is told of a text, in order of place: what `isle-lint` tells of it without an option,
-/// and nothing else. It fails only with `Memory`.
+/// The diagnostics of a text, in order of position: the parse error, or else the findings of
+/// `isle-lint` without options. The only error is `Memory`.
 pub fn diagnostics(alloc: Global, text: &str) -> Result<Vec<Diagnostic>, Failure>
-    ensures ok { IfOk result (λ told. AreMarks text.now (map mark_of told.items)) }
+    ensures ok { IfOk result (λ found. AreMarks text.now (map mark_of found.items)) }
     ensures err { IfErr result (λ failure. failure ≡ Memory) }
 {
     match read_defs(alloc, 0, text) {
         Ok(defs) => {
-            let told = told_of(alloc, text, &defs);
+            let found = lint_diagnostics(alloc, text, &defs);
             drop_definitions(defs);
-            Ok(told?)
+            Ok(found?)
         }
-        Err(Fault::Error(error)) => Ok(refused(alloc, text, error)?),
+        Err(Fault::Error(error)) => Ok(error_diagnostics(alloc, text, error)?),
         Err(Fault::Failed | Fault::Memory) => Err(Failure::Memory),
     }
 }
 
-/// Gives what is told of a text that spells no tree.
-fn refused(alloc: Global, text: &str, error: Error) -> Result<Vec<Diagnostic>, AllocError>
-    ensures { IfOk result (λ told. map mark_of told.items ≡ error_mark text.now error) }
+/// The diagnostic of a parse error.
+fn error_diagnostics(alloc: Global, text: &str, error: Error) -> Result<Vec<Diagnostic>, AllocError>
+    ensures { IfOk result
+        (λ diagnostics. map mark_of diagnostics.items ≡ error_mark text.now error) }
 {
-    let mut told = Vec::new(alloc);
+    let mut diagnostics = Vec::new(alloc);
     if let Error::ParseError { msg, span } = error {
-        told.push(Diagnostic {
+        diagnostics.push(Diagnostic {
             start: span.from.offset.min(text.len()),
             end: span.to.offset.min(text.len()),
             lint: None,
             message: msg,
         })?;
     }
-    Ok(told)
+    Ok(diagnostics)
 }
 
-/// Gives what is told of a text that spells these definitions.
-fn told_of(alloc: Global, text: &str, defs: &[Def]) -> Result<Vec<Diagnostic>, AllocError>
-    ensures { IfOk result (λ told. AreMarksOf text.now (definitions_of defs.now)
-        (map mark_of told.items)) }
+/// The diagnostics of a text with these definitions.
+fn lint_diagnostics(alloc: Global, text: &str, defs: &[Def]) -> Result<Vec<Diagnostic>, AllocError>
+    ensures { IfOk result (λ diagnostics. AreMarksOf text.now (definitions_of defs.now)
+        (map mark_of diagnostics.items)) }
 {
     let lints = default_lints(alloc)?;
     let found = findings(alloc, defs, &lints)?;
-    marked(alloc, text, &found)
+    finding_diagnostics(alloc, text, &found)
 }
 
-/// Gives the lints that are on by default.
+/// The lints that are on by default.
 fn default_lints(alloc: Global) -> Result<Vec<Lint>, AllocError>
     ensures { IfOk result (λ lints. lints.items ≡ filter is_default all_lints) }
 {
     defaults_among(alloc, &Lint::ALL)
 }
 
-/// Gives those of some lints that are on by default.
+/// The lints in a list that are on by default.
 fn defaults_among(alloc: Global, lints: &[Lint]) -> Result<Vec<Lint>, AllocError>
     ensures { IfOk result (λ chosen. chosen.items ≡ filter is_default lints.now) }
 {
@@ -101,27 +102,30 @@ fn defaults_among(alloc: Global, lints: &[Lint]) -> Result<Vec<Lint>, AllocError
     Ok(chosen)
 }
 
-/// Gives what is told of these findings, but for those that comments turn off.
-fn marked(alloc: Global, text: &str, found: &[Finding]) -> Result<Vec<Diagnostic>, AllocError>
-    ensures { IfOk result (λ told. map mark_of told.items
+/// The diagnostics of these findings, except those that comments allow.
+fn finding_diagnostics(
+    alloc: Global,
+    text: &str,
+    found: &[Finding],
+) -> Result<Vec<Diagnostic>, AllocError>
+    ensures { IfOk result (λ diagnostics. map mark_of diagnostics.items
         ≡ map (found_mark text.now) (shown text.now (map finding_of found.now))) }
 {
     let lines = LineMap::from_str(alloc, text)?;
     let above = lines_above(alloc, text)?;
-    let mut told = Vec::new(alloc);
+    let mut diagnostics = Vec::new(alloc);
     for finding in found {
         if !is_allowed(&lines, &above, finding) {
             let diagnostic = diagnostic_of(alloc, text, finding)?;
-            told.push(diagnostic)?;
+            diagnostics.push(diagnostic)?;
         }
     }
-    Ok(told)
+    Ok(diagnostics)
 }
 
-/// Gives what is told of a finding.
 fn diagnostic_of(alloc: Global, text: &str, finding: &Finding) -> Result<Diagnostic, AllocError>
     ensures { IfOk result
-        (λ told. mark_of told ≡ found_mark text.now (finding_of finding.now)) }
+        (λ diagnostic. mark_of diagnostic ≡ found_mark text.now (finding_of finding.now)) }
 {
     let start = finding.pos.offset.min(text.len());
     let left = text.len() - start;
@@ -133,7 +137,7 @@ fn diagnostic_of(alloc: Global, text: &str, finding: &Finding) -> Result<Diagnos
     })
 }
 
-/// What a finding says.
+/// The message of a finding, with the name that it is about.
 fn message_of(alloc: Global, finding: &Finding) -> Result<String, AllocError>
     ensures { IfOk result
         (λ message. string_bytes message ≡ found_text (finding_of finding.now)) }

@@ -1,4 +1,4 @@
-//! The documents that an editor has open, each with its name and its text.
+//! The documents that an editor has open.
 
 ghost use Rattle.std.specs.Prelude.{◌≡◌, ◌<◌, ◌++◌, ◌∷◌, [], IfSome, OnOk, length, map};
 ghost use Rattle.std.specs.Prelude.{option_map, string_bytes};
@@ -7,16 +7,16 @@ ghost use Rattle.isle_lsp.specs.Documents.{document, document_of, text_of, witho
 
 use std::alloc::{AllocError, Global};
 
-/// A document.
+/// An open document.
 #[derive(Debug, Drop)]
 pub struct Document {
-    /// The name that the editor gives it, an URI.
+    /// The URI by which the editor names it.
     pub uri: String,
-    /// The text.
+    /// Its current text.
     pub text: String,
 }
 
-/// Gives the text of the document of a name, or `None` where no document has it.
+/// The text of the document with this URI, if it is open.
 pub fn text_of<'a>(documents: &'a [Document], uri: &str) -> Option<&'a str>
     ensures { option_map (λ text. text.now) result
         ≡ text_of uri.now (map document_of documents.now) }
@@ -29,7 +29,7 @@ pub fn text_of<'a>(documents: &'a [Document], uri: &str) -> Option<&'a str>
     None
 }
 
-/// Gives the index of the document of a name.
+/// The index of the document with this URI.
 fn place_of(documents: &[Document], uri: &str) -> Option<usize>
     ensures some { IfSome result (λ i. (i < length documents.now)
         × (without uri.now (map document_of documents.now)
@@ -45,7 +45,7 @@ fn place_of(documents: &[Document], uri: &str) -> Option<usize>
     None
 }
 
-/// Takes out the document of a name, if there is one.
+/// Removes the document with this URI, if it is open.
 pub fn close(documents: &mut Vec<Document>, uri: &str)
     ensures { map document_of documents.new.items
         ≡ without uri.now (map document_of documents.old.items) }
@@ -55,9 +55,9 @@ pub fn close(documents: &mut Vec<Document>, uri: &str)
     }
 }
 
-/// Puts a document at the end, in place of the one of its name.
+/// Adds a document at the end, and removes the one that had its URI.
 ///
-/// It fails only where memory runs out, and then no document has the name.
+/// After an `Err` no document with this URI is open.
 pub fn open(
     alloc: Global,
     documents: &mut Vec<Document>,

@@ -2,7 +2,6 @@
 use Rattle.std.specs.Prelude.{◌≡◌, ◌<◌, ◌⊎◌, ℕ, List, Option, None, Some, Result, Ok, Err, codes}
 use Rattle.std.specs.Global.{Vec}
 use Rattle.serde_json.specs.Data.{Data, null}
-use Rattle.serde_json.specs.View.{view}
 use Rattle.isle_base_source.specs.Source.{Source}
 use Rattle.isle_base_source.specs.declared.pos.Pos.{Pos}
 use Rattle.isle_index.specs.Names.{NameNode}
@@ -14,9 +13,11 @@ use Rattle.isle_index.specs.Symbols.{symbols}
 use Rattle.isle_resolve.specs.Events.{events}
 use Rattle.isle_lsp_protocol.specs.declared.machine.Request as requests
 use Rattle.isle_lsp_protocol.specs.declared.machine.Request.TheVariants.{Definition as AskDefinition, References, DocumentHighlight, DocumentSymbol, WorkspaceSymbol, Hover, Completion, ResolveCompletion, PrepareRename, Rename}
-use Rattle.isle_lsp_protocol.specs.Items.{items_data, listing_data}
+use Rattle.isle_lsp_protocol.specs.Items.{items_data}
 use Rattle.isle_lsp_protocol.specs.declared.items.Item.{Item}
+use Rattle.isle_lsp_protocol.specs.declared.machine.ErrorCode.TheVariants.{InvalidParams, RequestFailed}
 use Rattle.isle_lsp_protocol.specs.Parameters.{item_of, new_name_of, query_of, wants_definitions}
+use Rattle.isle_lsp_protocol.specs.Replies.{Outcome, done, error_outcome, failed}
 use Rattle.isle_lsp_features.specs.Gathered.{AreParts, Part, all_known, refused_count}
 use Rattle.isle_lsp_features.specs.Located.{AreHighlights, AreReferences, IsDefinition}
 use Rattle.isle_lsp_features.specs.Completed.{AreCompletions, item_name}
@@ -24,27 +25,22 @@ use Rattle.isle_lsp_features.specs.Defined.{AreDocumentSymbols, letters_of, work
 use Rattle.isle_lsp_features.specs.Shown.{IsHover, IsResolved}
 use Rattle.isle_lsp_features.specs.Renamed as renamed
 use Rattle.isle_lsp_features.specs.Places.{File, Place, file_in, place_in}
-use Rattle.isle_lsp_features.specs.declared.Told.{Told as CodeAnswer}
-use Rattle.isle_lsp_features.specs.declared.Told.TheVariants as codes_of
 
-pub data Answer : Type 0 where
-  found : Data → Answer
-  unplaced : Answer
-  refused : List ℕ → Answer
+-- the message lacks what the request needs, such as a text of the program or a place in one
+abbrev pub unplaced : Outcome
+unplaced = error_outcome InvalidParams
 
-abbrev pub answer_of : CodeAnswer → Answer
-answer_of (codes_of.Found value) = found (view value)
-answer_of (codes_of.Listed listing) = found (listing_data listing)
-answer_of codes_of.Unplaced = unplaced
-answer_of (codes_of.Refused reason) = refused reason.now
+-- the request cannot be fulfilled, and why
+abbrev pub refused : List ℕ → Outcome
+refused reason = failed RequestFailed reason
 
 -- a list; null of none
 abbrev pub list_data : Option (Vec Item) → Data
 list_data None = null
 list_data (Some items) = items_data items.items
 
-abbrev pub listed : Option (Vec Item) → Answer
-listed items = found (list_data items)
+abbrev pub list_outcome : Option (Vec Item) → Outcome
+list_outcome items = done (list_data items)
 
 -- a request to change a name, or whether it can be changed
 abbrev pub Renames : requests.Request → Type 0
@@ -68,40 +64,40 @@ FindsAt Completion program all p message d = AreCompletions p.pos p.text all d
 FindsAt _ program all p message d = Unit {0}
 
 -- what changing a name gets, by what the index answers
-abbrev pub IsRenamingBy : List Source → NameNode → List ℕ → Result (Vec Pos) Refusal → Answer → Type 0
-IsRenamingBy program name new (Ok places) a = a ≡ found (renamed.changes program name new places.items)
+abbrev pub IsRenamingBy : List Source → NameNode → List ℕ → Result (Vec Pos) Refusal → Outcome → Type 0
+IsRenamingBy program name new (Ok places) a = a ≡ done (renamed.changes program name new places.items)
 IsRenamingBy program name new (Err why) a = a ≡ refused (renamed.reason_of why)
 
-abbrev pub IsRenaming : List Source → List SeenNode → NameNode → List ℕ → Answer → Type 0
+abbrev pub IsRenaming : List Source → List SeenNode → NameNode → List ℕ → Outcome → Type 0
 IsRenaming program all name new a = (answer : Result (Vec Pos) Refusal) × renaming.IsAnswer name new all answer × IsRenamingBy program name new answer a
 
-abbrev pub IsRenamingOf : List Source → List SeenNode → (name : Option NameNode) → (new : Option (List ℕ)) → Answer → Type 0
+abbrev pub IsRenamingOf : List Source → List SeenNode → (name : Option NameNode) → (new : Option (List ℕ)) → Outcome → Type 0
 IsRenamingOf program all name None a = a ≡ unplaced
 IsRenamingOf program all None (Some new) a = a ≡ refused (codes "there is no name to change")
 IsRenamingOf program all (Some name) (Some new) a = IsRenaming program all name new a
 
-abbrev pub IsRenamingAt : List Source → List SeenNode → Option Place → Data → Answer → Type 0
+abbrev pub IsRenamingAt : List Source → List SeenNode → Option Place → Data → Outcome → Type 0
 IsRenamingAt program all None message a = a ≡ unplaced
 IsRenamingAt program all (Some p) message a = IsRenamingOf program all (name_at p.pos all) (new_name_of message) a
 
 -- what a request about a place gets
-abbrev pub IsAnswerAt : requests.Request → List Source → List SeenNode → Place → Data → Answer → Type 0
-IsAnswerAt request program all p message a = (d : Data) × FindsAt request program all p message d × (a ≡ found d)
+abbrev pub IsAnswerAt : requests.Request → List Source → List SeenNode → Place → Data → Outcome → Type 0
+IsAnswerAt request program all p message a = (d : Data) × FindsAt request program all p message d × (a ≡ done d)
 
-abbrev pub IsFoundAt : requests.Request → List Source → List SeenNode → Option Place → Data → Answer → Type 0
+abbrev pub IsFoundAt : requests.Request → List Source → List SeenNode → Option Place → Data → Outcome → Type 0
 IsFoundAt request program all None message a = a ≡ unplaced
 IsFoundAt request program all (Some p) message a = IsAnswerAt request program all p message a
 
-abbrev pub AreSymbols : List SeenNode → Option File → Answer → Type 0
+abbrev pub AreSymbols : List SeenNode → Option File → Outcome → Type 0
 AreSymbols all None a = a ≡ unplaced
-AreSymbols all (Some f) a = (d : Data) × AreDocumentSymbols f.text (symbols f.number all) d × (a ≡ found d)
+AreSymbols all (Some f) a = (d : Data) × AreDocumentSymbols f.text (symbols f.number all) d × (a ≡ done d)
 
-abbrev pub IsResolution : List Source → List SeenNode → (item : Option Data) → Answer → Type 0
+abbrev pub IsResolution : List Source → List SeenNode → (item : Option Data) → Outcome → Type 0
 IsResolution program all None a = a ≡ unplaced
-IsResolution program all (Some item) a = (d : Data) × IsResolved program all (item_name item) item d × (a ≡ found d)
+IsResolution program all (Some item) a = (d : Data) × IsResolved program all (item_name item) item d × (a ≡ done d)
 
 -- what a request about these events gets
-abbrev pub IsAnswerOf : requests.Request → List Source → List SeenNode → Data → Answer → Type 0
+abbrev pub IsAnswerOf : requests.Request → List Source → List SeenNode → Data → Outcome → Type 0
 IsAnswerOf DocumentSymbol program all message a = AreSymbols all (file_in message program) a
 IsAnswerOf AskDefinition program all message a = IsFoundAt AskDefinition program all (place_in message program) message a
 IsAnswerOf References program all message a = IsFoundAt References program all (place_in message program) message a
@@ -111,11 +107,11 @@ IsAnswerOf Rename program all message a = IsRenamingAt program all (place_in mes
 IsAnswerOf Hover program all message a = IsFoundAt Hover program all (place_in message program) message a
 IsAnswerOf Completion program all message a = IsFoundAt Completion program all (place_in message program) message a
 IsAnswerOf ResolveCompletion program all message a = IsResolution program all (item_of message) a
-IsAnswerOf WorkspaceSymbol program all message a = a ≡ found (workspace_symbols (letters_of (query_of message)) program all)
+IsAnswerOf WorkspaceSymbol program all message a = a ≡ done (workspace_symbols (letters_of (query_of message)) program all)
 IsAnswerOf _ program all message a = Unit {0}
 
 -- no name is changed while a text of the program spells no tree
-pub record IsHeld (program : List Source) (request : requests.Request) (a : Answer) : Type 0 where
+pub record IsHeld (program : List Source) (request : requests.Request) (a : Outcome) : Type 0 where
   pub parts : List Part
   pub read : AreParts 0 program parts
   pub some : 0 < refused_count parts
@@ -123,5 +119,5 @@ pub record IsHeld (program : List Source) (request : requests.Request) (a : Answ
   pub is : a ≡ refused (codes "a text of the program spells no tree")
 
 -- what a request about the names of a program gets
-abbrev pub IsAnswer : requests.Request → List Source → Data → Answer → Type 0
+abbrev pub IsAnswer : requests.Request → List Source → Data → Outcome → Type 0
 IsAnswer request program message a = IsHeld program request a ⊎ ((all : List SeenNode) × IsIndex program request all × IsAnswerOf request program all message a)

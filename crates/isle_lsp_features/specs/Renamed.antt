@@ -16,10 +16,10 @@ use Rattle.isle_lsp_features.specs.Places.{range_at}
 use Rattle.isle_lsp_text.specs.declared.positions.Range.{Range}
 
 -- how many bytes stand before the text of a name where it is written: the `$` of a constant
-abbrev pub skipped : NameNode → ℕ
-skipped (global kinds.Constant text) = 1
-skipped (global _ text) = 0
-skipped (variable binder text) = 0
+abbrev pub prefix_len : NameNode → ℕ
+prefix_len (global kinds.Constant text) = 1
+prefix_len (global _ text) = 0
+prefix_len (variable binder text) = 0
 
 -- why a name isn't changed
 abbrev pub reason_of : Refusal → List ℕ
@@ -32,7 +32,7 @@ reason_of Captured = codes "the new name would be that of another variable"
 -- the range of a place, if it is in the text of this number
 abbrev pub range_in : ℕ → List ℕ → NameNode → Pos → List Range
 range_in file text name pos =
-    if pos.file == file then range_at text (min pos.offset (length text) + skipped name) (length (name_text name)) ∷ [] else []
+    if pos.file == file then range_at text (min pos.offset (length text) + prefix_len name) (length (name_text name)) ∷ [] else []
 
 abbrev pub document_change : (uri new : List ℕ) → List Range → List Data
 document_change uri new [] = []
@@ -54,4 +54,4 @@ changes program name new places = workspace_edit (array (items_of (changes_from 
 abbrev pub prepared : List ℕ → Option NameNode → Option Occurrence → Data
 prepared text None o = null
 prepared text (Some name) None = null
-prepared text (Some name) (Some o) = range_data (range_at text (min o.pos.offset (length text) + skipped name) (o.len - skipped name))
+prepared text (Some name) (Some o) = range_data (range_at text (min o.pos.offset (length text) + prefix_len name) (o.len - prefix_len name))

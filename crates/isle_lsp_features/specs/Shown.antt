@@ -62,7 +62,7 @@ IsHover program text (Some name) (Some at) all d =
 
 abbrev pub resolved_data : Data → (shown : Option (List ℕ)) → Data
 resolved_data item None = item
-resolved_data item (Some shown) = results.documented item shown
+resolved_data item (Some shown) = results.with_documentation item shown
 
 -- an item with what is shown of its name; as it is where nothing is shown
 abbrev pub IsResolved : List Source → List SeenNode → Option NameNode → Data → Data → Type 0

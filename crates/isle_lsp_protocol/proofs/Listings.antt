@@ -1,4 +1,4 @@
--- What is written for an answer that lists something.
+-- The tokens of a response that is a list.
 use Rattle.std.proofs.Common.{◌≡◌, ℕ, ◌+◌, ◌<◌, List, [], ◌∷◌, ◌++◌, length, get_or, map, drop, Some, codes, refl, sym, ap, subst, ◌∙◌, append_assoc, arith}
 use Rattle.std.proofs.lemmas.List.{at_drop_more}
 use Rattle.json.specs.Json as tree
@@ -9,7 +9,7 @@ use Rattle.serde_json.specs.Read.{of_items}
 use Rattle.serde_json.specs.View.{items_of}
 use Rattle.serde_json.specs.Written.{items_outline, outline}
 use Rattle.isle_lsp_protocol.proofs.Readings.{depth-outline}
-use Rattle.isle_lsp_protocol.specs.Replies.{answer}
+use Rattle.isle_lsp_protocol.specs.Replies.{response}
 use Rattle.isle_lsp_protocol.specs.Written.{Adds, Reads}
 
 module _ {X : Type 0} (f : X → Data) where
@@ -42,7 +42,7 @@ module _ {X : Type 0} (f : X → Data) where
 
 pub answered : (id list : Data) (old begun new : List Token) → Adds id (old ++ begin_object ∷ key (codes "id") ∷ []) begun → Reads list →
     new ≡ begun ++ (key (codes "jsonrpc") ∷ string (codes "2.0") ∷ key (codes "result") ∷ (json_tokens (outline list) ++ end_object ∷ [])) →
-    Adds (answer id list) old new
+    Adds (response id list) old new
 answered id list old begun new a reads is =
     let rest : List Token = key (codes "jsonrpc") ∷ string (codes "2.0") ∷ key (codes "result") ∷ (json_tokens (outline list) ++ end_object ∷ []) in
     let whole = tree.object (tree.member (codes "id") a.0 (tree.member (codes "jsonrpc") (tree.string (codes "2.0")) (tree.member (codes "result") (outline list) tree.no_members))) in

@@ -5,10 +5,10 @@ use Rattle.serde_json.specs.Find.{get, as_str, as_number, as_object}
 use Rattle.serde_json.specs.Read.{read}
 use Rattle.isle_lsp_protocol.specs.declared.machine.Request as requests
 use Rattle.isle_lsp_protocol.specs.declared.machine.Request.TheVariants.{Initialize, Shutdown, Formatting, DocumentSymbol, WorkspaceSymbol, Definition, References, DocumentHighlight, Hover, Completion, ResolveCompletion, PrepareRename, Rename, Unknown}
-use Rattle.isle_lsp_protocol.specs.declared.machine.Notice as notices
-use Rattle.isle_lsp_protocol.specs.declared.machine.Notice.TheVariants.{Initialized, Exit, DidOpen, DidChange, DidClose, Other}
+use Rattle.isle_lsp_protocol.specs.declared.machine.Notification as notifications
+use Rattle.isle_lsp_protocol.specs.declared.machine.Notification.TheVariants.{Initialized, Exit, DidOpen, DidChange, DidClose, Other}
 use Rattle.isle_lsp_protocol.specs.declared.machine.Message as messages
-use Rattle.isle_lsp_protocol.specs.declared.machine.Message.TheVariants.{Request, Notice, Response, Invalid, Broken}
+use Rattle.isle_lsp_protocol.specs.declared.machine.Message.TheVariants.{Request, Notification, Response, Invalid, Broken}
 
 -- the bytes are this JSON, or none
 abbrev pub Decodes : List ℕ → Option Data → Type 0
@@ -19,8 +19,8 @@ Decodes body None = IsUtf8 body → read body ≡ None
 abbrev pub is_id : Data → Bool
 is_id d = is_some (as_str d) || is_some (as_number d)
 
-abbrev pub notice_of : List ℕ → notices.Notice
-notice_of name =
+abbrev pub notification_of : List ℕ → notifications.Notification
+notification_of name =
     if bytes_eq name (codes "initialized") then Initialized
     else (if bytes_eq name (codes "exit") then Exit
     else (if bytes_eq name (codes "textDocument/didOpen") then DidOpen
@@ -45,16 +45,16 @@ request_of name =
     else (if bytes_eq name (codes "textDocument/rename") then Rename
     else Unknown))))))))))))
 
-abbrev pub named_notice : Option (List ℕ) → messages.Message
-named_notice None = Invalid
-named_notice (Some name) = Notice (notice_of name)
+abbrev pub named_notification : Option (List ℕ) → messages.Message
+named_notification None = Invalid
+named_notification (Some name) = Notification (notification_of name)
 
 abbrev pub named_request : Option (List ℕ) → messages.Message
 named_request None = Invalid
 named_request (Some name) = Request (request_of name)
 
-abbrev pub notice_in : Data → messages.Message
-notice_in method = named_notice (as_str method)
+abbrev pub notification_in : Data → messages.Message
+notification_in method = named_notification (as_str method)
 
 abbrev pub request_in : Data → messages.Message
 request_in method = named_request (as_str method)
@@ -62,7 +62,7 @@ request_in method = named_request (as_str method)
 -- what an object with this method and this `id` is
 abbrev pub message_with : (method id : Option Data) → messages.Message
 message_with None id = Response
-message_with (Some method) None = notice_in method
+message_with (Some method) None = notification_in method
 message_with (Some method) (Some id) = if is_id id then request_in method else Invalid
 
 unfoldable pub message_of : Data → messages.Message

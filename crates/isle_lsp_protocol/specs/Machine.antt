@@ -1,44 +1,44 @@
--- The life of a session: what the server does with a message.
+-- The states of a session, and the server's action on each message.
 use Rattle.isle_lsp_protocol.specs.declared.machine.State.{State}
 use Rattle.isle_lsp_protocol.specs.declared.machine.State.TheVariants.{Fresh, Running, ShutDown, Ended, Aborted}
 use Rattle.isle_lsp_protocol.specs.declared.machine.Request as requests
 use Rattle.isle_lsp_protocol.specs.declared.machine.Request.TheVariants.{Initialize, Shutdown, Unknown}
-use Rattle.isle_lsp_protocol.specs.declared.machine.Notice.TheVariants.{Exit}
+use Rattle.isle_lsp_protocol.specs.declared.machine.Notification.TheVariants.{Exit}
 use Rattle.isle_lsp_protocol.specs.declared.machine.Message as messages
-use Rattle.isle_lsp_protocol.specs.declared.machine.Message.TheVariants.{Request, Notice, Response, Invalid, Broken}
-use Rattle.isle_lsp_protocol.specs.declared.machine.Turn as turns
-use Rattle.isle_lsp_protocol.specs.declared.machine.Turn.TheVariants.{Pass, Answer, Refuse, Note}
-use Rattle.isle_lsp_protocol.specs.declared.machine.Code.TheVariants.{ParseError, InvalidRequest, MethodNotFound, ServerNotInitialized}
+use Rattle.isle_lsp_protocol.specs.declared.machine.Message.TheVariants.{Request, Notification, Response, Invalid, Broken}
+use Rattle.isle_lsp_protocol.specs.declared.machine.Action as actions
+use Rattle.isle_lsp_protocol.specs.declared.machine.Action.TheVariants.{Ignore, Answer, Reject, Handle}
+use Rattle.isle_lsp_protocol.specs.declared.machine.ErrorCode.TheVariants.{ParseError, InvalidRequest, MethodNotFound, ServerNotInitialized}
 
--- where the session stands after a message
+-- the state after a message
 abbrev pub next_state : State → messages.Message → State
 next_state Fresh (Request Initialize) = Running
 next_state Running (Request Shutdown) = ShutDown
-next_state ShutDown (Notice Exit) = Ended
-next_state Fresh (Notice Exit) = Aborted
-next_state Running (Notice Exit) = Aborted
+next_state ShutDown (Notification Exit) = Ended
+next_state Fresh (Notification Exit) = Aborted
+next_state Running (Notification Exit) = Aborted
 next_state state message = state
 
--- what a session that runs does with a request
-abbrev pub running_turn : requests.Request → turns.Turn
-running_turn Initialize = Refuse InvalidRequest
-running_turn Unknown = Refuse MethodNotFound
-running_turn request = Answer request
+-- the action of a running session on a request
+abbrev pub running_action : requests.Request → actions.Action
+running_action Initialize = Reject InvalidRequest
+running_action Unknown = Reject MethodNotFound
+running_action request = Answer request
 
-abbrev pub fresh_turn : requests.Request → turns.Turn
-fresh_turn Initialize = Answer Initialize
-fresh_turn request = Refuse ServerNotInitialized
+abbrev pub fresh_action : requests.Request → actions.Action
+fresh_action Initialize = Answer Initialize
+fresh_action request = Reject ServerNotInitialized
 
--- what the server does with a message
-abbrev pub turn_of : State → messages.Message → turns.Turn
-turn_of Ended message = Pass
-turn_of Aborted message = Pass
-turn_of state Broken = Refuse ParseError
-turn_of state Invalid = Refuse InvalidRequest
-turn_of state Response = Pass
-turn_of state (Notice Exit) = Pass
-turn_of Running (Notice notice) = Note notice
-turn_of state (Notice notice) = Pass
-turn_of Fresh (Request request) = fresh_turn request
-turn_of Running (Request request) = running_turn request
-turn_of ShutDown (Request request) = Refuse InvalidRequest
+-- the server's action on a message
+abbrev pub action_of : State → messages.Message → actions.Action
+action_of Ended message = Ignore
+action_of Aborted message = Ignore
+action_of state Broken = Reject ParseError
+action_of state Invalid = Reject InvalidRequest
+action_of state Response = Ignore
+action_of state (Notification Exit) = Ignore
+action_of Running (Notification notification) = Handle notification
+action_of state (Notification notification) = Ignore
+action_of Fresh (Request request) = fresh_action request
+action_of Running (Request request) = running_action request
+action_of ShutDown (Request request) = Reject InvalidRequest

@@ -2,7 +2,7 @@
 use Rattle.std.specs.Prelude.{ℕ, List, codes, Bool, false, Option, None, Some, is_some, option_and_then, if◌then◌else◌}
 use Rattle.serde_json.specs.Data.{Data, Items, no_items, item}
 use Rattle.serde_json.specs.Find.{get, pointer, as_str, as_bool, as_number, as_object, as_u64, as_array}
-use Rattle.isle_lsp_text.specs.Changes.{changed}
+use Rattle.isle_lsp_text.specs.Changes.{apply_change}
 use Rattle.isle_lsp_text.specs.declared.positions.Position.{Position}
 use Rattle.isle_lsp_text.specs.declared.positions.Range.{Range}
 
@@ -75,11 +75,11 @@ position_of d = option_and_then position_in (pointer (codes "/params/position") 
 
 abbrev pub changed_within : Option Range → (text new : List ℕ) → List ℕ
 changed_within None text new = text
-changed_within (Some range) text new = changed text (Some range) new
+changed_within (Some range) text new = apply_change text (Some range) new
 
 abbrev pub changed_by : (range : Option Data) → (new : Option (List ℕ)) → List ℕ → List ℕ
 changed_by range None text = text
-changed_by None (Some new) text = changed text None new
+changed_by None (Some new) text = apply_change text None new
 changed_by (Some range) (Some new) text = changed_within (range_in range) text new
 
 -- the text after one change; what is no change of the protocol changes nothing

@@ -47,9 +47,9 @@ abbrev pub hover : List ℕ → Range → Data
 hover shown range = object (member (codes "contents") (markdown shown) (member (codes "range") (range_data range) no_members))
 
 -- an item of a completion with this documentation, in place of what it has
-abbrev pub documented : Data → List ℕ → Data
-documented (object ms) shown = object (put (codes "documentation") (markdown shown) ms)
-documented d shown = d
+abbrev pub with_documentation : Data → List ℕ → Data
+with_documentation (object ms) shown = object (put (codes "documentation") (markdown shown) ms)
+with_documentation d shown = d
 
 -- a name that may be written in place of what a range has
 abbrev pub completion_item : (name : List ℕ) → (kind : ℕ) → Range → Data

@@ -1,17 +1,18 @@
-//! What a client's message is.
+//! Decoding of a client's messages.
 
 ghost use Rattle.std.specs.Prelude.{◌≡◌, IfErr, IfOk, option_map};
 ghost use Rattle.serde_json.specs.View.{view};
 ghost use Rattle.isle_cli.specs.declared.failure.Failure.TheVariants.{Memory};
 ghost use Rattle.isle_lsp_protocol.specs.Decoding.{Decodes, is_id, message_in, message_of};
-ghost use Rattle.isle_lsp_protocol.specs.Decoding.{notice_in, notice_of, request_in, request_of};
+ghost use Rattle.isle_lsp_protocol.specs.Decoding.{notification_in, notification_of, request_in};
+ghost use Rattle.isle_lsp_protocol.specs.Decoding.{request_of};
 
-use crate::machine::{Message, Notice, Request};
+use crate::machine::{Message, Notification, Request};
 use isle_cli::failure::Failure;
 use serde_json::{Category, Value};
 use std::alloc::Global;
 
-/// Gives the JSON that a message is, or none where it is no JSON. It fails only with `Memory`.
+/// Parses a message as JSON, or returns `None` if it is not JSON. The only error is `Memory`.
 pub fn decode(alloc: Global, body: &[u8]) -> Result<Option<Value>, Failure>
     ensures ok { IfOk result (λ value. Decodes body.now (option_map view value)) }
     ensures err { IfErr result (λ failure. failure ≡ Memory) }
@@ -23,10 +24,10 @@ pub fn decode(alloc: Global, body: &[u8]) -> Result<Option<Value>, Failure>
     }
 }
 
-/// Tells what a message is.
+/// Classifies a message.
 ///
 /// A request has a method and an `id`, which is a string or a number; a notification has a method
-/// and no `id`; an object without a method is a response. Other JSON is no message.
+/// and no `id`; an object without a method is a response. Other JSON is invalid.
 pub fn message_in(value: &Option<Value>) -> Message
     ensures { result ≡ message_in (option_map view value.now) }
 {
@@ -36,7 +37,6 @@ pub fn message_in(value: &Option<Value>) -> Message
     }
 }
 
-/// Tells what JSON is.
 #[tactic(auto, unfolding(crate::specs::Decoding::message_of))]
 fn message_of(value: &Value) -> Message
     ensures { result ≡ message_of (view value.now) }
@@ -46,30 +46,28 @@ fn message_of(value: &Value) -> Message
     }
     match (value.get("method"), value.get("id")) {
         (None, _) => Message::Response,
-        (Some(method), None) => notice_in(method),
+        (Some(method), None) => notification_in(method),
         (Some(method), Some(id)) if is_id(id) => request_in(method),
         (Some(_), Some(_)) => Message::Invalid,
     }
 }
 
-/// Tells whether a message can have this `id`.
+/// Returns whether a message may have this `id`.
 fn is_id(id: &Value) -> bool
     ensures { result ≡ is_id (view id.now) }
 {
     id.is_string() || id.is_number()
 }
 
-/// Gives the notification of this method.
-fn notice_in(method: &Value) -> Message
-    ensures { result ≡ notice_in (view method.now) }
+fn notification_in(method: &Value) -> Message
+    ensures { result ≡ notification_in (view method.now) }
 {
     match method.as_str() {
-        Some(name) => Message::Notice(notice_of(name)),
+        Some(name) => Message::Notification(notification_of(name)),
         None => Message::Invalid,
     }
 }
 
-/// Gives the request of this method.
 fn request_in(method: &Value) -> Message
     ensures { result ≡ request_in (view method.now) }
 {
@@ -79,21 +77,21 @@ fn request_in(method: &Value) -> Message
     }
 }
 
-/// Gives the notification of a name.
-fn notice_of(name: &str) -> Notice
-    ensures { result ≡ notice_of name.now }
+/// The notification with this method.
+fn notification_of(name: &str) -> Notification
+    ensures { result ≡ notification_of name.now }
 {
     match name {
-        "initialized" => Notice::Initialized,
-        "exit" => Notice::Exit,
-        "textDocument/didOpen" => Notice::DidOpen,
-        "textDocument/didChange" => Notice::DidChange,
-        "textDocument/didClose" => Notice::DidClose,
-        _ => Notice::Other,
+        "initialized" => Notification::Initialized,
+        "exit" => Notification::Exit,
+        "textDocument/didOpen" => Notification::DidOpen,
+        "textDocument/didChange" => Notification::DidChange,
+        "textDocument/didClose" => Notification::DidClose,
+        _ => Notification::Other,
     }
 }
 
-/// Gives the request of a name.
+/// The request with this method.
 fn request_of(name: &str) -> Request
     ensures { result ≡ request_of name.now }
 {

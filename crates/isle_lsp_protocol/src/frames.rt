@@ -1,9 +1,8 @@
-//! The frames of the Language Server Protocol: header lines, a blank line, and the bytes of a
-//! message.
+//! The frames of messages: header lines, a blank line, and the bytes of the message.
 //!
-//! A header line ends with CR LF and has at most 4096 bytes. A header has at most 16 lines, the
-//! blank one among them, and says the length of the message once: `Content-Length: 17`. The name is
-//! read in any case, and other lines are passed over. Lengths count bytes.
+//! A header line ends with CR LF and has at most 4096 bytes. A header has at most 16 lines,
+//! including the blank one, and states the length of the message once: `Content-Length: 17`. The
+//! name is matched in any case, and other lines are ignored. Lengths are in bytes.
 
 ghost use Rattle.std.specs.Prelude.{◌≡◌, ◌≢◌, ◌⊎◌, ℕ, bytes_eq, codes, ◌≤◌, ◌<◌, ◌++◌, []};
 ghost use Rattle.std.specs.Prelude.{List, length, option_map, IfOk, IfErr, OnErr, OnOk, IfSome};
@@ -25,30 +24,30 @@ use std::alloc::{AllocError, AllocFailed, Global};
 use std::io::{BufRead, ErrorKind, Read, Write};
 use std::{io, str};
 
-/// How many lines a header has at most, with the blank one.
+/// The maximal number of lines in a header, including the blank one.
 const MAX_LINES: u32 = 16;
 
-/// How many bytes a header line has at most.
+/// The maximal length of a header line in bytes.
 const MAX_LINE_LEN: usize = 4096;
 
-/// How many bytes a message has at most.
+/// The maximal length of a message in bytes.
 const MAX_LEN: usize = 67_108_864;
 
-/// The name of the header line that says the length, in lower case, with its colon.
+/// The name of the header line with the length, in lower case, with its colon.
 const LENGTH_NAME: &[u8] = b"content-length:";
 
-/// Why no message is read.
+/// The reason why a message cannot be read.
 #[derive(Debug, Drop)]
 pub enum FrameFault {
-    /// The header isn't one, or doesn't say the length once.
+    /// The header is malformed, or does not state the length exactly once.
     Malformed,
     /// The input ends within the message.
     Cut,
     /// The message is longer than 64 MiB.
     TooLong,
-    /// The input can't be read.
+    /// Reading the input failed.
     Unreadable,
-    /// A growth of memory was refused.
+    /// Out of memory.
     Memory,
 }
 
@@ -68,14 +67,14 @@ impl<T: Drop> From<AllocFailed<T>> for FrameFault {
     }
 }
 
-/// Tells whether bytes are decimal digits.
+/// Returns whether all bytes are decimal digits.
 fn are_digits(bytes: &[u8]) -> bool
     ensures { IsTrue result ↔ EachIndex bytes.now (λ i. IsInRange 48 57 (slice_index bytes.now i)) }
 {
     bytes.iter().all(|b| b.is_ascii_digit())
 }
 
-/// Gives the number that decimal digits write.
+/// Parses a decimal number.
 fn number_of(digits: &[u8]) -> Option<usize>
     ensures { result ≡ number_of digits.now }
 {
@@ -88,7 +87,7 @@ fn number_of(digits: &[u8]) -> Option<usize>
     }
 }
 
-/// Gives what follows the spaces and tabs that a value begins with.
+/// The value without the spaces and tabs in front.
 fn after_blanks(value: &[u8]) -> &[u8]
     ensures { result.now ≡ after_blanks value.now }
 {
@@ -99,7 +98,7 @@ fn after_blanks(value: &[u8]) -> &[u8]
     rest
 }
 
-/// Gives what follows the name of the length, if a header line begins with it.
+/// The value of a header line that states the length.
 fn length_value(field: &[u8]) -> Option<&[u8]>
     ensures { option_map (λ value. value.now) result ≡ length_value field.now }
 {
@@ -114,7 +113,7 @@ fn length_value(field: &[u8]) -> Option<&[u8]>
     }
 }
 
-/// Gives the length that a header line says, if it says one. The line is without its end.
+/// The length that a header line states, if any. The line is without its CR LF.
 #[tactic(auto, unfolding(crate::specs::Frames::field_length))]
 fn field_length(field: &[u8]) -> Result<Option<usize>, FrameFault>
     ensures { result ≡ field_length field.now }
@@ -128,7 +127,7 @@ fn field_length(field: &[u8]) -> Result<Option<usize>, FrameFault>
     }
 }
 
-/// Gives the length that a header line says, if it says one.
+/// The length that a header line states, if any.
 #[tactic(auto, unfolding(crate::specs::Frames::header_length))]
 fn header_length(line: &[u8]) -> Result<Option<usize>, FrameFault>
     ensures { result ≡ header_length line.now }
@@ -142,7 +141,7 @@ fn header_length(line: &[u8]) -> Result<Option<usize>, FrameFault>
     }
 }
 
-/// Gives the one of two lengths that is there.
+/// The one of two lengths that is present.
 fn only_one(found: Option<usize>, known: Option<usize>) -> Result<Option<usize>, FrameFault>
     ensures { result ≡ only_one found known }
 {
@@ -153,7 +152,7 @@ fn only_one(found: Option<usize>, known: Option<usize>) -> Result<Option<usize>,
     }
 }
 
-/// Gives the length that is known after a header line.
+/// The length that is known after a further header line.
 #[tactic(auto, unfolding(crate::specs::Frames::length_after))]
 fn length_after(line: &[u8], known: Option<usize>) -> Result<Option<usize>, FrameFault>
     ensures { result ≡ length_after line.now known }
@@ -164,14 +163,14 @@ fn length_after(line: &[u8], known: Option<usize>) -> Result<Option<usize>, Fram
     }
 }
 
-/// Tells whether a line is the one that ends a header.
+/// Returns whether a line ends the header.
 fn is_blank(line: &[u8]) -> bool
     ensures { result ≡ bytes_eq line.now (codes "\r\n") }
 {
     line == b"\r\n".as_slice()
 }
 
-/// Tells whether nothing is left to read.
+/// Returns whether the input is at its end.
 fn is_at_end<R: BufRead>(input: &mut R) -> Result<bool, FrameFault>
     ensures kept { Keeps (R.remaining input.old) (R.remaining input.new) }
     ensures ended { result ≡ Ok true → IfSome (R.remaining input.old) (λ bytes. bytes ≡ []) }
@@ -184,7 +183,7 @@ fn is_at_end<R: BufRead>(input: &mut R) -> Result<bool, FrameFault>
     }
 }
 
-/// Reads a line with its line feed, or the bytes up to the end.
+/// Reads a line with its LF, or the bytes up to the end of the input.
 fn read_line<R: BufRead>(alloc: Global, input: &mut R) -> Result<Vec<u8>, FrameFault>
     ensures ok { (bytes : List ℕ) → R.remaining input.old ≡ Some bytes → IfOk result
         (λ line. (line.items ≡ take_through 10 bytes)
@@ -199,7 +198,7 @@ fn read_line<R: BufRead>(alloc: Global, input: &mut R) -> Result<Vec<u8>, FrameF
     }
 }
 
-/// Reads the header, and gives the length that it says.
+/// Reads the header, and returns the length that it states.
 fn read_head<R: BufRead>(alloc: Global, input: &mut R) -> Result<usize, FrameFault>
     ensures { (bytes : List ℕ) → R.remaining input.old ≡ Some bytes
         → Gives (λ n. n) (R.remaining input.new) result (head_at 16 None bytes) }
@@ -219,7 +218,6 @@ fn read_head<R: BufRead>(alloc: Global, input: &mut R) -> Result<usize, FrameFau
     Err(FrameFault::Malformed)
 }
 
-/// Reads the bytes of a message.
 fn read_body<R: Read>(alloc: Global, input: &mut R, len: usize) -> Result<Vec<u8>, FrameFault>
     ensures ok { IfOk result (λ body. Consumes (R.remaining input.old) (R.remaining input.new)
         body.items × (length body.items ≡ len)) }
@@ -246,11 +244,11 @@ fn read_body<R: Read>(alloc: Global, input: &mut R, len: usize) -> Result<Vec<u8
     Err(FrameFault::Unreadable)
 }
 
-/// Reads the next message, or none at the end of the input.
+/// Reads the next message, or `None` at the end of the input.
 ///
-/// After an `Err` the reader has given some of its bytes, which are lost.
+/// After an `Err` some bytes of the input have been read and are lost.
 pub fn read_frame<R: BufRead>(alloc: Global, input: &mut R) -> Result<Option<Vec<u8>>, FrameFault>
-    // What is read, and what is left, are what the bytes say.
+    // The message, and the rest of the input, are those of the bytes.
     ensures { (bytes : List ℕ) → R.remaining input.old ≡ Some bytes
         → Gives (λ found. option_map (λ body. body.items) found)
         (R.remaining input.new) result (frame_at bytes) }
@@ -268,7 +266,7 @@ pub fn read_frame<R: BufRead>(alloc: Global, input: &mut R) -> Result<Option<Vec
 
 /// Writes a message with its header, and flushes the writer.
 ///
-/// It fails with `Memory` or `Output`, and then the writer has a beginning of the frame.
+/// The error is `Memory` or `Output`. After it the writer has received a prefix of the frame.
 pub fn write_frame<W: Write>(alloc: Global, output: &mut W, body: &[u8]) -> Result<(), Failure>
     ensures ok { OnOk result
         (Appends (W.contents output.old) (W.contents output.new) (frame body.now)) }
@@ -284,14 +282,14 @@ pub fn write_frame<W: Write>(alloc: Global, output: &mut W, body: &[u8]) -> Resu
     }
 }
 
-/// Makes the header of a message of this length.
+/// The header of a message of this length.
 fn head_of(alloc: Global, len: usize) -> Result<String, AllocError>
     ensures { IfOk result (λ made. string_bytes made ≡ head len) }
 {
     format!(in alloc; "Content-Length: {len}\r\n\r\n")
 }
 
-/// Writes two parts, the second one only if the first is written whole.
+/// Writes two parts, the second only if the first is written completely.
 fn write_parts<W: Write>(output: &mut W, first: &[u8], second: &[u8]) -> io::Result<()>
     ensures ok { OnOk result
         (Appends (W.contents output.old) (W.contents output.new) (first.now ++ second.now)) }
@@ -302,7 +300,7 @@ fn write_parts<W: Write>(output: &mut W, first: &[u8], second: &[u8]) -> io::Res
     write_whole(output, second)
 }
 
-/// A law: what is written reads back, whatever follows it.
+/// A law: a written frame reads back, whatever follows it.
 pub fn reads_back()
     ensures { (body rest : List ℕ) → length body ≤ 67108864
         → frame_at (frame body ++ rest) ≡ Ok (Some body, rest) }

@@ -1,5 +1,5 @@
-//! What an answer lists. As JSON values a long list takes many times the memory of its text. As
-//! items it does not.
+//! The items of a list in a response. A long list takes many times the memory of its text as JSON
+//! values, but not as items.
 
 ghost use Rattle.std.specs.Prelude.{◌≡◌, ◌++◌, ◌∷◌, OnOk, codes};
 ghost use Rattle.json.specs.Token.{key};
@@ -15,12 +15,12 @@ use isle_lsp_text::positions::Range;
 use json::Writer;
 use std::alloc::AllocError;
 
-/// What an answer lists.
+/// A result that is a list.
 #[derive(Debug, Drop)]
 pub enum Listing<'a> {
     /// A list.
     Items(Vec<Item<'a>>),
-    /// The changes of a program: an item for each document that changes.
+    /// The changes to a program, with an item for each changed document.
     Changes(Vec<Item<'a>>),
 }
 
@@ -29,19 +29,19 @@ pub enum Listing<'a> {
 pub enum Item<'a> {
     /// A part of a document.
     Location {
-        /// The document's name.
+        /// The document's URI.
         uri: &'a str,
         /// The part.
         range: Range,
     },
-    /// A part of the document that a request names.
+    /// A part of the document of the request.
     Highlight {
         /// The part.
         range: Range,
     },
-    /// A definition in the document that a request names.
+    /// A definition in the document of the request.
     DocumentSymbol {
-        /// The name that is defined.
+        /// The defined name.
         name: String,
         /// The protocol's number of its kind.
         kind: usize,
@@ -52,27 +52,27 @@ pub enum Item<'a> {
     },
     /// A definition in a program.
     WorkspaceSymbol {
-        /// The name that is defined.
+        /// The defined name.
         name: String,
         /// The protocol's number of its kind.
         kind: usize,
-        /// The name of the document.
+        /// The document's URI.
         uri: &'a str,
-        /// Where the name stands.
+        /// The range of the name.
         range: Range,
     },
-    /// A name that may be written.
+    /// A name that completes a partly written one.
     Completion {
         /// The name.
         name: String,
         /// The protocol's number of its kind.
         kind: usize,
-        /// The part in place of which it is written.
+        /// The part that it replaces.
         range: Range,
     },
-    /// The changes of a document: the same text in place of each part. Its version is not told.
+    /// The changes to a document: the same text replaces each part. The version is left open.
     Edits {
-        /// The document's name.
+        /// The document's URI.
         uri: &'a str,
         /// The parts.
         ranges: Vec<Range>,
@@ -81,7 +81,7 @@ pub enum Item<'a> {
     },
 }
 
-/// Writes what an answer lists.
+/// Writes a result that is a list.
 pub fn put_listing(out: &mut Writer, listing: &Listing) -> Result<(), AllocError>
     ensures before { out.new.before ≡ out.old.before }
     ensures tokens { OnOk result (out.new.tokens ≡ out.old.tokens
@@ -94,7 +94,6 @@ pub fn put_listing(out: &mut Writer, listing: &Listing) -> Result<(), AllocError
     }
 }
 
-/// Writes the changes of a program.
 #[tactic(auto, using(crate::proofs::Tokens::appended))]
 fn put_changes(out: &mut Writer, items: &[Item]) -> Result<(), AllocError>
     ensures before { out.new.before ≡ out.old.before }
@@ -108,7 +107,6 @@ fn put_changes(out: &mut Writer, items: &[Item]) -> Result<(), AllocError>
     out.end_object()
 }
 
-/// Writes a list.
 fn put_items(out: &mut Writer, items: &[Item]) -> Result<(), AllocError>
     ensures before { out.new.before ≡ out.old.before }
     ensures tokens { OnOk result (out.new.tokens ≡ out.old.tokens
@@ -122,7 +120,6 @@ fn put_items(out: &mut Writer, items: &[Item]) -> Result<(), AllocError>
     out.end_array()
 }
 
-/// Writes an item.
 fn put_item(out: &mut Writer, item: &Item) -> Result<(), AllocError>
     ensures before { out.new.before ≡ out.old.before }
     ensures tokens { OnOk result (out.new.tokens ≡ out.old.tokens
@@ -151,7 +148,6 @@ fn put_item(out: &mut Writer, item: &Item) -> Result<(), AllocError>
     }
 }
 
-/// Writes a location.
 #[tactic(auto, using(crate::proofs::Tokens::appended))]
 fn put_location(out: &mut Writer, uri: &str, range: Range) -> Result<(), AllocError>
     ensures before { out.new.before ≡ out.old.before }
@@ -165,7 +161,6 @@ fn put_location(out: &mut Writer, uri: &str, range: Range) -> Result<(), AllocEr
     out.end_object()
 }
 
-/// Writes a highlight.
 #[tactic(auto, using(crate::proofs::Tokens::appended))]
 fn put_highlight(out: &mut Writer, range: Range) -> Result<(), AllocError>
     ensures before { out.new.before ≡ out.old.before }
@@ -178,7 +173,6 @@ fn put_highlight(out: &mut Writer, range: Range) -> Result<(), AllocError>
     out.end_object()
 }
 
-/// Writes a definition in a document.
 #[tactic(auto, using(crate::proofs::Tokens::appended))]
 fn put_document_symbol(
     out: &mut Writer,
@@ -200,7 +194,6 @@ fn put_document_symbol(
     out.end_object()
 }
 
-/// Writes a definition in a program.
 #[tactic(auto, using(crate::proofs::Tokens::appended))]
 fn put_workspace_symbol(
     out: &mut Writer,
@@ -222,7 +215,6 @@ fn put_workspace_symbol(
     out.end_object()
 }
 
-/// Writes a name that may be written.
 #[tactic(auto, using(crate::proofs::Tokens::appended))]
 fn put_completion(out: &mut Writer, name: &str, kind: usize, range: Range) -> Result<(), AllocError>
     ensures before { out.new.before ≡ out.old.before }
@@ -238,7 +230,6 @@ fn put_completion(out: &mut Writer, name: &str, kind: usize, range: Range) -> Re
     out.end_object()
 }
 
-/// Writes the changes of a document.
 #[tactic(auto, using(crate::proofs::Tokens::appended))]
 fn put_document_edits(
     out: &mut Writer,
@@ -259,12 +250,13 @@ fn put_document_edits(
     out.end_object()
 }
 
-/// Writes, as `textDocument`, which document changes.
+/// Writes the member `textDocument`, which identifies the changed document.
 #[tactic(auto, using(crate::proofs::Tokens::appended))]
 fn put_document_identifier(out: &mut Writer, uri: &str) -> Result<(), AllocError>
     ensures before { out.new.before ≡ out.old.before }
     ensures tokens { OnOk result (out.new.tokens ≡ out.old.tokens
-        ++ key (codes "textDocument") ∷ json_tokens (outline (wanted.document_identifier uri.now))) }
+        ++ key (codes "textDocument")
+        ∷ json_tokens (outline (wanted.document_identifier uri.now))) }
 {
     out.key("textDocument")?;
     out.begin_object()?;
@@ -274,7 +266,7 @@ fn put_document_identifier(out: &mut Writer, uri: &str) -> Result<(), AllocError
     out.end_object()
 }
 
-/// Writes an edit for each part of a document.
+/// Writes an edit for each range.
 fn put_edits(out: &mut Writer, ranges: &[Range], text: &str) -> Result<(), AllocError>
     ensures before { out.new.before ≡ out.old.before }
     ensures tokens { OnOk result (out.new.tokens ≡ out.old.tokens
@@ -288,7 +280,7 @@ fn put_edits(out: &mut Writer, ranges: &[Range], text: &str) -> Result<(), Alloc
     out.end_array()
 }
 
-/// Writes an edit: this text stands where the range was.
+/// Writes an edit that replaces a range with a text.
 #[tactic(auto, using(crate::proofs::Tokens::appended))]
 fn put_edit(out: &mut Writer, text: &str, range: Range) -> Result<(), AllocError>
     ensures before { out.new.before ≡ out.old.before }

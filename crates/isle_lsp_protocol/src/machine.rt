@@ -1,158 +1,171 @@
-//! The life of a session of the Language Server Protocol: what the server does with a message.
+//! The states of a session, and the server's action on each message.
 //!
-//! A message is decoded first, so nothing here knows of JSON, of texts or of positions.
+//! Messages are decoded first, so nothing here depends on JSON, texts or positions.
 
 ghost use Rattle.std.specs.Prelude.{◌≡◌, ◌≢◌};
-ghost use Rattle.isle_lsp_protocol.specs.Machine.{next_state, turn_of};
+ghost use Rattle.isle_lsp_protocol.specs.Machine.{next_state, action_of};
 
-/// Where a session stands.
+/// The state of a session.
 #[derive(Clone, Copy, Debug, PartialEq, Eq)]
 pub enum State {
     /// Only `initialize` is answered.
     Fresh,
     /// Requests are answered.
     Running,
-    /// `shutdown` came: only `exit` may follow.
+    /// `shutdown` has come: only `exit` may follow.
     ShutDown,
-    /// `exit` came after `shutdown`.
+    /// `exit` has come after `shutdown`.
     Ended,
-    /// `exit` came before `shutdown`.
+    /// `exit` has come before `shutdown`.
     Aborted,
 }
 
-/// What a request asks for.
+/// The method of a request.
 #[derive(Clone, Copy, Debug, PartialEq, Eq)]
 pub enum Request {
-    /// What the server can do.
+    /// The capabilities of the server.
     Initialize,
     /// The end of the session.
     Shutdown,
-    /// The edits that tidy a document.
+    /// The edits that format a document.
     Formatting,
     /// The definitions of a document.
     DocumentSymbol,
-    /// The definitions of the workspace whose names have some letters.
+    /// The definitions of the workspace whose names match a query.
     WorkspaceSymbol,
-    /// Where a name is defined.
+    /// The definitions of a name.
     Definition,
-    /// Where a name stands.
+    /// The uses of a name.
     References,
-    /// Where a name stands in its document.
+    /// The uses of a name in its document.
     DocumentHighlight,
-    /// What a name is.
+    /// The text that describes a name.
     Hover,
-    /// The names that a name may become.
+    /// The names that complete a partly written one.
     Completion,
-    /// What one of these names is.
+    /// The text that describes one of these names.
     ResolveCompletion,
-    /// Whether a name can be changed.
+    /// The range of a name that can be renamed.
     PrepareRename,
-    /// The edits that change a name.
+    /// The edits that rename a name.
     Rename,
-    /// A method that the server doesn't have.
+    /// Any other method.
     Unknown,
 }
 
-/// What a notification tells.
+/// The method of a notification.
 #[derive(Clone, Copy, Debug, PartialEq, Eq)]
-pub enum Notice {
-    /// The client has the answer to `initialize`.
+pub enum Notification {
+    /// The client has received the response to `initialize`.
     Initialized,
-    /// The process is to end.
+    /// The server is to exit.
     Exit,
-    /// A document is opened.
+    /// A document was opened.
     DidOpen,
-    /// A document is changed.
+    /// A document was changed.
     DidChange,
-    /// A document is closed.
+    /// A document was closed.
     DidClose,
-    /// One that the server passes over.
+    /// Any other method, which the server ignores.
     Other,
 }
 
-/// A message of the client.
+/// A message from the client.
 #[derive(Clone, Copy, Debug, PartialEq, Eq)]
 pub enum Message {
     /// A request.
     Request(Request),
     /// A notification.
-    Notice(Notice),
-    /// A response, which the server passes over: a message without a method.
+    Notification(Notification),
+    /// A response, which is a message without a method. The server ignores it.
     Response,
-    /// JSON, but no message of the protocol, such as a batch.
+    /// JSON that is not a message of the protocol, such as a batch.
     Invalid,
-    /// No JSON.
+    /// Anything that is not JSON.
     Broken,
 }
 
-/// Why a request is refused.
+/// The code of an error response.
 #[derive(Clone, Copy, Debug, PartialEq, Eq)]
-pub enum Code {
-    /// The message is no JSON: -32700.
+pub enum ErrorCode {
+    /// The message is not JSON: -32700.
     ParseError,
-    /// The message may not come there: -32600.
+    /// The message is not expected in this state: -32600.
     InvalidRequest,
-    /// The server has no such method: -32601.
+    /// The server does not have the method: -32601.
     MethodNotFound,
-    /// The request has not the parameters that it needs: -32602.
+    /// The parameters are missing or invalid: -32602.
     InvalidParams,
-    /// `initialize` didn't come: -32002.
+    /// `initialize` has not come: -32002.
     ServerNotInitialized,
-    /// The request can't be done: -32803.
+    /// The request cannot be fulfilled: -32803.
     RequestFailed,
 }
 
-/// What the server does with a message.
+/// The server's action on a message.
 #[derive(Clone, Copy, Debug, PartialEq, Eq)]
-pub enum Turn {
-    /// It passes over it.
-    Pass,
-    /// It answers the request.
+pub enum Action {
+    /// Ignore it.
+    Ignore,
+    /// Answer the request.
     Answer(Request),
-    /// It refuses the request.
-    Refuse(Code),
-    /// It takes note of the notification.
-    Note(Notice),
+    /// Reject the request.
+    Reject(ErrorCode),
+    /// Handle the notification.
+    Handle(Notification),
 }
 
-/// Gives where the session stands after a message, and what the server does with it.
-pub fn step(state: State, message: Message) -> (State, Turn)
-    // Before `initialize` each other request is refused, and nothing changes.
+/// The state after a message, and the server's action on the message.
+pub fn step(state: State, message: Message) -> (State, Action)
+    // Before `initialize` every other request is rejected, and nothing changes.
     ensures before { (request : _) → state ≡ State.Fresh → message ≡ Message.Request request
         → request ≢ Request.Initialize
-        → (result.0 ≡ State.Fresh) × (result.1 ≡ Turn.Refuse Code.ServerNotInitialized) }
-    // Only a session that runs takes note of anything.
-    ensures notes { (notice : _) → result.1 ≡ Turn.Note notice → state ≡ State.Running }
-    // After `shutdown` each request is refused.
+        → (result.0 ≡ State.Fresh) × (result.1 ≡ Action.Reject ErrorCode.ServerNotInitialized) }
+    // Only a session that runs handles notifications.
+    ensures handles { (notification : _) → result.1 ≡ Action.Handle notification
+        → state ≡ State.Running }
+    // After `shutdown` every request is rejected.
     ensures after { (request : _) → state ≡ State.ShutDown → message ≡ Message.Request request
-        → result.1 ≡ Turn.Refuse Code.InvalidRequest }
-    // What it is altogether.
+        → result.1 ≡ Action.Reject ErrorCode.InvalidRequest }
+    // All of it.
     ensures state { result.0 ≡ next_state state message }
-    ensures turn { result.1 ≡ turn_of state message }
+    ensures action { result.1 ≡ action_of state message }
 {
     match (state, message) {
-        (State::Ended | State::Aborted, _) => (state, Turn::Pass),
-        (_, Message::Broken) => (state, Turn::Refuse(Code::ParseError)),
-        (_, Message::Invalid) => (state, Turn::Refuse(Code::InvalidRequest)),
-        (_, Message::Response) => (state, Turn::Pass),
-        (State::ShutDown, Message::Notice(Notice::Exit)) => (State::Ended, Turn::Pass),
-        (_, Message::Notice(Notice::Exit)) => (State::Aborted, Turn::Pass),
-        (State::Running, Message::Notice(notice)) => (state, Turn::Note(notice)),
-        (_, Message::Notice(_)) => (state, Turn::Pass),
+        (State::Ended | State::Aborted, _) => (state, Action::Ignore),
+        (_, Message::Broken) => (state, Action::Reject(ErrorCode::ParseError)),
+        (_, Message::Invalid) => (state, Action::Reject(ErrorCode::InvalidRequest)),
+        (_, Message::Response) => (state, Action::Ignore),
+        (State::ShutDown, Message::Notification(Notification::Exit)) => (
+            State::Ended,
+            Action::Ignore,
+        ),
+        (_, Message::Notification(Notification::Exit)) => (State::Aborted, Action::Ignore),
+        (State::Running, Message::Notification(notification)) => (
+            state,
+            Action::Handle(notification),
+        ),
+        (_, Message::Notification(_)) => (state, Action::Ignore),
         (State::Fresh, Message::Request(Request::Initialize)) => {
-            (State::Running, Turn::Answer(Request::Initialize))
+            (State::Running, Action::Answer(Request::Initialize))
         }
-        (State::Fresh, Message::Request(_)) => (state, Turn::Refuse(Code::ServerNotInitialized)),
-        (State::ShutDown, Message::Request(_)) => (state, Turn::Refuse(Code::InvalidRequest)),
+        (State::Fresh, Message::Request(_)) => (
+            state,
+            Action::Reject(ErrorCode::ServerNotInitialized),
+        ),
+        (State::ShutDown, Message::Request(_)) => (
+            state,
+            Action::Reject(ErrorCode::InvalidRequest),
+        ),
         (State::Running, Message::Request(Request::Initialize)) => {
-            (state, Turn::Refuse(Code::InvalidRequest))
+            (state, Action::Reject(ErrorCode::InvalidRequest))
         }
         (State::Running, Message::Request(Request::Unknown)) => {
-            (state, Turn::Refuse(Code::MethodNotFound))
+            (state, Action::Reject(ErrorCode::MethodNotFound))
         }
         (State::Running, Message::Request(Request::Shutdown)) => {
-            (State::ShutDown, Turn::Answer(Request::Shutdown))
+            (State::ShutDown, Action::Answer(Request::Shutdown))
         }
-        (State::Running, Message::Request(request)) => (state, Turn::Answer(request)),
+        (State::Running, Message::Request(request)) => (state, Action::Answer(request)),
     }
 }

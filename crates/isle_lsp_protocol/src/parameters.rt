@@ -1,15 +1,15 @@
-//! What a client's message holds.
+//! The parameters of a client's messages.
 
 ghost use Rattle.std.specs.Prelude.{◌≡◌, IfOk, option_map, string_bytes};
 ghost use Rattle.serde_json.specs.View.{items_view, view};
 ghost use Rattle.isle_lsp_protocol.specs.Parameters as wanted;
 
-use isle_lsp_text::changes::changed;
+use isle_lsp_text::changes::apply_change;
 use isle_lsp_text::positions::{Position, Range};
 use serde_json::Value;
 use std::alloc::{AllocError, Global};
 
-/// Gives the name of the document that a message speaks of.
+/// The URI of the document that a message names.
 pub fn uri_of(message: &Value) -> Option<&str>
     ensures { option_map (λ uri. uri.now) result ≡ wanted.uri_of (view message.now) }
 {
@@ -18,7 +18,7 @@ pub fn uri_of(message: &Value) -> Option<&str>
         .and_then(Value::as_str)
 }
 
-/// Gives the text of the document that is opened.
+/// The text of the opened document.
 pub fn text_of(message: &Value) -> Option<&str>
     ensures { option_map (λ text. text.now) result ≡ wanted.text_of (view message.now) }
 {
@@ -27,7 +27,7 @@ pub fn text_of(message: &Value) -> Option<&str>
         .and_then(Value::as_str)
 }
 
-/// Gives the position that a message speaks of.
+/// The position in a message.
 pub fn position_of(message: &Value) -> Option<Position>
     ensures { result ≡ wanted.position_of (view message.now) }
 {
@@ -37,14 +37,14 @@ pub fn position_of(message: &Value) -> Option<Position>
     }
 }
 
-/// Gives the new name that a message asks for.
+/// The new name in a request to rename.
 pub fn new_name_of(message: &Value) -> Option<&str>
     ensures { option_map (λ name. name.now) result ≡ wanted.new_name_of (view message.now) }
 {
     message.pointer("/params/newName").and_then(Value::as_str)
 }
 
-/// Gives the item of a completion that a message speaks of.
+/// The completion item in a request to resolve it.
 pub fn item_of(message: &Value) -> Option<&Value>
     ensures { option_map (λ item. view item.now) result ≡ wanted.item_of (view message.now) }
 {
@@ -54,28 +54,28 @@ pub fn item_of(message: &Value) -> Option<&Value>
     }
 }
 
-/// Gives the label of an item of a completion: its name as it is written.
+/// The label of a completion item, which is its name as written.
 pub fn label_of(item: &Value) -> Option<&str>
     ensures { option_map (λ label. label.now) result ≡ wanted.label_of (view item.now) }
 {
     item.get("label").and_then(Value::as_str)
 }
 
-/// Gives the protocol's number of the kind of an item of a completion.
+/// The protocol's number of the kind of a completion item.
 pub fn kind_of(item: &Value) -> Option<u64>
     ensures { result ≡ wanted.kind_of (view item.now) }
 {
     item.get("kind").and_then(Value::as_u64)
 }
 
-/// Gives the letters that a message asks for.
+/// The query of a request for workspace symbols.
 pub fn query_of(message: &Value) -> Option<&str>
     ensures { option_map (λ query. query.now) result ≡ wanted.query_of (view message.now) }
 {
     message.pointer("/params/query").and_then(Value::as_str)
 }
 
-/// Tells whether definitions are asked for too.
+/// Returns whether a request for references asks for definitions too.
 pub fn wants_definitions(message: &Value) -> bool
     ensures { result ≡ wanted.wants_definitions (view message.now) }
 {
@@ -85,14 +85,13 @@ pub fn wants_definitions(message: &Value) -> bool
     }
 }
 
-/// Gives the folder that the client works in.
+/// The URI of the folder that the client works in.
 pub fn root_of(message: &Value) -> Option<&str>
     ensures { option_map (λ root. root.now) result ≡ wanted.root_of (view message.now) }
 {
     message.pointer("/params/rootUri").and_then(Value::as_str)
 }
 
-/// Reads a position.
 #[tactic(auto, unfolding(crate::specs::Parameters::position_in))]
 fn position_in(value: &Value) -> Option<Position>
     ensures { result ≡ wanted.position_in (view value.now) }
@@ -108,7 +107,7 @@ fn position_in(value: &Value) -> Option<Position>
     }
 }
 
-/// Reads the position of this name.
+/// Reads the position in the member of this name.
 fn position_at(value: &Value, name: &str) -> Option<Position>
     ensures { result ≡ wanted.position_at name.now (view value.now) }
 {
@@ -118,7 +117,6 @@ fn position_at(value: &Value, name: &str) -> Option<Position>
     }
 }
 
-/// Reads a range.
 fn range_in(value: &Value) -> Option<Range>
     ensures { result ≡ wanted.range_in (view value.now) }
 {
@@ -128,9 +126,9 @@ fn range_in(value: &Value) -> Option<Range>
     }
 }
 
-/// Gives a text after the changes of a message, one after another.
+/// The text after the changes in a message, which apply one after another.
 ///
-/// A change that isn't one of the protocol is passed over. It fails only where memory runs out.
+/// A change that does not follow the protocol is ignored.
 #[tactic(auto, unfolding(crate::specs::Parameters::text_after))]
 pub fn text_after(alloc: Global, message: &Value, text: &str) -> Result<String, AllocError>
     ensures { IfOk result
@@ -145,7 +143,6 @@ pub fn text_after(alloc: Global, message: &Value, text: &str) -> Result<String, 
     }
 }
 
-/// Gives a text after some changes.
 fn text_after_all(alloc: Global, changes: &[Value], text: &str) -> Result<String, AllocError>
     ensures { IfOk result (λ after. string_bytes after
         ≡ wanted.text_after_all (items_view changes.now) text.now) }
@@ -157,7 +154,6 @@ fn text_after_all(alloc: Global, changes: &[Value], text: &str) -> Result<String
     Ok(after)
 }
 
-/// Gives a text after a change.
 #[tactic(auto, unfolding(crate::specs::Parameters::text_after_one))]
 fn text_after_one(alloc: Global, change: &Value, text: String) -> Result<String, AllocError>
     ensures { IfOk result (λ after. string_bytes after
@@ -167,9 +163,9 @@ fn text_after_one(alloc: Global, change: &Value, text: String) -> Result<String,
         return Ok(text);
     };
     match change.get("range") {
-        None => changed(alloc, text.as_str(), None, new),
+        None => apply_change(alloc, text.as_str(), None, new),
         Some(value) => match range_in(value) {
-            Some(range) => changed(alloc, text.as_str(), Some(range), new),
+            Some(range) => apply_change(alloc, text.as_str(), Some(range), new),
             None => Ok(text),
         },
     }

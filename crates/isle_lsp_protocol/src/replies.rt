@@ -1,4 +1,4 @@
-//! What the server sends in reply: answers and refusals.
+//! Responses to requests: results and errors.
 
 ghost use Rattle.std.specs.Prelude.{◌≡◌, IfOk, OnOk, option_map, string_bytes};
 ghost use Rattle.serde_json.specs.Data.{number as numeral};
@@ -6,17 +6,35 @@ ghost use Rattle.serde_json.specs.Find.{of_integer};
 ghost use Rattle.serde_json.specs.View.{number_view, view};
 ghost use Rattle.isle_lsp_protocol.specs.Items.{listing_data};
 ghost use Rattle.isle_lsp_protocol.specs.Replies as wanted;
-ghost use Rattle.isle_lsp_protocol.specs.Replies.{IsReplyId};
+ghost use Rattle.isle_lsp_protocol.specs.Replies.{IsReplyId, outcome_of};
 ghost use Rattle.isle_lsp_protocol.specs.Written.{Adds};
 
 use crate::items::{Listing, put_listing};
-use crate::machine::Code;
-use crate::writing::{put_text, written};
+use crate::machine::ErrorCode;
+use crate::writing::{into_text, put_text};
 use json::Writer;
 use serde_json::{Number, Value, json};
 use std::alloc::{AllocError, Global};
 
-/// Gives the `id` that the reply to a message repeats, or null where it has none.
+/// The outcome of a request.
+#[derive(Drop)]
+pub enum Outcome<'a> {
+    /// The result.
+    Done(Value),
+    /// The result, as a list.
+    Listed(Listing<'a>),
+    /// An error, with its message.
+    Failed(ErrorCode, &'static str),
+}
+
+/// The outcome of a request that fails with the usual message of an error code.
+pub fn error_outcome<'a>(code: ErrorCode) -> Outcome<'a>
+    ensures { outcome_of result ≡ wanted.error_outcome code }
+{
+    Outcome::Failed(code, reason_of(code))
+}
+
+/// The `id` of the response to a message: the message's own, or null if it has none.
 pub fn reply_id(message: &Option<Value>) -> Result<Value, AllocError>
     ensures same { IfOk result (λ id. view id ≡ wanted.reply_id (option_map view message.now)) }
     ensures kind { IfOk result (λ id. IsReplyId (view id)) }
@@ -31,37 +49,48 @@ pub fn reply_id(message: &Option<Value>) -> Result<Value, AllocError>
     }
 }
 
-/// Makes the text of an answer.
-pub fn answer(alloc: Global, id: Value, outcome: Value) -> Result<String, AllocError>
-    ensures { IfOk result (λ text. wanted.IsTextOf (wanted.answer (view id) (view outcome))
+/// The text of the response with this outcome. The `id` is a string, a number or null.
+pub fn reply(alloc: Global, id: Value, outcome: Outcome) -> Result<String, AllocError>
+    ensures { IfOk result (λ text. IsReplyId (view id) → wanted.IsTextOf
+        (wanted.reply (view id) (outcome_of outcome.entry)) (string_bytes text)) }
+{
+    match outcome {
+        Outcome::Done(value) => response(alloc, id, value),
+        Outcome::Listed(listing) => listing_response(alloc, &id, &listing),
+        Outcome::Failed(code, reason) => error_response(alloc, id, code, reason),
+    }
+}
+
+/// The text of a response with this result.
+pub fn response(alloc: Global, id: Value, outcome: Value) -> Result<String, AllocError>
+    ensures { IfOk result (λ text. wanted.IsTextOf (wanted.response (view id) (view outcome))
         (string_bytes text)) }
 {
-    let value = answer_value(alloc, id, outcome)?;
+    let value = response_value(alloc, id, outcome)?;
     value.to_string(alloc)
 }
 
-/// Makes an answer.
-fn answer_value(alloc: Global, id: Value, outcome: Value) -> Result<Value, AllocError>
-    ensures { IfOk result (λ value. view value ≡ wanted.answer (view id) (view outcome)) }
+fn response_value(alloc: Global, id: Value, outcome: Value) -> Result<Value, AllocError>
+    ensures { IfOk result (λ value. view value ≡ wanted.response (view id) (view outcome)) }
 {
     json!(in alloc; {"jsonrpc": "2.0", "id": id, "result": outcome})
 }
 
-/// Makes the text of an answer that is a list. The `id` is a text, a number or null.
-pub fn listing(alloc: Global, id: &Value, listing: &Listing) -> Result<String, AllocError>
+/// The text of a response whose result is a list. The `id` is a string, a number or null.
+pub fn listing_response(alloc: Global, id: &Value, listing: &Listing) -> Result<String, AllocError>
     ensures { IfOk result (λ text. IsReplyId (view id.now) → wanted.IsTextOf
-        (wanted.answer (view id.now) (listing_data listing.now)) (string_bytes text)) }
+        (wanted.response (view id.now) (listing_data listing.now)) (string_bytes text)) }
 {
     let mut out = Writer::new(Vec::new(alloc));
-    put_answer(&mut out, id, listing)?;
-    Ok(written(out))
+    put_response(&mut out, id, listing)?;
+    Ok(into_text(out))
 }
 
-/// Writes an answer that is a list.
-fn put_answer(out: &mut Writer, id: &Value, listing: &Listing) -> Result<(), AllocError>
+/// Writes a response whose result is a list.
+fn put_response(out: &mut Writer, id: &Value, listing: &Listing) -> Result<(), AllocError>
     ensures before { out.new.before ≡ out.old.before }
     ensures adds { OnOk result (IsReplyId (view id.now) → Adds
-        (wanted.answer (view id.now) (listing_data listing.now)) out.old.tokens out.new.tokens) }
+        (wanted.response (view id.now) (listing_data listing.now)) out.old.tokens out.new.tokens) }
 {
     out.begin_object()?;
     out.key("id")?;
@@ -72,7 +101,6 @@ fn put_answer(out: &mut Writer, id: &Value, listing: &Listing) -> Result<(), All
     out.end_object()
 }
 
-/// Writes an `id`.
 fn put_id(out: &mut Writer, id: &Value) -> Result<(), AllocError>
     ensures before { out.new.before ≡ out.old.before }
     ensures adds { OnOk result (IsReplyId (view id.now)
@@ -85,7 +113,6 @@ fn put_id(out: &mut Writer, id: &Value) -> Result<(), AllocError>
     }
 }
 
-/// Writes a number.
 fn put_number(out: &mut Writer, number: &Number) -> Result<(), AllocError>
     ensures before { out.new.before ≡ out.old.before }
     ensures adds { OnOk result
@@ -98,48 +125,52 @@ fn put_number(out: &mut Writer, number: &Number) -> Result<(), AllocError>
     }
 }
 
-/// Makes the text of a refusal.
-pub fn refusal(alloc: Global, id: Value, code: Code, reason: &str) -> Result<String, AllocError>
-    ensures { IfOk result (λ text. wanted.IsTextOf (wanted.refusal (view id) code reason.now)
-        (string_bytes text)) }
+/// The text of a response with this error and message.
+pub fn error_response(
+    alloc: Global,
+    id: Value,
+    code: ErrorCode,
+    reason: &str,
+) -> Result<String, AllocError>
+    ensures { IfOk result (λ text. wanted.IsTextOf
+        (wanted.error_response (view id) code reason.now) (string_bytes text)) }
 {
-    let value = refusal_value(alloc, id, code, reason)?;
+    let value = error_value(alloc, id, code, reason)?;
     value.to_string(alloc)
 }
 
-/// Makes a refusal.
-fn refusal_value(alloc: Global, id: Value, code: Code, reason: &str) -> Result<Value, AllocError>
-    ensures { IfOk result (λ value. view value ≡ wanted.refusal (view id) code reason.now) }
+fn error_value(alloc: Global, id: Value, code: ErrorCode, reason: &str) -> Result<Value, AllocError>
+    ensures { IfOk result (λ value. view value ≡ wanted.error_response (view id) code reason.now) }
 {
     let number = number_of(code);
     json!(in alloc; {"jsonrpc": "2.0", "id": id, "error": {"code": number, "message": reason}})
 }
 
-/// Gives the number of a code.
-fn number_of(code: Code) -> i64
+/// The protocol's number of an error code.
+fn number_of(code: ErrorCode) -> i64
     ensures { of_integer result ≡ wanted.number_of code }
 {
     match code {
-        Code::ParseError => -32700,
-        Code::InvalidRequest => -32600,
-        Code::MethodNotFound => -32601,
-        Code::InvalidParams => -32602,
-        Code::ServerNotInitialized => -32002,
-        Code::RequestFailed => -32803,
+        ErrorCode::ParseError => -32700,
+        ErrorCode::InvalidRequest => -32600,
+        ErrorCode::MethodNotFound => -32601,
+        ErrorCode::InvalidParams => -32602,
+        ErrorCode::ServerNotInitialized => -32002,
+        ErrorCode::RequestFailed => -32803,
     }
 }
 
-/// Says why a message is refused.
-pub fn reason_of(code: Code) -> &'static str
+/// The usual message of an error code.
+pub fn reason_of(code: ErrorCode) -> &'static str
     ensures { result.now ≡ wanted.reason_of code }
 {
     match code {
-        Code::ParseError => "the message is no JSON",
-        Code::InvalidRequest => "no message may come here but one request of the protocol",
-        Code::MethodNotFound => "the server has no such method",
-        Code::InvalidParams =>
+        ErrorCode::ParseError => "the message is no JSON",
+        ErrorCode::InvalidRequest => "no message may come here but one request of the protocol",
+        ErrorCode::MethodNotFound => "the server has no such method",
+        ErrorCode::InvalidParams =>
             "the request lacks an open document, a position in it, or another parameter",
-        Code::ServerNotInitialized => "the session is not initialized",
-        Code::RequestFailed => "the request can't be done",
+        ErrorCode::ServerNotInitialized => "the session is not initialized",
+        ErrorCode::RequestFailed => "the request can't be done",
     }
 }

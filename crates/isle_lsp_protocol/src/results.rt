@@ -1,4 +1,4 @@
-//! The parts of what the server sends.
+//! The results of requests, and their parts.
 
 ghost use Rattle.std.specs.Prelude.{◌≡◌, IfErr, IfOk, Some};
 ghost use Rattle.serde_json.specs.Read.{read};
@@ -11,8 +11,7 @@ use isle_lsp_text::positions::{Position, Range};
 use serde_json::{Value, json, put};
 use std::alloc::{AllocError, Global};
 
-/// What the server can do: completions can be resolved, renaming can be prepared, and documents are
-/// told as they open, close and change by ranges.
+/// The result of `initialize`: the capabilities of the server.
 pub const CAPABILITIES: &str = "\
     {\"capabilities\":{\"completionProvider\":\
     {\"resolveProvider\":true,\"triggerCharacters\":[\".\",\"$\"]},\
@@ -23,7 +22,7 @@ pub const CAPABILITIES: &str = "\
     \"textDocumentSync\":{\"change\":2,\"openClose\":true},\"workspaceSymbolProvider\":true},\
     \"serverInfo\":{\"name\":\"isle-lsp\",\"version\":\"0.137.1\"}}";
 
-/// Says what the server can do. It fails only with `Memory`.
+/// The result of `initialize`. The only error is `Memory`.
 pub fn capabilities(alloc: Global) -> Result<Value, Failure>
     ensures ok { IfOk result (λ value. read CAPABILITIES.now ≡ Some (view value)) }
     ensures err { IfErr result (λ failure. failure ≡ Memory) }
@@ -34,14 +33,13 @@ pub fn capabilities(alloc: Global) -> Result<Value, Failure>
     }
 }
 
-/// Makes a position.
 fn position_value(alloc: Global, position: Position) -> Result<Value, AllocError>
     ensures { IfOk result (λ value. view value ≡ wanted.position_data position) }
 {
     json!(in alloc; {"line": position.line, "character": position.unit})
 }
 
-/// Makes a range.
+/// A range as JSON.
 pub fn range_value(alloc: Global, range: Range) -> Result<Value, AllocError>
     ensures { IfOk result (λ value. view value ≡ wanted.range_data range) }
 {
@@ -50,7 +48,7 @@ pub fn range_value(alloc: Global, range: Range) -> Result<Value, AllocError>
     json!(in alloc; {"start": start, "end": end})
 }
 
-/// Makes an edit: this text stands where the range was.
+/// An edit that replaces a range with a text.
 pub fn text_edit(alloc: Global, range: Range, text: &str) -> Result<Value, AllocError>
     ensures { IfOk result (λ value. view value ≡ wanted.text_edit range text.now) }
 {
@@ -58,9 +56,10 @@ pub fn text_edit(alloc: Global, range: Range, text: &str) -> Result<Value, Alloc
     json!(in alloc; {"range": range, "newText": text})
 }
 
-/// Makes an item of a completion that has this documentation, in Markdown, in place of what it has.
-pub fn documented(alloc: Global, item: &Value, shown: &str) -> Result<Value, AllocError>
-    ensures { IfOk result (λ value. view value ≡ wanted.documented (view item.now) shown.now) }
+/// Sets the documentation of a completion item, in Markdown.
+pub fn with_documentation(alloc: Global, item: &Value, shown: &str) -> Result<Value, AllocError>
+    ensures { IfOk result
+        (λ value. view value ≡ wanted.with_documentation (view item.now) shown.now) }
 {
     match item.clone()? {
         Value::Object(mut members) => {
@@ -72,14 +71,14 @@ pub fn documented(alloc: Global, item: &Value, shown: &str) -> Result<Value, All
     }
 }
 
-/// Makes a text in Markdown.
+/// A text in Markdown.
 fn markdown(alloc: Global, shown: &str) -> Result<Value, AllocError>
     ensures { IfOk result (λ value. view value ≡ wanted.markdown shown.now) }
 {
     json!(in alloc; {"kind": "markdown", "value": shown})
 }
 
-/// Makes what is shown of the name in a range, in Markdown.
+/// The hover of the name in a range, in Markdown.
 pub fn hover_value(alloc: Global, shown: &str, range: Range) -> Result<Value, AllocError>
     ensures { IfOk result (λ value. view value ≡ wanted.hover shown.now range) }
 {

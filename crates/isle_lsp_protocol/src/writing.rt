@@ -1,4 +1,4 @@
-//! Writing JSON token by token, so that what is written is not held as a value.
+//! Writing JSON token by token, so that it need not be held in memory as a value.
 
 ghost use Rattle.std.specs.Prelude.{◌≡◌, ◌++◌, ◌∷◌, [], OnOk, Some, decimal, string_bytes};
 ghost use Rattle.json.specs.Lex.{tokens};
@@ -15,7 +15,7 @@ use isle_lsp_text::positions::{Position, Range};
 use json::Writer;
 use std::alloc::AllocError;
 
-/// Writes the diagnostic of a warning, whose code is the name of a lint.
+/// Writes the diagnostic of a warning. Its code is the lint's name.
 #[tactic(auto, using(crate::proofs::Tokens::appended))]
 pub fn put_warning(
     out: &mut Writer,
@@ -51,7 +51,7 @@ pub fn put_error(out: &mut Writer, range: Range, message: &str) -> Result<(), Al
     out.end_object()
 }
 
-/// Writes a range, under a name.
+/// Writes a member whose value is a range.
 #[tactic(auto, using(crate::proofs::Tokens::appended))]
 pub fn put_range(out: &mut Writer, name: &str, range: Range) -> Result<(), AllocError>
     ensures before { out.new.before ≡ out.old.before }
@@ -66,7 +66,7 @@ pub fn put_range(out: &mut Writer, name: &str, range: Range) -> Result<(), Alloc
     out.end_object()
 }
 
-/// Writes a position, under a name.
+/// Writes a member whose value is a position.
 #[tactic(auto, using(crate::proofs::Tokens::appended))]
 fn put_position(out: &mut Writer, name: &str, position: Position) -> Result<(), AllocError>
     ensures before { out.new.before ≡ out.old.before }
@@ -81,7 +81,7 @@ fn put_position(out: &mut Writer, name: &str, position: Position) -> Result<(), 
     out.end_object()
 }
 
-/// Writes a number, under a name.
+/// Writes a member whose value is a number.
 pub fn put_number(out: &mut Writer, name: &str, n: usize) -> Result<(), AllocError>
     ensures before { out.new.before ≡ out.old.before }
     ensures tokens { OnOk result (out.new.tokens
@@ -92,7 +92,7 @@ pub fn put_number(out: &mut Writer, name: &str, n: usize) -> Result<(), AllocErr
     out.u64(n as u64)
 }
 
-/// Writes a text, under a name.
+/// Writes a member whose value is a string.
 pub fn put_text(out: &mut Writer, name: &str, text: &str) -> Result<(), AllocError>
     ensures before { out.new.before ≡ out.old.before }
     ensures tokens { OnOk result (out.new.tokens
@@ -102,8 +102,8 @@ pub fn put_text(out: &mut Writer, name: &str, text: &str) -> Result<(), AllocErr
     out.string(text)
 }
 
-/// Gives the text that a writer has written. Its buffer was empty before.
-pub fn written(out: Writer) -> String
+/// The text that a writer has written. Its buffer was empty at first.
+pub fn into_text(out: Writer) -> String
     requires { out.before ≡ [] }
     ensures { tokens (string_bytes result) ≡ out.tokens }
 {

@@ -14,6 +14,6 @@ written-requires c = c.in_ok-put_notification.ensures.before ∙ c.new-out.ensur
 
 pub returns : goal.returns
 returns c =
-    let d = publishing c.args.uri.now (diagnostics_data c.args.text.now (map mark_of c.args.told.now)) in
+    let d = publishing c.args.uri.now (diagnostics_data c.args.text.now (map mark_of c.args.diagnostics.now)) in
     let all = c.in_ok-put_notification.ensures.tokens ∙ ap (λ l. l ++ json_tokens (outline d)) c.new-out.ensures.tokens in
-    is_text d (string_bytes c.written.result) (adds_outline d [] (tokens (string_bytes c.written.result)) (publishing_reads c.args.uri.now c.args.text.now (omega arith) (map mark_of c.args.told.now)) (c.written.ensures ∙ all))
+    is_text d (string_bytes c.written.result) (adds_outline d [] (tokens (string_bytes c.written.result)) (publishing_reads c.args.uri.now c.args.text.now (omega arith) (map mark_of c.args.diagnostics.now)) (c.written.ensures ∙ all))
