@@ -125,8 +125,8 @@ fn failure_of(alloc: Global, fault: FrameFault) -> Failure
     ensures { FromFault fault result }
 {
     match fault {
-        FrameFault::Malformed => refusal(alloc, "a header is malformed"),
-        FrameFault::Cut => refusal(alloc, "the input ends within a message"),
+        FrameFault::Malformed => refusal(alloc, "malformed header"),
+        FrameFault::Cut => refusal(alloc, "the input ends inside a message"),
         FrameFault::TooLong => refusal(alloc, "a message is longer than 64 MiB"),
         FrameFault::Unreadable => Failure::Input,
         FrameFault::Memory => Failure::Memory,

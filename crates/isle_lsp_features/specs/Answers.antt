@@ -73,7 +73,7 @@ IsRenaming program all name new a = (answer : Result (Vec Pos) Refusal) × renam
 
 abbrev pub IsRenamingOf : List Source → List SeenNode → (name : Option NameNode) → (new : Option (List ℕ)) → Outcome → Type 0
 IsRenamingOf program all name None a = a ≡ unplaced
-IsRenamingOf program all None (Some new) a = a ≡ refused (codes "there is no name to change")
+IsRenamingOf program all None (Some new) a = a ≡ refused (codes "there is no name to rename")
 IsRenamingOf program all (Some name) (Some new) a = IsRenaming program all name new a
 
 abbrev pub IsRenamingAt : List Source → List SeenNode → Option Place → Data → Outcome → Type 0
@@ -116,7 +116,7 @@ pub record IsHeld (program : List Source) (request : requests.Request) (a : Outc
   pub read : AreParts 0 program parts
   pub some : 0 < refused_count parts
   pub rename : Renames request
-  pub is : a ≡ refused (codes "a text of the program spells no tree")
+  pub is : a ≡ refused (codes "cannot rename: a file of the workspace has a syntax error")
 
 -- what a request about the names of a program gets
 abbrev pub IsAnswer : requests.Request → List Source → Data → Outcome → Type 0

@@ -23,11 +23,11 @@ prefix_len (variable binder text) = 0
 
 -- why a name isn't changed
 abbrev pub reason_of : Refusal → List ℕ
-reason_of NotAName = codes "the new name is not one of ISLE"
-reason_of Undefined = codes "the program does not define the name"
-reason_of Variant = codes "a variant can't be renamed"
-reason_of Taken = codes "the new name is taken"
-reason_of Captured = codes "the new name would be that of another variable"
+reason_of NotAName = codes "not a valid ISLE identifier"
+reason_of Undefined = codes "the name is not defined in the workspace"
+reason_of Variant = codes "a variant cannot be renamed"
+reason_of Taken = codes "the new name is already in use"
+reason_of Captured = codes "the new name would shadow, or be shadowed by, another variable"
 
 -- the range of a place, if it is in the text of this number
 abbrev pub range_in : ℕ → List ℕ → NameNode → Pos → List Range

@@ -61,7 +61,7 @@ pub fn answer<'a>(
     if refused > 0 && matches!(request, Request::Rename | Request::PrepareRename) {
         return Ok(Outcome::Failed(
             ErrorCode::RequestFailed,
-            "a text of the program spells no tree",
+            "cannot rename: a file of the workspace has a syntax error",
         ));
     }
     Ok(answer_in(alloc, program, &index, request, message)?)

@@ -92,7 +92,7 @@ pub fn rename<'a>(
     };
     match index.name_at(alloc, place.pos)? {
         Some(name) => rename_name(alloc, program, index, &name, new),
-        None => Ok(Outcome::Failed(ErrorCode::RequestFailed, "there is no name to change")),
+        None => Ok(Outcome::Failed(ErrorCode::RequestFailed, "there is no name to rename")),
     }
 }
 
@@ -121,11 +121,11 @@ fn reason_of(refusal: Refusal) -> &'static str
     ensures { result.now ≡ wanted.reason_of refusal }
 {
     match refusal {
-        Refusal::NotAName => "the new name is not one of ISLE",
-        Refusal::Undefined => "the program does not define the name",
-        Refusal::Variant => "a variant can't be renamed",
-        Refusal::Taken => "the new name is taken",
-        Refusal::Captured => "the new name would be that of another variable",
+        Refusal::NotAName => "not a valid ISLE identifier",
+        Refusal::Undefined => "the name is not defined in the workspace",
+        Refusal::Variant => "a variant cannot be renamed",
+        Refusal::Taken => "the new name is already in use",
+        Refusal::Captured => "the new name would shadow, or be shadowed by, another variable",
     }
 }
 

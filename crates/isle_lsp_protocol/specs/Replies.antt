@@ -45,12 +45,12 @@ number_of ServerNotInitialized = negative (negsuc 32001)
 number_of RequestFailed = negative (negsuc 32802)
 
 abbrev pub reason_of : ErrorCode → List ℕ
-reason_of ParseError = codes "the message is no JSON"
-reason_of InvalidRequest = codes "no message may come here but one request of the protocol"
-reason_of MethodNotFound = codes "the server has no such method"
-reason_of InvalidParams = codes "the request lacks an open document, a position in it, or another parameter"
-reason_of ServerNotInitialized = codes "the session is not initialized"
-reason_of RequestFailed = codes "the request can't be done"
+reason_of ParseError = codes "the message is not JSON"
+reason_of InvalidRequest = codes "expected a single request"
+reason_of MethodNotFound = codes "method not found"
+reason_of InvalidParams = codes "missing or invalid parameters"
+reason_of ServerNotInitialized = codes "the server is not initialized"
+reason_of RequestFailed = codes "the request failed"
 
 abbrev pub error_response : Data → ErrorCode → List ℕ → Data
 error_response id code reason =

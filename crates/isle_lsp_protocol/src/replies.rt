@@ -165,12 +165,11 @@ pub fn reason_of(code: ErrorCode) -> &'static str
     ensures { result.now ≡ wanted.reason_of code }
 {
     match code {
-        ErrorCode::ParseError => "the message is no JSON",
-        ErrorCode::InvalidRequest => "no message may come here but one request of the protocol",
-        ErrorCode::MethodNotFound => "the server has no such method",
-        ErrorCode::InvalidParams =>
-            "the request lacks an open document, a position in it, or another parameter",
-        ErrorCode::ServerNotInitialized => "the session is not initialized",
-        ErrorCode::RequestFailed => "the request can't be done",
+        ErrorCode::ParseError => "the message is not JSON",
+        ErrorCode::InvalidRequest => "expected a single request",
+        ErrorCode::MethodNotFound => "method not found",
+        ErrorCode::InvalidParams => "missing or invalid parameters",
+        ErrorCode::ServerNotInitialized => "the server is not initialized",
+        ErrorCode::RequestFailed => "the request failed",
     }
 }
