@@ -21,15 +21,15 @@ mark_data text m = diagnostic_data_at (range_of text m.start m.end) m.lint m.mes
 abbrev pub diagnostics_data : List ℕ → List Mark → Data
 diagnostics_data text marks = array (items_of (map (mark_data text) marks))
 
--- what is told of a text; of no text, nothing
+-- the diagnostics of a text; without a text there are none
 abbrev pub AreDiagnostics : Option (List ℕ) → Data → Type 0
 AreDiagnostics None d = d ≡ array no_items
 AreDiagnostics (Some text) d = (marks : List Mark) × AreMarks text marks × (d ≡ diagnostics_data text marks)
 
--- the parameters of the notification that tells diagnostics of a document
+-- the parameters of the notification with the diagnostics of a document
 abbrev pub parameters_data : List ℕ → Data → Data
 parameters_data uri diagnostics = object (member (codes "diagnostics") diagnostics (member (codes "uri") (string uri) no_members))
 
--- what is sent of a document that has this text, or that has none
+-- the notification for a document with this text, or for one that is not open
 abbrev pub IsPublished : List ℕ → Option (List ℕ) → List ℕ → Type 0
 IsPublished uri text sent = (d : Data) × AreDiagnostics text d × IsTextOf (publishing uri d) sent

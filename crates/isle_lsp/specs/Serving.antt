@@ -1,4 +1,4 @@
--- What the server does with a message.
+-- The server's handling of a message.
 use Rattle.std.specs.Prelude.{◌≡◌, ℕ, List, [], ◌∷◌, ◌++◌, Bool, Option, None, Some, is_none, filter, map, option_and_then}
 use Rattle.serde_json.specs.Data.{Data, null}
 use Rattle.isle_lsp.specs.Documents.{Document, document, document_of, text_of, without}
@@ -22,7 +22,7 @@ use Rattle.isle_lsp.specs.Formatted.{IsFormatting}
 use Rattle.isle_lsp.specs.Published.{IsPublished}
 use Rattle.isle_lsp.specs.declared.server.Server.{Server}
 
--- what the server holds
+-- the state of the server
 pub record Held : Type 0 where
   pub state : State
   pub documents : List Document
@@ -31,9 +31,9 @@ pub record Held : Type 0 where
 abbrev pub held_of : Server → Held
 held_of s = record { state = s.state; documents = map document_of s.documents.items; files = map source_of s.files.items }
 
--- ---- what a request gets
+-- ---- requests
 
--- the text of the document that a message speaks of
+-- the text of the document that a message names
 abbrev pub document_in : Data → List Document → Option (List ℕ)
 document_in d docs = option_and_then (λ uri. text_of uri docs) (parameters.uri_of d)
 
@@ -48,15 +48,15 @@ source_at d = record { name = d.uri; text = d.text }
 abbrev pub is_closed : List Document → Source → Bool
 is_closed docs s = is_none (text_of s.name docs)
 
--- the program: the open documents, and the files that aren't open
+-- the program: the open documents, and the files that are not open
 abbrev pub program_of : List Document → List Source → List Source
 program_of docs files = map source_at docs ++ filter (is_closed docs) files
 
--- what a request about names gets
+-- the outcome of a request about names
 abbrev pub IsNamed : requests.Request → Data → Held → Outcome → Type 0
 IsNamed request d held o = names.IsAnswer request (program_of held.documents held.files) d o
 
--- what a request gets, with these parameters, where this is held
+-- the outcome of a request with these parameters, in this state
 abbrev pub IsResult : requests.Request → Data → Held → Outcome → Type 0
 IsResult Initialize d held o = (value : Data) × (read CAPABILITIES.now ≡ Some value) × (o ≡ done value)
 IsResult Shutdown d held o = o ≡ done null
@@ -68,7 +68,7 @@ abbrev pub IsResultOf : requests.Request → Option Data → Held → Outcome �
 IsResultOf request None held o = o ≡ error_outcome InvalidParams
 IsResultOf request (Some d) held o = IsResult request d held o
 
--- ---- what a notification does
+-- ---- notifications
 
 abbrev pub did_open : List ℕ → Option (List ℕ) → List Document → List Document
 did_open uri None docs = docs
@@ -78,7 +78,7 @@ abbrev pub did_change : List ℕ → Option (List ℕ) → Data → List Documen
 did_change uri None d docs = docs
 did_change uri (Some text) d docs = without uri docs ++ document uri (parameters.text_after d text) ∷ []
 
--- the documents after a notification that speaks of one
+-- the documents after a notification about one
 abbrev pub documents_noted : notifications.Notification → List ℕ → Data → List Document → List Document
 documents_noted DidOpen uri d docs = did_open uri (parameters.text_of d) docs
 documents_noted DidChange uri d docs = did_change uri (text_of uri docs) d docs
@@ -100,7 +100,7 @@ documents_after Ignore d docs = docs
 documents_after (Answer request) d docs = docs
 documents_after (Reject c) d docs = docs
 
--- the diagnostics of a document, or none where it isn't open, are published
+-- the diagnostics of a document, or none if it is not open, are published
 abbrev pub Publishes : List ℕ → List Document → Option (List ℕ) → Type 0
 Publishes uri docs sent = (text : List ℕ) × (sent ≡ Some text) × IsPublished uri (text_of uri docs) text
 
@@ -114,14 +114,14 @@ abbrev pub ReportsNamed : notifications.Notification → Option (List ℕ) → L
 ReportsNamed notification None docs sent = sent ≡ None
 ReportsNamed notification (Some uri) docs sent = Reports notification uri docs sent
 
--- ---- what is sent
+-- ---- messages to the client
 
 -- the files are read at `initialize`
 abbrev pub KeepsFiles : actions.Action → (old new : List Source) → Type 0
 KeepsFiles (Answer Initialize) old new = Unit {0}
 KeepsFiles _ old new = new ≡ old
 
--- what an action sends, after which this is held
+-- the message that an action sends, with the state after it
 abbrev pub Sends : actions.Action → Option Data → Held → Option (List ℕ) → Type 0
 Sends Ignore d held sent = sent ≡ None
 Sends (Reject c) d held sent = (text : List ℕ) × (sent ≡ Some text) × IsTextOf (replies.error_response (reply_id d) c (reason_of c)) text

@@ -15,7 +15,7 @@ ghost use Rattle.isle_lsp.specs.Published.{parameters_data, diagnostic_data_at};
 use crate::diagnostics::{Diagnostic, diagnostics};
 use isle_cli::failure::Failure;
 use isle_lint_core::Lint;
-use isle_lsp_protocol::writing::{put_error, put_text, put_warning, written};
+use isle_lsp_protocol::writing::{into_text, put_error, put_text, put_warning};
 use isle_lsp_text::positions::{Place, Range, START, place_at};
 use json::Writer;
 use std::alloc::{AllocError, Global};
@@ -48,7 +48,7 @@ fn notification(
 {
     let mut out = Writer::new(Vec::new(alloc));
     put_notification(&mut out, uri, text, diagnostics)?;
-    Ok(written(out))
+    Ok(into_text(out))
 }
 
 fn put_notification(

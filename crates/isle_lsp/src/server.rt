@@ -6,7 +6,7 @@ ghost use Rattle.serde_json.specs.View.{view};
 ghost use Rattle.isle_cli.specs.declared.failure.Failure.TheVariants.{Memory};
 ghost use Rattle.isle_lsp.specs.Documents as wanted;
 ghost use Rattle.isle_lsp.specs.Documents.{document_of};
-ghost use Rattle.isle_lsp_protocol.specs.Replies.{IsTextOf, outcome_of, reply};
+ghost use Rattle.isle_lsp_protocol.specs.Replies.{IsTextOf, outcome_of};
 ghost use Rattle.isle_lsp_protocol.specs.Parameters as parameters_of;
 ghost use Rattle.isle_lsp_protocol.specs.Replies as replies_of;
 ghost use Rattle.isle_cli.specs.Sources.{source_of};

@@ -1,4 +1,4 @@
--- What a request about the names of a program gets.
+-- The outcomes of requests about the names of a program.
 use Rattle.std.specs.Prelude.{◌≡◌, ◌<◌, ◌⊎◌, ℕ, List, Option, None, Some, Result, Ok, Err, codes}
 use Rattle.std.specs.Global.{Vec}
 use Rattle.serde_json.specs.Data.{Data, null}
@@ -26,7 +26,7 @@ use Rattle.isle_lsp_features.specs.Shown.{IsHover, IsResolved}
 use Rattle.isle_lsp_features.specs.Renamed as renamed
 use Rattle.isle_lsp_features.specs.Places.{File, Place, file_in, place_in}
 
--- the message lacks what the request needs, such as a text of the program or a place in one
+-- the message lacks a parameter of the request, such as a text of the program or a place in one
 abbrev pub unplaced : Outcome
 unplaced = error_outcome InvalidParams
 
@@ -34,7 +34,7 @@ unplaced = error_outcome InvalidParams
 abbrev pub refused : List ℕ → Outcome
 refused reason = failed RequestFailed reason
 
--- a list; null of none
+-- a list; null if there is none
 abbrev pub list_data : Option (Vec Item) → Data
 list_data None = null
 list_data (Some items) = items_data items.items
@@ -42,18 +42,18 @@ list_data (Some items) = items_data items.items
 abbrev pub list_outcome : Option (Vec Item) → Outcome
 list_outcome items = done (list_data items)
 
--- a request to change a name, or whether it can be changed
+-- a request to rename, or to prepare that
 abbrev pub Renames : requests.Request → Type 0
 Renames request = (request ≡ Rename) ⊎ (request ≡ PrepareRename)
 
--- These are all events of what is known of the program's texts, and where a name is to be changed each of them spells a tree.
+-- These are all events of the known parts of the program's texts, and if the request renames, each text spells a tree.
 pub record IsIndex (program : List Source) (request : requests.Request) (all : List SeenNode) : Type 0 where
   pub parts : List Part
   pub read : AreParts 0 program parts
   pub seen : all ≡ seen (events (all_known parts))
   pub whole : Renames request → refused_count parts ≡ 0
 
--- what is found at a place
+-- the result of a request at a place
 abbrev pub FindsAt : requests.Request → List Source → List SeenNode → Place → Data → Data → Type 0
 FindsAt AskDefinition program all p message d = IsDefinition program (name_at p.pos all) all d
 FindsAt References program all p message d = AreReferences program (wants_definitions message) (name_at p.pos all) all d
@@ -63,7 +63,7 @@ FindsAt Hover program all p message d = IsHover program p.text (name_at p.pos al
 FindsAt Completion program all p message d = AreCompletions p.pos p.text all d
 FindsAt _ program all p message d = Unit {0}
 
--- what changing a name gets, by what the index answers
+-- the outcome of renaming, from the index's answer
 abbrev pub IsRenamingBy : List Source → NameNode → List ℕ → Result (Vec Pos) Refusal → Outcome → Type 0
 IsRenamingBy program name new (Ok places) a = a ≡ done (renamed.changes program name new places.items)
 IsRenamingBy program name new (Err why) a = a ≡ refused (renamed.reason_of why)
@@ -80,7 +80,7 @@ abbrev pub IsRenamingAt : List Source → List SeenNode → Option Place → Dat
 IsRenamingAt program all None message a = a ≡ unplaced
 IsRenamingAt program all (Some p) message a = IsRenamingOf program all (name_at p.pos all) (new_name_of message) a
 
--- what a request about a place gets
+-- the outcome of a request at a place
 abbrev pub IsAnswerAt : requests.Request → List Source → List SeenNode → Place → Data → Outcome → Type 0
 IsAnswerAt request program all p message a = (d : Data) × FindsAt request program all p message d × (a ≡ done d)
 
@@ -96,7 +96,7 @@ abbrev pub IsResolution : List Source → List SeenNode → (item : Option Data)
 IsResolution program all None a = a ≡ unplaced
 IsResolution program all (Some item) a = (d : Data) × IsResolved program all (item_name item) item d × (a ≡ done d)
 
--- what a request about these events gets
+-- the outcome of a request, from these events
 abbrev pub IsAnswerOf : requests.Request → List Source → List SeenNode → Data → Outcome → Type 0
 IsAnswerOf DocumentSymbol program all message a = AreSymbols all (file_in message program) a
 IsAnswerOf AskDefinition program all message a = IsFoundAt AskDefinition program all (place_in message program) message a
@@ -110,7 +110,7 @@ IsAnswerOf ResolveCompletion program all message a = IsResolution program all (i
 IsAnswerOf WorkspaceSymbol program all message a = a ≡ done (workspace_symbols (letters_of (query_of message)) program all)
 IsAnswerOf _ program all message a = Unit {0}
 
--- no name is changed while a text of the program spells no tree
+-- nothing is renamed while a text of the program spells no tree
 pub record IsHeld (program : List Source) (request : requests.Request) (a : Outcome) : Type 0 where
   pub parts : List Part
   pub read : AreParts 0 program parts
@@ -118,6 +118,6 @@ pub record IsHeld (program : List Source) (request : requests.Request) (a : Outc
   pub rename : Renames request
   pub is : a ≡ refused (codes "cannot rename: a file of the workspace has a syntax error")
 
--- what a request about the names of a program gets
+-- the outcome of a request about the names of a program
 abbrev pub IsAnswer : requests.Request → List Source → Data → Outcome → Type 0
 IsAnswer request program message a = IsHeld program request a ⊎ ((all : List SeenNode) × IsIndex program request all × IsAnswerOf request program all message a)

@@ -1,4 +1,4 @@
--- What a client's message is, as JSON.
+-- Decoding of a client's messages.
 use Rattle.std.specs.Prelude.{◌≡◌, List, ℕ, codes, Bool, ◌||◌, Option, None, Some, is_some, bytes_eq, if◌then◌else◌, IsUtf8}
 use Rattle.serde_json.specs.Data.{Data}
 use Rattle.serde_json.specs.Find.{get, as_str, as_number, as_object}
@@ -59,7 +59,7 @@ notification_in method = named_notification (as_str method)
 abbrev pub request_in : Data → messages.Message
 request_in method = named_request (as_str method)
 
--- what an object with this method and this `id` is
+-- the message that has this method and this `id`
 abbrev pub message_with : (method id : Option Data) → messages.Message
 message_with None id = Response
 message_with (Some method) None = notification_in method

@@ -1,4 +1,4 @@
--- What an answer lists, as JSON.
+-- The items of a list in a response, as JSON.
 use Rattle.std.specs.Prelude.{ℕ, List, map, string_bytes}
 use Rattle.serde_json.specs.Data.{Data, array}
 use Rattle.serde_json.specs.View.{items_of}
@@ -9,7 +9,7 @@ use Rattle.isle_lsp_protocol.specs.declared.items.Listing.{Listing}
 use Rattle.isle_lsp_protocol.specs.declared.items.Listing.TheVariants as listings
 use Rattle.isle_lsp_text.specs.declared.positions.Range.{Range}
 
--- an edit for each range: this text in place of it
+-- an edit for each range, which this text replaces
 abbrev pub edits_data : List ℕ → List Range → Data
 edits_data text ranges = array (items_of (map (λ r. text_edit r text) ranges))
 

@@ -1,4 +1,4 @@
--- What a client's message holds.
+-- The parameters of a client's messages.
 use Rattle.std.specs.Prelude.{ℕ, List, codes, Bool, false, Option, None, Some, is_some, option_and_then, if◌then◌else◌}
 use Rattle.serde_json.specs.Data.{Data, Items, no_items, item}
 use Rattle.serde_json.specs.Find.{get, pointer, as_str, as_bool, as_number, as_object, as_u64, as_array}
@@ -6,7 +6,7 @@ use Rattle.isle_lsp_text.specs.Changes.{apply_change}
 use Rattle.isle_lsp_text.specs.declared.positions.Position.{Position}
 use Rattle.isle_lsp_text.specs.declared.positions.Range.{Range}
 
--- the name of the document
+-- the URI of the document
 abbrev pub uri_of : Data → Option (List ℕ)
 uri_of d = option_and_then as_str (pointer (codes "/params/textDocument/uri") d)
 
@@ -27,7 +27,7 @@ abbrev pub if_object : Option Data → Option Data
 if_object None = None
 if_object (Some d) = if is_some (as_object d) then Some d else None
 
--- the item of a completion that a message speaks of
+-- the completion item in a request to resolve it
 abbrev pub item_of : Data → Option Data
 item_of d = if_object (get (codes "params") d)
 
@@ -82,7 +82,7 @@ changed_by range None text = text
 changed_by None (Some new) text = apply_change text None new
 changed_by (Some range) (Some new) text = changed_within (range_in range) text new
 
--- the text after one change; what is no change of the protocol changes nothing
+-- the text after one change; a change that does not follow the protocol is ignored
 unfoldable pub text_after_one : Data → List ℕ → List ℕ
 text_after_one d text = changed_by (get (codes "range") d) (option_and_then as_str (get (codes "text") d)) text
 

@@ -1,4 +1,4 @@
--- The parts of what the server sends, as JSON.
+-- The results of requests and their parts, as JSON.
 use Rattle.std.specs.Prelude.{ℕ, List, codes}
 use Rattle.serde_json.specs.Data.{Data, null, number, unsigned, string, object, member, no_members, put}
 use Rattle.isle_lsp_text.specs.declared.positions.Position.{Position}
@@ -46,17 +46,17 @@ markdown shown = object (member (codes "kind") (string (codes "markdown")) (memb
 abbrev pub hover : List ℕ → Range → Data
 hover shown range = object (member (codes "contents") (markdown shown) (member (codes "range") (range_data range) no_members))
 
--- an item of a completion with this documentation, in place of what it has
+-- a completion item with this documentation in place of its own
 abbrev pub with_documentation : Data → List ℕ → Data
 with_documentation (object ms) shown = object (put (codes "documentation") (markdown shown) ms)
 with_documentation d shown = d
 
--- a name that may be written in place of what a range has
+-- a name that replaces a range
 abbrev pub completion_item : (name : List ℕ) → (kind : ℕ) → Range → Data
 completion_item name kind range =
     object (member (codes "kind") (number (unsigned kind)) (member (codes "label") (string name) (member (codes "textEdit") (text_edit range name) no_members)))
 
--- the document of this URI; its version is not told
+-- the document with this URI, without its version
 abbrev pub document_identifier : List ℕ → Data
 document_identifier uri = object (member (codes "uri") (string uri) (member (codes "version") null no_members))
 
