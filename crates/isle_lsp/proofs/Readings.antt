@@ -6,18 +6,18 @@ use Rattle.serde_json.specs.View.{items_of}
 use Rattle.serde_json.specs.Written.{items_outline}
 use Rattle.isle_lint_core.specs.Lint.{name}
 use Rattle.isle_lint_core.specs.declared.lint.Lint.{Lint}
-use Rattle.isle_lsp_diagnostics.specs.Diagnostics.{Mark}
-use Rattle.isle_lsp_messages.proofs.Readings.{error_reads, position_reads, range_reads, warning_reads}
-use Rattle.isle_lsp_messages.specs.Replies.{publishing}
-use Rattle.isle_lsp_messages.specs.Results.{position_data, range_data}
-use Rattle.isle_lsp_messages.specs.Written.{Reads}
+use Rattle.isle_lsp.specs.Diagnostics.{Mark}
+use Rattle.isle_lsp_protocol.proofs.Readings.{error_reads, position_reads, range_reads, warning_reads}
+use Rattle.isle_lsp_protocol.specs.Replies.{publishing}
+use Rattle.isle_lsp_protocol.specs.Results.{position_data, range_data}
+use Rattle.isle_lsp_protocol.specs.Written.{Reads}
 use Rattle.isle_lsp_text.proofs.Places.{clamped, few_lines, few_units_on}
 use Rattle.isle_lsp_text.specs.Positions.{position_at}
 use Rattle.isle_lsp_text.specs.declared.positions.Range.{Range}
 use Rattle.isle_lsp.specs.Formatted.{range_of}
-use Rattle.isle_lsp.specs.Published.{diagnostics_data, mark_data, told_at}
+use Rattle.isle_lsp.specs.Published.{diagnostics_data, mark_data, diagnostic_data_at}
 
-told_reads : (r : Range) (lint : Option Lint) (message : List ℕ) → Reads (range_data r) → Reads (told_at r lint message)
+told_reads : (r : Range) (lint : Option Lint) (message : List ℕ) → Reads (range_data r) → Reads (diagnostic_data_at r lint message)
 told_reads r None message h = error_reads r message h
 told_reads r (Some lint) message h = warning_reads r (name lint) message h
 

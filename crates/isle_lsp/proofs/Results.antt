@@ -1,9 +1,10 @@
 -- What the requests about names get.
 use Rattle.std.proofs.Common.{◌≡◌, refl}
 use Rattle.serde_json.specs.Data.{Data}
-use Rattle.isle_lsp_machine.specs.declared.Request as requests
-use Rattle.isle_lsp_machine.specs.declared.Request.TheVariants.{Initialize, Shutdown, Formatting, DocumentSymbol, WorkspaceSymbol, Definition, References, DocumentHighlight, Hover, Completion, ResolveCompletion, PrepareRename, Rename, Unknown}
-use Rattle.isle_lsp.specs.Serving.{Held, IsNamed, IsResult, Outcome}
+use Rattle.isle_lsp_protocol.specs.declared.machine.Request as requests
+use Rattle.isle_lsp_protocol.specs.declared.machine.Request.TheVariants.{Initialize, Shutdown, Formatting, DocumentSymbol, WorkspaceSymbol, Definition, References, DocumentHighlight, Hover, Completion, ResolveCompletion, PrepareRename, Rename, Unknown}
+use Rattle.isle_lsp_protocol.specs.Replies.{Outcome}
+use Rattle.isle_lsp.specs.Serving.{Held, IsNamed, IsResult}
 
 pub named_result : (request : requests.Request) (d : Data) (held : Held) (o : Outcome) → (request ≡ Initialize → ⊥) → (request ≡ Shutdown → ⊥) → (request ≡ Formatting → ⊥) → (request ≡ Unknown → ⊥) → IsNamed request d held o → IsResult request d held o
 named_result Initialize d held o a b c e n = absurd (a refl)

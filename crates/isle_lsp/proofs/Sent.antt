@@ -1,8 +1,8 @@
 -- What is sent of a document, from what is told of its text.
 use Rattle.std.proofs.Common.{◌≡◌, ℕ, List, Some, map, refl, subst, sym}
-use Rattle.isle_lsp_diagnostics.specs.Diagnostics.{AreMarks, mark_of}
-use Rattle.isle_lsp_diagnostics.specs.declared.Diagnostic.{Diagnostic}
-use Rattle.isle_lsp_messages.specs.Replies.{IsTextOf, publishing}
+use Rattle.isle_lsp.specs.Diagnostics.{AreMarks, mark_of}
+use Rattle.isle_lsp.specs.declared.diagnostics.Diagnostic.{Diagnostic}
+use Rattle.isle_lsp_protocol.specs.Replies.{IsTextOf, publishing}
 use Rattle.isle_lsp.specs.Published.{IsPublished, diagnostics_data}
 
 pub told_published : (uri text sent : List ℕ) (given told : List Diagnostic) → given ≡ told → AreMarks text (map mark_of told) →

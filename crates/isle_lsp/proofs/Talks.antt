@@ -8,17 +8,17 @@ use Rattle.isle_cli.specs.Streams.{AppendsBeginning}
 use Rattle.isle_cli.specs.declared.failure.Failure.{Failure}
 use Rattle.isle_cli.specs.declared.failure.Failure.TheVariants.{Refused, Usage, Input, Memory, Output}
 use Rattle.isle_cli.proofs.StreamLemmas.{AppendsBeginning-behind}
-use Rattle.isle_lsp_frames.specs.Frames.{frame, frame_at, Fails}
-use Rattle.isle_lsp_frames.specs.declared.FrameFault.{FrameFault}
-use Rattle.isle_lsp_frames.specs.declared.FrameFault.TheVariants as faults
-use Rattle.isle_lsp_frames.proofs.Whole.{none_at_end}
-use Rattle.isle_lsp_machine.specs.declared.State.{State}
-use Rattle.isle_lsp_machine.specs.declared.State.TheVariants.{Fresh, Running, ShutDown, Ended, Aborted}
+use Rattle.isle_lsp_protocol.specs.Frames.{frame, frame_at, Fails}
+use Rattle.isle_lsp_protocol.specs.declared.frames.FrameFault.{FrameFault}
+use Rattle.isle_lsp_protocol.specs.declared.frames.FrameFault.TheVariants as faults
+use Rattle.isle_lsp_protocol.proofs.Whole.{none_at_end}
+use Rattle.isle_lsp_protocol.specs.declared.machine.State.{State}
+use Rattle.isle_lsp_protocol.specs.declared.machine.State.TheVariants.{Fresh, Running, ShutDown, Ended, Aborted}
 use Rattle.serde_json.specs.Data.{Data}
 use Rattle.std.specs.declared.alloc.Global.{Global}
-use Rattle.isle_lsp_machine.specs.Machine.{next_state, turn_of}
-use Rattle.isle_lsp_machine.specs.declared.Turn.{Turn}
-use Rattle.isle_lsp_messages.specs.Decoding.{Decodes, message_in}
+use Rattle.isle_lsp_protocol.specs.Machine.{next_state, action_of}
+use Rattle.isle_lsp_protocol.specs.declared.machine.Action.{Action}
+use Rattle.isle_lsp_protocol.specs.Decoding.{Decodes, message_in}
 use Rattle.isle_lsp.specs.Serving.{Held, KeepsFiles, Sends, documents_after}
 use Rattle.isle_lsp.specs.Conversations.{Answers, AnswersAs, Conversation, Converses, EndsAs, Explains, FromFault, IsCut, IsEarly, IsOver, IsRefusal, IsShort, Ran, StopsAt, answered, begun, frames, nothing}
 
@@ -31,8 +31,8 @@ appends_none None = tt
 appends_none (Some x) = sym (append-nil x)
 
 -- what is done with a message
-pub prepared : {E : Type 0} (old new : Held) (body : List ℕ) (json : Option Data) (state : State) (turn : Turn) (r : Result (Option (String Global)) E) → Decodes body json → state ≡ next_state old.state (message_in json) → turn ≡ turn_of old.state (message_in json) → new.state ≡ state → OnOk r (new.documents ≡ documents_after turn json old.documents) → OnOk r (KeepsFiles turn old.files new.files) → IfOk r (λ sent. Sends turn json new (option_map string_bytes sent)) → IfOk r (λ sent. Answers old body new (option_map string_bytes sent))
-prepared old new body json state turn (Ok sent) d s t n docs files sends =
+pub prepared : {E : Type 0} (old new : Held) (body : List ℕ) (json : Option Data) (state : State) (action : Action) (r : Result (Option (String Global)) E) → Decodes body json → state ≡ next_state old.state (message_in json) → action ≡ action_of old.state (message_in json) → new.state ≡ state → OnOk r (new.documents ≡ documents_after action json old.documents) → OnOk r (KeepsFiles action old.files new.files) → IfOk r (λ sent. Sends action json new (option_map string_bytes sent)) → IfOk r (λ sent. Answers old body new (option_map string_bytes sent))
+prepared old new body json state action (Ok sent) d s t n docs files sends =
     record {
       json = json;
       decodes = d;
@@ -41,7 +41,7 @@ prepared old new body json state turn (Ok sent) d s t n docs files sends =
       files = subst (λ u. KeepsFiles u old.files new.files) t files;
       sends = subst (λ u. Sends u json new (option_map string_bytes sent)) t sends;
     }
-prepared old new body json state turn (Err e) d s t n docs files sends = tt
+prepared old new body json state action (Err e) d s t n docs files sends = tt
 
 -- the answer is written, or a beginning of it
 pub answers_as : (old new : Held) (body text : List ℕ) (before after : Option (List ℕ)) → Answers old body new (Some text) → Appends before after (frame text) → AnswersAs old body new before after

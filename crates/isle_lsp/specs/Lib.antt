@@ -1,4 +1,6 @@
 pub mod Conversations
+pub mod Diagnostics
+pub mod Documents
 pub mod Formatted
 pub mod Published
 pub mod Serving

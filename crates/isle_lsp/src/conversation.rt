@@ -1,4 +1,4 @@
-//! A conversation with an editor, over any reader and any two writers.
+//! The main loop of a session with an editor, over any reader and any two writers.
 
 ghost use Rattle.std.specs.Prelude.{◌≡◌, ◌⊎◌, ◌≤◌, ℕ, IfErr, IfOk, List, OnErr, OnOk, Some};
 ghost use Rattle.std.specs.Prelude.{option_map, string_bytes};
@@ -9,17 +9,17 @@ ghost use Rattle.isle_lsp.specs.Conversations.{IsOver, IsRefusal, Ran, StopsAt};
 ghost use Rattle.isle_lsp.specs.Serving.{held_of};
 
 use crate::program::PROGRAM;
-use crate::server::{Server, take_turn};
+use crate::server::{Server, handle};
 use isle_cli::failure::Failure;
 use isle_cli::program::report;
-use isle_lsp_frames::{FrameFault, read_frame, write_frame};
-use isle_lsp_machine::{State, step};
-use isle_lsp_messages::decoding::{decode, message_in};
+use isle_lsp_protocol::decoding::{decode, message_in};
+use isle_lsp_protocol::frames::{FrameFault, read_frame, write_frame};
+use isle_lsp_protocol::machine::{State, step};
 use std::alloc::Global;
 use std::fs::Files;
 use std::io::{BufRead, Write};
 
-/// Answers messages until `exit`, and gives the status.
+/// Runs the session until `exit` or the end of the input, and returns the exit status.
 pub fn converse<R: Files + AllocGlobal + Clone + Drop, I: BufRead, W: Write, E: Write>(
     rt: &R,
     input: &mut I,
@@ -30,14 +30,14 @@ pub fn converse<R: Files + AllocGlobal + Clone + Drop, I: BufRead, W: Write, E: 
     ensures told { (bytes : List ℕ) → I.remaining input.old ≡ Some bytes → Converses bytes result
         (I.remaining input.new) (W.contents output.old) (W.contents output.new) }
 {
-    match serve(rt, input, output) {
-        Ok(state) => ended(rt.alloc(), state, faults),
+    match main_loop(rt, input, output) {
+        Ok(state) => end_status(rt.alloc(), state, faults),
         Err(failure) => report(&PROGRAM, &failure, faults),
     }
 }
 
-/// Gives the status of a conversation that ended in this state.
-fn ended<E: Write>(alloc: Global, state: State, faults: &mut E) -> u8
+/// The exit status of a session that ended in this state.
+fn end_status<E: Write>(alloc: Global, state: State, faults: &mut E) -> u8
     ensures statuses { result ≤ 5 }
     ensures state { EndsAs state result }
 {
@@ -47,7 +47,7 @@ fn ended<E: Write>(alloc: Global, state: State, faults: &mut E) -> u8
         State::Fresh | State::Running | State::ShutDown => {
             report(
                 &PROGRAM,
-                &refused(alloc, "the input ends before `exit`"),
+                &refusal(alloc, "the input ends before `exit`"),
                 faults,
             )
         }
@@ -55,7 +55,7 @@ fn ended<E: Write>(alloc: Global, state: State, faults: &mut E) -> u8
 }
 
 /// Answers one message after another, until `exit` or the end of the input.
-fn serve<R: Files + AllocGlobal + Clone + Drop, I: BufRead, W: Write>(
+fn main_loop<R: Files + AllocGlobal + Clone + Drop, I: BufRead, W: Write>(
     rt: &R,
     input: &mut I,
     output: &mut W,
@@ -76,7 +76,7 @@ fn serve<R: Files + AllocGlobal + Clone + Drop, I: BufRead, W: Write>(
             Ok(None) => return Ok(server.state),
             Err(fault) => return Err(failure_of(rt.alloc(), fault)),
         };
-        answer(rt, &mut server, body, output)?;
+        answer_message(rt, &mut server, body, output)?;
         if matches!(server.state, State::Ended | State::Aborted) {
             return Ok(server.state);
         }
@@ -84,8 +84,8 @@ fn serve<R: Files + AllocGlobal + Clone + Drop, I: BufRead, W: Write>(
     Err(Failure::Input)
 }
 
-/// Answers a message, if it wants an answer.
-fn answer<R: Files + AllocGlobal + Clone + Drop, W: Write>(
+/// Handles a message, and writes the answer, if any.
+fn answer_message<R: Files + AllocGlobal + Clone + Drop, W: Write>(
     rt: &R,
     server: &mut Server,
     body: Vec<u8>,
@@ -97,14 +97,14 @@ fn answer<R: Files + AllocGlobal + Clone + Drop, W: Write>(
         (W.contents output.old) (W.contents output.new)) }
     ensures kind { IfErr result (λ failure. (failure ≡ Memory) ⊎ (failure ≡ Output)) }
 {
-    match prepared(rt, server, body)? {
+    match handle_message(rt, server, body)? {
         Some(text) => write_frame(rt.alloc(), output, text.as_bytes()),
         None => Ok(()),
     }
 }
 
-/// Does what is to be done with a message, and gives the text to send, if there is one.
-fn prepared<R: Files + AllocGlobal + Clone + Drop>(
+/// Handles a message, and returns the text to send, if any.
+fn handle_message<R: Files + AllocGlobal + Clone + Drop>(
     rt: &R,
     server: &mut Server,
     body: Vec<u8>,
@@ -115,26 +115,26 @@ fn prepared<R: Files + AllocGlobal + Clone + Drop>(
 {
     let message = decode(rt.alloc(), body.as_slice())?;
     drop(body);
-    let (state, turn) = step(server.state, message_in(&message));
+    let (state, action) = step(server.state, message_in(&message));
     server.state = state;
-    take_turn(rt, server, turn, &message)
+    handle(rt, server, action, &message)
 }
 
-/// Why a conversation ends at a message that can't be read.
+/// The failure of a session at a message that cannot be read.
 fn failure_of(alloc: Global, fault: FrameFault) -> Failure
     ensures { FromFault fault result }
 {
     match fault {
-        FrameFault::Malformed => refused(alloc, "a header is malformed"),
-        FrameFault::Cut => refused(alloc, "the input ends within a message"),
-        FrameFault::TooLong => refused(alloc, "a message is longer than 64 MiB"),
+        FrameFault::Malformed => refusal(alloc, "malformed header"),
+        FrameFault::Cut => refusal(alloc, "the input ends inside a message"),
+        FrameFault::TooLong => refusal(alloc, "a message is longer than 64 MiB"),
         FrameFault::Unreadable => Failure::Input,
         FrameFault::Memory => Failure::Memory,
     }
 }
 
-/// The failure of an input that isn't the protocol's.
-fn refused(alloc: Global, reason: &str) -> Failure
+/// The failure of a session whose input does not follow the protocol.
+fn refusal(alloc: Global, reason: &str) -> Failure
     ensures { IsRefusal result }
 {
     match format!(in alloc; "{}: {reason}\n", PROGRAM.name) {

@@ -1,4 +1,4 @@
-//! The edits that tidy a document.
+//! The edits that format a document.
 
 ghost use Rattle.std.specs.Prelude.{◌≡◌, IfErr, IfOk};
 ghost use Rattle.serde_json.specs.View.{view};
@@ -9,14 +9,14 @@ ghost use Rattle.isle_lsp.specs.Formatted.{IsChange, IsFormatting, edit_data, ed
 
 use isle_base::lexer::Fault;
 use isle_cli::failure::Failure;
-use isle_lsp_messages::results::text_edit;
-use isle_lsp_text::edits::{Edit, edits, put_in};
+use isle_lsp_protocol::results::text_edit;
+use isle_lsp_text::edits::{Edit, edits, replacement};
 use isle_lsp_text::positions::{Place, Range, START, place_at};
 use isle_tidy_core::tidy;
 use serde_json::Value;
 use std::alloc::{AllocError, Global};
 
-/// Gives the edits that make a text the tidy text, or null where it has none.
+/// The edits that format a text, or null if it cannot be formatted. The only error is `Memory`.
 pub fn formatting(alloc: Global, text: &str) -> Result<Value, Failure>
     ensures ok { IfOk result (λ value. IsFormatting text.now (view value)) }
     ensures err { IfErr result (λ failure. failure ≡ Memory) }
@@ -28,7 +28,7 @@ pub fn formatting(alloc: Global, text: &str) -> Result<Value, Failure>
     }
 }
 
-/// Gives the edits that make a text another.
+/// The edits that turn one text into another.
 fn edits_between(alloc: Global, old: &str, new: &str) -> Result<Value, AllocError>
     ensures { IfOk result (λ value. IsChange old.now new.now (view value)) }
 {
@@ -36,7 +36,7 @@ fn edits_between(alloc: Global, old: &str, new: &str) -> Result<Value, AllocErro
     edits_value(alloc, old, new, &edits)
 }
 
-/// Gives edits, each at its range.
+/// Edits as JSON, each at its range.
 fn edits_value(alloc: Global, old: &str, new: &str, edits: &[Edit]) -> Result<Value, AllocError>
     requires { AreEdits 0 edits.now old.now new.now }
     ensures { IfOk result (λ value. view value ≡ edits_data old.now new.now edits.now) }
@@ -51,7 +51,7 @@ fn edits_value(alloc: Global, old: &str, new: &str, edits: &[Edit]) -> Result<Va
     Ok(Value::Array(values))
 }
 
-/// Gives an edit at its range, and the place where the range ends.
+/// An edit as JSON, and the place where its range ends.
 fn edit_value(
     alloc: Global,
     old: &str,
@@ -70,6 +70,6 @@ fn edit_value(
         start: start.position,
         end: end.position,
     };
-    let value = text_edit(alloc, range, put_in(edit, new))?;
+    let value = text_edit(alloc, range, replacement(edit, new))?;
     Ok((value, end))
 }

@@ -2,6 +2,8 @@
 #![tactic(auto)]
 
 mod conversation;
+mod diagnostics;
+mod documents;
 mod formatting;
 mod program;
 mod published;

@@ -1,4 +1,4 @@
-//! The diagnostics of a document, as the text that tells them.
+//! The notification that publishes the diagnostics of a document.
 
 ghost use Rattle.std.specs.Prelude.{◌≡◌, ◌++◌, ◌∷◌, IfErr, IfOk, OnOk, codes, map, option_map};
 ghost use Rattle.std.specs.Prelude.{string_bytes};
@@ -6,130 +6,133 @@ ghost use Rattle.json.specs.Token.{key};
 ghost use Rattle.json.specs.Tree.{json_tokens};
 ghost use Rattle.serde_json.specs.Written.{outline};
 ghost use Rattle.isle_cli.specs.declared.failure.Failure.TheVariants.{Memory};
-ghost use Rattle.isle_lsp_diagnostics.specs.Diagnostics.{mark_of};
-ghost use Rattle.isle_lsp_messages.specs.Replies.{IsTextOf, publishing};
+ghost use Rattle.isle_lsp.specs.Diagnostics.{mark_of};
+ghost use Rattle.isle_lsp_protocol.specs.Replies.{IsTextOf, publishing};
 ghost use Rattle.isle_lsp_text.specs.Positions.{IsPlace};
 ghost use Rattle.isle_lsp.specs.Published.{IsPublished, diagnostics_data, mark_data};
-ghost use Rattle.isle_lsp.specs.Published.{parameters_data, told_at};
+ghost use Rattle.isle_lsp.specs.Published.{parameters_data, diagnostic_data_at};
 
+use crate::diagnostics::{Diagnostic, diagnostics};
 use isle_cli::failure::Failure;
 use isle_lint_core::Lint;
-use isle_lsp_diagnostics::{Diagnostic, diagnostics};
-use isle_lsp_messages::writing::{put_error, put_text, put_warning, written};
+use isle_lsp_protocol::writing::{into_text, put_error, put_text, put_warning};
 use isle_lsp_text::positions::{Place, Range, START, place_at};
 use json::Writer;
 use std::alloc::{AllocError, Global};
 
-/// Makes the text of the notification that tells the diagnostics of a document that has this text;
-/// of no text, that there are none.
-pub fn published_text(alloc: Global, uri: &str, text: Option<&str>) -> Result<String, Failure>
+/// The text of the notification with the diagnostics of a document. Without a text there are none.
+/// The only error is `Memory`.
+pub fn publish_diagnostics(alloc: Global, uri: &str, text: Option<&str>) -> Result<String, Failure>
     ensures ok { IfOk result (λ sent. IsPublished uri.now (option_map (λ t. t.now) text.entry)
         (string_bytes sent)) }
     ensures err { IfErr result (λ failure. failure ≡ Memory) }
 {
     match text {
         Some(text) => {
-            let told = diagnostics(alloc, text)?;
-            Ok(notification(alloc, uri, text, &told)?)
+            let found = diagnostics(alloc, text)?;
+            Ok(notification(alloc, uri, text, &found)?)
         }
         None => Ok(notification(alloc, uri, "", &[])?),
     }
 }
 
-/// Makes the text of the notification that tells diagnostics of a text.
+/// The text of the notification with these diagnostics.
 fn notification(
     alloc: Global,
     uri: &str,
     text: &str,
-    told: &[Diagnostic],
+    diagnostics: &[Diagnostic],
 ) -> Result<String, AllocError>
     ensures { IfOk result (λ sent. IsTextOf (publishing uri.now
-        (diagnostics_data text.now (map mark_of told.now))) (string_bytes sent)) }
+        (diagnostics_data text.now (map mark_of diagnostics.now))) (string_bytes sent)) }
 {
     let mut out = Writer::new(Vec::new(alloc));
-    put_notification(&mut out, uri, text, told)?;
-    Ok(written(out))
+    put_notification(&mut out, uri, text, diagnostics)?;
+    Ok(into_text(out))
 }
 
-/// Writes the notification.
 fn put_notification(
     out: &mut Writer,
     uri: &str,
     text: &str,
-    told: &[Diagnostic],
+    diagnostics: &[Diagnostic],
 ) -> Result<(), AllocError>
     ensures before { out.new.before ≡ out.old.before }
     ensures tokens { OnOk result (out.new.tokens ≡ out.old.tokens
         ++ json_tokens (outline (publishing uri.now
-        (diagnostics_data text.now (map mark_of told.now))))) }
+        (diagnostics_data text.now (map mark_of diagnostics.now))))) }
 {
     out.begin_object()?;
     put_text(out, "jsonrpc", "2.0")?;
     put_text(out, "method", "textDocument/publishDiagnostics")?;
-    put_parameters(out, uri, text, told)?;
+    put_parameters(out, uri, text, diagnostics)?;
     out.end_object()
 }
 
-/// Writes its parameters, under their name.
+/// Writes the member `params`.
 fn put_parameters(
     out: &mut Writer,
     uri: &str,
     text: &str,
-    told: &[Diagnostic],
+    diagnostics: &[Diagnostic],
 ) -> Result<(), AllocError>
     ensures before { out.new.before ≡ out.old.before }
     ensures tokens { OnOk result (out.new.tokens ≡ out.old.tokens
         ++ key (codes "params") ∷ json_tokens (outline (parameters_data uri.now
-        (diagnostics_data text.now (map mark_of told.now))))) }
+        (diagnostics_data text.now (map mark_of diagnostics.now))))) }
 {
     out.key("params")?;
     out.begin_object()?;
-    put_all(out, text, told)?;
+    put_diagnostics(out, text, diagnostics)?;
     put_text(out, "uri", uri)?;
     out.end_object()
 }
 
-/// Writes diagnostics, each at its range, under their name.
-fn put_all(out: &mut Writer, text: &str, told: &[Diagnostic]) -> Result<(), AllocError>
+/// Writes the member `diagnostics`, with each diagnostic at its range.
+fn put_diagnostics(
+    out: &mut Writer,
+    text: &str,
+    diagnostics: &[Diagnostic],
+) -> Result<(), AllocError>
     ensures before { out.new.before ≡ out.old.before }
     ensures tokens { OnOk result (out.new.tokens ≡ out.old.tokens
         ++ key (codes "diagnostics") ∷ json_tokens (outline
-        (diagnostics_data text.now (map mark_of told.now)))) }
+        (diagnostics_data text.now (map mark_of diagnostics.now)))) }
 {
     out.key("diagnostics")?;
     out.begin_array()?;
     let mut place = START;
-    for diagnostic in told {
-        place = put_one(out, text, diagnostic, place)?;
+    for diagnostic in diagnostics {
+        place = put_diagnostic(out, text, diagnostic, place)?;
     }
     out.end_array()
 }
 
-/// Writes a diagnostic at its range, and gives the place where the range begins.
-fn put_one(
+/// Writes a diagnostic at its range, and returns the place where the range begins.
+fn put_diagnostic(
     out: &mut Writer,
     text: &str,
-    told: &Diagnostic,
+    diagnostic: &Diagnostic,
     nearby: Place,
 ) -> Result<Place, AllocError>
     requires { IsPlace text.now nearby }
     ensures before { out.new.before ≡ out.old.before }
     ensures tokens { OnOk result (out.new.tokens ≡ out.old.tokens
-        ++ json_tokens (outline (mark_data text.now (mark_of told.now)))) }
+        ++ json_tokens (outline (mark_data text.now (mark_of diagnostic.now)))) }
     ensures place { IfOk result (IsPlace text.now) }
 {
-    let start = place_at(text, nearby, told.start);
-    let end = place_at(text, start, told.end);
+    let start = place_at(text, nearby, diagnostic.start);
+    let end = place_at(text, start, diagnostic.end);
     let range = Range {
         start: start.position,
         end: end.position,
     };
-    put_told(out, range, told.lint, told.message.as_str())?;
+    put_at(out, range, diagnostic.lint, diagnostic.message.as_str())?;
     Ok(start)
 }
 
-/// Writes what is told of a range.
-fn put_told(
+/// Writes a diagnostic of a range: a warning if a lint found it, and otherwise an error.
+fn put_at(
     out: &mut Writer,
     range: Range,
     lint: Option<Lint>,
@@ -137,7 +140,7 @@ fn put_told(
 ) -> Result<(), AllocError>
     ensures before { out.new.before ≡ out.old.before }
     ensures tokens { OnOk result (out.new.tokens ≡ out.old.tokens
-        ++ json_tokens (outline (told_at range lint message.now))) }
+        ++ json_tokens (outline (diagnostic_data_at range lint message.now))) }
 {
     match lint {
         Some(lint) => put_warning(out, range, lint.name(), message),

@@ -1,54 +1,52 @@
-//! What the server holds, and what it does with a message.
+//! The state of the server, and its handlers of messages.
 
 ghost use Rattle.std.specs.Prelude.{◌≡◌, IfErr, IfOk, OnOk, Some, map, option_and_then, option_map};
 ghost use Rattle.std.specs.Prelude.{string_bytes};
 ghost use Rattle.serde_json.specs.View.{view};
 ghost use Rattle.isle_cli.specs.declared.failure.Failure.TheVariants.{Memory};
-ghost use Rattle.isle_lsp_documents.specs.Documents as wanted;
-ghost use Rattle.isle_lsp_documents.specs.Documents.{document_of};
-ghost use Rattle.isle_lsp_messages.specs.Replies.{IsReplyId, IsTextOf};
-ghost use Rattle.isle_lsp_messages.specs.Parameters as parameters_of;
-ghost use Rattle.isle_lsp_messages.specs.Replies as replies_of;
+ghost use Rattle.isle_lsp.specs.Documents as wanted;
+ghost use Rattle.isle_lsp.specs.Documents.{document_of};
+ghost use Rattle.isle_lsp_protocol.specs.Replies.{IsTextOf, outcome_of};
+ghost use Rattle.isle_lsp_protocol.specs.Parameters as parameters_of;
+ghost use Rattle.isle_lsp_protocol.specs.Replies as replies_of;
 ghost use Rattle.isle_cli.specs.Sources.{source_of};
-ghost use Rattle.isle_lsp_features.specs.Answers.{answer_of};
 ghost use Rattle.isle_lsp_features.specs.Programs as programs;
 ghost use Rattle.isle_lsp.specs.Conversations.{nothing};
 ghost use Rattle.isle_lsp.specs.Serving as serving;
 ghost use Rattle.isle_lsp.specs.Serving.{IsNamed, IsResult, IsResultOf, KeepsFiles, Publishes};
-ghost use Rattle.isle_lsp.specs.Serving.{Sends, Tells};
-ghost use Rattle.isle_lsp.specs.Serving.{documents_after, documents_after_note, documents_noted};
-ghost use Rattle.isle_lsp.specs.Serving.{document_in, held_of, outcome_of, reply};
+ghost use Rattle.isle_lsp.specs.Serving.{Reports, Sends};
+ghost use Rattle.isle_lsp.specs.Serving.{document_in, documents_after, documents_noted, held_of};
+ghost use Rattle.isle_lsp.specs.Serving.{documents_after_notification};
 
+use crate::documents::{Document, close, open, text_of};
 use crate::formatting::formatting;
-use crate::published::published_text;
+use crate::published::publish_diagnostics;
 use crate::workspace::workspace_files;
 use isle_cli::failure::Failure;
 use isle_cli::sources::Source;
-use isle_lsp_documents::{Document, close, open, text_of};
-use isle_lsp_features::{Text, Told};
-use isle_lsp_machine::{Code, Notice, Request, State, Turn};
-use isle_lsp_messages::items::Listing;
-use isle_lsp_messages::parameters::{root_of, text_after, uri_of};
-use isle_lsp_messages::replies::{reason_of, reply_id};
-use isle_lsp_messages::results::capabilities;
-use isle_lsp_messages::{parameters, replies};
+use isle_lsp_features::Text;
+use isle_lsp_protocol::machine::{Action, ErrorCode, Notification, Request, State};
+use isle_lsp_protocol::parameters::{root_of, text_after, uri_of};
+use isle_lsp_protocol::replies::{Outcome, error_outcome, reason_of, reply_id};
+use isle_lsp_protocol::results::capabilities;
+use isle_lsp_protocol::{parameters, replies};
 use serde_json::Value;
 use std::alloc::{AllocError, Global};
 use std::fs::Files;
 
-/// What the server holds.
+/// The state of the server.
 #[derive(Drop)]
 pub struct Server {
-    /// Where the session stands.
+    /// The state of the session.
     pub state: State,
     /// The open documents.
     pub documents: Vec<Document>,
-    /// The files of the folder that the editor works in, as they were at `initialize`.
+    /// The files in the editor's folder, as they were at `initialize`.
     pub files: Vec<Source>,
 }
 
 impl Server {
-    /// Gives a server that has heard nothing.
+    /// A server that has not received a message.
     pub fn new(alloc: Global) -> Server
         ensures { held_of result ≡ nothing }
     {
@@ -60,50 +58,40 @@ impl Server {
     }
 }
 
-/// What a request gets.
-#[derive(Drop)]
-pub enum Outcome<'a> {
-    /// What it asks for.
-    Done(Value),
-    /// What it asks for, as a list.
-    Listed(Listing<'a>),
-    /// A refusal, and why.
-    Failed(Code, &'static str),
-}
-
-/// Does what is to be done with a message, and gives the text to send, if there is one.
-///
-/// It fails only with `Memory`.
-pub fn take_turn<R: Files + AllocGlobal + Clone + Drop>(
+/// Performs an action on a message, and returns the text to send, if any. The only error is
+/// `Memory`.
+pub fn handle<R: Files + AllocGlobal + Clone + Drop>(
     rt: &R,
     server: &mut Server,
-    turn: Turn,
+    action: Action,
     message: &Option<Value>,
 ) -> Result<Option<String>, Failure>
     ensures state { server.new.state ≡ server.old.state }
     ensures documents { OnOk result (map document_of server.new.documents.items
-        ≡ documents_after turn (option_map view message.now)
+        ≡ documents_after action (option_map view message.now)
         (map document_of server.old.documents.items)) }
-    ensures files { OnOk result (KeepsFiles turn (map source_of server.old.files.items)
+    ensures files { OnOk result (KeepsFiles action (map source_of server.old.files.items)
         (map source_of server.new.files.items)) }
-    ensures sends { IfOk result (λ sent. Sends turn (option_map view message.now)
+    ensures sends { IfOk result (λ sent. Sends action (option_map view message.now)
         (held_of server.new) (option_map string_bytes sent)) }
     ensures err { IfErr result (λ failure. failure ≡ Memory) }
 {
-    match turn {
-        Turn::Pass => Ok(None),
-        Turn::Refuse(code) => Ok(Some(refusal(rt.alloc(), message, code)?)),
-        Turn::Note(notice) => note(rt.alloc(), &mut server.documents, notice, message),
-        Turn::Answer(Request::Initialize) => {
-            server.files = files_for(rt, message)?;
-            Ok(Some(answer(rt.alloc(), server, Request::Initialize, message)?))
+    match action {
+        Action::Ignore => Ok(None),
+        Action::Reject(code) => Ok(Some(error_response(rt.alloc(), message, code)?)),
+        Action::Handle(notification) => {
+            handle_notification(rt.alloc(), &mut server.documents, notification, message)
         }
-        Turn::Answer(request) => Ok(Some(answer(rt.alloc(), server, request, message)?)),
+        Action::Answer(Request::Initialize) => {
+            server.files = initial_files(rt, message)?;
+            Ok(Some(response(rt.alloc(), server, Request::Initialize, message)?))
+        }
+        Action::Answer(request) => Ok(Some(response(rt.alloc(), server, request, message)?)),
     }
 }
 
-/// Reads the files of the folder that a message speaks of.
-fn files_for<R: Files + AllocGlobal + Clone + Drop>(
+/// Reads the files in the folder that `initialize` names.
+fn initial_files<R: Files + AllocGlobal + Clone + Drop>(
     rt: &R,
     message: &Option<Value>,
 ) -> Result<Vec<Source>, Failure>
@@ -118,89 +106,94 @@ fn files_for<R: Files + AllocGlobal + Clone + Drop>(
     }
 }
 
-/// Makes the text of a refusal.
-fn refusal(alloc: Global, message: &Option<Value>, code: Code) -> Result<String, AllocError>
-    ensures { IfOk result (λ text. IsTextOf (replies_of.refusal
+/// The text of an error response to a message.
+fn error_response(
+    alloc: Global,
+    message: &Option<Value>,
+    code: ErrorCode,
+) -> Result<String, AllocError>
+    ensures { IfOk result (λ text. IsTextOf (replies_of.error_response
         (replies_of.reply_id (option_map view message.now)) code (replies_of.reason_of code))
         (string_bytes text)) }
 {
     let id = reply_id(message)?;
-    replies::refusal(alloc, id, code, reason_of(code))
+    replies::error_response(alloc, id, code, reason_of(code))
 }
 
-/// Takes note of a notification, and gives the text to send, if there is one.
-fn note(
+/// Handles a notification, and returns the text to send, if any.
+fn handle_notification(
     alloc: Global,
     documents: &mut Vec<Document>,
-    notice: Notice,
+    notification: Notification,
     message: &Option<Value>,
 ) -> Result<Option<String>, Failure>
     ensures documents { OnOk result (map document_of documents.new.items
-        ≡ documents_after_note notice (option_map view message.now)
+        ≡ documents_after_notification notification (option_map view message.now)
         (map document_of documents.old.items)) }
-    ensures sends { IfOk result (λ sent. serving.TellsNamed notice
+    ensures sends { IfOk result (λ sent. serving.ReportsNamed notification
         (option_and_then parameters_of.uri_of (option_map view message.now))
         (map document_of documents.new.items) (option_map string_bytes sent)) }
     ensures err { IfErr result (λ failure. failure ≡ Memory) }
 {
     match message {
         Some(message) => match uri_of(message) {
-            Some(uri) => note_of(alloc, documents, notice, uri, message),
+            Some(uri) => handle_for(alloc, documents, notification, uri, message),
             None => Ok(None),
         },
         None => Ok(None),
     }
 }
 
-/// Takes note of a notification that speaks of a document.
-fn note_of(
+/// Handles a notification about a document.
+fn handle_for(
     alloc: Global,
     documents: &mut Vec<Document>,
-    notice: Notice,
+    notification: Notification,
     uri: &str,
     message: &Value,
 ) -> Result<Option<String>, Failure>
     ensures documents { OnOk result (map document_of documents.new.items
-        ≡ documents_noted notice uri.now (view message.now) (map document_of documents.old.items)) }
-    ensures sends { IfOk result (λ sent. Tells notice uri.now
+        ≡ documents_noted notification uri.now (view message.now)
+        (map document_of documents.old.items)) }
+    ensures sends { IfOk result (λ sent. Reports notification uri.now
         (map document_of documents.new.items) (option_map string_bytes sent)) }
     ensures err { IfErr result (λ failure. failure ≡ Memory) }
 {
-    match notice {
-        Notice::DidOpen => {
-            opened(alloc, documents, uri, message)?;
-            published(alloc, documents, uri)
+    match notification {
+        Notification::DidOpen => {
+            did_open(alloc, documents, uri, message)?;
+            publish(alloc, documents, uri)
         }
-        Notice::DidChange => {
-            changed(alloc, documents, uri, message)?;
-            published(alloc, documents, uri)
+        Notification::DidChange => {
+            did_change(alloc, documents, uri, message)?;
+            publish(alloc, documents, uri)
         }
-        Notice::DidClose => {
+        Notification::DidClose => {
             close(documents, uri);
-            published(alloc, documents, uri)
+            publish(alloc, documents, uri)
         }
-        Notice::Initialized | Notice::Exit | Notice::Other => Ok(None),
+        Notification::Initialized | Notification::Exit | Notification::Other => Ok(None),
     }
 }
 
-/// Makes the text that tells the diagnostics of a document.
-fn published(alloc: Global, documents: &[Document], uri: &str) -> Result<Option<String>, Failure>
+/// The text of the notification with the diagnostics of a document.
+fn publish(alloc: Global, documents: &[Document], uri: &str) -> Result<Option<String>, Failure>
     ensures ok { IfOk result (λ sent. Publishes uri.now (map document_of documents.now)
         (option_map string_bytes sent)) }
     ensures err { IfErr result (λ failure. failure ≡ Memory) }
 {
-    let text = published_text(alloc, uri, text_of(documents, uri))?;
+    let text = publish_diagnostics(alloc, uri, text_of(documents, uri))?;
     Ok(Some(text))
 }
 
-/// Opens the document of a message.
-fn opened(
+/// Opens the document in a message.
+fn did_open(
     alloc: Global,
     documents: &mut Vec<Document>,
     uri: &str,
     message: &Value,
 ) -> Result<(), AllocError>
-    ensures { OnOk result (map document_of documents.new.items ≡ serving.opened uri.now
+    ensures { OnOk result (map document_of documents.new.items ≡ serving.did_open uri.now
         (parameters_of.text_of (view message.now)) (map document_of documents.old.items)) }
 {
     match parameters::text_of(message) {
@@ -209,14 +202,14 @@ fn opened(
     }
 }
 
-/// Changes the document of a message.
-fn changed(
+/// Changes the document that a message names.
+fn did_change(
     alloc: Global,
     documents: &mut Vec<Document>,
     uri: &str,
     message: &Value,
 ) -> Result<(), AllocError>
-    ensures { OnOk result (map document_of documents.new.items ≡ serving.changed uri.now
+    ensures { OnOk result (map document_of documents.new.items ≡ serving.did_change uri.now
         (wanted.text_of uri.now (map document_of documents.old.items))
         (view message.now) (map document_of documents.old.items)) }
 {
@@ -227,37 +220,25 @@ fn changed(
     open(alloc, documents, uri, after)
 }
 
-/// Makes the text of the answer to a request.
-fn answer(
+/// The text of the response to a request.
+fn response(
     alloc: Global,
     server: &Server,
     request: Request,
     message: &Option<Value>,
 ) -> Result<String, Failure>
-    ensures ok { IfOk result (λ text. Sends (Turn.Answer request) (option_map view message.now)
+    ensures ok { IfOk result (λ text. Sends (Action.Answer request) (option_map view message.now)
         (held_of server.now) (Some (string_bytes text))) }
     ensures err { IfErr result (λ failure. failure ≡ Memory) }
 {
     let id = reply_id(message)?;
-    let outcome = outcome_of(alloc, server, request, message)?;
-    let text = reply(alloc, id, outcome)?;
+    let outcome = outcome_for(alloc, server, request, message)?;
+    let text = replies::reply(alloc, id, outcome)?;
     Ok(text)
 }
 
-/// Makes the text of the reply that has this outcome.
-fn reply(alloc: Global, id: Value, outcome: Outcome) -> Result<String, AllocError>
-    ensures { IfOk result (λ text. IsReplyId (view id)
-        → IsTextOf (reply (view id) (outcome_of outcome.entry)) (string_bytes text)) }
-{
-    match outcome {
-        Outcome::Done(value) => replies::answer(alloc, id, value),
-        Outcome::Listed(listing) => replies::listing(alloc, &id, &listing),
-        Outcome::Failed(code, reason) => replies::refusal(alloc, id, code, reason),
-    }
-}
-
-/// Does what a message asks for.
-fn outcome_of<'a>(
+/// The outcome of a request, or an error if there is no message.
+fn outcome_for<'a>(
     alloc: Global,
     server: &'a Server,
     request: Request,
@@ -268,13 +249,13 @@ fn outcome_of<'a>(
     ensures err { IfErr result (λ failure. failure ≡ Memory) }
 {
     match message {
-        Some(message) => done(alloc, server, request, message),
-        None => Ok(refused(Code::InvalidParams)),
+        Some(message) => outcome_in(alloc, server, request, message),
+        None => Ok(error_outcome(ErrorCode::InvalidParams)),
     }
 }
 
-/// Does what a request asks for.
-fn done<'a>(
+/// The outcome of a request.
+fn outcome_in<'a>(
     alloc: Global,
     server: &'a Server,
     request: Request,
@@ -287,26 +268,28 @@ fn done<'a>(
     match request {
         Request::Initialize => Ok(Outcome::Done(capabilities(alloc)?)),
         Request::Shutdown => Ok(Outcome::Done(Value::Null)),
-        Request::Formatting => formatted(alloc, document_in(&server.documents, message)),
-        Request::Unknown => Ok(refused(Code::MethodNotFound)),
-        _ => named(alloc, server, request, message),
+        Request::Formatting => {
+            formatting_outcome(alloc, document_in(&server.documents, message))
+        }
+        Request::Unknown => Ok(error_outcome(ErrorCode::MethodNotFound)),
+        _ => name_outcome(alloc, server, request, message),
     }
 }
 
-/// Gives the edits that tidy a document, if it is open.
-fn formatted<'a>(alloc: Global, text: Option<&str>) -> Result<Outcome<'a>, Failure>
+/// The edits that format a document, or an error if it is not open.
+fn formatting_outcome<'a>(alloc: Global, text: Option<&str>) -> Result<Outcome<'a>, Failure>
     ensures ok { IfOk result (λ outcome. serving.IsFormattingOf
         (option_map (λ t. t.now) text.entry) (outcome_of outcome)) }
     ensures err { IfErr result (λ failure. failure ≡ Memory) }
 {
     match text {
         Some(text) => Ok(Outcome::Done(formatting(alloc, text)?)),
-        None => Ok(refused(Code::InvalidParams)),
+        None => Ok(error_outcome(ErrorCode::InvalidParams)),
     }
 }
 
-/// Answers a request about names.
-fn named<'a>(
+/// The outcome of a request about names.
+fn name_outcome<'a>(
     alloc: Global,
     server: &'a Server,
     request: Request,
@@ -317,23 +300,10 @@ fn named<'a>(
     ensures err { IfErr result (λ failure. failure ≡ Memory) }
 {
     let program = program_of(alloc, &server.documents, &server.files)?;
-    let answer = isle_lsp_features::answer(alloc, &program, request, message)?;
-    Ok(outcome_from(answer))
+    isle_lsp_features::answer(alloc, &program, request, message)
 }
 
-/// Gives the outcome that an answer about names is.
-fn outcome_from(answer: Told) -> Outcome
-    ensures { outcome_of result ≡ serving.outcome_from (answer_of answer.entry) }
-{
-    match answer {
-        Told::Found(value) => Outcome::Done(value),
-        Told::Listed(listing) => Outcome::Listed(listing),
-        Told::Unplaced => refused(Code::InvalidParams),
-        Told::Refused(reason) => Outcome::Failed(Code::RequestFailed, reason),
-    }
-}
-
-/// Gives the program: the open documents, and the files that aren't open.
+/// The program: the open documents, and the files that are not open.
 fn program_of<'a>(
     alloc: Global,
     documents: &'a [Document],
@@ -342,7 +312,7 @@ fn program_of<'a>(
     ensures { IfOk result (λ program. map programs.source_of program.items
         ≡ serving.program_of (map document_of documents.now) (map source_of files.now)) }
 {
-    let mut program = opened_texts(alloc, documents)?;
+    let mut program = open_texts(alloc, documents)?;
     for file in files {
         if text_of(documents, file.name.as_str()).is_none() {
             program.push(text_at(file.name.as_str(), file.text.as_str()))?;
@@ -351,8 +321,8 @@ fn program_of<'a>(
     Ok(program)
 }
 
-/// Gives the open documents, as texts of a program.
-fn opened_texts<'a>(alloc: Global, documents: &'a [Document]) -> Result<Vec<Text<'a>>, AllocError>
+/// The open documents as texts of a program.
+fn open_texts<'a>(alloc: Global, documents: &'a [Document]) -> Result<Vec<Text<'a>>, AllocError>
     ensures { IfOk result (λ texts. map programs.source_of texts.items
         ≡ map serving.source_at (map document_of documents.now)) }
 {
@@ -363,7 +333,6 @@ fn opened_texts<'a>(alloc: Global, documents: &'a [Document]) -> Result<Vec<Text
     Ok(texts)
 }
 
-/// Gives a text of a program.
 fn text_at<'a>(name: &'a str, text: &'a str) -> Text<'a>
     ensures { programs.source_of result
         ≡ serving.source_at (wanted.document name.now text.now) }
@@ -371,14 +340,7 @@ fn text_at<'a>(name: &'a str, text: &'a str) -> Text<'a>
     Text { name, text }
 }
 
-/// Refuses a request.
-fn refused<'a>(code: Code) -> Outcome<'a>
-    ensures { outcome_of result ≡ serving.refused code }
-{
-    Outcome::Failed(code, reason_of(code))
-}
-
-/// Gives the text of the document that a message speaks of.
+/// The text of the document that a message names, if it is open.
 fn document_in<'a>(documents: &'a [Document], message: &Value) -> Option<&'a str>
     ensures { option_map (λ text. text.now) result
         ≡ document_in (view message.now) (map document_of documents.now) }

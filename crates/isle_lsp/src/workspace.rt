@@ -1,4 +1,4 @@
-//! The files of the folder that an editor works in.
+//! The files in the editor's folder.
 
 ghost use Rattle.std.specs.Prelude.{◌≡◌, IfErr};
 ghost use Rattle.isle_cli.specs.declared.failure.Failure.TheVariants.{Memory};
@@ -11,13 +11,13 @@ use percent_encoding::{AsciiSet, NON_ALPHANUMERIC, percent_decode, utf8_percent_
 use std::alloc::{AllocError, Global};
 use std::fs::Files;
 
-/// How the URI of a file begins.
+/// The beginning of the URI of a file.
 const SCHEME: &str = "file://";
 
-/// Gives the files of ISLE beneath the folder of a URI, each under its own URI, in order of name.
+/// The ISLE files below the folder with this URI, each under its own URI, sorted by name.
 ///
-/// Hidden folders, links and what can't be read are left out, and a URI of another kind gives no
-/// files. It fails only with `Memory`.
+/// Hidden folders, links and unreadable files are skipped. A URI that does not begin with `file://`
+/// has no files. The only error is `Memory`.
 pub fn workspace_files<R: Files + AllocGlobal + Clone + Drop>(
     rt: &R,
     root: &str,
@@ -42,7 +42,7 @@ pub fn workspace_files<R: Files + AllocGlobal + Clone + Drop>(
     Ok(files)
 }
 
-/// Gives the path of the URI of a file, or `None` where it is no such URI.
+/// The path in the URI of a file, or `None` for any other URI.
 fn path_of(alloc: Global, uri: &str) -> Result<Option<String>, AllocError> {
     let Some(path) = uri.strip_prefix(SCHEME) else {
         return Ok(None);
@@ -52,14 +52,14 @@ fn path_of(alloc: Global, uri: &str) -> Result<Option<String>, AllocError> {
     Ok(String::from_utf8(bytes).ok())
 }
 
-/// Gives the URI of the file of a path.
+/// The URI of the file at a path.
 fn uri_of(alloc: Global, path: &str) -> Result<String, AllocError> {
     let mut uri = String::from_str(alloc, SCHEME)?;
     utf8_percent_encode(path, escaped()).append_to(&mut uri)?;
     Ok(uri)
 }
 
-/// The characters that a URI of a file has escaped.
+/// The characters that are escaped in the URI of a file.
 fn escaped() -> AsciiSet {
     NON_ALPHANUMERIC
         .remove(b'/')

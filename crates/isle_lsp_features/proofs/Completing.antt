@@ -5,8 +5,8 @@ use Rattle.std.proofs.lemmas.List.{map-append}
 use Rattle.serde_json.specs.Data.{Data}
 use Rattle.isle_index.specs.Candidates.{CandidateNode, candidate_of}
 use Rattle.isle_index.specs.declared.candidates.Candidate.{Candidate}
-use Rattle.isle_lsp_messages.specs.Items.{item_data}
-use Rattle.isle_lsp_messages.specs.declared.items.Item.{Item}
+use Rattle.isle_lsp_protocol.specs.Items.{item_data}
+use Rattle.isle_lsp_protocol.specs.declared.items.Item.{Item}
 use Rattle.isle_lsp_features.specs.Completed.{constant_of, is_again, item, once}
 use Rattle.isle_lsp_text.specs.declared.positions.Range.{Range}
 

@@ -1,8 +1,7 @@
--- What a request about the names of a program gets.
+-- The outcomes of requests about the names of a program.
 use Rattle.std.specs.Prelude.{◌≡◌, ◌<◌, ◌⊎◌, ℕ, List, Option, None, Some, Result, Ok, Err, codes}
 use Rattle.std.specs.Global.{Vec}
 use Rattle.serde_json.specs.Data.{Data, null}
-use Rattle.serde_json.specs.View.{view}
 use Rattle.isle_base_source.specs.Source.{Source}
 use Rattle.isle_base_source.specs.declared.pos.Pos.{Pos}
 use Rattle.isle_index.specs.Names.{NameNode}
@@ -12,11 +11,13 @@ use Rattle.isle_index.specs.declared.rename.Refusal.{Refusal}
 use Rattle.isle_index.specs.Scopes.{SeenNode, seen}
 use Rattle.isle_index.specs.Symbols.{symbols}
 use Rattle.isle_resolve.specs.Events.{events}
-use Rattle.isle_lsp_machine.specs.declared.Request as requests
-use Rattle.isle_lsp_machine.specs.declared.Request.TheVariants.{Definition as AskDefinition, References, DocumentHighlight, DocumentSymbol, WorkspaceSymbol, Hover, Completion, ResolveCompletion, PrepareRename, Rename}
-use Rattle.isle_lsp_messages.specs.Items.{items_data, listing_data}
-use Rattle.isle_lsp_messages.specs.declared.items.Item.{Item}
-use Rattle.isle_lsp_messages.specs.Parameters.{item_of, new_name_of, query_of, wants_definitions}
+use Rattle.isle_lsp_protocol.specs.declared.machine.Request as requests
+use Rattle.isle_lsp_protocol.specs.declared.machine.Request.TheVariants.{Definition as AskDefinition, References, DocumentHighlight, DocumentSymbol, WorkspaceSymbol, Hover, Completion, ResolveCompletion, PrepareRename, Rename}
+use Rattle.isle_lsp_protocol.specs.Items.{items_data}
+use Rattle.isle_lsp_protocol.specs.declared.items.Item.{Item}
+use Rattle.isle_lsp_protocol.specs.declared.machine.ErrorCode.TheVariants.{InvalidParams, RequestFailed}
+use Rattle.isle_lsp_protocol.specs.Parameters.{item_of, new_name_of, query_of, wants_definitions}
+use Rattle.isle_lsp_protocol.specs.Replies.{Outcome, done, error_outcome, failed}
 use Rattle.isle_lsp_features.specs.Gathered.{AreParts, Part, all_known, refused_count}
 use Rattle.isle_lsp_features.specs.Located.{AreHighlights, AreReferences, IsDefinition}
 use Rattle.isle_lsp_features.specs.Completed.{AreCompletions, item_name}
@@ -24,40 +25,35 @@ use Rattle.isle_lsp_features.specs.Defined.{AreDocumentSymbols, letters_of, work
 use Rattle.isle_lsp_features.specs.Shown.{IsHover, IsResolved}
 use Rattle.isle_lsp_features.specs.Renamed as renamed
 use Rattle.isle_lsp_features.specs.Places.{File, Place, file_in, place_in}
-use Rattle.isle_lsp_features.specs.declared.Told.{Told as CodeAnswer}
-use Rattle.isle_lsp_features.specs.declared.Told.TheVariants as codes_of
 
-pub data Answer : Type 0 where
-  found : Data → Answer
-  unplaced : Answer
-  refused : List ℕ → Answer
+-- the message lacks a parameter of the request, such as a text of the program or a place in one
+abbrev pub unplaced : Outcome
+unplaced = error_outcome InvalidParams
 
-abbrev pub answer_of : CodeAnswer → Answer
-answer_of (codes_of.Found value) = found (view value)
-answer_of (codes_of.Listed listing) = found (listing_data listing)
-answer_of codes_of.Unplaced = unplaced
-answer_of (codes_of.Refused reason) = refused reason.now
+-- the request cannot be fulfilled, and why
+abbrev pub refused : List ℕ → Outcome
+refused reason = failed RequestFailed reason
 
--- a list; null of none
+-- a list; null if there is none
 abbrev pub list_data : Option (Vec Item) → Data
 list_data None = null
 list_data (Some items) = items_data items.items
 
-abbrev pub listed : Option (Vec Item) → Answer
-listed items = found (list_data items)
+abbrev pub list_outcome : Option (Vec Item) → Outcome
+list_outcome items = done (list_data items)
 
--- a request to change a name, or whether it can be changed
+-- a request to rename, or to prepare that
 abbrev pub Renames : requests.Request → Type 0
 Renames request = (request ≡ Rename) ⊎ (request ≡ PrepareRename)
 
--- These are all events of what is known of the program's texts, and where a name is to be changed each of them spells a tree.
+-- These are all events of the known parts of the program's texts, and if the request renames, each text spells a tree.
 pub record IsIndex (program : List Source) (request : requests.Request) (all : List SeenNode) : Type 0 where
   pub parts : List Part
   pub read : AreParts 0 program parts
   pub seen : all ≡ seen (events (all_known parts))
   pub whole : Renames request → refused_count parts ≡ 0
 
--- what is found at a place
+-- the result of a request at a place
 abbrev pub FindsAt : requests.Request → List Source → List SeenNode → Place → Data → Data → Type 0
 FindsAt AskDefinition program all p message d = IsDefinition program (name_at p.pos all) all d
 FindsAt References program all p message d = AreReferences program (wants_definitions message) (name_at p.pos all) all d
@@ -67,41 +63,41 @@ FindsAt Hover program all p message d = IsHover program p.text (name_at p.pos al
 FindsAt Completion program all p message d = AreCompletions p.pos p.text all d
 FindsAt _ program all p message d = Unit {0}
 
--- what changing a name gets, by what the index answers
-abbrev pub IsRenamingBy : List Source → NameNode → List ℕ → Result (Vec Pos) Refusal → Answer → Type 0
-IsRenamingBy program name new (Ok places) a = a ≡ found (renamed.changes program name new places.items)
+-- the outcome of renaming, from the index's answer
+abbrev pub IsRenamingBy : List Source → NameNode → List ℕ → Result (Vec Pos) Refusal → Outcome → Type 0
+IsRenamingBy program name new (Ok places) a = a ≡ done (renamed.changes program name new places.items)
 IsRenamingBy program name new (Err why) a = a ≡ refused (renamed.reason_of why)
 
-abbrev pub IsRenaming : List Source → List SeenNode → NameNode → List ℕ → Answer → Type 0
+abbrev pub IsRenaming : List Source → List SeenNode → NameNode → List ℕ → Outcome → Type 0
 IsRenaming program all name new a = (answer : Result (Vec Pos) Refusal) × renaming.IsAnswer name new all answer × IsRenamingBy program name new answer a
 
-abbrev pub IsRenamingOf : List Source → List SeenNode → (name : Option NameNode) → (new : Option (List ℕ)) → Answer → Type 0
+abbrev pub IsRenamingOf : List Source → List SeenNode → (name : Option NameNode) → (new : Option (List ℕ)) → Outcome → Type 0
 IsRenamingOf program all name None a = a ≡ unplaced
-IsRenamingOf program all None (Some new) a = a ≡ refused (codes "there is no name to change")
+IsRenamingOf program all None (Some new) a = a ≡ refused (codes "there is no name to rename")
 IsRenamingOf program all (Some name) (Some new) a = IsRenaming program all name new a
 
-abbrev pub IsRenamingAt : List Source → List SeenNode → Option Place → Data → Answer → Type 0
+abbrev pub IsRenamingAt : List Source → List SeenNode → Option Place → Data → Outcome → Type 0
 IsRenamingAt program all None message a = a ≡ unplaced
 IsRenamingAt program all (Some p) message a = IsRenamingOf program all (name_at p.pos all) (new_name_of message) a
 
--- what a request about a place gets
-abbrev pub IsAnswerAt : requests.Request → List Source → List SeenNode → Place → Data → Answer → Type 0
-IsAnswerAt request program all p message a = (d : Data) × FindsAt request program all p message d × (a ≡ found d)
+-- the outcome of a request at a place
+abbrev pub IsAnswerAt : requests.Request → List Source → List SeenNode → Place → Data → Outcome → Type 0
+IsAnswerAt request program all p message a = (d : Data) × FindsAt request program all p message d × (a ≡ done d)
 
-abbrev pub IsFoundAt : requests.Request → List Source → List SeenNode → Option Place → Data → Answer → Type 0
+abbrev pub IsFoundAt : requests.Request → List Source → List SeenNode → Option Place → Data → Outcome → Type 0
 IsFoundAt request program all None message a = a ≡ unplaced
 IsFoundAt request program all (Some p) message a = IsAnswerAt request program all p message a
 
-abbrev pub AreSymbols : List SeenNode → Option File → Answer → Type 0
+abbrev pub AreSymbols : List SeenNode → Option File → Outcome → Type 0
 AreSymbols all None a = a ≡ unplaced
-AreSymbols all (Some f) a = (d : Data) × AreDocumentSymbols f.text (symbols f.number all) d × (a ≡ found d)
+AreSymbols all (Some f) a = (d : Data) × AreDocumentSymbols f.text (symbols f.number all) d × (a ≡ done d)
 
-abbrev pub IsResolution : List Source → List SeenNode → (item : Option Data) → Answer → Type 0
+abbrev pub IsResolution : List Source → List SeenNode → (item : Option Data) → Outcome → Type 0
 IsResolution program all None a = a ≡ unplaced
-IsResolution program all (Some item) a = (d : Data) × IsResolved program all (item_name item) item d × (a ≡ found d)
+IsResolution program all (Some item) a = (d : Data) × IsResolved program all (item_name item) item d × (a ≡ done d)
 
--- what a request about these events gets
-abbrev pub IsAnswerOf : requests.Request → List Source → List SeenNode → Data → Answer → Type 0
+-- the outcome of a request, from these events
+abbrev pub IsAnswerOf : requests.Request → List Source → List SeenNode → Data → Outcome → Type 0
 IsAnswerOf DocumentSymbol program all message a = AreSymbols all (file_in message program) a
 IsAnswerOf AskDefinition program all message a = IsFoundAt AskDefinition program all (place_in message program) message a
 IsAnswerOf References program all message a = IsFoundAt References program all (place_in message program) message a
@@ -111,17 +107,17 @@ IsAnswerOf Rename program all message a = IsRenamingAt program all (place_in mes
 IsAnswerOf Hover program all message a = IsFoundAt Hover program all (place_in message program) message a
 IsAnswerOf Completion program all message a = IsFoundAt Completion program all (place_in message program) message a
 IsAnswerOf ResolveCompletion program all message a = IsResolution program all (item_of message) a
-IsAnswerOf WorkspaceSymbol program all message a = a ≡ found (workspace_symbols (letters_of (query_of message)) program all)
+IsAnswerOf WorkspaceSymbol program all message a = a ≡ done (workspace_symbols (letters_of (query_of message)) program all)
 IsAnswerOf _ program all message a = Unit {0}
 
--- no name is changed while a text of the program spells no tree
-pub record IsHeld (program : List Source) (request : requests.Request) (a : Answer) : Type 0 where
+-- nothing is renamed while a text of the program spells no tree
+pub record IsHeld (program : List Source) (request : requests.Request) (a : Outcome) : Type 0 where
   pub parts : List Part
   pub read : AreParts 0 program parts
   pub some : 0 < refused_count parts
   pub rename : Renames request
-  pub is : a ≡ refused (codes "a text of the program spells no tree")
+  pub is : a ≡ refused (codes "cannot rename: a file of the workspace has a syntax error")
 
--- what a request about the names of a program gets
-abbrev pub IsAnswer : requests.Request → List Source → Data → Answer → Type 0
+-- the outcome of a request about the names of a program
+abbrev pub IsAnswer : requests.Request → List Source → Data → Outcome → Type 0
 IsAnswer request program message a = IsHeld program request a ⊎ ((all : List SeenNode) × IsIndex program request all × IsAnswerOf request program all message a)

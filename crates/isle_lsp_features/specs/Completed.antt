@@ -1,4 +1,4 @@
--- The names that may stand at a place, as JSON.
+-- The completions at a place, as JSON.
 use Rattle.std.specs.Prelude.{◌≡◌, ℕ, ◌-◌, ◌||◌, ◌==◌, List, [], ◌∷◌, Bool, false, Option, None, Some, length, map, min, string_bytes, bytes_eq, if◌then◌else◌}
 use Rattle.std.specs.Cmp.Lexicographic.{slice_cmp}
 use Rattle.std.specs.List.Sorted.{IsPermutation, IsSortedByKey}
@@ -14,8 +14,8 @@ use Rattle.isle_index.specs.declared.candidates.Candidate.{Candidate}
 use Rattle.isle_index.specs.declared.symbols.SymbolKind.{SymbolKind}
 use Rattle.isle_index.specs.declared.symbols.SymbolKind.TheVariants as symbol_kinds
 use Rattle.isle_resolve.specs.declared.event.Kind.TheVariants as kinds
-use Rattle.isle_lsp_messages.specs.Parameters.{kind_of, label_of}
-use Rattle.isle_lsp_messages.specs.Results.{completion_item}
+use Rattle.isle_lsp_protocol.specs.Parameters.{kind_of, label_of}
+use Rattle.isle_lsp_protocol.specs.Results.{completion_item}
 use Rattle.isle_lsp_features.specs.Places.{range_between}
 use Rattle.isle_lsp_text.specs.Lists.{AreLists, outer_list}
 use Rattle.isle_lsp_text.specs.Names.{name_before}
@@ -30,7 +30,7 @@ number_of symbol_kinds.Variant = 20
 number_of symbol_kinds.Constant = 21
 number_of symbol_kinds.Variable = 6
 
--- a name, to be written in place of what a range has
+-- a name that replaces a range
 abbrev pub item : Range → CandidateNode → Data
 item range c = completion_item c.text (number_of c.kind) range
 
@@ -38,7 +38,7 @@ abbrev pub is_again : Option CandidateNode → CandidateNode → Bool
 is_again None c = false
 is_again (Some last) c = bytes_eq last.text c.text
 
--- those that don't have the name of the one before
+-- those whose name differs from the one before
 abbrev pub once : Option CandidateNode → List CandidateNode → List CandidateNode
 once last [] = []
 once last (c ∷ cs) = if is_again last c then once (Some c) cs else c ∷ once (Some c) cs
@@ -50,7 +50,7 @@ items range cs = array (items_of (map (item range) (once None cs)))
 abbrev pub text_order : List ℕ → List ℕ → Ordering
 text_order = slice_cmp nat_cmp
 
--- the range of the part of a name that is written right before an offset
+-- the range of the partly written name right before an offset
 abbrev pub range_before : List ℕ → (offset : ℕ) → Range
 range_before text offset = let end : ℕ = min offset (length text) in range_between text (end - length (name_before text offset)) end
 
@@ -58,13 +58,12 @@ abbrev pub begins_at : Option ListSpan → (end : ℕ) → ℕ
 begins_at None end = end
 begins_at (Some l) end = l.from
 
--- where the outermost list around an offset begins; the text's end if there is none
+-- the start of the outermost list around an offset; the end of the text if there is none
 abbrev pub outer_start : List ℕ → List ListSpan → (offset : ℕ) → ℕ
 outer_start text lists offset = begins_at (outer_list offset lists) (length text)
 
--- The names that begin as what is written right before a place and may stand there, each once, in order of name, to be written in
--- place of that. The variables are those bound at the last name before the place, if that is in the outermost list around
--- the place.
+-- The candidates that begin with the partly written name right before a place, which they replace, each once, sorted by name. The
+-- variables among them are those in scope at the last name before the place, if that name is in the outermost list around the place.
 abbrev pub AreCompletions : Pos → List ℕ → List SeenNode → Data → Type 0
 AreCompletions place text all d =
     (lists : List ListSpan) × (found : List Candidate) × AreLists text lists
@@ -78,7 +77,7 @@ abbrev pub constant_of : List ℕ → Option NameNode
 constant_of [] = None
 constant_of (b ∷ name) = if b == 36 then Some (global kinds.Constant name) else None
 
--- what a label of this kind names in the whole program; a variable is no name there
+-- the global name with this label and kind; a variable is not global
 abbrev pub labelled : (label : Option (List ℕ)) → (kind : Option ℕ) → Option NameNode
 labelled None kind = None
 labelled (Some label) None = None

@@ -1,4 +1,4 @@
--- What files define, as JSON.
+-- The definitions in texts, as JSON.
 use Rattle.std.specs.Prelude.{◌≡◌, ℕ, ◌+◌, List, [], ◌∷◌, ◌++◌, Bool, true, false, Option, None, Some, map, if◌then◌else◌}
 use Rattle.std.specs.Char.{eq_ignore_ascii_case}
 use Rattle.std.specs.List.{flat_map}
@@ -9,7 +9,7 @@ use Rattle.isle_index.specs.Scopes.{SeenNode}
 use Rattle.isle_index.specs.Symbols.{SymbolNode, symbols}
 use Rattle.isle_index.specs.declared.symbols.SymbolKind.{SymbolKind}
 use Rattle.isle_index.specs.declared.symbols.SymbolKind.TheVariants as kinds
-use Rattle.isle_lsp_messages.specs.Results as results
+use Rattle.isle_lsp_protocol.specs.Results as results
 use Rattle.isle_lsp_features.specs.Places.{range_at, range_between}
 use Rattle.isle_lsp_features.specs.Wholes.{whole_of}
 use Rattle.isle_lsp_text.specs.Lists.{AreLists}
@@ -35,7 +35,7 @@ is_variant kinds.Variable = false
 abbrev pub range_of : List ℕ → Part → Range
 range_of text p = range_between text p.from p.to
 
--- a definition: the range of its whole, and that of its name
+-- a definition: its range, and that of its name
 unfoldable pub symbol_data : List ℕ → List ListSpan → SymbolNode → Data
 symbol_data text lists s =
     results.document_symbol s.text (number_of s.kind) (range_of text (whole_of text lists (is_variant s.kind) s.pos.offset s.len))
@@ -45,28 +45,28 @@ symbol_data text lists s =
 abbrev pub AreDocumentSymbols : List ℕ → List SymbolNode → Data → Type 0
 AreDocumentSymbols text found d = (lists : List ListSpan) × AreLists text lists × (d ≡ array (items_of (map (symbol_data text lists) found)))
 
--- whether these bytes stand in a name one after the other, side by side or not; capital and small letters of ASCII are the same
+-- whether these bytes occur in a name in the same order, but not necessarily side by side; the case of ASCII letters is ignored
 abbrev pub has_letters : (letters name : List ℕ) → Bool
 has_letters [] name = true
 has_letters (l ∷ ls) [] = false
 has_letters (l ∷ ls) (b ∷ bs) = if eq_ignore_ascii_case l b then has_letters ls bs else has_letters (l ∷ ls) bs
 
--- the letters that are still to come after a byte of a name
+-- the letters that are still to be found after a byte of a name
 abbrev pub letters_left : List ℕ → ℕ → List ℕ
 letters_left [] b = []
 letters_left (l ∷ ls) b = if eq_ignore_ascii_case l b then ls else l ∷ ls
 
--- a definition of a file, if its name has these letters
+-- a definition of a file, if its name matches the query
 unfoldable pub symbol_in : List ℕ → Source → SymbolNode → List Data
 symbol_in letters s x =
     if has_letters letters x.text then results.workspace_symbol x.text (number_of x.kind) s.name (range_at s.text x.pos.offset x.len) ∷ [] else []
 
--- the definitions of files, which are numbered from this number on
+-- the definitions of files that are numbered from this number on
 abbrev pub symbols_from : ℕ → List ℕ → List Source → List SeenNode → List Data
 symbols_from file letters [] all = []
 symbols_from file letters (s ∷ ss) all = flat_map (symbol_in letters s) (symbols file all) ++ symbols_from (file + 1) letters ss all
 
--- the definitions of a program whose names have these letters, file by file
+-- the definitions of a program whose names match the query, file by file
 abbrev pub workspace_symbols : List ℕ → List Source → List SeenNode → Data
 workspace_symbols letters program all = array (items_of (symbols_from 0 letters program all))
 

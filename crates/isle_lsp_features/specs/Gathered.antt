@@ -1,4 +1,4 @@
--- The index of a program, from its texts.
+-- The index of a program.
 use Rattle.std.specs.Prelude.{◌≡◌, ℕ, ◌+◌, List, [], ◌∷◌, ◌++◌, Bool, true, false, not, Result, Ok, Err, count_by}
 use Rattle.std.specs.List.{flat_map}
 use Rattle.isle_ast.specs.Grammar.{SpellsDefinition}
@@ -16,8 +16,8 @@ use Rattle.isle_index.specs.declared.Index.{Index}
 use Rattle.isle_parser.specs.NextDefinition.{LeavesNone}
 use Rattle.isle_program.specs.Reading.{IsRefusedWith, IsTreeOf}
 
--- The definitions that a text begins with, one after another. After them none is spelt, or only one that takes all tokens in front
--- of what does not lex.
+-- The definitions that a text begins with, one after another. After them none is spelt, or only one that takes all tokens before a
+-- lexical error.
 pub record IsFront (file : ℕ) (text : List ℕ) (ds : List Definition) : Type 0 where
   pub tokens : List Lexeme
   pub ending : Ending
@@ -26,7 +26,7 @@ pub record IsFront (file : ℕ) (text : List ℕ) (ds : List Definition) : Type 
   pub spelt : SpellsAll SpellsDefinition ds (placed (in_file file) tokens) rest
   pub no_more : LeavesNone rest
 
--- what is known of a text: the tree that it spells, or, where it spells none, the definitions that it begins with, and why no more
+-- the known part of a text: the tree that it spells, or, if it spells none, the definitions that it begins with, and the error after them
 pub data Part : Type 0 where
   tree : List Definition → Part
   front : List Definition → Error → Part
@@ -35,7 +35,7 @@ abbrev pub IsPart : ℕ → List ℕ → Part → Type 0
 IsPart file text (tree ds) = IsTreeOf file text ds
 IsPart file text (front ds e) = IsRefusedWith file text e × IsFront file text ds
 
--- what is known of texts, which are the files from this number on
+-- the known parts of texts that are numbered from this number on
 abbrev pub AreParts : ℕ → List Source → List Part → Type 0
 AreParts file [] [] = Unit {0}
 AreParts file [] (p ∷ ps) = ⊥
@@ -50,33 +50,33 @@ abbrev pub is_front : Part → Bool
 is_front (tree ds) = false
 is_front (front ds e) = true
 
--- the definitions that are known of texts
+-- the known definitions of texts
 abbrev pub all_known : List Part → List Definition
 all_known ps = flat_map known ps
 
--- how many texts spell no tree
+-- the number of texts that spell no tree
 abbrev pub refused_count : List Part → ℕ
 refused_count ps = count_by is_front ps
 
--- the index holds what is known of the texts, and so many of them spell no tree
+-- the index holds the known parts of the texts, and this many of them spell no tree
 pub record IsGathered (program : List Source) (index : Index) (refused : ℕ) : Type 0 where
   pub parts : List Part
   pub read : AreParts 0 program parts
   pub holds : IsIndexOf (all_known parts) index
   pub count : refused ≡ refused_count parts
 
--- an index holds these definitions behind those that it held
+-- an index holds these definitions after those that it held
 abbrev pub Grows : List Definition → Index → Index → Type 0
 Grows es old new = (ds : List Definition) → IsIndexOf ds old → IsIndexOf (ds ++ es) new
 
--- what is known of a text is added to an index, and whether it spells a tree
+-- the known part of a text is added to an index, and whether it spells a tree
 pub record AddsText (file : ℕ) (text : List ℕ) (old new : Index) (is_tree : Bool) : Type 0 where
   pub part : Part
   pub is : IsPart file text part
   pub spells : is_tree ≡ not (is_front part)
   pub holds : Grows (known part) old new
 
--- what is known of a text is added
+-- the known part of a text is added
 abbrev pub AddsDefinitions : ℕ → List ℕ → Index → Index → Result (Unit {0}) Fault → Type 0
 AddsDefinitions file text old new (Ok done) = (ds : List Definition) × IsPart file text (tree ds) × Grows ds old new
 AddsDefinitions file text old new (Err (faults.Error e)) = (ds : List Definition) × IsPart file text (front ds e) × Grows ds old new

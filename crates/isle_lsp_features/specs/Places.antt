@@ -3,7 +3,7 @@ use Rattle.std.specs.Prelude.{ℕ, ◌+◌, ◌-◌, List, [], ◌∷◌, Option
 use Rattle.serde_json.specs.Data.{Data}
 use Rattle.isle_base_source.specs.Source.{Source}
 use Rattle.isle_base_source.specs.declared.pos.Pos.{Pos}
-use Rattle.isle_lsp_messages.specs.Parameters.{position_of, uri_of}
+use Rattle.isle_lsp_protocol.specs.Parameters.{position_of, uri_of}
 use Rattle.isle_lsp_features.specs.declared.places.File.{File as CodeFile}
 use Rattle.isle_lsp_features.specs.declared.places.Place.{Place as CodePlace}
 use Rattle.isle_lsp_text.specs.Positions.{offset_at, position_at}
@@ -29,12 +29,12 @@ pub record Place : Type 0 where
 abbrev pub place_of : CodePlace → Place
 place_of p = record { pos = p.pos; text = p.text.now }
 
--- the first text of this name, where the texts are numbered from this number on
+-- the first text with this name, if the texts are numbered from this number on
 abbrev pub file_from : ℕ → List ℕ → List Source → Option File
 file_from number uri [] = None
 file_from number uri (s ∷ ss) = if bytes_eq s.name uri then Some (file number s.text) else file_from (number + 1) uri ss
 
--- the text that a message speaks of
+-- the text that a message names
 abbrev pub file_in : Data → List Source → Option File
 file_in d program = option_and_then (λ uri. file_from 0 uri program) (uri_of d)
 
@@ -43,16 +43,16 @@ position_in None position = None
 position_in (Some f) None = None
 position_in (Some f) (Some p) = Some record { pos = record { file = f.number; offset = offset_at p f.text }; text = f.text }
 
--- the place that a message speaks of
+-- the place that a message names
 abbrev pub place_in : Data → List Source → Option Place
 place_in d program = position_in (file_in d program) (position_of d)
 
--- the range of so many bytes from an offset on, as far as the text goes
+-- the range of `len` bytes from an offset on, cut at the end of the text
 abbrev pub range_at : List ℕ → (offset len : ℕ) → Range
 range_at text offset len =
     let start : ℕ = min offset (length text) in
     record { start = position_at start text; end = position_at (start + min len (length text - start)) text }
 
--- the range from one offset to another, as far as the text goes
+-- the range from one offset to another, cut at the end of the text
 abbrev pub range_between : List ℕ → (from to : ℕ) → Range
 range_between text from to = record { start = position_at from text; end = position_at to text }

@@ -1,4 +1,4 @@
--- What a name is, as it is written, as JSON.
+-- The documentation of a name, as JSON.
 use Rattle.std.specs.Prelude.{◌≡◌, ℕ, ◌≤◌, List, ◌++◌, Option, None, Some, codes, length, nat_lt, slice_get, slice_range, IsCharBoundary}
 use Rattle.serde_json.specs.Data.{Data, null}
 use Rattle.isle_base_source.specs.Source.{Source}
@@ -6,7 +6,7 @@ use Rattle.isle_index.specs.Names.{NameNode, name_text}
 use Rattle.isle_index.specs.Occurrences.{definitions}
 use Rattle.isle_index.specs.Scopes.{SeenNode}
 use Rattle.isle_index.specs.declared.occurrences.Occurrence.{Occurrence}
-use Rattle.isle_lsp_messages.specs.Results as results
+use Rattle.isle_lsp_protocol.specs.Results as results
 use Rattle.isle_lsp_features.specs.Located.{InOrder}
 use Rattle.isle_lsp_features.specs.Places.{range_at}
 use Rattle.isle_lsp_features.specs.Wholes.{whole_of}
@@ -15,23 +15,23 @@ use Rattle.isle_lsp_text.specs.Comments.{IsCommentsStart}
 use Rattle.isle_lsp_text.specs.Lists.{AreLists}
 use Rattle.isle_lsp_text.specs.declared.lists.ListSpan.{ListSpan}
 
--- the text from an offset to another, where that cuts no character
+-- the text from one offset to another, unless that splits a character
 abbrev pub IsCut : List ℕ → (from to : ℕ) → List ℕ → Type 0
 IsCut text from to cut = from ≤ to → IsCharBoundary text from → IsCharBoundary text to → cut ≡ slice_range text from to
 
--- a part of a text, after the comments above it
+-- a part of a text, with the comments above it
 abbrev pub IsPart : List ℕ → Part → List ℕ → Type 0
 IsPart text p part = (start : ℕ) × IsCommentsStart text p.from start × IsCut text start p.to part
 
--- The whole of a definition, in a block, after the comments above it. A variant is written shorter than its name, which its type's
--- name begins.
+-- The source of a definition, in a block, with the comments above it. A variant is written shorter than its name, which begins with
+-- the name of its type.
 abbrev pub IsShown : List ℕ → NameNode → Occurrence → List ℕ → Type 0
 IsShown text name o shown =
     (lists : List ListSpan) × (part : List ℕ) × AreLists text lists
     × IsPart text (whole_of text lists (nat_lt o.len (length (name_text name))) o.pos.offset o.len) part
     × (shown ≡ codes "```isle\n" ++ part ++ codes "\n```")
 
--- what is shown of a definition, if its text is there
+-- the documentation of a definition, if its text is in the program
 abbrev pub IsShownIn : Option Source → NameNode → Occurrence → Option (List ℕ) → Type 0
 IsShownIn None name o shown = shown ≡ None
 IsShownIn (Some s) name o shown = (block : List ℕ) × IsShown s.text name o block × (shown ≡ Some block)
@@ -40,18 +40,18 @@ abbrev pub IsFirstShown : List Source → NameNode → Option Occurrence → Opt
 IsFirstShown program name None shown = shown ≡ None
 IsFirstShown program name (Some o) shown = IsShownIn (slice_get program o.pos.file) name o shown
 
--- what is shown of a name: its first definition; nothing of a name that has none
+-- the documentation of a name: its first definition, if it has one
 abbrev pub IsShownOf : List Source → NameNode → List SeenNode → Option (List ℕ) → Type 0
 IsShownOf program name all shown =
     (found : List Occurrence) × InOrder (definitions name all) found × IsFirstShown program name (slice_get found 0) shown
 
--- ---- where a name occurs
+-- ---- of an occurrence
 
 abbrev pub hover_data : List ℕ → (shown : Option (List ℕ)) → (at : Occurrence) → Data
 hover_data text None at = null
 hover_data text (Some shown) at = results.hover shown (range_at text at.pos.offset at.len)
 
--- what is shown of a name, for where it occurs; null of no name
+-- the hover of an occurrence; null if there is no name
 abbrev pub IsHover : List Source → List ℕ → Option NameNode → Option Occurrence → List SeenNode → Data → Type 0
 IsHover program text None at all d = d ≡ null
 IsHover program text (Some name) None all d = d ≡ null
@@ -62,9 +62,9 @@ IsHover program text (Some name) (Some at) all d =
 
 abbrev pub resolved_data : Data → (shown : Option (List ℕ)) → Data
 resolved_data item None = item
-resolved_data item (Some shown) = results.documented item shown
+resolved_data item (Some shown) = results.with_documentation item shown
 
--- an item with what is shown of its name; as it is where nothing is shown
+-- an item with the documentation of its name; unchanged if there is none
 abbrev pub IsResolved : List Source → List SeenNode → Option NameNode → Data → Data → Type 0
 IsResolved program all None item d = d ≡ item
 IsResolved program all (Some name) item d = (shown : Option (List ℕ)) × IsShownOf program name all shown × (d ≡ resolved_data item shown)

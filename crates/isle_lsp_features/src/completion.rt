@@ -1,4 +1,4 @@
-//! The names that may stand at a place.
+//! The completions at a place.
 
 ghost use Rattle.std.specs.Prelude.{◌≡◌, IfOk, Some, map, option_map, string_bytes};
 ghost use Rattle.std.specs.List.Sorted.{IsPermutation, IsSortedByKey};
@@ -6,24 +6,24 @@ ghost use Rattle.isle_index.specs.Candidates.{candidate_of, candidates};
 ghost use Rattle.isle_index.specs.Held.{all_in};
 ghost use Rattle.isle_index.specs.Names.{global, named_of};
 ghost use Rattle.serde_json.specs.View.{view};
-ghost use Rattle.isle_lsp_messages.specs.Items.{item_data, items_data};
+ghost use Rattle.isle_lsp_protocol.specs.Items.{item_data, items_data};
 ghost use Rattle.isle_lsp_features.specs.Completed as wanted;
 ghost use Rattle.isle_lsp_features.specs.Completed.{AreCompletions};
 
 use crate::places::{Place, range_between};
 use isle_base::lexer::Pos;
 use isle_index::{Candidate, Index, Kind, Name, SymbolKind};
-use isle_lsp_messages::items::Item;
-use isle_lsp_messages::parameters::{kind_of, label_of};
+use isle_lsp_protocol::items::Item;
+use isle_lsp_protocol::parameters::{kind_of, label_of};
 use isle_lsp_text::lists::{ListSpan, lists, outer_list};
 use isle_lsp_text::names::name_before;
 use isle_lsp_text::positions::{Range, START};
 use serde_json::Value;
 use std::alloc::{AllocError, Global};
 
-/// Gives the names that begin as what is written before a place, each once, in order of name, to be
-/// written in place of that. The variables are those bound at the last name before the place, if
-/// that is in the outermost list around the place.
+/// The completions at a place: the names that begin with the partly written one before it, each
+/// once, sorted. The variables among them are those in scope at the last name before the place, if
+/// that name is in the outermost list around the place.
 pub fn completion<'a>(
     alloc: Global,
     index: &Index,
@@ -35,11 +35,11 @@ pub fn completion<'a>(
     let lists = lists(alloc, place.text)?;
     let from = outer_start(place.text, &lists, place.pos.offset);
     let prefix = name_before(place.text, place.pos.offset);
-    let found = sorted(alloc, index, place.pos, from, prefix)?;
+    let found = sorted_candidates(alloc, index, place.pos, from, prefix)?;
     items(alloc, &found, range_before(place.text, place.pos.offset))
 }
 
-/// Gives where the outermost list around an offset begins, or the text's end if there is none.
+/// The start of the outermost list around an offset, or the end of the text if there is none.
 fn outer_start(text: &str, lists: &[ListSpan], offset: usize) -> usize
     ensures { result ≡ wanted.outer_start text.now lists.now offset }
 {
@@ -49,7 +49,7 @@ fn outer_start(text: &str, lists: &[ListSpan], offset: usize) -> usize
     }
 }
 
-/// Gives the range of the part of a name that is written right before an offset.
+/// The range of the partly written name right before an offset.
 fn range_before(text: &str, offset: usize) -> Range
     ensures { result ≡ wanted.range_before text.now offset }
 {
@@ -59,9 +59,9 @@ fn range_before(text: &str, offset: usize) -> Range
     range_between(text, &mut near, end - len, end)
 }
 
-/// Gives the names that begin so and may stand at a place, in order of name; of variables those
-/// that are bound at a name from the offset `from` on.
-fn sorted(
+/// The candidates for a prefix at a place, sorted by name. Variables count only if they are in
+/// scope at a name at or after the offset `from`.
+fn sorted_candidates(
     alloc: Global,
     index: &Index,
     place: Pos,
@@ -79,7 +79,7 @@ fn sorted(
     Ok(found)
 }
 
-/// Gives names as items, without those that have the name of the one before.
+/// Candidates as items, each name once. They are sorted by name.
 fn items<'a>(alloc: Global, found: &[Candidate], range: Range) -> Result<Vec<Item<'a>>, AllocError>
     ensures { IfOk result
         (λ items. items_data items.items ≡ wanted.items range (map candidate_of found.now)) }
@@ -96,7 +96,7 @@ fn items<'a>(alloc: Global, found: &[Candidate], range: Range) -> Result<Vec<Ite
     Ok(items)
 }
 
-/// Tells whether a candidate has the name of the last one.
+/// Returns whether a candidate has the same name as the last one.
 fn is_again(last: Option<&Candidate>, candidate: &Candidate) -> bool
     ensures { result ≡ wanted.is_again (option_map (λ c. candidate_of c.now) last.entry)
         (candidate_of candidate.now) }
@@ -107,7 +107,7 @@ fn is_again(last: Option<&Candidate>, candidate: &Candidate) -> bool
     }
 }
 
-/// Gives a name as an item, to be written in place of what a range has.
+/// A candidate as an item that replaces a range.
 fn candidate_item<'a>(
     alloc: Global,
     candidate: &Candidate,
@@ -123,7 +123,7 @@ fn candidate_item<'a>(
     })
 }
 
-/// Gives the protocol's number of a kind of completion.
+/// The protocol's number of a kind of completion.
 fn number_of(kind: SymbolKind) -> usize
     ensures { result ≡ wanted.number_of kind }
 {
@@ -136,8 +136,7 @@ fn number_of(kind: SymbolKind) -> usize
     }
 }
 
-/// Gives the name of an item of a completion, if it holds in the whole program. Its kind is a number
-/// that `number_of` gives.
+/// The name in a completion item, if it is global. The kind of the item is a number of `number_of`.
 pub fn item_name(alloc: Global, item: &Value) -> Result<Option<Name>, AllocError>
     ensures { IfOk result
         (λ name. option_map named_of name ≡ wanted.item_name (view item.now)) }
@@ -150,7 +149,7 @@ pub fn item_name(alloc: Global, item: &Value) -> Result<Option<Name>, AllocError
     }
 }
 
-/// Makes the name of a constant from its label, or none if that does not begin with `$`.
+/// The name of a constant from its label, or `None` if that does not begin with `$`.
 fn constant(alloc: Global, label: &str) -> Result<Option<Name>, AllocError>
     ensures { IfOk result (λ name. option_map named_of name ≡ wanted.constant_of label.now) }
 {
@@ -160,7 +159,7 @@ fn constant(alloc: Global, label: &str) -> Result<Option<Name>, AllocError>
     }
 }
 
-/// Makes a name that holds in the whole program.
+/// A global name.
 fn global(alloc: Global, kind: Kind, text: &str) -> Result<Option<Name>, AllocError>
     ensures { IfOk result (λ name. option_map named_of name ≡ Some (global kind text.now)) }
 {

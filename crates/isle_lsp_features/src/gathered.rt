@@ -1,4 +1,4 @@
-//! The index of a program, from its texts.
+//! The index of a program.
 
 ghost use Rattle.std.specs.Prelude.{◌≡◌, IfErr, IfOk, map};
 ghost use Rattle.isle_lsp_features.specs.Programs.{source_of};
@@ -14,18 +14,18 @@ use isle_parser::parser::Parser;
 use std::alloc::Global;
 use std::slice;
 
-/// The index of a program.
+/// The index of a program, and its number of texts with errors.
 #[derive(Drop)]
 pub struct Gathered {
-    /// The index of what is known of the texts.
+    /// The index of the definitions that are known.
     pub index: Index,
-    /// How many texts spell no tree.
+    /// The number of texts that do not parse.
     pub refused: usize,
 }
 
-/// Makes the index of a program: of the trees that its texts spell, and, of a text that spells
-/// none, of the definitions that it begins with, but for one right in front of what does not lex.
-/// One definition is held at a time. It fails only with `Memory`.
+/// Indexes a program. A text that does not parse contributes the definitions before its error,
+/// without the last one if the error is lexical. Only one definition is in memory at a time. The
+/// only `Err` is `Memory`.
 pub fn gather(alloc: Global, program: &[Text]) -> Result<Gathered, Failure>
     ensures ok { IfOk result (λ all.
         IsGathered (map source_of program.now) all.index all.refused) }
@@ -41,7 +41,7 @@ pub fn gather(alloc: Global, program: &[Text]) -> Result<Gathered, Failure>
     Ok(Gathered { index, refused })
 }
 
-/// Adds what is known of a text, and tells whether it spells a tree.
+/// Adds the definitions of a text, and returns whether it parses.
 fn add_text(alloc: Global, file: usize, text: &str, index: &mut Index) -> Result<bool, Failure>
     ensures ok { IfOk result (AddsText file text.now index.old index.new) }
     ensures err { IfErr result (λ failure. failure ≡ Memory) }
@@ -53,8 +53,7 @@ fn add_text(alloc: Global, file: usize, text: &str, index: &mut Index) -> Result
     }
 }
 
-/// Adds the definitions that a text begins with, one after another, up to the first place where it
-/// is refused.
+/// Adds the definitions of a text, one after another, up to its first error.
 fn add_definitions(alloc: Global, file: usize, text: &str, index: &mut Index) -> Result<(), Fault>
     ensures { AddsDefinitions file text.now index.old index.new result }
 {

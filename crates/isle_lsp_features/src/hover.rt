@@ -1,4 +1,4 @@
-//! What a name is, as it is written: for hover, and for completions.
+//! The documentation of a name, for hover and for completions.
 
 ghost use Rattle.std.specs.Prelude.{◌≡◌, IfOk, Some, map, option_map, slice_get, string_bytes};
 ghost use Rattle.serde_json.specs.View.{view};
@@ -16,14 +16,14 @@ use crate::completion::item_name;
 use crate::places::{Place, range_at};
 use crate::wholes::whole_of;
 use isle_index::{Index, Name, Occurrence};
-use isle_lsp_messages::results::{documented, hover_value};
+use isle_lsp_protocol::results::{hover_value, with_documentation};
 use isle_lsp_text::comments::comments_start;
 use isle_lsp_text::lists::lists;
 use serde_json::Value;
 use std::alloc::{AllocError, Global};
 
-/// Gives the definition of the name at a place as it is written, with the line comments above it,
-/// or null where there is none.
+/// The hover at a place: the source of the definition of the name there, with the line comments
+/// above it, or null if there is none.
 pub fn hover(
     alloc: Global,
     program: &[Text],
@@ -39,14 +39,14 @@ pub fn hover(
         index.occurrence_at(place.pos),
     ) {
         (Some(name), Some(occurrence)) => {
-            let shown = shown_of(alloc, program, index, &name)?;
+            let shown = documentation(alloc, program, index, &name)?;
             hover_at(alloc, place.text, shown, occurrence)
         }
         _ => Ok(Value::Null),
     }
 }
 
-/// Gives what is shown of a name, for where it occurs.
+/// The hover of an occurrence, with this documentation.
 fn hover_at(
     alloc: Global,
     text: &str,
@@ -65,9 +65,8 @@ fn hover_at(
     }
 }
 
-/// Gives an item of a completion with the definition of its name, as hover shows it, or as it is
-/// where there is none.
-pub fn resolved(
+/// A completion item with the documentation of its name, or unchanged if there is none.
+pub fn resolve(
     alloc: Global,
     program: &[Text],
     index: &Index,
@@ -78,27 +77,26 @@ pub fn resolved(
 {
     match item_name(alloc, item)? {
         Some(name) => {
-            let shown = shown_of(alloc, program, index, &name)?;
-            resolved_with(alloc, item, shown)
+            let shown = documentation(alloc, program, index, &name)?;
+            resolve_with(alloc, item, shown)
         }
         None => item.clone(),
     }
 }
 
-/// Gives an item of a completion with what is shown of its name, or as it is.
-fn resolved_with(alloc: Global, item: &Value, shown: Option<String>) -> Result<Value, AllocError>
+/// A completion item with this documentation, if any.
+fn resolve_with(alloc: Global, item: &Value, shown: Option<String>) -> Result<Value, AllocError>
     ensures { IfOk result (λ value. view value
         ≡ wanted.resolved_data (view item.now) (option_map string_bytes shown)) }
 {
     match shown {
-        Some(shown) => documented(alloc, item, shown.as_str()),
+        Some(shown) => with_documentation(alloc, item, shown.as_str()),
         None => item.clone(),
     }
 }
 
-/// Makes what is shown of a name: its first definition. There is nothing of a name that the program
-/// does not define.
-fn shown_of(
+/// The documentation of a name, which is its first definition, or `None` if it is not defined.
+fn documentation(
     alloc: Global,
     program: &[Text],
     index: &Index,
@@ -109,13 +107,13 @@ fn shown_of(
 {
     let found = index.definitions(alloc, name)?;
     match found.first() {
-        Some(definition) => shown_at(alloc, program, name, *definition),
+        Some(definition) => documentation_at(alloc, program, name, *definition),
         None => Ok(None),
     }
 }
 
-/// Makes what is shown of a definition, if its text is there.
-fn shown_at(
+/// The documentation of a definition, or `None` if its text is not in the program.
+fn documentation_at(
     alloc: Global,
     program: &[Text],
     name: &Name,
@@ -126,14 +124,14 @@ fn shown_at(
 {
     match source_at(program, definition.pos.file) {
         Some(source) => {
-            let shown = shown_definition(alloc, source.text, name, definition)?;
+            let shown = definition_text(alloc, source.text, name, definition)?;
             Ok(Some(shown))
         }
         None => Ok(None),
     }
 }
 
-/// Gives the text of a number, with its name.
+/// The text with this number.
 fn source_at<'a>(program: &'a [Text<'a>], file: usize) -> Option<&'a Text<'a>>
     ensures { option_map (λ s. source_of s.now) result
         ≡ slice_get (map source_of program.now) file }
@@ -141,8 +139,8 @@ fn source_at<'a>(program: &'a [Text<'a>], file: usize) -> Option<&'a Text<'a>>
     program.get(file)
 }
 
-/// Makes what is shown of a definition: its text, in a block, after the comments above it.
-fn shown_definition(
+/// The source of a definition as a block of Markdown, with the comments above it.
+fn definition_text(
     alloc: Global,
     text: &str,
     name: &Name,
@@ -160,7 +158,7 @@ fn shown_definition(
     format!(in alloc; "```isle\n{part}\n```")
 }
 
-/// Gives the text from an offset to another, where that cuts no character.
+/// The text from one offset to another, or nothing if that splits a character.
 fn cut(text: &str, from: usize, to: usize) -> &str
     ensures { IsCut text.now from to result.now }
 {

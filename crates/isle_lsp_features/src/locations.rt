@@ -1,11 +1,11 @@
-//! Where names stand.
+//! The locations of names.
 
 ghost use Rattle.std.specs.Prelude.{◌≡◌, ◌∷◌, [], IfOk, Some, map, option_map};
 ghost use Rattle.std.specs.Prelude.{option_to_list};
 ghost use Rattle.isle_lsp_features.specs.Programs.{source_of};
 ghost use Rattle.isle_index.specs.Occurrences.{name_at};
 ghost use Rattle.isle_index.specs.Held.{all_in};
-ghost use Rattle.isle_lsp_messages.specs.Items.{item_data, items_data};
+ghost use Rattle.isle_lsp_protocol.specs.Items.{item_data, items_data};
 ghost use Rattle.isle_lsp_features.specs.Answers.{list_data};
 ghost use Rattle.isle_lsp_features.specs.Located as wanted;
 ghost use Rattle.isle_lsp_text.specs.Positions.{IsPlace};
@@ -14,11 +14,11 @@ ghost use Rattle.isle_lsp_features.specs.Located.{AreHighlights, AreReferences, 
 use crate::Text;
 use crate::places::{Place, range_at, range_near};
 use isle_index::{Index, Occurrence};
-use isle_lsp_messages::items::Item;
+use isle_lsp_protocol::items::Item;
 use isle_lsp_text::positions::{Place as TextPlace, START};
 use std::alloc::{AllocError, Global};
 
-/// Gives where the name at a place is defined, or `None` where there is no name.
+/// The definitions of the name at a place, or `None` if there is no name.
 pub fn definition<'a>(
     alloc: Global,
     program: &[Text<'a>],
@@ -37,8 +37,8 @@ pub fn definition<'a>(
     }
 }
 
-/// Gives where the name at a place stands, with its definitions if all are asked for, or `None`
-/// where there is no name.
+/// The uses of the name at a place, with its definitions if they are asked for, or `None` if there
+/// is no name.
 pub fn references<'a>(
     alloc: Global,
     program: &[Text<'a>],
@@ -59,7 +59,7 @@ pub fn references<'a>(
     }
 }
 
-/// Gives where the name at a place stands in its file, or `None` where there is no name.
+/// The uses of the name at a place in its file, or `None` if there is no name.
 pub fn highlights<'a>(
     alloc: Global,
     index: &Index,
@@ -78,7 +78,7 @@ pub fn highlights<'a>(
     }
 }
 
-/// Gives the locations of occurrences, without definitions if they aren't wanted.
+/// The locations of occurrences, without definitions if they are not asked for.
 fn locations<'a>(
     alloc: Global,
     program: &[Text<'a>],
@@ -97,7 +97,7 @@ fn locations<'a>(
     Ok(items)
 }
 
-/// Gives the location of an occurrence, if it is wanted and its text is there.
+/// The location of an occurrence, if it is asked for and its text is in the program.
 fn location_of<'a>(
     program: &[Text<'a>],
     with_definitions: bool,
@@ -115,7 +115,6 @@ fn location_of<'a>(
     }
 }
 
-/// Gives the location of an occurrence in its text.
 fn location_in<'a>(source: Text<'a>, occurrence: Occurrence) -> Item<'a>
     ensures { item_data result ∷ []
         ≡ wanted.location_in (Some (source_of source.entry)) occurrence }
@@ -126,7 +125,7 @@ fn location_in<'a>(source: Text<'a>, occurrence: Occurrence) -> Item<'a>
     }
 }
 
-/// Gives the highlights of those occurrences that are in the text of this number.
+/// The highlights of the occurrences in the text with this number.
 fn highlights_in<'a>(
     alloc: Global,
     file: usize,
@@ -146,7 +145,7 @@ fn highlights_in<'a>(
     Ok(items)
 }
 
-/// Gives the highlight of an occurrence, if it is in the text of this number.
+/// The highlight of an occurrence, if it is in the text with this number.
 fn highlight_of<'a>(
     file: usize,
     text: &str,

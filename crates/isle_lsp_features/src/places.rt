@@ -8,7 +8,7 @@ ghost use Rattle.isle_lsp_text.specs.Positions.{IsPlace};
 
 use crate::Text;
 use isle_base::lexer::Pos;
-use isle_lsp_messages::parameters::{position_of, uri_of};
+use isle_lsp_protocol::parameters::{position_of, uri_of};
 use isle_lsp_text::positions::{Place as TextPlace, Range, START, offset_of, place_at};
 use serde_json::Value;
 
@@ -24,13 +24,13 @@ pub struct File<'a> {
 /// A place in a program.
 #[derive(Clone, Copy, Debug)]
 pub struct Place<'a> {
-    /// The number of its text, and the byte offset.
+    /// The number of its text, and the byte offset in it.
     pub pos: Pos,
     /// The text.
     pub text: &'a str,
 }
 
-/// Gives the text that a message speaks of.
+/// The text that a message names.
 pub fn file_of<'a>(program: &[Text<'a>], message: &Value) -> Option<File<'a>>
     ensures { option_map wanted.file_of result
         ≡ wanted.file_in (view message.now) (map source_of program.now) }
@@ -41,7 +41,7 @@ pub fn file_of<'a>(program: &[Text<'a>], message: &Value) -> Option<File<'a>>
     }
 }
 
-/// Gives the text of a name.
+/// The text with this URI.
 fn file_named<'a>(program: &[Text<'a>], uri: &str) -> Option<File<'a>>
     ensures { option_map wanted.file_of result
         ≡ wanted.file_from 0 uri.now (map source_of program.now) }
@@ -55,7 +55,7 @@ fn file_named<'a>(program: &[Text<'a>], uri: &str) -> Option<File<'a>>
     None
 }
 
-/// Gives the place that a message speaks of.
+/// The place that a message names.
 pub fn place_of<'a>(program: &[Text<'a>], message: &Value) -> Option<Place<'a>>
     ensures { option_map wanted.place_of result
         ≡ wanted.place_in (view message.now) (map source_of program.now) }
@@ -69,7 +69,7 @@ pub fn place_of<'a>(program: &[Text<'a>], message: &Value) -> Option<Place<'a>>
     }
 }
 
-/// Gives the range of so many bytes of a text from an offset on, as far as the text goes.
+/// The range of `len` bytes of a text from an offset on, cut at the end of the text.
 pub fn range_at(text: &str, offset: usize, len: usize) -> Range
     ensures { result ≡ wanted.range_at text.now offset len }
 {
@@ -77,7 +77,7 @@ pub fn range_at(text: &str, offset: usize, len: usize) -> Range
     range_near(text, &mut near, offset, len)
 }
 
-/// Gives that range by a walk from a place nearby, which becomes the place where the range begins.
+/// The same range, found by a walk from a place nearby, which becomes the start of the range.
 pub fn range_near(text: &str, near: &mut TextPlace, offset: usize, len: usize) -> Range
     requires { IsPlace text.now near.old }
     ensures range { result ≡ wanted.range_at text.now offset len }
@@ -94,8 +94,8 @@ pub fn range_near(text: &str, near: &mut TextPlace, offset: usize, len: usize) -
     }
 }
 
-/// Gives the range from one offset of a text to another, as far as the text goes, by a walk from a
-/// place nearby, which becomes the place where the range begins.
+/// The range from one offset of a text to another, cut at the end of the text. It is found by a
+/// walk from a place nearby, which becomes the start of the range.
 pub fn range_between(text: &str, near: &mut TextPlace, from: usize, to: usize) -> Range
     requires { IsPlace text.now near.old }
     ensures range { result ≡ wanted.range_between text.now from to }

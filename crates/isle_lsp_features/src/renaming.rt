@@ -1,4 +1,4 @@
-//! The edits that change a name.
+//! The edits that rename a name.
 
 ghost use Rattle.std.specs.Prelude.{◌≡◌, ◌≤◌, IfOk, Some, map, option_map, option_to_list};
 ghost use Rattle.serde_json.specs.View.{view};
@@ -7,38 +7,41 @@ ghost use Rattle.isle_lsp_features.specs.Programs.{source_of};
 ghost use Rattle.isle_index.specs.Names.{named_of};
 ghost use Rattle.isle_index.specs.Occurrences.{name_at, occurrence_at};
 ghost use Rattle.isle_index.specs.Held.{all_in};
-ghost use Rattle.isle_lsp_features.specs.Answers.{IsRenaming, IsRenamingOf, answer_of};
+ghost use Rattle.isle_lsp_features.specs.Answers.{IsRenaming, IsRenamingOf};
 ghost use Rattle.isle_lsp_features.specs.Renamed as wanted;
-ghost use Rattle.isle_lsp_messages.specs.Items.{item_data, items_data};
-ghost use Rattle.isle_lsp_messages.specs.Parameters as parameters;
-ghost use Rattle.isle_lsp_messages.specs.Results.{workspace_edit};
+ghost use Rattle.isle_lsp_protocol.specs.Items.{item_data, items_data};
+ghost use Rattle.isle_lsp_protocol.specs.Parameters as parameters;
+ghost use Rattle.isle_lsp_protocol.specs.Replies.{outcome_of};
+ghost use Rattle.isle_lsp_protocol.specs.Results.{workspace_edit};
 ghost use Rattle.isle_lsp_text.specs.Positions.{IsPlace};
 
+use crate::Text;
 use crate::places::{Place, range_at, range_near};
-use crate::{Text, Told};
 use isle_base::lexer::Pos;
 use isle_index::{Index, Kind, Name, Occurrence, Refusal};
-use isle_lsp_messages::items::{Item, Listing};
-use isle_lsp_messages::parameters::new_name_of;
-use isle_lsp_messages::results::range_value;
+use isle_lsp_protocol::items::{Item, Listing};
+use isle_lsp_protocol::machine::ErrorCode;
+use isle_lsp_protocol::parameters::new_name_of;
+use isle_lsp_protocol::replies::{Outcome, error_outcome};
+use isle_lsp_protocol::results::range_value;
 use isle_lsp_text::positions::{Place as TextPlace, Range, START};
 use serde_json::Value;
 use std::alloc::{AllocError, Global};
 
-/// Gives the range of the name at a place, or null where there is none.
-pub fn prepared(alloc: Global, index: &Index, place: Place) -> Result<Value, AllocError>
+/// The range of the name at a place, or null if there is none.
+pub fn prepare(alloc: Global, index: &Index, place: Place) -> Result<Value, AllocError>
     ensures { let all = all_in index.now in IfOk result (λ value. view value
         ≡ wanted.prepared place.entry.text.now (name_at place.entry.pos all)
         (occurrence_at place.entry.pos all)) }
 {
     match index.name_at(alloc, place.pos)? {
-        Some(name) => prepared_name(alloc, place.text, &name, index.occurrence_at(place.pos)),
+        Some(name) => name_range(alloc, place.text, &name, index.occurrence_at(place.pos)),
         None => Ok(Value::Null),
     }
 }
 
-/// Gives the range of a name where it is written, if it is.
-fn prepared_name(
+/// The range of a name at an occurrence, or null if there is none.
+fn name_range(
     alloc: Global,
     text: &str,
     name: &Name,
@@ -49,7 +52,7 @@ fn prepared_name(
 {
     match occurrence {
         Some(occurrence) => {
-            let skipped = skipped(name);
+            let skipped = prefix_len(name);
             let offset = occurrence.pos.offset.min(text.len()) + skipped;
             let range = range_at(text, offset, occurrence.len.saturating_sub(skipped));
             range_value(alloc, range)
@@ -58,10 +61,10 @@ fn prepared_name(
     }
 }
 
-/// How many bytes stand before the text of a name where it is written: the `$` of a constant.
-fn skipped(name: &Name) -> usize
+/// The number of bytes in front of the text of a name where it occurs: the `$` of a constant.
+fn prefix_len(name: &Name) -> usize
     ensures few { result ≤ 1 }
-    ensures value { result ≡ wanted.skipped (named_of name.now) }
+    ensures value { result ≡ wanted.prefix_len (named_of name.now) }
 {
     match name {
         Name::Global {
@@ -72,61 +75,61 @@ fn skipped(name: &Name) -> usize
     }
 }
 
-/// Gives the edits that change the name at a place, or says why it can't be changed.
-pub fn renamed<'a>(
+/// The edits that rename the name at a place, or why it cannot be renamed.
+pub fn rename<'a>(
     alloc: Global,
     program: &[Text<'a>],
     index: &Index,
     place: Place,
     message: &Value,
-) -> Result<Told<'a>, AllocError>
-    ensures { let all = all_in index.now in IfOk result (λ answer. IsRenamingOf
+) -> Result<Outcome<'a>, AllocError>
+    ensures { let all = all_in index.now in IfOk result (λ outcome. IsRenamingOf
         (map source_of program.now) all (name_at place.entry.pos all)
-        (parameters.new_name_of (view message.now)) (answer_of answer)) }
+        (parameters.new_name_of (view message.now)) (outcome_of outcome)) }
 {
     let Some(new) = new_name_of(message) else {
-        return Ok(Told::Unplaced);
+        return Ok(error_outcome(ErrorCode::InvalidParams));
     };
     match index.name_at(alloc, place.pos)? {
-        Some(name) => renamed_name(alloc, program, index, &name, new),
-        None => Ok(Told::Refused("there is no name to change")),
+        Some(name) => rename_name(alloc, program, index, &name, new),
+        None => Ok(Outcome::Failed(ErrorCode::RequestFailed, "there is no name to rename")),
     }
 }
 
-/// Gives the edits that change a name, or says why it can't be changed.
-fn renamed_name<'a>(
+/// The edits that rename a name, or why it cannot be renamed.
+fn rename_name<'a>(
     alloc: Global,
     program: &[Text<'a>],
     index: &Index,
     name: &Name,
     new: &str,
-) -> Result<Told<'a>, AllocError>
-    ensures { IfOk result (λ answer. IsRenaming (map source_of program.now)
-        (all_in index.now) (named_of name.now) new.now (answer_of answer)) }
+) -> Result<Outcome<'a>, AllocError>
+    ensures { IfOk result (λ outcome. IsRenaming (map source_of program.now)
+        (all_in index.now) (named_of name.now) new.now (outcome_of outcome)) }
 {
     match index.rename(alloc, name, new)? {
         Ok(places) => {
             let changes = changes(alloc, program, name, new, &places)?;
-            Ok(Told::Listed(Listing::Changes(changes)))
+            Ok(Outcome::Listed(Listing::Changes(changes)))
         }
-        Err(refusal) => Ok(Told::Refused(reason_of(refusal))),
+        Err(refusal) => Ok(Outcome::Failed(ErrorCode::RequestFailed, reason_of(refusal))),
     }
 }
 
-/// Says why a name can't be changed.
+/// The message of a refusal.
 fn reason_of(refusal: Refusal) -> &'static str
     ensures { result.now ≡ wanted.reason_of refusal }
 {
     match refusal {
-        Refusal::NotAName => "the new name is not one of ISLE",
-        Refusal::Undefined => "the program does not define the name",
-        Refusal::Variant => "a variant can't be renamed",
-        Refusal::Taken => "the new name is taken",
-        Refusal::Captured => "the new name would be that of another variable",
+        Refusal::NotAName => "not a valid ISLE identifier",
+        Refusal::Undefined => "the name is not defined in the workspace",
+        Refusal::Variant => "a variant cannot be renamed",
+        Refusal::Taken => "the new name is already in use",
+        Refusal::Captured => "the new name would shadow, or be shadowed by, another variable",
     }
 }
 
-/// Gives the edits at these places, text by text.
+/// The edits at these places, text by text.
 fn changes<'a>(
     alloc: Global,
     program: &[Text<'a>],
@@ -146,7 +149,7 @@ fn changes<'a>(
     Ok(items)
 }
 
-/// Gives the edits of a text, if it has any.
+/// The edits in a text, if there are any.
 fn change_in<'a>(
     alloc: Global,
     number: usize,
@@ -169,7 +172,7 @@ fn change_in<'a>(
     }))
 }
 
-/// Gives the ranges of the places in the text of this number.
+/// The ranges at those places that are in the text with this number.
 fn ranges_in(
     alloc: Global,
     number: usize,
@@ -190,7 +193,7 @@ fn ranges_in(
     Ok(ranges)
 }
 
-/// Gives the range of a place, if it is in the text of this number.
+/// The range at a place, if it is in the text with this number.
 fn range_in(number: usize, text: &str, near: &mut TextPlace, name: &Name, pos: Pos) -> Option<Range>
     requires { IsPlace text.now near.old }
     ensures range { option_to_list result
@@ -200,6 +203,6 @@ fn range_in(number: usize, text: &str, near: &mut TextPlace, name: &Name, pos: P
     if pos.file != number {
         return None;
     }
-    let offset = pos.offset.min(text.len()) + skipped(name);
+    let offset = pos.offset.min(text.len()) + prefix_len(name);
     Some(range_near(text, near, offset, name.text().len()))
 }

@@ -1,4 +1,4 @@
-//! What files define.
+//! The definitions in texts.
 
 ghost use Rattle.std.specs.Prelude.{◌≡◌, ◌++◌, IfOk, OnOk, map, option_map, option_to_list};
 ghost use Rattle.std.specs.List.{flat_map};
@@ -7,7 +7,7 @@ ghost use Rattle.serde_json.specs.View.{items_of};
 ghost use Rattle.isle_lsp_features.specs.Programs.{source_of};
 ghost use Rattle.isle_index.specs.Held.{all_in};
 ghost use Rattle.isle_index.specs.Symbols.{symbol_of, symbols};
-ghost use Rattle.isle_lsp_messages.specs.Items.{item_data, items_data};
+ghost use Rattle.isle_lsp_protocol.specs.Items.{item_data, items_data};
 ghost use Rattle.isle_lsp_features.specs.Defined as wanted;
 ghost use Rattle.isle_lsp_features.specs.Defined.{AreDocumentSymbols};
 ghost use Rattle.isle_lsp_text.specs.Positions.{IsPlace};
@@ -16,12 +16,12 @@ use crate::Text;
 use crate::places::{File, range_between, range_near};
 use crate::wholes::whole_of;
 use isle_index::{Index, Symbol, SymbolKind};
-use isle_lsp_messages::items::Item;
+use isle_lsp_protocol::items::Item;
 use isle_lsp_text::lists::{ListSpan, lists};
 use isle_lsp_text::positions::{Place as TextPlace, START};
 use std::alloc::{AllocError, Global};
 
-/// Gives what a text of a program defines, in order.
+/// The definitions in a text of a program, in order.
 pub fn document_symbols<'a>(
     alloc: Global,
     index: &Index,
@@ -35,7 +35,6 @@ pub fn document_symbols<'a>(
     symbol_items(alloc, file.text, &lists, &symbols)
 }
 
-/// Gives definitions.
 fn symbol_items<'a>(
     alloc: Global,
     text: &str,
@@ -55,7 +54,6 @@ fn symbol_items<'a>(
     Ok(items)
 }
 
-/// Gives a definition.
 #[tactic(auto, unfolding(crate::specs::Defined::symbol_data))]
 fn symbol_item<'a>(
     alloc: Global,
@@ -81,7 +79,6 @@ fn symbol_item<'a>(
     })
 }
 
-/// Tells whether a symbol is a variant of a type.
 fn is_variant(kind: SymbolKind) -> bool
     ensures { result ≡ wanted.is_variant kind }
 {
@@ -91,7 +88,7 @@ fn is_variant(kind: SymbolKind) -> bool
     }
 }
 
-/// Gives what a program defines under names that have these letters, file by file.
+/// The definitions in a program whose names match a query, file by file.
 pub fn workspace_symbols<'a>(
     alloc: Global,
     program: &[Text<'a>],
@@ -109,7 +106,7 @@ pub fn workspace_symbols<'a>(
     Ok(items)
 }
 
-/// Adds the symbols of a file whose names have these letters.
+/// Adds the symbols of a file whose names match a query.
 fn add_matching<'a>(
     alloc: Global,
     source: Text<'a>,
@@ -123,16 +120,16 @@ fn add_matching<'a>(
 {
     let mut near = START;
     for symbol in symbols {
-        if let Some(item) = matching(alloc, source, &mut near, symbol, query)? {
+        if let Some(item) = matching_symbol(alloc, source, &mut near, symbol, query)? {
             items.push(item)?;
         }
     }
     Ok(())
 }
 
-/// Gives a symbol of a file, if its name has these letters.
+/// A symbol of a file as an item, if its name matches a query.
 #[tactic(auto, unfolding(crate::specs::Defined::symbol_in))]
-fn matching<'a>(
+fn matching_symbol<'a>(
     alloc: Global,
     source: Text<'a>,
     near: &mut TextPlace,
@@ -156,8 +153,8 @@ fn matching<'a>(
     }))
 }
 
-/// Tells whether the bytes of a query stand in a name one after the other, side by side or not.
-/// Capital and small letters of ASCII are the same.
+/// Returns whether the bytes of a query occur in a name in the same order, but not necessarily side
+/// by side. The case of ASCII letters is ignored.
 fn has_letters(name: &str, query: &str) -> bool
     ensures { result ≡ wanted.has_letters query.now name.now }
 {
@@ -168,7 +165,7 @@ fn has_letters(name: &str, query: &str) -> bool
     letters.is_empty()
 }
 
-/// Gives the letters that are still to come after a byte of a name.
+/// The letters of the query that are still to be found after a byte of the name.
 fn letters_left(letters: &[u8], byte: u8) -> &[u8]
     ensures { result.now ≡ wanted.letters_left letters.now byte }
 {
@@ -178,7 +175,7 @@ fn letters_left(letters: &[u8], byte: u8) -> &[u8]
     }
 }
 
-/// Gives the protocol's number of a kind of symbol.
+/// The protocol's number of a kind of symbol.
 fn number_of(kind: SymbolKind) -> usize
     ensures { result ≡ wanted.number_of kind }
 {

@@ -1,4 +1,4 @@
-//! Whole definitions, of which the index knows the names.
+//! The extent of definitions, of which the index has only the names.
 
 ghost use Rattle.std.specs.Prelude.{◌≡◌};
 ghost use Rattle.isle_lsp_features.specs.Wholes as wanted;
@@ -8,17 +8,17 @@ use isle_lsp_text::lists::{ListSpan, list_around};
 /// A part of a text.
 #[derive(Clone, Copy, Debug)]
 pub struct Part {
-    /// The offset of its first byte.
+    /// The byte offset at which it begins.
     pub from: usize,
-    /// The offset after its last byte.
+    /// The byte offset at which it ends.
     pub to: usize,
 }
 
-/// In how many lists the list of a variant stands: in that of the `enum`, and of the type.
+/// The number of lists around the list of a variant: those of the `enum` and of the type.
 const VARIANT_DEPTH: usize = 2;
 
-/// Gives the whole of a definition, whose name has so many bytes from an offset on: the innermost
-/// list around it. A variant without fields has no list of its own, and is its name.
+/// The extent of the definition whose name has `len` bytes from an offset on: the innermost list
+/// around it. A variant without fields has no list of its own; its extent is its name.
 pub fn whole_of(text: &str, lists: &[ListSpan], is_variant: bool, offset: usize, len: usize) -> Part
     ensures { result ≡ wanted.whole_of text.now lists.now is_variant offset len }
 {
@@ -32,7 +32,7 @@ pub fn whole_of(text: &str, lists: &[ListSpan], is_variant: bool, offset: usize,
     }
 }
 
-/// Gives so many bytes of a text from an offset on, as far as the text goes.
+/// The part of `len` bytes from an offset on, cut at the end of the text.
 fn part_at(text: &str, offset: usize, len: usize) -> Part
     ensures { result ≡ wanted.part_at text.now offset len }
 {

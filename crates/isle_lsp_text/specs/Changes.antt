@@ -4,11 +4,11 @@ use Rattle.isle_lsp_text.specs.Positions.{offset_at}
 use Rattle.isle_lsp_text.specs.declared.positions.Range.{Range}
 
 -- a text with other bytes between two offsets
-abbrev pub spliced : List ℕ → (start end : ℕ) → List ℕ → List ℕ
-spliced text start end bytes = take start text ++ (bytes ++ drop end text)
+abbrev pub splice : List ℕ → (start end : ℕ) → List ℕ → List ℕ
+splice text start end bytes = take start text ++ (bytes ++ drop end text)
 
 -- a text after a change: of what stands in the range, or else of all of it
-abbrev pub changed : List ℕ → Option Range → List ℕ → List ℕ
-changed text None bytes = bytes
-changed text (Some range) bytes =
-    spliced text (min (offset_at range.start text) (offset_at range.end text)) (max (offset_at range.start text) (offset_at range.end text)) bytes
+abbrev pub apply_change : List ℕ → Option Range → List ℕ → List ℕ
+apply_change text None bytes = bytes
+apply_change text (Some range) bytes =
+    splice text (min (offset_at range.start text) (offset_at range.end text)) (max (offset_at range.start text) (offset_at range.end text)) bytes

@@ -23,7 +23,7 @@ pub data IsCovered : (text covered : List ℕ) → Type 0 where
 abbrev pub Covers : List ℕ → (from to : ℕ) → (part : List ℕ) → Type 0
 Covers text from to part = (rest : List ℕ) → IsCovered (drop to text) rest → IsCovered (drop from text) (part ++ rest)
 
--- what stands on a line after a further byte of it
+-- the contents of a line after one more byte of it
 abbrev pub line_with : Line → ℕ → Line
 line_with Blank b = if b == semicolon then Comment else (if b == space || b == tab || b == carriage_return then Blank else Other)
 line_with Comment b = if b == carriage_return then Commented else Comment
@@ -63,11 +63,11 @@ IsCommentsStart text offset start = (covered : List ℕ) × IsCovered text cover
 
 -- ---- a walk over the lines above
 
--- what stands on the line after a byte
+-- the contents of the line after a byte
 abbrev pub line_after : Line → ℕ → Line
 line_after line b = if b == line_feed then Blank else line_with line b
 
--- where the lines of comments begin after a byte, with this offset after it
+-- the start of the comment lines after a byte, with this offset after it
 abbrev pub start_after : (start : ℕ) → Line → (b next : ℕ) → ℕ
 start_after start Blank b next = if b == line_feed then next else start
 start_after start Comment b next = start

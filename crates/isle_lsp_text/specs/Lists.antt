@@ -1,4 +1,4 @@
--- The lists of a text of ISLE: what stands from a `(` to its `)`, told by the tokens of the text.
+-- The lists of an ISLE text, each from a `(` to its `)`, by the tokens of the text.
 use Rattle.std.specs.Prelude.{◌≡◌, ℕ, ◌+◌, List, [], ◌∷◌, ◌++◌, Bool, ◌&&◌, ◌==◌, Option, None, Some, length, nat_le, nat_lt, if◌then◌else◌}
 use Rattle.isle_base.specs.Lexing.{lexes}
 use Rattle.isle_base.specs.Token.{Tok, lparen, rparen, symbol, integer, at_sign, Lexeme, Ending}
@@ -27,14 +27,14 @@ abbrev pub lists_of : List ℕ → List Lexeme → List ListSpan
 lists_of begun [] = []
 lists_of begun (x ∷ xs) = closed x.token x.offset begun ++ lists_of (opened x.token x.offset begun) xs
 
--- These are all lists of a text: of its tokens up to its end, or to what does not lex.
+-- These are all lists of a text: of its tokens up to its end, or to a lexical error.
 pub record AreLists (text : List ℕ) (lists : List ListSpan) : Type 0 where
   pub tokens : List Lexeme
   pub ending : Ending
   pub lexed : lexes text tokens ending
   pub are : lists ≡ lists_of [] tokens
 
--- whether an offset is inside of a list that stands in so many lists at least
+-- whether an offset is inside a list that is nested in at least `depth` lists
 abbrev pub holds : (depth offset : ℕ) → ListSpan → Bool
 holds depth offset l = nat_lt l.from offset && nat_lt offset l.to && nat_le depth l.depth
 
@@ -43,7 +43,7 @@ abbrev pub list_around : (depth offset : ℕ) → List ListSpan → Option ListS
 list_around depth offset [] = None
 list_around depth offset (l ∷ ls) = if holds depth offset l then Some l else list_around depth offset ls
 
--- the outermost list around an offset: the one that holds it and stands in no other
+-- the outermost list around an offset
 abbrev pub outer_list : (offset : ℕ) → List ListSpan → Option ListSpan
 outer_list offset [] = None
 outer_list offset (l ∷ ls) = if l.depth == 0 && holds 0 offset l then Some l else outer_list offset ls

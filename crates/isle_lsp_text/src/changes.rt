@@ -1,37 +1,35 @@
-//! Changes of a text.
+//! Changes to a text.
 
 ghost use Rattle.std.specs.Prelude.{◌≡◌, ◌≤◌, IfOk, string_bytes};
 ghost use Rattle.std.specs.Str.{IsCharBoundary};
-ghost use Rattle.isle_lsp_text.specs.Changes.{changed, spliced};
+ghost use Rattle.isle_lsp_text.specs.Changes.{apply_change, splice};
 
 use crate::positions::{Range, offset_of};
 use std::alloc::{AllocError, Global};
 
-/// Gives a text after a change: the new text stands where the range was, or, without a range, in
-/// place of the whole text.
+/// Applies a change: the new text replaces the range or, if there is none, the whole text.
 ///
-/// A range that ends before it begins is read the other way round. It fails only where memory runs
-/// out.
-pub fn changed(
+/// A range that ends before it begins is read the other way round.
+pub fn apply_change(
     alloc: Global,
     text: &str,
     range: Option<Range>,
     new: &str,
 ) -> Result<String, AllocError>
-    ensures { IfOk result (λ after. string_bytes after ≡ changed text.now range new.now) }
+    ensures { IfOk result (λ after. string_bytes after ≡ apply_change text.now range new.now) }
 {
     match range {
         Some(range) => {
             let start = offset_of(text, range.start);
             let end = offset_of(text, range.end);
-            spliced(alloc, text, start.min(end), start.max(end), new)
+            splice(alloc, text, start.min(end), start.max(end), new)
         }
         None => String::from_str(alloc, new),
     }
 }
 
-/// Gives a text with another text between two offsets.
-fn spliced(
+/// Replaces the part of a text between two byte offsets.
+fn splice(
     alloc: Global,
     text: &str,
     start: usize,
@@ -41,7 +39,7 @@ fn spliced(
     requires order { start ≤ end }
     requires start { IsCharBoundary text.now start }
     requires end { IsCharBoundary text.now end }
-    ensures { IfOk result (λ after. string_bytes after ≡ spliced text.now start end new.now) }
+    ensures { IfOk result (λ after. string_bytes after ≡ splice text.now start end new.now) }
 {
     let mut after = String::from_str(alloc, &text[..start])?;
     after.push_str(new)?;

@@ -11,35 +11,34 @@ use isle_base::ends::{block_comment_end, opens_at};
 use isle_base::lexer::line_comment_end;
 use std::alloc::{AllocError, Global};
 
-/// What stands on a line so far.
+/// The contents of a line so far.
 #[derive(Clone, Copy, Debug, PartialEq, Eq)]
 pub enum Line {
     /// Blanks alone, or nothing.
     Blank,
     /// A comment that goes on, after blanks and comments.
     Comment,
-    /// Comments, and blanks after the last one's end.
+    /// Comments, and blanks after the last one.
     Commented,
     /// Anything else.
     Other,
 }
 
-/// Gives where the lines of line comments begin that end right above the line of an offset, or that
-/// line, where blanks alone stand before the offset there, and the offset elsewhere.
+/// The start of the comment lines directly above `offset`; of `offset`'s own line if there are
+/// none; `offset` itself if other code precedes it on its line.
 ///
-/// A line that a block comment is on is none of comments. A line ends with LF; a line comment ends
-/// with LF or CR. An offset past the text means the text's end. It fails only where memory runs
-/// out.
+/// A line with a block comment is not a comment line. A line ends with LF; a line comment ends with
+/// LF or CR. An offset past the end of the text means its end.
 pub fn comments_start(alloc: Global, text: &str, offset: usize) -> Result<usize, AllocError>
     ensures { IfOk result (λ start. IsCommentsStart text.now offset start) }
 {
-    let covered = covered(alloc, text.as_bytes())?;
+    let covered = cover_block_comments(alloc, text.as_bytes())?;
     let end = offset.min(covered.len());
     Ok(start_of_comments(&covered[..end]))
 }
 
-/// Gives a text with a `(` in place of each byte of its block comments.
-fn covered(alloc: Global, text: &[u8]) -> Result<Vec<u8>, AllocError>
+/// Copies a text with a `(` in place of each byte of its block comments.
+fn cover_block_comments(alloc: Global, text: &[u8]) -> Result<Vec<u8>, AllocError>
     ensures { IfOk result (λ covered. IsCovered text.now covered.items) }
 {
     let mut covered = Vec::new(alloc);
@@ -54,7 +53,7 @@ fn covered(alloc: Global, text: &[u8]) -> Result<Vec<u8>, AllocError>
     Ok(covered)
 }
 
-/// Gives the offset after the block comment that begins at an offset, or the text's end.
+/// The offset after the block comment at `at`, or the end of the text if it is not closed.
 fn block_end(text: &[u8], at: usize) -> usize
     requires at { at < length text.now }
     requires opens { opens (drop at text.now) ≡ true }
@@ -68,7 +67,7 @@ fn block_end(text: &[u8], at: usize) -> usize
     }
 }
 
-/// Gives the offset after the line comment or the byte at an offset.
+/// The offset after the line comment or the byte at `at`.
 fn bare_end(text: &[u8], at: usize) -> usize
     requires at { at < length text.now }
     requires opens { opens (drop at text.now) ≡ false }
@@ -83,7 +82,7 @@ fn bare_end(text: &[u8], at: usize) -> usize
     }
 }
 
-/// Gives where the lines of comments begin that these bytes end with.
+/// The start of the comment lines at the end of these bytes.
 fn start_of_comments(before: &[u8]) -> usize
     ensures start { drop result before.now ≡ comments true before.now }
     ensures within { result ≤ length before.now }
@@ -100,7 +99,7 @@ fn start_of_comments(before: &[u8]) -> usize
     }
 }
 
-/// Gives where the lines of comments begin after a byte: behind a line that is none.
+/// The start of the comment lines after a byte: past a line without a comment.
 fn start_after(start: usize, line: Line, byte: u8, next: usize) -> usize
     ensures { result ≡ start_after start line byte next }
 {
@@ -110,7 +109,7 @@ fn start_after(start: usize, line: Line, byte: u8, next: usize) -> usize
     }
 }
 
-/// Tells what stands on the line after a byte.
+/// The contents of the line after a byte.
 fn line_after(line: Line, byte: u8) -> Line
     ensures { result ≡ line_after line byte }
 {
@@ -121,7 +120,7 @@ fn line_after(line: Line, byte: u8) -> Line
     }
 }
 
-/// Tells what stands on a line after a further byte of it.
+/// The contents of a line after one more byte of it.
 fn line_with(line: Line, byte: u8) -> Line
     ensures { result ≡ line_with line byte }
 {

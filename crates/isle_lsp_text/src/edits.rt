@@ -1,4 +1,4 @@
-//! The edits that make one text another, run of lines by run of lines.
+//! The edits that turn one text into another, one for each run of changed lines.
 
 ghost use Rattle.std.specs.Prelude.{◌≡◌, ◌≢◌, ◌<◌, ◌≤◌, ◌++◌, [], IfOk, OnOk, length, true, false};
 ghost use Rattle.isle_lsp_text.specs.Edits.{AreEdits, IsLineStart, applied, changed_only};
@@ -6,24 +6,24 @@ ghost use Rattle.isle_lsp_text.specs.Edits.{part};
 
 use std::alloc::{AllocError, Global};
 
-/// An edit: a part of the old text becomes a part of the new one. Offsets count bytes.
+/// An edit: a part of the new text replaces a part of the old one. Offsets count bytes.
 #[derive(Clone, Copy, Debug, PartialEq, Eq)]
 pub struct Edit {
-    /// Where the part of the old text begins.
+    /// The start of the part of the old text.
     pub start: usize,
-    /// Where it ends.
+    /// The end of the part of the old text.
     pub end: usize,
-    /// Where the part of the new text begins.
+    /// The start of the part of the new text.
     pub from: usize,
-    /// Where it ends.
+    /// The end of the part of the new text.
     pub to: usize,
 }
 
-/// Gives the edits that make one text another, in order: one for each run of lines that changes.
+/// The edits that turn the old text into the new one, in order: one for each run of changed lines.
 ///
-/// Lines are compared one after another. A blank line of the old text is left out where the new
-/// text goes on with another line. So the edits are small where lines change in themselves or blank
-/// lines go, as by tidying, and right for any two texts. It fails only where memory runs out.
+/// Lines are compared one after another. A blank line of the old text is dropped if the new text
+/// goes on with another line. So the edits are small if lines change in place or blank lines go, as
+/// in formatting, and they are correct for any two texts.
 pub fn edits(alloc: Global, old: &str, new: &str) -> Result<Vec<Edit>, AllocError>
     ensures gives { IfOk result (λ edits. applied 0 edits.items old.now new.now ≡ new.now) }
     ensures lines { IfOk result (λ edits. AreEdits 0 edits.items old.now new.now) }
@@ -32,11 +32,10 @@ pub fn edits(alloc: Global, old: &str, new: &str) -> Result<Vec<Edit>, AllocErro
     if old == new {
         return Ok(Vec::new(alloc));
     }
-    changed_runs(alloc, old, new)
+    line_edits(alloc, old, new)
 }
 
-/// Gives the edits, line by line.
-fn changed_runs(alloc: Global, old: &str, new: &str) -> Result<Vec<Edit>, AllocError>
+fn line_edits(alloc: Global, old: &str, new: &str) -> Result<Vec<Edit>, AllocError>
     ensures gives { IfOk result (λ edits. applied 0 edits.items old.now new.now ≡ new.now) }
     ensures lines { IfOk result (λ edits. AreEdits 0 edits.items old.now new.now) }
 {
@@ -72,7 +71,7 @@ fn changed_runs(alloc: Global, old: &str, new: &str) -> Result<Vec<Edit>, AllocE
     Ok(edits)
 }
 
-/// Gives the offset after the line that begins at an offset.
+/// The offset after the line that begins at `start`.
 fn next_line(text: &[u8], start: usize) -> usize
     requires { start ≤ length text.now }
     ensures order { start ≤ result }
@@ -88,7 +87,6 @@ fn next_line(text: &[u8], start: usize) -> usize
     text.len()
 }
 
-/// Tells whether two lines have the same bytes.
 fn are_equal(old_line: &[u8], new_line: &[u8]) -> bool
     ensures equal { result ≡ true → old_line.now ≡ new_line.now }
     ensures other { result ≡ false → old_line.now ≢ new_line.now }
@@ -96,7 +94,7 @@ fn are_equal(old_line: &[u8], new_line: &[u8]) -> bool
     old_line == new_line
 }
 
-/// Tells whether a line of the old text is blank, and the line of the new text isn't.
+/// Returns whether a line of the old text is blank and the line of the new text is not.
 fn is_left_out(old_line: &[u8], new_line: &[u8]) -> bool
     ensures { result ≡ true → 0 < length old_line.now }
 {
@@ -113,8 +111,8 @@ fn push_changed(edits: &mut Vec<Edit>, edit: Edit) -> Result<(), AllocError>
     Ok(())
 }
 
-/// Gives the part of the new text that an edit puts in.
-pub fn put_in<'a>(edit: Edit, new: &'a str) -> &'a str
+/// The part of the new text that an edit inserts.
+pub fn replacement<'a>(edit: Edit, new: &'a str) -> &'a str
     requires order { edit.from ≤ edit.to }
     requires from { IsLineStart new.now edit.from }
     requires to { IsLineStart new.now edit.to }

@@ -1,15 +1,15 @@
-//! Laws of positions, each the contract of a call that does nothing.
+//! Laws of positions, each stated as the contract of a function that does nothing.
 
 ghost use Rattle.std.specs.Prelude.{◌≡◌, ℕ, List, true};
 ghost use Rattle.std.specs.Str.{all_scalars, encode_utf8_all};
 ghost use Rattle.isle_lsp_text.specs.Positions.{IsWhole, offset_at, position_at, units, units_of};
 
-/// The offset of an offset's position is that offset, where no character and no CR LF is cut.
+/// The offset of an offset's position is that offset, unless it is inside a character or a CR LF.
 pub fn inverse()
     ensures { (text : List ℕ) (n : ℕ) → IsWhole text n → offset_at (position_at n text) text ≡ n }
 {}
 
-/// The units that bytes are counted by are those of UTF-16.
+/// The units counted from bytes are those of UTF-16.
 pub fn are_utf16()
     ensures { (cs : List ℕ) → all_scalars cs ≡ true → units (encode_utf8_all cs) ≡ units_of cs }
 {}

@@ -1,5 +1,5 @@
 //! The texts of the Language Server Protocol: positions by lines and units of UTF-16, changes, and
-//! the edits that make one text another.
+//! the edits that turn one text into another.
 //!
 //! Offsets count bytes from 0, as everywhere else. Lines and units are counted from 0. A line ends
 //! with LF, with CR LF, or with a CR that no LF follows.

@@ -1,4 +1,4 @@
-//! The lists of a text of ISLE: what stands from a `(` to its `)`.
+//! The lists of an ISLE text, each from a `(` to its `)`.
 
 ghost use Rattle.std.specs.Prelude.{◌≡◌, ◌+◌, ◌<◌, ◌^◌, ◌++◌, [], IfOk, OnOk, reverse};
 ghost use Rattle.isle_base.specs.TokenView.{token_of_ref};
@@ -16,13 +16,14 @@ pub struct ListSpan {
     pub from: usize,
     /// The offset after its `)`.
     pub to: usize,
-    /// In how many lists it stands.
+    /// The number of lists around it.
     pub depth: usize,
 }
 
-/// Gives the lists of a text, in the order in which they end. They are told by its tokens, so a
-/// parenthesis in a comment is none; where a text does not lex, they end. An `Err` means that
-/// memory ran out.
+/// The lists of a text, in the order in which they end.
+///
+/// They are made of tokens, so parentheses in comments do not count. After a lexical error there
+/// are no more.
 pub fn lists(alloc: Global, text: &str) -> Result<Vec<ListSpan>, AllocError>
     ensures { IfOk result (λ found. AreLists text.now found.items) }
 {
@@ -33,7 +34,7 @@ pub fn lists(alloc: Global, text: &str) -> Result<Vec<ListSpan>, AllocError>
     }
 }
 
-/// Gives the lists of the tokens that a scanner has ahead.
+/// The lists among the tokens that a scanner has not read yet.
 fn lists_ahead(alloc: Global, mut scanner: Scanner) -> Result<Vec<ListSpan>, AllocError>
     ensures { IfOk result (λ found. found.items ≡ lists_of [] scanner.entry.coming) }
 {
@@ -49,7 +50,7 @@ fn lists_ahead(alloc: Global, mut scanner: Scanner) -> Result<Vec<ListSpan>, All
     Ok(found)
 }
 
-/// Takes a token: a `(` opens a list, and a `)` ends the last one that is open.
+/// Processes a token: a `(` opens a list, and a `)` closes the list opened last.
 fn add(
     ahead: (Pos, TokenRef),
     begun: &mut Vec<usize>,
@@ -76,7 +77,7 @@ fn add(
     Ok(())
 }
 
-/// Gives the innermost list around an offset that stands in so many lists at least.
+/// The innermost list around an offset that is nested in at least `depth` lists.
 pub fn list_around(lists: &[ListSpan], depth: usize, offset: usize) -> Option<ListSpan>
     ensures { result ≡ list_around depth offset lists.now }
 {
@@ -88,14 +89,14 @@ pub fn list_around(lists: &[ListSpan], depth: usize, offset: usize) -> Option<Li
     None
 }
 
-/// Tells whether an offset is inside of a list that stands in so many lists at least.
+/// Returns whether an offset is inside a list that is nested in at least `depth` lists.
 fn holds(list: &ListSpan, depth: usize, offset: usize) -> bool
     ensures { result ≡ holds depth offset list.now }
 {
     list.from < offset && offset < list.to && depth <= list.depth
 }
 
-/// Gives the outermost list around an offset: the one in no other that has it inside.
+/// The outermost list around an offset.
 pub fn outer_list(lists: &[ListSpan], offset: usize) -> Option<ListSpan>
     ensures { result ≡ outer_list offset lists.now }
 {

@@ -10,23 +10,23 @@ ghost use Rattle.isle_lsp_text.specs.Positions.{offset_from, position_at, unit_c
 pub struct Position {
     /// The line.
     pub line: usize,
-    /// How many units of UTF-16 stand before it on its line.
+    /// The number of UTF-16 units before it on its line.
     pub unit: usize,
 }
 
 /// A part of a text, as the protocol counts.
 #[derive(Clone, Copy, Debug, PartialEq, Eq)]
 pub struct Range {
-    /// Where it begins.
+    /// Its start.
     pub start: Position,
-    /// Where it ends.
+    /// Its end.
     pub end: Position,
 }
 
 /// A place in a text: a byte offset, and its position.
 #[derive(Clone, Copy, Debug, PartialEq, Eq)]
 pub struct Place {
-    /// The offset.
+    /// The byte offset.
     pub offset: usize,
     /// The position of that offset.
     pub position: Position,
@@ -38,11 +38,12 @@ pub const START: Place = Place {
     position: Position { line: 0, unit: 0 },
 };
 
-/// Gives the place of an offset, by a walk from a place nearby. An offset past the text means the
-/// text's end.
+/// The place of a byte offset, found by a walk from a place nearby. An offset past the end of the
+/// text means its end.
 ///
-/// From a place at or before the offset it looks at the bytes between the two, else at those from
-/// the start of the text on. So many offsets in order cost one walk over the text.
+/// If the place nearby is not after the offset, only the bytes between the two are read, and
+/// otherwise those from the start of the text. So offsets in ascending order cost one pass over the
+/// text.
 pub fn place_at(text: &str, nearby: Place, offset: usize) -> Place
     requires { IsPlace text.now nearby }
     ensures position { result.position ≡ position_at offset text.now }
@@ -56,7 +57,7 @@ pub fn place_at(text: &str, nearby: Place, offset: usize) -> Place
     }
 }
 
-/// Gives the place of an offset, by a walk from a place at or before it.
+/// The place of an offset, found by a walk from a place at or before it.
 fn place_after(text: &str, from: Place, offset: usize) -> Place
     requires from { IsPlace text.now from }
     requires order { from.offset ≤ offset }
@@ -79,20 +80,19 @@ fn place_after(text: &str, from: Place, offset: usize) -> Place
     Place { offset, position }
 }
 
-/// Gives the byte offset of a position.
+/// The byte offset of a position.
 ///
 /// A unit past the end of its line means that end, and a line past the last one the end of the
-/// text. A position inside a character means the place before that character.
+/// text. A position inside a character means the start of that character.
 pub fn offset_of(text: &str, position: Position) -> usize
     ensures offset { result ≡ offset_from position.line position.unit text.now }
     ensures whole { IsWhole text.now result }
     ensures boundary { IsCharBoundary text.now result }
 {
-    found_offset(text.as_bytes(), position)
+    find_offset(text.as_bytes(), position)
 }
 
-/// Finds the byte offset of a position.
-fn found_offset(bytes: &[u8], position: Position) -> usize
+fn find_offset(bytes: &[u8], position: Position) -> usize
     ensures { result ≡ offset_from position.line position.unit bytes.now }
 {
     let mut lines = position.line;
@@ -115,7 +115,7 @@ fn found_offset(bytes: &[u8], position: Position) -> usize
     bytes.len()
 }
 
-/// Tells whether a line ends after the byte at an offset.
+/// Returns whether a line ends after the byte at index `i`.
 fn ends_line(bytes: &[u8], i: usize) -> bool
     requires { i < length bytes.now }
     ensures { result ≡ ends_line (slice_index bytes.now i) (drop (i + 1) bytes.now) }
@@ -127,21 +127,21 @@ fn ends_line(bytes: &[u8], i: usize) -> bool
     }
 }
 
-/// Tells whether a line's characters end before a byte.
+/// Returns whether a byte is part of a line end.
 fn is_line_end(byte: u8) -> bool
     ensures { result ≡ is_line_end byte }
 {
     byte == b'\n' || byte == b'\r'
 }
 
-/// Tells whether a byte of a character isn't its first one.
+/// Returns whether a byte belongs to a character that an earlier byte begins.
 fn is_inner(byte: u8) -> bool
     ensures { result ≡ is_inner byte }
 {
     byte > 127 && byte < 192
 }
 
-/// How many units of UTF-16 the character has that begins with a byte, and 0 at another byte.
+/// The number of UTF-16 units of the character that begins with this byte; 0 if none does.
 fn unit_count(byte: u8) -> usize
     ensures count { result ≡ unit_count byte }
     ensures bound { result ≤ 2 }

@@ -1,6 +1,6 @@
 use Rattle.std.proofs.Common.{◌≡◌, ◌++◌, drop, filter, map}
 use Rattle.isle_cli.specs.Sources.{source_of}
-use Rattle.isle_lsp_documents.specs.Documents.{document_of}
+use Rattle.isle_lsp.specs.Documents.{document_of}
 use Rattle.isle_lsp_features.specs.Programs as programs
 use Rattle.isle_lsp.specs.Serving.{is_closed, program_of}
 use Rattle.isle_lsp.proofs.server.program_of.Given as goal

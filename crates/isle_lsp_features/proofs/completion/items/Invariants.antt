@@ -1,7 +1,7 @@
 use Rattle.std.proofs.Common.{◌≡◌, ◌++◌, None, map, drop}
 use Rattle.std.specs.Prelude.{option_map}
 use Rattle.isle_index.specs.Candidates.{candidate_of}
-use Rattle.isle_lsp_messages.specs.Items.{item_data}
+use Rattle.isle_lsp_protocol.specs.Items.{item_data}
 use Rattle.isle_lsp_features.specs.Completed.{item, once}
 use Rattle.isle_lsp_features.proofs.completion.items.Given as goal
 

@@ -1,7 +1,7 @@
 use Rattle.std.proofs.Common.{ap}
 use Rattle.isle_lsp_text.proofs.Places.{start_place}
 use Rattle.isle_lsp_features.proofs.locations.highlights_in.Goals as goal
-use Rattle.isle_lsp_messages.specs.Items.{item_data}
+use Rattle.isle_lsp_protocol.specs.Items.{item_data}
 use Rattle.std.specs.Prelude.{map}
 
 pub loop-occurrence-init : goal.loop-occurrence-init

@@ -1,7 +1,7 @@
 use Rattle.std.proofs.Common.{◌≡◌, map, take}
 use Rattle.std.specs.List.{flat_map}
 use Rattle.isle_lsp_text.specs.Positions.{IsPlace}
-use Rattle.isle_lsp_messages.specs.Items.{item_data}
+use Rattle.isle_lsp_protocol.specs.Items.{item_data}
 use Rattle.isle_lsp_features.specs.Located.{highlight_of}
 use Rattle.isle_lsp_features.proofs.locations.highlights_in.Given as goal
 

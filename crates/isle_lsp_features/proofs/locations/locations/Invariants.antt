@@ -1,6 +1,6 @@
 use Rattle.std.proofs.Common.{◌≡◌, map, take}
 use Rattle.std.specs.List.{flat_map}
-use Rattle.isle_lsp_messages.specs.Items.{item_data}
+use Rattle.isle_lsp_protocol.specs.Items.{item_data}
 use Rattle.isle_lsp_features.specs.Programs.{source_of}
 use Rattle.isle_lsp_features.specs.Located.{location_of}
 use Rattle.isle_lsp_features.proofs.locations.locations.Given as goal

@@ -1,7 +1,7 @@
 use Rattle.std.proofs.Common.{◌≡◌, ◌++◌, map, drop}
 use Rattle.isle_lsp_features.specs.Programs.{source_of}
 use Rattle.isle_index.specs.Names.{named_of}
-use Rattle.isle_lsp_messages.specs.Items.{item_data}
+use Rattle.isle_lsp_protocol.specs.Items.{item_data}
 use Rattle.isle_lsp_features.specs.Renamed.{changes_from}
 use Rattle.isle_lsp_features.proofs.renaming.changes.Given as goal
 

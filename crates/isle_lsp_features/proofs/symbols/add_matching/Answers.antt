@@ -7,4 +7,4 @@ pub loop-symbol-init : goal.loop-symbol-init
 loop-symbol-init c = record { so_far = refl; near = start_place _ }
 
 pub loop-symbol-preserved : goal.loop-symbol-preserved
-loop-symbol-preserved c = record { so_far = grind (arith, common_steps); near = c.matching.ensures.near }
+loop-symbol-preserved c = record { so_far = grind (arith, common_steps); near = c.matching_symbol.ensures.near }

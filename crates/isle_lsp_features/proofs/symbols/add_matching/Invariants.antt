@@ -2,7 +2,7 @@ use Rattle.std.proofs.Common.{◌≡◌, ◌++◌, map, drop}
 use Rattle.std.specs.List.{flat_map}
 use Rattle.isle_lsp_text.specs.Positions.{IsPlace}
 use Rattle.isle_index.specs.Symbols.{symbol_of}
-use Rattle.isle_lsp_messages.specs.Items.{item_data}
+use Rattle.isle_lsp_protocol.specs.Items.{item_data}
 use Rattle.isle_lsp_features.specs.Defined.{symbol_in}
 use Rattle.isle_lsp_features.specs.Programs.{source_of}
 use Rattle.isle_lsp_features.proofs.symbols.add_matching.Given as goal

@@ -2,7 +2,7 @@ use Rattle.std.proofs.Common.{◌∙◌, ap, map}
 use Rattle.serde_json.specs.Data.{array}
 use Rattle.serde_json.specs.View.{items_of}
 use Rattle.isle_index.specs.Symbols.{symbol_of}
-use Rattle.isle_lsp_messages.specs.Items.{item_data}
+use Rattle.isle_lsp_protocol.specs.Items.{item_data}
 use Rattle.isle_lsp_features.specs.Defined.{symbol_data}
 use Rattle.isle_lsp_text.proofs.Places.{start_place}
 use Rattle.isle_lsp_features.proofs.Lists.{each_of, map_map}

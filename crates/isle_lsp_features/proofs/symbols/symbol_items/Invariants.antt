@@ -1,7 +1,7 @@
 use Rattle.std.proofs.Common.{◌≡◌, map, take}
 use Rattle.isle_lsp_text.specs.Positions.{IsPlace}
 use Rattle.isle_index.specs.Symbols.{symbol_of}
-use Rattle.isle_lsp_messages.specs.Items.{item_data}
+use Rattle.isle_lsp_protocol.specs.Items.{item_data}
 use Rattle.isle_lsp_features.specs.Defined.{symbol_data}
 use Rattle.isle_lsp_features.proofs.symbols.symbol_items.Given as goal
 

@@ -1,6 +1,6 @@
 use Rattle.std.proofs.Common.{◌≡◌, ◌++◌, map, drop}
 use Rattle.isle_index.specs.Held.{all_in}
-use Rattle.isle_lsp_messages.specs.Items.{item_data}
+use Rattle.isle_lsp_protocol.specs.Items.{item_data}
 use Rattle.isle_lsp_features.specs.Defined.{symbols_from}
 use Rattle.isle_lsp_features.specs.Programs.{source_of}
 use Rattle.isle_lsp_features.proofs.symbols.workspace_symbols.Given as goal

@@ -1,0 +1,14 @@
+use Rattle.std.proofs.Common.{option_map, ◌∙◌, ap}
+use Rattle.serde_json.specs.View.{view}
+use Rattle.isle_lsp_protocol.specs.Machine.{next_state, action_of}
+use Rattle.isle_lsp.proofs.Talks.{prepared}
+use Rattle.isle_lsp.proofs.conversation.handle_message.Goals as goal
+
+pub returns-clause-ok : goal.returns-clause-ok
+returns-clause-ok g c =
+    let m = c.message_in.ensures in
+    prepared _ _ _ (option_map view c.in_ok-message.message) _ _ c.handle.result
+    (rw c.as_slice.ensures.value at c.in_ok-message.ensures.ok)
+    (c.step-state.ensures.state ∙ ap (next_state c.args.server.now.state) m)
+    (c.step-state.ensures.action ∙ ap (action_of c.args.server.now.state) m)
+    c.handle.ensures.state c.handle.ensures.documents c.handle.ensures.files c.handle.ensures.sends

@@ -1,9 +1,0 @@
-use Rattle.std.proofs.lemmas.Result.{IfOk-weaker}
-use Rattle.isle_lsp.proofs.Results.{named_result}
-use Rattle.isle_lsp.proofs.server.done.Goals as goal
-
-pub returns-in_default-clause-ok : goal.returns-in_default-clause-ok
-returns-in_default-clause-ok c =
-    IfOk-weaker c.named.result _ _
-    (λ o n. named_result c.args.request _ _ _ c.in_default.not-Initialize c.in_default.not-Shutdown c.in_default.not-Formatting c.in_default.not-Unknown n)
-    c.named.ensures.ok

@@ -1,0 +1,58 @@
+-- The diagnostics of a text.
+use Rattle.std.specs.Prelude.{◌≡◌, ℕ, ◌+◌, ◌-◌, ◌⊎◌, List, [], ◌∷◌, ◌++◌, Option, None, Some, filter, length, map, min, not, codes, string_bytes}
+use Rattle.std.specs.List.Sorted.{IsPermutation, IsSortedByKey}
+use Rattle.isle_ast.specs.Tree.{Definition}
+use Rattle.isle_base_source.specs.PositionOrder.{position_cmp}
+use Rattle.isle_base_source.specs.declared.error.Error as errors
+use Rattle.isle_base_source.specs.declared.error.Error.TheVariants.{ParseError}
+use Rattle.isle_lint_core.specs.Finding.{Found, finding_of}
+use Rattle.isle_lint_core.specs.Findings.{findings_in}
+use Rattle.isle_lint_core.specs.Lint.{all_lints, is_default, message}
+use Rattle.isle_lint_core.specs.declared.finding.Finding.{Finding}
+use Rattle.isle_lint_core.specs.declared.lint.Lint.{Lint}
+use Rattle.isle_program.specs.Allowances.{is_allowed}
+use Rattle.isle_program.specs.Reading.{IsRefusedWith, IsTreeOf}
+use Rattle.isle_lsp.specs.declared.diagnostics.Diagnostic.{Diagnostic}
+
+-- a diagnostic of a part of a text
+pub record Mark : Type 0 where
+  pub start : ℕ
+  pub end : ℕ
+  pub lint : Option Lint
+  pub message : List ℕ
+
+abbrev pub mark_of : Diagnostic → Mark
+mark_of d = record { start = d.start; end = d.end; lint = d.lint; message = string_bytes d.message }
+
+-- the message of a finding
+abbrev pub found_text : Found → List ℕ
+found_text f = message f.lint ++ (codes " '" ++ (f.name ++ codes "'"))
+
+-- the diagnostic of a finding, at its name, cut at the end of the text
+abbrev pub found_mark : List ℕ → Found → Mark
+found_mark text f =
+    let start : ℕ = min f.pos.offset (length text) in
+    record { start = start; end = start + min (length f.name) (length text - start); lint = Some f.lint; message = found_text f }
+
+-- the diagnostic of a text that spells no tree
+abbrev pub error_mark : List ℕ → errors.Error → List Mark
+error_mark text (ParseError msg span) =
+    record { start = min span.from.offset (length text); end = min span.to.offset (length text); lint = None; message = string_bytes msg } ∷ []
+error_mark text _ = []
+
+-- the findings that no comment allows
+abbrev pub shown : List ℕ → List Found → List Found
+shown text fs = filter (λ f. not (is_allowed text f)) fs
+
+-- The marks are those of the findings of the default lints in the definitions, in order of position, except those that comments allow.
+pub record AreMarksOf (text : List ℕ) (ds : List Definition) (told : List Mark) : Type 0 where
+  pub found : List Finding
+  pub exact : IsPermutation (findings_in (filter is_default all_lints) ds) (map finding_of found)
+  pub in_order : IsSortedByKey (λ f. f.pos) position_cmp found
+  pub marks : told ≡ map (found_mark text) (shown text (map finding_of found))
+
+-- the marks of a text: of its tree, or why it has none
+abbrev pub AreMarks : List ℕ → List Mark → Type 0
+AreMarks text marks =
+    ((ds : List Definition) × IsTreeOf 0 text ds × AreMarksOf text ds marks)
+    ⊎ ((e : errors.Error) × IsRefusedWith 0 text e × (marks ≡ error_mark text e))

@@ -1,0 +1,150 @@
+//! The diagnostics of an ISLE text: its parse error, or else the findings of the lints that are on
+//! by default, except those that comments allow.
+//!
+//! The text is read on its own, so lints of whole programs find nothing.
+
+ghost use Rattle.std.specs.Prelude.{◌≡◌, ◌++◌, ◌∷◌, [], IfErr, IfOk, filter, length, map};
+ghost use Rattle.std.specs.Prelude.{string_bytes};
+ghost use Rattle.isle_ast.specs.TreeView.{definitions_of};
+ghost use Rattle.isle_base_source.specs.declared.error.Error as errors;
+ghost use Rattle.isle_cli.specs.declared.failure.Failure.TheVariants.{Memory};
+ghost use Rattle.isle_lint_core.specs.Finding.{finding_of};
+ghost use Rattle.isle_lint_core.specs.Lint.{all_lints, is_default};
+ghost use Rattle.isle_lsp.specs.Diagnostics.{AreMarks, AreMarksOf};
+ghost use Rattle.isle_lsp.specs.Diagnostics.{error_mark, found_mark, found_text};
+ghost use Rattle.isle_lsp.specs.Diagnostics.{mark_of, shown};
+
+use isle_ast::ast::Def;
+use isle_base::lexer::Fault;
+use isle_base_source::error::Error;
+use isle_base_source::files::LineMap;
+use isle_cli::failure::Failure;
+use isle_lint_core::{Finding, Lint, findings};
+use isle_parser::dropping::drop_definitions;
+use isle_program::allowances::{is_allowed, lines_above};
+use isle_program::trees::read_defs;
+use std::alloc::{AllocError, Global};
+
+/// A message about a part of a text.
+#[derive(Debug, Drop)]
+pub struct Diagnostic {
+    /// The byte offset at which the part begins.
+    pub start: usize,
+    /// The byte offset at which it ends.
+    pub end: usize,
+    /// The lint that found it, or `None` for a parse error.
+    pub lint: Option<Lint>,
+    /// The message.
+    pub message: String,
+}
+
+/// The diagnostics of a text, in order of position: the parse error, or else the findings of
+/// `isle-lint` without options. The only error is `Memory`.
+pub fn diagnostics(alloc: Global, text: &str) -> Result<Vec<Diagnostic>, Failure>
+    ensures ok { IfOk result (λ found. AreMarks text.now (map mark_of found.items)) }
+    ensures err { IfErr result (λ failure. failure ≡ Memory) }
+{
+    match read_defs(alloc, 0, text) {
+        Ok(defs) => {
+            let found = lint_diagnostics(alloc, text, &defs);
+            drop_definitions(defs);
+            Ok(found?)
+        }
+        Err(Fault::Error(error)) => Ok(error_diagnostics(alloc, text, error)?),
+        Err(Fault::Failed | Fault::Memory) => Err(Failure::Memory),
+    }
+}
+
+/// The diagnostic of a parse error.
+fn error_diagnostics(alloc: Global, text: &str, error: Error) -> Result<Vec<Diagnostic>, AllocError>
+    ensures { IfOk result
+        (λ diagnostics. map mark_of diagnostics.items ≡ error_mark text.now error) }
+{
+    let mut diagnostics = Vec::new(alloc);
+    if let Error::ParseError { msg, span } = error {
+        diagnostics.push(Diagnostic {
+            start: span.from.offset.min(text.len()),
+            end: span.to.offset.min(text.len()),
+            lint: None,
+            message: msg,
+        })?;
+    }
+    Ok(diagnostics)
+}
+
+/// The diagnostics of a text with these definitions.
+fn lint_diagnostics(alloc: Global, text: &str, defs: &[Def]) -> Result<Vec<Diagnostic>, AllocError>
+    ensures { IfOk result (λ diagnostics. AreMarksOf text.now (definitions_of defs.now)
+        (map mark_of diagnostics.items)) }
+{
+    let lints = default_lints(alloc)?;
+    let found = findings(alloc, defs, &lints)?;
+    finding_diagnostics(alloc, text, &found)
+}
+
+/// The lints that are on by default.
+fn default_lints(alloc: Global) -> Result<Vec<Lint>, AllocError>
+    ensures { IfOk result (λ lints. lints.items ≡ filter is_default all_lints) }
+{
+    defaults_among(alloc, &Lint::ALL)
+}
+
+/// The lints in a list that are on by default.
+fn defaults_among(alloc: Global, lints: &[Lint]) -> Result<Vec<Lint>, AllocError>
+    ensures { IfOk result (λ chosen. chosen.items ≡ filter is_default lints.now) }
+{
+    let mut chosen = Vec::new(alloc);
+    for lint in lints {
+        if lint.is_default() {
+            chosen.push(*lint)?;
+        }
+    }
+    Ok(chosen)
+}
+
+/// The diagnostics of these findings, except those that comments allow.
+fn finding_diagnostics(
+    alloc: Global,
+    text: &str,
+    found: &[Finding],
+) -> Result<Vec<Diagnostic>, AllocError>
+    ensures { IfOk result (λ diagnostics. map mark_of diagnostics.items
+        ≡ map (found_mark text.now) (shown text.now (map finding_of found.now))) }
+{
+    let lines = LineMap::from_str(alloc, text)?;
+    let above = lines_above(alloc, text)?;
+    let mut diagnostics = Vec::new(alloc);
+    for finding in found {
+        if !is_allowed(&lines, &above, finding) {
+            let diagnostic = diagnostic_of(alloc, text, finding)?;
+            diagnostics.push(diagnostic)?;
+        }
+    }
+    Ok(diagnostics)
+}
+
+fn diagnostic_of(alloc: Global, text: &str, finding: &Finding) -> Result<Diagnostic, AllocError>
+    ensures { IfOk result
+        (λ diagnostic. mark_of diagnostic ≡ found_mark text.now (finding_of finding.now)) }
+{
+    let start = finding.pos.offset.min(text.len());
+    let left = text.len() - start;
+    Ok(Diagnostic {
+        start,
+        end: start + finding.name.len().min(left),
+        lint: Some(finding.lint),
+        message: message_of(alloc, finding)?,
+    })
+}
+
+/// The message of a finding, with the name that it is about.
+fn message_of(alloc: Global, finding: &Finding) -> Result<String, AllocError>
+    ensures { IfOk result
+        (λ message. string_bytes message ≡ found_text (finding_of finding.now)) }
+{
+    let mut message = String::from_str(alloc, finding.lint.message())?;
+    message.push_str(" '")?;
+    message.push_str(finding.name)?;
+    message.push_str("'")?;
+    Ok(message)
+}

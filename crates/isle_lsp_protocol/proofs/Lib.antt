@@ -1,0 +1,9 @@
+pub mod Changes
+pub mod Heads
+pub mod Ids
+pub mod Laws
+pub mod Listings
+pub mod Numbers
+pub mod Readings
+pub mod Tokens
+pub mod Whole

@@ -1,0 +1,22 @@
+use Rattle.std.proofs.Common.{[], ◌∷◌, ◌++◌, ap, ◌∙◌, append_assoc, codes, decimal}
+use Rattle.std.proofs.lemmas.Result.{on_ok_weaker}
+use Rattle.json.specs.Token.{end_object, key, number, string}
+use Rattle.json.specs.Tree.{json_tokens}
+use Rattle.serde_json.specs.Written.{outline}
+use Rattle.isle_lsp_protocol.proofs.Readings.{document_symbol_reads}
+use Rattle.isle_lsp_protocol.specs.Results.{range_data}
+use Rattle.isle_lsp_protocol.proofs.items.put_document_symbol.Goals as goal
+
+pub returns-clause-tokens : goal.returns-clause-tokens
+returns-clause-tokens c =
+    let kind = c.in_ok-put_number.ensures.tokens ∙ ap (λ ts. ts ++ key (codes "kind") ∷ number (decimal c.args.kind) ∷ []) c.in_ok-begin_object.ensures.ok in
+    let name = c.in_ok-put_text.ensures.tokens ∙ ap (λ ts. ts ++ key (codes "name") ∷ string c.args.name.now ∷ []) kind in
+    let range = c.in_ok-put_range.ensures.tokens ∙ ap (λ ts. ts ++ key (codes "range") ∷ json_tokens (outline (range_data c.args.range))) name in
+    let selection = c.in_ok-put_range-2.ensures.tokens ∙ ap (λ ts. ts ++ key (codes "selectionRange") ∷ json_tokens (outline (range_data c.args.selection))) range in
+    on_ok_weaker c.end_object.result (λ closed. closed ∙ ap (λ ts. ts ++ end_object ∷ []) selection ∙ simp append_assoc) c.end_object.ensures.ok
+
+pub returns-clause-reads : goal.returns-clause-reads
+returns-clause-reads c =
+    on_ok_weaker c.end_object.result
+    (λ closed. document_symbol_reads c.args.name.now c.args.kind c.args.range c.args.selection c.in_ok-put_number.ensures.reads c.in_ok-put_range.ensures.reads c.in_ok-put_range-2.ensures.reads)
+    c.end_object.ensures.ok

@@ -1,0 +1,100 @@
+-- The parameters of a client's messages.
+use Rattle.std.specs.Prelude.{ℕ, List, codes, Bool, false, Option, None, Some, is_some, option_and_then, if◌then◌else◌}
+use Rattle.serde_json.specs.Data.{Data, Items, no_items, item}
+use Rattle.serde_json.specs.Find.{get, pointer, as_str, as_bool, as_number, as_object, as_u64, as_array}
+use Rattle.isle_lsp_text.specs.Changes.{apply_change}
+use Rattle.isle_lsp_text.specs.declared.positions.Position.{Position}
+use Rattle.isle_lsp_text.specs.declared.positions.Range.{Range}
+
+-- the URI of the document
+abbrev pub uri_of : Data → Option (List ℕ)
+uri_of d = option_and_then as_str (pointer (codes "/params/textDocument/uri") d)
+
+-- the text of the document that is opened
+abbrev pub text_of : Data → Option (List ℕ)
+text_of d = option_and_then as_str (pointer (codes "/params/textDocument/text") d)
+
+abbrev pub new_name_of : Data → Option (List ℕ)
+new_name_of d = option_and_then as_str (pointer (codes "/params/newName") d)
+
+abbrev pub query_of : Data → Option (List ℕ)
+query_of d = option_and_then as_str (pointer (codes "/params/query") d)
+
+abbrev pub number_at : List ℕ → Data → Option ℕ
+number_at name d = option_and_then as_u64 (option_and_then as_number (get name d))
+
+abbrev pub if_object : Option Data → Option Data
+if_object None = None
+if_object (Some d) = if is_some (as_object d) then Some d else None
+
+-- the completion item in a request to resolve it
+abbrev pub item_of : Data → Option Data
+item_of d = if_object (get (codes "params") d)
+
+-- the label of an item, and the number of its kind
+abbrev pub label_of : Data → Option (List ℕ)
+label_of d = option_and_then as_str (get (codes "label") d)
+
+abbrev pub kind_of : Data → Option ℕ
+kind_of d = number_at (codes "kind") d
+
+abbrev pub root_of : Data → Option (List ℕ)
+root_of d = option_and_then as_str (pointer (codes "/params/rootUri") d)
+
+abbrev pub is_true : Option Bool → Bool
+is_true None = false
+is_true (Some b) = b
+
+abbrev pub wants_definitions : Data → Bool
+wants_definitions d = is_true (option_and_then as_bool (pointer (codes "/params/context/includeDeclaration") d))
+
+abbrev pub position_with : (line unit : Option ℕ) → Option Position
+position_with None unit = None
+position_with (Some line) None = None
+position_with (Some line) (Some unit) = Some record { line = line; unit = unit }
+
+unfoldable pub position_in : Data → Option Position
+position_in d = position_with (number_at (codes "line") d) (number_at (codes "character") d)
+
+abbrev pub position_at : List ℕ → Data → Option Position
+position_at name d = option_and_then position_in (get name d)
+
+abbrev pub range_with : (start end : Option Position) → Option Range
+range_with None end = None
+range_with (Some start) None = None
+range_with (Some start) (Some end) = Some record { start = start; end = end }
+
+abbrev pub range_in : Data → Option Range
+range_in d = range_with (position_at (codes "start") d) (position_at (codes "end") d)
+
+-- the position of the request
+abbrev pub position_of : Data → Option Position
+position_of d = option_and_then position_in (pointer (codes "/params/position") d)
+
+-- ---- changes
+
+abbrev pub changed_within : Option Range → (text new : List ℕ) → List ℕ
+changed_within None text new = text
+changed_within (Some range) text new = apply_change text (Some range) new
+
+abbrev pub changed_by : (range : Option Data) → (new : Option (List ℕ)) → List ℕ → List ℕ
+changed_by range None text = text
+changed_by None (Some new) text = apply_change text None new
+changed_by (Some range) (Some new) text = changed_within (range_in range) text new
+
+-- the text after one change; a change that does not follow the protocol is ignored
+unfoldable pub text_after_one : Data → List ℕ → List ℕ
+text_after_one d text = changed_by (get (codes "range") d) (option_and_then as_str (get (codes "text") d)) text
+
+-- the text after each of these, applied to the text that those before it leave
+abbrev pub text_after_all : Items → List ℕ → List ℕ
+text_after_all no_items text = text
+text_after_all (item d ds) text = text_after_all ds (text_after_one d text)
+
+abbrev pub text_after_any : Option Items → List ℕ → List ℕ
+text_after_any None text = text
+text_after_any (Some changes) text = text_after_all changes text
+
+-- the text after the changes of a message
+unfoldable pub text_after : Data → List ℕ → List ℕ
+text_after d text = text_after_any (option_and_then as_array (pointer (codes "/params/contentChanges") d)) text
