@@ -4,7 +4,7 @@ use Rattle.isle_ast.specs.Tree.{Definition, type_def, rule, extractor, decl, att
 use Rattle.isle_ast.specs.Tree.{IndexedField, FieldList, unit_fields, struct_fields, tuple_fields, EnumVariant, TypeContent, primitive_type, enum_type, struct_type, TypeDefinition, AttributeTarget}
 use Rattle.isle_ast.specs.Tree.{term_target, rule_target, AttributeKind, chain_kind, priority_kind, tag_kind, Attribute, TermSignature, FormDefinition, TermInstantiation, ExternDefinition}
 use Rattle.isle_ast.specs.Tree.{extern_extractor, extern_constructor, extern_const, ModelContent, type_model, const_model, ModelDefinition}
-use Rattle.isle_printer_rules.specs.RuleShapes.{rule_shape, extractor_shape}
+use Rattle.isle_printer.specs.RuleShapes.{rule_shape, extractor_shape}
 use Rattle.isle_printer_layout.specs.Sexp.{Sexp, atom, list_of}
 use Rattle.isle_printer_verification.specs.SpecShapes.{spec_definition_shape, spec_macro_shape, state_shape, model_shape, spec_shape}
 use Rattle.isle_ast_names.specs.Tree.{Name}

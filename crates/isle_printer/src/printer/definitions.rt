@@ -10,10 +10,10 @@ ghost use Rattle.isle_printer_layout.specs.Sexp.{unless};
 ghost use Rattle.isle_printer_layout.specs.SexpView.{sexp_of};
 ghost use Rattle.isle_printer_layout.specs.declared.sexpr.PrintFault.TheVariants.{MacroArg, Memory};
 
+use super::rules;
 use super::to_sexpr::{Put, ToSExpr};
 use isle_ast::ast::Def;
 use isle_printer_layout::{Pieces, PrintFault, SExpr, Tape, sexpr_of};
-use isle_printer_rules::rules;
 use isle_printer_verification::definitions as specs;
 use std::alloc::{AllocError, Global};
 

@@ -7,7 +7,7 @@ use Rattle.isle_ast_rules.specs.Tree.{no_pattern, more_pattern, Expression, term
 use Rattle.isle_ast_rules.specs.Tree.{no_expression, more_expression, LetList, no_let, more_let, Condition, RuleDefinition, ExtractorDefinition}
 use Rattle.isle_ast_names.specs.Writable.{IsName}
 use Rattle.isle_ast_rules.specs.Writable.{IsConstantName, IsWritablePattern, AreWritablePatterns, IsWritableExpression, AreWritableExpressions, AreWritableLets, IsWritableCondition, IsWritableRule, IsWritableExtractor}
-use Rattle.isle_printer_rules.specs.RuleShapes.{pattern_shape, pattern_shapes, expression_shape, expression_shapes, let_shapes, condition_shape, rule_name_shape, priority_shape, rule_shape, extractor_shape}
+use Rattle.isle_printer.specs.RuleShapes.{pattern_shape, pattern_shapes, expression_shape, expression_shapes, let_shapes, condition_shape, rule_name_shape, priority_shape, rule_shape, extractor_shape}
 use Rattle.isle_printer_layout.specs.Sexp.{list_of}
 use Rattle.isle_printer_layout.specs.NameShapes.{constant_shape}
 use Rattle.isle_printer_layout.proofs.ShortLines.Layout.{IsNoEmptyList, IsTidy}
