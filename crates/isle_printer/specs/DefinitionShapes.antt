@@ -1,4 +1,4 @@
--- The S-expressions of definitions, and of the parts of those that are neither specs nor rules.
+-- The S-expressions of definitions, and of the parts of those other than specs and rules.
 use Rattle.std.specs.Prelude.{[], List, ◌∷◌, ◌++◌, Option, None, Some, map, codes}
 use Rattle.isle_ast.specs.Tree.{Definition, type_def, rule, extractor, decl, attr, spec, spec_macro, model, state, form, instantiation, external, converter, Declaration, Conversion, NamedField}
 use Rattle.isle_ast.specs.Tree.{IndexedField, FieldList, unit_fields, struct_fields, tuple_fields, EnumVariant, TypeContent, primitive_type, enum_type, struct_type, TypeDefinition, AttributeTarget}
@@ -36,7 +36,7 @@ conversion_shape c =
 abbrev pub named_field_shape : NamedField → Sexp
 named_field_shape f = list_of (name_shape f.name ∷ name_shape f.ty ∷ [])
 
--- the type alone
+-- only the type
 abbrev pub indexed_field_shape : IndexedField → Sexp
 indexed_field_shape f = name_shape f.ty
 

@@ -91,7 +91,7 @@ definition_shape-erased (external (extern_constructor term func _)) = refl
 definition_shape-erased (external (extern_const name ty _)) = refl
 definition_shape-erased (converter c) = refl
 
--- the argument of a macro
+-- a macro argument
 
 definition_macro_arg-erased : (d : Definition) → definition_has_macro_arg (erase_definition d) ≡ definition_has_macro_arg d
 definition_macro_arg-erased (type_def _) = refl

@@ -1,5 +1,5 @@
 -- Positions play no part in the shapes of patterns, expressions, rules and extractors, nor in
--- whether one holds the argument of a macro.
+-- whether one contains a macro argument.
 use Rattle.std.proofs.Common.{◌≡◌, List, [], ◌∷◌, ◌++◌, map, codes, Bool, ◌||◌, Option, None, Some, refl, ap, ◌∙◌}
 use Rattle.std.specs.List.{list_any}
 use Rattle.isle_ast_names.specs.Tree.{Name}
@@ -84,7 +84,7 @@ extractor-erased e =
     ap (λ ss. list_of (atom (codes "extractor") ∷ [] ++ list_of (name_shape e.term ∷ ss) ∷ [] ++ pattern_shape (erase_pattern e.template) ∷ [])) (names-erased e.args)
     ∙ ap (λ s. list_of (atom (codes "extractor") ∷ [] ++ list_of (name_shape e.term ∷ name_shapes e.args) ∷ [] ++ s ∷ [])) (pattern-erased e.template)
 
--- the argument of a macro
+-- a macro argument
 
 mutual
   pub macro_arg-erased : (p : PatternNode) → has_macro_arg (erase_pattern p) ≡ has_macro_arg p

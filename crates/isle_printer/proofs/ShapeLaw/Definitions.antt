@@ -212,7 +212,7 @@ spell-pair first second is so rest =
     let a = spell-name first is b.all in
     spell-turn b a
 
--- `extern`, a word, and what stands behind it
+-- `extern`, a word, and what comes after it
 spell-extern : (e : ExternDefinition) → IsWritableExtern e → (rest : List Tok) → Spelling (extern_shape e ∷ []) (SpellsDefinition (external (erase_extern e))) rest
 spell-extern (extern_extractor term func _ infallible) is rest =
     let pair = spell-pair term func is.0 is.1 (rparen ∷ rest) in

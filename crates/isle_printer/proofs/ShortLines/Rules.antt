@@ -14,7 +14,7 @@ use Rattle.isle_printer_layout.proofs.ShortLines.Layout.{IsNoEmptyList, IsTidy}
 use Rattle.isle_printer_layout.proofs.ShortLines.Parts.{plain-identifier, plain-bool_word, plain-priority, plain-integer, TidyItems, ◌then◌, tidy-nothing, tidy-item, tidy-word, tidy-name, tidy-all}
 use Rattle.isle_printer_layout.proofs.ShortLines.Parts.{BeginsWell, tidy-list, tidy-form, tidy-headed_item}
 
--- a constant is an identifier behind `$`
+-- a constant is an identifier after `$`
 pub tidy-constant : (n : Name) → IsConstantName n → IsTidy (constant_shape n)
 tidy-constant n is = plain-identifier (36 ∷ n.text) is
 

@@ -1,4 +1,5 @@
-//! The S-expressions of expressions and of the definitions of a `let`.
+//! The S-expressions of expressions and of the definitions of a `let`. Functions prepend to the
+//! tape.
 
 ghost use Rattle.std.specs.Prelude.{◌≡◌, [], ◌∷◌, OnOk};
 ghost use Rattle.isle_ast_rules.specs.TreeView.{expression_list_of, expression_of, expressions_of};
@@ -29,7 +30,7 @@ impl Put for LetDef {
     }
 }
 
-/// Puts the S-expression of an expression.
+/// Prepends an expression.
 #[cycle(expressions)]
 pub(super) fn expression<'src>(node: &'src Expr, tape: &mut Tape<'src>) -> Result<(), AllocError>
     ensures { OnOk result
@@ -58,7 +59,7 @@ pub(super) fn expression<'src>(node: &'src Expr, tape: &mut Tape<'src>) -> Resul
     }
 }
 
-/// Puts the S-expressions of expressions.
+/// Prepends expressions.
 #[cycle(expressions)]
 fn each_expression<'src>(nodes: &'src Vec<Expr>, tape: &mut Tape<'src>) -> Result<(), AllocError>
     ensures { OnOk result (tape.new
@@ -71,7 +72,7 @@ fn each_expression<'src>(nodes: &'src Vec<Expr>, tape: &mut Tape<'src>) -> Resul
     Ok(())
 }
 
-/// Puts the S-expressions of the definitions of a `let`.
+/// Prepends the definitions of a `let`.
 #[cycle(expressions)]
 fn each_let_definition<'src>(
     nodes: &'src Vec<LetDef>,
@@ -86,7 +87,7 @@ fn each_let_definition<'src>(
     Ok(())
 }
 
-/// Puts the S-expression of a definition of a `let`.
+/// Prepends a definition of a `let`.
 #[cycle(expressions)]
 fn let_definition<'src>(node: &'src LetDef, tape: &mut Tape<'src>) -> Result<(), AllocError>
     ensures { OnOk result

@@ -1,4 +1,4 @@
-//! The S-expressions of patterns.
+//! The S-expressions of patterns. Functions prepend to the tape.
 
 ghost use Rattle.std.specs.Prelude.{IfOk, IsErrOf, IsSome, None, OnOk, Some, [], false};
 ghost use Rattle.std.specs.Prelude.{◌∷◌, ◌≡◌};
@@ -43,8 +43,7 @@ impl ToSExpr for Pattern {
     }
 }
 
-/// Puts the S-expression of a pattern. That of a macro's argument means nothing, and nobody prints
-/// it.
+/// Prepends a pattern. A macro argument is never printed, and its atom has no meaning.
 #[cycle(patterns)]
 pub(super) fn pattern<'src>(node: &'src Pattern, tape: &mut Tape<'src>) -> Result<(), AllocError>
     ensures { OnOk result
@@ -80,7 +79,7 @@ pub(super) fn pattern<'src>(node: &'src Pattern, tape: &mut Tape<'src>) -> Resul
     }
 }
 
-/// Puts the S-expressions of patterns.
+/// Prepends patterns.
 #[cycle(patterns)]
 fn each_pattern<'src>(nodes: &'src Vec<Pattern>, tape: &mut Tape<'src>) -> Result<(), AllocError>
     ensures { OnOk result (tape.new

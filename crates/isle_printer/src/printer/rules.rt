@@ -1,4 +1,4 @@
-//! The S-expressions of rules, their conditions, and extractors.
+//! The S-expressions of rules, conditions and extractors. Functions prepend to the tape.
 
 ghost use Rattle.std.specs.Prelude.{IfOk, IsErrOf, IsSome, None, OnOk, Some, [], false, map};
 ghost use Rattle.std.specs.Prelude.{◌∷◌, ◌≡◌};
@@ -104,7 +104,7 @@ impl ToSExpr for Extractor {
     }
 }
 
-/// Puts the S-expression of a condition: `if-let` also if it was spelt `if`.
+/// Prepends a condition, always as `if-let`.
 fn condition<'src>(condition: &'src IfLet, tape: &mut Tape<'src>) -> Result<(), AllocError>
     ensures { OnOk result
         (tape.new ≡ put_before (condition_shape (condition_of condition.now) ∷ []) tape.old) }
@@ -116,7 +116,7 @@ fn condition<'src>(condition: &'src IfLet, tape: &mut Tape<'src>) -> Result<(), 
     tape.open(outer)
 }
 
-/// Puts the S-expression of a rule.
+/// Prepends a rule.
 pub(super) fn rule<'src>(rule: &'src Rule, tape: &mut Tape<'src>) -> Result<(), AllocError>
     ensures { OnOk result (tape.new ≡ put_before (rule_shape (rule_of rule.now) ∷ []) tape.old) }
 {
@@ -130,7 +130,7 @@ pub(super) fn rule<'src>(rule: &'src Rule, tape: &mut Tape<'src>) -> Result<(), 
     tape.open(outer)
 }
 
-/// Puts the name of a rule, if it has one.
+/// Prepends the name of a rule, if it has one.
 fn rule_name<'src>(ident: &'src Option<Ident>, tape: &mut Tape<'src>) -> Result<(), AllocError>
     ensures { OnOk result
         (tape.new ≡ put_before (rule_name_shape (optional_name_of ident.now)) tape.old) }
@@ -141,7 +141,7 @@ fn rule_name<'src>(ident: &'src Option<Ident>, tape: &mut Tape<'src>) -> Result<
     }
 }
 
-/// Puts a priority, if there is one.
+/// Prepends a priority, if there is one.
 fn priority(prio: Option<i64>, tape: &mut Tape) -> Result<(), AllocError>
     ensures { OnOk result (tape.new ≡ put_before (priority_shape prio) tape.old) }
 {
@@ -151,7 +151,7 @@ fn priority(prio: Option<i64>, tape: &mut Tape) -> Result<(), AllocError>
     Ok(())
 }
 
-/// Puts the S-expressions of conditions.
+/// Prepends conditions.
 fn each_condition<'src>(conditions: &'src [IfLet], tape: &mut Tape<'src>) -> Result<(), AllocError>
     ensures { OnOk result
         (tape.new ≡ put_before (map condition_shape (conditions_of conditions.now)) tape.old) }
@@ -162,7 +162,7 @@ fn each_condition<'src>(conditions: &'src [IfLet], tape: &mut Tape<'src>) -> Res
     Ok(())
 }
 
-/// Puts the S-expression of an extractor.
+/// Prepends an extractor.
 pub(super) fn extractor<'src>(
     extractor: &'src Extractor,
     tape: &mut Tape<'src>,

@@ -1,4 +1,4 @@
--- What is put is the last ones.
+-- The nodes on the tape are the last ones.
 use Rattle.std.proofs.Common.{◌≡◌, drop}
 use Rattle.isle_ast_rules.specs.TreeView.{expression_list_of, expressions_of, let_list_of, single_lets_of}
 use Rattle.isle_printer_layout.specs.Pieces.{put_before}

@@ -1,4 +1,4 @@
--- The patterns that are put are the last ones.
+-- The patterns on the tape are the last ones.
 use Rattle.std.proofs.Common.{◌≡◌, drop}
 use Rattle.isle_ast_rules.specs.TreeView.{pattern_list_of, patterns_of}
 use Rattle.isle_printer_layout.specs.Pieces.{put_before}

@@ -1,4 +1,4 @@
--- The conditions that are put are the last ones.
+-- The conditions on the tape are the last ones.
 use Rattle.std.proofs.Common.{◌≡◌, drop, map}
 use Rattle.isle_ast_rules.specs.TreeView.{conditions_of}
 use Rattle.isle_printer_layout.specs.Pieces.{put_before}
