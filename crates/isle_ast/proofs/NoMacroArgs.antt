@@ -1,4 +1,4 @@
--- A writable tree holds no argument of a macro, and so a spelt tree holds none.
+-- A writable tree contains no macro argument, and so a spelt tree contains none.
 use Rattle.std.proofs.Common.{◌≡◌, List, false, refl}
 use Rattle.isle_base.specs.Place.{Placed}
 use Rattle.isle_ast.specs.Tree.{Definition, type_def, rule, extractor, decl, attr, spec, spec_macro, model, state, form, instantiation, external, converter}

@@ -1,4 +1,4 @@
--- Definitions erased: each position is the default one, which stands for an unknown place.
+-- Definitions erased: each position becomes the default one, which stands for an unknown position.
 use Rattle.std.specs.Prelude.{List, map}
 use Rattle.isle_base.specs.Place.{unknown}
 use Rattle.isle_ast_verification.specs.Erased.{erase_spec, erase_spec_definition, erase_spec_macro, erase_state, erase_model}

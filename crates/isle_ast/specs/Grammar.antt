@@ -1,6 +1,6 @@
--- The grammar of ISLE: which tokens spell which definition. Each relation goes from the tokens to come,
--- `all`, to the tokens behind the spelling, `rest`: it says that `all` begins with a spelling of
--- the node and that `rest` follows it. Several lists of tokens may spell one node.
+-- The grammar of ISLE: the tokens that spell each definition. Each relation goes from the remaining
+-- tokens, `all`, to the tokens after the spelling, `rest`: `all` begins with a spelling of the
+-- node, and `rest` follows.
 use Rattle.std.specs.Prelude.{[], List, codes}
 use Rattle.isle_base.specs.Place.{Placed}
 use Rattle.isle_ast.specs.Tree.{Definition, type_def, rule, extractor, decl, attr, spec, spec_macro, model, state, form, instantiation, external, converter}
@@ -11,7 +11,7 @@ use Rattle.isle_ast_verification.specs.SpecDefinitionGrammar.{SpellsSpecDefiniti
 use Rattle.isle_ast.specs.TermGrammar.{SpellsDeclaration, SpellsAttribute, SpellsExtern, SpellsConversion}
 use Rattle.isle_ast.specs.TypeGrammar.{SpellsTypeDefinition}
 
--- Each kind by its keyword. No pragma is spelt.
+-- Each kind by its keyword. Pragmas have no syntax.
 abbrev pub SpellsDefinition : Definition → List Placed → List Placed → Type 0
 SpellsDefinition (type_def t) = InForm (codes "type") (SpellsTypeDefinition t)
 SpellsDefinition (rule r) = InForm (codes "rule") (SpellsRule r)

@@ -1,4 +1,4 @@
--- Which definitions hold the argument of a macro, which no text spells and nothing prints.
+-- The definitions that contain a macro argument, which has no syntax and is never printed.
 use Rattle.std.specs.Prelude.{List, Bool, false}
 use Rattle.std.specs.List.{list_any}
 use Rattle.isle_ast.specs.Tree.{Definition, type_def, rule, extractor, decl, attr, spec, spec_macro, model, state, form, instantiation, external, converter}

@@ -1,4 +1,4 @@
--- The definitions that are made of models of types: `model`, `form` and `instantiate`.
+-- Definitions made of models of types: `model`, `form` and `instantiate`.
 use Rattle.std.specs.Prelude.{◌≡◌, List, [], Option, None, Some, codes}
 use Rattle.isle_base.specs.Place.{Placed}
 use Rattle.isle_ast_names.specs.Tree.{Name}
@@ -7,7 +7,7 @@ use Rattle.isle_ast_names.specs.Words.{BeginsAt, SpellsAll, InParentheses, Behin
 use Rattle.isle_ast_verification.specs.SpecGrammar.{SpellsSpec}
 use Rattle.isle_ast_verification.specs.TypeModelGrammar.{SpellsTypeModel}
 
--- `((args MODEL..) (ret MODEL))`, at the position of the token behind its `(`
+-- `((args MODEL..) (ret MODEL))`, at the position of the token after its `(`
 abbrev pub SpellsSignature : TermSignature → List Placed → List Placed → Type 0
 SpellsSignature s all rest =
     InParentheses
@@ -28,8 +28,8 @@ pub record SpellsForm (f : FormDefinition) (all rest : List Placed) : Type 0 whe
 abbrev pub SpellsTag : Name → List Placed → List Placed → Type 0
 SpellsTag name = InParentheses (BehindWord (codes "tag") (SpellsName name))
 
--- Without a form one or more signatures, and no tags. With a form its name and any number of tags, and
--- no signatures.
+-- Without a form, one or more signatures and no tags. With a form, its name, any number of tags,
+-- and no signatures.
 abbrev pub SpellsInstances : Option Name → List TermSignature → List Name → List Placed → List Placed → Type 0
 SpellsInstances None signatures tags all rest =
     IsNonEmpty signatures × (tags ≡ []) × SpellsAll SpellsSignature signatures all rest

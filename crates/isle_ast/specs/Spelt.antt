@@ -1,4 +1,4 @@
--- Which definitions a text spells.
+-- The definitions that a text spells.
 use Rattle.std.specs.Prelude.{◌≡◌, ℕ, List}
 use Rattle.isle_base_source.specs.declared.pos.Pos.{Pos}
 use Rattle.isle_base.specs.UpstreamLexing.{upstream_lexes}
@@ -8,8 +8,8 @@ use Rattle.isle_ast.specs.Grammar.{SpellsDefinitions}
 use Rattle.isle_base.specs.Place.{placed}
 use Rattle.isle_ast.specs.Tree.{Definition}
 
--- What a lexer has still to give ends with the text, and its tokens spell these definitions, where
--- a token stands at the position that `place` gives to its offset.
+-- The rest of a lexer's input ends with the end of the text, and its tokens spell these
+-- definitions. `place` gives the position of a token for its offset.
 abbrev pub Spells : (ℕ → Pos) → Feed → List Definition → Type 0
 Spells place feed ds = (feed.ending ≡ end) × SpellsDefinitions ds (placed place feed.coming)
 
@@ -18,8 +18,8 @@ abbrev pub IsSpelt : (ℕ → Pos) → List ℕ → List Definition → Type 0
 IsSpelt place text ds =
     (tokens : List Lexeme) × lexes text tokens end × SpellsDefinitions ds (placed place tokens)
 
--- The same with the tokens that the text had before a lone `-` was a symbol. The grammar is
--- today's.
+-- The same with the tokens of upstream's rules, where a lone `-` is no symbol. The grammar is the
+-- same.
 abbrev pub WasSpelt : (ℕ → Pos) → List ℕ → List Definition → Type 0
 WasSpelt place text ds =
     (tokens : List Lexeme) × upstream_lexes text tokens end × SpellsDefinitions ds (placed place tokens)

@@ -6,8 +6,8 @@ use Rattle.isle_ast_names.specs.Tree.{Name}
 use Rattle.isle_ast.specs.Tree.{Declaration, Conversion, Attribute, AttributeTarget, term_target, rule_target, AttributeKind, chain_kind, priority_kind, tag_kind, ExternDefinition, extern_extractor, extern_constructor, extern_const}
 use Rattle.isle_ast_names.specs.Words.{SpellsWord, BeginsAt, SpellsAll, InParentheses, BehindWord, SpellsName, SpellsFlag, demands, SpellsConstant}
 
--- A term that is the word of a flag is read as that flag where no later flag is set. So such a term
--- wants its own flag or a later one.
+-- A term named like a flag is read as that flag if no later flag is set. So it needs its own flag
+-- or a later one.
 abbrev pub term_is_no_flag : Declaration → Bool
 term_is_no_flag d =
     demands d.term.text (codes "pure") (d.pure || d.multi || d.partial || d.rec)
@@ -15,7 +15,7 @@ term_is_no_flag d =
     && demands d.term.text (codes "partial") (d.partial || d.rec)
     && demands d.term.text (codes "rec") d.rec
 
--- the flags in this order, the term, the types of the arguments in parentheses, the type of the value
+-- the flags in this order, the term, the argument types in parentheses, the return type
 pub record SpellsDeclaration (d : Declaration) (all rest : List Placed) : Type 0 where
   pub term_is_no_flag : term_is_no_flag d ≡ true
   pub position : BeginsAt d.pos all
@@ -48,13 +48,13 @@ SpellsAttributeKind chain_kind = InParentheses (BehindWord (codes "veri") (Spell
 SpellsAttributeKind priority_kind = InParentheses (BehindWord (codes "veri") (SpellsWord (codes "priority")))
 SpellsAttributeKind (tag_kind name) = InParentheses (BehindWord (codes "tag") (SpellsName name))
 
--- A term stands alone, so it isn't named `rule`. A rule stands behind that word.
+-- A term is alone, so it is not named `rule`. A rule comes after that word.
 abbrev pub SpellsAttributeTarget : AttributeTarget → List Placed → List Placed → Type 0
 SpellsAttributeTarget (term_target name) all rest =
     (bytes_eq name.text (codes "rule") ≡ false) × SpellsName name all rest
 SpellsAttributeTarget (rule_target name) all rest = BehindWord (codes "rule") (SpellsName name) all rest
 
--- the target, and what is said of it
+-- the target and the attributes
 pub record SpellsAttribute (a : Attribute) (all rest : List Placed) : Type 0 where
   pub position : BeginsAt a.pos all
   pub behind_target : List Placed
@@ -66,8 +66,8 @@ abbrev pub SpellsPair : Name → Name → List Placed → List Placed → Type 0
 SpellsPair first second all rest =
     (mid : List Placed) × SpellsName first all mid × SpellsName second mid rest
 
--- The position is that of the word behind `extern`, and for a constant that of the constant. A term
--- named `infallible` is read as the flag where the flag isn't set, so it wants the flag.
+-- The position is that of the word after `extern`, and for a constant that of the constant. A term
+-- named `infallible` is read as the flag if that is not set, so it needs the flag.
 abbrev pub SpellsExtern : ExternDefinition → List Placed → List Placed → Type 0
 SpellsExtern (extern_extractor term func pos infallible) all rest =
     (demands term.text (codes "infallible") infallible ≡ true) × BeginsAt pos all

@@ -1,11 +1,11 @@
--- Definitions as pure values: nothing says where they lie in memory. The fields are those of the types of the code.
+-- Definitions as pure values, apart from their memory. The fields are those of the types in code.
 use Rattle.std.specs.Prelude.{ℕ, List, Bool, Option}
 use Rattle.isle_base_source.specs.declared.pos.Pos.{Pos}
 use Rattle.isle_ast_names.specs.Tree.{Name}
 use Rattle.isle_ast_verification.specs.Tree.{TypeModel, SpecNode, SpecDefinition, SpecMacroDefinition, StateDefinition}
 use Rattle.isle_ast_rules.specs.Tree.{RuleDefinition, ExtractorDefinition}
 
--- a term that is declared
+-- a declaration of a term
 pub record Declaration : Type 0 where
   pub term : Name
   pub arg_tys : List Name
@@ -23,13 +23,13 @@ pub record Conversion : Type 0 where
   pub outer_ty : Name
   pub pos : Pos
 
--- a field that has a name
+-- a named field
 pub record NamedField : Type 0 where
   pub name : Name
   pub ty : Name
   pub pos : Pos
 
--- a field that is known by its place
+-- a positional field
 pub record IndexedField : Type 0 where
   pub index : ℕ
   pub ty : Name
@@ -50,7 +50,7 @@ pub data TypeContent : Type 0 where
   enum_type : List EnumVariant → Pos → TypeContent
   struct_type : FieldList → Pos → TypeContent
 
--- a type that is defined
+-- a type definition
 pub record TypeDefinition : Type 0 where
   pub name : Name
   pub is_extern : Bool
@@ -67,19 +67,19 @@ pub data AttributeKind : Type 0 where
   priority_kind : AttributeKind
   tag_kind : Name → AttributeKind
 
--- what is said of a term or a rule
+-- attributes of a term or a rule
 pub record Attribute : Type 0 where
   pub target : AttributeTarget
   pub kinds : List AttributeKind
   pub pos : Pos
 
--- the models of the arguments and of the value
+-- the models of the arguments and of the result
 pub record TermSignature : Type 0 where
   pub args : List TypeModel
   pub ret : TypeModel
   pub pos : Pos
 
--- signatures under a name
+-- named signatures
 pub record FormDefinition : Type 0 where
   pub name : Name
   pub signatures : List TermSignature
@@ -102,7 +102,7 @@ pub record ModelDefinition : Type 0 where
   pub name : Name
   pub val : ModelContent
 
--- a term or a constant that is defined outside
+-- an external extractor, constructor or constant
 pub data ExternDefinition : Type 0 where
   extern_extractor : (term func : Name) → Pos → (infallible : Bool) → ExternDefinition
   extern_constructor : (term func : Name) → Pos → ExternDefinition

@@ -1,4 +1,4 @@
--- The definitions of the code, as pure values.
+-- The definitions of code, as pure values.
 use Rattle.std.specs.Prelude.{List, map}
 use Rattle.isle_ast_verification.specs.TreeView.{spec_of, spec_definition_of, spec_macro_of, state_of, type_model_of}
 use Rattle.isle_ast.specs.Tree.{Declaration, Conversion, NamedField, IndexedField, FieldList, unit_fields, struct_fields, tuple_fields, EnumVariant, TypeContent, primitive_type, enum_type, struct_type, TypeDefinition, AttributeTarget, term_target, rule_target, AttributeKind, chain_kind, priority_kind, tag_kind, Attribute, TermSignature, FormDefinition, TermInstantiation, ModelContent, type_model, const_model, ModelDefinition, ExternDefinition, extern_extractor, extern_constructor, extern_const, Definition, type_def, rule, extractor, decl, attr, spec, spec_macro, model, state, form, instantiation, external, converter}
@@ -133,7 +133,7 @@ extern_of (externs.Extractor term func place infallible) =
 extern_of (externs.Constructor term func place) = extern_constructor (name_of term) (name_of func) place
 extern_of (externs.Const name ty place) = extern_const (name_of name) (name_of ty) place
 
--- there is no pragma
+-- there are no pragmas
 abbrev pub definition_of : Def → Definition
 definition_of (variants.Pragma p) = elim p [ ]
 definition_of (variants.TypeDef t) = type_def (type_definition_of t)

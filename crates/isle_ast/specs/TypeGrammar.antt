@@ -12,14 +12,14 @@ SpellsNamedField f all rest =
     BeginsAt f.pos all
     × InParentheses (λ inner close. (mid : List Placed) × SpellsName f.name inner mid × SpellsName f.ty mid close) all rest
 
--- the types of fields that are known by their places, counted from this index
+-- the types of positional fields, counted from this index
 abbrev pub SpellsIndexedFields : ℕ → List IndexedField → List Placed → List Placed → Type 0
 SpellsIndexedFields index [] all rest = all ≡ rest
 SpellsIndexedFields index (f ∷ fs) all rest =
     (f.index ≡ index) × BeginsAt f.pos all
     × (mid : List Placed) × SpellsName f.ty all mid × SpellsIndexedFields (index + 1) fs mid rest
 
--- Nothing, one or more fields with names, or one or more fields without. Their position is that of
+-- Nothing, one or more named fields, or one or more positional fields. Their position is that of
 -- the first token of the first field.
 abbrev pub SpellsFields : FieldList → List Placed → List Placed → Type 0
 SpellsFields unit_fields all rest = all ≡ rest

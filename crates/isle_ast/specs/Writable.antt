@@ -1,5 +1,5 @@
--- Which trees are written so that they read back: the conditions on each node. They name no text and
--- no width, and positions play no part.
+-- The trees that can be written as text and read back: the conditions on each node. They depend on
+-- no text, width or position.
 use Rattle.std.specs.Prelude.{[], ◌≡◌, ◌≢◌, ℕ, ◌+◌, List, ◌∷◌, true, Option, None, Some, codes}
 use Rattle.isle_ast_verification.specs.Writable.{IsWritableSpec, IsWritableSpecDefinition, IsWritableSpecMacro, IsWritableState, IsWritableModel}
 use Rattle.isle_ast_names.specs.Tree.{Name}
@@ -9,7 +9,7 @@ use Rattle.isle_ast.specs.TermGrammar.{term_is_no_flag}
 use Rattle.isle_ast_names.specs.Writable.{IsName, Each}
 use Rattle.isle_ast_rules.specs.Writable.{IsConstantName, IsWritableRule, IsWritableExtractor}
 
--- a term that is the word of a flag wants this flag or a later one
+-- a term named like a flag needs this flag or a later one
 pub record IsWritableDeclaration (d : Declaration) : Type 0 where
   pub term : IsName d.term
   pub arg_tys : Each IsName d.arg_tys
@@ -27,7 +27,7 @@ abbrev pub AreWritableIndexedFields : ℕ → List IndexedField → Type 0
 AreWritableIndexedFields place [] = Unit {0}
 AreWritableIndexedFields place (f ∷ fs) = (f.index ≡ place) × IsName f.ty × AreWritableIndexedFields (place + 1) fs
 
--- fields with names are at least one, and so are fields without
+-- named fields are at least one, and so are positional fields
 abbrev pub AreWritableFields : FieldList → Type 0
 AreWritableFields unit_fields = Unit {0}
 AreWritableFields (struct_fields fields _) = IsNonEmpty fields × Each IsWritableNamedField fields
@@ -44,7 +44,7 @@ IsWritableTypeContent (struct_type fields _) = AreWritableFields fields
 abbrev pub IsWritableType : TypeDefinition → Type 0
 IsWritableType t = IsName t.name × IsWritableTypeContent t.ty
 
--- a term that is the target isn't named `rule`
+-- a term as the target is not named `rule`
 abbrev pub IsWritableTarget : AttributeTarget → Type 0
 IsWritableTarget (term_target name) = (name.text ≢ codes "rule") × IsName name
 IsWritableTarget (rule_target name) = IsName name
@@ -78,8 +78,8 @@ IsWritableModelContent (const_model value) = IsWritableSpec value
 abbrev pub IsWritableModelDefinition : ModelDefinition → Type 0
 IsWritableModelDefinition m = IsName m.name × IsWritableModelContent m.val
 
--- A term named `infallible` wants the flag. The name of a constant is written behind a `$`, and
--- both together are an identifier.
+-- A term named `infallible` needs the flag. With a `$` before it, the name of a constant is an
+-- identifier.
 abbrev pub IsWritableExtern : ExternDefinition → Type 0
 IsWritableExtern (extern_extractor term func _ infallible) =
     IsName term × IsName func × (demands term.text (codes "infallible") infallible ≡ true)

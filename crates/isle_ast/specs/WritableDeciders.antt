@@ -45,7 +45,7 @@ is_writable_type_content (struct_type fields _) = are_writable_fields fields
 abbrev pub is_writable_type : TypeDefinition → Bool
 is_writable_type t = is_name t.name && is_writable_type_content t.ty
 
--- a term that is the target isn't named `rule`
+-- a term as the target is not named `rule`
 abbrev pub is_writable_target : AttributeTarget → Bool
 is_writable_target (term_target name) = not (is_word (codes "rule") name) && is_name name
 is_writable_target (rule_target name) = is_name name

@@ -1,4 +1,4 @@
-//! Abstract syntax tree (AST) created from parsed ISLE.
+//! The abstract syntax tree (AST) of ISLE.
 
 mod clone;
 pub mod laws;
@@ -14,66 +14,66 @@ use isle_base::lexer::Pos;
 use std::convert::Infallible;
 pub use writability::writable;
 
-/// A definition, the toplevel form of an ISLE source.
+/// A definition, the top-level form of ISLE source.
 #[derive(Debug, PartialEq, Eq, Drop)]
 pub enum Def {
-    /// A pragma. There are none yet, so a value can't be had.
+    /// A pragma. None exists yet, so this variant has no values.
     Pragma(Pragma),
     /// A type definition, `(type ..)`.
     TypeDef(TypeDef),
-    /// A rewriting rule, `(rule ..)`.
+    /// A rewrite rule, `(rule ..)`.
     Rule(Rule),
-    /// A pattern under a name, `(extractor ..)`.
+    /// An internal extractor, `(extractor ..)`.
     Extractor(Extractor),
     /// A term declaration, `(decl ..)`.
     Decl(Decl),
     /// Attributes of a term or a rule, `(attr ..)`.
     Attr(Attr),
-    /// What holds of a term, `(spec ..)`.
+    /// The specification of a term, `(spec ..)`.
     Spec(Spec),
     /// A macro of spec expressions, `(macro ..)`.
     SpecMacro(SpecMacro),
     /// A model of a type, `(model ..)`.
     Model(Model),
-    /// A state that specs speak of, `(state ..)`.
+    /// A state of specs, `(state ..)`.
     State(State),
-    /// A form: signatures under a name, `(form ..)`.
+    /// Named signatures, `(form ..)`.
     Form(Form),
     /// The signatures of a term, `(instantiate ..)`.
     Instantiation(Instantiation),
-    /// A term or a constant that is defined outside, `(extern ..)`.
+    /// An external extractor, constructor or constant, `(extern ..)`.
     Extern(Extern),
     /// An automatic conversion between types, `(convert ..)`.
     Converter(Converter),
 }
 
-/// A pragma. None is defined, so there are no values of the type. Upstream has an empty enum of its
-/// own for it.
+/// A pragma. None is defined, so the type has no values. Upstream has an empty enum of its own for
+/// it.
 pub type Pragma = Infallible;
 
-/// A type definition. Upstream calls it `Type`, a word that contracts reserve.
+/// A type definition. Upstream calls it `Type`, which is a reserved word in contracts.
 #[derive(Debug, PartialEq, Eq, Drop)]
 pub struct TypeDef {
     /// The name of the type.
     pub name: Ident,
-    /// Whether the type is defined outside.
+    /// Whether the type is external.
     pub is_extern: bool,
-    /// Whether the type has no debug text.
+    /// Whether the type derives no `Debug`.
     pub is_nodebug: bool,
-    /// What the type consists of.
+    /// The contents of the type.
     pub ty: TypeValue,
     /// The position of the token after the keyword.
     pub pos: Pos,
 }
 
-/// What a type consists of. The position is that of its first token.
+/// The contents of a type. The position is that of the first token.
 #[derive(Debug, PartialEq, Eq, Drop)]
 pub enum TypeValue {
-    /// A primitive type, known by its name.
+    /// A primitive type and its name.
     Primitive(Ident, Pos),
-    /// An enum type: a list of variants.
+    /// An enum type and its variants.
     Enum(Vec<Variant>, Pos),
-    /// A struct type: fields.
+    /// A struct type and its fields.
     Struct(Fields, Pos),
 }
 
@@ -93,13 +93,13 @@ pub struct Variant {
 pub enum Fields {
     /// No fields.
     Unit,
-    /// Fields that have names.
+    /// Named fields.
     Struct(StructFields),
-    /// Fields that are known by their places.
+    /// Positional fields.
     Tuple(TupleFields),
 }
 
-/// Fields that have names.
+/// Named fields.
 #[derive(Debug, PartialEq, Eq, Drop)]
 pub struct StructFields {
     /// The fields, in order.
@@ -108,7 +108,7 @@ pub struct StructFields {
     pub pos: Pos,
 }
 
-/// A field that has a name.
+/// A named field.
 #[derive(Debug, PartialEq, Eq, Drop)]
 pub struct StructField {
     /// The name of the field.
@@ -119,7 +119,7 @@ pub struct StructField {
     pub pos: Pos,
 }
 
-/// Fields that are known by their places.
+/// Positional fields.
 #[derive(Debug, PartialEq, Eq, Drop)]
 pub struct TupleFields {
     /// The fields, in order.
@@ -128,10 +128,10 @@ pub struct TupleFields {
     pub pos: Pos,
 }
 
-/// A field that is known by its place.
+/// A positional field.
 #[derive(Debug, PartialEq, Eq, Drop)]
 pub struct TupleField {
-    /// The place, counted from 0.
+    /// The index of the field, from 0.
     pub index: usize,
     /// Its type.
     pub ty: Ident,
@@ -142,17 +142,17 @@ pub struct TupleField {
 /// A declaration of a term, with its argument types and its return type.
 #[derive(Debug, PartialEq, Eq, Drop)]
 pub struct Decl {
-    /// The term that is declared.
+    /// The term.
     pub term: Ident,
-    /// The types of its arguments.
+    /// The types of its arguments, in order.
     pub arg_tys: Vec<Ident>,
-    /// The type of its value.
+    /// The type of its result.
     pub ret_ty: Ident,
     /// Whether the term is pure.
     pub pure: bool,
     /// Whether the term is a multi-term.
     pub multi: bool,
-    /// Whether the term may fail to give a value.
+    /// Whether the term is partial: it may have no result.
     pub partial: bool,
     /// Whether the term may be recursive.
     pub rec: bool,
@@ -165,28 +165,28 @@ pub struct Decl {
 pub struct Instantiation {
     /// The term.
     pub term: Ident,
-    /// The form whose signatures the term has, if it has no signatures of its own.
+    /// The form that gives the term its signatures, if any.
     pub form: Option<Ident>,
-    /// The term's own signatures.
+    /// The term's signatures, if it has no form.
     pub signatures: Vec<Signature>,
-    /// The tags under which the form's signatures hold.
+    /// The tags under which the form's signatures apply.
     pub tags: Vec<Ident>,
     /// The position of the token after the keyword.
     pub pos: Pos,
 }
 
-/// What is said of a term or a rule.
+/// Attributes of a term or a rule.
 #[derive(Debug, PartialEq, Eq, Drop)]
 pub struct Attr {
     /// The term or the rule.
     pub target: AttrTarget,
-    /// What is said of it.
+    /// The attributes, in order.
     pub kinds: Vec<AttrKind>,
     /// The position of the token after the keyword.
     pub pos: Pos,
 }
 
-/// What an attribute speaks of.
+/// The target of an attribute.
 #[derive(Debug, PartialEq, Eq, Drop)]
 pub enum AttrTarget {
     /// A term.
@@ -195,18 +195,18 @@ pub enum AttrTarget {
     Rule(Ident),
 }
 
-/// What an attribute says.
+/// An attribute.
 #[derive(Debug, PartialEq, Eq, Drop)]
 pub enum AttrKind {
     /// Verification chains the term, `(veri chain)`.
     Chain,
-    /// Verification keeps to the rule's priority, `(veri priority)`.
+    /// Verification respects the rule's priority, `(veri priority)`.
     Priority,
     /// A tag, `(tag ..)`.
     Tag(Ident),
 }
 
-/// What a model is given by.
+/// The contents of a model.
 #[derive(Debug, PartialEq, Eq, Drop)]
 pub enum ModelValue {
     /// A model of the type, `(type ..)`.
@@ -220,22 +220,22 @@ pub enum ModelValue {
 pub struct Model {
     /// The name of the type.
     pub name: Ident,
-    /// What its model is.
+    /// The model.
     pub val: ModelValue,
 }
 
-/// The models of a term's arguments and of its value.
+/// The models of a term's arguments and of its result.
 #[derive(Debug, PartialEq, Eq, Drop)]
 pub struct Signature {
     /// The models of the arguments.
     pub args: Vec<ModelType>,
-    /// The model of the value.
+    /// The model of the result.
     pub ret: ModelType,
     /// The position of the token after its `(`.
     pub pos: Pos,
 }
 
-/// A form: signatures under a name.
+/// A form: named signatures.
 #[derive(Debug, PartialEq, Eq, Drop)]
 pub struct Form {
     /// The name of the form.
@@ -246,30 +246,30 @@ pub struct Form {
     pub pos: Pos,
 }
 
-/// A term or a constant that is defined outside.
+/// An external extractor, constructor or constant.
 #[derive(Debug, PartialEq, Eq, Drop)]
 pub enum Extern {
-    /// An outside extractor: `(extern extractor Term func)`.
+    /// An external extractor: `(extern extractor Term func)`.
     Extractor {
         /// The term that it extracts.
         term: Ident,
-        /// The outside function.
+        /// The external function.
         func: Ident,
         /// The position of the token after the keyword.
         pos: Pos,
-        /// Whether it always gives values, `infallible`.
+        /// Whether it always succeeds, `infallible`.
         infallible: bool,
     },
-    /// An outside constructor: `(extern constructor Term func)`.
+    /// An external constructor: `(extern constructor Term func)`.
     Constructor {
         /// The term that it constructs.
         term: Ident,
-        /// The outside function.
+        /// The external function.
         func: Ident,
         /// The position of the token after the keyword.
         pos: Pos,
     },
-    /// An outside constant: `(extern const $NAME type)`.
+    /// An external constant: `(extern const $NAME type)`.
     Const {
         /// The name, without its `$`.
         name: Ident,
@@ -279,14 +279,14 @@ pub enum Extern {
     },
 }
 
-/// An automatic conversion: a term that turns values of one type into values of another.
+/// An automatic conversion: a term that converts values of one type to another.
 #[derive(Debug, PartialEq, Eq, Drop)]
 pub struct Converter {
     /// The term that converts.
     pub term: Ident,
-    /// The type of the expression that is converted.
+    /// The type of the converted expression.
     pub inner_ty: Ident,
-    /// The type that the place of the expression wants.
+    /// The type that is expected in its place.
     pub outer_ty: Ident,
     /// The position of the token after the keyword.
     pub pos: Pos,

@@ -10,7 +10,7 @@ use Rattle.isle_ast_names.specs.Words.{SpellsToken, SpellsWord, BeginsAt, Spells
 use Rattle.isle_ast_names.specs.Erased.{erase_name, erase_token, erase_tokens}
 use Rattle.isle_ast_names.specs.Parts.{CutsPart}
 
--- what it spells in front of some tokens is a part of the list
+-- what it spells before some tokens is a part of the list
 abbrev pub Cuts : (List Placed → List Placed → Type 0) → Type 0
 Cuts Spells = (all rest : List Placed) → Spells all rest → CutsPart Spells all rest
 
@@ -147,7 +147,7 @@ where_plain Wants Spells plain = record {
   ends = λ all rest after h k. plain.ends all rest after h.1 k.1;
 }
 
--- a name, whose token may bear a mark in front of the text
+-- a name, whose token may bear a mark before the text
 
 pub name_placed : (mark : List ℕ → List ℕ) (n : Name) (all after : List Placed) →
     erase_tokens all ≡ record { pos = n.pos; token = symbol (mark n.text) } ∷ after →
@@ -458,7 +458,7 @@ made_at_lawful Outer outer Inner inner con to from erases pos x only begins lawf
     (λ y same. let one = only y (sym (erases pos x) ∙ same) in (one.0, one.1, λ i. (unknown, one.2 i)))
     (at_lawful Inner inner pos x begins lawful)
 
--- what is spelt in parentheses, and behind a word
+-- what is spelt in parentheses, and after a word
 
 pub parentheses_lawful : {A : Type 0} (Spells : A → List Placed → List Placed → Type 0) (erase : A → A) (x : A) →
     Lawful Spells erase x → Lawful (λ y. InParentheses (Spells y)) erase x

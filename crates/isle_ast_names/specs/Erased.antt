@@ -1,4 +1,5 @@
--- Names and tokens erased: each position is the default one, which stands for an unknown place.
+-- Names and tokens erased: each position becomes the default one, which stands for an unknown
+-- position.
 use Rattle.std.specs.Prelude.{List, map, Option, None, Some}
 use Rattle.isle_base.specs.Place.{unknown, Placed}
 use Rattle.isle_ast_names.specs.Tree.{Name}

@@ -1,7 +1,7 @@
--- Which texts are identifiers: the first character is a letter, `_` or `$`, each other one a letter,
--- a digit, `_`, `.` or `$`. Among the ASCII characters the letters are `A` to `Z` and `a` to `z` and
--- the digits `0` to `9`; past ASCII a letter is an alphabetic character, and a digit one of the
--- categories decimal number, letter number and other number.
+-- Identifiers: the first character is a letter, `_` or `$`, and each other one is a letter, a
+-- digit, `_`, `.` or `$`. In ASCII the letters are `A` to `Z` and `a` to `z`, and the digits `0` to
+-- `9`. Outside ASCII a letter is an alphabetic character, and a digit is one of the categories
+-- decimal number, letter number and other number.
 use Rattle.std.specs.Prelude.{ℕ, List, [], ◌∷◌, Bool, true, false, ◌&&◌, ◌||◌, ◌==◌, nat_lt, if◌then◌else◌}
 use Rattle.std.specs.Char.{is_ascii_alphabetic, is_ascii_digit}
 use Rattle.std.specs.List.{list_all}
@@ -37,14 +37,14 @@ abbrev pub are_identifier : List ℕ → Bool
 are_identifier [] = false
 are_identifier (c ∷ cs) = begins_identifier c && list_all continues_identifier cs
 
--- these bytes are a text, and its characters make an identifier
+-- these bytes are valid UTF-8, and their characters form an identifier
 unfoldable pub is_identifier : List ℕ → Bool
 is_identifier text = is_utf8 text && are_identifier (chars text)
 
--- an ASCII character that may stand in an identifier behind the first one
+-- an ASCII character that may follow the first one of an identifier
 abbrev pub continues_in_ascii : ℕ → Bool
 continues_in_ascii b = nat_lt b 128 && continues_identifier b
 
--- an identifier of ASCII characters alone
+-- an identifier of ASCII characters only
 abbrev pub is_ascii_identifier : List ℕ → Bool
 is_ascii_identifier text = begins_with begins_identifier text && list_all continues_in_ascii text

@@ -1,4 +1,5 @@
--- The order of names: by the bytes of the text, then by file, then by offset. What their hash is of: text and position.
+-- The order of names: by the bytes of the text, then by file, then by offset. Their hash is that of
+-- text and position.
 use Rattle.std.specs.Prelude.{◌++◌}
 use Rattle.std.specs.Cmp.Lexicographic.{slice_cmp}
 use Rattle.std.specs.Hash.{HashWrites, str}
@@ -12,6 +13,6 @@ name_cmp =
     then_cmp (on (λ n. n.text) (slice_cmp nat_cmp))
     (then_cmp (on (λ n. n.pos.file) nat_cmp) (on (λ n. n.pos.offset) nat_cmp))
 
--- what a hasher is fed
+-- the input of the hasher
 abbrev pub name_hash : Name → HashWrites
 name_hash n = str n.text ++ position_hash n.pos

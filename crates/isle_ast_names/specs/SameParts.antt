@@ -1,4 +1,4 @@
--- Whether two names, and two positions, are the same: parts of the tests of equality.
+-- Equality of two names and of two positions: parts of the tests of equality.
 use Rattle.std.specs.Prelude.{◌≡◌, Bool, true, ◌&&◌, nat_eq}
 use Rattle.std.specs.Str.{bytes_eq}
 use Rattle.std.proofs.Common.{refl}
@@ -14,7 +14,7 @@ same_pos p q = nat_eq p.file q.file && nat_eq p.offset q.offset
 abbrev pub same_name : Name → Name → Bool
 same_name m n = bytes_eq m.text n.text && same_pos m.pos n.pos
 
--- Each test is true of the same parts, and of no others.
+-- Each test is true exactly if the parts are the same.
 
 pub pos_same : (p q : Pos) → same_pos p q ≡ true → p ≡ q
 pos_same p q h =

@@ -1,4 +1,4 @@
--- A name of the tree as a pure value: its bytes and its position; nothing says where it lies in memory.
+-- A name of the tree as a pure value: its bytes and its position, apart from its memory.
 use Rattle.std.specs.Prelude.{ℕ, List}
 use Rattle.isle_base_source.specs.declared.pos.Pos.{Pos}
 

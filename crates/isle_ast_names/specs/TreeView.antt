@@ -1,4 +1,4 @@
--- The names of the code, as pure values.
+-- The names of code as pure values.
 use Rattle.std.specs.Prelude.{List, map, Option, None, Some, string_bytes}
 use Rattle.isle_ast_names.specs.declared.Ident.{Ident}
 use Rattle.isle_ast_names.specs.Tree.{Name}

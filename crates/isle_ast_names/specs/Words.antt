@@ -1,6 +1,6 @@
--- The words of the grammar: how tokens spell the parts that its productions are made of. Each relation
--- goes from the tokens to come, `all`, to the tokens behind the spelling, `rest`: it says that `all`
--- begins with a spelling and that `rest` follows it.
+-- The words of the grammar: how tokens spell the parts of its productions. Each relation goes from
+-- the remaining tokens, `all`, to the tokens after the spelling, `rest`: `all` begins with a
+-- spelling, and `rest` follows.
 use Rattle.std.specs.Prelude.{◌≡◌, ℕ, List, [], ◌∷◌, Bool, true, false, Option, None, Some, nat_eq, ◌||◌, codes, not}
 use Rattle.std.specs.Str.{bytes_eq}
 use Rattle.isle_base.specs.Bytes.{dollar}
@@ -19,7 +19,7 @@ SpellsToken token all rest = (pos : Pos) × (all ≡ record { pos = pos; token =
 abbrev pub SpellsWord : List ℕ → List Placed → List Placed → Type 0
 SpellsWord word = SpellsToken (symbol word)
 
--- the first token stands at this position
+-- the first token is at this position
 abbrev pub BeginsAt : Pos → List Placed → Type 0
 BeginsAt pos all = (token : Tok) × (behind : List Placed) × (all ≡ record { pos = pos; token = token } ∷ behind)
 
@@ -28,7 +28,7 @@ abbrev pub SpellsAll : {A : Type 0} → (A → List Placed → List Placed → T
 SpellsAll Spells [] all rest = all ≡ rest
 SpellsAll Spells (x ∷ xs) all rest = (mid : List Placed) × Spells x all mid × SpellsAll Spells xs mid rest
 
--- `(`, what `Spells` says, `)`
+-- `(`, the spelling of `Spells`, `)`
 abbrev pub InParentheses : (List Placed → List Placed → Type 0) → List Placed → List Placed → Type 0
 InParentheses Spells all rest =
     (inner : List Placed) × (close : List Placed) × SpellsToken lparen all inner × Spells inner close × SpellsToken rparen close rest
@@ -38,12 +38,12 @@ abbrev pub SpellsName : Name → List Placed → List Placed → Type 0
 SpellsName name all rest =
     (is_identifier name.text ≡ true) × (all ≡ record { pos = name.pos; token = symbol name.text } ∷ rest)
 
--- the word where the flag is set, nothing where it isn't
+-- the word if the flag is set, else nothing
 abbrev pub SpellsFlag : List ℕ → Bool → List Placed → List Placed → Type 0
 SpellsFlag word true all rest = SpellsWord word all rest
 SpellsFlag word false all rest = all ≡ rest
 
--- a keyword, and what `Spells` says
+-- a keyword, and then the spelling of `Spells`
 abbrev pub BehindWord : List ℕ → (List Placed → List Placed → Type 0) → List Placed → List Placed → Type 0
 BehindWord word Spells all rest = (inner : List Placed) × SpellsWord word all inner × Spells inner rest
 
@@ -57,14 +57,14 @@ abbrev pub IsNonEmpty : {A : Type 0} → List A → Type 0
 IsNonEmpty [] = ⊥
 IsNonEmpty (_ ∷ _) = Unit {0}
 
--- a keyword and what stands behind it, in parentheses
+-- a keyword and the rest of its form, in parentheses
 abbrev pub InForm : List ℕ → (List Placed → List Placed → Type 0) → List Placed → List Placed → Type 0
 InForm word Spells = InParentheses (BehindWord word Spells)
 
 abbrev pub is_dollar : ℕ → Bool
 is_dollar byte = nat_eq byte dollar
 
--- what may be read as a constant: it begins with `$`
+-- a text that is read as a constant: it begins with `$`
 abbrev pub is_constant : List ℕ → Bool
 is_constant text = begins_with is_dollar text
 
@@ -76,7 +76,7 @@ bool_word false = codes "false"
 abbrev pub is_bool_word : List ℕ → Bool
 is_bool_word text = bytes_eq text (codes "true") || bytes_eq text (codes "false")
 
--- what this text demands of a flag, where it is this word
+-- a text that is this word needs the flag to be set
 abbrev pub demands : List ℕ → List ℕ → Bool → Bool
 demands text word flag = not (bytes_eq text word) || flag
 

@@ -1,4 +1,4 @@
--- Which names are written so that they read back, and what other conditions are made of.
+-- The names that can be written as text and read back, and the parts of other conditions.
 use Rattle.std.specs.Prelude.{◌≡◌, ◌≢◌, ℕ, List, true}
 use Rattle.std.specs.List.{AllByRecursion}
 use Rattle.isle_ast_names.specs.Identifier.{is_identifier}
@@ -12,6 +12,6 @@ IsName n = is_identifier n.text ≡ true
 abbrev pub Each : {A : Type 0} → (A → Type 0) → List A → Type 0
 Each = AllByRecursion
 
--- a name that isn't this word
+-- a name other than this word
 abbrev pub IsNot : Name → List ℕ → Type 0
 IsNot n word = n.text ≢ word

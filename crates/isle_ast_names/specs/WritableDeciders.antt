@@ -12,7 +12,7 @@ is_name n = is_identifier n.text
 abbrev pub are_names : List Name → Bool
 are_names ns = list_all is_name ns
 
--- there is no name, or it is an identifier
+-- the name is absent, or an identifier
 abbrev pub is_optional_name : Option Name → Bool
 is_optional_name None = true
 is_optional_name (Some n) = is_name n
@@ -28,11 +28,11 @@ abbrev pub begins_with_dollar : List ℕ → Bool
 begins_with_dollar [] = false
 begins_with_dollar (b ∷ _) = b == dollar
 
--- written behind a `$`, the name is an identifier
+-- with a `$` before it, the name is an identifier
 abbrev pub is_constant_name : Name → Bool
 is_constant_name n = is_identifier (dollar ∷ n.text)
 
--- a sign and this many bits hold the number
+-- the number is signed, with this many bits beside its sign
 abbrev pub is_signed : ℕ → ℤ → Bool
 is_signed bits (pos n) = nat_lt n (2 ^ bits)
 is_signed bits (negsuc n) = nat_lt n (2 ^ bits)

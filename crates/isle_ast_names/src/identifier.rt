@@ -1,11 +1,10 @@
-//! Which texts are identifiers.
+//! The rule for identifiers.
 //!
-//! An identifier is a text that isn't empty, whose first character is a letter, `_` or `$`, and
-//! whose other characters are letters, digits, `_`, `.` or `$`. Among the ASCII characters the
-//! letters are `A` to `Z` and `a` to `z` and the digits `0` to `9`. Past ASCII a letter is an
-//! Alphabetic character of Unicode 18.0, and a digit one of its categories Nd, Nl and No. That is
-//! the rule of upstream's parser, which asks Rust for letters and numbers, with the tables of the
-//! crate `unicode`.
+//! An identifier is a non-empty text. Its first character is a letter, `_` or `$`, and its other
+//! characters are letters, digits, `_`, `.` or `$`. In ASCII the letters are `A` to `Z` and `a` to
+//! `z`, and the digits `0` to `9`. Outside ASCII a letter is an Alphabetic character of Unicode
+//! 18.0, and a digit is one of its categories Nd, Nl and No. Upstream's parser has the same rule:
+//! it asks Rust for letters and numbers. The tables here are those of the crate `unicode`.
 
 ghost use Rattle.std.specs.Prelude.{◌≡◌, ◌||◌, ◌==◌, drop, slice_get};
 ghost use Rattle.std.specs.Char.{is_ascii_digit};
@@ -19,22 +18,22 @@ ghost use Rattle.isle_ast_names.specs.Identifier.{is_digit, is_identifier, is_le
 
 use unicode::properties::{GeneralCategory, is_alphabetic};
 
-/// Tells whether a text is an identifier, as the head of this module says.
+/// Returns whether a text is an identifier, by the rule of this module.
 pub fn is_identifier(text: &str) -> bool
     ensures { result ≡ is_identifier text.now }
 {
     is_ascii_identifier(text) || is_identifier_by_chars(text)
 }
 
-/// Tells whether a character may be the first of an identifier: a letter, `_` or `$`.
+/// Returns whether an identifier may begin with a character: a letter, `_` or `$`.
 pub fn begins_identifier(c: char) -> bool
     ensures { result ≡ begins_identifier c }
 {
     is_letter(c) || c == '_' || c == '$'
 }
 
-/// Tells whether a character may stand in an identifier after the first one: a letter, a digit,
-/// `_`, `.` or `$`.
+/// Returns whether a character may follow the first one of an identifier: a letter, a digit, `_`,
+/// `.` or `$`.
 pub fn continues_identifier(c: char) -> bool
     ensures { result ≡ continues_identifier c }
 {
@@ -72,14 +71,14 @@ fn is_number(category: GeneralCategory) -> bool
     }
 }
 
-/// Tells whether a text is an identifier of ASCII characters alone.
+/// Returns whether a text is an identifier of ASCII characters only.
 fn is_ascii_identifier(text: &str) -> bool
     ensures { result ≡ is_ascii_identifier text.now }
 {
     begins_in_ascii(text) && continue_in_ascii(text)
 }
 
-/// Tells whether the first byte, taken as a character, may be the first of an identifier.
+/// Returns whether the first byte, as a character, may begin an identifier.
 fn begins_in_ascii(text: &str) -> bool
     ensures { result ≡ begins_with begins_identifier text.now }
 {
@@ -95,16 +94,16 @@ fn continue_in_ascii(text: &str) -> bool
     text.bytes().all(continues_in_ascii)
 }
 
-/// Tells whether a byte is an ASCII character that may stand in an identifier after the first one.
-/// Most are letters, on which one comparison decides.
+/// Returns whether a byte is an ASCII character that may follow the first one of an identifier.
+/// Most are letters, which need one comparison.
 fn continues_in_ascii(byte: u8) -> bool
     ensures { result ≡ continues_in_ascii byte }
 {
     byte.is_ascii_alphabetic() || is_ascii_digit_or_sign(byte)
 }
 
-/// Tells whether a byte is an ASCII digit, `_`, `.` or `$`. As a call of its own it is asked of no
-/// letter.
+/// Returns whether a byte is an ASCII digit, `_`, `.` or `$`. It is not inlined, and never called
+/// for a letter.
 #[inline(never)]
 fn is_ascii_digit_or_sign(byte: u8) -> bool
     ensures { result
@@ -113,7 +112,7 @@ fn is_ascii_digit_or_sign(byte: u8) -> bool
     byte.is_ascii_digit() || byte == b'_' || byte == b'.' || byte == b'$'
 }
 
-/// Tells whether a text is an identifier, whatever its characters are.
+/// Returns whether a text is an identifier, of any characters.
 fn is_identifier_by_chars(text: &str) -> bool
     ensures { result ≡ is_identifier text.now }
 {

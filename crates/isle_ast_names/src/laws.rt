@@ -1,4 +1,4 @@
-//! Laws of names, which run no code.
+//! Laws of names. They have no code to run.
 
 ghost use Rattle.std.specs.Prelude.{◌≡◌, ◌↔◌, ◌++◌, ℕ, List, IsTrue, Some, true, false};
 ghost use Rattle.std.specs.List.{list_all};
@@ -15,8 +15,7 @@ ghost use Rattle.isle_ast_names.specs.TreeView.{name_of};
 use crate::Ident;
 use std::hash::Hash;
 
-/// The order, the equality and the hash of identifiers are of their
-/// texts and positions alone, and agree.
+/// The order, equality and hash of identifiers depend only on their texts and positions, and agree.
 pub fn identifiers_are_ordered()
     ensures order { (a b : Ident) → ⟦<Ident as Ord>⟧.cmp a b ≡ name_cmp (name_of a) (name_of b) }
     ensures partial_order { (a b : Ident)
@@ -32,9 +31,8 @@ pub fn identifiers_are_ordered()
         → (name_hash m ≡ name_hash n) ↔ (m ≡ n) }
 {}
 
-/// No byte of an identifier ends a symbol, and its first byte begins
-/// one. So where a byte that ends symbols follows an identifier, or the end of the text, it is read
-/// as one symbol.
+/// No byte of an identifier ends a symbol, and its first byte begins one. So an identifier is read
+/// as one symbol if a byte that ends symbols, or the end of the text, follows it.
 pub fn identifiers_are_symbols()
     ensures begins { (text : List ℕ) → is_identifier text ≡ true → begins_with begins_symbol text
         ≡ true }

@@ -1,5 +1,5 @@
-//! The lowest part of the syntax tree of ISLE: identifiers, and what is said of names. `isle_ast`
-//! has its types under its own paths.
+//! Identifiers, and tests and laws of names: the base of ISLE's syntax tree. `isle_ast` re-exports
+//! the types under its own paths.
 #![tactic(auto)]
 
 pub mod identifier;
@@ -8,7 +8,7 @@ pub mod writability;
 
 use isle_base::lexer::Pos;
 
-/// An identifier: a variable, a term symbol, or a type.
+/// An identifier: a variable, a term or a type.
 ///
 /// Identifiers are ordered by the bytes of the text, then by file, then by offset.
 #[derive(Clone, Debug, PartialEq, Eq, PartialOrd, Ord, Hash, Drop)]

@@ -1,4 +1,4 @@
-//! Which names and which numbers are written so that they read back.
+//! The names and numbers that can be written as text and read back.
 
 ghost use Rattle.std.specs.Prelude.{◌≡◌, ◌∷◌, string_bytes};
 ghost use Rattle.std.specs.List.{list_all};
@@ -12,21 +12,21 @@ ghost use Rattle.isle_ast_names.specs.WritableDeciders.{is_optional_name, is_sig
 use crate::Ident;
 use crate::identifier::{continues_identifier, is_identifier};
 
-/// Tells whether a name is an identifier.
+/// Returns whether a name is an identifier.
 pub fn is_name(name: &Ident) -> bool
     ensures { result ≡ is_name (name_of name.now) }
 {
     is_identifier(&name.0)
 }
 
-/// Tells whether each name is an identifier.
+/// Returns whether every name is an identifier.
 pub fn are_names(names: &[Ident]) -> bool
     ensures { result ≡ are_names (names_of names.now) }
 {
     names.iter().all(is_name)
 }
 
-/// Tells whether a name, if there is one, is an identifier.
+/// Returns whether the name is absent or an identifier.
 pub fn is_optional_name(name: &Option<Ident>) -> bool
     ensures { result ≡ is_optional_name (optional_name_of name.now) }
 {
@@ -36,43 +36,42 @@ pub fn is_optional_name(name: &Option<Ident>) -> bool
     }
 }
 
-/// Tells whether a name is `true` or `false`.
+/// Returns whether a name is `true` or `false`.
 pub fn is_bool_name(name: &Ident) -> bool
     ensures { result ≡ is_bool_name (name_of name.now) }
 {
     matches!(name.0.as_str(), "true" | "false")
 }
 
-/// Tells whether a name begins with `$`.
 pub fn begins_with_dollar(name: &Ident) -> bool
     ensures { result ≡ begins_with_dollar (string_bytes name.now.0) }
 {
     name.0.starts_with('$')
 }
 
-/// Tells whether a name is an identifier where it is written after a `$`.
+/// Returns whether a name is an identifier with a `$` before it.
 pub fn is_constant_name(name: &Ident) -> bool
     ensures { result ≡ is_constant_name (name_of name.now) }
 {
     is_constant(&name.0)
 }
 
-/// Tells whether a text is an identifier where it is written after a `$`, that is, whether each of
-/// its characters may stand after the first one.
+/// Returns whether a text is an identifier with a `$` before it: each of its characters may follow
+/// the first one of an identifier.
 fn is_constant(text: &str) -> bool
     ensures { result ≡ is_identifier (36 ∷ text.now) }
 {
     all_continue(text)
 }
 
-/// Tells whether each character of a text may stand in an identifier after the first one.
+/// Returns whether each character of a text may follow the first one of an identifier.
 fn all_continue(text: &str) -> bool
     ensures { result ≡ list_all continues_identifier (chars text.now) }
 {
     text.chars().all(continues_identifier)
 }
 
-/// Each number of the type is writable.
+/// Every number of the type can be written.
 pub fn is_whole_number(_number: i128) -> bool
     ensures { result ≡ is_signed 127 _number }
 {

@@ -1,4 +1,4 @@
--- A writable rule holds no argument of a macro.
+-- A writable rule contains no macro argument.
 use Rattle.std.proofs.Common.{[], ◌≡◌, List, ◌∷◌, Bool, false, ◌||◌, refl}
 use Rattle.std.specs.List.{list_any}
 use Rattle.isle_base.specs.Place.{Placed}

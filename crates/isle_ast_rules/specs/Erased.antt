@@ -1,4 +1,5 @@
--- Patterns, expressions and rules erased: each position is the default one, which stands for an unknown place.
+-- Patterns, expressions and rules erased: each position becomes the default one, which stands for
+-- an unknown position.
 use Rattle.std.specs.Prelude.{map}
 use Rattle.isle_base.specs.Place.{unknown}
 use Rattle.isle_ast_rules.specs.Tree.{PatternNode, var_pattern, bind_pattern, bool_pattern, int_pattern, constant_pattern, term_pattern, wildcard_pattern, and_pattern, macro_arg_pattern, PatternList, no_pattern, more_pattern, Expression, term_expression, var_expression, bool_expression, int_expression, constant_expression, let_expression, ExpressionList, no_expression, more_expression, LetList, no_let, more_let, Condition, RuleDefinition, ExtractorDefinition}

@@ -1,4 +1,4 @@
--- Expressions: what a rule or a condition computes. An expression stands at its first token.
+-- Expressions of rules and conditions. The position of an expression is that of its first token.
 use Rattle.std.specs.Prelude.{◌≡◌, ℕ, List, ◌∷◌, Bool, true, false, ◌&&◌, not, codes}
 use Rattle.std.specs.Str.{bytes_eq}
 use Rattle.isle_base.specs.Place.{Placed}
@@ -9,7 +9,8 @@ use Rattle.isle_ast_names.specs.Tree.{Name}
 use Rattle.isle_ast_rules.specs.Tree.{Expression, term_expression, var_expression, bool_expression, int_expression, constant_expression, let_expression, ExpressionList, no_expression, more_expression, LetList, no_let, more_let}
 use Rattle.isle_ast_names.specs.Words.{SpellsWord, BeginsAt, InParentheses, BehindWord, SpellsName, is_constant, bool_word, is_bool_word, SpellsConstant}
 
--- a variable of an expression: an identifier that isn't `true` or `false` and doesn't begin with `$`
+-- a variable of an expression: an identifier other than `true` and `false` that doesn't begin with
+-- `$`
 abbrev pub is_variable_of_expressions : List ℕ → Bool
 is_variable_of_expressions text = is_identifier text && not (is_constant text) && not (is_bool_word text)
 
@@ -17,7 +18,7 @@ abbrev pub SpellsExpressionVariable : Name → List Placed → List Placed → T
 SpellsExpressionVariable name all rest =
     (is_variable_of_expressions name.text ≡ true) × (all ≡ record { pos = name.pos; token = symbol name.text } ∷ rest)
 
--- `(I X..)` with an I that isn't `let`, a variable, `true` or `false`, an integer, a constant,
+-- `(I X..)` with an I other than `let`, a variable, `true` or `false`, an integer, a constant,
 -- `(let ((I I X)..) X)`
 abbrev mutual
   pub SpellsExpression : Expression → List Placed → List Placed → Type 0
@@ -42,7 +43,7 @@ abbrev mutual
   SpellsExpressions (more_expression x xs) all rest =
       (mid : List Placed) × SpellsExpression x all mid × SpellsExpressions xs mid rest
 
-  -- `(I I X)` for each, at its `(`: the variable, its type, its value
+  -- `(I I X)` for each, at the position of its `(`: the variable, its type, its value
   pub SpellsLets : LetList → List Placed → List Placed → Type 0
   SpellsLets no_let all rest = all ≡ rest
   SpellsLets (more_let var ty val pos lets) all rest =

@@ -1,4 +1,5 @@
--- Which parts of rules are or hold the argument of a macro, which no text spells and nothing prints.
+-- The parts of rules that are, or contain, a macro argument, which has no syntax and is never
+-- printed.
 use Rattle.std.specs.Prelude.{Bool, true, false, ◌||◌}
 use Rattle.std.specs.List.{list_any}
 use Rattle.isle_ast_rules.specs.Tree.{PatternNode, var_pattern, bind_pattern, bool_pattern, int_pattern, constant_pattern, term_pattern, wildcard_pattern, and_pattern, macro_arg_pattern, PatternList, no_pattern, more_pattern, Condition, RuleDefinition, ExtractorDefinition}

@@ -1,4 +1,5 @@
--- Patterns: what a rule, a condition or an extractor matches. A pattern stands at its first token.
+-- Patterns of rules, conditions and extractors. The position of a pattern is that of its first
+-- token.
 use Rattle.std.specs.Prelude.{◌≡◌, ℕ, List, ◌∷◌, Bool, true, false, ◌&&◌, not, codes}
 use Rattle.std.specs.Str.{bytes_eq}
 use Rattle.isle_base.specs.Place.{Placed}
@@ -9,7 +10,8 @@ use Rattle.isle_ast_names.specs.Tree.{Name}
 use Rattle.isle_ast_rules.specs.Tree.{PatternNode, var_pattern, bind_pattern, bool_pattern, int_pattern, constant_pattern, term_pattern, wildcard_pattern, and_pattern, macro_arg_pattern, PatternList, no_pattern, more_pattern}
 use Rattle.isle_ast_names.specs.Words.{SpellsToken, SpellsWord, BeginsAt, InParentheses, BehindWord, SpellsName, SpellsConstant, is_constant, is_bool_word, bool_word}
 
--- a variable of a pattern: an identifier that isn't `_`, `true` or `false` and doesn't begin with `$`
+-- a variable of a pattern: an identifier other than `_`, `true` and `false` that doesn't begin with
+-- `$`
 abbrev pub is_variable_of_patterns : List ℕ → Bool
 is_variable_of_patterns text =
     is_identifier text && not (is_constant text) && not (bytes_eq text (codes "_")) && not (is_bool_word text)
@@ -18,9 +20,9 @@ abbrev pub SpellsVariable : Name → List Placed → List Placed → Type 0
 SpellsVariable name all rest =
     (is_variable_of_patterns name.text ≡ true) × (all ≡ record { pos = name.pos; token = symbol name.text } ∷ rest)
 
--- `V`, `V @ P`, `true` or `false`, an integer, a constant, `(I P..)` with an I that isn't `and`, `_`,
--- `(and P..)`. Nothing spells the argument of a macro. A V alone is spelt in front of `@` too; nothing that
--- follows a pattern begins with `@`, so there it is settled which of the two is meant.
+-- `V`, `V @ P`, `true` or `false`, an integer, a constant, `(I P..)` with an I other than `and`,
+-- `_`, `(and P..)`. A macro argument has no syntax. A V is a spelling even if `@` follows, but
+-- nothing that can follow a pattern begins with `@`, which decides between the two.
 abbrev mutual
   pub SpellsPattern : PatternNode → List Placed → List Placed → Type 0
   SpellsPattern (var_pattern var pos) all rest = BeginsAt pos all × SpellsVariable var all rest

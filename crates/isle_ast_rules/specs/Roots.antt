@@ -1,4 +1,4 @@
--- What is said of a node by itself: where it stands, and the symbol of its term.
+-- The position of a single node, and the symbol of its term.
 use Rattle.std.specs.Prelude.{Option, None, Some}
 use Rattle.isle_base_source.specs.declared.pos.Pos.{Pos}
 use Rattle.isle_ast_names.specs.Tree.{Name}
@@ -25,7 +25,7 @@ expression_pos (int_expression _ place) = place
 expression_pos (constant_expression _ place) = place
 expression_pos (let_expression _ _ place) = place
 
--- the symbol of a term; another pattern has none
+-- the symbol of a term pattern; other patterns have none
 abbrev pub root_term : PatternNode → Option Name
 root_term (var_pattern _ _) = None
 root_term (bind_pattern _ _ _) = None

@@ -1,4 +1,4 @@
--- Rules, with their conditions, and the extractors that stand for patterns: `rule` and `extractor`.
+-- Rules with their conditions, and internal extractors: `rule` and `extractor`.
 use Rattle.std.specs.Prelude.{◌≡◌, ℤ, List, Bool, true, false, not, ◌⊎◌, Option, None, Some, codes}
 use Rattle.std.specs.Str.{bytes_eq}
 use Rattle.isle_base.specs.Place.{Placed}
@@ -13,11 +13,11 @@ use Rattle.isle_ast_rules.specs.PatternGrammar.{SpellsPattern}
 abbrev pub SpellsMatch : Condition → List Placed → List Placed → Type 0
 SpellsMatch c all rest = (mid : List Placed) × SpellsPattern c.pattern all mid × SpellsExpression c.expr mid rest
 
--- an expression alone, whose value is any: the pattern is a wildcard at the same position
+-- an expression without a pattern: the pattern is a wildcard at the same position
 abbrev pub SpellsTest : Condition → List Placed → List Placed → Type 0
 SpellsTest c all rest = (c.pattern ≡ wildcard_pattern c.pos) × SpellsExpression c.expr all rest
 
--- `(if-let P X)` or `(if X)`, at the position of the token behind the keyword
+-- `(if-let P X)` or `(if X)`, at the position of the token after the keyword
 abbrev pub SpellsCondition : Condition → List Placed → List Placed → Type 0
 SpellsCondition c all rest =
     InParentheses (BehindWord (codes "if-let") (λ inner close. BeginsAt c.pos inner × SpellsMatch c inner close)) all rest
@@ -55,15 +55,16 @@ is_if_expression (int_expression _ _) = false
 is_if_expression (constant_expression _ _) = false
 is_if_expression (let_expression _ _ _) = false
 
--- A symbol behind the keyword is read as the name, and then an integer as the priority. So without
--- both the pattern is a list, and with a name alone it isn't an integer.
+-- A symbol after the keyword is read as the name, and then an integer as the priority. So without
+-- either the pattern is a list, and with only a name it is not an integer.
 abbrev pub pattern_is_no_head : Option Name → Option ℤ → PatternNode → Bool
 pattern_is_no_head None None p = is_list_pattern p
 pattern_is_no_head (Some _) None p = not (is_int_pattern p)
 pattern_is_no_head _ (Some _) p = true
 
--- The name and the priority, if there are any, the pattern, the conditions, the expression. A term headed
--- `if` is read as a condition, so the expression isn't one. (`if-let` is no identifier, so it heads no term.)
+-- The name and the priority, if there are any, the pattern, the conditions, the expression. A term
+-- headed `if` is read as a condition, so the expression is not one. (`if-let` is not an identifier,
+-- so no term is named so.)
 pub record SpellsRule (r : RuleDefinition) (all rest : List Placed) : Type 0 where
   pub pattern_is_no_head : pattern_is_no_head r.name r.prio r.pattern ≡ true
   pub expr_is_no_condition : is_if_expression r.expr ≡ false
@@ -78,7 +79,7 @@ pub record SpellsRule (r : RuleDefinition) (all rest : List Placed) : Type 0 whe
   pub iflets : SpellsAll SpellsCondition r.iflets behind_pattern behind_iflets
   pub expr : SpellsExpression r.expr behind_iflets rest
 
--- `(I I..)`, the term and its parameters, and the pattern that it stands for
+-- `(I I..)`, the term and its parameters, and the pattern that defines it
 pub record SpellsExtractor (e : ExtractorDefinition) (all rest : List Placed) : Type 0 where
   pub position : BeginsAt e.pos all
   pub behind_head : List Placed

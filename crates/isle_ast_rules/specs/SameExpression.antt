@@ -1,5 +1,5 @@
--- Whether two expressions are the same, with the same positions. This is what `==` says of them, and the
--- laws of `==` rest on it.
+-- Equality of expressions, positions included. `==` computes it, and the laws of `==` follow from
+-- it.
 use Rattle.std.specs.Prelude.{◌≡◌, Bool, true, false, ◌&&◌}
 use Rattle.std.specs.Bool.{Decides, beq}
 use Rattle.std.specs.Cmp.{IsEquivalence, decided, on_equiv, booleans_Decides, signed_Decides}
@@ -37,7 +37,7 @@ abbrev mutual
 abbrev pub same_single_let : SingleLet → SingleLet → Bool
 same_single_let d e = same_name d.var e.var && (same_name d.ty e.ty && (same_expression d.val e.val && same_pos d.pos e.pos))
 
--- The test is true of the same expressions, and of no others.
+-- The test is true exactly of equal expressions.
 
 -- four tests, each true
 four_true : (a b c d : Bool) → (a && (b && (c && d))) ≡ true → (a ≡ true) × (b ≡ true) × (c ≡ true) × (d ≡ true)

@@ -1,5 +1,4 @@
--- Whether two patterns are the same, with the same positions. This is what `==` says of them, and the
--- laws of `==` rest on it.
+-- Equality of patterns, positions included. `==` computes it, and the laws of `==` follow from it.
 use Rattle.std.specs.Prelude.{◌≡◌, Bool, true, false, ◌&&◌, nat_eq}
 use Rattle.std.specs.Bool.{Decides, beq}
 use Rattle.std.specs.Cmp.{IsEquivalence, decided, on_equiv, booleans_Decides, signed_Decides}
@@ -29,7 +28,7 @@ abbrev mutual
   same_patterns (more_pattern s ss) (more_pattern t ts) = same_pattern s t && same_patterns ss ts
   same_patterns _ _ = false
 
--- The test is true of the same patterns, and of no others.
+-- The test is true exactly of equal patterns.
 
 mutual
   pub pattern_same : (s t : PatternNode) → same_pattern s t ≡ true → s ≡ t

@@ -1,5 +1,5 @@
--- Macro templates: which places of a pattern the arguments of a macro replace, and what stands there
--- once patterns are put in for the arguments. A place is a variable `x`, or `x @ _`.
+-- Macro templates: the places of a pattern that macro arguments replace, and the substitution of
+-- patterns for the arguments. A place is a variable `x`, or `x @ _`.
 use Rattle.std.specs.Prelude.{ℕ, ◌+◌, List, [], ◌∷◌, ◌++◌, Bool, true, false, Option, None, Some, option_map, length, slice_get, nat_le, if◌then◌else◌}
 use Rattle.std.specs.List.{list_any}
 use Rattle.std.specs.Str.{bytes_eq}
@@ -7,7 +7,7 @@ use Rattle.isle_base_source.specs.declared.pos.Pos.{Pos}
 use Rattle.isle_ast_names.specs.Tree.{Name}
 use Rattle.isle_ast_rules.specs.Tree.{PatternNode, var_pattern, bind_pattern, bool_pattern, int_pattern, constant_pattern, term_pattern, wildcard_pattern, and_pattern, macro_arg_pattern, PatternList, no_pattern, more_pattern}
 
--- the index of the first name with this text, where the first of the names has the index `i`
+-- the index of the first name with this text, if the first name has the index `i`
 abbrev pub first_from : ℕ → List ℕ → List Name → Option ℕ
 first_from i text [] = None
 first_from i text (name ∷ names) = if bytes_eq name.text text then Some i else first_from (i + 1) text names
@@ -28,17 +28,17 @@ is_wildcard (wildcard_pattern _) = true
 is_wildcard (and_pattern _ _) = false
 is_wildcard (macro_arg_pattern _ _) = false
 
--- the index of the argument that replaces `x @ p`: there is none unless `p` is `_`
+-- the index of the argument that replaces `x @ p`: none unless `p` is `_`
 abbrev pub bound_index : List ℕ → PatternNode → List Name → Option ℕ
 bound_index text subpat names = if is_wildcard subpat then first_index text names else None
 
--- what `new` gives for an index, if there is one, and else what stood there
+-- `new` of the index, if there is one, and else the old value
 abbrev pub put : {A : Type 0} → Option ℕ → (ℕ → A) → A → A
 put None new old = old
 put (Some i) new old = new i
 
--- each place whose name is one of the names becomes what `new` gives for the index of the first such
--- name and the position of the place, all at once; everything else stays
+-- each place with one of the names becomes `new` of the index of the first such name and the
+-- position of the place, all at once; everything else stays
 abbrev mutual
   pub replace : PatternNode → List Name → (ℕ → Pos → PatternNode) → PatternNode
   replace (var_pattern var place) names new =
@@ -57,13 +57,13 @@ abbrev mutual
   replace_list no_pattern names new = no_pattern
   replace_list (more_pattern p ps) names new = more_pattern (replace p names new) (replace_list ps names new)
 
--- a pattern before a list of patterns, where both are given
+-- a pattern before a list of patterns, if both are given
 abbrev pub join : Option PatternNode → Option PatternList → Option PatternList
 join None list = None
 join (Some p) None = None
 join (Some p) (Some ps) = Some (more_pattern p ps)
 
--- as `replace`, where what replaces a place may be missing: none if it is missing at one of the places
+-- as `replace`, but none if the replacement of a place is missing
 abbrev mutual
   pub replace_by : PatternNode → List Name → (ℕ → Pos → Option PatternNode) → Option PatternNode
   replace_by (var_pattern var place) names new =
@@ -83,8 +83,8 @@ abbrev mutual
   replace_list_by no_pattern names new = Some no_pattern
   replace_list_by (more_pattern p ps) names new = join (replace_by p names new) (replace_list_by ps names new)
 
--- each argument of a macro becomes the pattern at its index, all at once; none if there is no pattern
--- at one of the indices. What was put in isn't looked at again
+-- each macro argument becomes the pattern at its index, all at once; none if there is no pattern at
+-- one of the indices. Substituted patterns are not searched again
 abbrev mutual
   pub plug : PatternNode → List PatternNode → Option PatternNode
   plug (var_pattern var place) args = Some (var_pattern var place)
@@ -101,7 +101,7 @@ abbrev mutual
   plug_list no_pattern args = Some no_pattern
   plug_list (more_pattern p ps) args = join (plug p args) (plug_list ps args)
 
--- the indices of the arguments of a macro in a pattern, from left to right
+-- the indices of the macro arguments in a pattern, from left to right
 abbrev mutual
   pub indices : PatternNode → List ℕ
   indices (var_pattern _ _) = []

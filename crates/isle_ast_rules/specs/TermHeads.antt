@@ -1,4 +1,4 @@
--- The terms of a pattern or an expression, in the order in which they are written.
+-- The terms of a pattern or an expression, in the order of the text.
 use Rattle.std.specs.Prelude.{◌≡◌, List, [], ◌∷◌, ◌++◌}
 use Rattle.std.specs.Borrow.{Bor}
 use Rattle.std.specs.Fn.{Called, Mut}
@@ -8,7 +8,7 @@ use Rattle.isle_ast_names.specs.TreeView.{name_of}
 use Rattle.isle_ast_names.specs.Tree.{Name}
 use Rattle.isle_ast_rules.specs.Tree.{PatternNode, var_pattern, bind_pattern, bool_pattern, int_pattern, constant_pattern, term_pattern, wildcard_pattern, and_pattern, macro_arg_pattern, PatternList, no_pattern, more_pattern, Expression, term_expression, var_expression, bool_expression, int_expression, constant_expression, let_expression, ExpressionList, no_expression, more_expression, LetList, no_let, more_let}
 
--- the positions and the symbols of the terms: a term stands before those of its arguments
+-- the positions and symbols of the terms: a term comes before those of its arguments
 abbrev mutual
   pub heads : PatternNode → List (Pos × Name)
   heads (var_pattern _ _) = []
@@ -25,7 +25,7 @@ abbrev mutual
   list_heads no_pattern = []
   list_heads (more_pattern p ps) = heads p ++ list_heads ps
 
--- the same in an expression: in a `let` those of the values stand before those of the body
+-- the same of an expression: in a `let`, the terms of the values come before those of the body
 abbrev mutual
   pub expression_heads : Expression → List (Pos × Name)
   expression_heads (term_expression sym args place) = (place, sym) ∷ expression_list_heads args
@@ -43,7 +43,7 @@ abbrev mutual
   let_list_heads no_let = []
   let_list_heads (more_let _ _ val _ ds) = expression_heads val ++ let_list_heads ds
 
--- a call of f at a position and at a `&` to an identifier of that name
+-- a call of f with a position and a reference to an identifier with that name
 pub record CalledAtHead {F : Type 0} (g : Mut F (Pos × (Bor Ident × Unit {0})) (Unit {0})) (f : F) (head : Pos × Name) (f' : F) : Type 0 where
   pub shown : Bor Ident
   pub shows : name_of shown.now ≡ head.1

@@ -1,9 +1,9 @@
--- Patterns, expressions and rules as pure values. The fields are those of the types of the code.
+-- Patterns, expressions and rules as pure values. The fields are those of the types in code.
 use Rattle.std.specs.Prelude.{ℕ, ℤ, List, Bool, Option}
 use Rattle.isle_base_source.specs.declared.pos.Pos.{Pos}
 use Rattle.isle_ast_names.specs.Tree.{Name}
 
--- what a rule, a condition or an extractor matches
+-- a pattern of a rule, a condition or an extractor
 mutual
   pub data PatternNode : Type 0 where
     var_pattern : (var : Name) → Pos → PatternNode
@@ -21,7 +21,7 @@ mutual
     no_pattern : PatternList
     more_pattern : PatternNode → PatternList → PatternList
 
--- what a rule or a condition computes
+-- an expression of a rule or a condition
 mutual
   pub data Expression : Type 0 where
     term_expression : (sym : Name) → (args : ExpressionList) → Pos → Expression
@@ -41,13 +41,13 @@ mutual
     no_let : LetList
     more_let : (var ty : Name) → (val : Expression) → Pos → LetList → LetList
 
--- a condition: what the expression gives matches the pattern
+-- a condition: the value of the expression matches the pattern
 pub record Condition : Type 0 where
   pub pattern : PatternNode
   pub expr : Expression
   pub pos : Pos
 
--- a rule that rewrites
+-- a rewrite rule
 pub record RuleDefinition : Type 0 where
   pub pattern : PatternNode
   pub iflets : List Condition
@@ -56,7 +56,7 @@ pub record RuleDefinition : Type 0 where
   pub prio : Option ℤ
   pub name : Option Name
 
--- a pattern under a name, with parameters
+-- a named pattern with parameters
 pub record ExtractorDefinition : Type 0 where
   pub term : Name
   pub args : List Name

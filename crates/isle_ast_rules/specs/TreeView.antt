@@ -1,4 +1,4 @@
--- The patterns, expressions and rules of the code, as pure values.
+-- The patterns, expressions and rules of code, as pure values.
 use Rattle.std.specs.Prelude.{[], List, ◌∷◌, map}
 use Rattle.isle_base_source.specs.declared.pos.Pos.{Pos}
 use Rattle.isle_ast_names.specs.Tree.{Name}
@@ -19,7 +19,7 @@ abbrev pub pattern_list_of : List PatternNode → PatternList
 pattern_list_of [] = no_pattern
 pattern_list_of (p ∷ ps) = more_pattern p (pattern_list_of ps)
 
--- one node, with the pure value of each part in its place
+-- one node, with its parts as pure values
 abbrev pub pattern_step : Pattern-F PatternNode → PatternNode
 pattern_step (Pattern-F.Var var place) = var_pattern (name_of var) place
 pattern_step (Pattern-F.BindPattern var subpat place) = bind_pattern (name_of var) subpat.value place

@@ -1,5 +1,5 @@
--- Which patterns, expressions and rules are written so that they read back: the conditions on each node. They
--- name no text and no width, and positions play no part.
+-- The patterns, expressions and rules that can be written as text and read back: the conditions on
+-- each node. They depend on no text, width or position.
 use Rattle.std.specs.Prelude.{◌≡◌, ◌≢◌, ℕ, List, ◌∷◌, true, false, IfSome, codes}
 use Rattle.isle_base.specs.Bytes.{dollar}
 use Rattle.isle_ast_names.specs.Identifier.{is_identifier}
@@ -13,7 +13,7 @@ use Rattle.isle_ast_names.specs.Writable.{IsName, Each, IsNot}
 abbrev pub HasNoDollar : Name → Type 0
 HasNoDollar n = (behind : List ℕ) → n.text ≢ dollar ∷ behind
 
--- written behind a `$`, the name is an identifier
+-- with a `$` before it, the name is an identifier
 abbrev pub IsConstantName : Name → Type 0
 IsConstantName n = is_identifier (dollar ∷ n.text) ≡ true
 
@@ -25,7 +25,7 @@ pub record IsPatternVariable (n : Name) : Type 0 where
   pub not_false : IsNot n (codes "false")
   pub not_constant : HasNoDollar n
 
--- a number is one of its type, a term isn't named `and`, and the argument of a macro is never written
+-- a number fits its type, a term is not named `and`, and there is no macro argument
 abbrev mutual
   pub IsWritablePattern : PatternNode → Type 0
   IsWritablePattern (var_pattern var _) = IsPatternVariable var
@@ -49,7 +49,7 @@ pub record IsExpressionVariable (n : Name) : Type 0 where
   pub not_false : IsNot n (codes "false")
   pub not_constant : HasNoDollar n
 
--- a number is one of its type, and a term isn't named `let`
+-- a number fits its type, and a term is not named `let`
 abbrev mutual
   pub IsWritableExpression : Expression → Type 0
   IsWritableExpression (term_expression sym args _) = IsName sym × IsNot sym (codes "let") × AreWritableExpressions args
@@ -70,8 +70,8 @@ abbrev mutual
 abbrev pub IsWritableCondition : Condition → Type 0
 IsWritableCondition c = IsWritablePattern c.pattern × IsWritableExpression c.expr
 
--- A priority is a number of its type. The pattern isn't read as the name or the priority that the rule doesn't
--- have, and the expression isn't read as one more condition.
+-- A priority fits its type. The pattern can't be read as a name or a priority that the rule lacks,
+-- and the expression can't be read as one more condition.
 pub record IsWritableRule (r : RuleDefinition) : Type 0 where
   pub name : IfSome r.name IsName
   pub prio : IfSome r.prio (IsSigned 63)

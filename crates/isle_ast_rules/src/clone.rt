@@ -1,4 +1,4 @@
-//! Copies of rules and extractors, and of the patterns and expressions that they are made of.
+//! Copies of rules, extractors, patterns and expressions.
 
 ghost use Rattle.std.specs.Prelude.{◌≡◌, IfOk};
 ghost use Rattle.isle_ast_rules.specs.TreeView.{condition_of, expression_of, expressions_of};
@@ -56,7 +56,6 @@ impl Clone for Pattern {
     }
 }
 
-/// Copies a pattern.
 #[cycle(pattern)]
 fn copy_pattern(pattern: &Pattern) -> Result<Pattern, AllocError>
     ensures { IfOk result (λ copy. pattern_of copy ≡ pattern_of pattern.now) }
@@ -103,7 +102,6 @@ fn copy_pattern(pattern: &Pattern) -> Result<Pattern, AllocError>
     }
 }
 
-/// Copies patterns, in order.
 #[cycle(pattern)]
 fn copy_patterns(patterns: &Vec<Pattern>) -> Result<Vec<Pattern>, AllocError>
     ensures { IfOk result (λ copies. patterns_of copies.items ≡ patterns_of patterns.now.items) }
@@ -131,7 +129,6 @@ impl Clone for LetDef {
     }
 }
 
-/// Copies an expression.
 #[cycle(expr)]
 fn copy_expr(expr: &Expr) -> Result<Expr, AllocError>
     ensures { IfOk result (λ copy. expression_of copy ≡ expression_of expr.now) }
@@ -169,7 +166,6 @@ fn copy_expr(expr: &Expr) -> Result<Expr, AllocError>
     }
 }
 
-/// Copies expressions, in order.
 #[cycle(expr)]
 fn copy_exprs(exprs: &Vec<Expr>) -> Result<Vec<Expr>, AllocError>
     ensures { IfOk result (λ copies. expressions_of copies.items ≡ expressions_of exprs.now.items) }
@@ -181,7 +177,7 @@ fn copy_exprs(exprs: &Vec<Expr>) -> Result<Vec<Expr>, AllocError>
     Ok(copies)
 }
 
-/// Copies the definitions of a `let`, in order.
+/// Copies the definitions of a `let`.
 #[cycle(expr)]
 fn copy_lets(defs: &Vec<LetDef>) -> Result<Vec<LetDef>, AllocError>
     ensures { IfOk result (λ copies. single_lets_of copies.items ≡ single_lets_of defs.now.items) }
@@ -193,7 +189,6 @@ fn copy_lets(defs: &Vec<LetDef>) -> Result<Vec<LetDef>, AllocError>
     Ok(copies)
 }
 
-/// Copies a definition of a `let`.
 #[cycle(expr)]
 fn copy_let(def: &LetDef) -> Result<LetDef, AllocError>
     ensures { IfOk result (λ copy. single_let_of copy ≡ single_let_of def.now) }

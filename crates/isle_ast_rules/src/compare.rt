@@ -1,8 +1,7 @@
-//! The comparison of patterns and of expressions. Two are equal exactly where they are the same,
-//! their positions included.
+//! Comparison of patterns and of expressions. Two are equal exactly if they are the same, positions
+//! included.
 //!
-//! The comparisons are written out, since a proof learns nothing of the derived ones where a type
-//! contains itself.
+//! The comparisons are written out, because proofs can't use derived ones of recursive types.
 
 mod expressions;
 mod patterns;

@@ -1,5 +1,5 @@
-//! The part of the syntax tree of ISLE that rewrites: patterns, expressions, conditions, rules,
-//! extractors and the templates of macros. `isle_ast` has these types under its own paths.
+//! The part of ISLE's syntax tree for rewriting: patterns, expressions, conditions, rules,
+//! extractors and macro templates. `isle_ast` re-exports these types under its own paths.
 #![tactic(auto)]
 
 mod clone;
@@ -11,7 +11,7 @@ pub mod writability;
 use isle_ast_names::Ident;
 use isle_base::lexer::Pos;
 
-/// A rule: what the pattern matches is rewritten to the expression, where the conditions hold.
+/// A rule. A term that matches the pattern is rewritten to the expression, if the conditions hold.
 #[derive(Debug, PartialEq, Eq, Drop)]
 pub struct Rule {
     /// The left side.
@@ -22,16 +22,16 @@ pub struct Rule {
     pub expr: Expr,
     /// The position of the token after the keyword.
     pub pos: Pos,
-    /// The priority, if the rule gives one.
+    /// The priority, if the rule has one.
     pub prio: Option<i64>,
-    /// The name, if the rule gives one.
+    /// The name, if the rule has one.
     pub name: Option<Ident>,
 }
 
-/// A condition of a rule, `(if-let ..)`. `(if ..)` is one whose pattern is a wildcard.
+/// A condition of a rule, `(if-let ..)`. In `(if ..)` the pattern is a wildcard.
 #[derive(Debug, PartialEq, Eq, Drop)]
 pub struct IfLet {
-    /// What the value of the expression has to match.
+    /// The pattern that the expression's value must match.
     pub pattern: Pattern,
     /// The expression.
     pub expr: Expr,
@@ -39,30 +39,29 @@ pub struct IfLet {
     pub pos: Pos,
 }
 
-/// An extractor that stands for a pattern: `(extractor (A x y) (B x _ y))`.
+/// An internal extractor, defined by a pattern: `(extractor (A x y) (B x _ y))`.
 #[derive(Debug, PartialEq, Eq, Drop)]
 pub struct Extractor {
     /// The term.
     pub term: Ident,
     /// Its parameters.
     pub args: Vec<Ident>,
-    /// The pattern that it stands for.
+    /// The pattern that defines it.
     pub template: Pattern,
     /// The position of the token after the keyword.
     pub pos: Pos,
 }
 
-/// A pattern: what a rule, a condition or an extractor matches. Each position is that of the
-/// pattern's first token.
+/// A pattern of a rule, a condition or an extractor. Its position is that of its first token.
 #[cycle(pattern)]
 #[derive(Debug, Drop)]
 pub enum Pattern {
-    /// A variable: the first one of its name is bound, a later one has to have the same value.
+    /// A variable. The first use of a name binds it, and later uses must have the same value.
     Var {
         var: Ident,
         pos: Pos,
     },
-    /// A variable that is bound to what a pattern matches, `x @ ..`.
+    /// A variable bound to the value that a pattern matches, `x @ ..`.
     BindPattern {
         var: Ident,
         /// The pattern.
@@ -79,13 +78,13 @@ pub enum Pattern {
         val: i128,
         pos: Pos,
     },
-    /// A constant that is defined outside, `$NAME`.
+    /// An external constant, `$NAME`.
     ConstPrim {
         /// The name, without its `$`.
         val: Ident,
         pos: Pos,
     },
-    /// A term or a variant of a type, and patterns for its arguments.
+    /// A term or a variant of a type, with patterns for its arguments.
     Term {
         /// The term.
         sym: Ident,
@@ -93,27 +92,26 @@ pub enum Pattern {
         args: Vec<Pattern>,
         pos: Pos,
     },
-    /// Anything, `_`.
+    /// The wildcard, `_`.
     Wildcard {
         pos: Pos,
     },
-    /// Patterns that all have to match, `(and ..)`.
+    /// Patterns that must all match, `(and ..)`.
     And {
         /// The patterns.
         subpats: Vec<Pattern>,
         pos: Pos,
     },
-    /// An argument of a macro, in a template. No text spells it.
+    /// An argument of a macro, in a template. It has no syntax.
     MacroArg {
-        /// The place of the argument, counted from 0.
+        /// The index of the argument, from 0.
         index: usize,
-        /// The position of what it stands for.
+        /// The position of the pattern that it replaces.
         pos: Pos,
     },
 }
 
-/// An expression: what a rule or a condition computes. Each position is that of the expression's
-/// first token.
+/// An expression of a rule or a condition. Its position is that of its first token.
 #[cycle(expression)]
 #[derive(Debug, Drop)]
 pub enum Expr {
@@ -140,23 +138,23 @@ pub enum Expr {
         val: i128,
         pos: Pos,
     },
-    /// A constant that is defined outside, `$NAME`.
+    /// An external constant, `$NAME`.
     ConstPrim {
         /// The name, without its `$`.
         val: Ident,
         pos: Pos,
     },
-    /// An expression in which variables are defined, `(let ((x T ..) ..) ..)`.
+    /// An expression with definitions of variables, `(let ((x T ..) ..) ..)`.
     Let {
         /// The definitions, in order.
         defs: Vec<LetDef>,
-        /// The expression.
+        /// The body.
         body: Box<Expr>,
         pos: Pos,
     },
 }
 
-/// A variable of a `let`, with its type and its value.
+/// A variable of a `let`, with its type and value.
 #[cycle(expression)]
 #[derive(Debug, Drop)]
 pub struct LetDef {

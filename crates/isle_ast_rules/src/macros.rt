@@ -1,5 +1,4 @@
-//! Macro templates: patterns in which the arguments of a macro stand for variables, and the
-//! patterns that come of them once the arguments are given.
+//! Macro templates: patterns with placeholders for a macro's arguments, and their substitution.
 
 ghost use Rattle.std.specs.Prelude.{◌≡◌, List, IfOk, false, is_none, option_map, slice_get};
 ghost use Rattle.isle_ast_rules.specs.Tree.{PatternNode, macro_arg_pattern};
@@ -15,15 +14,13 @@ use isle_ast_names::Ident;
 use std::alloc::{AllocError, Global};
 
 impl Pattern {
-    /// Makes the template of a macro with these parameters: the argument of a parameter stands in
-    /// the place of each variable of its name.
+    /// Turns the pattern into the template of a macro with these parameters: each variable with the
+    /// name of a parameter is replaced by that parameter's argument.
     ///
-    /// A place is a variable `x`, or `x @ _`. Of two parameters of one name the first counts. A
-    /// variable that is bound to any other pattern, `x @ P`, stays, and the places in `P` are
-    /// filled.
+    /// It replaces both `x` and `x @ _`. If two parameters have the same name, the first counts. In
+    /// `x @ P` with any other pattern the variable stays, and only `P` is searched.
     ///
-    /// It asks that the pattern holds no argument of a macro yet; `has_macro_arg` is the test. It
-    /// refuses only where a growth of memory was refused.
+    /// The pattern must not contain macro arguments yet; check with `has_macro_arg`.
     pub fn make_macro_template(
         &self,
         alloc: Global,
@@ -44,11 +41,10 @@ impl Pattern {
         template_of(self, alloc, macro_args)
     }
 
-    /// Puts patterns in for the arguments of a macro, each by its index. None if there is no
-    /// pattern for one of the arguments.
+    /// Substitutes patterns for the macro's arguments, each by its index. Returns `None` if an
+    /// argument has no pattern.
     ///
-    /// What was put in isn't looked at again, so an argument of a macro in one of the patterns
-    /// stays. It refuses only where a growth of memory was refused.
+    /// Substituted patterns are not searched again, so macro arguments in them stay.
     pub fn subst_macro_args(
         &self,
         alloc: Global,
@@ -105,7 +101,6 @@ fn template_of(pattern: &Pattern, alloc: Global, names: &[Ident]) -> Result<Patt
     }
 }
 
-/// Makes the templates of patterns, in order.
 #[cycle(template)]
 fn templates_of(
     patterns: &Vec<Pattern>,
@@ -124,7 +119,7 @@ fn templates_of(
     Ok(made)
 }
 
-/// Tells which argument replaces `x @ P`: none unless `P` is `_`.
+/// The index of the argument that replaces `x @ P`: none unless `P` is `_`.
 fn bound_index(var: &Ident, subpat: &Pattern, names: &[Ident]) -> Option<usize>
     ensures { result
         ≡ bound_index (name_of var.now).text (pattern_of subpat.now) (names_of names.now) }
@@ -136,14 +131,14 @@ fn bound_index(var: &Ident, subpat: &Pattern, names: &[Ident]) -> Option<usize>
     }
 }
 
-/// Tells whether a pattern is `_`.
+/// Returns whether a pattern is `_`.
 fn is_wildcard(pattern: &Pattern) -> bool
     ensures { result ≡ is_wildcard (pattern_of pattern.now) }
 {
     matches!(pattern, Pattern::Wildcard { .. })
 }
 
-/// Finds the first name with the text of a variable.
+/// The index of the first name with the text of a variable.
 fn first_index(var: &Ident, names: &[Ident]) -> Option<usize>
     ensures { result ≡ first_index (name_of var.now).text (names_of names.now) }
 {
@@ -155,7 +150,7 @@ fn first_index(var: &Ident, names: &[Ident]) -> Option<usize>
     None
 }
 
-/// Puts patterns in for the arguments of a macro.
+/// Substitutes patterns for a macro's arguments.
 #[cycle(plug)]
 fn plugged(
     pattern: &Pattern,
@@ -196,7 +191,7 @@ fn plugged(
     }
 }
 
-/// Copies the pattern that is put in for the argument of an index, if there is one.
+/// Copies the pattern with this index, if there is one.
 fn argument(index: usize, macro_args: &[Pattern]) -> Result<Option<Pattern>, AllocError>
     ensures { IfOk result
         (λ made. option_map pattern_of made ≡ slice_get (patterns_of macro_args.now) index) }
@@ -207,7 +202,7 @@ fn argument(index: usize, macro_args: &[Pattern]) -> Result<Option<Pattern>, All
     }
 }
 
-/// Puts patterns in for the arguments of a macro in each pattern, in order.
+/// Substitutes patterns for a macro's arguments in each pattern.
 #[cycle(plug)]
 fn plugged_list(
     patterns: &Vec<Pattern>,

@@ -1,6 +1,6 @@
-//! Walks over the tree: which nodes are, or hold, the argument of a macro. No text spells one, so a
-//! tree that holds one isn't written. Beside them stand the walks over the terms of patterns and
-//! expressions, and what is said of one node. No walk takes memory.
+//! Walks over the tree: which nodes are, or contain, a macro argument. Macro arguments have no
+//! syntax, so a tree that contains one can't be printed. The modules below walk over the terms of
+//! patterns and expressions, and inspect single nodes. No walk allocates.
 
 ghost use Rattle.std.specs.Prelude.{◌≡◌};
 ghost use Rattle.isle_ast_rules.specs.MacroArgs.{condition_has_macro_arg, extractor_has_macro_arg};
@@ -14,7 +14,7 @@ mod terms;
 use crate::{Extractor, IfLet, Pattern, Rule};
 
 impl Rule {
-    /// Tells whether a pattern of the rule is, or holds, the argument of a macro.
+    /// Returns whether a pattern of the rule is, or contains, a macro argument.
     pub fn has_macro_arg(&self) -> bool
         ensures { result ≡ rule_has_macro_arg (rule_of self.now) }
     {
@@ -23,7 +23,7 @@ impl Rule {
 }
 
 impl IfLet {
-    /// Tells whether the pattern is, or holds, the argument of a macro.
+    /// Returns whether the pattern is, or contains, a macro argument.
     pub fn has_macro_arg(&self) -> bool
         ensures { result ≡ condition_has_macro_arg (condition_of self.now) }
     {
@@ -32,7 +32,7 @@ impl IfLet {
 }
 
 impl Extractor {
-    /// Tells whether the template is, or holds, the argument of a macro.
+    /// Returns whether the template is, or contains, a macro argument.
     pub fn has_macro_arg(&self) -> bool
         ensures { result ≡ extractor_has_macro_arg (extractor_of self.now) }
     {
@@ -41,7 +41,7 @@ impl Extractor {
 }
 
 impl Pattern {
-    /// Tells whether the pattern is, or holds, the argument of a macro.
+    /// Returns whether the pattern is, or contains, a macro argument.
     pub fn has_macro_arg(&self) -> bool
         ensures { result ≡ has_macro_arg (pattern_of self.now) }
     {
@@ -49,7 +49,7 @@ impl Pattern {
     }
 }
 
-/// Tells whether a pattern is, or holds, the argument of a macro.
+/// Returns whether a pattern is, or contains, a macro argument.
 #[cycle(macro_arg)]
 fn holds_macro_arg(pattern: &Pattern) -> bool
     ensures { result ≡ has_macro_arg (pattern_of pattern.now) }
@@ -67,7 +67,6 @@ fn holds_macro_arg(pattern: &Pattern) -> bool
     }
 }
 
-/// Tells whether one of the patterns is, or holds, the argument of a macro.
 #[cycle(macro_arg)]
 fn any_holds_macro_arg(patterns: &Vec<Pattern>) -> bool
     ensures { result ≡ have_macro_arg (pattern_list_of (patterns_of patterns.now.items)) }

@@ -1,5 +1,5 @@
-//! Which patterns, expressions and rules are written so that they read back. This serves
-//! `isle_ast`, whose `writable` tests whole trees: call that one. No call takes memory.
+//! The patterns, expressions and rules that can be written as text and read back. Use `writable` of
+//! `isle_ast`, which tests whole trees, rather than these parts of it. No function allocates.
 
 mod expressions;
 mod names;

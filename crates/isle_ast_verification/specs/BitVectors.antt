@@ -1,10 +1,10 @@
--- The bit vectors of spec expressions: `#b` and binary digits, or `#x` and hexadecimal ones of either
--- case, with an optional `+` in front of the digits.
+-- The bit vectors of spec expressions: `#b` and binary digits, or `#x` and hexadecimal ones of
+-- either case, with an optional `+` before the digits.
 use Rattle.std.specs.Prelude.{◌≡◌, ℕ, ◌*◌, ◌^◌, ◌<◌, List, length, ◌++◌, ◌⊎◌, codes}
 use Rattle.std.specs.Str.Parse.{IsNumeral, digits_value, without_leading_plus}
 
--- In this radix, each byte of which stands for so many bits, behind this mark: the value is below 2^128. The
--- width counts each byte behind the mark, that of a `+` too, and a `usize` holds it.
+-- After this mark come digits in this radix, of `bits` bits each. The value is below 2^128. The
+-- width counts each byte after the mark, a `+` too, and fits a `usize`.
 pub record IsBitVectorIn (radix bits : ℕ) (mark text : List ℕ) (val width : ℕ) : Type 0 where
   pub digits : List ℕ
   pub marked : text ≡ mark ++ digits

@@ -1,5 +1,5 @@
--- Whether two models of types are the same, with the same positions. This is what `==` says of them, and
--- the laws of `==` rest on it.
+-- Equality of models of types, positions included. `==` computes it, and the laws of `==` follow
+-- from it.
 use Rattle.std.specs.Prelude.{◌≡◌, ℕ, Bool, true, false, ◌&&◌, nat_eq, Option, None, Some}
 use Rattle.std.specs.Bool.{Decides}
 use Rattle.std.specs.Cmp.{IsEquivalence, decided, on_equiv}
@@ -33,7 +33,7 @@ abbrev mutual
 abbrev pub same_single : SingleModelField → SingleModelField → Bool
 same_single f g = same_name f.name g.name && same_model f.ty g.ty
 
--- The test is true of the same models, and of no others.
+-- The test is true exactly of equal models.
 
 width_same : (w v : Option ℕ) → option_eq nat_eq w v ≡ true → w ≡ v
 width_same None None h = refl

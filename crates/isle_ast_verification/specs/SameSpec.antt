@@ -1,5 +1,5 @@
--- Whether two spec expressions are the same, with the same positions. This is what `==` says of them, and
--- the laws of `==` rest on it.
+-- Equality of spec expressions, positions included. `==` computes it, and the laws of `==` follow
+-- from it.
 use Rattle.std.specs.Prelude.{◌≡◌, Bool, true, false, ◌&&◌, nat_eq, List, [], ◌∷◌}
 use Rattle.std.specs.Bool.{Decides, beq}
 use Rattle.std.specs.Cmp.{IsEquivalence, decided, on_equiv, booleans_Decides, signed_Decides}
@@ -87,7 +87,7 @@ same_single_spec_let d e = same_name d.0 e.0 && same_spec d.1 e.1
 abbrev pub same_single_field_init : SingleFieldInit → SingleFieldInit → Bool
 same_single_field_init f g = same_name f.name g.name && (same_spec f.value g.value && same_pos f.pos g.pos)
 
--- The test is true of the same spec expressions, and of no others.
+-- The test is true exactly of equal spec expressions.
 
 operator_same : (a b : SpecOp) → same_operator a b ≡ true → a ≡ b
 operator_same a b h = same_true the_type tt a b h

@@ -1,4 +1,4 @@
--- The definitions that are made of spec expressions: `spec`, `macro` and `state`.
+-- Definitions made of spec expressions: `spec`, `macro` and `state`.
 use Rattle.std.specs.Prelude.{◌≡◌, List, [], ◌∷◌, ◌++◌, codes}
 use Rattle.isle_base.specs.Place.{Placed}
 use Rattle.isle_ast_verification.specs.Tree.{SpecNode, ModifiedState, SpecDefinition, SpecMacroDefinition, StateDefinition}
@@ -24,7 +24,7 @@ SpellsClause (modifies_clause m) =
     (codes "modifies")
     (λ inner close. (mid : List Placed) × SpellsName m.state inner mid × SpellsOptional SpellsName m.cond mid close))
 
--- what the clauses of one kind say, joined in order
+-- the contents of the clauses of one kind, joined in order
 
 abbrev pub provided : List SpecClause → List SpecNode
 provided [] = []
@@ -46,7 +46,7 @@ modified [] = []
 modified (modifies_clause m ∷ clauses) = m ∷ modified clauses
 modified (_ ∷ clauses) = modified clauses
 
--- the term and its arguments, and clauses in any order, whose parts of each kind these are
+-- the term and its arguments, and clauses in any order; the fields hold the contents of each kind
 pub record SpellsSpecDefinition (s : SpecDefinition) (all rest : List Placed) : Type 0 where
   pub position : BeginsAt s.pos all
   pub behind_head : List Placed
@@ -58,7 +58,7 @@ pub record SpellsSpecDefinition (s : SpecDefinition) (all rest : List Placed) : 
   pub modifies : modified clauses ≡ s.modifies
   pub spelt : SpellsAll SpellsClause clauses behind_head rest
 
--- the name and the parameters, and what it stands for
+-- the name, the parameters and the expansion
 pub record SpellsSpecMacro (m : SpecMacroDefinition) (all rest : List Placed) : Type 0 where
   pub position : BeginsAt m.pos all
   pub behind_head : List Placed

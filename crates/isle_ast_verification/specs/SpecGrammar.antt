@@ -1,5 +1,5 @@
--- Spec expressions. One stands at its first token, but a pair of a `switch`, an arm and a field at the token
--- behind its `(`.
+-- Spec expressions. The position of one is that of its first token, but for a pair of a `switch`,
+-- an arm and a field it is that of the token after its `(`.
 use Rattle.std.specs.Prelude.{◌≡◌, ℕ, nat_eq, List, [], ◌∷◌, ◌++◌, Bool, true, false, not, ◌⊎◌, codes}
 use Rattle.std.specs.List.{list_all}
 use Rattle.isle_base.specs.Bytes.{exclamation_mark, dot, colon, question_mark}
@@ -21,7 +21,7 @@ use Rattle.isle_ast_verification.specs.declared.spec.SpecOp.TheVariants as op
 abbrev pub SpellsBitVector : ℕ → ℕ → List Placed → List Placed → Type 0
 SpellsBitVector val width all rest = (text : List ℕ) × IsBitVector text val width × SpellsWord text all rest
 
--- an identifier and a mark, as one symbol: `mark` puts the mark to the text
+-- an identifier and a mark, as one symbol: `mark` adds the mark to the text
 abbrev pub SpellsMarked : (List ℕ → List ℕ) → Name → List Placed → List Placed → Type 0
 SpellsMarked mark name all rest =
     (is_identifier name.text ≡ true) × (all ≡ record { pos = name.pos; token = symbol (mark name.text) } ∷ rest)
@@ -42,7 +42,7 @@ expansion_mark text = text ++ exclamation_mark ∷ []
 abbrev pub SpellsNames : List Name → List Placed → List Placed → Type 0
 SpellsNames names = InParentheses (SpellsAll SpellsName names)
 
--- a name and names behind it, in parentheses
+-- a name and further names, in parentheses
 abbrev pub SpellsHeaded : Name → List Name → List Placed → List Placed → Type 0
 SpellsHeaded name names =
     InParentheses (λ inner close. (mid : List Placed) × SpellsName name inner mid × SpellsAll SpellsName names mid close)
@@ -50,11 +50,12 @@ SpellsHeaded name names =
 abbrev pub is_dot : ℕ → Bool
 is_dot byte = nat_eq byte dot
 
--- the two names of a variant in one text, parted by its first dot
+-- the two names of a variant in one text, split at its first dot
 abbrev pub dotted : Name → Name → List ℕ
 dotted name variant = name.text ++ dot ∷ variant.text
 
--- The first name holds no dot, and both together are no operator. They stand at the `(`.
+-- The first name has no dot, and the two together are no operator. Their position is that of the
+-- `(`.
 pub record AreVariant (enum case : Name) (place : Pos) : Type 0 where
   pub name : is_identifier enum.text ≡ true
   pub variant : is_identifier case.text ≡ true
@@ -63,13 +64,14 @@ pub record AreVariant (enum case : Name) (place : Pos) : Type 0 where
   pub name_position : enum.pos ≡ place
   pub variant_position : case.pos ≡ place
 
--- an operator that takes any arguments
+-- an operator with any arguments
 abbrev pub is_plain_operator : SpecOp → Bool
 is_plain_operator op.Switch = false
 is_plain_operator _ = true
 
--- The first word tells what stands in parentheses: one of these words, else a text that ends with `?` or `!`,
--- an operator, a text that begins with `:`, a text that holds a dot.
+-- The first word decides the kind of an expression in parentheses. It is one of these words, or
+-- else a text that ends with `?` or `!`, an operator, a text that begins with `:`, or a text with a
+-- dot.
 abbrev mutual
   pub SpellsSpec : SpecNode → List Placed → List Placed → Type 0
   SpellsSpec (int_spec val pos) all rest = BeginsAt pos all × SpellsInteger val all rest
@@ -140,7 +142,7 @@ abbrev mutual
   SpellsSpecs no_spec all rest = all ≡ rest
   SpellsSpecs (more_spec x xs) all rest = (mid : List Placed) × SpellsSpec x all mid × SpellsSpecs xs mid rest
 
-  -- what a `switch` looks at, and its cases
+  -- the subject of a `switch`, and its cases
   pub SpellsCases : SpecList → List Placed → List Placed → Type 0
   SpellsCases no_spec all rest = ⊥
   SpellsCases (more_spec x cases) all rest = (mid : List Placed) × SpellsSpec x all mid × SpellsPairs cases mid rest

@@ -1,10 +1,10 @@
--- Models of types and specs as pure values. The fields are those of the types of the code.
+-- Models of types and specs as pure values. The fields are those of the types in code.
 use Rattle.std.specs.Prelude.{ℕ, ℤ, List, Bool, Option}
 use Rattle.isle_base_source.specs.declared.pos.Pos.{Pos}
 use Rattle.isle_ast_verification.specs.declared.spec.SpecOp.{SpecOp}
 use Rattle.isle_ast_names.specs.Tree.{Name}
 
--- a model of a type, which verification speaks of
+-- a model of a type, for verification
 mutual
   pub data TypeModel : Type 0 where
     unspecified_model : TypeModel
@@ -21,7 +21,7 @@ mutual
     no_model_field : ModelFieldList
     model_field : Name → TypeModel → ModelFieldList → ModelFieldList
 
--- what a spec says of values, and what it is made of
+-- a spec expression and its parts
 mutual
   pub data SpecNode : Type 0 where
     int_spec : (val : ℤ) → Pos → SpecNode
@@ -46,7 +46,7 @@ mutual
     no_spec : SpecList
     more_spec : SpecNode → SpecList → SpecList
 
-  -- the arms of a `match`, each a variant, names for its fields, a value and a position
+  -- the arms of a `match`, each a variant, names of its fields, a body and a position
   pub data ArmList : Type 0 where
     no_arm : ArmList
     more_arm : (variant : Name) → (args : List Name) → (body : SpecNode) → Pos → ArmList → ArmList
@@ -61,12 +61,12 @@ mutual
     no_field_init : FieldInitList
     more_field_init : (name : Name) → (value : SpecNode) → Pos → FieldInitList → FieldInitList
 
--- a state that a term changes, if it is only where a condition holds
+-- a state that a term modifies, with the condition if there is one
 pub record ModifiedState : Type 0 where
   pub state : Name
   pub cond : Option Name
 
--- what holds of a term
+-- the specification of a term
 pub record SpecDefinition : Type 0 where
   pub term : Name
   pub args : List Name
@@ -76,14 +76,14 @@ pub record SpecDefinition : Type 0 where
   pub modifies : List ModifiedState
   pub pos : Pos
 
--- a spec expression under a name, with parameters
+-- a named spec expression with parameters
 pub record SpecMacroDefinition : Type 0 where
   pub name : Name
   pub params : List Name
   pub body : SpecNode
   pub pos : Pos
 
--- a state that specs speak of
+-- a state of specs
 pub record StateDefinition : Type 0 where
   pub name : Name
   pub ty : TypeModel

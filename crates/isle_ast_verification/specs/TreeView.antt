@@ -1,4 +1,4 @@
--- The models of types and the specs of the code, as pure values.
+-- The models of types and the specs of code, as pure values.
 use Rattle.std.specs.Prelude.{List, ◌∷◌, map, []}
 use Rattle.isle_ast_verification.specs.declared.ModelType.{ModelType}
 use Rattle.isle_ast_verification.specs.declared.ModelType.TheOpen.{ModelType-F, ModelField-F}
@@ -28,7 +28,7 @@ abbrev pub model_list_of : List SingleModelField → ModelFieldList
 model_list_of [] = no_model_field
 model_list_of (f ∷ fs) = model_field f.name f.ty (model_list_of fs)
 
--- one node, with the pure value of each part in its place
+-- one node, with its parts as pure values
 abbrev pub model_type_step : ModelType-F TypeModel SingleModelField → TypeModel
 model_type_step ModelType-F.Unspecified = unspecified_model
 model_type_step ModelType-F.Auto = auto_model
@@ -83,7 +83,7 @@ spec_let_list_of (d ∷ ds) = more_spec_let d.0 d.1 (spec_let_list_of ds)
 abbrev pub spec_let_of : Ident × SpecNode → Name × SpecNode
 spec_let_of d = (name_of d.0, d.1)
 
--- one node, with the pure value of each part in its place
+-- one node, with its parts as pure values
 abbrev pub spec_step : SpecExpr-F SpecNode SingleArm SingleFieldInit → SpecNode
 spec_step (SpecExpr-F.ConstInt val place) = int_spec val place
 spec_step (SpecExpr-F.ConstBitVec val width place) = bit_vector_spec val width place

@@ -1,4 +1,5 @@
--- Which models of types and specs are written so that they read back: the conditions on each node.
+-- The models of types and specs that can be written as text and read back: the conditions on each
+-- node.
 use Rattle.std.specs.Prelude.{◌≡◌, ◌≢◌, ℕ, ◌^◌, ◌<◌, ◌≤◌, List, ◌∷◌, ◌++◌, false, ◌⊎◌, IfSome, codes}
 use Rattle.isle_base.specs.Bytes.{dot}
 use Rattle.isle_ast_names.specs.Numbers.{IsSigned}
@@ -12,21 +13,21 @@ use Rattle.isle_ast_verification.specs.declared.spec.SpecOp.TheVariants as op
 abbrev pub IsSpecVariable : Name → Type 0
 IsSpecVariable n = IsName n × IsNot n (codes "true") × IsNot n (codes "false")
 
--- A bit vector has at least one bit, and its value has no more bits. Both are numbers of their types.
+-- A bit vector has at least one bit, and its value fits. Value and width fit their types.
 pub record IsWritableBitVector (val width : ℕ) : Type 0 where
   pub some : 1 ≤ width
   pub within : val < 2 ^ width
   pub value : val < 2 ^ 128
   pub bits : width < 2 ^ 64
 
--- the name of an enum holds no dot, and with the variant's name it isn't the text of an operator
+-- the name of an enum has no dot, and with the variant's name it is no operator
 pub record IsWritableVariantName (enum case : Name) : Type 0 where
   pub name : IsName enum
   pub variant : IsName case
   pub no_dot : (before behind : List ℕ) → enum.text ≢ before ++ dot ∷ behind
   pub no_operator : is_operator_text (enum.text ++ dot ∷ case.text) ≡ false
 
--- a width is a number of its type
+-- a width fits its type
 abbrev mutual
   pub IsWritableModel : TypeModel → Type 0
   IsWritableModel unspecified_model = Unit {0}
@@ -42,7 +43,8 @@ abbrev mutual
   AreWritableModelFields no_model_field = Unit {0}
   AreWritableModelFields (model_field name ty fields) = IsName name × IsWritableModel ty × AreWritableModelFields fields
 
--- A `switch` has an argument and then pairs, which stand nowhere else. No other operator has a condition.
+-- A `switch` has a subject and then pairs, which are nowhere else. No other operator has a
+-- condition.
 abbrev mutual
   pub IsWritableSpec : SpecNode → Type 0
   IsWritableSpec (int_spec val _) = IsSigned 127 val

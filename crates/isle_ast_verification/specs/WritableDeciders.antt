@@ -36,7 +36,7 @@ is_writable_single_model_field f = is_name f.name && is_writable_model f.ty
 abbrev pub is_spec_variable : Name → Bool
 is_spec_variable n = is_name n && not (is_bool_name n)
 
--- at least one bit, and a value that has no more bits
+-- at least one bit, and a value that fits
 abbrev pub is_writable_bit_vector : ℕ → ℕ → Bool
 is_writable_bit_vector val width =
     (nat_le 1 width && nat_lt val (2 ^ width)) && (nat_lt val (2 ^ 128) && nat_lt width (2 ^ 64))
@@ -44,7 +44,7 @@ is_writable_bit_vector val width =
 abbrev pub has_dot : List ℕ → Bool
 has_dot text = list_any (λ byte. byte == dot) text
 
--- what the operators of floats are named behind `fp.`
+-- the names of the operators on floats, after `fp.`
 abbrev pub float_names : List (List ℕ)
 float_names =
     codes "eq" ∷ codes "ne" ∷ codes "lt" ∷ codes "gt" ∷ codes "le" ∷ codes "ge" ∷ codes "+oo" ∷ codes "-oo" ∷
@@ -56,7 +56,7 @@ float_names =
 abbrev pub is_float_name : List ℕ → Bool
 is_float_name text = list_any (bytes_eq text) float_names
 
--- the name of the enum holds no dot, and with the variant's name it isn't the text of an operator
+-- the name of the enum has no dot, and with the variant's name it is no operator
 abbrev pub is_writable_variant_name : Name → Name → Bool
 is_writable_variant_name enum case =
     ((is_name enum && is_name case) && not (has_dot enum.text)) && not (is_word (codes "fp") enum && is_float_name case.text)

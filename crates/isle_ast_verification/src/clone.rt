@@ -1,5 +1,5 @@
-//! Copies of models of types, and below it of specs. A copy is the same tree, its positions
-//! included. The error of each `clone` is lack of memory.
+//! Copies of models of types; specs are copied in a module below. A copy is the same tree,
+//! positions included, and each `clone` fails only if memory runs out.
 
 ghost use Rattle.std.specs.Prelude.{◌≡◌, IfOk};
 ghost use Rattle.isle_ast_verification.specs.TreeView.{single_model_field_of};
@@ -27,7 +27,6 @@ impl Clone for ModelField {
     }
 }
 
-/// Copies a model of a type.
 #[cycle(copy)]
 fn copy_model_type(ty: &ModelType) -> Result<ModelType, AllocError>
     ensures { IfOk result (λ copy. type_model_of copy ≡ type_model_of ty.now) }
@@ -44,7 +43,6 @@ fn copy_model_type(ty: &ModelType) -> Result<ModelType, AllocError>
     }
 }
 
-/// Copies the fields of a struct model.
 #[cycle(copy)]
 fn copy_model_fields(fields: &Vec<ModelField>) -> Result<Vec<ModelField>, AllocError>
     ensures { IfOk result
@@ -57,7 +55,6 @@ fn copy_model_fields(fields: &Vec<ModelField>) -> Result<Vec<ModelField>, AllocE
     Ok(copies)
 }
 
-/// Copies a field of a struct model.
 #[cycle(copy)]
 fn copy_model_field(field: &ModelField) -> Result<ModelField, AllocError>
     ensures { IfOk result (λ copy. single_model_field_of copy ≡ single_model_field_of field.now) }

@@ -1,8 +1,7 @@
-//! The comparison of models of types, and below it of spec expressions. Two are equal exactly where
-//! they are the same, their positions included.
+//! Comparison of models of types; spec expressions are compared in a module below. Two are equal
+//! exactly if they are the same, positions included.
 //!
-//! The comparisons are written out, since a proof learns nothing of the derived ones where a type
-//! contains itself.
+//! The comparisons are written out, because proofs can't use derived ones of recursive types.
 
 ghost use Rattle.std.specs.Prelude.{◌≡◌, ◌&&◌};
 ghost use Rattle.std.specs.Cmp.{partial_equiv_from_equiv};
@@ -45,7 +44,6 @@ impl Eq for ModelField {
     ghost laws = { model_fields_equiv };
 }
 
-/// Tells whether two models of types are equal.
 #[cycle(same)]
 fn same_types(a: &ModelType, b: &ModelType) -> bool
     ensures { result ≡ same_model (type_model_of a.now) (type_model_of b.now) }
@@ -63,7 +61,6 @@ fn same_types(a: &ModelType, b: &ModelType) -> bool
     }
 }
 
-/// Tells whether two lists of fields are equal.
 #[cycle(same)]
 fn same_fields(fields: &Vec<ModelField>, others: &Vec<ModelField>) -> bool
     ensures { result
@@ -81,7 +78,6 @@ fn same_fields(fields: &Vec<ModelField>, others: &Vec<ModelField>) -> bool
     true
 }
 
-/// Tells whether two fields are equal.
 #[cycle(same)]
 fn same_field(field: &ModelField, other: &ModelField) -> bool
     ensures { result

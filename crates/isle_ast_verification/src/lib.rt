@@ -1,6 +1,6 @@
-//! The part of the syntax tree of ISLE that verification speaks of: models of types, spec
-//! expressions with their operators, and the definitions made of them. `isle_ast` has these types
-//! under its own paths.
+//! The part of ISLE's syntax tree for verification: models of types, spec expressions with their
+//! operators, and the definitions made of them. `isle_ast` re-exports these types under its own
+//! paths.
 #![tactic(auto)]
 
 mod clone;
@@ -12,7 +12,7 @@ pub mod writability;
 use isle_ast_names::Ident;
 pub use spec::{Arm, FieldInit, Modifies, Spec, SpecExpr, SpecMacro, SpecOp, State};
 
-/// A model of a type, which verification speaks of.
+/// A model of a type, for verification.
 #[cycle(model)]
 #[derive(Debug, Drop)]
 pub enum ModelType {
@@ -24,13 +24,13 @@ pub enum ModelType {
     Int,
     /// Booleans.
     Bool,
-    /// The one value.
+    /// The unit type, which has one value.
     Unit,
-    /// Bit vectors, of a number of bits if it is known.
+    /// Bit vectors, and their width in bits if it is known.
     BitVec(Option<usize>),
-    /// Structs of these fields.
+    /// Structs with these fields.
     Struct(Vec<ModelField>),
-    /// A model under a name.
+    /// A named model.
     Named(Ident),
 }
 

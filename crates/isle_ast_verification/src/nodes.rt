@@ -1,4 +1,4 @@
-//! What is said of one spec expression: where it stands.
+//! The position of a spec expression.
 
 ghost use Rattle.std.specs.Prelude.{◌≡◌};
 ghost use Rattle.isle_ast_verification.specs.Roots.{spec_pos};
@@ -8,7 +8,6 @@ use crate::SpecExpr;
 use isle_base::lexer::Pos;
 
 impl SpecExpr {
-    /// Gives the position of the spec expression.
     pub fn pos(&self) -> Pos
         ensures { result ≡ spec_pos (spec_of self.now) }
     {

@@ -1,11 +1,11 @@
-//! Specs: what is said of terms, types and states for verification.
+//! Specifications of terms, types and states, for verification.
 
 use super::ModelType;
 use isle_ast_names::Ident;
 use isle_base::lexer::Pos;
 
-/// A spec expression. Each position is that of the expression's first token, but a `Pair` stands at
-/// the token after its `(`.
+/// A spec expression. Its position is that of its first token, but that of a `Pair` is the position
+/// of the token after its `(`.
 #[cycle(spec)]
 #[derive(Debug, Drop)]
 pub enum SpecExpr {
@@ -17,7 +17,7 @@ pub enum SpecExpr {
     /// A bit vector, `#b..` or `#x..`.
     ConstBitVec {
         val: u128,
-        /// The number of bits.
+        /// The width in bits.
         width: usize,
         pos: Pos,
     },
@@ -31,7 +31,7 @@ pub enum SpecExpr {
         var: Ident,
         pos: Pos,
     },
-    /// A value of a model of types, `(as x T)`.
+    /// An expression with a model of its type, `(as x T)`.
     As {
         x: Box<SpecExpr>,
         /// The model.
@@ -46,7 +46,7 @@ pub enum SpecExpr {
         x: Box<SpecExpr>,
         pos: Pos,
     },
-    /// Whether a value is of a variant, `(variant? x)`.
+    /// A test of a value's variant, `(variant? x)`.
     Discriminator {
         /// The name of the variant, without its `?`.
         variant: Ident,
@@ -61,38 +61,38 @@ pub enum SpecExpr {
         args: Vec<SpecExpr>,
         pos: Pos,
     },
-    /// A value by its variant, `(match x ((variant field ..) body) ..)`.
+    /// A choice by variant, `(match x ((variant field ..) body) ..)`.
     Match {
         x: Box<SpecExpr>,
         /// The arms, in order.
         arms: Vec<Arm>,
         pos: Pos,
     },
-    /// An expression in which names are defined, `(let ((x value) ..) body)`.
+    /// An expression with definitions of names, `(let ((x value) ..) body)`.
     Let {
         /// The names and their values, in order.
         defs: Vec<(Ident, SpecExpr)>,
-        /// The expression.
+        /// The body.
         body: Box<SpecExpr>,
         pos: Pos,
     },
-    /// An expression in which names are declared, `(with (x ..) body)`.
+    /// An expression with declarations of names, `(with (x ..) body)`.
     With {
         /// The names, in order.
         decls: Vec<Ident>,
-        /// The expression.
+        /// The body.
         body: Box<SpecExpr>,
         pos: Pos,
     },
-    /// A macro without a name, `(macro (x ..) body)`.
+    /// An anonymous macro, `(macro (x ..) body)`.
     Macro {
         /// The parameters, in order.
         params: Vec<Ident>,
-        /// What it stands for.
+        /// The expansion.
         body: Box<SpecExpr>,
         pos: Pos,
     },
-    /// A macro that is expanded, `(name! arg ..)`.
+    /// The expansion of a macro, `(name! arg ..)`.
     Expand {
         /// The name of the macro, without its `!`.
         name: Ident,
@@ -109,9 +109,9 @@ pub enum SpecExpr {
     },
     /// A variant of an enum, `(name.variant arg ..)`.
     Enum {
-        /// The name of the enum. It stands at the `(`.
+        /// The name of the enum. Its position is that of the `(`.
         name: Ident,
-        /// The name of the variant. It stands at the `(`.
+        /// The name of the variant. Its position is that of the `(`.
         variant: Ident,
         /// The values of its fields.
         args: Vec<SpecExpr>,
@@ -125,7 +125,7 @@ pub enum SpecExpr {
     },
 }
 
-/// An operator of spec expressions. The names are symbols of a tree; nothing is computed with them.
+/// An operator of spec expressions. Operators are only symbols here, and are never evaluated.
 #[derive(Clone, Copy, Debug, PartialEq, Eq)]
 pub enum SpecOp {
     /// `=`
@@ -308,7 +308,7 @@ pub enum SpecOp {
 pub struct Arm {
     /// The name of the variant.
     pub variant: Ident,
-    /// Names for its fields.
+    /// The names of its fields.
     pub args: Vec<Ident>,
     /// The value of the arm.
     pub body: SpecExpr,
@@ -335,49 +335,49 @@ pub struct SpecMacro {
     pub name: Ident,
     /// The parameters, in order.
     pub params: Vec<Ident>,
-    /// What it stands for.
+    /// The expansion.
     pub body: SpecExpr,
     /// The position of the token after the keyword.
     pub pos: Pos,
 }
 
-/// A state that a term changes, `(modifies state)` or `(modifies state cond)`.
+/// A state that a term modifies, `(modifies state)` or `(modifies state cond)`.
 #[derive(Debug, PartialEq, Eq, Drop)]
 pub struct Modifies {
     /// The state.
     pub state: Ident,
-    /// The name of the condition under which it is changed, if there is one.
+    /// The name of the condition under which it is modified, if any.
     pub cond: Option<Ident>,
 }
 
-/// What holds of a term, `(spec (term x ..) ..)`.
+/// The specification of a term, `(spec (term x ..) ..)`.
 #[derive(Debug, PartialEq, Eq, Drop)]
 pub struct Spec {
     /// The term.
     pub term: Ident,
-    /// Names for its arguments.
+    /// The names of its arguments.
     pub args: Vec<Ident>,
-    /// What it provides, of all `provide` clauses in order.
+    /// The expressions of all `provide` clauses, in order.
     pub provides: Vec<SpecExpr>,
-    /// What it requires, of all `require` clauses in order. Upstream's name, `requires`, is a
+    /// The expressions of all `require` clauses, in order. Upstream's name, `requires`, is a
     /// keyword here.
     pub requires_: Vec<SpecExpr>,
-    /// Where it matches, of all `match` clauses in order.
+    /// The expressions of all `match` clauses, in order.
     pub matches: Vec<SpecExpr>,
-    /// What it changes, in order.
+    /// The states that it modifies, in order.
     pub modifies: Vec<Modifies>,
     /// The position of the token after the keyword.
     pub pos: Pos,
 }
 
-/// A state that specs speak of, `(state name (type T) (default value))`.
+/// A state of specs, `(state name (type T) (default value))`.
 #[derive(Debug, PartialEq, Eq, Drop)]
 pub struct State {
     /// The name of the state.
     pub name: Ident,
     /// The model of its values.
     pub ty: ModelType,
-    /// Its value where nothing changes it.
+    /// Its value if no term modifies it.
     pub default: SpecExpr,
     /// The position of the token after the keyword.
     pub pos: Pos,

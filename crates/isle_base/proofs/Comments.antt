@@ -5,7 +5,7 @@ use Rattle.std.proofs.lemmas.Bool.{and_parts, cond_both, eqb-true, both_ways}
 use Rattle.isle_base.specs.Computed.{close}
 use Rattle.isle_base.specs.Skips.{Inside, ends, byte, nested, opens, closes}
 
--- from inside the innermost of so many comments on, behind the end of the outermost
+-- from inside the innermost of so many comments on, after the end of the outermost
 abbrev pub Insides : ℕ → List ℕ → List ℕ → Type 0
 Insides zero text rest = text ≡ rest
 Insides (suc n) text rest = (mid : List ℕ) × Inside text mid × Insides n mid rest

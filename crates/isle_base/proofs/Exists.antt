@@ -13,7 +13,7 @@ use Rattle.isle_base.proofs.Complete.{Skip-le, Longest-le, Spelling-shorter}
 use Rattle.isle_base.proofs.Minus.{begins_here, lone_here}
 use Rattle.isle_base.proofs.Runs.{longest}
 
--- the text begins with this, behind a skip
+-- the text begins with this, after a skip
 abbrev Sound : List ℕ → First → Type 0
 Sound text ended = Skip text []
 Sound text (refused from) = Skip text from × Faulty from
@@ -57,7 +57,7 @@ spelling_sound b rest not_blank no_line no_block =
     }) (not_lone (is_lone_minus (b ∷ rest)) (and_parts (begins_literal b) (not (is_lone_minus (b ∷ rest))) begins).1))
     (λ no_literal. (nothing refl, (symbol_sound b rest (symbol_else b not_blank no_line no_open no_close no_at no_feed) no_literal, longest in_symbol (b ∷ rest))))))))
 
--- what stands behind the first part of a skip
+-- what comes after the first part of a skip
 sound_behind : (text mid : List ℕ) (f : First) → ((from : List ℕ) → Skip mid from → Skip text from) → Sound mid f → Sound text f
 sound_behind text mid ended step s = step [] s
 sound_behind text mid (refused from) step s = (step from s.0, s.1)

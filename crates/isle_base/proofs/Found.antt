@@ -29,7 +29,7 @@ pub symbol_boundary : (bytes : List ℕ) (from end : ℕ) → symbol_here (drop 
 symbol_boundary bytes from end begins stop within utf8 =
     IsCharBoundary-from_drop bytes end within (Spelling-utf8 (drop from bytes) (symbol (take (end - from) (drop from bytes))) (drop end bytes) (begins, symbol_longest bytes from end (take (end - from) (drop from bytes)) stop refl) utf8)
 
--- behind a skip, a byte that begins nothing else begins a symbol
+-- after a skip, a byte that begins nothing else begins a symbol
 pub symbol_begins : (bytes : List ℕ) (at : ℕ) → at < length bytes → IsUnskipped (drop at bytes) → (get_or bytes at 0 ≡ 40 → ⊥) → (get_or bytes at 0 ≡ 41 → ⊥) → (get_or bytes at 0 ≡ 64 → ⊥) → (get_or bytes at 0 ≡ 12 → ⊥) → begins_literal (get_or bytes at 0) ≡ false → symbol_here (drop at bytes) ≡ true
 symbol_begins bytes at short unskipped no_open no_close no_at no_feed no_literal =
     let here = drop_more bytes at 0 short in

@@ -41,7 +41,7 @@ module _ (kind : ℕ → Bool) where
   split : (bytes : List ℕ) (at n : ℕ) → let near = chunk at n bytes in prefix_len kind (drop at bytes) ≡ cond (eqb (prefix_len kind near) (length near)) (length near + prefix_len kind (drop (at + n) bytes)) (prefix_len kind near)
   split bytes at n = ap (prefix_len kind) (chunk-drop at n bytes) ∙ prefix_len-append kind (chunk at n bytes) (drop (at + n) bytes)
 
-  -- a run goes on behind n bytes, if none of them misses
+  -- a run goes on after n bytes, if none of them misses
   pub run_through : (bytes : List ℕ) (at n : ℕ) → at + n ≤ length bytes → mask_l (map misses (chunk at n bytes)) ≡ 0 → prefix_len kind (drop at bytes) ≡ n + prefix_len kind (drop (at + n) bytes)
   run_through bytes at n room none =
       let near = chunk at n bytes in

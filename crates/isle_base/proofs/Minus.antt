@@ -1,4 +1,4 @@
--- A lone `-`: where it stands no literal has a value, and it is a symbol that ends right behind it.
+-- A lone `-`: no literal there has a value, and it is a symbol that ends right after it.
 use Rattle.std.proofs.Common.{◌≡◌, ◌++◌, ℕ, ℤ, ◌+◌, ◌<◌, List, [], ◌∷◌, Bool, true, false, Some, None, is_some, drop, refl, sym, ap, subst, ◌∙◌, ⊎_elim, eqb, arith, ◌&&◌, ◌||◌, not}
 use Rattle.std.specs.List.{list_all, prefix_len}
 use Rattle.std.proofs.lemmas.Bool.{and_parts, and_from, or_cases, cases_Bool, both_ways, cond-false, eqb-true, eq-eqb, ne_eqb}
@@ -42,7 +42,7 @@ digits_begin text run rest minus radix value l meaning =
     run_begins text run rest minus radix value plain meaning)
     (cases_Bool (is_some (prefix_radix text)))
 
--- what stands behind the sign of a literal with a value
+-- what comes after the sign of a literal with a value
 minus_digits : (b : ℕ) (tail rest : List ℕ) (value : ℤ) → b ≡ 45 → Literal (b ∷ tail) (Some value) rest → begins_with in_symbol tail ≡ true
 minus_digits b tail rest value is l =
     let same = subst (λ c. Literal (c ∷ tail) (Some value) rest) is l in
@@ -57,7 +57,7 @@ valued_not_lone (b ∷ tail) value rest l =
     (λ plain. rw plain refl)
     (cases_Bool (eqb b 45))
 
--- a byte that begins a symbol and no literal, in front of any bytes
+-- a byte that begins a symbol and no literal, before any bytes
 pub begins_here : (b : ℕ) (rest : List ℕ) → begins_symbol b ≡ true → symbol_here (b ∷ rest) ≡ true
 begins_here b rest h = rw h refl
 
@@ -80,7 +80,7 @@ count_some : (kind : ℕ → Bool) (text : List ℕ) → begins_with kind text �
 count_some kind [] h = cc
 count_some kind (b ∷ rest) h = omega (arith, prefix_len-yes kind b rest h)
 
--- whether the run of symbol bytes behind a `-` is empty, as the code asks
+-- whether the run of symbol bytes after a `-` is empty, as the code asks
 run_is_lone : (minus goes_on : Bool) (at end count : ℕ) → minus ≡ true → end ≡ at + 1 + count → (goes_on ≡ false → count ≡ 0) → (goes_on ≡ true → 0 < count) → eqb end (at + 1) ≡ (minus && not goes_on)
 run_is_lone minus true at end count h e none some = rw h (ne_eqb end (at + 1) (λ same. let further = some refl in absurd (omega arith)))
 run_is_lone minus false at end count h e none some = let stops = none refl in rw h (eq-eqb end (at + 1) (omega arith))

@@ -34,7 +34,7 @@ pub closes_end : (bytes : List ℕ) (at : ℕ) → length bytes ≤ at + 1 → c
 closes_end bytes at short =
     ⊎_elim (λ h. ap closes (drop_last bytes at h short)) (λ past. ap closes (drop_all at bytes past)) (cases_lt at (length bytes))
 
--- what is found here goes on behind it
+-- what is found here goes on after it
 pair_here : (bytes : List ℕ) (at a b : ℕ) (rest : List ℕ) → drop at bytes ≡ a ∷ b ∷ rest → drop at bytes ≡ a ∷ b ∷ drop (at + 2) bytes
 pair_here bytes at a b rest e =
     let behind : rest ≡ drop (at + 2) bytes = sym (ap (drop 2) e) ∙ drop-drop 2 at bytes in
@@ -92,7 +92,7 @@ pub walk_fails : (bytes : List ℕ) (from at depth : ℕ) → Walk bytes from at
 walk_fails bytes from at zero w h short rest i = omega arith
 walk_fails bytes from at (suc n) w h short rest i = insides_nil n rest (drop_all at bytes short) (w.back rest i)
 
--- one part of a skip, and the skip behind it
+-- one part of a skip, and the skip after it
 pub skip_block : (bytes : List ℕ) (at end : ℕ) → opens (drop at bytes) ≡ true → Inside (drop (at + 2) bytes) (drop end bytes) → (rest : List ℕ) → Skip (drop end bytes) rest → Skip (drop at bytes) rest
 skip_block bytes at end h i rest s = block_comment (opens_here bytes at h) i s
 

@@ -40,7 +40,7 @@ view_within a h =
     let parts = coming_within a.src.now a.pos a.lookahead a.failed h.within h.ahead in
     record { tokens = parts.0; ending = parts.1; short = h.short }
 
--- the tokens stand one behind the other
+-- the tokens stand one after the other
 lexes_rise : (size : ℕ) (text : List ℕ) (xs : List Lexeme) (ending : Ending) → length text ≤ size → Lexes size text xs ending → Rises (size - length text) xs
 lexes_rise size text [] ending h l = tt
 lexes_rise size text (x ∷ xs) ending h l =
@@ -119,7 +119,7 @@ next_end text pos (Some x) some ahead f =
       same = ap (λ e. record { file = pos.file; coming = []; ending = e; size = length text }) (sym same.1);
     }
 
--- a fault is behind the token ahead
+-- a fault is after the token ahead
 pub faces_fault : (text : List ℕ) (pos : Pos) (o : Option (Pos × TokenRef)) (at : ℕ) (reason : Reason) → is_some o ≡ true → Finds text pos.offset (founds.Fault at reason) → FacesFault (feed_parts text pos o false) at
 faces_fault text pos None at reason some f = cc
 faces_fault text pos (Some x) at reason some f =

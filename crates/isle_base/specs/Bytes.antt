@@ -1,4 +1,4 @@
--- The bytes that the definitions name: codes of characters, each under the name of its character.
+-- The bytes used in definitions: the codes of characters, each under its character's name.
 use Rattle.std.specs.Prelude.{ℕ}
 pub use Rattle.isle_base_source.specs.Bytes.{line_feed}
 

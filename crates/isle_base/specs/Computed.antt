@@ -1,5 +1,5 @@
--- How the view of a lexer computes the tokens of a text. It is only that: what the tokens of a text
--- are is said by `lexes`, and no contract of a call names anything of this file.
+-- How the view of a lexer computes the tokens of a text. It is only a means: `lexes` defines the
+-- tokens of a text, and no contract names anything in this file.
 use Rattle.std.specs.Prelude.{ℕ, zero, suc, ◌-◌, List, [], ◌∷◌, Bool, ◌&&◌, not, ◌==◌, if◌then◌else◌, Option, Some, None, length, drop, ℤ}
 use Rattle.std.specs.List.{prefix_len, take_while}
 use Rattle.isle_base.specs.Bytes.{form_feed, left_parenthesis, right_parenthesis, semicolon, commercial_at}
@@ -8,11 +8,11 @@ use Rattle.isle_base.specs.Spellings.{in_symbol, is_lone_minus}
 use Rattle.isle_base.specs.Skips.{opens, is_blank, in_line}
 use Rattle.isle_base.specs.Token.{Tok, lparen, rparen, symbol, integer, at_sign, Lexeme, Ending, end, fault}
 
--- what follows the longest run of a kind
+-- the rest after the longest run of a kind
 abbrev pub behind : (ℕ → Bool) → List ℕ → List ℕ
 behind kind text = drop (prefix_len kind text) text
 
--- what follows the end of the outermost of so many block comments, if they end
+-- the rest after the end of the outermost of this many block comments, if they end
 unfoldable pub close : ℕ → List ℕ → Option (List ℕ)
 close zero text = Some text
 close (suc n) [] = None
@@ -22,7 +22,7 @@ close (suc n) (a ∷ b ∷ rest) =
     else (if a == semicolon && b == right_parenthesis then close n rest
     else close (suc n) (b ∷ rest))
 
--- what a text begins with, behind a skip: nothing, a fault, or a token
+-- the start of a text after a skip: nothing, a fault, or a token
 pub data First : Type 0 where
   ended : First
   refused : List ℕ → First
@@ -68,7 +68,7 @@ computed_by more size (found from token after) = record {
   ending = (more after).ending;
 }
 
--- those of the last bytes of a text of this size, in at most so many steps
+-- the tokens and the ending of the last bytes of a text of this size, in at most this many steps
 unfoldable pub computed : ℕ → ℕ → List ℕ → Computed
 computed zero size text = record { tokens = []; ending = end }
 computed (suc n) size text = computed_by (computed n size) size (first (length text) text)

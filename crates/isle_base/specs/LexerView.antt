@@ -1,4 +1,4 @@
--- A lexer has the token ahead of its scanner.
+-- A lexer has the same token ahead as its scanner.
 use Rattle.std.specs.Prelude.{◌≡◌, option_map}
 use Rattle.isle_base.specs.declared.lexer.Lexer.TheInside.{Inside}
 use Rattle.isle_base.specs.Steps.{lookahead, placed_of}

@@ -6,16 +6,16 @@ use Rattle.isle_base.specs.Spellings.{is_lone_minus, Spelling}
 use Rattle.isle_base.specs.Skips.{Skip, Inside}
 use Rattle.isle_base.specs.Token.{Lexeme, Ending, end, fault}
 
--- Here the text is refused: at a `(;` that begins no whole block comment, at a form feed, or at a
--- literal without a value, save a lone `-`.
+-- The text is rejected here: at a `(;` that begins no whole block comment, at a form feed, or at a
+-- literal without a value, unless it is a lone `-`.
 pub data Faulty : List ℕ → Type 0 where
   unclosed : {text inner : List ℕ} → text ≡ left_parenthesis ∷ semicolon ∷ inner → ((rest : List ℕ) → Inside inner rest → ⊥) → Faulty text
   form_feed : {text after : List ℕ} → text ≡ form_feed_byte ∷ after → Faulty text
   literal : {text rest : List ℕ} → Literal text None rest → is_lone_minus text ≡ false → Faulty text
 
--- The last bytes of a text of this size are a skip, a spelling, a skip, a spelling and so on. They end
--- with a skip, or with a fault behind one, where lexing stops. The offset of a place is what is
--- left of the size without the bytes from there on.
+-- The last bytes of a text of this size are a skip, a spelling, a skip, a spelling and so on. They
+-- end with a skip, or with a fault after one, where lexing stops. The offset of a place is the size
+-- minus the number of bytes from there on.
 abbrev pub Lexes : ℕ → List ℕ → List Lexeme → Ending → Type 0
 Lexes size text [] end = Skip text []
 Lexes size text [] (fault offset) = (from : List ℕ) × Skip text from × Faulty from × (offset ≡ size - length from)
@@ -23,11 +23,11 @@ Lexes size text (x ∷ xs) ending =
     (from : List ℕ) × (after : List ℕ) × Skip text from × Spelling from x.token after
     × (x.offset ≡ size - length from) × (x.after ≡ size - length after) × Lexes size after xs ending
 
--- these are the tokens of the text, and so they end
+-- these are the tokens of the text, and its ending
 abbrev pub lexes : List ℕ → List Lexeme → Ending → Type 0
 lexes text tokens ending = Lexes (length text) text tokens ending
 
--- a text has tokens and an ending, and just one of each
+-- a text has exactly one list of tokens, and one ending
 abbrev pub HasOneLexing : List ℕ → Type 0
 HasOneLexing text =
     ((tokens : List Lexeme) × (ending : Ending) × lexes text tokens ending)

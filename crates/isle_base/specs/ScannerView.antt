@@ -1,4 +1,4 @@
--- What a scanner has still to give, by its fields.
+-- The rest of a scanner's input, by its fields.
 use Rattle.std.specs.Prelude.{◌≡◌, ◌≤◌, ◌<◌, ◌+◌, ◌^◌, ℕ, List, [], ◌∷◌, Bool, true, false, Option, Some, None, length, drop, IsUtf8}
 use Rattle.isle_base_source.specs.declared.pos.Pos.{Pos}
 use Rattle.isle_base.specs.declared.token.TokenRef.{TokenRef}
@@ -28,8 +28,8 @@ feed_of a = record {
   size = length a.src.now;
 }
 
--- The token ahead is of the same file, and the text goes on behind it. Without one, the position is
--- the end of the text, or the fault's first byte.
+-- The token ahead is in the same file, and the text continues after it. With no token ahead, the
+-- position is the end of the text, or the fault's first byte.
 abbrev pub IsAhead : List ℕ → Pos → Option (Pos × TokenRef) → Bool → Type 0
 IsAhead text pos (Some x) failed =
     (x.0.file ≡ pos.file) × (x.0.offset < pos.offset) × (failed ≡ false) × IsUtf8 (drop pos.offset text)

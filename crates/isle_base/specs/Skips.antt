@@ -1,34 +1,35 @@
--- What stands between the tokens of a text and belongs to none: blanks, line comments and block
--- comments. Each relation goes from the bytes to come, `text`, to the bytes behind it, `rest`.
+-- The bytes between tokens: blanks, line comments and block comments. Each relation goes from the
+-- remaining bytes, `text`, to the bytes after the skipped ones, `rest`.
 use Rattle.std.specs.Prelude.{◌≡◌, ℕ, List, [], ◌∷◌, ◌++◌, Bool, true, false, ◌&&◌, ◌||◌, not, ◌==◌}
 use Rattle.std.specs.List.{list_all}
 use Rattle.isle_base.specs.Bytes.{tab, line_feed, carriage_return, space, left_parenthesis, right_parenthesis, semicolon}
 
--- the first byte is of this kind; no byte is of any
+-- the first byte is of this kind; false at the end of the text
 abbrev pub begins_with : (ℕ → Bool) → List ℕ → Bool
 begins_with kind [] = false
 begins_with kind (b ∷ _) = kind b
 
--- As many bytes of this kind as there are: each byte of the run is of the kind, and no further one follows.
+-- The longest run of bytes of this kind: each byte of the run is of the kind, and the next one is
+-- not.
 pub record Longest (kind : ℕ → Bool) (text run rest : List ℕ) : Type 0 where
   pub split : text ≡ run ++ rest
   pub each : list_all kind run ≡ true
   pub stops : begins_with kind rest ≡ false
 
--- `(;` stands here
+-- `(;` is here
 abbrev pub opens : List ℕ → Bool
 opens [] = false
 opens (a ∷ []) = false
 opens (a ∷ b ∷ _) = a == left_parenthesis && b == semicolon
 
--- `;)` stands here
+-- `;)` is here
 abbrev pub closes : List ℕ → Bool
 closes [] = false
 closes (a ∷ []) = false
 closes (a ∷ b ∷ _) = a == semicolon && b == right_parenthesis
 
--- From inside a block comment on: its units, and the `;)` that ends it. A unit is a whole block
--- comment, or one byte at which neither `(;` nor `;)` stands.
+-- The inside of a block comment: its units, and the `;)` that ends it. A unit is a whole block
+-- comment, or one byte at which there is neither `(;` nor `;)`.
 pub data Inside : List ℕ → List ℕ → Type 0 where
   ends : {text rest : List ℕ} → text ≡ semicolon ∷ right_parenthesis ∷ rest → Inside text rest
   byte : {text after rest : List ℕ} (b : ℕ) → text ≡ b ∷ after → opens text ≡ false → closes text ≡ false → Inside after rest → Inside text rest

@@ -1,5 +1,5 @@
--- What the calls of a lexer answer, by what it has still to give. A lexer is failed where no token is
--- to come and a fault is: its text was refused by an earlier call.
+-- The results of a lexer's functions, by the rest of its input. A lexer has failed if no token
+-- remains but a fault does: an earlier call rejected the text.
 use Rattle.std.specs.Prelude.{◌≡◌, ◌≤◌, ◌<◌, ◌^◌, ℕ, ◌+◌, Bool, true, false, List, [], ◌∷◌, Option, Some, None}
 use Rattle.isle_base_source.specs.declared.error.Error.{Error}
 use Rattle.isle_base_source.specs.declared.error.Error.TheVariants.{ParseError}
@@ -21,7 +21,7 @@ failed_by (_ ∷ _) _ = false
 abbrev pub is_failed : Feed → Bool
 is_failed feed = failed_by feed.coming feed.ending
 
--- no token is to come, and no fault
+-- neither a token nor a fault remains
 abbrev pub ended_by : List Lexeme → Ending → Bool
 ended_by [] end = true
 ended_by [] (fault _) = false
@@ -34,7 +34,7 @@ abbrev pub first_placed : ℕ → List Lexeme → Option Placed
 first_placed file [] = None
 first_placed file (x ∷ _) = Some (placed_at (in_file file) x)
 
--- the token that the lexer shows ahead, with its position
+-- the lexer's token ahead, with its position
 abbrev pub lookahead : Feed → Option Placed
 lookahead feed = first_placed feed.file feed.coming
 
@@ -43,11 +43,11 @@ offset_by (x ∷ _) _ _ = x.after
 offset_by [] end size = size
 offset_by [] (fault offset) _ = offset
 
--- the end of the token ahead; where there is none, the end of the text, or the fault's first byte
+-- the end of the token ahead; with no token ahead, the end of the text or the fault's first byte
 abbrev pub current_pos : Feed → Pos
 current_pos feed = in_file feed.file (offset_by feed.coming feed.ending feed.size)
 
--- a token with its position, as the code hands it out
+-- a token with its position, as code returns it
 abbrev pub placed_of : Pos × Token → Placed
 placed_of x = record { pos = x.0; token = token_of x.1 }
 
@@ -64,7 +64,7 @@ RefusesAt pos _ = ⊥
 abbrev pub RefuseAlike : Error → Error → Type 0
 RefuseAlike e f = (pos : Pos) × RefusesAt pos e × RefusesAt pos f
 
--- The first token is taken off, and the others are still to come. It isn't the last one before a fault.
+-- The first token is taken, and the others remain. It is not the last one before a fault.
 pub record Takes (old : Feed) (x : Placed) (new : Feed) : Type 0 where
   pub first : Lexeme
   pub shown : x ≡ placed_at (in_file old.file) first
@@ -72,14 +72,14 @@ pub record Takes (old : Feed) (x : Placed) (new : Feed) : Type 0 where
   pub goes_on : is_failed new ≡ false
   pub same : new ≡ record old { coming = new.coming }
 
--- One token stands before a fault, which begins at this offset.
+-- One token remains before a fault, which begins at this offset.
 pub record FacesFault (feed : Feed) (offset : ℕ) : Type 0 where
   pub last : Lexeme
   pub coming : feed.coming ≡ last ∷ []
   pub ending : feed.ending ≡ fault offset
   pub within : offset < feed.size
 
--- One token stands before a fault: the token is lost, and the lexer is failed.
+-- One token remains before a fault: the token is lost, and the lexer has failed.
 pub record Refuses (old : Feed) (e : Error) (new : Feed) : Type 0 where
   pub last : Lexeme
   pub coming : old.coming ≡ last ∷ []
@@ -88,17 +88,17 @@ pub record Refuses (old : Feed) (e : Error) (new : Feed) : Type 0 where
   pub error : RefusesAt (in_file old.file offset) e
   pub failed : new ≡ record old { coming = [] }
 
--- what holds of the error, where the fault is one
+-- a property of the error, if the fault has one
 abbrev pub IfError : (Error → Type 0) → Fault → Type 0
 IfError P (faults.Error e) = P e
 IfError P faults.Failed = Unit {0}
 IfError P faults.Memory = Unit {0}
 
--- The text of this file begins, after blanks and comments, with a fault, and the error stands there.
+-- The first thing in this file after blanks and comments is a fault, and the error is there.
 abbrev pub RefusesStart : ℕ → List ℕ → Error → Type 0
 RefusesStart file text e = (offset : ℕ) × lexes text [] (fault offset) × RefusesAt (in_file file offset) e
 
--- every offset of a token is one of the text's, its end included
+-- every offset of a token is at most the text's length
 abbrev pub AreWithin : ℕ → List Lexeme → Type 0
 AreWithin size [] = Unit {0}
 AreWithin size (x ∷ xs) = (x.offset ≤ size) × (x.after ≤ size) × AreWithin size xs
@@ -107,13 +107,13 @@ abbrev pub EndsWithin : ℕ → Ending → Type 0
 EndsWithin size end = Unit {0}
 EndsWithin size (fault offset) = offset ≤ size
 
--- No offset is past the end of the text, and a number is left past that.
+-- No offset is past the end of the text, and the length is below the greatest number.
 pub record IsWithin (feed : Feed) : Type 0 where
   pub tokens : AreWithin feed.size feed.coming
   pub ending : EndsWithin feed.size feed.ending
   pub short : feed.size + 1 < 2 ^ 64
 
--- each token begins at or behind the end of the one before it, and ends behind its beginning
+-- each token begins at or after the end of the one before it, and is not empty
 abbrev pub Rises : ℕ → List Lexeme → Type 0
 Rises from [] = Unit {0}
 Rises from (x ∷ xs) = (from ≤ x.offset) × (x.offset < x.after) × Rises x.after xs

@@ -1,8 +1,8 @@
--- A token apart from where its text lies in memory, a token where it stands in a text,
--- and what a lexer has still to give.
+-- Tokens apart from their memory, tokens at their places in a text, and the rest of a lexer's
+-- input.
 use Rattle.std.specs.Prelude.{ℕ, ℤ, List, Bool, true, false}
 
--- a token: a symbol is its bytes
+-- a token; a symbol is its bytes
 pub data Tok : Type 0 where
   lparen : Tok
   rparen : Tok
@@ -30,13 +30,13 @@ pub record Lexeme : Type 0 where
   pub token : Tok
   pub after : ℕ
 
--- how the tokens of a text end: with the text, or at a fault, which begins at this offset
+-- the ending of a text's tokens: the end of the text, or a fault, which begins at this offset
 pub data Ending : Type 0 where
   end : Ending
   fault : ℕ → Ending
 
--- what a lexer has still to give: the number of its file, the tokens to come,
--- how they end, and the length of the text
+-- the rest of a lexer's input: the number of its file, the tokens to come, how they end, and the
+-- length of the text
 pub record Feed : Type 0 where
   pub file : ℕ
   pub coming : List Lexeme

@@ -1,4 +1,4 @@
--- A token of the code, as a token of the definitions.
+-- Tokens of code as tokens of definitions.
 use Rattle.std.specs.Prelude.{string_bytes}
 use Rattle.isle_base.specs.declared.token.Token.{Token}
 use Rattle.isle_base.specs.declared.token.Token.TheVariants.{LParen, RParen, Symbol, Int, At}

@@ -1,5 +1,5 @@
--- The tokens of a text as they were before a lone `-` was a symbol: each token that began with `-`
--- was a literal then. Only the laws that say that a text accepted then is read as before speak of
+-- The tokens of a text under upstream's rules, where a lone `-` is no symbol: each token that
+-- begins with `-` is a literal. Only the laws about texts that are accepted under those rules use
 -- these.
 use Rattle.std.specs.Prelude.{◌≡◌, ℕ, ◌-◌, List, [], ◌∷◌, true, false, length, Some, None}
 use Rattle.isle_base.specs.Bytes.{form_feed as form_feed_byte, left_parenthesis, right_parenthesis, semicolon, commercial_at}

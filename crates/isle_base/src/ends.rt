@@ -1,7 +1,7 @@
-//! Where the comments and the integers of a text end, and which `-` is a symbol, for crates that
-//! read a text with its comments.
+//! The ends of a text's comments and integers, and whether a `-` is a symbol, for crates that read
+//! a text together with its comments.
 //!
-//! `isle_syntax` doesn't show this module. Offsets are in bytes.
+//! `isle_syntax` does not export this module. Offsets are in bytes.
 
 pub use crate::scanner::literal::integer_end;
 pub use crate::scanner::read::is_lone_minus_at;

@@ -1,4 +1,4 @@
-//! Why there is no answer.
+//! The errors of lexers, parsers and the formatter.
 
 ghost use Rattle.std.specs.Prelude.{◌≡◌, Some};
 ghost use Rattle.isle_base.specs.FaultText.{fault_text};
@@ -10,22 +10,22 @@ use isle_base_source::messages::write_message;
 use std::alloc::{AllocError, AllocFailed};
 use std::fmt;
 
-/// Why a lexer, a parser or the formatter gives no answer.
+/// An error of a lexer, a parser or the formatter.
 #[derive(Debug, Drop)]
 pub enum Fault {
-    /// The text is refused, for this reason.
+    /// The text is rejected, for this reason.
     Error(Error),
-    /// The lexer had refused its text before this call.
+    /// An earlier call of the lexer already rejected its text.
     Failed,
-    /// A growth of memory was refused.
+    /// Memory ran out.
     Memory,
 }
 
-/// Writes why there is no answer: the kind and the reason of the refusal, without its place, which
-/// `Errors` shows; or that the text was refused before, or that memory ran out.
+/// Writes the error: the kind and the reason of a rejection without its place, which `Errors`
+/// displays; that the lexer already failed; or that memory ran out.
 ///
-/// The text is the same whatever options the formatter has. It takes no memory, and refuses only
-/// where the formatter does.
+/// The text does not depend on the formatter's options. Nothing is allocated, and writing fails
+/// only if the formatter does.
 impl fmt::Display for Fault {
     ghost output = { λ fault. Some (fault_text fault) };
 
@@ -34,7 +34,7 @@ impl fmt::Display for Fault {
     fn fmt<W: fmt::Write>(&self, f: &mut fmt::Formatter<W>) -> fmt::Result {
         match self {
             Fault::Error(error) => write_message(f, error),
-            Fault::Failed => f.write_str("the text was refused before"),
+            Fault::Failed => f.write_str("the lexer already failed on this text"),
             Fault::Memory => f.write_str("out of memory"),
         }
     }

@@ -21,19 +21,20 @@ use std::marker::Model;
 
 /// The lexer.
 ///
-/// Breaks source text up into a sequence of tokens with source positions. It reads one token ahead,
-/// in one pass over the text, of which it holds no copy.
+/// It breaks source text up into a sequence of tokens with their positions. It reads one token
+/// ahead, in a single pass over the text, which it borrows.
 ///
-/// A `-` that no byte of a symbol follows is a symbol; any other begins an integer literal, as
-/// every `-` does upstream. A text is refused at a fault: at a block comment without an end, at a
-/// form feed outside of comments, and at an integer literal that writes no number or one that
-/// doesn't fit. A lexer whose text was refused by `next` is failed, and stays so. In a contract a
-/// lexer is what it has still to give: the number of its file, the tokens to come, how they end,
-/// and the length of its text.
+/// A `-` with no byte of a symbol after it is a symbol. Any other `-` begins an integer literal, as
+/// every `-` does upstream. A text is rejected at a fault: a block comment that is never closed, a
+/// form feed outside of comments, or an integer literal that has no value or is out of range. Once
+/// `next` has rejected the text, the lexer stays failed.
+///
+/// In contracts a lexer stands for the rest of its input: the number of its file, the tokens to
+/// come, how they end, and the length of the text.
 #[derive(Debug, Drop)]
 pub struct Lexer<'src> {
     pub(crate) scanner: Scanner<'src>,
-    /// The token that the scanner has ahead, with its own text.
+    /// The scanner's token ahead, as a token that owns its text.
     lookahead: Option<(Pos, Token)>,
 }
 
@@ -69,20 +70,19 @@ impl<'src> From<Lexer<'src>> for Scanner<'src> {
 }
 
 impl<'src> Lexer<'src> {
-    /// Makes the lexer of a text, which is the file of this number, and reads the first token
-    /// ahead.
+    /// Creates a lexer for the text of file number `file`, and reads the first token ahead.
     ///
-    /// It returns `Error` exactly where the text begins, after blanks and comments, with a fault:
-    /// the error's span is the one byte at which the fault begins. `Memory` comes where a growth
-    /// was refused. It never returns `Failed`.
+    /// Returns `Error` exactly if the first thing in the text after blanks and comments is a fault.
+    /// The error's span is the one byte at which the fault begins. Returns `Memory` if memory runs
+    /// out, and never `Failed`.
     pub fn new(alloc: Global, file: usize, src: &'src str) -> Result<Lexer<'src>, Fault>
-        // What `Ok` holds.
+        // The value of `Ok`.
         ensures file { IfOk result (λ lexer. lexer.file ≡ file) }
         ensures size { IfOk result (λ lexer. lexer.size ≡ length src.now) }
         ensures live { IfOk result (λ lexer. is_failed lexer ≡ false) }
         ensures tokens { IfOk result (λ lexer. lexes src.now lexer.coming lexer.ending) }
 
-        // When each error comes.
+        // When each error is returned.
         ensures refused { IfErr result (IfError (RefusesStart file src.now)) }
         ensures never_failed { result ≢ Err Failed }
     {
@@ -91,10 +91,10 @@ impl<'src> Lexer<'src> {
         Ok(Lexer { scanner, lookahead })
     }
 
-    /// Gets the lexer's current source position: the byte offset after the token ahead.
+    /// The lexer's current position: the byte offset after the token ahead.
     ///
-    /// Where there is no token ahead, it is the end of the text, or the first byte of the fault if
-    /// the lexer is failed.
+    /// With no token ahead, it is the end of the text, or the first byte of the fault if the lexer
+    /// has failed.
     pub fn pos(&self) -> Pos
         ensures value { result ≡ current_pos self.now }
         ensures within { IsWithin self.now }
@@ -102,19 +102,19 @@ impl<'src> Lexer<'src> {
         self.scanner.pos()
     }
 
-    /// Hands out the token ahead with the position of its first byte, and reads one token further.
+    /// Returns the token ahead and the position of its first byte, and reads the next token ahead.
     ///
-    /// At the end of the text it returns `None`. It returns `Error` where a fault follows the token
-    /// ahead, after blanks and comments: the error's span is the one byte at which the fault
-    /// begins, the token ahead is lost, and the lexer is failed from then on. It returns `Failed`
-    /// exactly of a failed lexer. After `Memory` the lexer is as it was.
+    /// Returns `None` at the end of the text. Returns `Error` if a fault follows the token ahead,
+    /// after blanks and comments. The error's span is the one byte at which the fault begins, the
+    /// token ahead is lost, and the lexer has failed. Returns `Failed` exactly if the lexer had
+    /// failed before. After `Memory` the lexer is unchanged.
     pub fn next(&mut self, alloc: Global) -> Result<Option<(Pos, Token)>, Fault>
-        // What `Ok` holds.
+        // The value of `Ok`.
         ensures token { IfOk result
             (λ ahead. IfSome ahead (λ x. Takes self.old (placed_of x) self.new)) }
         ensures end { result ≡ Ok None → (is_at_end self.old ≡ true) × (self.new ≡ self.old) }
 
-        // When each error comes, and what is left after it.
+        // When each error is returned, and the lexer after it.
         ensures refused { IfErr result (IfError (λ e. Refuses self.old e self.new)) }
         ensures failed { result ≡ Err Failed → (is_failed self.old ≡ true) × (self.new ≡ self.old) }
         ensures memory { result ≡ Err Memory
@@ -137,9 +137,9 @@ impl<'src> Lexer<'src> {
         }
     }
 
-    /// Peeks ahead at the next token, with the position of its first byte.
+    /// Peeks at the token ahead and the position of its first byte.
     ///
-    /// There is none at the end of the text, and none of a failed lexer.
+    /// Returns `None` at the end of the text, and if the lexer has failed.
     pub fn peek(&self) -> Option<&(Pos, Token)>
         ensures value { option_map (λ x. placed_of x.now) result ≡ lookahead self.now }
         ensures within { IsWithin self.now }
@@ -150,7 +150,7 @@ impl<'src> Lexer<'src> {
         self.lookahead.as_ref()
     }
 
-    /// Tells whether the text has no more tokens. It is false of a failed lexer.
+    /// Returns whether the text has no more tokens. A failed lexer returns `false`.
     pub fn eof(&self) -> bool
         ensures { result ≡ is_at_end self.now }
     {
@@ -158,7 +158,7 @@ impl<'src> Lexer<'src> {
     }
 }
 
-/// The token ahead of a scanner, with its own text.
+/// The token ahead of a scanner, as a token that owns its text.
 fn owned(alloc: Global, ahead: Option<&(Pos, TokenRef)>) -> Result<Option<(Pos, Token)>, AllocError>
     ensures { IfOk result (λ owned. option_map placed_of owned
         ≡ option_map (λ x. placed_ref x.now) ahead.entry) }

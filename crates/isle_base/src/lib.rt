@@ -1,7 +1,7 @@
 //! The base of the ISLE syntax layer: source positions, tokens, the lexer and errors.
 //!
-//! Positions, source files and errors stand in `isle_base_source`, and are shown here under the
-//! names that they have upstream.
+//! Positions, source files and errors are defined in `isle_base_source`, and re-exported here under
+//! their upstream names.
 #![tactic(auto)]
 
 pub mod ends;

@@ -1,7 +1,7 @@
-//! A scanner: the tokens of a text, which borrow their texts from it.
+//! A scanner: the tokens of a text, which borrow from it.
 //!
-//! A `Lexer` gives tokens that own their texts, and stands on a scanner. The parser takes the
-//! tokens of a scanner, so no text is copied but those that the tree keeps.
+//! A `Lexer` wraps a scanner and returns tokens that own their texts. The parser uses a scanner
+//! directly, so it copies only the texts that the tree keeps.
 
 ghost use Rattle.std.specs.Prelude.{◌≡◌, ◌≢◌, Err, IfErr, IfOk, IfSome, None, Ok, is_some};
 ghost use Rattle.std.specs.Prelude.{false, length, option_map, true, ℕ};
@@ -27,13 +27,14 @@ use std::marker::Model;
 
 /// The scanner.
 ///
-/// It reads one token ahead, in one pass over the text, and takes no memory but for an error. What
-/// a `Lexer` is in a contract, a scanner is too: the number of its file, the tokens to come, how
-/// they end, and the length of its text.
+/// It reads one token ahead, in a single pass over the text, and allocates only to build an error.
+/// In contracts it stands for the same things as a `Lexer`: the number of its file, the tokens to
+/// come, how they end, and the length of the text.
 #[derive(Debug, Drop)]
 pub struct Scanner<'src> {
     src: &'src str,
-    /// After the token ahead; without one, the end of the text, or the fault's first byte.
+    /// The offset after the token ahead. With no token ahead, the end of the text or the fault's
+    /// first byte.
     pos: Pos,
     lookahead: Option<(Pos, TokenRef<'src>)>,
     failed: bool,
@@ -60,16 +61,16 @@ impl<'src> Clone for Scanner<'src> {
 }
 
 impl<'src> Scanner<'src> {
-    /// Makes the scanner of a text, which is the file of this number, and reads the first token
-    /// ahead. The errors are those of `Lexer::new`.
+    /// Creates a scanner for the text of file number `file`, and reads the first token ahead. The
+    /// errors are those of `Lexer::new`.
     pub fn new(alloc: Global, file: usize, src: &'src str) -> Result<Scanner<'src>, Fault>
-        // What `Ok` holds.
+        // The value of `Ok`.
         ensures file { IfOk result (λ scanner. scanner.file ≡ file) }
         ensures size { IfOk result (λ scanner. scanner.size ≡ length src.now) }
         ensures live { IfOk result (λ scanner. is_failed scanner ≡ false) }
         ensures tokens { IfOk result (λ scanner. lexes src.now scanner.coming scanner.ending) }
 
-        // When each error comes.
+        // When each error is returned.
         ensures refused { IfErr result (IfError (RefusesStart file src.now)) }
         ensures never_failed { result ≢ Err Failed }
     {
@@ -93,7 +94,7 @@ impl<'src> Scanner<'src> {
         }
     }
 
-    /// A copy, which takes no memory.
+    /// Copies the scanner without allocating.
     pub(crate) fn copied(&self) -> Scanner<'src>
         ensures { result ≡ self.now }
     {
@@ -105,8 +106,8 @@ impl<'src> Scanner<'src> {
         }
     }
 
-    /// Gets the byte offset after the token ahead. Where there is none, it is the end of the text,
-    /// or the first byte of the fault.
+    /// The byte offset after the token ahead. With no token ahead, it is the end of the text, or
+    /// the first byte of the fault.
     pub fn pos(&self) -> Pos
         ensures value { result ≡ current_pos self.now }
         ensures within { IsWithin self.now }
@@ -114,16 +115,16 @@ impl<'src> Scanner<'src> {
         self.pos
     }
 
-    /// Hands out the token ahead with the position of its first byte, and reads one token further.
-    /// The errors, and what is left after them, are those of `Lexer::next`.
+    /// Returns the token ahead and the position of its first byte, and reads the next token ahead.
+    /// The errors, and the scanner after them, are those of `Lexer::next`.
     #[inline(always)]
     pub fn next(&mut self, alloc: Global) -> Result<Option<(Pos, TokenRef<'src>)>, Fault>
-        // What `Ok` holds.
+        // The value of `Ok`.
         ensures token { IfOk result
             (λ ahead. IfSome ahead (λ x. Takes self.old (placed_ref x) self.new)) }
         ensures end { result ≡ Ok None → (is_at_end self.old ≡ true) × (self.new ≡ self.old) }
 
-        // When each error comes, and what is left after it.
+        // When each error is returned, and the scanner after it.
         ensures refused { IfErr result (IfError (λ e. Refuses self.old e self.new)) }
         ensures failed { result ≡ Err Failed → (is_failed self.old ≡ true) × (self.new ≡ self.old) }
         ensures memory { result ≡ Err Memory
@@ -141,8 +142,8 @@ impl<'src> Scanner<'src> {
         }
     }
 
-    /// Hands out the token ahead as `next` does, and makes no error: where no token is ahead, or a
-    /// fault follows it, it returns `None` and does nothing.
+    /// Returns the token ahead as `next` does, but builds no error. If no token is ahead, or a
+    /// fault follows it, it returns `None` and changes nothing.
     #[inline(always)]
     pub fn step(&mut self) -> Option<(Pos, TokenRef<'src>)>
         ensures token { IfSome result (λ x. Takes self.old (placed_ref x) self.new) }
@@ -156,8 +157,8 @@ impl<'src> Scanner<'src> {
         if self.read_ahead() { Some(shown) } else { None }
     }
 
-    /// Reads one token further, and forgets the one ahead. Where a fault follows, it does nothing.
-    /// It tells whether it read one: that is an answer in a register, as `advance`'s is not.
+    /// Replaces the token ahead by the next one, and returns whether it could. If a fault follows,
+    /// it changes nothing. A `bool` fits in a register, and `advance`'s result does not.
     #[inline(never)]
     fn read_ahead(&mut self) -> bool
         requires { is_some (lookahead self.old) ≡ true }
@@ -169,8 +170,8 @@ impl<'src> Scanner<'src> {
         self.advance().is_ok()
     }
 
-    /// Reads one token further, and forgets the one ahead. Where a fault follows, it does nothing,
-    /// and says where the fault begins, and why the text is refused.
+    /// Replaces the token ahead by the next one. If a fault follows, it changes nothing, and
+    /// returns the fault's offset and the reason.
     #[inline(always)]
     fn advance(&mut self) -> Result<(), (usize, Reason)>
         requires { is_some (lookahead self.old) ≡ true }
@@ -195,7 +196,7 @@ impl<'src> Scanner<'src> {
         }
     }
 
-    /// Refuses the text at the fault that follows the token ahead, and forgets that token.
+    /// Rejects the text at the fault after the token ahead, and forgets that token.
     #[inline(never)]
     fn refuse(&mut self, alloc: Global, at: usize, reason: Reason) -> Fault
         requires { FacesFault self.old at }
@@ -215,9 +216,9 @@ impl<'src> Scanner<'src> {
         }
     }
 
-    /// Peeks ahead at the next token, with the position of its first byte.
+    /// Peeks at the token ahead and the position of its first byte.
     ///
-    /// There is none at the end of the text, and none of a failed scanner.
+    /// Returns `None` at the end of the text, and if the scanner has failed.
     pub fn peek(&self) -> Option<&(Pos, TokenRef<'src>)>
         ensures value { option_map (λ x. placed_ref x.now) result ≡ lookahead self.now }
         ensures within { IsWithin self.now }
@@ -226,7 +227,7 @@ impl<'src> Scanner<'src> {
         self.lookahead.as_ref()
     }
 
-    /// Tells whether the text has no more tokens. It is false of a failed scanner.
+    /// Returns whether the text has no more tokens. A failed scanner returns `false`.
     pub fn eof(&self) -> bool
         ensures { result ≡ is_at_end self.now }
     {

@@ -1,4 +1,4 @@
-//! Tokens: those that own their texts, and those that borrow them.
+//! Tokens that own their texts, and tokens that borrow them.
 
 ghost use Rattle.std.specs.Prelude.{◌≡◌, IfOk};
 ghost use Rattle.isle_base.specs.Token.{is_int, is_symbol};
@@ -22,14 +22,12 @@ pub enum Token {
 }
 
 impl Token {
-    /// Tells whether this is an integer.
     pub fn is_int(&self) -> bool
         ensures { result ≡ is_int (token_of self.now) }
     {
         matches!(self, Token::Int(_))
     }
 
-    /// Tells whether this is a symbol.
     pub fn is_sym(&self) -> bool
         ensures { result ≡ is_symbol (token_of self.now) }
     {
@@ -51,7 +49,7 @@ impl Clone for Token {
     }
 }
 
-/// A token of ISLE source, which borrows its text.
+/// A token of ISLE source that borrows its text.
 #[derive(Clone, Copy, Debug)]
 pub enum TokenRef<'src> {
     /// Left parenthesis.
@@ -67,7 +65,7 @@ pub enum TokenRef<'src> {
 }
 
 impl<'src> TokenRef<'src> {
-    /// Makes the token that owns its text. It refuses only where memory runs out.
+    /// Copies the token's text.
     pub fn to_token(&self, alloc: Global) -> Result<Token, AllocError>
         ensures { IfOk result (λ token. token_of token ≡ token_of_ref self.now) }
     {

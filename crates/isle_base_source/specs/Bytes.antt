@@ -1,4 +1,4 @@
--- The bytes that the definitions here name: codes of characters, each under the name of its character.
+-- The bytes used in definitions: the codes of characters, each under its character's name.
 use Rattle.std.specs.Prelude.{ℕ}
 
 abbrev pub line_feed : ℕ

@@ -1,4 +1,4 @@
--- The text that shows a list of errors.
+-- The text of a list of errors.
 use Rattle.std.specs.Prelude.{ℕ, ◌+◌, nat_lt, if◌then◌else◌, List, [], ◌++◌, length, string_bytes, codes}
 use Rattle.std.specs.List.{flat_map}
 use Rattle.std.specs.Fmt.{decimal}
@@ -9,12 +9,12 @@ use Rattle.isle_base_source.specs.Labels.{labels}
 use Rattle.isle_base_source.specs.Lines.{line, column, line_text, missing_line_feed}
 use Rattle.isle_base_source.specs.Source.{Source, source_at}
 
--- some errors, and the files that they speak of
+-- some errors, with the files of their places
 pub record Report : Type 0 where
   pub errors : List Error
   pub files : List Source
 
--- what is wrong, without its line end
+-- the message of an error, without its line end
 abbrev pub message : Error → List ℕ
 message (ParseError msg span) = codes "parse error: " ++ string_bytes msg
 message (TypeError msg span) = codes "type error: " ++ string_bytes msg
@@ -23,7 +23,8 @@ message (OverlapError msg rules) = codes "overlap error: " ++ string_bytes msg
 message (RecursionError msg span) = codes "recursion error: " ++ string_bytes msg
 message (ShadowedError shadowed mask) = codes "more general higher-priority rule shadows other rules"
 
--- a place in a file: its name, line and column, counted from 1, and the line itself, with a LF in any case
+-- a place in a file: its name, line and column, counted from 1, and the line itself, always ended
+-- by a LF
 abbrev pub place_text : Source → ℕ → List ℕ
 place_text source offset =
     source.name ++ codes ":" ++ decimal (line source.text offset + 1) ++ codes ":"
@@ -37,7 +38,7 @@ label_text files span = place_text (source_at files span.from.file) span.from.of
 abbrev pub error_text : List Source → Error → List ℕ
 error_text files e = message e ++ codes "\n" ++ flat_map (label_text files) (labels e) ++ codes "\n"
 
--- the count of more than one error
+-- the number of errors, if there is more than one
 abbrev pub found_text : ℕ → List ℕ
 found_text count = if nat_lt 1 count then codes "found " ++ decimal count ++ codes " errors\n" else []
 

@@ -2,11 +2,11 @@
 use Rattle.std.specs.Prelude.{ℕ, ◌+◌, ◌-◌, ◌==◌, nat_lt, Bool, if◌then◌else◌, List, [], ◌∷◌, length, take, count_by, slice_index, slice_index_or, slice_range}
 use Rattle.isle_base_source.specs.Bytes.{line_feed}
 
--- the line on which an offset lies: how many LFs stand below it
+-- the line of an offset: the number of LFs before it
 abbrev pub line : List ℕ → ℕ → ℕ
 line text offset = count_by (λ b. b == line_feed) (take offset text)
 
--- the offset after each LF, in order, where the text's first byte has this offset
+-- the offset after each LF, in order, if the text's first byte has this offset
 abbrev pub line_ends_from : ℕ → List ℕ → List ℕ
 line_ends_from at [] = []
 line_ends_from at (b ∷ text) =
@@ -15,7 +15,8 @@ line_ends_from at (b ∷ text) =
 abbrev pub line_ends : List ℕ → List ℕ
 line_ends text = line_ends_from 0 text
 
--- the offset of a line's first byte: the first line begins the text, any other stands after a LF
+-- the offset of a line's first byte: the first line begins the text, and the others begin after a
+-- LF
 abbrev pub line_begin : List ℕ → ℕ → ℕ
 line_begin text number = if number == 0 then 0 else slice_index (line_ends text) (number - 1)
 
@@ -35,6 +36,6 @@ has_line_feed text number = nat_lt number (length (line_ends text))
 abbrev pub missing_line_feed : List ℕ → ℕ → List ℕ
 missing_line_feed text number = if has_line_feed text number then [] else line_feed ∷ []
 
--- how many bytes of its line stand before an offset, where an offset past the text is on the last line
+-- the number of bytes before an offset on its line; an offset past the text is on the last line
 abbrev pub column : List ℕ → ℕ → ℕ
 column text offset = offset - line_begin text (line text offset)

@@ -1,4 +1,4 @@
--- A place in a file, shown by its line alone.
+-- A place in a file as text: only its line.
 use Rattle.std.specs.Prelude.{ℕ, List, ◌++◌, codes}
 use Rattle.std.specs.Fmt.{decimal}
 use Rattle.isle_base_source.specs.Lines.{line}

@@ -10,11 +10,11 @@ pub record Source : Type 0 where
   pub name : List ℕ
   pub text : List ℕ
 
--- the file that a name and a text of the code make
+-- the file with this name and text
 abbrev pub source_of : String Global × String Global → Source
 source_of pair = record { name = string_bytes pair.0; text = string_bytes pair.1 }
 
--- the file of this number; a number that no file has reads as an empty file
+-- the file with this index; an unknown index stands for an empty file
 abbrev pub source_at : List Source → ℕ → Source
 source_at files file = slice_index_or files file (record { name = []; text = [] })
 

@@ -1,7 +1,7 @@
-//! Errors of the ISLE syntax layer, and how they are shown.
+//! Errors of the ISLE syntax layer, and how they are displayed.
 //!
-//! Names and behaviour are those of the module `error` of the Rust crate `cranelift-isle`, in its
-//! plain text form.
+//! Names and behaviour follow the module `error` of the Rust crate `cranelift-isle`, in its plain
+//! text form.
 ghost use Rattle.std.specs.Prelude.{◌≡◌, ◌+◌, ◌^◌, ◌<◌, true, Some, [], ◌∷◌, IfOk};
 ghost use Rattle.std.specs.List.{list_all};
 ghost use Rattle.isle_base_source.specs.Diagnostic.{report_text};
@@ -17,9 +17,9 @@ use std::marker::Model;
 use std::ops::Range;
 use std::rc::Rc;
 
-/// Errors from reading some ISLE files, with the files that they speak of.
+/// Errors from reading some ISLE files, together with those files.
 ///
-/// Each error can be shown: see `accepts`.
+/// Every value can be displayed: see `accepts`.
 #[derive(Debug, Drop)]
 pub struct Errors {
     errors: Vec<Error>,
@@ -40,16 +40,15 @@ impl Model for Errors {
 
 impl std::error::Error for Errors {}
 
-/// Writes each error with the places that it speaks of, and with more than one error how many
-/// there are.
+/// Writes each error with its places, and the number of errors if there is more than one.
 ///
-/// An error is its message and a line end; then for each place the file's name, the line and the
-/// column (in bytes, both from 1) and that line of the file with its line feed, or with one added
-/// where it has none, which is so of a last line alone; then a line end. Rules are shown in their
-/// order, a mask before the rules that it shadows. An offset past the text is on the last line.
+/// An error is written as its message and a line end, then its places, then a line end. A place is
+/// the file's name, the line and the column (in bytes, both from 1), and that line of the file. A
+/// line feed is added if the line is the last and so has none. Rules are listed in their order, a
+/// mask before the rules that it shadows. An offset past the end of the text is on the last line.
 ///
-/// The text is the same whatever options the formatter has, such as `{:#}`. It takes no memory, and
-/// refuses only where the formatter does: what was written before stays written.
+/// The text does not depend on the formatter's options, such as `{:#}`. Nothing is allocated.
+/// Writing fails only if the formatter does, and what was written before stays written.
 impl fmt::Display for Errors {
     ghost output = { λ report. Some (report_text report) };
 
@@ -61,66 +60,65 @@ impl fmt::Display for Errors {
     }
 }
 
-/// An error of the ISLE compiler, with the places in the source that it speaks of.
+/// An error of the ISLE compiler, with its places in the source.
 #[derive(Debug, Drop)]
 pub enum Error {
-    /// The input is not a text of ISLE.
+    /// The input is not valid ISLE.
     ParseError {
-        /// What is wrong.
+        /// The reason.
         msg: String,
-        /// Where it is wrong.
+        /// The place of the error.
         span: Span,
     },
     /// The input has a type error.
     TypeError {
-        /// What is wrong.
+        /// The reason.
         msg: String,
-        /// Where it is wrong.
+        /// The place of the error.
         span: Span,
     },
     /// A rule can never match any input.
     UnreachableError {
-        /// What is wrong.
+        /// The reason.
         msg: String,
-        /// Where the rule is.
+        /// The place of the rule.
         span: Span,
     },
-    /// Rules overlap in the input that they accept.
+    /// Rules overlap in the inputs that they match.
     OverlapError {
-        /// What is wrong.
+        /// The reason.
         msg: String,
-        /// Where the rules are that overlap, the one with most overlaps first.
+        /// The places of the overlapping rules, the one with the most overlaps first.
         rules: Vec<Span>,
     },
-    /// A term is recursive and was not declared so.
+    /// A term is recursive but not declared so.
     RecursionError {
-        /// What is wrong.
+        /// The reason.
         msg: String,
-        /// Where the term is declared.
+        /// The place of the term's declaration.
         span: Span,
     },
     /// Rules can never match, because another rule always matches first.
     ShadowedError {
-        /// Where the rules are that cannot match.
+        /// The places of the rules that can never match.
         shadowed: Vec<Span>,
-        /// Where the rule is that shadows them.
+        /// The place of the rule that shadows them.
         mask: Span,
     },
 }
 
 impl Errors {
-    /// Tells whether these errors can be shown with these files: each place that one speaks of
-    /// begins in a known file, at an offset that is not the greatest number, and each error has
-    /// such a place.
+    /// Returns whether these errors can be displayed with these files. Each error must have a
+    /// place, and each place must begin in a known file, at an offset other than `usize::MAX`.
     pub fn accepts(errors: &[Error], files: &Files) -> bool
         ensures { result ≡ all_fit files.now errors.now }
     {
         errors.iter().all(|error| error.fits(files))
     }
 
-    /// Puts errors together with the files that they speak of.
+    /// Pairs errors with the files of their places.
     ///
-    /// It asks that they can be shown; `accepts` is the test.
+    /// The caller must check that they can be displayed, with `accepts`.
     pub fn new(errors: Vec<Error>, files: Rc<Files>) -> Self
         requires { all_fit files.value errors.items ≡ true }
         ensures { result ≡ record { errors = errors.items; files = files.value } }
@@ -128,7 +126,6 @@ impl Errors {
         Self { errors, files }
     }
 
-    /// Gives the errors.
     pub fn errors(&self) -> &[Error]
         ensures { result.now ≡ self.now.errors }
     {
@@ -137,7 +134,7 @@ impl Errors {
 }
 
 impl Error {
-    /// Tells whether the error can be shown with these files.
+    /// Returns whether the error can be displayed with these files.
     fn fits(&self, files: &Files) -> bool
         ensures { result ≡ error_fits files.now self.now }
     {
@@ -154,7 +151,7 @@ impl Error {
     }
 }
 
-/// Tells whether all of these places can be shown with these files.
+/// Returns whether all of these places can be displayed with these files.
 fn spans_fit(spans: &[Span], files: &Files) -> bool
     ensures { result ≡ list_all (span_fits files.now) spans.now }
 {
@@ -178,8 +175,6 @@ impl Model for ErrorsBuilder {
 
 impl ErrorsBuilder {
     /// Starts with no errors and no files.
-    ///
-    /// It refuses only where memory runs out.
     pub fn new(alloc: Global) -> Result<Self, AllocError>
         ensures { IfOk result (λ builder. builder ≡ record { errors = []; files = [] }) }
     {
@@ -189,7 +184,7 @@ impl ErrorsBuilder {
         })
     }
 
-    /// Puts these errors in place of the errors given before.
+    /// Replaces the errors given before.
     pub fn errors(mut self, errors: Vec<Error>) -> Self
         ensures { result ≡ record self { errors = errors.items } }
     {
@@ -197,16 +192,16 @@ impl ErrorsBuilder {
         self
     }
 
-    /// Puts this one error in place of the errors given before.
+    /// Replaces the errors given before by this one.
     ///
-    /// It refuses only where memory runs out, and then the builder is gone.
+    /// If memory runs out, the builder is dropped.
     pub fn error(self, alloc: Global, error: Error) -> Result<Self, AllocError>
         ensures { IfOk result (λ builder. builder ≡ record self { errors = error ∷ [] }) }
     {
         Ok(self.errors(vec![in alloc; error]?))
     }
 
-    /// Puts these files in place of the files given before.
+    /// Replaces the files given before.
     pub fn files(mut self, files: Rc<Files>) -> Self
         ensures { result ≡ record self { files = files.value } }
     {
@@ -214,16 +209,16 @@ impl ErrorsBuilder {
         self
     }
 
-    /// Tells whether the errors can be shown with the files, as `Errors::accepts` does.
+    /// Returns whether the errors can be displayed with the files, as `Errors::accepts` does.
     pub fn is_buildable(&self) -> bool
         ensures { result ≡ all_fit self.now.files self.now.errors }
     {
         Errors::accepts(&self.errors, &self.files)
     }
 
-    /// Gives the errors together with the files.
+    /// Pairs the errors with the files.
     ///
-    /// It asks that they can be shown; `is_buildable` is the test.
+    /// The caller must check that they can be displayed, with `is_buildable`.
     pub fn build(self) -> Errors
         requires { all_fit self.files self.errors ≡ true }
         ensures { result ≡ self }
@@ -232,19 +227,19 @@ impl ErrorsBuilder {
     }
 }
 
-/// A stretch of source, from one position up to another.
+/// A range of source text, from one position up to another.
 #[derive(Clone, Debug, Drop)]
 pub struct Span {
-    /// Where it begins.
+    /// The position of its first byte.
     pub from: Pos,
-    /// Where it ends: the position after its last byte.
+    /// The position after its last byte.
     pub to: Pos,
 }
 
 impl Span {
-    /// Makes the span of the one byte at a position.
+    /// The span of the single byte at a position.
     ///
-    /// It asks that the offset is not the greatest number, since the span ends one byte later.
+    /// The offset must not be `usize::MAX`, since the span ends one byte after it.
     pub fn new_single(pos: Pos) -> Span
         requires { pos.offset + 1 < 2 ^ 64 }
         ensures from { result.from ≡ pos }
@@ -256,7 +251,7 @@ impl Span {
         }
     }
 
-    /// Tells whether the place can be shown with these files.
+    /// Returns whether the place can be displayed with these files.
     fn fits(&self, files: &Files) -> bool
         ensures { result ≡ span_fits files.now self.now }
     {

@@ -1,7 +1,7 @@
 //! Source files and the lines of their texts.
 //!
-//! Names and behaviour are those of the module `files` of the Rust crate `cranelift-isle`. Offsets
-//! count bytes from 0, and lines are counted from 0.
+//! Names and behaviour follow the module `files` of the Rust crate `cranelift-isle`. Offsets are in
+//! bytes, and lines are counted from 0.
 
 ghost use Rattle.std.specs.Prelude.{◌≡◌, ℕ, ◌+◌, ◌^◌, ◌<◌, List, [], Some, length, map, count_by};
 ghost use Rattle.std.specs.Prelude.{nat_eq, nat_le, slice_get, IfOk};
@@ -15,9 +15,9 @@ use std::alloc::{AllocError, Global};
 use std::marker::Model;
 use std::ops::Index;
 
-/// The files of one compilation, each with its name, its text and the map of its lines.
+/// The files of one compilation, each with its name, text and line map.
 ///
-/// A file is named by its number, from 0, as in `Pos::file`. Two lists of files are equal if their
+/// A file is identified by its index, from 0, as in `Pos::file`. Two values are equal if their
 /// names and texts are.
 #[derive(Debug, Drop)]
 pub struct Files {
@@ -57,7 +57,6 @@ impl Eq for Files {
     ghost laws = { lists_equiv is_same_source_equiv };
 }
 
-/// One file.
 #[derive(Debug, Drop)]
 struct SourceFile {
     name: String,
@@ -94,18 +93,17 @@ impl PartialEq for SourceFile {
 
     ghost laws = { partial_equiv_from_equiv is_same_source_equiv };
 
-    /// A line map is that of its text, so it is not compared.
+    /// Line maps are not compared, since the texts determine them.
     fn eq(&self, other: &SourceFile) -> bool {
         self.name == other.name && self.text == other.text
     }
 }
 
-/// Where the lines of a text end: the offset after each line feed.
+/// The line ends of a text: the byte offset after each line feed.
 ///
-/// A line feed is the last byte of its line, and the last line may be empty.
+/// A line feed belongs to the line that it ends, and the last line may be empty.
 #[derive(Debug, Drop)]
 pub struct LineMap {
-    /// The offset after each line feed, in order.
     line_ends: Vec<usize>,
 }
 
@@ -151,16 +149,16 @@ impl Index<usize> for LineMap {
 
     ghost index_gives = { λ map number end. slice_get map number ≡ Some end };
 
-    /// Gives the byte offset after a line feed, by its number from 0.
+    /// The byte offset after the line feed with this index, from 0.
     ///
-    /// It asks that the text has such a line feed; `get` is the test.
+    /// The text must have such a line feed; check with `get`.
     fn index(&self, index: usize) -> &usize {
         &self.line_ends[index]
     }
 }
 
 impl LineMap {
-    /// Makes the map of the empty text.
+    /// The map of the empty text.
     pub fn default(alloc: Global) -> Self
         ensures { result ≡ line_ends [] }
     {
@@ -169,9 +167,7 @@ impl LineMap {
         }
     }
 
-    /// Makes the map of a text.
-    ///
-    /// It refuses only where memory runs out.
+    /// The map of a text.
     pub fn from_str(alloc: Global, text: &str) -> Result<Self, AllocError>
         ensures ends { IfOk result (λ map. map ≡ line_ends text.now) }
         // The map holds the offset after each line feed, in order, and nothing else.
@@ -188,10 +184,9 @@ impl LineMap {
         Ok(LineMap { line_ends })
     }
 
-    /// Tells the line on which a byte offset lies, counted from 0: how many line feeds stand
-    /// below the offset.
+    /// The line of a byte offset, counted from 0: the number of line feeds before the offset.
     ///
-    /// An offset past the text lies on the last line.
+    /// An offset past the end of the text is on the last line.
     pub fn line(&self, pos: usize) -> usize
         ensures below { result ≡ count_by (λ end. nat_le end pos) self.now }
         ensures of_text { (text : List ℕ) → self.now ≡ line_ends text → result ≡ line text pos }
@@ -200,8 +195,8 @@ impl LineMap {
         self.line_ends.partition_point(|&end| end <= pos)
     }
 
-    /// Gives the byte offset after a line feed, by its number from 0: where the line after it
-    /// begins. `None` where the text has no such line feed.
+    /// The byte offset after the line feed with this index, from 0, which is the start of the next
+    /// line. Returns `None` if the text has no such line feed.
     pub fn get(&self, line: usize) -> Option<&usize>
         ensures { option_copied result ≡ slice_get self.now line }
     {
@@ -210,7 +205,6 @@ impl LineMap {
 }
 
 impl Files {
-    /// Makes a list of no files.
     pub fn default(alloc: Global) -> Self
         ensures { result ≡ [] }
     {
@@ -219,9 +213,7 @@ impl Files {
         }
     }
 
-    /// Makes the files of these names and texts, in their order.
-    ///
-    /// It refuses only where memory runs out.
+    /// Builds the files with these names and texts, in the same order.
     pub fn from_names_and_contents(
         alloc: Global,
         files: Vec<(String, String)>,
@@ -240,7 +232,7 @@ impl Files {
         Ok(Files { sources })
     }
 
-    /// Gives the name of a file, or `None` where no file has this number.
+    /// The name of a file, or `None` if no file has this index.
     pub fn file_name(&self, file: usize) -> Option<&str>
         ensures { option_copied result ≡ option_map
             (λ source. source.name) (slice_get self.now file) }
@@ -248,7 +240,7 @@ impl Files {
         self.sources.get(file).map(|source| source.name.as_str())
     }
 
-    /// Gives the text of a file, or `None` where no file has this number.
+    /// The text of a file, or `None` if no file has this index.
     pub fn file_text(&self, file: usize) -> Option<&str>
         ensures { option_copied result ≡ option_map
             (λ source. source.text) (slice_get self.now file) }
@@ -256,7 +248,7 @@ impl Files {
         self.sources.get(file).map(|source| source.text.as_str())
     }
 
-    /// Gives the line map of a file, or `None` where no file has this number.
+    /// The line map of a file, or `None` if no file has this index.
     pub fn file_line_map(&self, file: usize) -> Option<&LineMap>
         ensures { option_copied result
             ≡ option_map (λ source. line_ends source.text) (slice_get self.now file) }

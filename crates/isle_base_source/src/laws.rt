@@ -1,4 +1,4 @@
-//! A law of positions, which runs no code.
+//! A law of positions. It has no code to run.
 
 ghost use Rattle.std.specs.Prelude.{◌≡◌, ◌↔◌, IsTrue, Some};
 ghost use Rattle.std.specs.declared.cmp.Ordering.TheVariants.{Equal};
@@ -7,8 +7,8 @@ ghost use Rattle.isle_base_source.specs.PositionOrder.{IsInRange, position_cmp, 
 use crate::pos::Pos;
 use std::hash::Hash;
 
-/// Positions are ordered by file, then by offset, and their order, their
-/// equality and their hash agree. Two compare as equal exactly if they are the same position.
+/// Positions are ordered by file, then by offset. Their order, equality and hash agree, and two
+/// positions compare as equal exactly if they are the same.
 pub fn positions_are_ordered()
     ensures order { (a b : Pos) → ⟦<Pos as Ord>⟧.cmp a b ≡ position_cmp a b }
     ensures partial_order { (a b : Pos)

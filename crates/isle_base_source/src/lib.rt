@@ -1,4 +1,4 @@
-//! The lowest part of the base: source files, positions in them, and errors.
+//! Source files, positions in them, and errors.
 #![tactic(auto)]
 
 pub mod error;

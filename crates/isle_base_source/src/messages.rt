@@ -1,5 +1,5 @@
-//! What an error says, without its place, for crates that show it otherwise than `Errors` does.
+//! The message of an error without its place, for crates that display errors in their own way.
 //!
-//! `isle_syntax` doesn't show this module.
+//! `isle_syntax` does not export this module.
 
 pub use crate::error::show::write_message;

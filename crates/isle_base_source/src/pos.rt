@@ -9,18 +9,17 @@ use std::alloc::{AllocError, Global};
 
 /// A source position.
 ///
-/// The default position, file 0 at offset 0, stands for an unknown place. Positions are ordered by
-/// file, then by offset.
+/// The default position, file 0 at offset 0, stands for an unknown position. Positions are ordered
+/// by file, then by offset.
 #[derive(Clone, Copy, Debug, Default, PartialEq, Eq, PartialOrd, Ord, Hash)]
 pub struct Pos {
-    /// The number of the file, from 0.
+    /// The index of the file, from 0.
     pub file: usize,
     /// The byte offset in the file, from 0.
     pub offset: usize,
 }
 
 impl Pos {
-    /// Makes the position of a byte offset in a file.
     pub fn new(file: usize, offset: usize) -> Self
         ensures file { result.file ≡ file }
         ensures offset { result.offset ≡ offset }
@@ -28,18 +27,17 @@ impl Pos {
         Self { file, offset }
     }
 
-    /// Tells whether this is the default position, which stands for an unknown place.
+    /// Returns whether this is the default position, which stands for an unknown position.
     pub fn is_unknown(&self) -> bool
         ensures { IsTrue result ↔ (self.now ≡ record { file = 0; offset = 0 }) }
     {
         *self == Self::default()
     }
 
-    /// Gives the position as text: the file's name, the word `line` and the line, which is
-    /// counted from 0 here.
+    /// The position as text: the file's name, the word `line` and the line number, here counted
+    /// from 0.
     ///
-    /// It asks that the file is known; `Files::file_name` is the test. It refuses only where
-    /// memory runs out.
+    /// The file must be known; check with `Files::file_name`.
     pub fn pretty_print_line(&self, alloc: Global, files: &Files) -> Result<String, AllocError>
         requires { self.now.file < length files.now }
         ensures { IfOk result (λ text. string_bytes text

@@ -1,4 +1,4 @@
--- How definitions are encoded, and whole trees.
+-- The encoding of definitions and of whole trees.
 use Rattle.std.specs.Prelude.{ℕ, List, [], ◌∷◌, ◌++◌}
 use Rattle.isle_ast.specs.Tree.{Declaration, Conversion, NamedField, IndexedField, FieldList, unit_fields, struct_fields, tuple_fields, EnumVariant, TypeContent, primitive_type, enum_type, struct_type, TypeDefinition, AttributeTarget, term_target, rule_target, AttributeKind, chain_kind, priority_kind, tag_kind, Attribute, TermSignature, FormDefinition, TermInstantiation, ModelContent, type_model, const_model, ModelDefinition, ExternDefinition, extern_extractor, extern_constructor, extern_const, Definition, type_def, rule, extractor, decl, attr, spec, spec_macro, model, state, form, instantiation, external, converter}
 use Rattle.isle_encoding.specs.Numbers.{flag, list, number, option}
@@ -84,7 +84,7 @@ definition (instantiation i) = 11 ∷ term_instantiation i
 definition (external e) = 12 ∷ extern_definition e
 definition (converter c) = 13 ∷ conversion c
 
--- each definition, and a 0 behind the last one
+-- each definition, and a 0 after the last one
 abbrev pub definitions : List Definition → List ℕ
 definitions [] = 0 ∷ []
 definitions (d ∷ ds) = definition d ++ definitions ds

@@ -1,10 +1,10 @@
--- How texts, positions and names are encoded.
+-- The encoding of texts, positions and names.
 use Rattle.std.specs.Prelude.{ℕ, List, ◌++◌, length}
 use Rattle.isle_base_source.specs.declared.pos.Pos.{Pos}
 use Rattle.isle_ast_names.specs.Tree.{Name}
 use Rattle.isle_encoding.specs.Numbers.{list, number}
 
--- how many bytes it has, and its bytes
+-- its length in bytes, and its bytes
 abbrev pub text : List ℕ → List ℕ
 text bytes = number (length bytes) ++ bytes
 

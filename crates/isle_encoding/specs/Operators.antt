@@ -1,4 +1,4 @@
--- How operators are encoded: a byte for each.
+-- The encoding of operators: a byte for each.
 use Rattle.std.specs.Prelude.{ℕ, List, [], ◌∷◌}
 use Rattle.isle_ast_verification.specs.declared.spec.SpecOp.{SpecOp}
 use Rattle.isle_ast_verification.specs.declared.spec.SpecOp.TheVariants as op

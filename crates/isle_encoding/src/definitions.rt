@@ -1,4 +1,4 @@
-//! Puts definitions.
+//! Encodes definitions.
 
 ghost use Rattle.std.specs.Prelude.{◌≡◌, ◌<◌, ◌++◌, ◌∷◌, OnOk, map, string_bytes};
 ghost use Rattle.isle_ast.specs.TreeView.{attribute_of, conversion_of, declaration_of};
@@ -27,7 +27,6 @@ use isle_ast::ast::{
 };
 use std::alloc::AllocError;
 
-/// Puts a definition.
 pub fn put_definition(out: &mut String, def: &Def) -> Result<(), AllocError>
     ensures { OnOk result
         (string_bytes out.new ≡ string_bytes out.old ++ definition (definition_of def.now)) }
@@ -50,7 +49,6 @@ pub fn put_definition(out: &mut String, def: &Def) -> Result<(), AllocError>
     }
 }
 
-/// Puts a type definition.
 fn put_type(out: &mut String, kind: u8, value: &TypeDef) -> Result<(), AllocError>
     requires { kind < 128 }
     ensures { OnOk result (string_bytes out.new
@@ -64,7 +62,7 @@ fn put_type(out: &mut String, kind: u8, value: &TypeDef) -> Result<(), AllocErro
     put_position(out, value.pos)
 }
 
-/// Puts what a type consists of.
+/// Appends the contents of a type.
 fn put_type_value(out: &mut String, value: &TypeValue) -> Result<(), AllocError>
     ensures { OnOk result
         (string_bytes out.new ≡ string_bytes out.old ++ type_content (type_content_of value.now)) }
@@ -88,7 +86,6 @@ fn put_type_value(out: &mut String, value: &TypeValue) -> Result<(), AllocError>
     }
 }
 
-/// Puts the variants of an enum type.
 fn put_variants(out: &mut String, values: &[Variant]) -> Result<(), AllocError>
     ensures { OnOk result (string_bytes out.new
         ≡ string_bytes out.old ++ list variant (map variant_of values.now)) }
@@ -100,7 +97,6 @@ fn put_variants(out: &mut String, values: &[Variant]) -> Result<(), AllocError>
     Ok(())
 }
 
-/// Puts a variant of an enum type.
 fn put_variant(out: &mut String, value: &Variant) -> Result<(), AllocError>
     ensures { OnOk result
         (string_bytes out.new ≡ string_bytes out.old ++ variant (variant_of value.now)) }
@@ -110,7 +106,6 @@ fn put_variant(out: &mut String, value: &Variant) -> Result<(), AllocError>
     put_position(out, value.pos)
 }
 
-/// Puts the fields of a variant or of a struct type.
 fn put_fields(out: &mut String, value: &Fields) -> Result<(), AllocError>
     ensures { OnOk result
         (string_bytes out.new ≡ string_bytes out.old ++ fields (fields_of value.now)) }
@@ -130,7 +125,6 @@ fn put_fields(out: &mut String, value: &Fields) -> Result<(), AllocError>
     }
 }
 
-/// Puts fields that have names.
 fn put_struct_fields(out: &mut String, values: &[StructField]) -> Result<(), AllocError>
     ensures { OnOk result (string_bytes out.new
         ≡ string_bytes out.old ++ list named_field (map named_field_of values.now)) }
@@ -142,7 +136,6 @@ fn put_struct_fields(out: &mut String, values: &[StructField]) -> Result<(), All
     Ok(())
 }
 
-/// Puts a field that has a name.
 fn put_struct_field(out: &mut String, value: &StructField) -> Result<(), AllocError>
     ensures { OnOk result
         (string_bytes out.new ≡ string_bytes out.old ++ named_field (named_field_of value.now)) }
@@ -152,7 +145,6 @@ fn put_struct_field(out: &mut String, value: &StructField) -> Result<(), AllocEr
     put_position(out, value.pos)
 }
 
-/// Puts fields that are known by their places.
 fn put_tuple_fields(out: &mut String, values: &[TupleField]) -> Result<(), AllocError>
     ensures { OnOk result (string_bytes out.new
         ≡ string_bytes out.old ++ list indexed_field (map indexed_field_of values.now)) }
@@ -164,7 +156,6 @@ fn put_tuple_fields(out: &mut String, values: &[TupleField]) -> Result<(), Alloc
     Ok(())
 }
 
-/// Puts a field that is known by its place.
 fn put_tuple_field(out: &mut String, value: &TupleField) -> Result<(), AllocError>
     ensures { OnOk result (string_bytes out.new
         ≡ string_bytes out.old ++ indexed_field (indexed_field_of value.now)) }
@@ -174,7 +165,6 @@ fn put_tuple_field(out: &mut String, value: &TupleField) -> Result<(), AllocErro
     put_position(out, value.pos)
 }
 
-/// Puts a declaration of a term.
 fn put_decl(out: &mut String, kind: u8, value: &Decl) -> Result<(), AllocError>
     requires { kind < 128 }
     ensures { OnOk result (string_bytes out.new
@@ -191,7 +181,6 @@ fn put_decl(out: &mut String, kind: u8, value: &Decl) -> Result<(), AllocError>
     put_position(out, value.pos)
 }
 
-/// Puts what is said of a term or a rule.
 fn put_attr(out: &mut String, kind: u8, value: &Attr) -> Result<(), AllocError>
     requires { kind < 128 }
     ensures { OnOk result (string_bytes out.new
@@ -203,7 +192,6 @@ fn put_attr(out: &mut String, kind: u8, value: &Attr) -> Result<(), AllocError>
     put_position(out, value.pos)
 }
 
-/// Puts what an attribute speaks of.
 fn put_target(out: &mut String, value: &AttrTarget) -> Result<(), AllocError>
     ensures { OnOk result
         (string_bytes out.new ≡ string_bytes out.old ++ attribute_target (target_of value.now)) }
@@ -220,7 +208,6 @@ fn put_target(out: &mut String, value: &AttrTarget) -> Result<(), AllocError>
     }
 }
 
-/// Puts what attributes say.
 fn put_kinds(out: &mut String, values: &[AttrKind]) -> Result<(), AllocError>
     ensures { OnOk result (string_bytes out.new
         ≡ string_bytes out.old ++ list attribute_kind (map kind_of values.now)) }
@@ -232,7 +219,6 @@ fn put_kinds(out: &mut String, values: &[AttrKind]) -> Result<(), AllocError>
     Ok(())
 }
 
-/// Puts what an attribute says.
 fn put_kind(out: &mut String, value: &AttrKind) -> Result<(), AllocError>
     ensures { OnOk result
         (string_bytes out.new ≡ string_bytes out.old ++ attribute_kind (kind_of value.now)) }
@@ -247,7 +233,6 @@ fn put_kind(out: &mut String, value: &AttrKind) -> Result<(), AllocError>
     }
 }
 
-/// Puts the model of a type.
 fn put_model(out: &mut String, kind: u8, value: &Model) -> Result<(), AllocError>
     requires { kind < 128 }
     ensures { OnOk result (string_bytes out.new
@@ -258,7 +243,7 @@ fn put_model(out: &mut String, kind: u8, value: &Model) -> Result<(), AllocError
     put_model_value(out, &value.val)
 }
 
-/// Puts what a model is given by.
+/// Appends the contents of a model.
 fn put_model_value(out: &mut String, value: &ModelValue) -> Result<(), AllocError>
     ensures { OnOk result (string_bytes out.new
         ≡ string_bytes out.old ++ model_content (model_content_of value.now)) }
@@ -275,7 +260,6 @@ fn put_model_value(out: &mut String, value: &ModelValue) -> Result<(), AllocErro
     }
 }
 
-/// Puts a form.
 fn put_form(out: &mut String, kind: u8, value: &Form) -> Result<(), AllocError>
     requires { kind < 128 }
     ensures { OnOk result (string_bytes out.new
@@ -287,7 +271,6 @@ fn put_form(out: &mut String, kind: u8, value: &Form) -> Result<(), AllocError>
     put_position(out, value.pos)
 }
 
-/// Puts signatures.
 fn put_signatures(out: &mut String, values: &[Signature]) -> Result<(), AllocError>
     ensures { OnOk result (string_bytes out.new
         ≡ string_bytes out.old ++ list signature (signatures_of values.now)) }
@@ -299,7 +282,6 @@ fn put_signatures(out: &mut String, values: &[Signature]) -> Result<(), AllocErr
     Ok(())
 }
 
-/// Puts a signature.
 fn put_signature(out: &mut String, value: &Signature) -> Result<(), AllocError>
     ensures { OnOk result
         (string_bytes out.new ≡ string_bytes out.old ++ signature (signature_of value.now)) }
@@ -309,7 +291,6 @@ fn put_signature(out: &mut String, value: &Signature) -> Result<(), AllocError>
     put_position(out, value.pos)
 }
 
-/// Puts the models of arguments.
 fn put_model_types(out: &mut String, values: &[ModelType]) -> Result<(), AllocError>
     ensures { OnOk result (string_bytes out.new
         ≡ string_bytes out.old ++ list type_model (map type_model_of values.now)) }
@@ -321,7 +302,6 @@ fn put_model_types(out: &mut String, values: &[ModelType]) -> Result<(), AllocEr
     Ok(())
 }
 
-/// Puts the signatures of a term.
 fn put_instantiation(out: &mut String, kind: u8, value: &Instantiation) -> Result<(), AllocError>
     requires { kind < 128 }
     ensures { OnOk result (string_bytes out.new
@@ -335,7 +315,6 @@ fn put_instantiation(out: &mut String, kind: u8, value: &Instantiation) -> Resul
     put_position(out, value.pos)
 }
 
-/// Puts a term or a constant that is defined outside.
 fn put_extern(out: &mut String, kind: u8, value: &Extern) -> Result<(), AllocError>
     requires { kind < 128 }
     ensures { OnOk result (string_bytes out.new
@@ -370,7 +349,6 @@ fn put_extern(out: &mut String, kind: u8, value: &Extern) -> Result<(), AllocErr
     }
 }
 
-/// Puts a conversion.
 fn put_converter(out: &mut String, kind: u8, value: &Converter) -> Result<(), AllocError>
     requires { kind < 128 }
     ensures { OnOk result (string_bytes out.new

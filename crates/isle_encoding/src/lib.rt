@@ -1,12 +1,13 @@
-//! The tree of ISLE as bytes, for callers that aren't Rattle.
+//! An encoding of ISLE's tree as bytes, for callers in other languages.
 //!
-//! A tree is a version, the bytes of each definition, and a 0. A node is a byte for its kind, and
-//! then its parts in the order of its fields. A number is its digits to the base 64, the lowest
-//! first, and each but the last one is written plus 64. A text is its length in bytes, and its
-//! bytes; a name is a text, and its position. A list is its length, and its items. All of it is
-//! UTF-8, since each byte that is no text's is below 128.
+//! A tree is a version, the encoding of each definition, and a 0. A node is a byte for its kind,
+//! then its parts in the order of its fields. A number is written in base 64, lowest digit first,
+//! with 64 added to each digit but the last. A text is its length in bytes and its bytes, and a
+//! name is a text and a position. A list is its length and its items. The result is valid UTF-8,
+//! since all bytes outside of texts are below 128.
 //!
-//! `specs/Encoded.antt` says it in full, and the law `laws::encodings_end` that nothing is lost.
+//! Each `put_..` function appends the encoding of its argument. `specs/Encoded.antt` defines the
+//! encoding, and the law `laws::encodings_end` says that it loses nothing.
 #![tactic(auto)]
 
 ghost use Rattle.std.specs.Prelude.{◌≡◌, ◌++◌, [], ◌∷◌, IfOk, OnOk, string_bytes};
@@ -27,8 +28,6 @@ use numbers::put_byte;
 use std::alloc::{AllocError, Global};
 
 /// Encodes a tree.
-///
-/// The error is lack of memory.
 pub fn encode(alloc: Global, defs: &[Def]) -> Result<String, AllocError>
     ensures { IfOk result (λ bytes. string_bytes bytes ≡ encoded (definitions_of defs.now)) }
 {
@@ -41,18 +40,14 @@ pub fn encode(alloc: Global, defs: &[Def]) -> Result<String, AllocError>
     Ok(out)
 }
 
-/// Puts what is in front of the definitions: the version of the encoding.
-///
-/// The error is lack of memory.
+/// Appends the start of an encoding, before the definitions: its version.
 pub fn put_start(out: &mut String) -> Result<(), AllocError>
     ensures { OnOk result (string_bytes out.new ≡ string_bytes out.old ++ 1 ∷ []) }
 {
     put_byte(out, 1)
 }
 
-/// Puts what is behind the definitions.
-///
-/// The error is lack of memory.
+/// Appends the end of an encoding, after the definitions.
 pub fn put_end(out: &mut String) -> Result<(), AllocError>
     ensures { OnOk result (string_bytes out.new ≡ string_bytes out.old ++ 0 ∷ []) }
 {

@@ -1,4 +1,4 @@
-//! Puts texts, positions and names.
+//! Encodes texts, positions and names.
 
 ghost use Rattle.std.specs.Prelude.{◌≡◌, ◌++◌, OnOk, string_bytes};
 ghost use Rattle.isle_ast_names.specs.TreeView.{name_of, names_of, optional_name_of};
@@ -10,7 +10,6 @@ use isle_ast_names::Ident;
 use isle_base::lexer::Pos;
 use std::alloc::AllocError;
 
-/// Puts a text.
 pub fn put_text(out: &mut String, value: &str) -> Result<(), AllocError>
     ensures { OnOk result (string_bytes out.new ≡ string_bytes out.old ++ text value.now) }
 {
@@ -18,7 +17,6 @@ pub fn put_text(out: &mut String, value: &str) -> Result<(), AllocError>
     out.push_str(value)
 }
 
-/// Puts a position.
 pub fn put_position(out: &mut String, pos: Pos) -> Result<(), AllocError>
     ensures { OnOk result (string_bytes out.new ≡ string_bytes out.old ++ position pos) }
 {
@@ -26,7 +24,6 @@ pub fn put_position(out: &mut String, pos: Pos) -> Result<(), AllocError>
     put_number(out, pos.offset)
 }
 
-/// Puts a name.
 pub fn put_name(out: &mut String, value: &Ident) -> Result<(), AllocError>
     ensures { OnOk result
         (string_bytes out.new ≡ string_bytes out.old ++ name (name_of value.now)) }
@@ -35,7 +32,6 @@ pub fn put_name(out: &mut String, value: &Ident) -> Result<(), AllocError>
     put_position(out, value.1)
 }
 
-/// Puts a list of names.
 pub fn put_names(out: &mut String, values: &[Ident]) -> Result<(), AllocError>
     ensures { OnOk result
         (string_bytes out.new ≡ string_bytes out.old ++ names (names_of values.now)) }
@@ -47,7 +43,7 @@ pub fn put_names(out: &mut String, values: &[Ident]) -> Result<(), AllocError>
     Ok(())
 }
 
-/// Puts a name, if there is one.
+/// Appends a name, or the mark that there is none.
 pub fn put_optional_name(out: &mut String, value: &Option<Ident>) -> Result<(), AllocError>
     ensures { OnOk result (string_bytes out.new
         ≡ string_bytes out.old ++ option name (optional_name_of value.now)) }

@@ -1,4 +1,4 @@
-//! Puts nodes that have no others in them: a kind, a value and a position.
+//! Encodes nodes that contain no other nodes: a kind, a value and a position.
 
 ghost use Rattle.std.specs.Prelude.{◌≡◌, ◌<◌, ◌++◌, ◌∷◌, OnOk, string_bytes};
 ghost use Rattle.isle_ast_names.specs.TreeView.{name_of};
@@ -11,7 +11,7 @@ use isle_ast_names::Ident;
 use isle_base::lexer::Pos;
 use std::alloc::AllocError;
 
-/// Puts a node that is a name.
+/// Appends a node with a name.
 pub fn put_named(out: &mut String, kind: u8, value: &Ident, pos: Pos) -> Result<(), AllocError>
     requires { kind < 128 }
     ensures { OnOk result (string_bytes out.new
@@ -22,7 +22,7 @@ pub fn put_named(out: &mut String, kind: u8, value: &Ident, pos: Pos) -> Result<
     put_position(out, pos)
 }
 
-/// Puts a node that is `true` or `false`.
+/// Appends a node with a Boolean.
 pub fn put_bool(out: &mut String, kind: u8, value: bool, pos: Pos) -> Result<(), AllocError>
     requires { kind < 128 }
     ensures { OnOk result (string_bytes out.new
@@ -33,7 +33,7 @@ pub fn put_bool(out: &mut String, kind: u8, value: bool, pos: Pos) -> Result<(),
     put_position(out, pos)
 }
 
-/// Puts a node that is an integer.
+/// Appends a node with an integer.
 pub fn put_int(out: &mut String, kind: u8, value: i128, pos: Pos) -> Result<(), AllocError>
     requires { kind < 128 }
     ensures { OnOk result (string_bytes out.new
@@ -44,7 +44,7 @@ pub fn put_int(out: &mut String, kind: u8, value: i128, pos: Pos) -> Result<(), 
     put_position(out, pos)
 }
 
-/// Puts a node that is a place in a list.
+/// Appends a node with an index.
 pub fn put_index(out: &mut String, kind: u8, value: usize, pos: Pos) -> Result<(), AllocError>
     requires { kind < 128 }
     ensures { OnOk result (string_bytes out.new

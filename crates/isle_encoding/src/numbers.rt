@@ -1,11 +1,11 @@
-//! Puts numbers, and what is made of them.
+//! Encodes numbers, flags and integers.
 
 ghost use Rattle.std.specs.Prelude.{◌≡◌, ◌<◌, ◌++◌, [], ◌∷◌, OnOk, string_bytes};
 ghost use Rattle.isle_encoding.specs.Numbers.{flag, integer, number};
 
 use std::alloc::AllocError;
 
-/// Puts a byte of ASCII.
+/// Appends an ASCII byte.
 #[inline(always)]
 pub fn put_byte(out: &mut String, byte: u8) -> Result<(), AllocError>
     requires { byte < 128 }
@@ -14,7 +14,6 @@ pub fn put_byte(out: &mut String, byte: u8) -> Result<(), AllocError>
     out.push(byte as char)
 }
 
-/// Puts a number.
 #[tactic(auto, using(crate::proofs::Digits::number_few))]
 pub fn put_number(out: &mut String, value: usize) -> Result<(), AllocError>
     ensures { OnOk result (string_bytes out.new ≡ string_bytes out.old ++ number value) }
@@ -27,7 +26,7 @@ pub fn put_number(out: &mut String, value: usize) -> Result<(), AllocError>
     put_byte(out, rest as u8)
 }
 
-/// Puts a number of up to 128 bits.
+/// Appends a number of up to 128 bits.
 #[tactic(auto, using(crate::proofs::Digits::number_few))]
 pub fn put_large_number(out: &mut String, value: u128) -> Result<(), AllocError>
     ensures { OnOk result (string_bytes out.new ≡ string_bytes out.old ++ number value) }
@@ -40,14 +39,12 @@ pub fn put_large_number(out: &mut String, value: u128) -> Result<(), AllocError>
     put_byte(out, rest as u8)
 }
 
-/// Puts a flag.
 pub fn put_flag(out: &mut String, value: bool) -> Result<(), AllocError>
     ensures { OnOk result (string_bytes out.new ≡ string_bytes out.old ++ flag value) }
 {
     put_byte(out, value as u8)
 }
 
-/// Puts an integer.
 pub fn put_integer(out: &mut String, value: i128) -> Result<(), AllocError>
     ensures { OnOk result (string_bytes out.new ≡ string_bytes out.old ++ integer value) }
 {

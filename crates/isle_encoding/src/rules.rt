@@ -1,4 +1,4 @@
-//! Puts patterns, expressions and rules.
+//! Encodes patterns, expressions and rules.
 
 ghost use Rattle.std.specs.Prelude.{◌≡◌, ◌<◌, ◌++◌, ◌∷◌, OnOk, string_bytes};
 ghost use Rattle.isle_ast_rules.specs.TreeView.{condition_of, conditions_of, expression_of};
@@ -16,7 +16,6 @@ use crate::numbers::{put_byte, put_flag, put_integer, put_number};
 use isle_ast_rules::{Expr, Extractor, IfLet, LetDef, Pattern, Rule};
 use std::alloc::AllocError;
 
-/// Puts a rule.
 pub fn put_rule(out: &mut String, kind: u8, value: &Rule) -> Result<(), AllocError>
     requires { kind < 128 }
     ensures { OnOk result (string_bytes out.new
@@ -31,7 +30,7 @@ pub fn put_rule(out: &mut String, kind: u8, value: &Rule) -> Result<(), AllocErr
     put_optional_name(out, &value.name)
 }
 
-/// Puts a priority, if there is one.
+/// Appends a priority, or the mark that there is none.
 fn put_priority(out: &mut String, value: Option<i64>) -> Result<(), AllocError>
     ensures { OnOk result (string_bytes out.new ≡ string_bytes out.old ++ option integer value) }
 {
@@ -42,7 +41,6 @@ fn put_priority(out: &mut String, value: Option<i64>) -> Result<(), AllocError>
     }
 }
 
-/// Puts the conditions of a rule.
 fn put_conditions(out: &mut String, values: &[IfLet]) -> Result<(), AllocError>
     ensures { OnOk result (string_bytes out.new
         ≡ string_bytes out.old ++ list condition (conditions_of values.now)) }
@@ -54,7 +52,6 @@ fn put_conditions(out: &mut String, values: &[IfLet]) -> Result<(), AllocError>
     Ok(())
 }
 
-/// Puts a condition.
 fn put_condition(out: &mut String, value: &IfLet) -> Result<(), AllocError>
     ensures { OnOk result
         (string_bytes out.new ≡ string_bytes out.old ++ condition (condition_of value.now)) }
@@ -64,7 +61,6 @@ fn put_condition(out: &mut String, value: &IfLet) -> Result<(), AllocError>
     put_position(out, value.pos)
 }
 
-/// Puts an extractor.
 pub fn put_extractor(out: &mut String, kind: u8, value: &Extractor) -> Result<(), AllocError>
     requires { kind < 128 }
     ensures { OnOk result (string_bytes out.new
@@ -77,7 +73,6 @@ pub fn put_extractor(out: &mut String, kind: u8, value: &Extractor) -> Result<()
     put_position(out, value.pos)
 }
 
-/// Puts a pattern.
 #[cycle(pattern)]
 fn put_pattern(out: &mut String, value: &Pattern) -> Result<(), AllocError>
     ensures { OnOk result
@@ -113,7 +108,6 @@ fn put_pattern(out: &mut String, value: &Pattern) -> Result<(), AllocError>
     }
 }
 
-/// Puts a list of patterns.
 #[cycle(pattern)]
 fn put_patterns(out: &mut String, values: &Vec<Pattern>) -> Result<(), AllocError>
     ensures { OnOk result (string_bytes out.new
@@ -126,7 +120,6 @@ fn put_patterns(out: &mut String, values: &Vec<Pattern>) -> Result<(), AllocErro
     Ok(())
 }
 
-/// Puts an expression.
 #[cycle(expression)]
 fn put_expr(out: &mut String, value: &Expr) -> Result<(), AllocError>
     ensures { OnOk result
@@ -152,7 +145,6 @@ fn put_expr(out: &mut String, value: &Expr) -> Result<(), AllocError>
     }
 }
 
-/// Puts a list of expressions.
 #[cycle(expression)]
 fn put_exprs(out: &mut String, values: &Vec<Expr>) -> Result<(), AllocError>
     ensures { OnOk result (string_bytes out.new ≡ string_bytes out.old
@@ -165,7 +157,7 @@ fn put_exprs(out: &mut String, values: &Vec<Expr>) -> Result<(), AllocError>
     Ok(())
 }
 
-/// Puts the definitions of a `let`.
+/// Appends the definitions of a `let`.
 #[cycle(expression)]
 fn put_lets(out: &mut String, values: &Vec<LetDef>) -> Result<(), AllocError>
     ensures { OnOk result (string_bytes out.new
@@ -178,7 +170,6 @@ fn put_lets(out: &mut String, values: &Vec<LetDef>) -> Result<(), AllocError>
     Ok(())
 }
 
-/// Puts a definition of a `let`.
 #[cycle(expression)]
 fn put_let(out: &mut String, value: &LetDef) -> Result<(), AllocError>
     ensures { OnOk result

@@ -1,4 +1,4 @@
-//! Puts models of types, specs, and their expressions.
+//! Encodes models of types, specs and spec expressions.
 
 ghost use Rattle.std.specs.Prelude.{◌≡◌, ◌<◌, ◌++◌, ◌∷◌, OnOk, map, string_bytes};
 ghost use Rattle.isle_ast_names.specs.TreeView.{name_of, names_of};
@@ -31,7 +31,6 @@ use isle_ast_verification::{
 use isle_base::lexer::Pos;
 use std::alloc::AllocError;
 
-/// Puts what holds of a term.
 pub fn put_spec(out: &mut String, kind: u8, value: &Spec) -> Result<(), AllocError>
     requires { kind < 128 }
     ensures { OnOk result (string_bytes out.new
@@ -47,7 +46,7 @@ pub fn put_spec(out: &mut String, kind: u8, value: &Spec) -> Result<(), AllocErr
     put_position(out, value.pos)
 }
 
-/// Puts the expressions of the clauses of one kind.
+/// Appends the expressions of all clauses of one kind.
 fn put_clauses(out: &mut String, values: &[SpecExpr]) -> Result<(), AllocError>
     ensures { OnOk result
         (string_bytes out.new ≡ string_bytes out.old ++ list spec (specs_of values.now)) }
@@ -59,7 +58,7 @@ fn put_clauses(out: &mut String, values: &[SpecExpr]) -> Result<(), AllocError>
     Ok(())
 }
 
-/// Puts the states that a term changes.
+/// Appends the states that a term modifies.
 fn put_all_modified(out: &mut String, values: &[Modifies]) -> Result<(), AllocError>
     ensures { OnOk result (string_bytes out.new
         ≡ string_bytes out.old ++ list modified (map modified_of values.now)) }
@@ -71,7 +70,7 @@ fn put_all_modified(out: &mut String, values: &[Modifies]) -> Result<(), AllocEr
     Ok(())
 }
 
-/// Puts a state that a term changes.
+/// Appends a state that a term modifies.
 fn put_modified(out: &mut String, value: &Modifies) -> Result<(), AllocError>
     ensures { OnOk result
         (string_bytes out.new ≡ string_bytes out.old ++ modified (modified_of value.now)) }
@@ -80,7 +79,6 @@ fn put_modified(out: &mut String, value: &Modifies) -> Result<(), AllocError>
     put_optional_name(out, &value.cond)
 }
 
-/// Puts a macro of spec expressions.
 pub fn put_spec_macro(out: &mut String, kind: u8, value: &SpecMacro) -> Result<(), AllocError>
     requires { kind < 128 }
     ensures { OnOk result (string_bytes out.new
@@ -93,7 +91,6 @@ pub fn put_spec_macro(out: &mut String, kind: u8, value: &SpecMacro) -> Result<(
     put_position(out, value.pos)
 }
 
-/// Puts a state that specs speak of.
 pub fn put_state(out: &mut String, kind: u8, value: &State) -> Result<(), AllocError>
     requires { kind < 128 }
     ensures { OnOk result (string_bytes out.new
@@ -106,7 +103,6 @@ pub fn put_state(out: &mut String, kind: u8, value: &State) -> Result<(), AllocE
     put_position(out, value.pos)
 }
 
-/// Puts a model of a type.
 #[cycle(model)]
 pub fn put_model_type(out: &mut String, value: &ModelType) -> Result<(), AllocError>
     ensures { OnOk result
@@ -133,7 +129,7 @@ pub fn put_model_type(out: &mut String, value: &ModelType) -> Result<(), AllocEr
     }
 }
 
-/// Puts a number of bits, if there is one.
+/// Appends a width in bits, or the mark that there is none.
 fn put_width(out: &mut String, value: Option<usize>) -> Result<(), AllocError>
     ensures { OnOk result (string_bytes out.new ≡ string_bytes out.old ++ option number value) }
 {
@@ -144,7 +140,6 @@ fn put_width(out: &mut String, value: Option<usize>) -> Result<(), AllocError>
     }
 }
 
-/// Puts the fields of a struct model.
 #[cycle(model)]
 fn put_model_fields(out: &mut String, values: &Vec<ModelField>) -> Result<(), AllocError>
     ensures { OnOk result (string_bytes out.new ≡ string_bytes out.old
@@ -157,7 +152,6 @@ fn put_model_fields(out: &mut String, values: &Vec<ModelField>) -> Result<(), Al
     Ok(())
 }
 
-/// Puts a field of a struct model.
 #[cycle(model)]
 fn put_model_field(out: &mut String, value: &ModelField) -> Result<(), AllocError>
     ensures { OnOk result (string_bytes out.new
@@ -167,7 +161,6 @@ fn put_model_field(out: &mut String, value: &ModelField) -> Result<(), AllocErro
     put_model_type(out, &value.ty)
 }
 
-/// Puts a spec expression.
 #[cycle(spec)]
 #[tactic(auto, using(crate::proofs::Starts::puts))]
 pub fn put_spec_expr(out: &mut String, value: &SpecExpr) -> Result<(), AllocError>
@@ -210,7 +203,7 @@ pub fn put_spec_expr(out: &mut String, value: &SpecExpr) -> Result<(), AllocErro
     }
 }
 
-/// Puts a kind, and a spec expression behind it.
+/// Appends a kind, then a spec expression.
 #[cycle(spec)]
 fn put_first(out: &mut String, kind: u8, x: &SpecExpr) -> Result<(), AllocError>
     requires { kind < 128 }
@@ -221,7 +214,7 @@ fn put_first(out: &mut String, kind: u8, x: &SpecExpr) -> Result<(), AllocError>
     put_spec_expr(out, x)
 }
 
-/// Puts a spec expression, and a position behind it.
+/// Appends a spec expression, then a position.
 #[cycle(spec)]
 fn put_last(out: &mut String, x: &SpecExpr, pos: Pos) -> Result<(), AllocError>
     ensures { OnOk result
@@ -231,7 +224,6 @@ fn put_last(out: &mut String, x: &SpecExpr, pos: Pos) -> Result<(), AllocError>
     put_position(out, pos)
 }
 
-/// Puts a bit vector.
 fn put_bit_vector(
     out: &mut String,
     kind: u8,
@@ -249,7 +241,7 @@ fn put_bit_vector(
     put_position(out, pos)
 }
 
-/// Puts a value of a model of types.
+/// Appends an expression with a model of its type.
 #[cycle(spec)]
 fn put_as(
     out: &mut String,
@@ -268,7 +260,7 @@ fn put_as(
     put_position(out, pos)
 }
 
-/// Puts what is said of a value by a name: a field, or a variant.
+/// Appends an expression after a name: a field of a struct, or a test of a variant.
 #[cycle(spec)]
 fn put_about(
     out: &mut String,
@@ -287,7 +279,6 @@ fn put_about(
     put_position(out, pos)
 }
 
-/// Puts an operator and its arguments.
 #[cycle(spec)]
 fn put_op(
     out: &mut String,
@@ -307,7 +298,7 @@ fn put_op(
     put_position(out, pos)
 }
 
-/// Puts an expression under names: a `with`, or a macro.
+/// Appends an expression after declared names: a `with`, or a macro.
 #[cycle(spec)]
 fn put_under(
     out: &mut String,
@@ -326,7 +317,7 @@ fn put_under(
     put_position(out, pos)
 }
 
-/// Puts a macro that is expanded.
+/// Appends the expansion of a macro.
 #[cycle(spec)]
 fn put_expansion(
     out: &mut String,
@@ -347,7 +338,7 @@ fn put_expansion(
     put_position(out, pos)
 }
 
-/// Puts a variant of an enum.
+/// Appends a variant of an enum.
 #[cycle(spec)]
 fn put_variant(
     out: &mut String,
@@ -370,7 +361,6 @@ fn put_variant(
     put_position(out, pos)
 }
 
-/// Puts a struct.
 #[cycle(spec)]
 fn put_struct(
     out: &mut String,
@@ -388,14 +378,12 @@ fn put_struct(
     put_position(out, pos)
 }
 
-/// Puts an operator.
 fn put_operator(out: &mut String, value: SpecOp) -> Result<(), AllocError>
     ensures { OnOk result (string_bytes out.new ≡ string_bytes out.old ++ operator value) }
 {
     put_byte(out, value as u8)
 }
 
-/// Puts a list of spec expressions.
 #[cycle(spec)]
 fn put_spec_exprs(out: &mut String, values: &Vec<SpecExpr>) -> Result<(), AllocError>
     ensures { OnOk result (string_bytes out.new
@@ -408,7 +396,6 @@ fn put_spec_exprs(out: &mut String, values: &Vec<SpecExpr>) -> Result<(), AllocE
     Ok(())
 }
 
-/// Puts the arms of a `match`.
 #[cycle(spec)]
 fn put_arms(out: &mut String, values: &Vec<Arm>) -> Result<(), AllocError>
     ensures { OnOk result (string_bytes out.new
@@ -421,7 +408,6 @@ fn put_arms(out: &mut String, values: &Vec<Arm>) -> Result<(), AllocError>
     Ok(())
 }
 
-/// Puts an arm of a `match`.
 #[cycle(spec)]
 fn put_arm(out: &mut String, value: &Arm) -> Result<(), AllocError>
     ensures { OnOk result
@@ -433,7 +419,6 @@ fn put_arm(out: &mut String, value: &Arm) -> Result<(), AllocError>
     put_position(out, value.pos)
 }
 
-/// Puts the definitions of a `let`.
 #[cycle(spec)]
 fn put_spec_lets(out: &mut String, values: &Vec<(Ident, SpecExpr)>) -> Result<(), AllocError>
     ensures { OnOk result (string_bytes out.new ≡ string_bytes out.old
@@ -447,7 +432,6 @@ fn put_spec_lets(out: &mut String, values: &Vec<(Ident, SpecExpr)>) -> Result<()
     Ok(())
 }
 
-/// Puts the fields of a struct.
 #[cycle(spec)]
 fn put_field_inits(out: &mut String, values: &Vec<FieldInit>) -> Result<(), AllocError>
     ensures { OnOk result (string_bytes out.new ≡ string_bytes out.old
@@ -460,7 +444,6 @@ fn put_field_inits(out: &mut String, values: &Vec<FieldInit>) -> Result<(), Allo
     Ok(())
 }
 
-/// Puts a field of a struct.
 #[cycle(spec)]
 fn put_field_init(out: &mut String, value: &FieldInit) -> Result<(), AllocError>
     ensures { OnOk result (string_bytes out.new

@@ -61,7 +61,7 @@ read_whole old mid new d read h =
 leaves_none : (all : List Placed) (d : Definition) → definition all ≡ Some (d, []) → LeavesNone all
 leaves_none all d read e rest h = (one_definition e d all rest [] h (definition_sound all [] d read)).1
 
--- a definition is read, and the lexer refuses its text right after it
+-- a definition is read, and the lexer rejects its text right after it
 pub refused_after : (old mid : Cursor) (d : Definition) (f : Fault) → is_at_end old.scanner ≡ false → source mid ≡ source old → definition (left (fresh old)) ≡ Some (d, left mid) → mid.is_spent ≡ true
     → IfError (StandsAtFault (source mid)) f → IfError (RefusesNext old) f
 refused_after old mid d (faults.Error e) before same read spent h =
@@ -85,7 +85,7 @@ refused_in old mid e before same none h =
       before_end = before;
     }
 
--- no definition is read, and the lexer refuses its text before one ends
+-- no definition is read, and the lexer rejects its text before one ends
 pub refused_before : (old mid : Cursor) (f : Fault) → is_at_end old.scanner ≡ false → source mid ≡ source old → definition (left (fresh old)) ≡ None → IfError (StandsAtFault (source mid)) f → IfError (RefusesNext old) f
 refused_before old mid (faults.Error e) before same none h = refused_in old mid e before same none (stands_within (source mid) e h)
 refused_before old mid faults.Failed before same none h = tt
@@ -157,7 +157,7 @@ pub or_false : (a : Bool) → (a || false) ≡ a
 or_false true = refl
 or_false false = refl
 
--- an error in the middle refuses the whole text
+-- an error in the middle rejects the whole text
 loop_refused : (start now : Cursor) (front : List Definition) (e : Error) → is_failed now.scanner ≡ false → source now ≡ source start
     → behind_front front (many ends definition (tokens now)) ≡ definitions (tokens start) → RefusesNext now e → RefusesWith (placing start.disable_pos start.scanner.file) start.scanner e
 loop_refused start now front e live same so_far h =
@@ -182,7 +182,7 @@ loop_text start now front (faults.Error e) same so_far fails h =
 loop_text start now front faults.Failed same so_far fails h = tt
 loop_text start now front faults.Memory same so_far fails h = tt
 
--- what the loop returns where the next definition is refused
+-- what the loop returns where the next definition is rejected
 pub loop_stops_at : (start now : Parser) (front : List Definition) (f : Fault) → source now.cursor ≡ source start.cursor
     → behind_front front (many ends definition (tokens now.cursor)) ≡ definitions (tokens start.cursor) → has_failed now ≡ is_failed start.cursor.scanner
     → (refusal f ≡ refusal faults.Failed) ↔ (has_failed now ≡ true) → IfError (RefusesNext now.cursor) f

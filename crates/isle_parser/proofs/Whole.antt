@@ -62,7 +62,7 @@ IfError-map P Q (faults.Error e) step p = step e p
 IfError-map P Q faults.Failed step p = tt
 IfError-map P Q faults.Memory step p = tt
 
--- no pattern that is read is or holds the argument of a macro
+-- no pattern that is read is, or contains, a macro argument
 pub whole_found : (place : ℕ → Pos) (feed : Feed) (r : Result (Vec Def) Fault) → Parses place feed r → IfOk r (λ defs. definitions_have_macro_arg (definitions_of defs.items) ≡ false)
 whole_found place feed (Ok defs) h = spelt_has_no_macro_arg (definitions_of defs.items) (placed place feed.coming) h.spelt.1
 whole_found place feed (Err e) h = tt

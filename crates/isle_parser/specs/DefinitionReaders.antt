@@ -1,4 +1,4 @@
--- Reading of definitions.
+-- Readers of definitions.
 use Rattle.std.specs.Prelude.{ℕ, List, Some, None, if◌then◌else◌, codes}
 use Rattle.std.specs.Str.{bytes_eq}
 use Rattle.isle_ast.specs.Tree.{Declaration, Conversion, Definition, type_def, rule, extractor, decl, attr, spec, spec_macro, model, state, form, instantiation, external, converter}
@@ -41,15 +41,15 @@ conversion all = do
   term ← name outer_ty.1
   Some (record { term = term.0; inner_ty = inner_ty.0; outer_ty = outer_ty.0; pos = pos_ahead all }, term.1)
 
--- no pragma is defined: each is refused
+-- no pragma is defined, so each is rejected
 abbrev pub pragma : Reader Definition
 pragma all = None
 
--- what is read of one kind, as a definition of that kind
+-- the reader's result, as a definition of that kind
 unfoldable pub as_definition : {A : Type 0} → (A → Definition) → Reader A → Reader Definition
 as_definition kind read all = read all >>= λ x. Some (kind x.0, x.1)
 
--- what follows this keyword
+-- the rest after this keyword
 unfoldable pub behind_keyword : List ℕ → Reader Definition
 behind_keyword word all =
     if bytes_eq word (codes "type") then as_definition type_def type_definition all
@@ -67,7 +67,7 @@ behind_keyword word all =
     else (if bytes_eq word (codes "convert") then as_definition converter conversion all
     else None))))))))))))
 
--- a keyword, and what follows it
+-- a keyword, and the rest after it
 unfoldable pub keyword_form : Reader Definition
 keyword_form all = do
   word ← text all

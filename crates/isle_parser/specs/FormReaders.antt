@@ -1,4 +1,4 @@
--- Reading of forms and instantiations: what follows the keywords `form` and `instantiate`.
+-- Readers of forms and instantiations, after the keywords `form` and `instantiate`.
 use Rattle.std.specs.Prelude.{[], List, Some, None, if◌then◌else◌, codes}
 use Rattle.std.specs.Str.{bytes_eq}
 use Rattle.isle_ast_names.specs.Tree.{Name}
@@ -33,7 +33,7 @@ form_definition all = do
   gs ← signatures n.1
   Some (record { name = n.0; signatures = gs.0; pos = pos_ahead all }, gs.1)
 
--- signatures where `(` is ahead, else a form and tags
+-- signatures if `(` is ahead, else a form and tags
 unfoldable pub instantiation_of_term : Reader TermInstantiation
 instantiation_of_term all = do
   term ← name all

@@ -1,4 +1,4 @@
--- Reading of models of a type or a constant: what follows the keyword `model`.
+-- Readers of models of a type or a constant, after the keyword `model`.
 use Rattle.std.specs.Prelude.{Some, None, if◌then◌else◌, codes}
 use Rattle.isle_ast.specs.Tree.{ModelContent, type_model, const_model, ModelDefinition}
 use Rattle.isle_parser_cursor.specs.Reading.{Reader, ◌>>=◌, in_parentheses, flag}

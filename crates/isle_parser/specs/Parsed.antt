@@ -1,4 +1,4 @@
--- What the parsers answer, by what a lexer has still to give.
+-- The results of the parsers, by the rest of a lexer's input.
 use Rattle.std.specs.Prelude.{◌≡◌, ℕ, List, Result, Ok, Err, true, false}
 use Rattle.std.specs.Global.{Vec}
 use Rattle.isle_base_source.specs.declared.error.Error.{Error}
@@ -13,26 +13,26 @@ use Rattle.isle_ast.specs.TreeView.{definitions_of}
 use Rattle.isle_parser_cursor.specs.Outcomes.{RefusesIn}
 use Rattle.isle_base.specs.declared.fault.Fault.TheVariants as faults
 
--- this list of definitions is spelt, and no other is
+-- the tokens spell this list of definitions, and no other
 pub record SpellsOnly (place : ℕ → Pos) (feed : Feed) (ds : List Definition) : Type 0 where
   pub spelt : Spells place feed ds
   pub only : (es : List Definition) → Spells place feed es → es ≡ ds
 
--- no list of definitions is spelt, and the error is in the text
+-- the tokens spell no list of definitions, and the error is in the text
 abbrev pub RefusesWith : (ℕ → Pos) → Feed → Error → Type 0
 RefusesWith place feed e = ((ds : List Definition) → Spells place feed ds → ⊥) × RefusesIn feed.file feed.size e
 
--- An error means that no list of definitions is spelt. Want of memory says nothing.
+-- An error means that the tokens spell no list of definitions. Running out of memory means nothing.
 abbrev pub RefusesText : (ℕ → Pos) → Feed → Fault → Type 0
 RefusesText place feed f = IfError (RefusesWith place feed) f
 
--- whether a parser returns that its lexer was failed
+-- a parser returns `Failed` exactly if its lexer had failed
 abbrev pub FailsAs : Feed → Fault → Type 0
 FailsAs feed (faults.Error e) = is_failed feed ≡ false
 FailsAs feed faults.Failed = is_failed feed ≡ true
 FailsAs feed faults.Memory = is_failed feed ≡ false
 
--- what a parser returns, where positions are given by `place`
+-- the result of a parser, with positions given by `place`
 abbrev pub Parses : (ℕ → Pos) → Feed → Result (Vec Def) Fault → Type 0
 Parses place feed (Ok defs) = SpellsOnly place feed (definitions_of defs.items)
 Parses place feed (Err e) = RefusesText place feed e × FailsAs feed e

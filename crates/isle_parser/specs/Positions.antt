@@ -77,7 +77,7 @@ abbrev pub behind_first : List Lexeme → List Lexeme
 behind_first [] = []
 behind_first (x ∷ xs) = xs
 
--- Each position in a definition is the first byte of a token, and never of the first one.
+-- Each position in a definition is the first byte of a token other than the first.
 abbrev pub OneHasPositions : ℕ → List Lexeme → Definition → Type 0
 OneHasPositions file xs d = EachPosition (BeginsToken file (behind_first xs)) d
 
@@ -85,7 +85,7 @@ OneHasPositions file xs d = EachPosition (BeginsToken file (behind_first xs)) d
 abbrev pub HasPositions : ℕ → List Lexeme → List Definition → Type 0
 HasPositions file xs ds = AllByRecursion (OneHasPositions file xs) ds
 
--- no position in a definition is the default one, which means an unknown place
+-- no position in a definition is the default one, which stands for an unknown position
 abbrev pub OneHasKnownPositions : Definition → Type 0
 OneHasKnownPositions d = EachPosition (λ (pos : Pos). pos ≡ unknown → ⊥) d
 

@@ -1,4 +1,4 @@
--- Reading of what is said of terms: what follows the keywords `attr` and `extern`.
+-- Readers of definitions of terms, after the keywords `attr` and `extern`.
 use Rattle.std.specs.Prelude.{Some, None, if◌then◌else◌, codes}
 use Rattle.std.specs.Str.{bytes_eq}
 use Rattle.isle_base_source.specs.declared.pos.Pos.{Pos}
@@ -50,7 +50,7 @@ extern_etor place all = do
       then (flag (codes "infallible") word.1 >>= λ i. name i.1 >>= λ term. name term.1 >>= λ func. Some (extern_extractor term.0 func.0 place i.0, func.1))
       else extern_constant word.1
 
--- `constructor`, `extractor` or `const`, and what follows the word
+-- `constructor`, `extractor` or `const`, and the rest after the word
 unfoldable pub extern_definition : Reader ExternDefinition
 extern_definition all = do
   word ← flag (codes "constructor") all

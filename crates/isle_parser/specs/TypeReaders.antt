@@ -1,4 +1,4 @@
--- Reading of types: what follows the keyword `type`.
+-- Readers of types, after the keyword `type`.
 use Rattle.std.specs.Prelude.{ℕ, ◌+◌, List, [], ◌∷◌, Bool, not, ◌||◌, Some, None, if◌then◌else◌, codes}
 use Rattle.std.specs.List.{list_any}
 use Rattle.isle_base_source.specs.declared.pos.Pos.{Pos}
@@ -20,20 +20,20 @@ field_inside place all = do
 unfoldable pub named_field : Reader NamedField
 named_field all = in_parentheses (field_inside (pos_ahead all)) all
 
--- a field that is known by its place, at the position of its type
+-- a positional field, at the position of its type
 abbrev pub indexed : ℕ → Name → IndexedField
 indexed index ty = record { index = index; ty = ty; pos = ty.pos }
 
--- the types of fields that are known by their places, counted from this index
+-- the types of positional fields, counted from this index
 abbrev pub numbered : ℕ → List Name → List IndexedField
 numbered index [] = []
 numbered index (ty ∷ tys) = indexed index ty ∷ numbered (index + 1) tys
 
--- fields that have names, at the position of the first
+-- named fields, at the position of the first
 abbrev pub named_fields : Reader FieldList
 named_fields all = many at_rparen named_field all >>= λ fs. Some (struct_fields fs.0 (pos_ahead all), fs.1)
 
--- fields that are known by their places, at the position of the first
+-- positional fields, at the position of the first
 abbrev pub indexed_fields : Reader FieldList
 indexed_fields all = many at_rparen name all >>= λ tys. Some (tuple_fields (numbered 0 tys.0) (pos_ahead all), tys.1)
 
@@ -68,7 +68,7 @@ enum_content place all = do
   word ← flag (codes "enum") all
   if word.0 then (many at_rparen variant word.1 >>= λ vs. Some (enum_type vs.0 place, vs.1)) else struct_content place word.1
 
--- `primitive`, `enum` or `struct`, and what follows the word
+-- `primitive`, `enum` or `struct`, and the rest after the word
 unfoldable pub content_inside : Pos → Reader TypeContent
 content_inside place all = do
   word ← flag (codes "primitive") all
@@ -90,7 +90,7 @@ no_symbol all = not (is_ahead is_symbol all)
 unfoldable pub modifiers : Reader (List (List ℕ))
 modifiers = many no_symbol modifier
 
--- whether `extern` is among the modifiers, and `nodebug`
+-- whether `extern` and `nodebug` are among the modifiers
 abbrev pub modifier_flags : Reader (Bool × Bool)
 modifier_flags all = modifiers all >>= λ words. Some ((list_any is_extern_word words.0, list_any is_nodebug_word words.0), words.1)
 

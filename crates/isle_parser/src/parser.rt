@@ -45,21 +45,21 @@ use std::alloc::{AllocError, Global};
 ///
 /// The first is in the clauses here, the others are in those of `isle_syntax`'s `format`.
 ///
-/// It reads what the lexer still has to give, its lookahead first. The grammar is the one of the
-/// ISLE language reference, for the definitions `type`, `rule`, `extractor`, `decl`, `attr`,
-/// `spec`, `macro`, `state`, `model`, `form`, `instantiate`, `extern` and `convert`. A pragma is
-/// refused, whatever its name.
+/// Parsing starts at the lexer's current token, its lookahead. The grammar is that of the ISLE
+/// language reference, for the definitions `type`, `rule`, `extractor`, `decl`, `attr`, `spec`,
+/// `macro`, `state`, `model`, `form`, `instantiate`, `extern` and `convert`. Pragmas are rejected,
+/// whatever their names.
 ///
-/// The list that it returns is the only one that the tokens spell. No pattern in it is or holds the
-/// argument of a macro. Each position in it is a byte offset in the lexer's text, with the number
-/// of the lexer's file. It is the first byte of a token, and never of the first one.
+/// The result is the only list of definitions that the tokens spell. No pattern in it is, or
+/// contains, a macro argument. Each position in it is a byte offset in the lexer's text, with the
+/// number of the lexer's file: the first byte of a token other than the first.
 ///
-/// It returns an error exactly where the tokens spell no list of definitions, or where the lexer
-/// refuses its text. The error is a parse error at one byte of the text, or at its end. It is
-/// `Failed` exactly if the lexer had refused its text before this call. `Memory` comes where a
-/// growth of memory was refused. The lexer is gone afterwards, whatever the result.
+/// Returns an error exactly if the tokens spell no list of definitions or the lexer rejects its
+/// text. The error is a parse error at one byte of the text or at its end. It is `Failed` exactly
+/// if the lexer had failed before, and `Memory` if memory runs out. The lexer is dropped in any
+/// case.
 pub fn parse(alloc: Global, lexer: Lexer) -> Result<Vec<Def>, Fault>
-    // What `Ok` holds.
+    // The value of `Ok`.
     ensures spelt { IfOk result
         (λ defs. Spells (in_file lexer.entry.file) lexer.entry (definitions_of defs.items)) }
     ensures only { IfOk result
@@ -71,7 +71,7 @@ pub fn parse(alloc: Global, lexer: Lexer) -> Result<Vec<Def>, Fault>
     ensures no_macro_arg { IfOk result
         (λ defs. definitions_have_macro_arg (definitions_of defs.items) ≡ false) }
 
-    // When each error comes.
+    // When each error is returned.
     ensures refused { IfErr result (RefusesText (in_file lexer.entry.file) lexer.entry) }
     ensures failed { IsErrOf result Failed ↔ (is_failed lexer.entry ≡ true) }
 {
@@ -82,13 +82,12 @@ pub fn parse(alloc: Global, lexer: Lexer) -> Result<Vec<Def>, Fault>
 /// Parse without positional information. Provided mainly to support testing, to enable equality
 /// testing on structure alone.
 ///
-/// It returns the tree that `parse` does, with the default position in place of each. Out of memory
-/// aside, it returns an error exactly where `parse` does. The error is a parse error at one byte of
-/// the text, or at its end. It is `Failed` exactly if the lexer had refused its text before this
-/// call. `Memory` comes where a growth of memory was refused. The lexer is gone afterwards,
-/// whatever the result.
+/// Returns the same tree as `parse`, but with the default position everywhere. It returns an error
+/// exactly if `parse` does, unless memory runs out. The error is a parse error at one byte of the
+/// text or at its end. It is `Failed` exactly if the lexer had failed before, and `Memory` if
+/// memory runs out. The lexer is dropped in any case.
 pub fn parse_without_pos(alloc: Global, lexer: Lexer) -> Result<Vec<Def>, Fault>
-    // What `Ok` holds.
+    // The value of `Ok`.
     ensures spelt { IfOk result (λ defs. Spells nowhere lexer.entry (definitions_of defs.items)) }
     ensures only { IfOk result
         (λ defs. (ds : List Definition) → Spells nowhere lexer.entry ds
@@ -99,7 +98,7 @@ pub fn parse_without_pos(alloc: Global, lexer: Lexer) -> Result<Vec<Def>, Fault>
     ensures no_macro_arg { IfOk result
         (λ defs. definitions_have_macro_arg (definitions_of defs.items) ≡ false) }
 
-    // When each error comes.
+    // When each error is returned.
     ensures refused { IfErr result (RefusesText nowhere lexer.entry) }
     ensures refused_by_parse { IfErr result (RefusesText (in_file lexer.entry.file) lexer.entry) }
     ensures failed { IsErrOf result Failed ↔ (is_failed lexer.entry ≡ true) }
@@ -110,12 +109,12 @@ pub fn parse_without_pos(alloc: Global, lexer: Lexer) -> Result<Vec<Def>, Fault>
 
 /// The ISLE parser.
 ///
-/// Takes in a lexer and creates an AST. `next_def` returns its definitions one after another, and
-/// `parse` returns all of them at once.
+/// It creates an AST from a lexer. `next_def` returns one definition after another, and `parse`
+/// returns all of them at once.
 #[derive(Debug, Drop)]
 pub struct Parser<'src> {
     cursor: Cursor<'src>,
-    /// Whether an earlier call was refused.
+    /// Whether an earlier call returned an error.
     refused: bool,
 }
 
@@ -131,7 +130,7 @@ impl<'src> Clone for Parser<'src> {
 }
 
 impl<'src> Parser<'src> {
-    /// Construct a new parser from the given lexer. It keeps positions, and takes no memory.
+    /// Creates a parser that keeps positions, without allocating.
     pub fn new(lexer: Lexer<'src>) -> Parser<'src>
         ensures lexer { result.cursor.scanner ≡ lexer.entry }
         ensures positions { result.cursor.disable_pos ≡ false }
@@ -147,7 +146,7 @@ impl<'src> Parser<'src> {
         }
     }
 
-    /// A parser that puts the default position in place of each.
+    /// Creates a parser that replaces every position by the default one.
     fn new_without_pos_tracking(lexer: Lexer<'src>) -> Parser<'src>
         ensures lexer { result.cursor.scanner ≡ lexer.entry }
         ensures positions { result.cursor.disable_pos ≡ true }
@@ -163,24 +162,23 @@ impl<'src> Parser<'src> {
         }
     }
 
-    /// The next definition that the tokens to come spell, or `None` at the end of the text.
+    /// Parses the next definition. Returns `None` at the end of the text.
     ///
-    /// It takes the tokens of that definition off, and the next call goes on after them. No front
-    /// of the tokens to come spells another definition. No pattern in it is or holds the argument
-    /// of a macro. Each position in it is a byte offset in the lexer's text, with the number of the
-    /// lexer's file. It is the first byte of a token to come, and never of the first one. `None`
-    /// comes exactly where nothing is to come and the parser has not failed, and leaves the parser
-    /// as it was.
+    /// It takes the tokens of the definition, and the next call continues after them. No prefix of
+    /// the remaining tokens spells another definition. No pattern in it is, or contains, a macro
+    /// argument. Each position in it is a byte offset in the lexer's text, with the number of the
+    /// lexer's file: the first byte of a remaining token other than the first. Returns `None`, and
+    /// changes nothing, exactly if no token remains and the parser has not failed.
     ///
-    /// It returns an error only where no front of the tokens to come spells a definition, or where
-    /// the lexer refuses its text right after the definition. In the second case the error is at
-    /// that fault, and the definition takes all tokens before it. The error is a parse error at one
-    /// byte of the text, or at its end. `Memory` comes where a growth of memory was refused.
+    /// Returns an error only if no prefix of the remaining tokens spells a definition, or if the
+    /// lexer rejects its text right after the definition. In the second case the error is at that
+    /// fault, and the definition takes all tokens before it. The error is a parse error at one byte
+    /// of the text or at its end, or `Memory` if memory runs out.
     ///
-    /// After either error the parser has failed. It has failed from the first if its lexer had
-    /// refused the text. It returns `Failed` then, and only then, to each later call.
+    /// After either error the parser has failed. It has also failed from the start if its lexer
+    /// had. Each later call then returns `Failed`, and no other call does.
     pub fn next_def(&mut self, alloc: Global) -> Result<Option<Def>, Fault>
-        // What `Ok` holds.
+        // The value of `Ok`.
         ensures end { (result ≡ Ok None)
             ↔ ((has_failed self.old ≡ false) × (is_at_end self.old.cursor.scanner ≡ true)) }
         ensures spelt { IfFound result
@@ -195,11 +193,11 @@ impl<'src> Parser<'src> {
             → IfFound result OneHasKnownPositions }
         ensures no_macro_arg { IfFound result (λ d. definition_has_macro_arg d ≡ false) }
 
-        // When each error comes.
+        // When each error is returned.
         ensures refused { IfErr result (IfError (RefusesNext self.old.cursor)) }
         ensures failed { IsErrOf result Failed ↔ (has_failed self.old ≡ true) }
 
-        // What is left after it.
+        // The parser after the call.
         ensures same { source self.new.cursor ≡ source self.old.cursor }
         ensures at_end { result ≡ Ok None → self.new ≡ self.old }
         ensures ready { OnOk result (has_failed self.new ≡ false) }
@@ -217,7 +215,7 @@ impl<'src> Parser<'src> {
         Ok(Some(read?))
     }
 
-    /// Tells whether the lexer had refused its text, or an earlier call was refused.
+    /// Returns whether the lexer failed, or an earlier call returned an error.
     fn has_failed(&self) -> bool
         ensures failed { result ≡ has_failed self.now }
         ensures rising { Rises 0 self.now.cursor.scanner.coming }
@@ -225,7 +223,7 @@ impl<'src> Parser<'src> {
         self.cursor.is_failed() || self.refused
     }
 
-    /// Everything that the lexer has still to give.
+    /// Parses all remaining definitions.
     fn parse_all(&mut self, alloc: Global) -> Result<Vec<Def>, Fault>
         requires { self.old.refused ≡ false }
         ensures parses { Parses (placing self.old.cursor.disable_pos self.old.cursor.scanner.file)
@@ -240,8 +238,8 @@ impl<'src> Parser<'src> {
     }
 }
 
-/// The definition that the tokens to come begin with. Where the last token before a fault of the
-/// lexer is taken for it, the lexer's error is returned: it goes before the parser's own.
+/// Parses the first of the remaining definitions. If it takes the last token before a fault of the
+/// lexer, the lexer's error is returned: it comes before the parser's own.
 fn read_def(cursor: &mut Cursor, alloc: Global) -> Result<Def, Fault>
     requires { is_at_end cursor.old.scanner ≡ false }
     ensures read { IfOk result (λ def. definition (tokens cursor.old)

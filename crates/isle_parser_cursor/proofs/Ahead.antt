@@ -36,14 +36,14 @@ nowhere_left p e = nowhere_if p.is_spent (tokens p) (rw e (unknown_ahead p.scann
 pub is_unknown : (pos : Pos) → pos.file ≡ 0 → pos.offset ≡ 0 → pos ≡ unknown
 is_unknown pos e f = ap (λ (n : ℕ). in_file n pos.offset) e ∙ ap (λ (n : ℕ). in_file 0 n) f
 
--- the parser's refusal at a place
+-- the parser's rejection at a place
 pub refusal_at : (s : CursorSource) (pos : Pos) (e : Stop) → IsPlace s pos → IsRefusalAt pos e → IsParserRefusal s e
 refusal_at s pos (stops.Parser e) p h =
     let is : pos ≡ in_file s.file pos.offset = ap (λ (n : ℕ). in_file n pos.offset) p.file in
     (pos.offset, p.offset, subst (λ (q : Pos). RefusesAt q e.value) is h)
 refusal_at s pos stops.Memory p h = tt
 
--- a test that isn't passed is refused at its place
+-- a test that isn't passed is rejected at its place
 pub judged : (X : Type 0) (passed : Bool) (s : CursorSource) (pos : Pos) (e : Stop) → false ≡ passed → IsPlace s pos → IsRefusalAt pos e → PassesOrRefuses {X = X} passed s (Err e)
 judged X passed s pos (stops.Parser e) test p h = (sym test, refusal_at s pos (stops.Parser e) p h)
 judged X passed s pos stops.Memory test p h = tt
@@ -61,7 +61,7 @@ place_ahead feed s x e h file size =
     let w = first_within feed.file feed.coming feed.size x e h.tokens in
     record { file = w.0 ∙ sym file; offset = omega (arith, w.1, size); short = omega (arith, h.short, size) }
 
--- where reading gives nothing, the parser's refusal stops it
+-- where reading gives nothing, the parser's rejection stops it
 pub stopped : {Y : Type 0} (read : Option (Y × List Placed)) (s : CursorSource) (e : Stop) → read ≡ None → IsParserRefusal s e → Stops read s e
 stopped read s (stops.Parser e) none h = (none, h)
 stopped read s stops.Memory none h = tt

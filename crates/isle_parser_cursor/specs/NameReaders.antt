@@ -1,4 +1,4 @@
--- Reading of names, alone and in lists.
+-- Readers of names, alone and in lists.
 use Rattle.std.specs.Prelude.{List, Option, Some, None, if◌then◌else◌}
 use Rattle.isle_base.specs.Token.{is_symbol}
 use Rattle.isle_ast_names.specs.Identifier.{is_identifier}
@@ -10,7 +10,7 @@ name all = do
   t ← text all
   if is_identifier t.0 then Some (record { text = t.0; pos = pos_ahead all }, t.1) else None
 
--- an identifier where a symbol is ahead
+-- an identifier, if a symbol is ahead
 unfoldable pub optional_name : Reader (Option Name)
 optional_name all = if is_ahead is_symbol all then (name all >>= λ n. Some (Some n.0, n.1)) else Some (None, all)
 

@@ -1,4 +1,4 @@
--- What a call that reads returns, by the tokens that are left.
+-- The results of functions that read, by the tokens that are left.
 use Rattle.std.specs.Prelude.{◌≡◌, ℕ, ◌+◌, ◌≤◌, ◌<◌, ◌^◌, List, [], Bool, true, false, Option, Some, None, Result, Ok, Err, if◌then◌else◌}
 use Rattle.isle_base_source.specs.declared.pos.Pos.{Pos}
 use Rattle.isle_base.specs.Place.{Placed, in_file, nowhere, placed}
@@ -10,7 +10,7 @@ use Rattle.isle_parser_cursor.specs.Reading.{Reader}
 use Rattle.isle_base_source.specs.declared.error.Error.{Error}
 use Rattle.isle_parser_cursor.specs.declared.cursor.Stop.TheVariants as stops
 
--- the position of an offset: the unknown place, where positions are not kept
+-- the position of an offset: unknown, if positions are not kept
 abbrev pub placing : Bool → ℕ → ℕ → Pos
 placing true file = nowhere
 placing false file = in_file file
@@ -19,16 +19,16 @@ placing false file = in_file file
 abbrev pub tokens : Cursor → List Placed
 tokens p = placed (placing p.disable_pos p.scanner.file) p.scanner.coming
 
--- the tokens that are left to take: none where the last one before a fault is taken
+-- the tokens left to take: none if the last one before a fault has been taken
 unfoldable pub left : Cursor → List Placed
 left p = if p.is_spent then [] else tokens p
 
--- The lexer isn't failed, and where the token ahead is taken, a fault follows it.
+-- The lexer has not failed, and if the token ahead has been taken, a fault follows it.
 pub record GoesOn (p : Cursor) : Type 0 where
   pub live : is_failed p.scanner ≡ false
   pub spent : p.is_spent ≡ true → (offset : ℕ) × FacesFault p.scanner offset
 
--- what no call changes
+-- the part of a cursor that never changes
 pub record CursorSource : Type 0 where
   pub file : ℕ
   pub ending : Ending
@@ -38,7 +38,7 @@ pub record CursorSource : Type 0 where
 abbrev pub source : Cursor → CursorSource
 source p = record { file = p.scanner.file; ending = p.scanner.ending; size = p.scanner.size; disable_pos = p.disable_pos }
 
--- a byte of the text, or its end, and a number is left past that
+-- a byte of the text, or its end; the length is below the greatest number
 pub record IsPlace (s : CursorSource) (pos : Pos) : Type 0 where
   pub file : pos.file ≡ s.file
   pub offset : pos.offset ≤ s.size
@@ -62,23 +62,23 @@ abbrev pub IsParserRefusal : CursorSource → Stop → Type 0
 IsParserRefusal s (stops.Parser e) = RefusesIn s.file s.size e.value
 IsParserRefusal s stops.Memory = Unit {0}
 
--- Where the parser refuses, reading gives nothing.
+-- If the parser rejects, reading has no result.
 abbrev pub Stops : {Y : Type 0} → Option (Y × List Placed) → CursorSource → Stop → Type 0
 Stops read s (stops.Parser e) = (read ≡ None) × RefusesIn s.file s.size e.value
 Stops read s stops.Memory = Unit {0}
 
--- What a call returned, seen by view, is what reading gives of the tokens that were to come.
+-- The result, as seen by `view`, is that of reading the remaining tokens.
 abbrev pub MatchesRead : {X Y : Type 0} → (X → Y) → Option (Y × List Placed) → Result X Stop → Cursor → Type 0
 MatchesRead view read (Ok x) new = read ≡ Some (view x, left new)
 MatchesRead view read (Err e) new = Stops read (source new) e
 
--- A call takes off the tokens what the reader does, and its result is what was read, seen by the view. The text and
--- its place in the sources stay as they are.
+-- A function takes the same tokens as the reader, and its result is the reader's, as seen by
+-- `view`. The text and its file stay the same.
 pub record ReadsOff {X Y : Type 0} (view : X → Y) (reader : Reader Y) (old : Cursor) (result : Result X Stop) (new : Cursor) : Type 0 where
   pub same : source new ≡ source old
   pub gives : MatchesRead view (reader (left old)) result new
 
--- A test of what is at a place is passed, or the parser refuses there.
+-- The test is passed, or the parser rejects a place.
 abbrev pub PassesOrRefuses : {X : Type 0} → Bool → CursorSource → Result X Stop → Type 0
 PassesOrRefuses passed s (Ok _) = passed ≡ true
 PassesOrRefuses passed s (Err (stops.Parser e)) = (passed ≡ false) × RefusesIn s.file s.size e.value

@@ -1,5 +1,5 @@
--- Reading of tokens from left to right. A reader takes the tokens to come, and gives what it has read
--- with the tokens after it, or nothing.
+-- Reading of tokens from left to right. A reader maps the remaining tokens to its result and the
+-- tokens after it, or to nothing.
 use Rattle.std.specs.Prelude.{Bool, false, ℕ, zero, suc, List, [], ◌∷◌, length, true, Option, Some, None, option_map, if◌then◌else◌}
 use Rattle.std.specs.Str.{bytes_eq}
 use Rattle.isle_base.specs.Token.{Tok, lparen, rparen, symbol, integer, at_sign, is_symbol}
@@ -63,22 +63,22 @@ abbrev pub is_some_that : (Tok → Bool) → Option Tok → Bool
 is_some_that passes None = false
 is_some_that passes (Some token) = passes token
 
--- whether a token is ahead that passes the test
+-- whether a token that passes the test is ahead
 abbrev pub is_ahead : (Tok → Bool) → List Placed → Bool
 is_ahead passes all = is_some_that passes (token_ahead all)
 
--- takes off a token
+-- takes a token
 abbrev pub take : Reader Tok
 take all = split_first all >>= λ x. Some (x.0.token, x.1)
 
 abbrev pub take_if : Bool → Reader Tok
 take_if is_wanted all = if is_wanted then take all else None
 
--- takes off a token that passes the test
+-- takes a token that passes the test
 abbrev pub expect : (Tok → Bool) → Reader Tok
 expect passes all = take_if (is_ahead passes all) all
 
--- takes off a symbol, for its text
+-- takes a symbol, for its text
 unfoldable pub text : Reader (List ℕ)
 text all = do
   x ← expect is_symbol all
@@ -109,11 +109,11 @@ pos_of (Some x) = x.0.pos
 abbrev pub pos_ahead : List Placed → Pos
 pos_ahead all = pos_of (split_first all)
 
--- takes off this word where it is ahead, and tells whether it was
+-- takes this word if it is ahead, and says whether it was
 unfoldable pub flag : List ℕ → Reader Bool
 flag word all = if is_ahead (is_symbol_of word) all then (take all >>= λ x. Some (true, x.1)) else Some (false, all)
 
--- `(`, what is read, `)`
+-- `(`, the reader's tokens, `)`
 unfoldable pub in_parentheses : {A : Type 0} → Reader A → Reader A
 in_parentheses read all = do
   inside ← expect is_lparen all
@@ -121,14 +121,14 @@ in_parentheses read all = do
   rest ← expect is_rparen x.1
   Some (x.0, rest.1)
 
--- what is read, and `)`
+-- the reader's tokens, and `)`
 unfoldable pub closed : {A : Type 0} → Reader A → Reader A
 closed read all = do
   x ← read all
   rest ← expect is_rparen x.1
   Some (x.0, rest.1)
 
--- one after another until `stop` holds, at most this many
+-- one after another until `stop` is true, at most this many
 unfoldable pub many_within : {A : Type 0} → ℕ → (List Placed → Bool) → Reader A → Reader (List A)
 many_within zero stop read all = None
 many_within (suc n) stop read all =
@@ -136,6 +136,6 @@ many_within (suc n) stop read all =
     then Some ([], all)
     else (read all >>= λ x. many_within n stop read x.1 >>= λ xs. Some (x.0 ∷ xs.0, xs.1))
 
--- one after another until `stop` holds
+-- one after another until `stop` is true
 unfoldable pub many : {A : Type 0} → (List Placed → Bool) → Reader A → Reader (List A)
 many stop read all = many_within (suc (length all)) stop read all

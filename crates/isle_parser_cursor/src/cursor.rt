@@ -1,4 +1,4 @@
-//! What is taken off the tokens of a text, one after another.
+//! A cursor over the tokens of a text.
 #![tactic(auto, unfolding(crate::specs::Reading::text, crate::specs::NumberReaders::integer_within, crate::specs::Reading::flag))]
 
 ghost use Rattle.std.specs.Prelude.{◌≡◌, ◌≢◌, ◌+◌, ◌<◌, ◌^◌, IfOk, IfSome, None, OnOk, Some};
@@ -25,16 +25,16 @@ use isle_base::lexer::{Fault, Pos};
 use isle_base::scanner::{Scanner, TokenRef};
 use std::alloc::{AllocError, AllocFailed, Global};
 
-/// The tokens that a lexer has still to give, which borrow their texts.
+/// The remaining tokens of a text, which borrow from it.
 ///
-/// It says why it refuses a token, and where; what the tokens mean is for those who read them.
+/// Its methods take tokens and report errors for them. The parser decides what the tokens mean.
 #[derive(Debug, Drop)]
 pub struct Cursor<'src> {
-    /// What gives the tokens.
+    /// The source of the tokens.
     pub scanner: Scanner<'src>,
-    /// Whether the default position is put in place of each.
+    /// Whether every position in the tree is the default position.
     pub disable_pos: bool,
-    /// Whether the token ahead is taken: the last one before a fault.
+    /// Whether the token ahead, which is the last before a fault, has been taken.
     pub is_spent: bool,
 }
 
@@ -50,12 +50,12 @@ impl<'src> Clone for Cursor<'src> {
     }
 }
 
-/// Why reading stops.
+/// Why parsing stops.
 #[derive(Drop)]
 pub enum Stop {
-    /// The parser refuses the tokens.
+    /// The parser rejects the tokens.
     Parser(Box<Error>),
-    /// Out of memory.
+    /// Memory ran out.
     Memory,
 }
 
@@ -76,7 +76,7 @@ impl<T: Drop> From<AllocFailed<T>> for Stop {
 }
 
 impl<'src> Cursor<'src> {
-    /// Tells whether the lexer had refused its text before this call.
+    /// Returns whether the lexer had failed before this call.
     pub fn is_failed(&self) -> bool
         ensures failed { result ≡ is_failed self.now.scanner }
         ensures rising { Rises 0 self.now.scanner.coming }
@@ -84,7 +84,7 @@ impl<'src> Cursor<'src> {
         self.scanner.peek().is_none() && !self.scanner.eof()
     }
 
-    /// Tells whether no token is ahead, and no fault.
+    /// Returns whether neither a token nor a fault is ahead.
     pub fn is_at_end(&self) -> bool
         requires { is_failed self.now.scanner ≡ false }
         ensures ends { result ≡ ends (tokens self.now) }
@@ -93,7 +93,7 @@ impl<'src> Cursor<'src> {
         self.scanner.eof()
     }
 
-    /// The token ahead that is left to take.
+    /// The token ahead, unless it has been taken.
     #[tactic(auto, unfolding(crate::specs::Outcomes::left))]
     pub fn ahead(&self) -> Option<&TokenRef<'src>>
         ensures { option_map (λ t. token_of_ref t.now) result ≡ token_ahead (left self.now) }
@@ -104,21 +104,19 @@ impl<'src> Cursor<'src> {
         self.scanner.peek().map(|(_, token)| token)
     }
 
-    /// Tells whether `(` is ahead.
     pub fn is_lparen(&self) -> bool
         ensures { result ≡ is_ahead is_lparen (left self.now) }
     {
         matches!(self.ahead(), Some(TokenRef::LParen))
     }
 
-    /// Tells whether `)` is ahead.
     pub fn is_rparen(&self) -> bool
         ensures { result ≡ is_ahead is_rparen (left self.now) }
     {
         matches!(self.ahead(), Some(TokenRef::RParen))
     }
 
-    /// Tells whether this word is ahead, as a symbol.
+    /// Returns whether this word is ahead, as a symbol.
     pub fn is_word(&self, word: &str) -> bool
         ensures { result ≡ is_ahead (is_symbol_of word.now) (left self.now) }
     {
@@ -128,28 +126,26 @@ impl<'src> Cursor<'src> {
         }
     }
 
-    /// Tells whether a symbol is ahead.
     pub fn is_sym(&self) -> bool
         ensures { result ≡ is_ahead is_symbol (left self.now) }
     {
         matches!(self.ahead(), Some(TokenRef::Symbol(_)))
     }
 
-    /// Tells whether an integer is ahead.
     pub fn is_int(&self) -> bool
         ensures { result ≡ is_ahead is_int (left self.now) }
     {
         matches!(self.ahead(), Some(TokenRef::Int(_)))
     }
 
-    /// Tells whether `@` is ahead.
+    /// Returns whether `@` is ahead.
     pub fn is_at(&self) -> bool
         ensures { result ≡ is_ahead is_at (left self.now) }
     {
         matches!(self.ahead(), Some(TokenRef::At))
     }
 
-    /// Tells whether a constant is ahead: a symbol that begins with `$`.
+    /// Returns whether a constant is ahead: a symbol that begins with `$`.
     pub fn is_const(&self) -> bool
         ensures { result ≡ is_ahead is_const (left self.now) }
     {
@@ -159,7 +155,7 @@ impl<'src> Cursor<'src> {
         }
     }
 
-    /// The position of the token ahead, as the tree has it.
+    /// The position of the token ahead for the tree.
     #[tactic(auto, unfolding(crate::specs::Outcomes::left))]
     pub fn pos(&self) -> Pos
         ensures { result ≡ pos_ahead (left self.now) }
@@ -173,7 +169,7 @@ impl<'src> Cursor<'src> {
         self.scanner.peek().map_or(Pos::default(), |(pos, _)| *pos)
     }
 
-    /// The position of the token ahead in the text. Where none is, that of the text's end or of the
+    /// The position of the token ahead in the text. With no token ahead, the end of the text or the
     /// fault.
     pub fn place(&self) -> Pos
         ensures place { IsPlace (source self.now) result }
@@ -185,7 +181,7 @@ impl<'src> Cursor<'src> {
         }
     }
 
-    /// Refuses the byte at this place, where there was memory for the message.
+    /// Rejects the byte at this place, or returns `Memory` if the message could not be built.
     pub fn refuse_at(&self, place: Pos, message: Result<String, AllocError>) -> Stop
         requires { IsPlace (source self.now) place }
         ensures { IsParserRefusal (source self.now) result }
@@ -193,14 +189,14 @@ impl<'src> Cursor<'src> {
         refuse(place, message)
     }
 
-    /// Refuses the token ahead, or the end.
+    /// Rejects the token ahead, or the end of the text.
     pub fn unexpected(&self, alloc: Global) -> Stop
         ensures { IsParserRefusal (source self.now) result }
     {
         refuse(self.place(), unexpected_message(alloc, self.ahead()))
     }
 
-    /// Takes off the token ahead.
+    /// Takes the token ahead.
     #[inline(always)]
     #[tactic(auto, unfolding(crate::specs::Outcomes::left))]
     pub fn take(&mut self, alloc: Global) -> Result<TokenRef<'src>, Stop>
@@ -216,8 +212,8 @@ impl<'src> Cursor<'src> {
         }
     }
 
-    /// Takes off the token ahead, which a fault follows, or tells that there is none. The scanner
-    /// stays where it is, since it hands out no token before a fault: `fault` asks for its error.
+    /// Takes the token ahead of a fault, or rejects the end of the text. The scanner is left alone,
+    /// since it returns no token before a fault; `fault` asks it for the error.
     #[inline(never)]
     #[tactic(auto, unfolding(crate::specs::Outcomes::left))]
     fn take_last(&mut self, alloc: Global) -> Result<TokenRef<'src>, Stop>
@@ -234,10 +230,10 @@ impl<'src> Cursor<'src> {
         Ok(token)
     }
 
-    /// Why the lexer refuses its text, where the last token before the fault is taken.
+    /// The lexer's error, if the last token before a fault has been taken.
     ///
-    /// `None` says that this one isn't taken, and leaves the cursor as it was. `Memory` comes where
-    /// there was no memory for the error.
+    /// Returns `None` and changes nothing if it has not been taken. Returns `Memory` if memory runs
+    /// out.
     pub fn fault(&mut self, alloc: Global) -> Option<Fault>
         ensures spent { IfSome result (λ _. self.old.is_spent ≡ true) }
         ensures at_fault { IfSome result (IfError (StandsAtFault (source self.old))) }
@@ -255,7 +251,7 @@ impl<'src> Cursor<'src> {
         }
     }
 
-    /// Takes off the token ahead where it is wanted, and refuses it otherwise.
+    /// Takes the token ahead if it is wanted, and rejects it otherwise.
     #[inline(always)]
     pub fn take_if(&mut self, alloc: Global, is_wanted: bool) -> Result<TokenRef<'src>, Stop>
         ensures reads { ReadsOff token_of_ref (take_if is_wanted) self.old result self.new }
@@ -267,7 +263,7 @@ impl<'src> Cursor<'src> {
         self.take(alloc)
     }
 
-    /// Takes off `(`.
+    /// Takes `(`.
     #[tactic(auto, using(crate::proofs::Expected::expected_lparen))]
     pub fn expect_lparen(&mut self, alloc: Global) -> Result<(), Stop>
         ensures { ReadsOff (λ _. lparen) (expect is_lparen) self.old result self.new }
@@ -277,7 +273,7 @@ impl<'src> Cursor<'src> {
         Ok(())
     }
 
-    /// Takes off `)`.
+    /// Takes `)`.
     #[tactic(auto, using(crate::proofs::Expected::expected_rparen))]
     pub fn expect_rparen(&mut self, alloc: Global) -> Result<(), Stop>
         ensures reads { ReadsOff (λ _. rparen) (expect is_rparen) self.old result self.new }
@@ -288,7 +284,7 @@ impl<'src> Cursor<'src> {
         Ok(())
     }
 
-    /// Takes off the closing parenthesis after a node, and returns the node.
+    /// Takes the closing parenthesis after a node, and returns the node.
     pub fn close<T: Drop>(&mut self, alloc: Global, node: T) -> Result<T, Stop>
         ensures reads { ReadsOff (λ _. rparen) (expect is_rparen) self.old result self.new }
         ensures kept { IfOk result (λ n. n ≡ node) }
@@ -298,7 +294,7 @@ impl<'src> Cursor<'src> {
         Ok(node)
     }
 
-    /// Takes off `@`.
+    /// Takes `@`.
     #[tactic(auto, using(crate::proofs::Expected::expected_at))]
     pub fn expect_at(&mut self, alloc: Global) -> Result<(), Stop>
         ensures { ReadsOff (λ _. at_sign) (expect is_at) self.old result self.new }
@@ -308,7 +304,7 @@ impl<'src> Cursor<'src> {
         Ok(())
     }
 
-    /// Takes off a symbol, and returns its text, not copied.
+    /// Takes a symbol, and returns its text without copying it.
     pub fn expect_word(&mut self, alloc: Global) -> Result<&'src str, Stop>
         ensures { ReadsOff (λ text. text.now) text self.old result self.new }
     {
@@ -319,7 +315,7 @@ impl<'src> Cursor<'src> {
         }
     }
 
-    /// Takes off a symbol, and returns a copy of its text.
+    /// Takes a symbol, and returns a copy of its text.
     pub fn expect_symbol(&mut self, alloc: Global) -> Result<String, Stop>
         ensures { ReadsOff string_bytes text self.old result self.new }
     {
@@ -327,7 +323,7 @@ impl<'src> Cursor<'src> {
         Ok(String::from_str(alloc, text)?)
     }
 
-    /// Takes off an integer.
+    /// Takes an integer.
     pub fn expect_int(&mut self, alloc: Global) -> Result<i128, Stop>
         ensures { ReadsOff (λ value. integer value) (expect is_int) self.old result self.new }
     {
@@ -338,7 +334,7 @@ impl<'src> Cursor<'src> {
         }
     }
 
-    /// An integer, which is always within an `i128`.
+    /// Parses an integer. Its value always fits an `i128`.
     pub fn parse_int(&mut self, alloc: Global) -> Result<i128, Stop>
         ensures { ReadsOff (λ value. value) (integer_within 127) self.old result self.new }
     {
@@ -346,7 +342,7 @@ impl<'src> Cursor<'src> {
         Ok(value)
     }
 
-    /// Takes off this word where it is ahead, and tells whether it was.
+    /// Takes this word if it is ahead, and returns whether it was.
     pub fn eat_sym_str(&mut self, alloc: Global, word: &str) -> Result<bool, Stop>
         ensures { ReadsOff (λ eaten. eaten) (flag word.now) self.old result self.new }
     {
@@ -358,14 +354,14 @@ impl<'src> Cursor<'src> {
     }
 }
 
-/// Tells whether the text begins with `$`.
+/// Returns whether the text begins with `$`.
 pub fn begins_constant(text: &str) -> bool
     ensures { result ≡ is_constant text.now }
 {
     text.starts_with('$')
 }
 
-/// The message about a token that is not expected, or about the end.
+/// The message for an unexpected token, or for the end of the text.
 fn unexpected_message(alloc: Global, token: Option<&TokenRef>) -> Result<String, AllocError> {
     match token {
         None => String::from_str(alloc, "Unexpected EOF"),
@@ -377,7 +373,7 @@ fn unexpected_message(alloc: Global, token: Option<&TokenRef>) -> Result<String,
     }
 }
 
-/// Refuses the byte at this place, where there was memory for the message.
+/// Rejects the byte at this place, or returns `Memory` if the message could not be built.
 fn refuse(place: Pos, message: Result<String, AllocError>) -> Stop
     requires { place.offset + 1 < 2 ^ 64 }
     ensures { IsRefusalAt place result }
@@ -388,7 +384,7 @@ fn refuse(place: Pos, message: Result<String, AllocError>) -> Stop
     }
 }
 
-/// Refuses the byte at this place with this message.
+/// Rejects the byte at this place with this message.
 fn refuse_with(place: Pos, msg: String) -> Stop
     requires { place.offset + 1 < 2 ^ 64 }
     ensures { IsRefusalAt place result }

@@ -1,5 +1,5 @@
-//! What the parser takes off the tokens: single tokens, numbers and names. The readers of specs,
-//! rules and definitions stand on it.
+//! The part of the parser that takes tokens from a text: single tokens, numbers and names. The
+//! parsers of specs, rules and definitions build on it.
 #![tactic(auto)]
 
 pub mod cursor;

@@ -1,8 +1,8 @@
--- What is read, after what was read before.
+-- The node that is read, after the nodes read before.
 use Rattle.std.specs.Prelude.{List, [], ◌∷◌, ◌++◌, Some}
 use Rattle.isle_parser_cursor.specs.Reading.{Reader, ◌>>=◌}
 
--- one node more, after these
+-- one more node after these
 unfoldable pub appended : {A : Type 0} → Reader A → List A → Reader (List A)
 appended read front all = do
   x ← read all

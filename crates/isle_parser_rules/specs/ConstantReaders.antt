@@ -1,10 +1,10 @@
--- Reading of the names of constants.
+-- Readers of names of constants.
 use Rattle.std.specs.Prelude.{[], ℕ, List, ◌∷◌, ◌==◌, Option, Some, None, if◌then◌else◌}
 use Rattle.isle_ast_names.specs.Tree.{Name}
 use Rattle.isle_parser_cursor.specs.Reading.{Reader, ◌>>=◌}
 use Rattle.isle_parser_cursor.specs.NameReaders.{name}
 
--- the name of a constant, after its `$`
+-- the name of a constant without its `$`
 abbrev pub behind_dollar : Name → Option Name
 behind_dollar n = without_dollar n.text
   where

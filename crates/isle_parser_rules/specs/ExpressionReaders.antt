@@ -1,4 +1,4 @@
--- Reading of expressions: the right sides of rules.
+-- Readers of expressions, the right-hand sides of rules.
 use Rattle.std.specs.Prelude.{ℕ, zero, suc, List, length, true, false, Some, None, if◌then◌else◌, codes}
 use Rattle.isle_base_source.specs.declared.pos.Pos.{Pos}
 use Rattle.isle_base.specs.Token.{is_int, is_symbol}
@@ -23,7 +23,7 @@ let_definition read all = in_parentheses (let_inside (pos_ahead all) read) all
 unfoldable pub let_definitions : Reader Expression → Reader (List SingleLet)
 let_definitions read = in_parentheses (many at_rparen (let_definition read))
 
--- what follows the word `let`. The `(` before it is at this place.
+-- the rest after the word `let`. The `(` before it is at this place.
 unfoldable pub let_behind : Pos → Reader Expression → Reader Expression
 let_behind place read all = do
   ds ← let_definitions read all
@@ -37,7 +37,7 @@ term_behind place read all = do
   xs ← many at_rparen read n.1
   Some (term_expression n.0 (expression_list_of xs.0) place, xs.1)
 
--- `let` or a term, and what follows it. The `(` is at this place.
+-- `let` or a term, and the rest after it. The `(` is at this place.
 unfoldable pub expression_inside : Pos → Reader Expression → Reader Expression
 expression_inside place read all = do
   word ← flag (codes "let") all

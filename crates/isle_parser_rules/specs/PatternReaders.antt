@@ -1,4 +1,4 @@
--- Reading of patterns: the left sides of rules.
+-- Readers of patterns, the left-hand sides of rules.
 use Rattle.std.specs.Prelude.{ℕ, zero, suc, List, Bool, ◌||◌, length, true, false, Option, Some, None, if◌then◌else◌, codes}
 use Rattle.isle_base_source.specs.declared.pos.Pos.{Pos}
 use Rattle.isle_base.specs.Place.{Placed}
@@ -19,7 +19,7 @@ pattern_inside place read all = do
       then (many at_rparen read word.1 >>= λ ps. Some (and_pattern (pattern_list_of ps.0) place, ps.1))
       else (name word.1 >>= λ n. many at_rparen read n.1 >>= λ ps. Some (term_pattern n.0 (pattern_list_of ps.0) place, ps.1))
 
--- `(`, and `and` or the name of a term: no name where it is `and`
+-- `(`, and `and`, which gives no name, or the name of a term
 unfoldable pub pattern_head : Reader (Option Name)
 pattern_head all = do
   inside ← expect is_lparen all

@@ -1,4 +1,4 @@
--- The parts of a rule's right side, as the code has them.
+-- The parts of a rule's right-hand side, as code has them.
 use Rattle.isle_ast_rules.specs.TreeView.{condition_of, expression_of}
 use Rattle.isle_parser_rules.specs.declared.rules.IfLetOrExpr.{IfLetOrExpr}
 use Rattle.isle_parser_rules.specs.RuleReaders.{RulePart, condition_part, expression_part}

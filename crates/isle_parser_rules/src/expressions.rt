@@ -1,4 +1,4 @@
-//! Expressions: what a rule or a condition computes.
+//! Expressions of rules and conditions.
 #![tactic(auto, unfolding(crate::specs::ExpressionReaders::integer_expression, crate::specs::ExpressionReaders::symbol_expression, crate::specs::ExpressionReaders::word_expression, crate::specs::ExpressionReaders::false_expression, crate::specs::ExpressionReaders::variable_expression, crate::specs::ExpressionReaders::expression_inside, crate::specs::ExpressionReaders::let_behind, crate::specs::ExpressionReaders::term_behind, isle_parser_cursor::specs::Reading::closed, crate::specs::ExpressionReaders::let_definitions, isle_parser_cursor::specs::Reading::in_parentheses, crate::specs::ExpressionReaders::let_definition, crate::specs::ExpressionReaders::let_inside))]
 
 ghost use Rattle.std.specs.Prelude.{◌≡◌, ◌++◌, [], ◌∷◌, IfErr, IfOk};
@@ -18,8 +18,8 @@ use isle_base::lexer::Pos;
 use isle_parser_cursor::cursor::{Cursor, Stop};
 use std::alloc::Global;
 
-// How deep a nest goes is bound by the frames of this ring. So what is no part of the recursion has
-// a frame of its own, and a frame holds few nodes.
+// The frames of this cycle limit the depth of nesting. So all that does not recurse is in functions
+// of its own, and a frame holds few nodes.
 
 #[cycle(expression)]
 #[tactic(auto, using(crate::proofs::ExpressionParts::expression_is), unfolding(crate::specs::ExpressionReaders::expression_layer, crate::specs::ExpressionReaders::integer_expression, crate::specs::ExpressionReaders::expression_inside, crate::specs::ExpressionReaders::let_behind, crate::specs::ExpressionReaders::term_behind, isle_parser_cursor::specs::Reading::in_parentheses, isle_parser_cursor::specs::Reading::closed))]
@@ -43,7 +43,7 @@ pub(super) fn parse_expr(cursor: &mut Cursor, alloc: Global) -> Result<Expr, Sto
     Err(refuse_expr(cursor, alloc))
 }
 
-/// An expression that is an integer, at this position.
+/// Parses an integer as an expression at this position.
 #[inline(never)]
 fn parse_expr_int(cursor: &mut Cursor, alloc: Global, pos: Pos) -> Result<Expr, Stop>
     ensures { ReadsOff expression_of (integer_expression pos) cursor.old result cursor.new }
@@ -52,7 +52,7 @@ fn parse_expr_int(cursor: &mut Cursor, alloc: Global, pos: Pos) -> Result<Expr, 
     Ok(Expr::ConstInt { val, pos })
 }
 
-/// Refuses what is no expression.
+/// Rejects a token that begins no expression.
 #[inline(never)]
 fn refuse_expr(cursor: &Cursor, alloc: Global) -> Stop
     ensures { IsParserRefusal (source cursor.now) result }
@@ -63,7 +63,7 @@ fn refuse_expr(cursor: &Cursor, alloc: Global) -> Stop
     )
 }
 
-/// An expression that is a symbol, at this position.
+/// Parses a symbol as an expression at this position.
 #[inline(never)]
 fn parse_expr_symbol(cursor: &mut Cursor, alloc: Global, pos: Pos) -> Result<Expr, Stop>
     ensures { ReadsOff expression_of (symbol_expression pos) cursor.old result cursor.new }
@@ -82,7 +82,8 @@ fn parse_expr_symbol(cursor: &mut Cursor, alloc: Global, pos: Pos) -> Result<Exp
     Ok(Expr::Var { name, pos })
 }
 
-/// `let` or a term, what follows it, and `)`. The `(` is at this position.
+/// Parses a `let` or a term after its `(`, up to and including the `)`. The `(` is at this
+/// position.
 #[inline(never)]
 pub(super) fn parse_expr_behind_lparen(
     cursor: &mut Cursor,
@@ -98,7 +99,7 @@ pub(super) fn parse_expr_behind_lparen(
     parse_term(cursor, alloc, pos)
 }
 
-/// A term's name, its arguments, and `)`. The `(` is at this position.
+/// Parses a term's name, its arguments, and `)`. The `(` is at this position.
 #[cycle(expression)]
 #[inline(never)]
 fn parse_term(cursor: &mut Cursor, alloc: Global, pos: Pos) -> Result<Expr, Stop>
@@ -111,7 +112,7 @@ fn parse_term(cursor: &mut Cursor, alloc: Global, pos: Pos) -> Result<Expr, Stop
     Ok(Expr::Term { sym, args, pos })
 }
 
-/// The definitions of a `let`, its expression, and `)`. The `(` is at this position.
+/// Parses the definitions and the body of a `let`, and `)`. The `(` is at this position.
 #[cycle(expression)]
 #[inline(never)]
 fn parse_let(cursor: &mut Cursor, alloc: Global, pos: Pos) -> Result<Expr, Stop>
@@ -125,7 +126,7 @@ fn parse_let(cursor: &mut Cursor, alloc: Global, pos: Pos) -> Result<Expr, Stop>
     Ok(Expr::Let { defs, body, pos })
 }
 
-/// An expression in memory of its own.
+/// Moves an expression to the heap.
 #[inline(never)]
 fn boxed(alloc: Global, expr: Expr) -> Result<Box<Expr>, Stop>
     ensures boxed { IfOk result (λ b. b.value ≡ expr) }
@@ -134,7 +135,7 @@ fn boxed(alloc: Global, expr: Expr) -> Result<Box<Expr>, Stop>
     Ok(Box::new(alloc, expr)?)
 }
 
-/// Expressions, up to the closing parenthesis.
+/// Parses expressions, up to the closing parenthesis.
 #[cycle(expression)]
 #[inline(always)]
 fn parse_exprs(cursor: &mut Cursor, alloc: Global) -> Result<Vec<Expr>, Stop>
@@ -149,7 +150,6 @@ fn parse_exprs(cursor: &mut Cursor, alloc: Global) -> Result<Vec<Expr>, Stop>
     Ok(exprs)
 }
 
-/// Appends an expression.
 #[inline(never)]
 fn push_expr(exprs: &mut Vec<Expr>, expr: Expr) -> Result<(), Stop>
     ensures items { IfOk result (λ _. exprs.new.items ≡ exprs.old.items ++ expr ∷ []) }
@@ -159,7 +159,7 @@ fn push_expr(exprs: &mut Vec<Expr>, expr: Expr) -> Result<(), Stop>
     Ok(())
 }
 
-/// The definitions of a `let`, in parentheses.
+/// Parses the definitions of a `let`, in parentheses.
 #[cycle(expression)]
 #[inline(never)]
 fn parse_letdefs(cursor: &mut Cursor, alloc: Global) -> Result<Vec<LetDef>, Stop>
@@ -171,7 +171,7 @@ fn parse_letdefs(cursor: &mut Cursor, alloc: Global) -> Result<Vec<LetDef>, Stop
     cursor.close(alloc, defs)
 }
 
-/// Definitions, up to the closing parenthesis.
+/// Parses definitions, up to the closing parenthesis.
 #[cycle(expression)]
 fn parse_letdef_list(cursor: &mut Cursor, alloc: Global) -> Result<Vec<LetDef>, Stop>
     ensures { ReadsOff (λ ds. single_lets_of ds.items) (many at_rparen (let_definition expression))

@@ -1,4 +1,4 @@
-//! The parser of the rules of ISLE: patterns, expressions, conditions, rules and extractors.
+//! The parser of ISLE's rules: patterns, expressions, conditions, rules and extractors.
 #![tactic(auto)]
 
 mod expressions;

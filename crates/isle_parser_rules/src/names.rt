@@ -14,7 +14,7 @@ use isle_ast_names::Ident;
 use isle_parser_cursor::cursor::{Cursor, Stop, begins_constant};
 use std::alloc::Global;
 
-/// The name of a constant, without its `$`.
+/// Parses the name of a constant, and drops its `$`.
 pub fn parse_const(cursor: &mut Cursor, alloc: Global) -> Result<Ident, Stop>
     ensures { ReadsOff name_of constant cursor.old result cursor.new }
 {
@@ -29,7 +29,7 @@ pub fn parse_const(cursor: &mut Cursor, alloc: Global) -> Result<Ident, Stop>
     ))
 }
 
-/// What follows the `$`, in the memory of the whole text.
+/// Removes the `$`, in the memory of the whole text.
 fn behind_dollar(mut text: String) -> String
     requires { is_constant (string_bytes text) ≡ true }
     ensures { string_bytes text ≡ dollar ∷ string_bytes result }
@@ -38,7 +38,7 @@ fn behind_dollar(mut text: String) -> String
     text
 }
 
-/// Takes off `@`, out of the frame of its caller.
+/// Takes `@`, outside of the caller's frame.
 #[inline(never)]
 pub(super) fn take_at(cursor: &mut Cursor, alloc: Global) -> Result<(), Stop>
     ensures { ReadsOff (λ _. at_sign) (expect is_at) cursor.old result cursor.new }

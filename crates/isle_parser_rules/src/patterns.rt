@@ -1,4 +1,4 @@
-//! Patterns: what a rule, a condition or an extractor matches.
+//! Patterns of rules, conditions and extractors.
 #![tactic(auto, unfolding(crate::specs::PatternReaders::integer_pattern, crate::specs::PatternReaders::symbol_pattern, crate::specs::PatternReaders::word_pattern, crate::specs::PatternReaders::true_pattern, crate::specs::PatternReaders::false_pattern, crate::specs::PatternReaders::variable_pattern, crate::specs::PatternReaders::pattern_head, crate::specs::Appended::appended))]
 
 ghost use Rattle.std.specs.Prelude.{◌≡◌, ◌++◌, [], ◌∷◌, IfErr, IfOk};
@@ -19,8 +19,8 @@ use isle_base::lexer::Pos;
 use isle_parser_cursor::cursor::{Cursor, Stop};
 use std::alloc::Global;
 
-// How deep a nest goes is bound by the frames of this ring. So what is no part of the recursion has
-// a frame of its own, and a frame holds few nodes.
+// The frames of this cycle limit the depth of nesting. So all that does not recurse is in functions
+// of its own, and a frame holds few nodes.
 
 #[cycle(pattern)]
 #[tactic(auto, using(crate::proofs::PatternParts::pattern_is, crate::proofs::PatternParts::variable_is), unfolding(crate::specs::PatternReaders::pattern_layer, crate::specs::PatternReaders::integer_pattern))]
@@ -43,7 +43,7 @@ pub(super) fn parse_pattern(cursor: &mut Cursor, alloc: Global) -> Result<Patter
     Err(refuse_pattern(cursor, alloc))
 }
 
-/// A pattern that is an integer, at this position.
+/// Parses an integer as a pattern at this position.
 #[inline(never)]
 fn parse_pattern_int(cursor: &mut Cursor, alloc: Global, pos: Pos) -> Result<Pattern, Stop>
     ensures { ReadsOff pattern_of (integer_pattern pos) cursor.old result cursor.new }
@@ -52,7 +52,7 @@ fn parse_pattern_int(cursor: &mut Cursor, alloc: Global, pos: Pos) -> Result<Pat
     Ok(Pattern::ConstInt { val, pos })
 }
 
-/// Refuses what is no pattern.
+/// Rejects a token that begins no pattern.
 #[inline(never)]
 fn refuse_pattern(cursor: &Cursor, alloc: Global) -> Stop
     ensures { IsParserRefusal (source cursor.now) result }
@@ -63,14 +63,14 @@ fn refuse_pattern(cursor: &Cursor, alloc: Global) -> Stop
     )
 }
 
-/// Tells whether a constant, `_`, `true` or `false` is ahead. Any other symbol is a variable.
+/// Returns whether a constant, `_`, `true` or `false` is ahead. Any other symbol is a variable.
 fn is_fixed(cursor: &Cursor) -> bool
     ensures { result ≡ is_fixed (left cursor.now) }
 {
     cursor.is_const() || cursor.is_word("_") || cursor.is_word("true") || cursor.is_word("false")
 }
 
-/// A pattern that begins with a symbol, at this position.
+/// Parses a pattern that begins with a symbol at this position.
 #[cycle(pattern)]
 #[inline(never)]
 fn parse_pattern_symbol(cursor: &mut Cursor, alloc: Global, pos: Pos) -> Result<Pattern, Stop>
@@ -92,7 +92,7 @@ fn parse_pattern_symbol(cursor: &mut Cursor, alloc: Global, pos: Pos) -> Result<
     parse_pattern_variable(cursor, alloc, pos)
 }
 
-/// A variable, and after `@` what it is bound to.
+/// Parses a variable, and after `@` the pattern that it is bound to.
 #[cycle(pattern)]
 #[inline(never)]
 fn parse_pattern_variable(cursor: &mut Cursor, alloc: Global, pos: Pos) -> Result<Pattern, Stop>
@@ -108,7 +108,7 @@ fn parse_pattern_variable(cursor: &mut Cursor, alloc: Global, pos: Pos) -> Resul
     Ok(Pattern::BindPattern { var, subpat, pos })
 }
 
-/// A pattern in memory of its own.
+/// Moves a pattern to the heap.
 #[inline(never)]
 fn boxed(alloc: Global, pattern: Pattern) -> Result<Box<Pattern>, Stop>
     ensures boxed { IfOk result (λ b. b.value ≡ pattern) }
@@ -117,7 +117,7 @@ fn boxed(alloc: Global, pattern: Pattern) -> Result<Box<Pattern>, Stop>
     Ok(Box::new(alloc, pattern)?)
 }
 
-/// `and` or a term, and patterns, in parentheses. The `(` is at this position.
+/// Parses an `and` or a term with its patterns, in parentheses. The `(` is at this position.
 #[cycle(pattern)]
 #[inline(never)]
 #[tactic(auto, using(crate::proofs::PatternParts::group_is), unfolding(crate::specs::PatternReaders::pattern_group))]
@@ -131,7 +131,7 @@ fn parse_pattern_parens(cursor: &mut Cursor, alloc: Global, pos: Pos) -> Result<
     Ok(group(sym, args, pos))
 }
 
-/// `(`, and `and` or the name of a term: no name where it is `and`.
+/// Parses `(`, then `and`, which returns `None`, or the name of a term.
 #[inline(never)]
 fn parse_pattern_head(cursor: &mut Cursor, alloc: Global) -> Result<Option<Ident>, Stop>
     ensures { ReadsOff optional_name_of pattern_head cursor.old result cursor.new }
@@ -144,7 +144,7 @@ fn parse_pattern_head(cursor: &mut Cursor, alloc: Global) -> Result<Option<Ident
     Ok(Some(sym))
 }
 
-/// These patterns after the name of a term, or after `and`.
+/// The node of these patterns after the name of a term, or after `and`.
 fn group(sym: Option<Ident>, patterns: Vec<Pattern>, pos: Pos) -> Pattern
     ensures { pattern_of result
         ≡ group_node pos (optional_name_of sym) (patterns_of patterns.items) }
@@ -162,7 +162,7 @@ fn group(sym: Option<Ident>, patterns: Vec<Pattern>, pos: Pos) -> Pattern
     }
 }
 
-/// Patterns, up to the closing parenthesis.
+/// Parses patterns, up to the closing parenthesis.
 #[cycle(pattern)]
 #[inline(always)]
 fn parse_patterns(cursor: &mut Cursor, alloc: Global) -> Result<Vec<Pattern>, Stop>
@@ -176,7 +176,7 @@ fn parse_patterns(cursor: &mut Cursor, alloc: Global) -> Result<Vec<Pattern>, St
     Ok(patterns)
 }
 
-/// A pattern, which is appended to these.
+/// Parses a pattern, and appends it to these.
 #[cycle(pattern)]
 #[inline(never)]
 #[tactic(auto, using(crate::proofs::PatternParts::group_ahead), unfolding(crate::specs::PatternReaders::pattern_group, crate::specs::Appended::appended))]
@@ -198,7 +198,7 @@ fn append_pattern(
     push_group(patterns, sym, args, pos)
 }
 
-/// The same, of a pattern that is mostly not in parentheses.
+/// As `append_pattern`, for a pattern that is usually not in parentheses.
 #[cycle(pattern)]
 #[inline(never)]
 fn append_single_pattern(

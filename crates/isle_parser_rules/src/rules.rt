@@ -18,16 +18,16 @@ use isle_base::lexer::Pos;
 use isle_parser_cursor::cursor::{Cursor, Stop};
 use std::alloc::Global;
 
-/// A part of a rule's right side.
+/// A part of a rule's right-hand side.
 #[derive(Drop)]
 enum IfLetOrExpr {
     /// A condition.
     IfLet(IfLet),
-    /// The expression, which is last.
+    /// The expression, which comes last.
     Expr(Expr),
 }
 
-/// What follows the keyword `extractor`.
+/// Parses an extractor after its keyword.
 pub fn parse_etor(cursor: &mut Cursor, alloc: Global) -> Result<Extractor, Stop>
     ensures { ReadsOff extractor_of extractor_definition cursor.old result cursor.new }
 {
@@ -42,7 +42,7 @@ pub fn parse_etor(cursor: &mut Cursor, alloc: Global) -> Result<Extractor, Stop>
     })
 }
 
-/// What follows the keyword `rule`.
+/// Parses a rule after its keyword.
 pub fn parse_rule(cursor: &mut Cursor, alloc: Global) -> Result<Rule, Stop>
     ensures { ReadsOff rule_of rule_definition cursor.old result cursor.new }
 {
@@ -62,8 +62,7 @@ pub fn parse_rule(cursor: &mut Cursor, alloc: Global) -> Result<Rule, Stop>
     })
 }
 
-/// The priority of a rule, where an integer is ahead. What follows the keyword is at this
-/// place.
+/// Parses the priority of a rule if an integer is ahead. The token after the keyword is at `place`.
 fn parse_priority(cursor: &mut Cursor, alloc: Global, place: Pos) -> Result<Option<i64>, Stop>
     requires { IsPlace (source cursor.old) place }
     ensures { ReadsOff (λ n. n) priority cursor.old result cursor.new }
@@ -81,7 +80,7 @@ fn parse_priority(cursor: &mut Cursor, alloc: Global, place: Pos) -> Result<Opti
     }
 }
 
-/// The conditions of a rule, and the expression after them.
+/// Parses the conditions of a rule, and the expression after them.
 fn parse_iflets_and_expr(cursor: &mut Cursor, alloc: Global) -> Result<(Vec<IfLet>, Expr), Stop>
     ensures { ReadsOff (λ r. (conditions_of r.0.items, expression_of r.1)) right_side cursor.old
         result cursor.new }
@@ -106,8 +105,8 @@ fn parse_iflet_or_expr(cursor: &mut Cursor, alloc: Global) -> Result<IfLetOrExpr
     parse_iflet_or_expr_behind_lparen(cursor, alloc, pos)
 }
 
-/// What a condition or an expression has in its parentheses, and `)`. The `(` is at this
-/// position.
+/// Parses a condition or an expression after its `(`, up to and including the `)`. The `(` is at
+/// this position.
 #[tactic(auto, using(crate::proofs::ClosedParts::part_behind), unfolding(crate::specs::RuleReaders::match_or_expression, crate::specs::RuleReaders::test_or_expression, isle_parser_cursor::specs::Reading::closed))]
 fn parse_iflet_or_expr_behind_lparen(
     cursor: &mut Cursor,
@@ -127,7 +126,7 @@ fn parse_iflet_or_expr_behind_lparen(
     parse_expr_part(cursor, alloc, pos)
 }
 
-/// What an expression has in its parentheses, and `)`. The `(` is at this position.
+/// Parses an expression after its `(`, up to and including the `)`. The `(` is at this position.
 fn parse_expr_part(cursor: &mut Cursor, alloc: Global, pos: Pos) -> Result<IfLetOrExpr, Stop>
     ensures { ReadsOff part_of (expression_behind pos) cursor.old result cursor.new }
 {
@@ -144,7 +143,8 @@ fn parse_iflet(cursor: &mut Cursor, alloc: Global) -> Result<IfLet, Stop>
     Ok(IfLet { pattern, expr, pos })
 }
 
-/// A condition that is an expression alone. Its pattern is a wildcard at the expression's position.
+/// Parses a condition of an expression only. Its pattern is a wildcard at the expression's
+/// position.
 fn parse_iflet_if(cursor: &mut Cursor, alloc: Global) -> Result<IfLet, Stop>
     ensures { ReadsOff condition_of condition_test cursor.old result cursor.new }
 {

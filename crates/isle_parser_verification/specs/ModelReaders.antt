@@ -1,4 +1,4 @@
--- Reading of the models of types.
+-- Readers of models of types.
 use Rattle.std.specs.Prelude.{[], ℕ, zero, suc, ◌^◌, ℤ, pos, negsuc, List, ◌∷◌, length, Option, Some, None, nat_lt, if◌then◌else◌, codes}
 use Rattle.std.specs.Str.{bytes_eq}
 use Rattle.isle_base.specs.Place.{Placed}
@@ -8,7 +8,7 @@ use Rattle.isle_ast_verification.specs.Tree.{TypeModel, unspecified_model, auto_
 use Rattle.isle_parser_cursor.specs.Reading.{Reader, ◌>>=◌, is_lparen, is_ahead, expect, text, token_ahead, flag, at_rparen, in_parentheses, many}
 use Rattle.isle_parser_cursor.specs.NameReaders.{name}
 
--- the number of a token that a `usize` holds
+-- the number of a token, if it fits a `usize`
 abbrev pub number_of_integer : ℤ → Option ℕ
 number_of_integer (pos n) = if nat_lt n (2 ^ 64) then Some n else None
 number_of_integer (negsuc n) = None
@@ -54,13 +54,13 @@ struct_inside read all = do
       then (many at_rparen (in_parentheses (model_field_inside read)) word.1 >>= λ fs. Some (struct_model (model_fields fs.0), fs.1))
       else named_inside word.1
 
--- `bv`, `struct` or `named`, and what follows the word
+-- `bv`, `struct` or `named`, and the rest of the model
 unfoldable pub model_inside : Reader TypeModel → Reader TypeModel
 model_inside read all = do
   word ← flag (codes "bv") all
   if word.0 then (width word.1 >>= λ n. Some (bit_vector_model n.0, n.1)) else struct_inside read word.1
 
--- the model that a symbol means
+-- the model of a symbol
 abbrev pub model_of_word : List ℕ → Option TypeModel
 model_of_word word =
     if bytes_eq word (codes "!") then Some unspecified_model
@@ -81,7 +81,7 @@ abbrev pub model_of_ahead : Option Tok → Option TypeModel
 model_of_ahead None = None
 model_of_ahead (Some token) = model_of_token token
 
--- the model that the word ahead means
+-- the model of the word ahead
 abbrev pub model_ahead : List Placed → Option TypeModel
 model_ahead all = model_of_ahead (token_ahead all)
 

@@ -7,7 +7,7 @@ use Rattle.isle_ast_verification.specs.Tree.{field_spec, discriminator_spec, op_
 use Rattle.isle_ast_verification.specs.Tree.{more_spec, ArmList, no_arm, more_arm, SpecLetList, no_spec_let, more_spec_let, FieldInitList, no_field_init, more_field_init}
 use Rattle.isle_parser_cursor.specs.Positions.{OfName, OfNames, OfOptionalName}
 
--- a model of a type has the positions of its names alone
+-- a model of a type has only the positions of its names
 abbrev mutual
   pub OfModel : (Pos → Type 0) → TypeModel → Type 0
   OfModel P unspecified_model = Unit {0}

@@ -1,5 +1,4 @@
--- Reading of the definitions that are made of spec expressions: what follows the keywords `spec`,
--- `macro` and `state`.
+-- Readers of definitions made of spec expressions, after the keywords `spec`, `macro` and `state`.
 use Rattle.std.specs.Prelude.{ℕ, List, Some, None, if◌then◌else◌, codes}
 use Rattle.std.specs.Str.{bytes_eq}
 use Rattle.isle_ast_verification.specs.Tree.{SpecNode, ModifiedState, SpecDefinition, SpecMacroDefinition, StateDefinition}
@@ -9,14 +8,14 @@ use Rattle.isle_parser_verification.specs.ModelReaders.{tagged_type}
 use Rattle.isle_parser_cursor.specs.NameReaders.{name, optional_name, head_inside}
 use Rattle.isle_parser_verification.specs.SpecReaders.{spec_expression}
 
--- a state, and the name of a condition where there is one
+-- a state, and the name of a condition if there is one
 unfoldable pub modified_state : Reader ModifiedState
 modified_state all = do
   state ← name all
   cond ← optional_name state.1
   Some (record { state = state.0; cond = cond.0 }, cond.1)
 
--- what follows the word of a clause
+-- the rest of a clause after its word
 unfoldable pub behind_clause_word : List ℕ → Reader SpecClause
 behind_clause_word word all =
     if bytes_eq word (codes "provide") then (many at_rparen spec_expression all >>= λ xs. Some (provide_clause xs.0, xs.1))
@@ -33,7 +32,7 @@ clause_inside all = do
 unfoldable pub clause : Reader SpecClause
 clause = in_parentheses clause_inside
 
--- what clauses say, joined by kind
+-- the contents of clauses, joined by kind
 pub record Joined : Type 0 where
   pub provides : List SpecNode
   pub requires_ : List SpecNode

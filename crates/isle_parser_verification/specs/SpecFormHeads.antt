@@ -1,4 +1,4 @@
--- The heads that the code tells apart, as pure values, and what a call makes of a text.
+-- The heads that code distinguishes, as pure values, and the results of functions on a text.
 use Rattle.std.specs.Prelude.{◌≡◌, Option, Some, None, Result, Ok, Err, string_bytes}
 use Rattle.isle_parser_cursor.specs.Outcomes.{CursorSource, RefusesIn}
 use Rattle.isle_parser_verification.specs.SpecWords.{SpecHead, switch_head, let_head, with_head, match_head, struct_head, macro_head, as_head, discriminator_head, expansion_head, operator_head, field_head, variant_head}
@@ -21,7 +21,8 @@ head_view (heads.Operator operator) = operator_head operator
 head_view (heads.Field field) = field_head (string_bytes field)
 head_view (heads.Variant enum case) = variant_head (string_bytes enum) (string_bytes case)
 
--- What a call made of a text, seen by view, is what was found. Where the parser refuses the text, nothing was.
+-- The result for a text, as seen by `view`, is the one that was found. If the parser rejects the
+-- text, nothing was found.
 abbrev pub GivesOrRefuses : {X Y : Type 0} → (X → Y) → Option Y → CursorSource → Result X Stop → Type 0
 GivesOrRefuses view found s (Ok x) = found ≡ Some (view x)
 GivesOrRefuses view found s (Err (stops.Parser e)) = (found ≡ None) × RefusesIn s.file s.size e.value

@@ -1,4 +1,5 @@
--- What the code reads apart: the cases of a `switch`, and the clauses of a spec as pure values.
+-- The parts that code reads separately: the cases of a `switch`, and the clauses of a spec as pure
+-- values.
 use Rattle.std.specs.Prelude.{List, ◌∷◌, Some, map}
 use Rattle.isle_ast_verification.specs.TreeView.{modified_of, specs_of}
 use Rattle.isle_ast_verification.specs.Tree.{SpecNode}
@@ -10,7 +11,7 @@ use Rattle.isle_parser_verification.specs.SpecDefinitionReaders.{Joined}
 use Rattle.isle_parser_verification.specs.SpecReaders.{spec_expression, spec_pair}
 use Rattle.isle_parser_verification.specs.declared.spec_definitions.Clause.TheVariants as clauses
 
--- the cases of a `switch`, after what it looks at
+-- the cases of a `switch`, after its subject
 abbrev pub cases_behind : SpecNode → Reader (List SpecNode)
 cases_behind subject all = many at_rparen (spec_pair spec_expression) all >>= λ cases. Some (subject ∷ cases.0, cases.1)
 

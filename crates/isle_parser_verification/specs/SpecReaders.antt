@@ -1,4 +1,4 @@
--- Reading of spec expressions.
+-- Readers of spec expressions.
 use Rattle.std.specs.Prelude.{ℕ, zero, suc, List, ◌∷◌, length, Some, None, if◌then◌else◌}
 use Rattle.isle_base_source.specs.declared.pos.Pos.{Pos}
 use Rattle.isle_base.specs.Token.{is_int, is_symbol}
@@ -22,7 +22,7 @@ spec_pair_inside read all = do
 unfoldable pub spec_pair : Reader SpecNode → Reader SpecNode
 spec_pair read = in_parentheses (spec_pair_inside read)
 
--- an arm of a `match`: a variant with names for its fields, and an expression
+-- an arm of a `match`: a variant with names of its fields, and an expression
 unfoldable pub arm_inside : Reader SpecNode → Reader SingleArm
 arm_inside read all = do
   head ← in_parentheses head_inside all
@@ -55,7 +55,7 @@ field_init_inside read all = do
 unfoldable pub field_init : Reader SpecNode → Reader SingleFieldInit
 field_init read = in_parentheses (field_init_inside read)
 
--- What follows a head, which is at `place`. The `(` before it is at `start`.
+-- The rest after a head, which is at `place`. The `(` before it is at `start`.
 unfoldable pub behind_spec_head : Reader SpecNode → (start place : Pos) → SpecHead → Reader SpecNode
 behind_spec_head read start place switch_head all =
     read all >>= λ x. many at_rparen (spec_pair read) x.1 >>= λ ps. Some (op_spec op.Switch (spec_list_of (x.0 ∷ ps.0)) start, ps.1)
@@ -82,7 +82,7 @@ behind_spec_head read start place (field_head field) all =
 behind_spec_head read start place (variant_head enum case) all =
     many at_rparen read all >>= λ xs. Some (enum_spec (record { text = enum; pos = start }) (record { text = case; pos = start }) (spec_list_of xs.0) start, xs.1)
 
--- a head and what follows it. The `(` is at this place.
+-- a head and the rest after it. The `(` is at this place.
 unfoldable pub spec_inside : Pos → Reader SpecNode → Reader SpecNode
 spec_inside start read all = do
   word ← text all

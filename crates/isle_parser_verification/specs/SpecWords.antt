@@ -1,4 +1,4 @@
--- What a symbol says where a spec expression begins: as the head after a `(`, or by itself.
+-- Symbols at the start of a spec expression: heads after a `(`, and symbols by themselves.
 use Rattle.std.specs.Prelude.{◌≡◌, ℕ, ◌*◌, ◌^◌, List, [], ◌++◌, ◌∷◌, length, Bool, true, false, ◌&&◌, ◌||◌, ◌==◌, Option, Some, None, option_map, map, nat_lt, not, if◌then◌else◌, filter, codes}
 use Rattle.std.specs.Char.{digit_value}
 use Rattle.std.specs.List.{list_all}
@@ -47,13 +47,13 @@ IsHead (variant_head enum case) text =
     × (is_operator_text text ≡ false)
     × (text ≡ enum ++ 46 ∷ case)
 
--- what follows this mark, where the text begins with it
+-- the rest after this mark, if the text begins with it
 abbrev pub behind_mark : List ℕ → List ℕ → Option (List ℕ)
 behind_mark [] text = Some text
 behind_mark (m ∷ mark) [] = None
 behind_mark (m ∷ mark) (x ∷ text) = if x == m then behind_mark mark text else None
 
--- the bytes before the last one, where that is this byte
+-- the bytes before the last one, if that is this byte
 abbrev pub before_last : ℕ → List ℕ → Option (List ℕ)
 before_last byte [] = None
 before_last byte (x ∷ []) = if x == byte then Some [] else None
@@ -65,7 +65,7 @@ split_at_mark byte [] = None
 split_at_mark byte (x ∷ text) =
     if x == byte then Some ([], text) else option_map (λ parts. (x ∷ parts.0, parts.1)) (split_at_mark byte text)
 
--- an operator after its text
+-- an operator paired with its text
 abbrev pub named_row : SpecOp → List ℕ × SpecOp
 named_row operator = (operator_text operator, operator)
 
@@ -74,11 +74,11 @@ abbrev pub in_table : List (List ℕ × SpecOp) → List ℕ → Option SpecOp
 in_table [] text = None
 in_table (row ∷ rows) text = if bytes_eq text row.0 then Some row.1 else in_table rows text
 
--- The operator of this text. It is not `switch`, which is a head of its own.
+-- The operator with this text. `switch`, which has a head of its own, is not among them.
 unfoldable pub operator_of : List ℕ → Option SpecOp
 operator_of = in_table (map named_row (filter is_plain_operator operators))
 
--- the head that one of these words is
+-- the head of one of these words
 unfoldable pub keyword_head : List ℕ → Option SpecHead
 keyword_head text =
     if bytes_eq text (codes "switch") then Some switch_head
@@ -90,11 +90,11 @@ keyword_head text =
     else (if bytes_eq text (codes "as") then Some as_head
     else None))))))
 
--- whether this text begins as a bit vector does
+-- whether this text begins like a bit vector
 abbrev pub begins_bit_vector : List ℕ → Bool
 begins_bit_vector text = is_some (behind_mark (codes "#b") text) || is_some (behind_mark (codes "#x") text)
 
--- the head that a text is that is none of these words: the first of these. A bit vector is none.
+-- the head of a text other than these words: the first that fits. A bit vector has none
 unfoldable pub other_head : List ℕ → Option SpecHead
 other_head text =
     if begins_bit_vector text then None
@@ -104,7 +104,7 @@ other_head text =
     (option_or (option_map field_head (behind_mark (codes ":") text))
     (option_map (λ names. variant_head names.0 names.1) (split_at_mark 46 text))))))
 
--- the head that this text is, whatever the names in it are
+-- the head of this text, with any names in it
 unfoldable pub head_word : List ℕ → Option SpecHead
 head_word text = option_or (keyword_head text) (other_head text)
 
@@ -116,12 +116,12 @@ are_identifiers (field_head field) = is_identifier field
 are_identifiers (variant_head enum case) = is_identifier enum && is_identifier case
 are_identifiers _ = true
 
--- this head, where the names in it are identifiers
+-- this head, if the names in it are identifiers
 unfoldable pub identified : Option SpecHead → Option SpecHead
 identified None = None
 identified (Some head) = if are_identifiers head then Some head else None
 
--- the head that this text is
+-- the head of this text
 unfoldable pub head_of : List ℕ → Option SpecHead
 head_of text = identified (head_word text)
 
@@ -134,7 +134,7 @@ abbrev pub is_numeral : ℕ → List ℕ → Bool
 is_numeral radix [] = false
 is_numeral radix (byte ∷ text) = are_all_digits radix (byte ∷ text)
 
--- the value and the width that these digits write, where they are within their types
+-- the value and the width of these digits, if they fit their types
 unfoldable pub bit_vector_of : (radix bits : ℕ) → List ℕ → Option (ℕ × ℕ)
 bit_vector_of radix bits digits =
     if is_numeral radix (without_leading_plus digits)

@@ -1,4 +1,4 @@
--- Structs of models, as the code reads them: a field is in its list before the struct that is
+-- Structs in models, as code reads them: a field is appended to its list before the struct that is
 -- its model is read.
 use Rattle.std.specs.Prelude.{◌≡◌, ◌<◌, Bool, true, false, List, [], ◌∷◌, ◌++◌, map, length, Option, Some, None, Result, Ok, Err, if◌then◌else◌, codes}
 use Rattle.isle_base.specs.Place.{Placed}
@@ -52,14 +52,14 @@ inside_front all = do
   word ← flag (codes "bv") all
   if word.0 then whole bit_vector word.1 else struct_front word.1
 
--- a model that is no struct, or `(struct`, for which there is none
+-- a model that is not a struct, or `(struct`, for which there is none
 unfoldable pub model_front : Reader (Option TypeModel)
 model_front all =
     if is_ahead is_lparen all
     then (expect is_lparen all >>= λ inside. inside_front inside.1)
     else (model_word all >>= λ ty. Some (Some ty.0, ty.1))
 
--- ---- what is left after it
+-- ---- the rest after it
 
 -- the fields of a struct, and `)`
 unfoldable pub struct_rest : Reader TypeModel
@@ -68,12 +68,12 @@ struct_rest all = do
   rest ← expect is_rparen fs.1
   Some (struct_model (model_fields fs.0), rest.1)
 
--- nothing of a model that is read whole, and all of a struct after `(struct`
+-- nothing for a model that is complete, and the whole struct after `(struct`
 abbrev pub model_rest : Option TypeModel → Reader TypeModel
 model_rest None all = struct_rest all
 model_rest (Some ty) all = Some (ty, all)
 
--- a field, its name and the front of its model first
+-- a field: its name and the front of its model first
 unfoldable pub field_in_parts : Reader (Name × TypeModel)
 field_in_parts all = do
   inside ← expect is_lparen all
@@ -90,15 +90,14 @@ field_rest n all = do
   rest ← both_closed fs.1
   Some ((n, struct_model (model_fields fs.0)), rest.1)
 
--- nothing of a field that is read whole, and else all after `(struct`
+-- nothing for a field that is complete, and else the rest after `(struct`
 abbrev pub begun_rest : Bool → ModelField → Reader (Name × TypeModel)
 begun_rest false f all = Some (field_of f, all)
 begun_rest true f all = field_rest (name_of f.name) all
 
--- ---- what is in the list
+-- ---- the list of fields
 
--- One field more is in the list. What there was to read is what is left of it, after what was
--- read.
+-- One more field is in the list. The reader's result is that of the rest, after the field.
 abbrev pub BeginsField : Result Bool Stop → List ModelField → List Placed → List ModelField → Cursor → Type 0
 BeginsField (Ok is_open) before all after new =
     (f : ModelField)
@@ -107,7 +106,7 @@ BeginsField (Ok is_open) before all after new =
     × (length (left new) < length all)
 BeginsField (Err e) before all after new = Stops (field all) (source new) e
 
--- One field more is in the list, and it is the one that was read.
+-- One more field is in the list, and it is the one that was read.
 abbrev pub AppendsField : {X : Type 0} → Result X Stop → List ModelField → List Placed → List ModelField → Cursor → Type 0
 AppendsField (Ok _) before all after new =
     (f : Name × TypeModel)

@@ -1,5 +1,4 @@
-//! The parser of the specs of ISLE: models of types, spec expressions, and the definitions made of
-//! them.
+//! The parser of ISLE's specs: models of types, spec expressions, and the definitions made of them.
 #![tactic(auto)]
 
 pub mod models;

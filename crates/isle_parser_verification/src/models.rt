@@ -22,10 +22,10 @@ use isle_base::scanner::TokenRef;
 use isle_parser_cursor::cursor::{Cursor, Stop};
 use std::alloc::Global;
 
-// How deep a nest goes is bound by the frames of one ring: the fields of a struct, and one field.
-// So a field is in its list before its struct is read, and all else has a frame of its own.
+// The frames of one cycle limit the depth of nesting: a struct's fields, and one field. So a field
+// is appended to its list before its struct is parsed, and all else is in functions of its own.
 
-/// A model of a type.
+/// Parses a model of a type.
 #[tactic(auto, using(crate::proofs::StructParts::front_is), unfolding(crate::specs::StructParts::struct_rest))]
 pub fn parse_model_type(cursor: &mut Cursor, alloc: Global) -> Result<ModelType, Stop>
     ensures { ReadsOff type_model_of model_type cursor.old result cursor.new }
@@ -40,7 +40,7 @@ pub fn parse_model_type(cursor: &mut Cursor, alloc: Global) -> Result<ModelType,
     }
 }
 
-/// A model that is no struct, or `(struct`, which gives `None`.
+/// Parses a model that is not a struct, or `(struct`, which returns `None`.
 #[inline(never)]
 fn parse_model_front(cursor: &mut Cursor, alloc: Global) -> Result<Option<ModelType>, Stop>
     ensures reads { ReadsOff (option_map type_model_of) model_front cursor.old result cursor.new }
@@ -65,7 +65,7 @@ fn parse_model_front(cursor: &mut Cursor, alloc: Global) -> Result<Option<ModelT
     Ok(Some(ty))
 }
 
-/// The model that the word ahead means.
+/// The model that the word ahead stands for.
 fn model_ahead(cursor: &Cursor) -> Option<ModelType>
     ensures { option_map type_model_of result ≡ model_ahead (left cursor.now) }
 {
@@ -82,7 +82,7 @@ fn model_ahead(cursor: &Cursor) -> Option<ModelType>
     }
 }
 
-/// A model that is one word.
+/// Parses a model that is a single word.
 #[inline(never)]
 fn parse_model_word(cursor: &mut Cursor, alloc: Global) -> Result<ModelType, Stop>
     ensures { ReadsOff type_model_of model_word cursor.old result cursor.new }
@@ -103,7 +103,7 @@ fn parse_model_word(cursor: &mut Cursor, alloc: Global) -> Result<ModelType, Sto
     }
 }
 
-/// `named`, and the name after it. The model's `(` is at this place.
+/// Parses `named` and the name after it. The model's `(` is at `place`.
 #[inline(never)]
 fn parse_model_named(cursor: &mut Cursor, alloc: Global, place: Pos) -> Result<ModelType, Stop>
     requires { IsPlace (source cursor.old) place }
@@ -122,7 +122,7 @@ fn parse_model_named(cursor: &mut Cursor, alloc: Global, place: Pos) -> Result<M
     ))
 }
 
-/// The number of bits of a bit vector, if it is known. The model's `(` is at this place.
+/// Parses the width in bits of a bit vector, if there is one. The model's `(` is at `place`.
 #[inline(never)]
 fn parse_width(cursor: &mut Cursor, alloc: Global, place: Pos) -> Result<Option<usize>, Stop>
     requires { IsPlace (source cursor.old) place }
@@ -147,7 +147,7 @@ fn parse_width(cursor: &mut Cursor, alloc: Global, place: Pos) -> Result<Option<
     }
 }
 
-/// The fields of a struct, up to the closing parenthesis.
+/// Parses the fields of a struct, up to the closing parenthesis.
 #[cycle(model_fields)]
 #[inline(always)]
 fn parse_model_fields(cursor: &mut Cursor, alloc: Global) -> Result<Vec<ModelField>, Stop>
@@ -161,7 +161,7 @@ fn parse_model_fields(cursor: &mut Cursor, alloc: Global) -> Result<Vec<ModelFie
     Ok(fields)
 }
 
-/// A field, which is appended to these.
+/// Parses a field, and appends it to these.
 #[cycle(model_fields)]
 #[inline(never)]
 fn append_model_field(
@@ -180,7 +180,7 @@ fn append_model_field(
     Ok(())
 }
 
-/// Appends a field whose model is no struct, or the front of one up to `(struct`: tells which.
+/// Appends a field whose model is not a struct, or the start of one up to `(struct`. Returns which.
 #[inline(never)]
 #[tactic(auto, using(crate::proofs::StructParts::field_is), unfolding(crate::specs::StructParts::field_in_parts))]
 fn begin_model_field(
@@ -207,7 +207,6 @@ fn begin_model_field(
     }
 }
 
-/// Appends a field.
 #[inline(never)]
 fn push_model_field(fields: &mut Vec<ModelField>, name: Ident, ty: ModelType) -> Result<(), Stop>
     ensures items { IfOk result (λ _. fields.new.items
@@ -218,7 +217,8 @@ fn push_model_field(fields: &mut Vec<ModelField>, name: Ident, ty: ModelType) ->
     Ok(())
 }
 
-/// The end of a field whose model is a struct of these fields: the last one of its list gets them.
+/// Parses the end of a field whose model is a struct with these fields, and sets the model of the
+/// last field of the list.
 #[inline(never)]
 fn end_model_field(
     cursor: &mut Cursor,
@@ -235,7 +235,7 @@ fn end_model_field(
     set_last_model(fields, ModelType::Struct(inner))
 }
 
-/// Puts this model in the place of that of the last field.
+/// Replaces the model of the last field.
 fn set_last_model(fields: &mut Vec<ModelField>, ty: ModelType) -> Result<(), Stop>
     ensures items { IfOk result (λ _.
         HasModel fields.old.items fields.new.items ty) }
@@ -247,7 +247,7 @@ fn set_last_model(fields: &mut Vec<ModelField>, ty: ModelType) -> Result<(), Sto
     Ok(())
 }
 
-/// Models after this word, in parentheses.
+/// Parses models after this word, in parentheses.
 pub fn parse_tagged_types(
     cursor: &mut Cursor,
     alloc: Global,
@@ -268,7 +268,7 @@ pub fn parse_tagged_types(
     cursor.close(alloc, params)
 }
 
-/// Models, up to the closing parenthesis.
+/// Parses models, up to the closing parenthesis.
 fn parse_model_types(cursor: &mut Cursor, alloc: Global) -> Result<Vec<ModelType>, Stop>
     ensures { ReadsOff (λ tys. map type_model_of tys.items) (many at_rparen model_type) cursor.old
         result cursor.new }
@@ -280,7 +280,7 @@ fn parse_model_types(cursor: &mut Cursor, alloc: Global) -> Result<Vec<ModelType
     Ok(params)
 }
 
-/// A model after this word, in parentheses.
+/// Parses a model after this word, in parentheses.
 pub fn parse_tagged_type(cursor: &mut Cursor, alloc: Global, tag: &str) -> Result<ModelType, Stop>
     ensures { ReadsOff type_model_of (tagged_type tag.now) cursor.old result cursor.new }
 {

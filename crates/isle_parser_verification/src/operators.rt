@@ -1,8 +1,7 @@
 //! The operators of spec expressions, by their texts.
 //!
-//! The operators stand by the length of their texts, and in the order of the type. So a text is
-//! compared with those of its own length alone. `switch`, which is a head of its own, is none of
-//! them.
+//! The tables are by the length of the text, in the order of the type, so a text is compared only
+//! with those of its own length. `switch` has syntax of its own, and is in no table.
 #![tactic(auto, unfolding(crate::specs::OperatorRows::rows_of_length))]
 
 ghost use Rattle.std.specs.Prelude.{◌≡◌, map};
@@ -11,7 +10,7 @@ ghost use Rattle.isle_parser_verification.specs.SpecWords.{in_table, operator_of
 
 use isle_ast_verification::SpecOp;
 
-/// The operators whose texts have one byte.
+/// The operators of one byte.
 const OF_ONE: [(&str, SpecOp); 6] = [
     ("=", SpecOp::Eq),
     ("+", SpecOp::Add),
@@ -21,7 +20,7 @@ const OF_ONE: [(&str, SpecOp); 6] = [
     (">", SpecOp::Gt),
 ];
 
-/// The operators whose texts have two bytes.
+/// The operators of two bytes.
 const OF_TWO: [(&str, SpecOp); 5] = [
     ("or", SpecOp::Or),
     ("=>", SpecOp::Imp),
@@ -30,7 +29,7 @@ const OF_TWO: [(&str, SpecOp); 5] = [
     ("if", SpecOp::If),
 ];
 
-/// The operators whose texts have three bytes.
+/// The operators of three bytes.
 const OF_THREE: [(&str, SpecOp); 5] = [
     ("and", SpecOp::And),
     ("not", SpecOp::Not),
@@ -39,14 +38,14 @@ const OF_THREE: [(&str, SpecOp); 5] = [
     ("rev", SpecOp::Rev),
 ];
 
-/// The operators whose texts have four bytes.
+/// The operators of four bytes.
 const OF_FOUR: [(&str, SpecOp); 3] = [
     ("bvor", SpecOp::BVOr),
     ("rotr", SpecOp::Rotr),
     ("rotl", SpecOp::Rotl),
 ];
 
-/// The operators whose texts have five bytes.
+/// The operators of five bytes.
 const OF_FIVE: [(&str, SpecOp); 23] = [
     ("bvnot", SpecOp::BVNot),
     ("bvand", SpecOp::BVAnd),
@@ -73,7 +72,7 @@ const OF_FIVE: [(&str, SpecOp); 23] = [
     ("to_fp", SpecOp::ToFP),
 ];
 
-/// The operators whose texts have six bytes.
+/// The operators of six bytes.
 const OF_SIX: [(&str, SpecOp); 20] = [
     ("bvudiv", SpecOp::BVUdiv),
     ("bvurem", SpecOp::BVUrem),
@@ -97,7 +96,7 @@ const OF_SIX: [(&str, SpecOp); 20] = [
     ("bv2nat", SpecOp::BV2Nat),
 ];
 
-/// The operators whose texts have seven bytes.
+/// The operators of seven bytes.
 const OF_SEVEN: [(&str, SpecOp); 6] = [
     ("bvsaddo", SpecOp::BVSaddo),
     ("extract", SpecOp::Extract),
@@ -107,7 +106,7 @@ const OF_SEVEN: [(&str, SpecOp); 6] = [
     ("widthof", SpecOp::WidthOf),
 ];
 
-/// The operators whose texts have eight bytes.
+/// The operators of eight bytes.
 const OF_EIGHT: [(&str, SpecOp); 7] = [
     ("zero_ext", SpecOp::ZeroExt),
     ("sign_ext", SpecOp::SignExt),
@@ -118,7 +117,7 @@ const OF_EIGHT: [(&str, SpecOp); 7] = [
     ("fp.isNaN", SpecOp::FPIsNaN),
 ];
 
-/// The operators whose texts have nine bytes.
+/// The operators of nine bytes.
 const OF_NINE: [(&str, SpecOp); 4] = [
     ("replicate", SpecOp::Replicate),
     ("fp.isZero", SpecOp::FPIsZero),
@@ -126,10 +125,10 @@ const OF_NINE: [(&str, SpecOp); 4] = [
     ("fp.to_sbv", SpecOp::FPToSBV),
 ];
 
-/// The operators whose texts have ten bytes.
+/// The operators of ten bytes.
 const OF_TEN: [(&str, SpecOp); 1] = [("fp.nearest", SpecOp::FPNearest)];
 
-/// The operators whose texts have thirteen bytes.
+/// The operators of thirteen bytes.
 const OF_THIRTEEN: [(&str, SpecOp); 4] = [
     ("fp.isInfinite", SpecOp::FPIsInfinite),
     ("fp.isNegative", SpecOp::FPIsNegative),
@@ -137,10 +136,10 @@ const OF_THIRTEEN: [(&str, SpecOp); 4] = [
     ("to_fp_from_fp", SpecOp::ToFPFromFP),
 ];
 
-/// The operators whose texts have fourteen bytes.
+/// The operators of fourteen bytes.
 const OF_FOURTEEN: [(&str, SpecOp); 1] = [("to_fp_unsigned", SpecOp::ToFPUnsigned)];
 
-/// The operators whose texts have so many bytes.
+/// The operators of `len` bytes.
 fn of_length(len: usize) -> &'static [(&'static str, SpecOp)]
     ensures { map (λ row. (row.0.now, row.1)) result.now ≡ rows_of_length len }
 {
@@ -161,7 +160,7 @@ fn of_length(len: usize) -> &'static [(&'static str, SpecOp)]
     }
 }
 
-/// The operator of this text.
+/// The operator with this text.
 #[tactic(auto, using(crate::proofs::Words::Lengths::found_by_length))]
 pub(super) fn operator_of(text: &str) -> Option<SpecOp>
     ensures { result ≡ operator_of text.now }

@@ -1,4 +1,4 @@
-//! What is said for verification: specs of terms, macros of spec expressions, and states.
+//! Definitions for verification: specs of terms, macros of spec expressions, and states.
 #![tactic(auto, unfolding(crate::specs::SpecDefinitionReaders::spec_definition, crate::specs::SpecDefinitionReaders::clause, crate::specs::SpecDefinitionReaders::clause_inside, isle_parser_cursor::specs::Reading::in_parentheses, crate::specs::SpecDefinitionReaders::behind_clause_word, crate::specs::SpecDefinitionReaders::modified_state, crate::specs::SpecDefinitionReaders::spec_macro_definition, crate::specs::SpecDefinitionReaders::state_definition, crate::specs::SpecDefinitionReaders::default_inside))]
 
 ghost use Rattle.isle_ast_verification.specs.TreeView.{modified_of, spec_definition_of};
@@ -24,30 +24,30 @@ use std::alloc::Global;
 /// A clause of a spec.
 #[derive(Drop)]
 enum Clause {
-    /// What the term provides.
+    /// A `provide` clause.
     Provide(Vec<SpecExpr>),
-    /// What it requires.
+    /// A `require` clause.
     Require(Vec<SpecExpr>),
-    /// Where it matches.
+    /// A `match` clause.
     Match(Vec<SpecExpr>),
-    /// What it changes.
+    /// A `modifies` clause.
     Modifies(Modifies),
 }
 
-/// The clauses of a spec, joined by kind.
+/// The clauses of a spec, grouped by kind.
 #[derive(Drop)]
 struct Clauses {
-    /// What the term provides.
+    /// The expressions of all `provide` clauses.
     provides: Vec<SpecExpr>,
-    /// What it requires.
+    /// The expressions of all `require` clauses.
     requires_: Vec<SpecExpr>,
-    /// Where it matches.
+    /// The expressions of all `match` clauses.
     matches: Vec<SpecExpr>,
-    /// What it changes.
+    /// The states that the term modifies.
     modifies: Vec<Modifies>,
 }
 
-/// What follows the keyword `spec`.
+/// Parses a spec after its keyword.
 pub fn parse_spec(cursor: &mut Cursor, alloc: Global) -> Result<Spec, Stop>
     ensures { ReadsOff spec_definition_of spec_definition cursor.old result cursor.new }
 {
@@ -66,7 +66,7 @@ pub fn parse_spec(cursor: &mut Cursor, alloc: Global) -> Result<Spec, Stop>
     })
 }
 
-/// Clauses, up to the closing parenthesis. What follows the keyword is at this place.
+/// Parses clauses, up to the closing parenthesis. The token after the spec's keyword is at `place`.
 fn parse_clauses(cursor: &mut Cursor, alloc: Global, place: Pos) -> Result<Clauses, Stop>
     requires { IsPlace (source cursor.old) place }
     ensures { ReadsOff joined_of joined_clauses cursor.old result cursor.new }
@@ -91,7 +91,7 @@ fn parse_clauses(cursor: &mut Cursor, alloc: Global, place: Pos) -> Result<Claus
     })
 }
 
-/// A clause. What follows the keyword of its spec is at this place.
+/// Parses a clause. The token after the spec's keyword is at `place`.
 fn parse_clause(cursor: &mut Cursor, alloc: Global, place: Pos) -> Result<Clause, Stop>
     requires { IsPlace (source cursor.old) place }
     ensures { ReadsOff clause_of clause cursor.old result cursor.new }
@@ -102,8 +102,7 @@ fn parse_clause(cursor: &mut Cursor, alloc: Global, place: Pos) -> Result<Clause
     cursor.close(alloc, clause)
 }
 
-/// What follows the word of a clause. What follows the keyword of its spec is at this
-/// place.
+/// Parses a clause after its first word. The token after the spec's keyword is at `place`.
 fn parse_behind_clause_word(
     cursor: &mut Cursor,
     alloc: Global,
@@ -128,7 +127,7 @@ fn parse_behind_clause_word(
     }
 }
 
-/// A state, and the name of a condition where there is one.
+/// Parses a state, and the name of a condition if there is one.
 fn parse_modifies(cursor: &mut Cursor, alloc: Global, place: Pos) -> Result<Modifies, Stop>
     requires { IsPlace (source cursor.old) place }
     ensures { ReadsOff modified_of modified_state cursor.old result cursor.new }
@@ -138,7 +137,7 @@ fn parse_modifies(cursor: &mut Cursor, alloc: Global, place: Pos) -> Result<Modi
     Ok(Modifies { state, cond })
 }
 
-/// What follows the keyword `macro`.
+/// Parses a macro after its keyword.
 pub fn parse_spec_macro(cursor: &mut Cursor, alloc: Global) -> Result<SpecMacro, Stop>
     ensures { ReadsOff spec_macro_of spec_macro_definition cursor.old result cursor.new }
 {
@@ -153,7 +152,7 @@ pub fn parse_spec_macro(cursor: &mut Cursor, alloc: Global) -> Result<SpecMacro,
     })
 }
 
-/// What follows the keyword `state`.
+/// Parses a state after its keyword.
 pub fn parse_state(cursor: &mut Cursor, alloc: Global) -> Result<State, Stop>
     ensures { ReadsOff state_of state_definition cursor.old result cursor.new }
 {
@@ -169,7 +168,7 @@ pub fn parse_state(cursor: &mut Cursor, alloc: Global) -> Result<State, Stop>
     })
 }
 
-/// The value of a state where nothing changes it, in parentheses.
+/// Parses the default value of a state, in parentheses.
 fn parse_default(cursor: &mut Cursor, alloc: Global) -> Result<SpecExpr, Stop>
     ensures { ReadsOff spec_of (in_parentheses default_inside) cursor.old result cursor.new }
 {

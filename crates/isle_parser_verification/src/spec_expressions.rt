@@ -1,4 +1,4 @@
-//! Spec expressions: what specs, macros, states and models say.
+//! Spec expressions, which are parts of specs, macros, states and models.
 #![tactic(auto, unfolding(crate::specs::SpecReaders::behind_spec_head, crate::specs::SpecReaders::spec_pair, crate::specs::SpecReaders::spec_pair_inside, isle_parser_cursor::specs::Reading::in_parentheses, crate::specs::SpecReaders::spec_lets, crate::specs::SpecReaders::spec_let, crate::specs::SpecReaders::spec_let_inside, crate::specs::SpecReaders::arm, crate::specs::SpecReaders::arm_inside, isle_parser_cursor::specs::NameReaders::head_inside, crate::specs::SpecReaders::field_init, crate::specs::SpecReaders::field_init_inside))]
 
 ghost use Rattle.std.specs.Prelude.{string_bytes};
@@ -27,7 +27,7 @@ use isle_base::lexer::Pos;
 use isle_parser_cursor::cursor::{Cursor, Stop};
 use std::alloc::Global;
 
-/// A spec expression.
+/// Parses a spec expression.
 #[cycle(spec)]
 #[tactic(auto, using(crate::proofs::Reading::Parts::spec_is), unfolding(crate::specs::SpecReaders::spec_layer, isle_parser_cursor::specs::Reading::in_parentheses))]
 pub fn parse_spec_expr(cursor: &mut Cursor, alloc: Global) -> Result<SpecExpr, Stop>
@@ -50,8 +50,8 @@ pub fn parse_spec_expr(cursor: &mut Cursor, alloc: Global) -> Result<SpecExpr, S
     Err(cursor.refuse_at(place, String::from_str(alloc, "Unexpected spec expression")))
 }
 
-/// A head, and what follows it. The `(` is at this place, whose position in the tree is
-/// `start`.
+/// Parses a head and the rest of its expression. The `(` is at `place`, and its position in the
+/// tree is `start`.
 #[cycle(spec)]
 #[tactic(auto, using(crate::proofs::Reading::Parts::inside_by_head))]
 fn parse_spec_inside(
@@ -68,7 +68,8 @@ fn parse_spec_inside(
     parse_behind_spec_head(cursor, alloc, start, pos, head)
 }
 
-/// What follows this head, whose position is `pos`. That of the `(` before it is `start`.
+/// Parses the rest of an expression after this head. The head's position is `pos`, and that of the
+/// `(` before it is `start`.
 #[cycle(spec)]
 fn parse_behind_spec_head(
     cursor: &mut Cursor,
@@ -110,7 +111,7 @@ fn parse_switch(cursor: &mut Cursor, alloc: Global, start: Pos) -> Result<SpecEx
     })
 }
 
-/// The cases of a `switch`, up to the closing parenthesis, after what it looks at.
+/// Parses the cases of a `switch` after its subject, up to the closing parenthesis.
 #[cycle(spec)]
 fn parse_cases(cursor: &mut Cursor, alloc: Global, subject: SpecExpr) -> Result<Vec<SpecExpr>, Stop>
     ensures { ReadsOff (λ xs. specs_of xs.items) (cases_behind (spec_of subject)) cursor.old result
@@ -149,7 +150,7 @@ fn parse_spec_let(cursor: &mut Cursor, alloc: Global, start: Pos) -> Result<Spec
     })
 }
 
-/// The definitions of a `let`, in parentheses.
+/// Parses the definitions of a `let`, in parentheses.
 #[cycle(spec)]
 fn parse_spec_letdefs(cursor: &mut Cursor, alloc: Global) -> Result<Vec<(Ident, SpecExpr)>, Stop>
     ensures { ReadsOff (λ ds. single_spec_lets_of ds.items) (spec_lets spec_expression) cursor.old
@@ -160,7 +161,7 @@ fn parse_spec_letdefs(cursor: &mut Cursor, alloc: Global) -> Result<Vec<(Ident, 
     cursor.close(alloc, defs)
 }
 
-/// Definitions, up to the closing parenthesis.
+/// Parses definitions, up to the closing parenthesis.
 #[cycle(spec)]
 fn parse_spec_letdef_list(
     cursor: &mut Cursor,
@@ -214,7 +215,7 @@ fn parse_match(cursor: &mut Cursor, alloc: Global, start: Pos) -> Result<SpecExp
     })
 }
 
-/// The arms of a `match`, up to the closing parenthesis.
+/// Parses the arms of a `match`, up to the closing parenthesis.
 #[cycle(spec)]
 fn parse_arms(cursor: &mut Cursor, alloc: Global) -> Result<Vec<Arm>, Stop>
     ensures { ReadsOff (λ arms. single_arms_of arms.items) (many at_rparen (arm spec_expression))
@@ -255,7 +256,7 @@ fn parse_spec_struct(cursor: &mut Cursor, alloc: Global, start: Pos) -> Result<S
     Ok(SpecExpr::Struct { fields, pos: start })
 }
 
-/// The fields of a `struct`, up to the closing parenthesis.
+/// Parses the fields of a `struct`, up to the closing parenthesis.
 #[cycle(spec)]
 fn parse_field_inits(cursor: &mut Cursor, alloc: Global) -> Result<Vec<FieldInit>, Stop>
     ensures { ReadsOff (λ fs. single_field_inits_of fs.items) (many at_rparen (field_init
@@ -399,7 +400,7 @@ fn parse_variant(
     })
 }
 
-/// Spec expressions, up to the closing parenthesis.
+/// Parses spec expressions, up to the closing parenthesis.
 #[cycle(spec)]
 pub(super) fn parse_spec_exprs(cursor: &mut Cursor, alloc: Global) -> Result<Vec<SpecExpr>, Stop>
     ensures { ReadsOff (λ xs. specs_of xs.items) (many at_rparen spec_expression) cursor.old result

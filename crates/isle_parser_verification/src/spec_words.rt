@@ -1,5 +1,5 @@
-//! Single symbols of spec expressions: the heads after a `(`, and the words that are expressions
-//! by themselves.
+//! Single symbols in spec expressions: heads after a `(`, and words that are expressions by
+//! themselves.
 #![tactic(auto, unfolding(crate::specs::SpecWords::head_of, crate::specs::SpecWords::identified, crate::specs::SpecReaders::spec_word, crate::specs::SpecWords::word_of, crate::specs::SpecWords::binary_or_other, crate::specs::SpecWords::bit_vector_at, crate::specs::SpecWords::hexadecimal_or_plain, crate::specs::SpecWords::plain_word, crate::specs::SpecWords::head_word, crate::specs::SpecWords::keyword_head, crate::specs::SpecWords::other_head, crate::specs::SpecWords::bit_vector_of))]
 
 ghost use Rattle.std.specs.Prelude.{◌≡◌, ◌≤◌, ◌<◌, IfOk, None, Some, codes, option_map};
@@ -22,7 +22,7 @@ use isle_base::lexer::Pos;
 use isle_parser_cursor::cursor::{Cursor, Stop};
 use std::alloc::{AllocError, Global};
 
-/// The first word in parentheses, with the names in it.
+/// The head of an expression in parentheses: its first word, with the names in it.
 #[derive(Drop)]
 pub(super) enum Head {
     /// `switch`
@@ -47,11 +47,11 @@ pub(super) enum Head {
     Operator(SpecOp),
     /// `:field`, without its `:`
     Field(String),
-    /// `name.variant`, parted at its first dot
+    /// `name.variant`, split at its first dot
     Variant(String, String),
 }
 
-/// The head that the symbol ahead is. The `(` before it is at `start`.
+/// Parses the head of an expression. The `(` before it is at `start`.
 pub(super) fn parse_spec_head(cursor: &mut Cursor, alloc: Global, start: Pos) -> Result<Head, Stop>
     requires { IsPlace (source cursor.old) start }
     ensures { ReadsOff head_view spec_head cursor.old result cursor.new }
@@ -64,7 +64,7 @@ pub(super) fn parse_spec_head(cursor: &mut Cursor, alloc: Global, start: Pos) ->
     spec_head(cursor, alloc, start, place, word)
 }
 
-/// The head that this word is, which is at `place`. The names of a variant are at the `(`.
+/// The head that this word is. The word is at `place`, and the names of a variant are at the `(`.
 fn spec_head(
     cursor: &Cursor,
     alloc: Global,
@@ -85,7 +85,7 @@ fn spec_head(
     }
 }
 
-/// Refuses the names in a head that are no identifiers.
+/// Rejects a head if a name in it is not an identifier.
 fn check_names(
     cursor: &Cursor,
     alloc: Global,
@@ -109,7 +109,7 @@ fn check_names(
     }
 }
 
-/// Refuses the spec expression that begins at this place.
+/// Rejects the spec expression that begins at this place.
 fn unexpected_spec(cursor: &Cursor, alloc: Global, place: Pos) -> Stop
     requires { IsPlace (source cursor.now) place }
     ensures { IsParserRefusal (source cursor.now) result }
@@ -117,7 +117,7 @@ fn unexpected_spec(cursor: &Cursor, alloc: Global, place: Pos) -> Stop
     cursor.refuse_at(place, String::from_str(alloc, "Unexpected spec expression"))
 }
 
-/// A symbol that is an expression by itself.
+/// Parses a symbol that is an expression by itself.
 pub(super) fn parse_spec_word(cursor: &mut Cursor, alloc: Global) -> Result<SpecExpr, Stop>
     ensures { ReadsOff spec_of spec_word cursor.old result cursor.new }
 {
@@ -127,7 +127,7 @@ pub(super) fn parse_spec_word(cursor: &mut Cursor, alloc: Global) -> Result<Spec
     spec_word(cursor, alloc, place, pos, word)
 }
 
-/// The expression that this word is, which is at `place`. Its position is `pos`.
+/// The expression that this word at `place` is. Its position in the tree is `pos`.
 fn spec_word(
     cursor: &Cursor,
     alloc: Global,
@@ -150,7 +150,7 @@ fn spec_word(
     }
 }
 
-/// The same of a word that does not begin with `#b`.
+/// As `spec_word`, for a word that does not begin with `#b`.
 fn hexadecimal_or_plain(
     cursor: &Cursor,
     alloc: Global,
@@ -175,7 +175,7 @@ fn hexadecimal_or_plain(
     }
 }
 
-/// `true`, `false` or a variable.
+/// As `spec_word`, for `true`, `false` or a variable.
 fn plain_word(
     cursor: &Cursor,
     alloc: Global,
@@ -197,8 +197,7 @@ fn plain_word(
     }
 }
 
-/// The head that this word is, whatever the names in it are: the first of these. A bit vector is
-/// none.
+/// The head that this word is, of any names: the first kind that fits. A bit vector is no head.
 fn head_word(word: &str, alloc: Global) -> Result<Option<Head>, AllocError>
     ensures { IfOk result (λ head. option_map head_view head ≡ head_word word.now) }
 {
@@ -214,7 +213,7 @@ fn head_word(word: &str, alloc: Global) -> Result<Option<Head>, AllocError>
     }
 }
 
-/// The same of a word that is no keyword.
+/// As `head_word`, for a word that is not a keyword.
 fn other_head(word: &str, alloc: Global) -> Result<Option<Head>, AllocError>
     ensures { IfOk result (λ head. option_map head_view head ≡ other_head word.now) }
 {
@@ -236,7 +235,7 @@ fn other_head(word: &str, alloc: Global) -> Result<Option<Head>, AllocError>
     }
 }
 
-/// The text before this mark, where that is its last character.
+/// The text before this mark, if the mark is the last character.
 fn before_last(word: &str, mark: char) -> Option<&str>
     requires { mark < 128 }
     ensures { option_map (λ front. front.now) result ≡ before_last mark word.now }
@@ -244,7 +243,7 @@ fn before_last(word: &str, mark: char) -> Option<&str>
     word.strip_suffix(mark)
 }
 
-/// The text after a colon.
+/// The text after a leading colon.
 fn behind_colon(word: &str) -> Option<&str>
     ensures { option_map (λ rest. rest.now) result ≡ behind_mark (codes ":") word.now }
 {
@@ -258,7 +257,7 @@ fn around_dot(word: &str) -> Option<(&str, &str)>
     word.split_once('.')
 }
 
-/// The variant whose enum is before the first dot, and whose name is after it.
+/// The variant whose enum's name is before the first dot, and whose own name is after it.
 fn variant_head(word: &str, alloc: Global) -> Result<Option<Head>, AllocError>
     ensures { IfOk result (λ head. option_map head_view head
         ≡ option_map (λ names. variant_head names.0 names.1) (split_at_mark 46 word.now)) }
@@ -285,14 +284,14 @@ fn hexadecimal_digits(word: &str) -> Option<&str>
     word.strip_prefix("#x")
 }
 
-/// Tells whether a word begins as a bit vector does.
+/// Returns whether a word begins like a bit vector.
 fn begins_bit_vector(word: &str) -> bool
     ensures { result ≡ begins_bit_vector word.now }
 {
     binary_digits(word).is_some() || hexadecimal_digits(word).is_some()
 }
 
-/// The value and the width of these digits, each of which is so many bits.
+/// The value and the width of these digits, of `bits` bits each.
 fn bit_vector_of(digits: &str, radix: u32, bits: usize) -> Option<(u128, usize)>
     requires lower_bound { 2 ≤ radix }
     requires upper_bound { radix ≤ 36 }

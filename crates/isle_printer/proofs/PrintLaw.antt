@@ -103,7 +103,7 @@ IsPrinted-tokens width other ds text another writable is also =
     subst (λ t. HaveSameTokens t another) first
     (subst (λ t. HaveSameTokens (printed_text width ds) t) second (printed_text-tokens width other ds writable))
 
--- What holds the argument of a macro isn't writable.
+-- What contains a macro argument isn't writable.
 pub macro_arg-unwritable : (ds : List Definition) → definitions_have_macro_arg ds ≡ true → AreWritable ds → ⊥
 macro_arg-unwritable ds holds writable = false≢true (sym (writable_trees_have_no_macro_arg ds writable) ∙ holds)
 

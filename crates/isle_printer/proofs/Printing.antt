@@ -38,7 +38,7 @@ printed_text-IsPrinted width (d ∷ ds) plain =
 pub IsPrinted-from_text : (width : ℕ) (ds : List Definition) (text : List ℕ) → definitions_have_macro_arg ds ≡ false → text ≡ printed_text width ds → IsPrinted width ds text
 IsPrinted-from_text width ds text plain e = subst (λ t. IsPrinted width ds t) (sym e) (printed_text-IsPrinted width ds plain)
 
--- what has a print holds no argument of a macro
+-- what has a print contains no macro argument
 
 IsPrintedBehind-plain : (width : ℕ) (ds : List Definition) (text : List ℕ) → IsPrintedBehind width ds text → definitions_have_macro_arg ds ≡ false
 IsPrintedBehind-plain width [] text is = refl
@@ -122,7 +122,7 @@ printed_text-first width (b ∷ ds) text d e empty =
     let first = length-append (layout width (definition_shape b)) (10 ∷ []) in
     absurd (omega (arith, empty, whole, parts, first))
 
--- any other stands behind an empty line
+-- any other comes after an empty line
 pub printed_text-next : (width : ℕ) (before : List Definition) (text : List ℕ) (d : Definition) → text ≡ printed_text width before → (length text ≡ 0 → ⊥) → text ++ 10 ∷ definition_text width d ≡ printed_text width (before ++ d ∷ [])
 printed_text-next width [] text d e some = absurd (some (ap length e))
 printed_text-next width (b ∷ ds) text d e some =

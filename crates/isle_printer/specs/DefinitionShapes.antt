@@ -1,10 +1,10 @@
--- The S-expressions of definitions, and of the parts of those that are neither specs nor rules.
+-- The S-expressions of definitions, and of the parts of those other than specs and rules.
 use Rattle.std.specs.Prelude.{[], List, ◌∷◌, ◌++◌, Option, None, Some, map, codes}
 use Rattle.isle_ast.specs.Tree.{Definition, type_def, rule, extractor, decl, attr, spec, spec_macro, model, state, form, instantiation, external, converter, Declaration, Conversion, NamedField}
 use Rattle.isle_ast.specs.Tree.{IndexedField, FieldList, unit_fields, struct_fields, tuple_fields, EnumVariant, TypeContent, primitive_type, enum_type, struct_type, TypeDefinition, AttributeTarget}
 use Rattle.isle_ast.specs.Tree.{term_target, rule_target, AttributeKind, chain_kind, priority_kind, tag_kind, Attribute, TermSignature, FormDefinition, TermInstantiation, ExternDefinition}
 use Rattle.isle_ast.specs.Tree.{extern_extractor, extern_constructor, extern_const, ModelContent, type_model, const_model, ModelDefinition}
-use Rattle.isle_printer_rules.specs.RuleShapes.{rule_shape, extractor_shape}
+use Rattle.isle_printer.specs.RuleShapes.{rule_shape, extractor_shape}
 use Rattle.isle_printer_layout.specs.Sexp.{Sexp, atom, list_of}
 use Rattle.isle_printer_verification.specs.SpecShapes.{spec_definition_shape, spec_macro_shape, state_shape, model_shape, spec_shape}
 use Rattle.isle_ast_names.specs.Tree.{Name}
@@ -36,7 +36,7 @@ conversion_shape c =
 abbrev pub named_field_shape : NamedField → Sexp
 named_field_shape f = list_of (name_shape f.name ∷ name_shape f.ty ∷ [])
 
--- the type alone
+-- only the type
 abbrev pub indexed_field_shape : IndexedField → Sexp
 indexed_field_shape f = name_shape f.ty
 

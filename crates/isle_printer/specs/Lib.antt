@@ -3,3 +3,4 @@ pub mod Printed
 pub mod PrintedNodes
 pub mod Lines
 pub mod ReadBack
+pub mod RuleShapes

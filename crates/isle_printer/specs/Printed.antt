@@ -1,5 +1,6 @@
 -- The printed text of definitions at a width: the layout of each one and a LF, with one more LF
--- between two. What holds the argument of a macro has no print. As a relation, and as a function.
+-- between two. A definition that contains a macro argument has no print. As a relation, and as a
+-- function.
 use Rattle.std.specs.Prelude.{◌≡◌, ℕ, List, [], ◌∷◌, ◌++◌, false}
 use Rattle.isle_base.specs.Bytes.{line_feed}
 use Rattle.isle_ast.specs.Tree.{Definition}

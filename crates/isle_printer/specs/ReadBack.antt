@@ -1,5 +1,4 @@
--- What it is for a printed text to read back as the definitions, and for two texts to have the same
--- tokens.
+-- A printed text reads back as the definitions, and two texts have the same tokens.
 use Rattle.std.specs.Prelude.{◌≡◌, ◌↔◌, ℕ, List}
 use Rattle.isle_ast.specs.Tree.{Definition}
 use Rattle.isle_ast.specs.Erased.{erase}
@@ -10,11 +9,11 @@ use Rattle.isle_base.specs.Lexing.{lexes}
 use Rattle.isle_base.specs.Place.{Placed, nowhere, placed}
 use Rattle.isle_base.specs.Token.{Lexeme, end}
 
--- Where some tokens spell the definitions, the text is spelt by them, erased.
+-- If some tokens spell the definitions, the text spells them too, erased.
 abbrev pub ReadsBack : List Definition → List ℕ → Type 0
 ReadsBack ds text = (all : List Placed) → SpellsDefinitions ds all → IsSpelt nowhere text (erase ds)
 
--- The text is spelt by the definitions, erased, exactly if they are writable.
+-- The text spells the definitions, erased, exactly if they are writable.
 abbrev pub ReadsBackIfWritable : List Definition → List ℕ → Type 0
 ReadsBackIfWritable ds text = IsSpelt nowhere text (erase ds) ↔ AreWritable ds
 

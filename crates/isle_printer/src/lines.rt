@@ -15,12 +15,12 @@ use isle_ast::ast::Def;
 use isle_printer_layout::{Looks, PrintFault, put};
 use std::alloc::Global;
 
-/// Appends a definition's lines to the printed text of those before it: after an empty line, unless
-/// it is the first.
+/// Appends a definition's lines to the printed text of the definitions before it. An empty line
+/// comes first, unless it is the first definition.
 ///
-/// Where all is written, it adds one look for each node of the definition's S-expression. It never
-/// adds more, and takes none away, also when memory runs out. A definition that holds the argument
-/// of a macro has no S-expression, and counts none.
+/// On success it adds one look for each node of the definition's S-expression. It never adds more
+/// and never takes any away, even if memory runs out. A definition that contains a macro argument
+/// has no S-expression, and so no nodes.
 pub fn put_definition(
     alloc: Global,
     def: &Def,

@@ -1,9 +1,9 @@
 //! Printer for the ISLE language.
 //!
-//! A node of the tree becomes an S-expression, and the S-expression is laid out at a width. Widths
-//! and columns count bytes, and the indentation of a line does not count. The layout is that of the
-//! printer of `cranelift-isle`, with two differences. An empty list is `()` even if it doesn't fit.
-//! A call returns a `String`, where that printer writes to a writer.
+//! Each node of the tree becomes an S-expression, which is laid out at a width. Widths and columns
+//! are in bytes, and a line's indentation does not count. The layout is that of `cranelift-isle`'s
+//! printer, with two differences. An empty list is `()` even if it doesn't fit. Functions return a
+//! `String`, where that printer writes to a writer.
 
 pub(crate) mod definitions;
 mod expressions;
@@ -37,20 +37,20 @@ pub use isle_printer_layout::{Looks, PrintFault, SExpr, fits};
 use std::alloc::Global;
 pub use to_sexpr::ToSExpr;
 
-/// Prints definitions: each one's layout at the width and a line end, with one empty line between
+/// Prints definitions: each one's layout at the width and a line end, with an empty line between
 /// two.
 ///
-/// No definitions print as the empty text. The width counts bytes, and may be any number from 0. A
+/// An empty list prints as the empty text. The width is in bytes, and may be any number from 0. A
 /// list is broken exactly if it does not end within the width and the lists around it are broken.
 /// So no layout within the width has fewer lines.
 ///
-/// The text is spelt by the definitions, positions aside, exactly if they are writable.
+/// The text spells the definitions, positions aside, exactly if they are writable.
 ///
-/// The fault is `MacroArg` exactly if a definition holds the argument of a macro. Then the
-/// definitions aren't writable. That is looked for before anything is made. The fault is `Memory`
-/// when memory runs out. After a fault, nothing is left of the text.
+/// Returns `MacroArg` exactly if a definition contains a macro argument, which also makes it
+/// unwritable. This is tested before anything is built. Returns `Memory` if memory runs out. After
+/// an error, all that was printed is dropped.
 pub fn print(alloc: Global, defs: &[Def], width: usize) -> Result<String, PrintFault>
-    // What `Ok` holds.
+    // The value of `Ok`.
     ensures printed { IfOk result
         (λ text. IsPrinted width (definitions_of defs.now) (string_bytes text)) }
     ensures lines { IfOk result
@@ -60,7 +60,7 @@ pub fn print(alloc: Global, defs: &[Def], width: usize) -> Result<String, PrintF
     ensures writable { IfOk result
         (λ text. ReadsBackIfWritable (definitions_of defs.now) (string_bytes text)) }
 
-    // When `MacroArg` comes, and when no other fault does.
+    // When `MacroArg` is returned, and when no other error is.
     ensures refused { IsErrOf result MacroArg
         → definitions_have_macro_arg (definitions_of defs.now) ≡ true }
     ensures memory { IsErrOf result Memory
@@ -70,18 +70,18 @@ pub fn print(alloc: Global, defs: &[Def], width: usize) -> Result<String, PrintF
     print_counted(alloc, defs, width, &mut Looks::new())
 }
 
-/// Prints definitions as `print` does, and counts the nodes of S-expressions that it looks at.
+/// Prints definitions like `print`, and counts the nodes of S-expressions that it looks at.
 ///
-/// If it returns a text, it adds as many looks as the definitions' S-expressions have nodes. It
-/// never adds more, takes none away, and adds none if it returns `MacroArg`. A definition that
-/// holds the argument of a macro has no S-expression, and counts none.
+/// On success it adds as many looks as the definitions' S-expressions have nodes. It never adds
+/// more, never takes any away, and adds none if it returns `MacroArg`. A definition that contains a
+/// macro argument has no S-expression, and so no nodes.
 pub fn print_counted(
     alloc: Global,
     defs: &[Def],
     width: usize,
     looks: &mut Looks,
 ) -> Result<String, PrintFault>
-    // What `Ok` holds.
+    // The value of `Ok`.
     ensures printed { IfOk result
         (λ text. IsPrinted width (definitions_of defs.now) (string_bytes text)) }
     ensures lines { IfOk result
@@ -91,14 +91,14 @@ pub fn print_counted(
     ensures writable { IfOk result
         (λ text. ReadsBackIfWritable (definitions_of defs.now) (string_bytes text)) }
 
-    // When `MacroArg` comes, and when no other fault does.
+    // When `MacroArg` is returned, and when no other error is.
     ensures refused { IsErrOf result MacroArg
         → definitions_have_macro_arg (definitions_of defs.now) ≡ true }
     ensures memory { IsErrOf result Memory
         → definitions_have_macro_arg (definitions_of defs.now) ≡ false }
     ensures unwritable { IsErrOf result MacroArg → AreWritable (definitions_of defs.now) → ⊥ }
 
-    // How many nodes it looks at.
+    // The number of looks.
     ensures once { IfOk result
         (λ _. looks.new.count ≡ looks.old.count + nodes_of_definitions (definitions_of defs.now)) }
     ensures at_most { looks.new.count
@@ -114,23 +114,23 @@ pub fn print_counted(
     Ok(out)
 }
 
-/// Prints a single node: its layout at the width, with no line end after it.
+/// Prints a single node: its layout at the width, without a line end.
 ///
-/// The width counts bytes, and may be any number from 0. A line may be longer if it holds a long
+/// The width is in bytes, and may be any number from 0. A line can be longer if it contains a long
 /// name or an empty list.
 ///
-/// The fault is `MacroArg` only if the node has no S-expression: a node of the tree has none if it
-/// is, or holds, the argument of a macro. The fault is `Memory` when memory runs out. After a
-/// fault, nothing is left of the text.
+/// Returns `MacroArg` only if the node has no S-expression: a node of the tree has none if it is,
+/// or contains, a macro argument. Returns `Memory` if memory runs out. After an error, all that was
+/// printed is dropped.
 pub fn print_node<N: ToSExpr>(alloc: Global, node: &N, width: usize) -> Result<String, PrintFault>
-    // What `Ok` holds.
+    // The value of `Ok`.
     ensures meant { IfOk result (λ text. IsSome (N.meaning node.now)) }
     ensures layout { IfOk result
         (λ text. IfSome (N.meaning node.now) (λ s. IsLayout width s (string_bytes text))) }
     ensures lines { IfOk result
         (λ text. IfSome (N.meaning node.now) (λ s. HasFewestLines width s (string_bytes text))) }
 
-    // When `MacroArg` comes, and when no other fault does.
+    // When `MacroArg` is returned, and when no other error is.
     ensures refused { IsErrOf result MacroArg → N.meaning node.now ≡ None }
     ensures memory { IsErrOf result Memory → IsSome (N.meaning node.now) }
 {
@@ -142,7 +142,7 @@ pub fn print_node<N: ToSExpr>(alloc: Global, node: &N, width: usize) -> Result<S
     Ok(out)
 }
 
-/// Tells whether one of the definitions holds the argument of a macro.
+/// Returns whether one of the definitions contains a macro argument.
 fn any_has_macro_arg(defs: &[Def]) -> bool
     ensures { result ≡ definitions_have_macro_arg (definitions_of defs.now) }
 {
@@ -154,7 +154,7 @@ fn any_has_macro_arg(defs: &[Def]) -> bool
     false
 }
 
-/// Appends the printed text of definitions to the empty text.
+/// Prints definitions to a text that is empty.
 fn put_definitions(
     alloc: Global,
     defs: &[Def],

@@ -19,7 +19,7 @@ use Rattle.isle_ast_names.specs.Numbers.{IsSigned}
 use Rattle.isle_printer_layout.specs.ReadBack.{ReadsAs, Separated}
 use Rattle.isle_printer_layout.specs.NameShapes.{integer_text}
 
--- one more digit behind a number
+-- one more digit after a number
 weighed : (x p r v d : ℕ) → x * (p * r) + (v * r + d) ≡ (x * p + v) * r + d
 weighed x p r v d = omega arith
 
@@ -178,7 +178,7 @@ plain_literal all run rest value begins sign prefix longest meaning =
       meaning = meaning ∙ ap (λ m. value_of m 10 (digits_of run)) (sym sign) ∙ ap (λ r. value_of (has_minus all) r (digits_of run)) (sym radix);
     }
 
--- what the digits of a number mean behind a sign, or behind none
+-- what the digits of a number mean after a sign, or after none
 meaning-digits : (minus : Bool) (n : ℕ) (text : List ℕ) → IsDigits n text → value_of minus 10 (digits_of text) ≡ signed minus n
 meaning-digits minus n text is =
     let digits : digits_of text ≡ map digit_value text = ap (map digit_value) (all_count text is.each) in
@@ -203,7 +203,7 @@ pub decimal-ReadsAs : (n : ℕ) → n < 2 ^ 127 → ReadsAs (decimal n) (integer
 decimal-ReadsAs n fits rest apart =
     digits-Literal n (Some (pos n)) (decimal n) rest (small_value n fits) (decimal-IsDigits n (omega arith)) apart
 
--- behind a sign
+-- after a sign
 
 begins-minus : begins_literal 45 ≡ true
 unfolding begins_literal
@@ -212,7 +212,7 @@ begins-minus = refl
 negative_value : (n : ℕ) → suc n < 2 ^ 127 → signed true (suc n) ≡ Some (negsuc n)
 negative_value n fits = grind (arith, nat_tests)
 
--- digits behind `-` are a literal of the negative number
+-- digits after `-` are a literal of the negative number
 minus-Literal : (n : ℕ) (text rest : List ℕ) → suc n < 2 ^ 127 → IsDigits (suc n) text → Separated rest → Literal (45 ∷ text ++ rest) (Some (negsuc n)) rest
 minus-Literal n text rest fits is apart =
     let prefix : prefix_radix (text ++ rest) ≡ None = no_prefix text rest is.begins is.each apart in

@@ -61,7 +61,7 @@ TokensOf-ahead (list items) all rest t = (lparen, unplaced t.0, ap unplaced t.1)
 pub item-ahead : {x : Sexp} {xs : List Sexp} {all rest : List Tok} → ItemTokens (x ∷ xs) all rest → IsAhead all
 item-ahead {x} {xs} {all} {rest} t = TokensOf-ahead x all t.are.0 t.are.1
 
--- where something stands ahead behind items, something stands ahead of them
+-- where something stands ahead after items, something stands ahead of them
 pub items-ahead : {xs : List Sexp} {all rest : List Tok} → ItemTokens xs all rest → IsAhead rest → IsAhead all
 items-ahead {xs} {all} {rest} t h = ahead xs all rest t.are h
   where
@@ -127,7 +127,7 @@ spell-list items Spells rest s = record {
   spells = (unplaced s.all, unplaced (rparen ∷ rest), (unknown, refl), s.spells, (unknown, refl));
 }
 
--- items behind a word
+-- items after a word
 pub spell-behind : (word : List ℕ) → ReadsAs word (symbol word) → (items : List Sexp) (Spells : List Placed → List Placed → Type 0) (rest : List Tok) → Spelling items Spells rest → Spelling (atom word ∷ items) (BehindWord word Spells) rest
 spell-behind word is items Spells rest s = record {
   all = symbol word ∷ s.all;
@@ -135,7 +135,7 @@ spell-behind word is items Spells rest s = record {
   spells = (unplaced s.all, (unknown, refl), s.spells);
 }
 
--- a word and the items behind it, in parentheses
+-- a word and the items after it, in parentheses
 pub spell-form : (word : List ℕ) → ReadsAs word (symbol word)
     → (items : List Sexp) (Spells : List Placed → List Placed → Type 0) (rest : List Tok)
     → Spelling items Spells (rparen ∷ rest) → Spelling (form_shape word items ∷ []) (InParentheses (BehindWord word Spells)) rest

@@ -1,12 +1,11 @@
--- Which lists of an S-expression are broken, and the choice that a layout makes: the least one that
--- fits the width.
+-- The choice of broken lists in a layout of an S-expression: the least one that fits the width.
 use Rattle.std.specs.Prelude.{◌≡◌, ℕ, ◌+◌, ◌≤◌, List, ◌++◌, length, codes, Option, None, Some}
 use Rattle.isle_printer_layout.specs.Sexp.{Sexp, Sexps, atom, binding, list, none, more}
 use Rattle.isle_printer_layout.specs.Flat.{flat, counted}
 use Rattle.isle_printer_layout.specs.Layout.{new_line}
 
--- A choice of broken lists. A nonempty list is kept whole, `None`, or broken, and then there is
--- a choice for each item: so the lists around a broken list are all broken.
+-- A choice of broken lists. A nonempty list is kept on one line, `None`, or broken, with a choice
+-- for each item. So the lists around a broken list are all broken.
 abbrev mutual
   pub Choice : Sexp → Type 0
   Choice (atom _) = Unit {0}
@@ -18,7 +17,7 @@ abbrev mutual
   Choices none = Unit {0}
   Choices (more s ss) = Choice s × Choices ss
 
--- The text of a choice: a list that is kept whole is on one line. A broken one is `(`, its first
+-- The text of a choice. A list that is not broken is on one line. A broken one is `(`, its first
 -- item at the same level, each other item on a new line at one level more, and `)` on a new line.
 abbrev mutual
   pub render : (s : Sexp) → Choice s → (level : ℕ) → List ℕ
@@ -33,10 +32,10 @@ abbrev mutual
   render_behind (more s ss) c level =
       new_line (level + 1) ++ render s c.0 (level + 1) ++ render_behind ss c.1 level
 
--- A choice fits a width where each nonempty list that is kept whole, in lists that are all broken,
--- ends within it: its column and its counted length are at most the width. The first item of a list
--- is one column after the list's, each other item is at column 0, and what a binding binds comes
--- after the name and ` @ `. The spaces before a line don't count.
+-- A choice fits a width if each nonempty list that is not broken, in lists that all are, ends
+-- within it: its column and its counted length are at most the width. The first item of a list is
+-- one column after the list's, each other item is at column 0, and the S-expression of a binding
+-- comes after the name and ` @ `. The spaces before a line don't count.
 abbrev mutual
   pub FitsAt : (width : ℕ) (s : Sexp) (column : ℕ) → Choice s → Type 0
   FitsAt width (atom _) column _ = Unit {0}
@@ -66,7 +65,7 @@ abbrev mutual
   BreakNoOther none _ _ = Unit {0}
   BreakNoOther (more s ss) c d = BreaksNoOther s c.0 d.0 × BreakNoOther ss c.1 d.1
 
--- the least choice that fits: it breaks no list that another choice that fits does not
+-- the least choice that fits: every other choice that fits breaks all lists that it breaks
 pub record IsLeast (width : ℕ) (s : Sexp) (choice : Choice s) : Type 0 where
   pub fits : Fits width s choice
   pub least : (other : Choice s) → Fits width s other → BreaksNoOther s choice other

@@ -1,4 +1,4 @@
--- What is shown of a fault of the printer.
+-- The text of an error of the printer.
 use Rattle.std.specs.Prelude.{ℕ, List, codes}
 use Rattle.isle_printer_layout.specs.declared.sexpr.PrintFault.{PrintFault}
 use Rattle.isle_printer_layout.specs.declared.sexpr.PrintFault.TheVariants as faults

@@ -2,8 +2,8 @@
 use Rattle.std.specs.Prelude.{ℕ, ◌+◌, List, ◌++◌, length, codes}
 use Rattle.isle_printer_layout.specs.Sexp.{Sexp, Sexps, atom, binding, list, none, more}
 
--- Everything on one line: `(`, the items with one space between, `)`. A binding is its name,
--- ` @ ` and what it binds.
+-- All on one line: `(`, the items with one space between two, `)`. A binding is its name, ` @ ` and
+-- its S-expression.
 abbrev mutual
   pub flat : Sexp → List ℕ
   flat (atom text) = text
@@ -16,9 +16,10 @@ abbrev mutual
   flat_behind none = codes ")"
   flat_behind (more s ss) = codes " " ++ flat s ++ flat_behind ss
 
--- The counted length, which decides whether a list is broken: an atom counts its bytes, a binding
--- the bytes of its name, 3 and what it binds, a list 1 and for each item 1 more than the item. So
--- it is the number of bytes on one line, but that an empty list counts 1 and has two bytes.
+-- The counted length, which decides whether a list is broken. An atom counts its bytes. A binding
+-- counts the bytes of its name, 3, and its S-expression. A list counts 1, and for each item the
+-- item and 1. So it is the number of bytes on one line, except that an empty list counts 1 and has
+-- two bytes.
 abbrev mutual
   pub counted : Sexp → ℕ
   counted (atom text) = length text

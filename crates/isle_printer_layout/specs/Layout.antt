@@ -1,7 +1,7 @@
 -- The layout of an S-expression at a width, as a recursion. Columns count the bytes written on the
--- line, the indentation apart. `room` is what the width leaves of the line: the width less the
--- column, and 0 past the width. A list has a counted length of at least 1, so it ends within the
--- width exactly if it counts no more than the room.
+-- line, without indentation. `room` is the room left on the line: the width minus the column, or 0
+-- past the width. The counted length of a list is at least 1, so it ends within the width exactly
+-- if its length is at most the room.
 use Rattle.std.specs.Prelude.{ℕ, ◌+◌, ◌-◌, ◌*◌, List, ◌∷◌, ◌++◌, length, replicate, codes, nat_le, if◌then◌else◌}
 use Rattle.isle_base.specs.Bytes.{line_feed, space}
 use Rattle.isle_printer_layout.specs.Sexp.{Sexp, Sexps, atom, binding, list, none, more}
@@ -11,8 +11,8 @@ use Rattle.isle_printer_layout.specs.Flat.{flat, counted}
 abbrev pub new_line : ℕ → List ℕ
 new_line level = line_feed ∷ replicate (4 * level) space
 
--- An atom is written. A binding is its name, ` @ ` and what it binds. A list whose counted length
--- is within the room is written on this line, any other list is broken.
+-- An atom is written. A binding is its name, ` @ ` and its S-expression. A list is written on this
+-- line if its counted length is at most the room, and is broken otherwise.
 abbrev mutual
   pub layout_in : (width : ℕ) → Sexp → (room level : ℕ) → List ℕ
   layout_in width (atom text) room level = text
@@ -20,9 +20,9 @@ abbrev mutual
   layout_in width (list items) room level =
       if nat_le (counted (list items)) room then flat (list items) else layout_broken width items room level
 
-  -- A broken list: `(`, the first item at the same level, each other item on a new line at one
-  -- level more, where it has the whole width, and `)` on a new line at the list's level. An empty
-  -- list has nothing to break: it is `()` also where it doesn't fit.
+  -- A broken list: `(`, the first item at the same level, each other item on a new line with the
+  -- whole width at one level more, and `)` on a new line at the list's level. An empty list can't
+  -- be broken: it is `()` even if it doesn't fit.
   pub layout_broken : (width : ℕ) → Sexps → (room level : ℕ) → List ℕ
   layout_broken width none room level = codes "()"
   layout_broken width (more s ss) room level =

@@ -1,7 +1,7 @@
--- How the counted length of an S-expression is recorded.
+-- The record of an S-expression's counted length.
 use Rattle.std.specs.Prelude.{ℕ, ◌^◌, Option, Some, None, if◌then◌else◌, nat_lt}
 
--- A length that is a whole number of 64 bits is recorded as it is. Any other is past the greatest:
--- it is within no room, and adding to it leaves it so.
+-- A length below 2^64 is recorded as it is. Any other is too large: it fits no room, and adding to
+-- it leaves it so.
 abbrev pub record_of : ℕ → Option ℕ
 record_of n = if nat_lt n (2 ^ 64) then Some n else None

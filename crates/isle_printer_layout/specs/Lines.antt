@@ -1,4 +1,4 @@
--- How many lines a text ends, and what that says of layouts.
+-- The number of lines in a text, and its minimum for layouts.
 use Rattle.std.specs.Prelude.{ℕ, ◌≤◌, List, count_by, ◌==◌}
 use Rattle.isle_base.specs.Bytes.{line_feed}
 use Rattle.isle_printer_layout.specs.Choices.{Choice, Fits, render}

@@ -1,13 +1,13 @@
--- The S-expressions of names, flags, words and numbers. A name is an atom as it is, whatever
--- bytes it holds.
+-- The S-expressions of names, flags, words and numbers. A name is an atom as it is, whatever its
+-- bytes.
 use Rattle.std.specs.Prelude.{[], ℕ, ◌^◌, ◌==◌, suc, ℤ, pos, negsuc, List, if◌then◌else◌, codes, ◌∷◌, Bool, true, false, map}
 use Rattle.std.specs.Fmt.{decimal, signed_decimal}
 use Rattle.isle_base.specs.Bytes.{dollar}
 use Rattle.isle_printer_layout.specs.Sexp.{Sexp, atom, list_of}
 use Rattle.isle_ast_names.specs.Tree.{Name}
 
--- An integer in decimal, after `-` if it is negative. The least one of 128 bits is written as what
--- its bits are without a sign, since a literal with `-` reads as a greater number.
+-- An integer in decimal, after `-` if it is negative. The least one of 128 bits is written as its
+-- bits without a sign, since a literal with `-` is out of range there.
 abbrev pub integer_text : ℤ → List ℕ
 integer_text (pos n) = decimal n
 integer_text (negsuc n) =
@@ -23,7 +23,7 @@ name_shape n = atom n.text
 abbrev pub name_shapes : List Name → List Sexp
 name_shapes ns = map name_shape ns
 
--- the word of a flag that is set, and nothing for one that isn't
+-- the word of a flag if it is set, else nothing
 abbrev pub flag_shape : List ℕ → Bool → List Sexp
 flag_shape word true = atom word ∷ []
 flag_shape word false = []

@@ -1,5 +1,4 @@
--- S-expressions as the pieces of a tape, made from the last to the first: what is made comes after
--- what is still to be made.
+-- S-expressions as the pieces of a tape, which is built from last to first.
 use Rattle.std.specs.Prelude.{◌≡◌, ℕ, ◌+◌, List, [], ◌∷◌, ◌++◌, Option, reverse, string_bytes}
 use Rattle.isle_printer_layout.specs.declared.tape.Piece.{Piece}
 use Rattle.isle_printer_layout.specs.declared.tape.Piece.TheVariants.{Borrowed, Owned, Name, Open, Close}
@@ -9,28 +8,27 @@ use Rattle.isle_printer_layout.specs.Sexp.{Sexp, atom, binding, list_of, sexps}
 use Rattle.isle_printer_layout.specs.SexpCode.{sexp_code}
 use Rattle.std.specs.Coded.{Coded, coded×, coded_list}
 
--- What is made: the S-expressions of the list that is begun last, and those of the lists around it.
+-- The S-expressions on a tape: those of the innermost open list, and those of the lists around it.
 abbrev pub Made : Type 0
 Made = List Sexp × List (List Sexp)
 
--- by which a proof tells two of them apart
+-- a code, which proofs use to tell two of them apart
 abbrev pub made_code : Coded Made
 made_code = coded× (coded_list sexp_code) (coded_list (coded_list sexp_code))
 
 abbrev pub nothing_made : Made
 nothing_made = ([], [])
 
--- these S-expressions, put before what is made
+-- these S-expressions before those on the tape
 abbrev pub put_before : List Sexp → Made → Made
 put_before ss made = (ss ++ made.0, made.1)
 
--- what is made of the list around this one, and of those around that one; nothing where there is
--- none
+-- the tape of the list around this one; empty if there is none
 abbrev pub made_around : List (List Sexp) → Made
 made_around [] = nothing_made
 made_around (ss ∷ others) = (ss, others)
 
--- the first S-expression, and those after it; an empty list where there is none
+-- the first S-expression, or an empty list if there is none
 abbrev pub first_made : List Sexp → Sexp
 first_made [] = list_of []
 first_made (s ∷ ss) = s
@@ -39,7 +37,7 @@ abbrev pub after_first : List Sexp → List Sexp
 after_first [] = []
 after_first (s ∷ ss) = ss
 
--- A piece, and then what is made. The end of a list begins a list, as nothing is made of it yet.
+-- A piece before those on the tape. The end of a list opens a list, which is still empty.
 abbrev pub put_piece : Piece → Made → Made
 put_piece (Borrowed text) made = put_before (atom text.now ∷ []) made
 put_piece (Owned text) made = put_before (atom (string_bytes text) ∷ []) made
@@ -47,26 +45,26 @@ put_piece (Name name) made = (binding name.now (first_made made.0) ∷ after_fir
 put_piece (Open length) made = put_before (list_of made.0 ∷ []) (made_around made.1)
 put_piece Close made = ([], made.0 ∷ made.1)
 
--- the S-expression that a piece begins, whose other pieces are the next ones
+-- the S-expression that a piece begins, whose other pieces come next
 abbrev pub begun : Piece → Made → Sexp
 begun piece made = first_made (put_piece piece made).0
 
--- what is made after the S-expression that a piece begins
+-- the rest after the S-expression that a piece begins
 abbrev pub after_begun : Piece → Made → Made
 after_begun piece made = (after_first (put_piece piece made).0, (put_piece piece made).1)
 
--- what these pieces are, from the first one on
+-- the S-expressions of these pieces, from the first one on
 abbrev pub read : List Piece → Made
 read [] = nothing_made
 read (p ∷ ps) = put_piece p (read ps)
 
--- there is one
+-- there is an element
 abbrev pub HasFirst : {X : Type 0} → List X → Type 0
 HasFirst [] = ⊥
 HasFirst (x ∷ xs) = Unit {0}
 
--- What a name binds comes after it. The start of a list has its end, and the record of the list's
--- counted length.
+-- The S-expression of a binding comes after its name. The start of a list has an end, and the
+-- record of the list's counted length.
 abbrev pub FitsBefore : Piece → Made → Type 0
 FitsBefore (Borrowed text) made = Unit {0}
 FitsBefore (Owned text) made = Unit {0}
@@ -83,7 +81,7 @@ abbrev pub AllFit : List Piece → Type 0
 AllFit [] = Unit {0}
 AllFit (p ∷ ps) = FitsBefore p (read ps) × AllFit ps
 
--- The pieces are kept in memory from the last to the first.
+-- The pieces are stored from last to first.
 abbrev pub made_of : List Piece → Made
 made_of pieces = read (reverse pieces)
 
@@ -94,7 +92,7 @@ FitTogether pieces = AllFit (reverse pieces)
 abbrev pub length_so_far : List Sexp → ℕ
 length_so_far ss = 1 + counted_items (sexps ss)
 
--- the record of what the list around this one counts so far
+-- the record of the length so far of the list around this one
 abbrev pub IsRecordAround : Option ℕ → List (List Sexp) → Type 0
 IsRecordAround length [] = ⊥
 IsRecordAround length (ss ∷ others) = length ≡ record_of (length_so_far ss)

@@ -1,4 +1,4 @@
--- How a written S-expression reads back: which tokens its atoms are the texts of.
+-- Reading a written S-expression back: the tokens whose texts its atoms are.
 use Rattle.std.specs.Prelude.{[], ◌≡◌, ℕ, List, ◌∷◌, ◌++◌, false, true, ◌||◌}
 use Rattle.isle_base.specs.Place.{Placed, unknown}
 use Rattle.isle_base.specs.Spellings.{Spelling, in_symbol}
@@ -6,7 +6,7 @@ use Rattle.isle_base.specs.Skips.{Skip, begins_with}
 use Rattle.isle_base.specs.Token.{Tok, lparen, rparen, at_sign, is_int, is_symbol}
 use Rattle.isle_printer_layout.specs.Sexp.{Sexp, Sexps, atom, binding, list, none, more}
 
--- no byte of a symbol comes here
+-- no byte of a symbol comes next
 abbrev pub Separated : List ℕ → Type 0
 Separated text = begins_with in_symbol text ≡ false
 
@@ -33,7 +33,8 @@ abbrev mutual
   TokensOfItems none all rest = all ≡ rest
   TokensOfItems (more s ss) all rest = (mid : List Tok) × TokensOf s all mid × TokensOfItems ss mid rest
 
--- The text is skip, spelling, skip, spelling and so on, of just these tokens, and ends with a skip.
+-- The text is skip, spelling, skip, spelling and so on, of exactly these tokens, and ends with a
+-- skip.
 abbrev pub Reads : List ℕ → List Tok → Type 0
 Reads text [] = Skip text []
 Reads text (token ∷ tokens) =

@@ -1,4 +1,4 @@
--- Whether two S-expressions are the same. This is what `==` says of them, and the laws of `==` rest on it.
+-- Equality of S-expressions. `==` computes it, and the laws of `==` follow from it.
 use Rattle.std.specs.Prelude.{◌≡◌, Bool, true, false, ◌&&◌}
 use Rattle.std.specs.Bool.{Decides}
 use Rattle.std.specs.Cmp.{IsEquivalence, decided, on_equiv}
@@ -22,7 +22,7 @@ abbrev mutual
   same_sexps (more s ss) (more t ts) = same_sexp s t && same_sexps ss ts
   same_sexps _ _ = false
 
--- The test is true of the same S-expressions, and of no others.
+-- The test is true exactly of equal S-expressions.
 
 mutual
   pub sexp_same : (s t : Sexp) → same_sexp s t ≡ true → s ≡ t

@@ -22,7 +22,7 @@ sexps (s ∷ ss) = more s (sexps ss)
 abbrev pub list_of : List Sexp → Sexp
 list_of ss = list (sexps ss)
 
--- an S-expression where the test fails, and none where it holds
+-- an S-expression, or none if the test is true
 abbrev pub unless : Bool → Sexp → Option Sexp
 unless true s = None
 unless false s = Some s

@@ -1,4 +1,5 @@
--- S-expressions as lists of marks, which give them back: by it a proof tells them apart.
+-- S-expressions as lists of marks, from which they can be recovered: proofs use them to tell two
+-- apart.
 use Rattle.std.specs.Prelude.{◌≡◌, ℕ, zero, suc, List, [], ◌∷◌, refl}
 use Rattle.std.proofs.Common.{ap, ◌∙◌}
 use Rattle.std.specs.Coded.{Coded, code_by, coded×, coded_list, coded_ℕ}
@@ -18,7 +19,7 @@ abbrev mutual
   item_marks none rest = rest
   item_marks (more s ss) rest = marks s (item_marks ss rest)
 
--- what is to the right in the same list, and in the lists around it
+-- the rest to the right in the same list, and in the lists around it
 abbrev pub Right : Type 0
 Right = Sexps × List Sexps
 

@@ -1,8 +1,8 @@
 //! The layout of S-expressions.
 //!
 //! Columns count the bytes written on a line, without its indentation. Each function takes the room
-//! that the width leaves of the line, and the level of indentation. A node is looked at once, when
-//! it is written: the record of a list's length says whether the list fits.
+//! left on the line at this width, and the level of indentation. Each node is looked at once, when
+//! it is written: the recorded length of a list says whether the list fits.
 
 ghost use Rattle.std.specs.Prelude.{◌≡◌, ◌≤◌, ◌<◌, ◌+◌, ◌++◌, ◌↔◌, ℕ, IsTrue, OnOk, IfSome};
 ghost use Rattle.std.specs.Prelude.{MatchOption, string_bytes, string_len};
@@ -20,10 +20,10 @@ use super::sexpr::SExpr;
 use super::tape::{Piece, Pieces};
 use std::alloc::AllocError;
 
-/// Appends the layout, at a width, of the S-expression that is made, from the start of a line on.
+/// Appends the layout of the S-expression at a width, from the start of a line.
 ///
-/// Where all is written, it adds one look for each node. It never adds more, and takes none away,
-/// also when memory runs out.
+/// On success it adds one look for each node. It never adds more and never takes any away, even if
+/// memory runs out.
 pub fn put(
     mut pieces: Pieces,
     width: usize,
@@ -44,10 +44,9 @@ pub fn put(
     }
 }
 
-/// Appends the layout of the S-expression that a piece begins, at a width and a level, where the
-/// line has this room left, and takes its other pieces off.
+/// Appends the layout of the S-expression that `piece` begins, and takes its other pieces.
 ///
-/// The first node was looked at before. Each other node adds a look.
+/// The first node has been looked at already, and each other node adds one look.
 #[cycle(put)]
 fn put_node(
     piece: Piece,
@@ -95,7 +94,7 @@ fn put_node(
     }
 }
 
-/// Tells whether a recorded length is within the room.
+/// Returns whether a recorded length is at most the room.
 fn fits_in(length: Option<usize>, room: usize) -> bool
     ensures { (n : ℕ) → length ≡ record_of n → IsTrue result ↔ (n ≤ room) }
 {
@@ -105,8 +104,7 @@ fn fits_in(length: Option<usize>, room: usize) -> bool
     }
 }
 
-/// Appends a broken list, whose items are the next pieces, at a width and a level, where the line
-/// has this room left, and takes its pieces off.
+/// Appends a broken list, whose items are the next pieces, and takes its pieces.
 #[cycle(put)]
 fn put_broken(
     pieces: &mut Pieces,
@@ -139,7 +137,7 @@ fn put_broken(
     Ok(())
 }
 
-/// Does what `put_node` does. It makes no call for an atom of the tree's texts, as most items are.
+/// As `put_node`, but without a call for an atom with a text of the tree, as most items are.
 #[inline(always)]
 #[cycle(put)]
 fn put_item(
@@ -179,7 +177,7 @@ fn put_new_line(level: usize, out: &mut String) -> Result<(), AllocError>
     Ok(())
 }
 
-/// Appends, on one line, the S-expression that a piece begins, and takes its other pieces off.
+/// Appends the S-expression that `piece` begins on one line, and takes its other pieces.
 #[cycle(put_flat)]
 fn put_flat(
     piece: Piece,
@@ -216,7 +214,7 @@ fn put_flat(
     }
 }
 
-/// Appends on one line a list, whose items are the next pieces, and takes its pieces off.
+/// Appends a list, whose items are the next pieces, on one line, and takes its pieces.
 #[cycle(put_flat)]
 fn put_flat_items(
     pieces: &mut Pieces,
@@ -243,7 +241,7 @@ fn put_flat_items(
     Ok(())
 }
 
-/// Does what `put_flat` does. It makes no call for an atom of the tree's texts, as most items are.
+/// As `put_flat`, but without a call for an atom with a text of the tree, as most items are.
 #[inline(always)]
 #[cycle(put_flat)]
 fn put_flat_item(
@@ -268,13 +266,13 @@ fn put_flat_item(
     }
 }
 
-/// Tells whether an S-expression's counted length is at most the room.
+/// Returns whether an S-expression's counted length is at most the room.
 ///
-/// An atom counts its bytes, a binding the bytes of its name, 3 and what it binds, a list 1 and for
-/// each item 1 more than the item.
+/// An atom counts its bytes. A binding counts the bytes of its name, 3, and the S-expression that
+/// it binds. A list counts 1, and for each item the item and 1.
 ///
-/// Each node that is examined adds one look: at least one node, and at most one more than the room.
-/// No node is examined twice, and if the result is true, each was examined. It takes no memory.
+/// Each examined node adds one look. There are at least one look and at most `room` + 1. No node is
+/// examined twice, and all are examined if the result is `true`. Nothing is allocated.
 pub fn fits(sexpr: &SExpr, room: usize, looks: &mut Looks) -> bool
     ensures answer { IsTrue result ↔ (counted (sexp_of sexpr.now) ≤ room) }
     ensures at_most { looks.new.count ≤ looks.old.count + room + 1 }
@@ -285,9 +283,9 @@ pub fn fits(sexpr: &SExpr, room: usize, looks: &mut Looks) -> bool
     room_left(sexpr, room, looks).is_some()
 }
 
-/// The room less the counted length, or none if that is more than the room.
+/// The room minus the counted length, or `None` if the length is greater.
 ///
-/// It looks no further than the room reaches: each look after the first takes one of the room.
+/// It stops when the room is used up: each look after the first takes 1 from the room.
 fn room_left(sexpr: &SExpr, room: usize, looks: &mut Looks) -> Option<usize>
     ensures answer { MatchOption result
         (room < counted (sexp_of sexpr.now))

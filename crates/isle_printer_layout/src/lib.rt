@@ -1,4 +1,4 @@
-//! The lowest part of the printer of ISLE: S-expressions and their layout.
+//! The base of ISLE's printer: S-expressions and their layout.
 #![tactic(auto)]
 
 pub mod laws;

@@ -1,14 +1,14 @@
-//! A counter of looks at S-expressions. Contracts read it, and running code can't.
+//! A counter of looks at S-expressions, for contracts only.
 
 ghost use Rattle.std.specs.Prelude.{◌≡◌, ◌+◌, ℕ};
 ghost use Rattle.std.specs.Borrow.{ftrue};
 
 use std::marker::{Model, PhantomData};
 
-/// How many nodes of S-expressions have been examined.
+/// The number of examined nodes of S-expressions.
 ///
-/// The count is a whole number that only contracts read. No memory holds it, so running code can't
-/// read it, and it has no greatest value.
+/// The count is a natural number that only contracts can read. It takes no memory, running code
+/// can't read it, and it never overflows.
 #[derive(Drop)]
 pub struct Looks {
     marker: PhantomData<u8>,
@@ -20,7 +20,7 @@ impl Model for Looks {
 }
 
 impl Looks {
-    /// A counter of no looks.
+    /// A counter at zero.
     pub fn new() -> Looks
         ensures { result.count ≡ 0 }
     {
@@ -29,7 +29,7 @@ impl Looks {
         }
     }
 
-    /// Counts one look. It runs no code.
+    /// Counts one look. It has no code to run.
     pub(super) fn look(&mut self)
         ensures { self.new.count ≡ self.old.count + 1 }
     {}

@@ -1,4 +1,4 @@
-//! Puts names, flags, words and numbers before what is made.
+//! Names, flags, words and numbers as S-expressions. Each function prepends to the tape.
 
 ghost use Rattle.std.specs.Prelude.{◌≡◌, ◌++◌, [], ◌∷◌, OnOk};
 ghost use Rattle.isle_ast_names.specs.TreeView.{name_of, names_of};
@@ -13,7 +13,7 @@ use super::tape::Tape;
 use isle_ast_names::Ident;
 use std::alloc::AllocError;
 
-/// Puts the list of several names.
+/// Prepends the list of some names.
 pub fn names<'src>(idents: &'src [Ident], tape: &mut Tape<'src>) -> Result<(), AllocError>
     ensures { OnOk result
         (tape.new ≡ put_before (list_of (name_shapes (names_of idents.now)) ∷ []) tape.old) }
@@ -23,7 +23,7 @@ pub fn names<'src>(idents: &'src [Ident], tape: &mut Tape<'src>) -> Result<(), A
     tape.open(outer)
 }
 
-/// Puts the list of a name and several more.
+/// Prepends the list of a name and further names.
 pub fn headed_names<'src>(
     head: &'src Ident,
     idents: &'src [Ident],
@@ -38,7 +38,7 @@ pub fn headed_names<'src>(
     tape.open(outer)
 }
 
-/// Puts a flag's word if the flag is set.
+/// Prepends a flag's word if the flag is set.
 pub fn flag<'src>(word: &'src str, is_set: bool, tape: &mut Tape<'src>) -> Result<(), AllocError>
     ensures { OnOk result (tape.new ≡ put_before (flag_shape word.now is_set) tape.old) }
 {
@@ -48,7 +48,7 @@ pub fn flag<'src>(word: &'src str, is_set: bool, tape: &mut Tape<'src>) -> Resul
     Ok(())
 }
 
-/// Puts names.
+/// Prepends names.
 pub fn each_name<'src>(idents: &'src [Ident], tape: &mut Tape<'src>) -> Result<(), AllocError>
     ensures { OnOk result (tape.new ≡ put_before (name_shapes (names_of idents.now)) tape.old) }
 {
@@ -58,14 +58,14 @@ pub fn each_name<'src>(idents: &'src [Ident], tape: &mut Tape<'src>) -> Result<(
     Ok(())
 }
 
-/// Puts a name.
+/// Prepends a name.
 pub fn name<'src>(ident: &'src Ident, tape: &mut Tape<'src>) -> Result<(), AllocError>
     ensures { OnOk result (tape.new ≡ put_before (name_shape (name_of ident.now) ∷ []) tape.old) }
 {
     tape.atom(&ident.0)
 }
 
-/// Puts the name of a constant, with its `$`.
+/// Prepends the name of a constant, with its `$`.
 pub fn constant(ident: &Ident, tape: &mut Tape) -> Result<(), AllocError>
     ensures { OnOk result
         (tape.new ≡ put_before (constant_shape (name_of ident.now) ∷ []) tape.old) }
@@ -73,7 +73,7 @@ pub fn constant(ident: &Ident, tape: &mut Tape) -> Result<(), AllocError>
     joined("$", &ident.0, tape)
 }
 
-/// Puts the atom of two texts, one after the other.
+/// Prepends an atom of two texts, one after the other.
 #[inline(never)]
 pub fn joined(front: &str, back: &str, tape: &mut Tape) -> Result<(), AllocError>
     ensures { OnOk result (tape.new ≡ put_before (atom (front.now ++ back.now) ∷ []) tape.old) }
@@ -85,7 +85,7 @@ pub fn joined(front: &str, back: &str, tape: &mut Tape) -> Result<(), AllocError
     tape.owned(text)
 }
 
-/// Puts a number in decimal.
+/// Prepends a number in decimal.
 #[inline(never)]
 pub fn number(value: usize, tape: &mut Tape) -> Result<(), AllocError>
     ensures { OnOk result (tape.new ≡ put_before (number_shape value ∷ []) tape.old) }
@@ -93,8 +93,8 @@ pub fn number(value: usize, tape: &mut Tape) -> Result<(), AllocError>
     tape.owned(value.to_string(tape.alloc())?)
 }
 
-/// Puts a signed integer in decimal. The least one is written without its sign, since a literal
-/// with `-` reads as a greater number.
+/// Prepends a signed integer in decimal. `i128::MIN` is written without its sign, since a literal
+/// with `-` is out of range there.
 #[inline(never)]
 pub fn integer(value: i128, tape: &mut Tape) -> Result<(), AllocError>
     ensures { OnOk result (tape.new ≡ put_before (integer_shape value ∷ []) tape.old) }
@@ -105,7 +105,7 @@ pub fn integer(value: i128, tape: &mut Tape) -> Result<(), AllocError>
     tape.owned(value.to_string(tape.alloc())?)
 }
 
-/// Puts a boolean.
+/// Prepends a Boolean.
 pub fn boolean(value: bool, tape: &mut Tape) -> Result<(), AllocError>
     ensures { OnOk result (tape.new ≡ put_before (atom (bool_word value) ∷ []) tape.old) }
 {

@@ -1,4 +1,4 @@
-//! S-expressions that own their texts: what `to_sexpr` returns and `fits` measures.
+//! S-expressions that own their texts, for `to_sexpr` and `fits`.
 
 ghost use Rattle.std.specs.Prelude.{◌≡◌, ◌&&◌, IfOk, Some};
 ghost use Rattle.std.specs.Cmp.{partial_equiv_from_equiv};
@@ -13,10 +13,10 @@ use std::alloc::{AllocError, AllocFailed, Global};
 use std::error::Error;
 use std::fmt;
 
-/// The S-expression of a node, with texts of its own.
+/// The S-expression of a node, which owns its texts.
 #[derive(Debug, Drop)]
 pub enum SExpr {
-    /// A plain text, which is printed as it stands.
+    /// A plain text, printed as it is.
     Atom(String),
     /// A name bound to an S-expression, `name @ ..`.
     Binding(String, Box<SExpr>),
@@ -32,7 +32,6 @@ impl Clone for SExpr {
     }
 }
 
-/// Copies an S-expression.
 #[cycle(copy)]
 fn copy(sexpr: &SExpr) -> Result<SExpr, AllocError>
     ensures { IfOk result (λ s. sexp_of s ≡ sexp_of sexpr.now) }
@@ -47,7 +46,6 @@ fn copy(sexpr: &SExpr) -> Result<SExpr, AllocError>
     }
 }
 
-/// Copies the items of a list.
 #[cycle(copy)]
 fn copy_items(items: &Vec<SExpr>) -> Result<Vec<SExpr>, AllocError>
     ensures { IfOk result (λ v. sexps_of v.items ≡ sexps_of items.now.items) }
@@ -73,7 +71,6 @@ impl Eq for SExpr {
     ghost laws = { s_expressions_equiv };
 }
 
-/// Tells whether two S-expressions are equal.
 #[cycle(same)]
 fn same_sexpr(a: &SExpr, b: &SExpr) -> bool
     ensures { result ≡ same_sexp (sexp_of a.now) (sexp_of b.now) }
@@ -88,7 +85,6 @@ fn same_sexpr(a: &SExpr, b: &SExpr) -> bool
     }
 }
 
-/// Tells whether the items of two lists are equal.
 #[cycle(same)]
 fn same_items(items: &Vec<SExpr>, others: &Vec<SExpr>) -> bool
     ensures { result
@@ -105,16 +101,16 @@ fn same_items(items: &Vec<SExpr>, others: &Vec<SExpr>) -> bool
     true
 }
 
-/// Why a node was not printed.
+/// The reason why a node was not printed.
 #[derive(Debug, Drop)]
 pub enum PrintFault {
-    /// The node is, or holds, the argument of a macro, which has no print.
+    /// The node is, or contains, a macro argument, which has no syntax.
     MacroArg,
-    /// Out of memory.
+    /// Memory ran out.
     Memory,
 }
 
-/// Writes the fault in a few words on one line, whatever the format options are.
+/// Writes the fault as a short phrase, regardless of the format options.
 impl fmt::Display for PrintFault {
     ghost output = { λ fault. Some (print_fault_text fault) };
 

@@ -1,4 +1,4 @@
-//! From a tape to S-expressions that own their texts, and back. Neither way is a look.
+//! Conversions from a tape to S-expressions that own their texts, and back. Neither adds looks.
 
 ghost use Rattle.std.specs.Prelude.{◌≡◌, [], ◌∷◌, IfOk, OnOk};
 ghost use Rattle.isle_printer_layout.specs.Pieces.{Begins, HasFirst, after_begun, begun};
@@ -9,7 +9,7 @@ use super::sexpr::SExpr;
 use super::tape::{Piece, Pieces, Tape};
 use std::alloc::{AllocError, Global};
 
-/// The first S-expression that is made, with a copy of each text that is borrowed.
+/// The first S-expression, with a copy of each borrowed text.
 pub fn sexpr_of(mut pieces: Pieces, alloc: Global) -> Result<SExpr, AllocError>
     requires { HasFirst pieces.0 }
     ensures { IfOk result (λ s. sexp_of s ≡ first_made pieces.entry.0) }
@@ -20,7 +20,7 @@ pub fn sexpr_of(mut pieces: Pieces, alloc: Global) -> Result<SExpr, AllocError>
     }
 }
 
-/// The S-expression that a piece begins, whose other pieces it takes off.
+/// The S-expression that `piece` begins. It takes its other pieces.
 #[cycle(sexpr_of)]
 fn sexpr_at(piece: Piece, pieces: &mut Pieces, alloc: Global) -> Result<SExpr, AllocError>
     requires { Begins piece pieces.old }
@@ -42,7 +42,7 @@ fn sexpr_at(piece: Piece, pieces: &mut Pieces, alloc: Global) -> Result<SExpr, A
     }
 }
 
-/// The items of a list, which are the next pieces. It takes them and the end of the list off.
+/// The items of a list, which are the next pieces. It takes them and the end of the list.
 #[cycle(sexpr_of)]
 fn sexprs_at(pieces: &mut Pieces, alloc: Global) -> Result<Vec<SExpr>, AllocError>
     ensures made { IfOk result (λ ss. sexps_of ss.items ≡ pieces.old.0) }
@@ -55,7 +55,7 @@ fn sexprs_at(pieces: &mut Pieces, alloc: Global) -> Result<Vec<SExpr>, AllocErro
     Ok(items)
 }
 
-/// Puts an S-expression, whose texts are borrowed.
+/// Prepends an S-expression, whose texts are borrowed.
 #[cycle(put_sexpr)]
 pub fn put_sexpr<'src>(sexpr: &'src SExpr, tape: &mut Tape<'src>) -> Result<(), AllocError>
     ensures { OnOk result (tape.new ≡ put_before (sexp_of sexpr.now ∷ []) tape.old) }
@@ -74,7 +74,7 @@ pub fn put_sexpr<'src>(sexpr: &'src SExpr, tape: &mut Tape<'src>) -> Result<(), 
     }
 }
 
-/// Puts S-expressions.
+/// Prepends S-expressions.
 #[cycle(put_sexpr)]
 fn put_sexprs<'src>(sexprs: &'src Vec<SExpr>, tape: &mut Tape<'src>) -> Result<(), AllocError>
     ensures { OnOk result (tape.new ≡ put_before (sexps_of sexprs.now.items) tape.old) }

@@ -1,10 +1,9 @@
-//! Tapes: S-expressions as one list of pieces, with the record of each list's length.
+//! Tapes: S-expressions as one list of pieces, with the recorded length of each list.
 //!
-//! A tape is made from its last piece to its first: the end of a list, its items from the last to
-//! the first, and then its start. So a list's length is recorded before anything of the list is
-//! written, and no piece is changed once it is made. Making a piece is no look. The pieces are then
-//! taken off from the first to the last. The layout takes them off only by `Pieces::look`, which
-//! adds one look for each node.
+//! A tape is built back to front: the end of a list, its items from last to first, and then its
+//! start. So a list's length is known before any of the list is written, and no piece changes once
+//! it is on the tape. Building adds no looks. The pieces are then taken from first to last. The
+//! layout takes them only with `Pieces::look`, which adds one look for each node.
 
 ghost use Rattle.std.specs.Prelude.{◌≡◌, ◌+◌, [], ◌∷◌, ℕ, IfNone, IfOk, IfSome, OnOk, OnSome};
 ghost use Rattle.std.specs.Prelude.{string_bytes};
@@ -22,24 +21,24 @@ use std::marker::Model;
 /// A piece of an S-expression.
 #[derive(Drop)]
 pub(super) enum Piece<'src> {
-    /// The atom of a text of the tree, or of a fixed word.
+    /// An atom with a text of the tree, or a fixed word.
     Borrowed(&'src str),
-    /// The atom of a text that was made for it, such as a number's.
+    /// An atom with a text made for it, such as a number.
     Owned(String),
-    /// The name of a binding. What it binds comes after it.
+    /// The name of a binding. The S-expression that it binds comes next.
     Name(&'src str),
-    /// The start of a list, with its counted length, or none if that is past the greatest number.
+    /// The start of a list with its counted length, or `None` if that is 2^64 or more.
     Open(Option<usize>),
     /// The end of a list.
     Close,
 }
 
-/// S-expressions that are being made, from the last to the first.
+/// S-expressions under construction, from last to first.
 #[derive(Drop)]
 pub struct Tape<'src> {
     pieces: Vec<Piece<'src>>,
-    /// The length so far of the list that is begun last, or none if that is past the greatest
-    /// number.
+    /// The length so far of the innermost list under construction, or `None` if that is 2^64 or
+    /// more.
     length: Option<usize>,
 }
 
@@ -61,7 +60,7 @@ impl<'src> Model for Tape<'src> {
 }
 
 impl<'src> Tape<'src> {
-    /// A tape with no piece yet. It has memory for the pieces of most definitions.
+    /// An empty tape, with memory for the pieces of most definitions.
     pub fn new(alloc: Global) -> Result<Tape<'src>, AllocError>
         ensures { IfOk result (λ tape. tape ≡ nothing_made) }
     {
@@ -71,7 +70,7 @@ impl<'src> Tape<'src> {
         })
     }
 
-    /// Puts the atom of a text, which isn't copied, before what is made.
+    /// Prepends an atom. Its text is not copied.
     pub fn atom(&mut self, text: &'src str) -> Result<(), AllocError>
         ensures { OnOk result (self.new ≡ put_before (atom text.now ∷ []) self.old) }
     {
@@ -81,7 +80,7 @@ impl<'src> Tape<'src> {
         Ok(())
     }
 
-    /// Puts the atom of a text that was made for it before what is made.
+    /// Prepends an atom with a text made for it.
     pub fn owned(&mut self, text: String) -> Result<(), AllocError>
         ensures { OnOk result (self.new ≡ put_before (atom (string_bytes text) ∷ []) self.old) }
     {
@@ -91,7 +90,7 @@ impl<'src> Tape<'src> {
         Ok(())
     }
 
-    /// Binds a name to the S-expression that was made last.
+    /// Binds a name to the S-expression at the front of the tape.
     pub fn binding(&mut self, name: &'src str) -> Result<(), AllocError>
         requires { HasFirst self.old.0 }
         ensures { OnOk result (self.new
@@ -103,7 +102,7 @@ impl<'src> Tape<'src> {
         Ok(())
     }
 
-    /// Puts the end of a list before what is made. Returns what the list around it counts so far.
+    /// Prepends the end of a list. Returns the length so far of the list around it, for `open`.
     pub fn close(&mut self) -> Result<Option<usize>, AllocError>
         ensures made { OnOk result (self.new ≡ ([], self.old.0 ∷ self.old.1)) }
         ensures around { IfOk result (λ length. length ≡ record_of (length_so_far self.old.0)) }
@@ -114,7 +113,7 @@ impl<'src> Tape<'src> {
         Ok(length)
     }
 
-    /// Puts the start of a list before its items. The list around it counts `outer` so far.
+    /// Prepends the start of a list. The length so far of the list around it is `outer`.
     pub fn open(&mut self, outer: Option<usize>) -> Result<(), AllocError>
         requires { IsRecordAround outer self.old.1 }
         ensures { OnOk result
@@ -126,12 +125,12 @@ impl<'src> Tape<'src> {
         Ok(())
     }
 
-    /// Where memory for texts that are made comes from.
+    /// The allocator for texts made for atoms.
     pub fn alloc(&self) -> Global {
         *self.pieces.allocator()
     }
 
-    /// What was made, to be read.
+    /// The finished pieces, for reading.
     pub fn pieces(self) -> Pieces<'src>
         ensures { result ≡ self.entry }
     {
@@ -141,14 +140,14 @@ impl<'src> Tape<'src> {
     }
 }
 
-/// The record of a length that is no greater than the greatest number.
+/// The record of a length that fits in 64 bits.
 fn recorded(length: usize) -> Option<usize>
     ensures { result ≡ record_of length }
 {
     Some(length)
 }
 
-/// The record of the sum of a recorded length and another.
+/// The record of the sum of a recorded length and another length.
 fn sum(one: Option<usize>, other: usize) -> Option<usize>
     ensures { (n : ℕ) → one ≡ record_of n → result ≡ record_of (n + other) }
 {
@@ -162,7 +161,7 @@ fn both(one: Option<usize>, other: Option<usize>) -> Option<usize>
     one?.checked_add(other?)
 }
 
-/// The pieces of S-expressions that are made, to be taken off from the first on.
+/// The pieces of finished S-expressions, which are taken from first to last.
 #[derive(Drop)]
 pub struct Pieces<'src> {
     pieces: Vec<Piece<'src>>,
@@ -183,8 +182,8 @@ impl<'src> Model for Pieces<'src> {
 }
 
 impl<'src> Pieces<'src> {
-    /// Takes off the first piece of an S-expression, or the end of the list, which returns none. It
-    /// is no look.
+    /// Takes the first piece of an S-expression, or the end of the list, for which it returns
+    /// `None`. It adds no look.
     pub(super) fn item(&mut self) -> Option<Piece<'src>>
         ensures some { OnSome result (HasFirst self.old.0) }
         ensures piece { IfSome result (λ piece. self.old ≡ put_piece piece self.new) }
@@ -197,7 +196,7 @@ impl<'src> Pieces<'src> {
         }
     }
 
-    /// Does what `item` does, and looks at the node that the piece begins.
+    /// As `item`, but adds a look at the node that the piece begins.
     #[inline(always)]
     pub(super) fn look(&mut self, looks: &mut Looks) -> Option<Piece<'src>>
         ensures some { OnSome result (HasFirst self.old.0) }

@@ -46,7 +46,7 @@ operator-ReadsAs operator =
       | inr other ↦ ReadsAs-symbol (operator_text operator) (operator_begins operator other) (operator_bytes operator)
     ]
 
--- bytes of a symbol behind an identifier
+-- bytes of a symbol after an identifier
 identifier_behind-ReadsAs : (text behind : List ℕ) → is_identifier text ≡ true → list_all in_symbol behind ≡ true → ReadsAs (text ++ behind) (symbol (text ++ behind))
 identifier_behind-ReadsAs text behind is each =
     ReadsAs-symbol (text ++ behind)

@@ -42,6 +42,6 @@ radix_text-one radix (suc m) two h =
     let none : suc m / radix < 1 = div_below (suc m) radix 1 (omega arith) (omega arith) in
     one_digit radix (suc m) two (omega arith) (omega arith)
 
--- one more digit behind what is written
+-- one more digit after what is written
 pub digit_behind : (written old digits : List ℕ) (d : ℕ) → written ≡ old ++ digits → written ++ d ∷ [] ≡ old ++ (digits ++ d ∷ [])
 digit_behind written old digits d is = ap (λ text. text ++ d ∷ []) is ∙ append_assoc old digits (d ∷ [])

@@ -16,7 +16,7 @@ use Rattle.isle_ast_names.specs.Tree.{Name}
 use Rattle.isle_ast_names.specs.Words.{bool_word}
 use Rattle.isle_ast_verification.specs.SpecGrammar.{field_mark, discriminator_mark, expansion_mark, dotted}
 
--- the number of bits of a bit vector, if it is known
+-- the width in bits of a bit vector, if it is known
 abbrev pub width_shape : Option ℕ → List Sexp
 width_shape None = []
 width_shape (Some n) = number_shape n ∷ []
@@ -46,16 +46,16 @@ model_field_shape f = list_of (name_shape f.name ∷ model_shape f.ty ∷ [])
 abbrev pub operator_shape : SpecOp → Sexp
 operator_shape operator = atom (operator_text operator)
 
--- a number in a radix, with lower-case letters: the highest digit first, and a single `0` of zero
+-- a number in a radix, with lower-case letters: the highest digit first, and a single `0` for zero
 abbrev pub radix_text : ℕ → ℕ → List ℕ
 radix_text radix n = if n == 0 then codes "0" else map digit_char (digits_of radix n)
 
--- digits with leading zeros, so many in all at least
+-- digits with leading zeros, at least this many in all
 abbrev pub zero_padded : ℕ → List ℕ → List ℕ
 zero_padded least digits = replicate (least - length digits) 48 ++ digits
 
--- A bit vector whose width four divides is `#x` and hexadecimal digits, one at least for four bits.
--- Any other is `#b` and binary digits, one at least for each bit.
+-- If the width is a multiple of four, a bit vector is `#x` and hexadecimal digits, at least one for
+-- four bits. Otherwise it is `#b` and binary digits, at least one for each bit.
 abbrev pub bit_vector_text : ℕ → ℕ → List ℕ
 bit_vector_text val width =
     if width % 4 == 0
@@ -124,7 +124,7 @@ state_condition_shape (Some cond) = name_shape cond ∷ []
 abbrev pub modifies_shape : ModifiedState → Sexp
 modifies_shape m = form_shape (codes "modifies") (name_shape m.state ∷ state_condition_shape m.cond)
 
--- a word and the spec expressions after it, in parentheses, and nothing where there are none
+-- a word and the spec expressions after it, in parentheses; nothing if there are none
 abbrev pub clause_shape : List ℕ → List SpecNode → List Sexp
 clause_shape word [] = []
 clause_shape word (e ∷ es) = form_shape word (map spec_shape (e ∷ es)) ∷ []

@@ -1,4 +1,4 @@
-//! The atoms of bit vectors: digits in a radix, with leading zeros up to the width.
+//! Bit vectors as atoms: digits in a radix, with leading zeros up to the width.
 
 ghost use Rattle.std.specs.Prelude.{◌≡◌, ◌≤◌, ◌<◌, [], ◌∷◌, ◌++◌, replicate, string_bytes, OnOk};
 ghost use Rattle.std.specs.Char.{digit_char};
@@ -10,10 +10,10 @@ ghost use Rattle.isle_printer_verification.specs.SpecShapes.{zero_padded};
 use isle_printer_layout::Tape;
 use std::alloc::AllocError;
 
-/// The most digits that a number has, in any radix.
+/// The maximum number of digits of a number, in any radix.
 const MOST_DIGITS: usize = 128;
 
-/// Puts the atom of a bit vector of this value and width: in hexadecimal if four divides the width,
+/// Prepends a bit vector of this value and width: in hexadecimal if the width is a multiple of 4,
 /// else in binary.
 pub fn bit_vector(val: u128, width: usize, tape: &mut Tape) -> Result<(), AllocError>
     ensures { OnOk result
@@ -26,7 +26,7 @@ pub fn bit_vector(val: u128, width: usize, tape: &mut Tape) -> Result<(), AllocE
     }
 }
 
-/// Puts the atom of a mark and then the digits of a number, at least `least` of them.
+/// Prepends an atom of a mark and the digits of a number, at least `least` of them.
 fn marked_digits(
     mark: &str,
     radix: u32,
@@ -49,7 +49,6 @@ fn marked_digits(
     tape.owned(text)
 }
 
-/// Appends `count` zeros.
 fn push_zeros(out: &mut String, count: usize) -> Result<(), AllocError>
     ensures { OnOk result (string_bytes out.new ≡ string_bytes out.old ++ replicate count 48) }
 {
@@ -73,7 +72,7 @@ fn push_digits(out: &mut String, radix: u32, val: u128) -> Result<(), AllocError
     Ok(())
 }
 
-/// Appends a digit, `a` to `f` for those from ten on.
+/// Appends a digit. From ten on, these are `a` to `f`.
 fn push_digit(out: &mut String, digit: u32) -> Result<(), AllocError>
     requires { digit < 16 }
     ensures { OnOk result (string_bytes out.new ≡ string_bytes out.old ++ digit_char digit ∷ []) }

@@ -1,4 +1,4 @@
-//! The S-expressions of specs, of their macros and of states.
+//! The S-expressions of specs, spec macros and states. Each function prepends to the tape.
 
 ghost use Rattle.std.specs.Prelude.{◌≡◌, [], ◌∷◌, map, OnOk};
 ghost use Rattle.isle_ast_verification.specs.TreeView.{modified_of, spec_definition_of};
@@ -17,8 +17,7 @@ use isle_printer_layout::Tape;
 use isle_printer_layout::names::{headed_names, name};
 use std::alloc::AllocError;
 
-/// Puts the S-expression of a spec: a clause for each kind that says something, and one for each
-/// state that is changed.
+/// Prepends a spec: a clause for each kind that is not empty, and one for each modified state.
 pub fn spec_definition<'src>(spec: &'src Spec, tape: &mut Tape<'src>) -> Result<(), AllocError>
     ensures { OnOk result (tape.new
         ≡ put_before (spec_definition_shape (spec_definition_of spec.now) ∷ []) tape.old) }
@@ -33,7 +32,7 @@ pub fn spec_definition<'src>(spec: &'src Spec, tape: &mut Tape<'src>) -> Result<
     tape.open(outer)
 }
 
-/// Puts a clause where there are spec expressions for it.
+/// Prepends a clause, unless it has no spec expressions.
 fn clause<'src>(
     specs: &'src [SpecExpr],
     word: &'src str,
@@ -51,7 +50,7 @@ fn clause<'src>(
     tape.open(outer)
 }
 
-/// Puts what a term changes.
+/// Prepends the states that a term modifies.
 fn each_modifies<'src>(states: &'src [Modifies], tape: &mut Tape<'src>) -> Result<(), AllocError>
     ensures { OnOk result
         (tape.new ≡ put_before (map modifies_shape (map modified_of states.now)) tape.old) }
@@ -62,7 +61,7 @@ fn each_modifies<'src>(states: &'src [Modifies], tape: &mut Tape<'src>) -> Resul
     Ok(())
 }
 
-/// Puts the S-expression of a state that is changed, and of the condition if there is one.
+/// Prepends a state that a term modifies, with the condition if there is one.
 pub fn modifies<'src>(modifies: &'src Modifies, tape: &mut Tape<'src>) -> Result<(), AllocError>
     ensures { OnOk result
         (tape.new ≡ put_before (modifies_shape (modified_of modifies.now) ∷ []) tape.old) }
@@ -76,7 +75,7 @@ pub fn modifies<'src>(modifies: &'src Modifies, tape: &mut Tape<'src>) -> Result
     tape.open(outer)
 }
 
-/// Puts the S-expression of a macro of spec expressions.
+/// Prepends a macro of spec expressions.
 pub fn spec_macro<'src>(
     definition: &'src SpecMacro,
     tape: &mut Tape<'src>,
@@ -91,7 +90,7 @@ pub fn spec_macro<'src>(
     tape.open(outer)
 }
 
-/// Puts the S-expression of a state.
+/// Prepends a state.
 pub fn state<'src>(state: &'src State, tape: &mut Tape<'src>) -> Result<(), AllocError>
     ensures { OnOk result
         (tape.new ≡ put_before (state_shape (state_of state.now) ∷ []) tape.old) }

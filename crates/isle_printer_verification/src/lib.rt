@@ -1,4 +1,4 @@
-//! The part of the printer of ISLE that turns specs into S-expressions.
+//! The part of ISLE's printer that turns specs into S-expressions.
 #![tactic(auto)]
 
 pub mod bit_vectors;

@@ -1,4 +1,4 @@
-//! The S-expressions of models of types.
+//! The S-expressions of models of types. Each function prepends to the tape.
 
 ghost use Rattle.std.specs.Prelude.{◌≡◌, [], ◌∷◌, codes, map, OnOk};
 ghost use Rattle.isle_ast_verification.specs.TreeView.{model_list_of, single_model_field_of};
@@ -13,8 +13,9 @@ use isle_printer_layout::Tape;
 use isle_printer_layout::names::{name, number};
 use std::alloc::AllocError;
 
-/// Puts the S-expression of a model.
-// The frames of this cycle bound how deep a nest goes. So what makes a text has a frame of its own.
+/// Prepends a model.
+// The frames of this cycle limit the depth of nesting. So functions that build a text have frames
+// of their own.
 #[cycle(model_types)]
 pub fn model_type<'src>(ty: &'src ModelType, tape: &mut Tape<'src>) -> Result<(), AllocError>
     ensures { OnOk result
@@ -42,7 +43,7 @@ pub fn model_type<'src>(ty: &'src ModelType, tape: &mut Tape<'src>) -> Result<()
     }
 }
 
-/// Puts the fields of a struct model.
+/// Prepends the fields of a struct model.
 #[cycle(model_types)]
 fn each_field<'src>(fields: &'src [ModelField], tape: &mut Tape<'src>) -> Result<(), AllocError>
     ensures { OnOk result (tape.new
@@ -55,7 +56,7 @@ fn each_field<'src>(fields: &'src [ModelField], tape: &mut Tape<'src>) -> Result
     Ok(())
 }
 
-/// Puts the S-expression of a field of a struct model.
+/// Prepends a field of a struct model.
 #[cycle(model_types)]
 pub fn model_field<'src>(field: &'src ModelField, tape: &mut Tape<'src>) -> Result<(), AllocError>
     ensures { OnOk result (tape.new
@@ -67,7 +68,7 @@ pub fn model_field<'src>(field: &'src ModelField, tape: &mut Tape<'src>) -> Resu
     tape.open(outer)
 }
 
-/// Puts the S-expression of the model of bit vectors, with the number of bits if it is known.
+/// Prepends the model of bit vectors, with the width in bits if it is known.
 #[inline(never)]
 fn bit_vector_model(width: Option<usize>, tape: &mut Tape) -> Result<(), AllocError>
     ensures { OnOk result
@@ -81,7 +82,7 @@ fn bit_vector_model(width: Option<usize>, tape: &mut Tape) -> Result<(), AllocEr
     tape.open(outer)
 }
 
-/// Puts models.
+/// Prepends models.
 pub fn each_model<'src>(models: &'src [ModelType], tape: &mut Tape<'src>) -> Result<(), AllocError>
     ensures { OnOk result
         (tape.new ≡ put_before (map model_shape (map type_model_of models.now)) tape.old) }

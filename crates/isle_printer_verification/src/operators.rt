@@ -1,4 +1,4 @@
-//! The S-expressions of the operators of spec expressions.
+//! The S-expressions of operators of spec expressions.
 
 ghost use Rattle.std.specs.Prelude.{◌≡◌, [], ◌∷◌, OnOk};
 ghost use Rattle.isle_ast_verification.specs.Operators.{operator_text};
@@ -99,14 +99,13 @@ const TEXTS: [&str; 86] = [
     "switch",
 ];
 
-/// Puts the atom of an operator.
+/// Prepends an operator.
 pub fn operator<'src>(op: &'src SpecOp, tape: &mut Tape<'src>) -> Result<(), AllocError>
     ensures { OnOk result (tape.new ≡ put_before (operator_shape op.now ∷ []) tape.old) }
 {
     tape.atom(text(op))
 }
 
-/// The text of an operator.
 fn text(op: &SpecOp) -> &'static str
     ensures { result.now ≡ operator_text op.now }
 {

@@ -1,4 +1,5 @@
-//! The S-expressions of spec expressions, and of the arms and the fields in them.
+//! The S-expressions of spec expressions and of the arms and fields in them. Each function prepends
+//! to the tape.
 
 ghost use Rattle.std.specs.Prelude.{◌≡◌, ◌++◌, [], ◌∷◌, codes, OnOk};
 ghost use Rattle.isle_ast_verification.specs.TreeView.{arm_list_of, field_init_list_of};
@@ -29,10 +30,11 @@ use isle_printer_layout::Tape;
 use isle_printer_layout::names::{boolean, headed_names, integer, joined, name, names};
 use std::alloc::AllocError;
 
-/// Puts the S-expression of a spec expression.
+/// Prepends a spec expression.
 ///
-/// The frames of this function and of the one that it calls for a node bound how deep a nest goes.
-/// So most kinds of nodes have a call of their own, whose result is returned as it is.
+/// The frames of this function, and of the one that it calls for a node, limit the depth of
+/// nesting. So most kinds of nodes have functions of their own, whose results are returned
+/// unchanged.
 #[cycle(specs)]
 pub fn spec<'src>(node: &'src SpecExpr, tape: &mut Tape<'src>) -> Result<(), AllocError>
     ensures { OnOk result (tape.new ≡ put_before (spec_shape (spec_of node.now) ∷ []) tape.old) }
@@ -79,7 +81,7 @@ pub fn spec<'src>(node: &'src SpecExpr, tape: &mut Tape<'src>) -> Result<(), All
     }
 }
 
-/// Puts the atom of an integer, out of the frame of `spec`.
+/// Prepends an integer, outside of the frame of `spec`.
 #[inline(never)]
 fn spec_integer(val: i128, tape: &mut Tape) -> Result<(), AllocError>
     ensures { OnOk result (tape.new ≡ put_before (integer_shape val ∷ []) tape.old) }
@@ -87,7 +89,7 @@ fn spec_integer(val: i128, tape: &mut Tape) -> Result<(), AllocError>
     integer(val, tape)
 }
 
-/// Puts the atom of a bit vector, out of the frame of `spec`.
+/// Prepends a bit vector, outside of the frame of `spec`.
 #[inline(never)]
 fn spec_bit_vector(val: u128, width: usize, tape: &mut Tape) -> Result<(), AllocError>
     ensures { OnOk result
@@ -96,7 +98,7 @@ fn spec_bit_vector(val: u128, width: usize, tape: &mut Tape) -> Result<(), Alloc
     bit_vector(val, width, tape)
 }
 
-/// Puts the list of `as`, a spec expression and a model.
+/// Prepends the list of `as`, a spec expression and a model.
 #[cycle(specs)]
 #[inline(never)]
 fn spec_as<'src>(
@@ -117,7 +119,7 @@ fn spec_as<'src>(
     tape.open(outer)
 }
 
-/// Puts the list of two texts as one word, and a spec expression.
+/// Prepends the list of a word, made of two texts, and a spec expression.
 #[cycle(specs)]
 #[inline(never)]
 fn marked_spec<'src>(
@@ -137,7 +139,7 @@ fn marked_spec<'src>(
     tape.open(outer)
 }
 
-/// Puts the list of an operator and spec expressions.
+/// Prepends the list of an operator and spec expressions.
 #[cycle(specs)]
 #[inline(never)]
 fn operation<'src>(
@@ -156,7 +158,7 @@ fn operation<'src>(
     tape.open(outer)
 }
 
-/// Puts the list of a word, names and a spec expression.
+/// Prepends the list of a word, names and a spec expression.
 #[cycle(specs)]
 #[inline(never)]
 fn body_after<'src>(
@@ -178,7 +180,7 @@ fn body_after<'src>(
     tape.open(outer)
 }
 
-/// Puts the list of a macro's name with its `!`, and spec expressions.
+/// Prepends the list of a macro's name with its `!`, and spec expressions.
 #[cycle(specs)]
 #[inline(never)]
 fn expansion<'src>(
@@ -198,7 +200,7 @@ fn expansion<'src>(
     tape.open(outer)
 }
 
-/// Puts the list of an enum with its variant, and spec expressions.
+/// Prepends the list of an enum with its variant, and spec expressions.
 #[cycle(specs)]
 #[inline(never)]
 fn enum_value<'src>(
@@ -219,7 +221,7 @@ fn enum_value<'src>(
     tape.open(outer)
 }
 
-/// Puts spec expressions.
+/// Prepends spec expressions.
 #[cycle(specs)]
 #[inline(never)]
 pub(crate) fn each_spec<'src>(
@@ -235,7 +237,7 @@ pub(crate) fn each_spec<'src>(
     Ok(())
 }
 
-/// Puts the arms of a `match`.
+/// Prepends the arms of a `match`.
 #[cycle(specs)]
 #[inline(never)]
 fn each_arm<'src>(nodes: &'src [Arm], tape: &mut Tape<'src>) -> Result<(), AllocError>
@@ -248,7 +250,7 @@ fn each_arm<'src>(nodes: &'src [Arm], tape: &mut Tape<'src>) -> Result<(), Alloc
     Ok(())
 }
 
-/// Puts the S-expression of an arm of a `match`.
+/// Prepends an arm of a `match`.
 #[cycle(specs)]
 pub fn arm<'src>(node: &'src Arm, tape: &mut Tape<'src>) -> Result<(), AllocError>
     ensures { OnOk result
@@ -260,7 +262,7 @@ pub fn arm<'src>(node: &'src Arm, tape: &mut Tape<'src>) -> Result<(), AllocErro
     tape.open(outer)
 }
 
-/// Puts the list of the definitions of a `let`.
+/// Prepends the list of the definitions of a `let`.
 #[cycle(specs)]
 #[inline(never)]
 fn spec_lets<'src>(
@@ -283,7 +285,7 @@ fn spec_lets<'src>(
     tape.open(outer)
 }
 
-/// Puts the S-expression of a `struct`.
+/// Prepends a `struct`.
 #[cycle(specs)]
 #[inline(never)]
 fn field_inits<'src>(nodes: &'src [FieldInit], tape: &mut Tape<'src>) -> Result<(), AllocError>
@@ -301,7 +303,7 @@ fn field_inits<'src>(nodes: &'src [FieldInit], tape: &mut Tape<'src>) -> Result<
     tape.open(outer)
 }
 
-/// Puts the S-expression of a field of a struct and its value.
+/// Prepends a field of a struct with its value.
 #[cycle(specs)]
 pub fn field_init<'src>(node: &'src FieldInit, tape: &mut Tape<'src>) -> Result<(), AllocError>
     ensures { OnOk result (tape.new
@@ -313,7 +315,7 @@ pub fn field_init<'src>(node: &'src FieldInit, tape: &mut Tape<'src>) -> Result<
     tape.open(outer)
 }
 
-/// Puts the atom of an enum and its variant, parted by a dot.
+/// Prepends an atom of an enum and its variant, with a dot between them.
 fn dotted(name: &Ident, variant: &Ident, tape: &mut Tape) -> Result<(), AllocError>
     ensures { OnOk result (tape.new
         ≡ put_before (atom (dotted (name_of name.now) (name_of variant.now)) ∷ []) tape.old) }

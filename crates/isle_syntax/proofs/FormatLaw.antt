@@ -87,12 +87,12 @@ IsSpelt-Spells text feed ds l s =
     let same = Lexes-unique (length text) text s.0 feed.coming end feed.ending s.1 l in
     (sym same.1, subst (λ tokens. SpellsDefinitions ds (placed nowhere tokens)) same.0 s.2)
 
--- A text that begins with a fault is refused there.
+-- A text that begins with a fault is rejected there.
 pub refused_start : (text : List ℕ) (f : Fault) → IfError (RefusesStart 0 text) f → IfError (IsRefusedWith text) f
 refused_start text f =
     IfError-map (RefusesStart 0 text) (IsRefusedWith text) f (λ e s. (IsRefused-from text (fault_spells_nothing text s.0 s.1), (s.0, fault_within text s.0 s.1, s.2)))
 
--- A text of whose lexer the parser makes no tree is refused where the parser refuses it.
+-- A text of whose lexer the parser makes no tree is rejected where the parser rejects it.
 pub refused_tree : (text : List ℕ) (feed : Feed) (f : Fault) → feed.file ≡ 0 → feed.size ≡ length text
     → lexes text feed.coming feed.ending → RefusesText nowhere feed f
     → IfError (IsRefusedWith text) f

@@ -63,13 +63,13 @@ only_read text start now s r at_end =
     let feed = start.cursor.scanner in
     subst (λ (b : Bool). SpellsOnly (placing b feed.file) feed r.front) s.positions (loop_whole start.cursor now.cursor r.front r.same r.so_far at_end)
 
--- a text that is refused with positions is refused without
+-- a text that is rejected with positions is rejected without
 pub refused_erased : (feed : Feed) (f : Fault) → RefusesText (in_file feed.file) feed f → RefusesText nowhere feed f
 refused_erased feed f =
     IfError-map (RefusesWith (in_file feed.file) feed) (RefusesWith nowhere feed) f
     (λ e refused. (λ ds spelt. refused.0 (text_placed (in_file feed.file) feed ds spelt).0 (text_placed (in_file feed.file) feed ds spelt).2, refused.1))
 
--- an answer that is a refusal, for its type
+-- an answer that is a rejection, for its type
 abbrev pub refusal : (T : Type 0) → Fault → Result T Fault
 refusal T f = Err f
 
@@ -78,14 +78,14 @@ says_failed T (faults.Error e) is = absurd cc
 says_failed T faults.Failed is = refl
 says_failed T faults.Memory is = absurd cc
 
--- what one call refuses and another hands on says the same
+-- what one call rejects and another hands on says the same
 pub says_failed_too : (S T : Type 0) (f : Fault) → refusal S f ≡ refusal S faults.Failed → refusal T f ≡ refusal T faults.Failed
 says_failed_too S T f is = ap (refusal T) (says_failed S f is)
 
 fails_too : (S T : Type 0) (f : Fault) (before : Bool) → (refusal S f ≡ refusal S faults.Failed) ↔ (before ≡ true) → (refusal T f ≡ refusal T faults.Failed) ↔ (before ≡ true)
 fails_too S T f before h = (λ is. h.0 (says_failed_too T S f is), λ failed. says_failed_too S T f (h.1 failed))
 
--- where the next definition is refused, so is the text
+-- where the next definition is rejected, so is the text
 pub refused_read : (text : List ℕ) (start now : Parser) (f : Fault) → IsAtStart text start → Read start now
     → (refusal Bool f ≡ refusal Bool faults.Failed) ↔ (has_failed now ≡ true) → IfError (RefusesNext now.cursor) f → IfError (IsRefusedWith text) f
 refused_read text start now f s r fails refused =

@@ -58,7 +58,7 @@ all_written width text answer after start now next s has done kept =
     let is = (IsPrinted-erased width read after).0 (IsPrinted-from_text width read after plain (kept ∙ w.written)) in
     formatted width text after feed (erase read) s.lexed (text_erased (in_file feed.file) feed read only.spelt) is
 
--- where the next definition is refused, so is the text
+-- where the next definition is rejected, so is the text
 pub refused_next : (width : ℕ) (text answer : List ℕ) (start now : Parser) (f : Fault) → IsAtStart text start → HasWritten width start now answer
     → (refusal Bool f ≡ refusal Bool faults.Failed) ↔ (has_failed now ≡ true) → IfError (RefusesNext now.cursor) f → IfError (IsRefusedWith text) f
 refused_next width text answer start now f s has fails refused = refused_read text start now f s (opened has).read fails refused

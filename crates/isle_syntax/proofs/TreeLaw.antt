@@ -24,7 +24,7 @@ IsSpelt-placed text feed ds l s =
     let same = Lexes-unique (length text) text s.0 feed.coming end feed.ending s.1 l in
     (sym same.1, subst (λ tokens. SpellsDefinitions ds (placed (in_file 0) tokens)) same.0 s.2)
 
--- a text of whose lexer the parser makes no tree is refused where the parser refuses it
+-- a text of whose lexer the parser makes no tree is rejected where the parser rejects it
 pub refused_text : (text : List ℕ) (feed : Feed) (f : Fault) → feed.file ≡ 0 → feed.size ≡ length text
     → lexes text feed.coming feed.ending → RefusesText (in_file feed.file) feed f → IfError (IsRefusedWith text) f
 refused_text text feed f file size l refused = refused_tree text feed f file size l (refused_erased feed f refused)

@@ -1,4 +1,4 @@
--- What `format` answers.
+-- The results of `format`.
 use Rattle.std.specs.Prelude.{◌≡◌, ◌↔◌, ℕ, ◌≤◌, List}
 use Rattle.isle_base_source.specs.declared.pos.Pos.{Pos}
 use Rattle.isle_base.specs.Place.{nowhere}
@@ -14,12 +14,12 @@ use Rattle.isle_printer_layout.specs.ShortLines.{HasShortLines}
 abbrev pub SpellsTree : List ℕ → Type 0
 SpellsTree text = (tree : List Definition) × IsSpelt nowhere text tree
 
--- what holds of the tree that the text spells, positions erased
+-- a property of the tree that the text spells, positions erased
 abbrev pub OfItsTree : List ℕ → (List Definition → Type 0) → Type 0
 OfItsTree text P = (tree : List Definition) → IsSpelt nowhere text tree → P tree
 
--- No other tree is spelt by the text. Trees are compared erased; a text spells a tree whatever positions its
--- tokens are given.
+-- The text spells no other tree. Trees are compared erased, and a text spells a tree at any
+-- positions of its tokens.
 abbrev pub IsOnlyTree : List ℕ → List Definition → Type 0
 IsOnlyTree text tree = (place : ℕ → Pos) (ds : List Definition) → IsSpelt place text ds → erase ds ≡ tree
 
@@ -29,28 +29,29 @@ HasPrintOfItsOwn width answer tree =
     (place : ℕ → Pos) (other : List ℕ) (ds : List Definition) → IsSpelt place other ds
     → IsPrinted width ds answer ↔ (erase ds ≡ tree)
 
--- at every other width the print of the tree is spelt by it too, and has the same tokens, offsets aside
+-- at every other width, the print of the tree spells it too, with the same tokens, offsets aside
 abbrev pub ReadsBackAtOtherWidths : List ℕ → List Definition → Type 0
 ReadsBackAtOtherWidths answer tree =
     (other : ℕ) (print : List ℕ) → IsPrinted other tree print
     → IsSpelt nowhere print tree × HaveSameTokens answer print
 
--- The answer is the print, at this width, of the one tree that the text spells.
+-- The result is the print, at this width, of the one tree that the text spells.
 pub record IsFormatted (width : ℕ) (text answer : List ℕ) : Type 0 where
   pub tree : List Definition
-  -- the tree is spelt by the text, and no other one is
+  -- the text spells the tree, and no other one
   pub spelt : IsSpelt nowhere text tree
   pub only : IsOnlyTree text tree
-  -- the answer is its print, which is accepted and prints as itself
+  -- the result is its print, which is accepted and prints as itself
   pub printed : IsPrinted width tree answer
   pub read_back : IsSpelt nowhere answer tree
   pub equal_prints : HasPrintOfItsOwn width answer tree
-  -- a line on which a list stands whole is within the width, its indentation and its empty lists apart
+  -- a line that contains a whole list is within the width, apart from its indentation and its empty
+  -- lists
   pub short_lines : 1 ≤ width → HasShortLines width answer
-  -- at every greater width the print of the tree has no more lines
+  -- at no greater width the print of the tree has more lines
   pub fewer_lines : WiderHasNoMoreLines width tree answer
   pub other_widths : ReadsBackAtOtherWidths answer tree
 
--- no tree is spelt by the text
+-- the text spells no tree
 abbrev pub IsRefused : List ℕ → Type 0
 IsRefused text = (place : ℕ → Pos) (ds : List Definition) → IsSpelt place text ds → ⊥

@@ -1,4 +1,4 @@
--- Formatting one definition after another: what one step does, and where it starts.
+-- Formatting one definition after another: single steps, and their start.
 use Rattle.std.specs.Prelude.{◌≡◌, ℕ, List, [], ◌∷◌, ◌++◌, length, false, true}
 use Rattle.isle_ast.specs.Grammar.{SpellsDefinition}
 use Rattle.isle_ast.specs.Tree.{Definition}
@@ -26,12 +26,12 @@ pub record IsRead (old new : Parser) : Type 0 where
   pub same : source new.cursor ≡ source old.cursor
   pub live : has_failed new ≡ false
 
--- no definition is left to be read
+-- no definition is left
 pub record IsDone (old new : Parser) : Type 0 where
   pub at_end : is_at_end old.cursor.scanner ≡ true
   pub same : new ≡ old
 
--- the next definition is read, and its print is written behind that of the definitions before it
+-- the next definition is read, and its print is appended to those of the definitions before it
 pub record IsPut (width : ℕ) (old new : Parser) (before after : List ℕ) : Type 0 where
   pub definition : Definition
   pub spelt : SpellsDefinition definition (tokens old.cursor) (tokens new.cursor)
@@ -39,6 +39,6 @@ pub record IsPut (width : ℕ) (old new : Parser) (before after : List ℕ) : Ty
   pub live : has_failed new ≡ false
   pub written : (ds : List Definition) → before ≡ printed_text width ds → after ≡ printed_text width (ds ++ definition ∷ [])
 
--- the text is refused, and the error stands in it
+-- the text is rejected, with an error in it
 abbrev pub IsRefusedWith : List ℕ → Error → Type 0
 IsRefusedWith text e = IsRefused text × RefusesIn 0 (length text) e

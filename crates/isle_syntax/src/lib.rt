@@ -1,8 +1,7 @@
 //! The syntax layer of ISLE, the rewriting language of Cranelift's instruction selection.
 //!
-//! `format` is the whole way from text to text, `parse` gives the tree of a text, and `check` says
-//! whether it has one. The modules have the names that they have in
-//! `cranelift-isle`, whose behaviour they follow.
+//! `format` formats a text, `parse` returns its tree, and `check` tests whether it is valid. The
+//! modules have the names and the behaviour of those in `cranelift-isle`.
 #![tactic(auto)]
 
 ghost use Rattle.std.specs.Prelude.{◌≢◌, ◌≤◌, Err, IfErr, IfOk, length, string_bytes};
@@ -37,28 +36,29 @@ pub use trees::{check, parse};
 /// tree so spelt; two accepted texts spell the same tree, positions erased, exactly if their prints
 /// at that width are equal bytes, and such a print is accepted and prints as itself.
 ///
-/// Comments and blank lines are no part of the tree, so they go. The answer is accepted and formats
-/// to itself at this width; another text has the same answer exactly if it spells the same tree,
-/// positions aside. From width 1 on, a line of the answer on which a list stands whole has at most
-/// the width, its indentation and one byte for each empty list on it; at a greater width the answer
-/// has no more lines. At every other width the print of the tree is spelt by it too, and has the
-/// same tokens, offsets aside.
+/// Comments and blank lines are no part of the tree, and are dropped. The result is valid and
+/// formats to itself at this width. Another text has the same result exactly if it spells the same
+/// tree, positions aside. At every other width, the print of the tree spells the same tree too,
+/// with the same tokens, offsets aside.
 ///
-/// `Error` comes where no tree is spelt by the text: it is a parse error whose span begins in file
-/// 0, at a byte of the text or at its end. `Memory` comes where a growth was refused. `Failed`
-/// never comes.
+/// At width 1 or more, a line of the result that contains a whole list is at most as long as the
+/// width, its indentation, and one byte for each empty list on it. At a greater width the result
+/// has no more lines.
+///
+/// Returns `Error` if the text spells no tree: a parse error whose span begins in file 0, at a byte
+/// of the text or at its end. Returns `Memory` if memory runs out, and never `Failed`.
 pub fn format(alloc: Global, text: &str, width: usize) -> Result<String, Fault>
-    // What `Ok` holds: the text spells one tree, positions erased.
+    // The value of `Ok`: the text spells one tree, positions erased.
     ensures spelt { IfOk result (λ _. SpellsTree text.now) }
     ensures only { IfOk result (λ _. OfItsTree text.now (IsOnlyTree text.now)) }
-    // The answer is its print, which is accepted and prints as itself.
+    // The result is its print, which is accepted and prints as itself.
     ensures printed { IfOk result (λ answer. OfItsTree text.now
         (λ tree. IsPrinted width tree (string_bytes answer))) }
     ensures read_back { IfOk result (λ answer. OfItsTree text.now
         (IsSpelt nowhere (string_bytes answer))) }
     ensures equal_prints { IfOk result (λ answer. OfItsTree text.now
         (HasPrintOfItsOwn width (string_bytes answer))) }
-    // How long its lines are, and what other widths give.
+    // The lengths of its lines, and the results at other widths.
     ensures short_lines { IfOk result (λ answer. 1 ≤ width
         → HasShortLines width (string_bytes answer)) }
     ensures fewer_lines { IfOk result (λ answer. OfItsTree text.now
@@ -66,7 +66,7 @@ pub fn format(alloc: Global, text: &str, width: usize) -> Result<String, Fault>
     ensures other_widths { IfOk result (λ answer. OfItsTree text.now
         (ReadsBackAtOtherWidths (string_bytes answer))) }
 
-    // When each error comes.
+    // When each error is returned.
     ensures refused { IfErr result (IfError (λ e.
         IsRefused text.now × RefusesIn 0 (length text.now) e)) }
     ensures never_failed { result ≢ Err Failed }

@@ -1,4 +1,4 @@
-//! Formatting one definition after another.
+//! Formats one definition after another.
 
 ghost use Rattle.std.specs.Prelude.{◌≡◌, ◌↔◌, Err, IfErr, IsErrOf, List, Ok, OnOk, [], ℕ};
 ghost use Rattle.std.specs.Prelude.{false, string_bytes, true};
@@ -15,7 +15,7 @@ use isle_printer::lines::put_definition;
 use isle_printer::printer::{Looks, PrintFault};
 use std::alloc::Global;
 
-/// Appends the print of each definition that a parser has still to give, one after another.
+/// Appends the prints of a parser's remaining definitions, one after another.
 pub(crate) fn put_all(
     alloc: Global,
     parser: &mut Parser,
@@ -34,7 +34,7 @@ pub(crate) fn put_all(
     Ok(())
 }
 
-/// Appends the print of the next definition, and tells whether there was one.
+/// Appends the print of the next definition, and returns whether there was one.
 fn put_next(
     alloc: Global,
     parser: &mut Parser,

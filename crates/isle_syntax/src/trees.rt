@@ -19,12 +19,11 @@ use isle_parser::parser;
 use isle_parser::parser::Parser;
 use std::alloc::Global;
 
-/// Parses a whole text of ISLE, which is file 0: gives the definitions of the one tree that it
-/// spells, with the positions of their tokens.
+/// Parses a whole text of ISLE, as file 0: returns the definitions of the one tree that it spells,
+/// with the positions of their tokens.
 ///
-/// `Error` comes where no tree is spelt by the text: it is a parse error whose span begins in file
-/// 0, at a byte of the text or at its end. `Memory` comes where a growth was refused. `Failed`
-/// never comes.
+/// Returns `Error` if the text spells no tree: a parse error whose span begins in file 0, at a byte
+/// of the text or at its end. Returns `Memory` if memory runs out, and never `Failed`.
 pub fn parse(alloc: Global, text: &str) -> Result<Vec<Def>, Fault>
     ensures tree { IfOk result (λ defs. IsTreeOf text.now (definitions_of defs.items)) }
     ensures no_macro_arg { IfOk result
@@ -38,9 +37,9 @@ pub fn parse(alloc: Global, text: &str) -> Result<Vec<Def>, Fault>
     Ok(defs)
 }
 
-/// Checks that a text is one of ISLE: `Ok` comes exactly if it spells a tree, out of memory aside.
+/// Checks a text of ISLE: returns `Ok` exactly if it spells a tree, unless memory runs out.
 ///
-/// It holds one definition at a time. Its errors are those of `parse`.
+/// It keeps one definition at a time in memory. Its errors are those of `parse`.
 pub fn check(alloc: Global, text: &str) -> Result<(), Fault>
     ensures spelt { OnOk result (SpellsTree text.now) }
     ensures refused { IfErr result (IfError (λ e.
@@ -52,7 +51,7 @@ pub fn check(alloc: Global, text: &str) -> Result<(), Fault>
     read_all(alloc, &mut parser)
 }
 
-/// Reads each definition that a parser has still to give, and lets it go.
+/// Parses and drops each remaining definition of a parser.
 fn read_all(alloc: Global, parser: &mut Parser) -> Result<(), Fault>
     requires ready { has_failed parser.old ≡ false }
     ensures spelt { (text : List ℕ) → IsAtStart text parser.old → OnOk result (SpellsTree text) }
@@ -64,7 +63,7 @@ fn read_all(alloc: Global, parser: &mut Parser) -> Result<(), Fault>
     Ok(())
 }
 
-/// Reads the next definition, lets it go, and tells whether there was one.
+/// Parses and drops the next definition, and returns whether there was one.
 fn read_next(alloc: Global, parser: &mut Parser) -> Result<bool, Fault>
     ensures read { result ≡ Ok true → IsRead parser.old parser.new }
     ensures done { result ≡ Ok false → IsDone parser.old parser.new }

@@ -89,7 +89,7 @@ fn faults(alloc: Global) -> Result<String, AllocError> {
 #[test]
 fn faults_are_shown_by_their_reason(rt: HostRuntime) {
     let shown = faults(rt.alloc());
-    let want = "parse error: m\nthe text was refused before\nout of memory\n";
+    let want = "parse error: m\nthe lexer already failed on this text\nout of memory\n";
     assert!(rt; is_text(&shown, want));
 }
 

@@ -10,7 +10,7 @@ use Rattle.isle_tidy_laws.specs.Prints.{is_plain, HasPlainHeads, HavePlainHeads,
 use Rattle.isle_printer.specs.DefinitionShapes.{definition_shape, type_shape, declaration_shape, field_shapes, variant_shape, named_field_shape, indexed_field_shape, type_content_shape, target_shape, kind_shape, signature_shape, instance_shapes, tag_shape, model_content_shape}
 use Rattle.isle_printer_layout.specs.NameShapes.{name_shape, name_shapes, flag_shape, constant_shape}
 use Rattle.isle_printer_layout.specs.Sexp.{Sexp, atom, sexps, list_of}
-use Rattle.isle_printer_rules.specs.RuleShapes.{rule_shape, pattern_shape, pattern_shapes, expression_shape, expression_shapes, let_shapes, condition_shape, rule_name_shape, priority_shape}
+use Rattle.isle_printer.specs.RuleShapes.{rule_shape, pattern_shape, pattern_shapes, expression_shape, expression_shapes, let_shapes, condition_shape, rule_name_shape, priority_shape}
 use Rattle.isle_printer_verification.specs.SpecShapes.{operator_shape, width_shape, model_shape, model_field_shapes, spec_shape, spec_shapes, arm_shapes, spec_let_shapes, field_init_shapes, state_condition_shape, modifies_shape, clause_shape, spec_definition_shape}
 
 -- lists of S-expressions

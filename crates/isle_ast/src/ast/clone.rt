@@ -1,5 +1,5 @@
-//! Copies of definitions and of their parts. A copy is the same tree, its positions included. The
-//! error of each `clone` is lack of memory.
+//! Copies of definitions and their parts. A copy is the same tree, positions included, and each
+//! `clone` fails only if memory runs out.
 
 ghost use Rattle.std.specs.Prelude.{◌≡◌, IfOk};
 ghost use Rattle.isle_ast.specs.TreeView.{attribute_of, conversion_of, declaration_of};

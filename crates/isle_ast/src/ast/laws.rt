@@ -1,11 +1,11 @@
-//! Laws of the tree and of the grammar, which run no code.
+//! Laws of the tree and of the grammar. They have no code to run.
 //!
-//! The grammar says which tokens spell which definition, as the ISLE reference describes them:
+//! The grammar defines which tokens spell which definition, as in the ISLE reference:
 //!
 //! - `(type I MOD.. VALUE)`, the modifiers `extern` and `nodebug` in any order and repeated;
-//! - `(rule I N P CONDITION.. X)`, where the name I and the priority N may each be absent, and a
-//!   condition is `(if-let P X)` or `(if X)`, which matches a wildcard;
-//! - `(extractor (I I..) P)`: the term with its parameters, and the pattern that it stands for;
+//! - `(rule I N P CONDITION.. X)`: the name I and the priority N are optional, and a condition is
+//!   `(if-let P X)` or `(if X)`, whose pattern is a wildcard;
+//! - `(extractor (I I..) P)`: the term with its parameters, and the pattern that defines it;
 //! - `(decl I (I..) I)` with the flags `pure`, `multi`, `partial` and `rec` in this order after
 //!   `decl`;
 //! - `(attr I KIND..)` of a term, `(attr rule I KIND..)` of a rule;
@@ -22,22 +22,29 @@
 //! A pattern P is a variable, `I @ P`, `true` or `false`, an integer, a constant, `(I P..)`, `_` or
 //! `(and P..)`. An expression X is `(I X..)`, a variable, `true` or `false`, an integer, a constant
 //! or `(let ((I I X)..) X)`, where each variable has a type and a value. A constant is a `$` and
-//! its name, which may be empty. An integer is one of 128 bits, and a priority one of 64, both with
-//! a sign. The argument of a macro is spelt by nothing.
+//! its name, which may be empty. Integers are signed, of 128 bits, and priorities are signed, of 64
+//! bits. Macro arguments have no syntax.
 //!
-//! A spec expression E is an integer, a bit vector, `true` or `false`, a variable, `(as E MODEL)`,
-//! `(:I E)`, `(I? E)`, `(OPERATOR E..)`, `(switch E (E E)..)`, `(match E ((I I..) E)..)`, `(let ((I
-//! E)..) E)`, `(with (I..) E)`, `(macro (I..) E)`, `(I! E..)`, `(I.I E..)` or `(struct (I E)..)`. A
-//! bit vector is `#b` and binary digits, or `#x` and hexadecimal ones, below 2^128. In `(I.I E..)`
-//! the first name holds no dot, and both together are no operator.
+//! A spec expression E is one of these:
 //!
-//! A name that would be read as a word of its definition wants what is read: a term of a
-//! declaration that is the word of a flag wants that flag, or a later one, to be set; a term of an
-//! attribute isn't named `rule`; an extracted term named `infallible` wants that flag. A variable
-//! isn't `true` or `false` and doesn't begin with `$`, and in a pattern it isn't `_`; the term of a
-//! pattern isn't named `and`, and that of an expression isn't named `let`. A rule without a name
-//! and a priority has a term or an `and` for its pattern, a rule without a priority has no integer
-//! for it, and the expression of a rule is no term named `if`.
+//! - an integer, a bit vector, `true` or `false`, or a variable;
+//! - `(as E MODEL)`, `(:I E)`, `(I? E)`, `(OPERATOR E..)` or `(switch E (E E)..)`;
+//! - `(match E ((I I..) E)..)`, `(let ((I E)..) E)`, `(with (I..) E)` or `(macro (I..) E)`;
+//! - `(I! E..)`, `(I.I E..)` or `(struct (I E)..)`.
+//!
+//! A bit vector is `#b` and binary digits, or `#x` and hexadecimal ones, below 2^128. In
+//! `(I.I E..)` the first name has no dot, and the two together are no operator.
+//!
+//! A name must not be mistaken for a word of the syntax:
+//!
+//! - a term of a declaration can be named like a flag only if that flag, or a later one, is set;
+//! - a term of an attribute is not named `rule`;
+//! - an extracted term is named `infallible` only if that flag is set;
+//! - a variable is not `true` or `false`, does not begin with `$`, and in a pattern is not `_`;
+//! - the term of a pattern is not named `and`, and that of an expression is not named `let`;
+//! - the pattern of a rule without a name and a priority is a term or an `and`;
+//! - the pattern of a rule without a priority is not an integer;
+//! - the expression of a rule is not a term named `if`.
 
 ghost use Rattle.std.specs.Prelude.{◌≡◌, ◌↔◌, ℕ, List, IsTrue, false};
 ghost use Rattle.isle_base_source.specs.declared.pos.Pos.{Pos};
@@ -93,9 +100,9 @@ use crate::ast::{
 };
 pub use isle_ast_names::laws::{identifiers_are_ordered, identifiers_are_symbols};
 
-/// What spells a node in front of some tokens is a part of the list, and
-/// it spells the node in front of any others too. So the tokens that spell a list of definitions
-/// are cut into as many parts as there are definitions, and each part spells its own.
+/// The tokens that spell a node are a prefix of the list, and spell it before any other tokens too.
+/// So the tokens that spell a list of definitions are divided into one part for each definition,
+/// which spells that definition.
 pub fn spellings_are_parts()
     ensures names { (name : Name) → IsByParts (SpellsName name) }
     ensures lists_of_names { (names : List Name) → IsByParts (SpellsAll SpellsName names) }
@@ -122,10 +129,9 @@ pub fn spellings_are_parts()
         → SpellsDefinitions ds all ↔ AreParts SpellsDefinition ds all }
 {}
 
-/// A text spells a tree with positions exactly where it spells the
-/// erased tree, with the default position in place of every other. So reading a text without
-/// positions accepts what reading it with positions accepts, and gives the same tree, erased; and
-/// the tokens settle the positions.
+/// If a text spells a tree with positions, it spells the erased tree with the default position
+/// everywhere, and conversely. So parsing without positions accepts the same texts as parsing with
+/// them and returns the same tree, erased; and the tokens determine the positions.
 pub fn spellings_are_erased()
     ensures erased { (place : ℕ → Pos) (text : Feed) (ds : List Definition)
         → Spells place text ds → Spells nowhere text (erase ds) }
@@ -135,9 +141,8 @@ pub fn spellings_are_erased()
         → Spells place text ds → Spells place text es → erase ds ≡ erase es → ds ≡ es }
 {}
 
-/// A tree that some tokens spell is writable, that is, it meets the
-/// conditions on each node under which a tree is written so that it reads back; and it holds no
-/// argument of a macro.
+/// A tree that some tokens spell is writable: each node meets the conditions for being written as
+/// text and read back. It contains no macro argument.
 pub fn spelt_trees_are_writable()
     ensures writable { (ds : List Definition) (all : List Placed)
         → SpellsDefinitions ds all → AreWritable ds }
@@ -145,21 +150,19 @@ pub fn spelt_trees_are_writable()
         → SpellsDefinitions ds all → definitions_have_macro_arg ds ≡ false }
 {}
 
-/// A text that spelt a tree before a lone `-` was a symbol spells the
-/// same tree now.
+/// If a text spelled a tree under upstream's rules, where a lone `-` is no symbol, it spells the
+/// same tree under these.
 pub fn upstream_texts_stay()
     ensures { (place : ℕ → Pos) (text : List ℕ) (ds : List Definition)
         → WasSpelt place text ds → IsSpelt place text ds }
 {}
 
-/// Positions play no part in what is writable. A tree is writable
-/// exactly if it is once erased.
+/// Positions play no part in writability: a tree is writable exactly if its erasure is.
 pub fn erasing_keeps_writable()
     ensures { (ds : List Definition) → AreWritable (erase ds) ↔ AreWritable ds }
 {}
 
-/// Definitions and their parts are equal exactly where they are the same
-/// tree, with the same positions.
+/// Definitions and their parts are equal exactly if they are the same tree with the same positions.
 pub fn definitions_are_compared()
     ensures type_defs { (a b : TypeDef)
         → IsTrue (⟦<TypeDef as PartialEq>⟧.eq a b) ↔ (type_definition_of a ≡ type_definition_of b) }

@@ -1,5 +1,5 @@
-//! What is said of one definition: whether it holds the argument of a macro. No text spells one, so
-//! a tree that holds one isn't written. Beside it stands the full name of a variant.
+//! Macro arguments in a definition, and the full name of a variant. Macro arguments have no syntax,
+//! so a tree that contains one can't be printed.
 
 ghost use Rattle.std.specs.Prelude.{◌≡◌, IfOk};
 ghost use Rattle.isle_ast_names.specs.TreeView.{name_of};
@@ -12,7 +12,7 @@ use isle_ast_names::Ident;
 use std::alloc::{AllocError, Global};
 
 impl Def {
-    /// Tells whether a pattern of the definition is, or holds, the argument of a macro.
+    /// Returns whether a pattern of the definition is, or contains, a macro argument.
     pub fn has_macro_arg(&self) -> bool
         ensures { result ≡ definition_has_macro_arg (definition_of self.now) }
     {
@@ -36,10 +36,8 @@ impl Def {
 }
 
 impl Variant {
-    /// Gives the full name of a variant of an enum type: the enum's name, a dot and the variant's
-    /// name, at the position of the variant's name.
-    ///
-    /// The error is lack of memory.
+    /// The full name of an enum's variant: the enum's name, a dot and the variant's name, at the
+    /// position of the variant's name.
     pub fn full_name(
         alloc: Global,
         enum_name: &Ident,

@@ -1,5 +1,5 @@
-//! Which trees are written so that they read back: the conditions on each node, tested node by
-//! node. Positions play no part, and nothing is printed. No call takes memory.
+//! The trees that can be written as text and read back: the conditions on each node, tested node by
+//! node. Positions play no part. Nothing is printed, and nothing is allocated.
 
 ghost use Rattle.std.specs.Prelude.{◌≡◌, ◌↔◌, IsTrue};
 ghost use Rattle.isle_ast.specs.TreeView.{definition_of, definitions_of};
@@ -14,7 +14,7 @@ use crate::ast::Def;
 use isle_ast_rules::writability::rules;
 use isle_ast_verification::writability::specs;
 
-/// Tells whether each definition is written so that it reads back. No definitions are.
+/// Returns whether every definition can be written as text and read back. An empty list can.
 pub fn writable(defs: &[Def]) -> bool
     ensures { IsTrue result ↔ AreWritable (definitions_of defs.now) }
 {
@@ -22,7 +22,7 @@ pub fn writable(defs: &[Def]) -> bool
 }
 
 impl Def {
-    /// Tells whether the definition is written so that it reads back.
+    /// Returns whether the definition can be written as text and read back.
     pub fn is_writable(&self) -> bool
         ensures { IsTrue result ↔ IsWritable (definition_of self.now) }
     {
@@ -30,14 +30,12 @@ impl Def {
     }
 }
 
-/// Tells whether each definition is writable.
 fn are_writable(defs: &[Def]) -> bool
     ensures { result ≡ are_writable (definitions_of defs.now) }
 {
     defs.iter().all(is_writable_definition)
 }
 
-/// Tells whether a definition is writable.
 fn is_writable_definition(def: &Def) -> bool
     ensures { result ≡ is_writable (definition_of def.now) }
 {

@@ -1,4 +1,4 @@
--- A name behind a `$`, and tests of what the elements of a list mean.
+-- A name after a `$`, and tests of what the elements of a list mean.
 use Rattle.std.proofs.Common.{◌≡◌, List, [], ◌∷◌, ◌++◌, ℕ, Bool, ◌&&◌, map, refl, sym, ap, ◌∙◌, arith}
 use Rattle.std.specs.List.{list_all}
 use Rattle.std.specs.Str.{chars, IsUtf8}
@@ -17,7 +17,7 @@ identifier_by_characters : (text : List ℕ) → IsUtf8 text → is_identifier t
 unfolding is_identifier
 identifier_by_characters text u = ap (λ b. b && are_identifier (chars text)) (is_utf8-from_IsUtf8 text u)
 
--- a `$` and a text are an identifier where each character of the text may stand behind the first one
+-- a `$` and a text are an identifier if each character of the text may follow the first one of an identifier
 pub constant_is_identifier : (text : List ℕ) → IsUtf8 text → is_identifier (36 ∷ text) ≡ list_all continues_identifier (chars text)
 constant_is_identifier text u =
     let whole = dollar_is_text text u in

@@ -1,4 +1,4 @@
-//! The comparison of expressions.
+//! Comparison of expressions.
 
 ghost use Rattle.std.specs.Prelude.{◌≡◌, ◌&&◌};
 ghost use Rattle.std.specs.Cmp.{partial_equiv_from_equiv};
@@ -39,7 +39,6 @@ impl Eq for LetDef {
     ghost laws = { let_defs_equiv };
 }
 
-/// Tells whether two expressions are equal.
 #[cycle(same)]
 fn same_expr(a: &Expr, b: &Expr) -> bool
     ensures { result ≡ same_expression (expression_of a.now) (expression_of b.now) }
@@ -68,7 +67,6 @@ fn same_expr(a: &Expr, b: &Expr) -> bool
     }
 }
 
-/// Tells whether two lists of expressions are equal.
 #[cycle(same)]
 fn same_exprs(exprs: &Vec<Expr>, others: &Vec<Expr>) -> bool
     ensures { result
@@ -86,7 +84,6 @@ fn same_exprs(exprs: &Vec<Expr>, others: &Vec<Expr>) -> bool
     true
 }
 
-/// Tells whether two lists of definitions of a `let` are equal.
 #[cycle(same)]
 fn same_let_defs(defs: &Vec<LetDef>, others: &Vec<LetDef>) -> bool
     ensures { result
@@ -104,7 +101,6 @@ fn same_let_defs(defs: &Vec<LetDef>, others: &Vec<LetDef>) -> bool
     true
 }
 
-/// Tells whether two definitions of a `let` are equal.
 #[cycle(same)]
 fn same_let(def: &LetDef, other: &LetDef) -> bool
     ensures { result ≡ same_single_let (single_let_of def.now) (single_let_of other.now) }

@@ -1,4 +1,4 @@
-//! The comparison of patterns.
+//! Comparison of patterns.
 
 ghost use Rattle.std.specs.Prelude.{◌≡◌, ◌&&◌};
 ghost use Rattle.std.specs.Cmp.{partial_equiv_from_equiv};
@@ -22,7 +22,6 @@ impl Eq for Pattern {
     ghost laws = { patterns_equiv };
 }
 
-/// Tells whether two patterns are equal.
 #[cycle(same)]
 fn same_pattern(a: &Pattern, b: &Pattern) -> bool
     ensures { result ≡ same_pattern (pattern_of a.now) (pattern_of b.now) }
@@ -63,7 +62,6 @@ fn same_pattern(a: &Pattern, b: &Pattern) -> bool
     }
 }
 
-/// Tells whether two lists of patterns are equal.
 #[cycle(same)]
 fn same_patterns(patterns: &Vec<Pattern>, others: &Vec<Pattern>) -> bool
     ensures { result

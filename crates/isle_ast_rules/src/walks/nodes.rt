@@ -1,4 +1,4 @@
-//! What is said of one node: where it stands, and the symbol of a term.
+//! The position of a node, and the symbol of a term.
 
 ghost use Rattle.std.specs.Prelude.{◌≡◌};
 ghost use Rattle.std.specs.Option.{option_map};
@@ -11,7 +11,6 @@ use isle_ast_names::Ident;
 use isle_base::lexer::Pos;
 
 impl Pattern {
-    /// Gives the position of the pattern.
     pub fn pos(&self) -> Pos
         ensures { result ≡ pattern_pos (pattern_of self.now) }
     {
@@ -28,7 +27,7 @@ impl Pattern {
         }
     }
 
-    /// Gives the symbol of a term, and None of any other pattern.
+    /// The symbol of a term pattern, or `None` for any other pattern.
     pub fn root_term(&self) -> Option<&Ident>
         ensures { option_map (λ sym. name_of sym.now) result ≡ root_term (pattern_of self.now) }
     {
@@ -40,7 +39,6 @@ impl Pattern {
 }
 
 impl Expr {
-    /// Gives the position of the expression.
     pub fn pos(&self) -> Pos
         ensures { result ≡ expression_pos (expression_of self.now) }
     {

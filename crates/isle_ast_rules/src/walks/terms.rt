@@ -1,5 +1,4 @@
-//! The terms of patterns and of expressions, each at its position, in preorder. No walk takes
-//! memory.
+//! The terms of patterns and of expressions with their positions, in preorder. No walk allocates.
 
 ghost use Rattle.std.specs.List.{FoldsTo};
 ghost use Rattle.isle_ast_rules.specs.TermHeads.{CalledAtHead, expression_heads};
@@ -15,11 +14,10 @@ use isle_ast_names::Ident;
 use isle_base::lexer::Pos;
 
 impl Pattern {
-    /// Calls `f` with the position and the symbol of each term of the pattern, in the order in
-    /// which they are written: a term comes before those of its arguments.
+    /// Calls `f` with the position and the symbol of each term of the pattern, in the order of the
+    /// text: a term comes before those of its arguments.
     ///
-    /// It asks that `f` may be called with anything, after each call again. It can't fail, and
-    /// takes no memory.
+    /// `f` must accept any argument, at each call.
     pub fn terms<F: FnMut(Pos, &Ident)>(&self, f: &mut F)
         requires { F.IsAlwaysCallable f.old }
         ensures called { FoldsTo (CalledAtHead F.FnMut) f.old (heads (pattern_of self.now)) f.new }
@@ -30,12 +28,11 @@ impl Pattern {
 }
 
 impl Expr {
-    /// Calls `f` with the position and the symbol of each term of the expression, in the order in
-    /// which they are written: a term comes before those of its arguments, and in a `let` those of
-    /// the values, in order, come before those of its body.
+    /// Calls `f` with the position and the symbol of each term of the expression, in the order of
+    /// the text: a term comes before those of its arguments. In a `let`, the terms of the values
+    /// come before those of the body.
     ///
-    /// It asks that `f` may be called with anything, after each call again. It can't fail, and
-    /// takes no memory.
+    /// `f` must accept any argument, at each call.
     pub fn terms<F: FnMut(Pos, &Ident)>(&self, f: &mut F)
         requires { F.IsAlwaysCallable f.old }
         ensures called { FoldsTo (CalledAtHead F.FnMut) f.old
@@ -46,7 +43,6 @@ impl Expr {
     }
 }
 
-/// Calls `f` with the position and the symbol of one term.
 fn call_at<F: FnMut(Pos, &Ident)>(f: &mut F, pos: Pos, sym: &Ident)
     requires { F.IsAlwaysCallable f.old }
     ensures called { CalledAtHead F.FnMut f.old (pos, name_of sym.now) f.new }
@@ -55,7 +51,7 @@ fn call_at<F: FnMut(Pos, &Ident)>(f: &mut F, pos: Pos, sym: &Ident)
     f(pos, sym);
 }
 
-/// Calls `f` at each term of a pattern.
+/// Calls `f` with each term of a pattern.
 #[cycle(pattern_terms)]
 fn pattern_terms<F: FnMut(Pos, &Ident)>(pattern: &Pattern, f: &mut F)
     requires { F.IsAlwaysCallable f.old }
@@ -78,7 +74,7 @@ fn pattern_terms<F: FnMut(Pos, &Ident)>(pattern: &Pattern, f: &mut F)
     }
 }
 
-/// Calls `f` at each term of the patterns, in order.
+/// Calls `f` with each term of the patterns, in order.
 #[cycle(pattern_terms)]
 fn patterns_terms<F: FnMut(Pos, &Ident)>(patterns: &Vec<Pattern>, f: &mut F)
     requires { F.IsAlwaysCallable f.old }
@@ -91,7 +87,7 @@ fn patterns_terms<F: FnMut(Pos, &Ident)>(patterns: &Vec<Pattern>, f: &mut F)
     }
 }
 
-/// Calls `f` at each term of an expression.
+/// Calls `f` with each term of an expression.
 #[cycle(expr_terms)]
 fn expr_terms<F: FnMut(Pos, &Ident)>(expr: &Expr, f: &mut F)
     requires { F.IsAlwaysCallable f.old }
@@ -115,7 +111,7 @@ fn expr_terms<F: FnMut(Pos, &Ident)>(expr: &Expr, f: &mut F)
     }
 }
 
-/// Calls `f` at each term of the expressions, in order.
+/// Calls `f` with each term of the expressions, in order.
 #[cycle(expr_terms)]
 fn exprs_terms<F: FnMut(Pos, &Ident)>(exprs: &Vec<Expr>, f: &mut F)
     requires { F.IsAlwaysCallable f.old }
@@ -128,7 +124,7 @@ fn exprs_terms<F: FnMut(Pos, &Ident)>(exprs: &Vec<Expr>, f: &mut F)
     }
 }
 
-/// Calls `f` at each term of the values of a `let`, in order.
+/// Calls `f` with each term of the values of a `let`, in order.
 #[cycle(expr_terms)]
 fn values_terms<F: FnMut(Pos, &Ident)>(defs: &Vec<LetDef>, f: &mut F)
     requires { F.IsAlwaysCallable f.old }
@@ -141,7 +137,7 @@ fn values_terms<F: FnMut(Pos, &Ident)>(defs: &Vec<LetDef>, f: &mut F)
     }
 }
 
-/// Calls `f` at each term of the value of a definition of a `let`.
+/// Calls `f` with each term of the value in a definition of a `let`.
 #[cycle(expr_terms)]
 fn value_terms<F: FnMut(Pos, &Ident)>(def: &LetDef, f: &mut F)
     requires { F.IsAlwaysCallable f.old }

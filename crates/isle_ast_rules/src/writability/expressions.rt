@@ -1,4 +1,4 @@
-//! Which expressions are written so that they read back.
+//! The expressions that can be written as text and read back.
 
 ghost use Rattle.std.specs.Prelude.{◌≡◌};
 ghost use Rattle.isle_ast_rules.specs.TreeView.{expression_of, expression_list_of, expressions_of};
@@ -11,7 +11,7 @@ use crate::writability::names::is_expression_variable;
 use crate::{Expr, LetDef};
 use isle_ast_names::writability::{is_constant_name, is_name, is_whole_number};
 
-/// Tells whether an expression is writable.
+/// Returns whether an expression is writable.
 #[cycle(writable)]
 pub(super) fn is_writable_expr(expr: &Expr) -> bool
     ensures { result ≡ is_writable_expression (expression_of expr.now) }
@@ -28,7 +28,6 @@ pub(super) fn is_writable_expr(expr: &Expr) -> bool
     }
 }
 
-/// Tells whether each expression is writable.
 #[cycle(writable)]
 fn are_writable_exprs(exprs: &Vec<Expr>) -> bool
     ensures { result
@@ -42,7 +41,7 @@ fn are_writable_exprs(exprs: &Vec<Expr>) -> bool
     true
 }
 
-/// Tells whether each definition of a `let` is writable.
+/// Returns whether each definition of a `let` is writable.
 #[cycle(writable)]
 fn are_writable_lets(defs: &Vec<LetDef>) -> bool
     ensures { result ≡ are_writable_lets (let_list_of (single_lets_of defs.now.items)) }
@@ -55,7 +54,6 @@ fn are_writable_lets(defs: &Vec<LetDef>) -> bool
     true
 }
 
-/// Tells whether a definition of a `let` is writable.
 #[cycle(writable)]
 fn is_writable_let(def: &LetDef) -> bool
     ensures { result ≡ is_writable_single_let (single_let_of def.now) }

@@ -1,4 +1,4 @@
-//! Which patterns are written so that they read back.
+//! The patterns that can be written as text and read back.
 
 ghost use Rattle.std.specs.Prelude.{◌≡◌};
 ghost use Rattle.isle_ast_names.specs.TreeView.{name_of};
@@ -12,7 +12,7 @@ use crate::writability::names::is_expression_variable;
 use isle_ast_names::Ident;
 use isle_ast_names::writability::{is_constant_name, is_name, is_whole_number};
 
-/// Tells whether a pattern is writable.
+/// Returns whether a pattern is writable.
 #[cycle(writable)]
 pub(super) fn is_writable_pattern(pattern: &Pattern) -> bool
     ensures { result ≡ is_writable_pattern (pattern_of pattern.now) }
@@ -33,7 +33,6 @@ pub(super) fn is_writable_pattern(pattern: &Pattern) -> bool
     }
 }
 
-/// Tells whether each pattern is writable.
 #[cycle(writable)]
 fn are_writable_patterns(patterns: &Vec<Pattern>) -> bool
     ensures { result ≡ are_writable_patterns (pattern_list_of (patterns_of patterns.now.items)) }
@@ -46,7 +45,7 @@ fn are_writable_patterns(patterns: &Vec<Pattern>) -> bool
     true
 }
 
-/// Tells whether a name may be the variable of a pattern.
+/// Returns whether a variable of a pattern can have this name.
 fn is_pattern_variable(name: &Ident) -> bool
     ensures { result ≡ is_pattern_variable (name_of name.now) }
 {

@@ -1,4 +1,4 @@
-//! Which rules and extractors are written so that they read back.
+//! The rules and extractors that can be written as text and read back.
 
 ghost use Rattle.std.specs.Prelude.{◌≡◌, map};
 ghost use Rattle.std.specs.List.{list_all};
@@ -15,7 +15,7 @@ use crate::writability::patterns::is_writable_pattern;
 use crate::{Expr, Extractor, IfLet, Pattern, Rule};
 use isle_ast_names::writability::{are_names, is_name, is_optional_name};
 
-/// Tells whether a rule is writable.
+/// Returns whether a rule is writable.
 pub fn is_writable_rule(rule: &Rule) -> bool
     ensures { result ≡ is_writable_rule (rule_of rule.now) }
 {
@@ -28,29 +28,28 @@ pub fn is_writable_rule(rule: &Rule) -> bool
         && !is_if_expression(&rule.expr)
 }
 
-/// Each priority of the type is writable.
+/// Every priority of the type can be written.
 fn is_priority(_prio: Option<i64>) -> bool
     ensures { result ≡ is_optional_signed 63 _prio }
 {
     true
 }
 
-/// Tells whether each condition is writable.
 fn are_writable_conditions(iflets: &[IfLet]) -> bool
     ensures { result ≡ list_all is_writable_condition (map condition_of iflets.now) }
 {
     iflets.iter().all(is_writable_condition)
 }
 
-/// Tells whether a condition is writable.
 fn is_writable_condition(iflet: &IfLet) -> bool
     ensures { result ≡ is_writable_condition (condition_of iflet.now) }
 {
     is_writable_pattern(&iflet.pattern) && is_writable_expr(&iflet.expr)
 }
 
-/// Tells whether the pattern isn't read as a name or a priority that the rule doesn't have: without
-/// a priority it isn't an integer, and without a name and a priority it is a term or an `and`.
+/// Returns whether the pattern can't be mistaken for a name or a priority that the rule lacks.
+/// Without a priority it must not be an integer, and without a name and a priority it must be a
+/// term or an `and`.
 fn pattern_is_no_head(rule: &Rule) -> bool
     ensures { result
         ≡ pattern_is_no_head
@@ -65,7 +64,7 @@ fn pattern_is_no_head(rule: &Rule) -> bool
     }
 }
 
-/// Tells whether an expression is a term named `if`, which is read as a condition.
+/// Returns whether an expression is a term named `if`, which would be read as a condition.
 fn is_if_expression(expr: &Expr) -> bool
     ensures { result ≡ is_if_expression (expression_of expr.now) }
 {
@@ -75,7 +74,7 @@ fn is_if_expression(expr: &Expr) -> bool
     }
 }
 
-/// Tells whether an extractor is writable.
+/// Returns whether an extractor is writable.
 pub fn is_writable_extractor(extractor: &Extractor) -> bool
     ensures { result ≡ is_writable_extractor (extractor_of extractor.now) }
 {

@@ -107,7 +107,7 @@ in_form (require_clause es) all rest h = h
 in_form (match_clause es) all rest h = h
 in_form (modifies_clause m) all rest h = h
 
--- clauses and the `)` behind them
+-- clauses and the `)` after them
 
 abbrev Closed : List SpecClause → List Placed → List Placed → Type 0
 Closed cs = Then (SpellsAll SpellsClause cs) (SpellsToken rparen)

@@ -148,7 +148,7 @@ listed_lawful Inner inner con to from erases pos x only lawful =
     made_at_lawful SpellsSpec erase_spec (λ y. InParentheses (Inner y)) inner con to from erases pos x only
     (parentheses_begin (Inner x)) (parentheses_lawful Inner inner x lawful)
 
--- the same behind a word
+-- the same after a word
 worded_lawful : {B : Type 0} (word : List ℕ) (Inner : B → List Placed → List Placed → Type 0) (inner : B → B) (con : B → Pos → SpecNode) →
     ((place : Pos) (y : B) (all rest : List Placed) → At place (InParentheses (BehindWord word (Inner y))) all rest → SpellsSpec (con y place) all rest) →
     ((place : Pos) (y : B) (all rest : List Placed) → SpellsSpec (con y place) all rest → At place (InParentheses (BehindWord word (Inner y))) all rest) →

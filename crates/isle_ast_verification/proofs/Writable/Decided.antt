@@ -102,7 +102,7 @@ among text (o ∷ os) all any =
     (λ later. among text os h.1 later)
     (or_cases (bytes_eq text (operator_text o)) (list_any (λ o. bytes_eq text (operator_text o)) os) any)
 
--- behind `fp.` the operators of floats are read, and behind another name and a dot none is
+-- after `fp.` the operators of floats are read, and after another name and a dot none is
 float_operators : (case : List ℕ) → is_operator_text (codes "fp" ++ 46 ∷ case) ≡ is_float_name case
 float_operators case = refl
 

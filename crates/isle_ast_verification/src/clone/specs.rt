@@ -1,4 +1,4 @@
-//! Copies of specs, of their macros and states, and of the spec expressions that they are made of.
+//! Copies of specs, macros, states and spec expressions.
 
 ghost use Rattle.std.specs.Prelude.{◌≡◌, IfOk};
 ghost use Rattle.isle_ast_verification.specs.TreeView.{field_init_list_of, modified_of};
@@ -97,7 +97,6 @@ impl Clone for FieldInit {
     }
 }
 
-/// Copies names, in order.
 fn copy_names(names: &Vec<Ident>) -> Result<Vec<Ident>, AllocError>
     ensures { IfOk result (λ copies. names_of copies.items ≡ names_of names.now.items) }
 {
@@ -105,7 +104,6 @@ fn copy_names(names: &Vec<Ident>) -> Result<Vec<Ident>, AllocError>
     Ok(copies)
 }
 
-/// Copies a spec expression.
 #[cycle(copy_spec)]
 fn copy_spec(expr: &SpecExpr) -> Result<SpecExpr, AllocError>
     ensures { IfOk result (λ copy. spec_of copy ≡ spec_of expr.now) }
@@ -149,7 +147,7 @@ fn copy_spec(expr: &SpecExpr) -> Result<SpecExpr, AllocError>
     }
 }
 
-/// Copies a spec expression and the box that holds it.
+/// Copies a spec expression together with its box.
 #[cycle(copy_spec)]
 fn copy_boxed(expr: &Box<SpecExpr>) -> Result<Box<SpecExpr>, AllocError>
     ensures { IfOk result (λ copy. spec_of copy.value ≡ spec_of expr.now.value) }
@@ -158,7 +156,6 @@ fn copy_boxed(expr: &Box<SpecExpr>) -> Result<Box<SpecExpr>, AllocError>
     Ok(Box::new(*Box::allocator(expr), copied)?)
 }
 
-/// Copies a variable.
 fn copy_var(var: &Ident, pos: Pos) -> Result<SpecExpr, AllocError>
     ensures { IfOk result (λ copy. spec_of copy ≡ var_spec (name_of var.now) pos) }
 {
@@ -168,7 +165,7 @@ fn copy_var(var: &Ident, pos: Pos) -> Result<SpecExpr, AllocError>
     })
 }
 
-/// Copies a spec expression whose type is given.
+/// Copies an `as`.
 #[cycle(copy_spec)]
 fn copy_as(x: &Box<SpecExpr>, ty: &ModelType, pos: Pos) -> Result<SpecExpr, AllocError>
     ensures { IfOk result
@@ -181,7 +178,6 @@ fn copy_as(x: &Box<SpecExpr>, ty: &ModelType, pos: Pos) -> Result<SpecExpr, Allo
     })
 }
 
-/// Copies a field of a spec expression.
 #[cycle(copy_spec)]
 fn copy_field(field: &Ident, x: &Box<SpecExpr>, pos: Pos) -> Result<SpecExpr, AllocError>
     ensures { IfOk result
@@ -194,7 +190,6 @@ fn copy_field(field: &Ident, x: &Box<SpecExpr>, pos: Pos) -> Result<SpecExpr, Al
     })
 }
 
-/// Copies the question whether a spec expression is of a variant.
 #[cycle(copy_spec)]
 fn copy_discriminator(variant: &Ident, x: &Box<SpecExpr>, pos: Pos) -> Result<SpecExpr, AllocError>
     ensures { IfOk result
@@ -208,7 +203,6 @@ fn copy_discriminator(variant: &Ident, x: &Box<SpecExpr>, pos: Pos) -> Result<Sp
     })
 }
 
-/// Copies an operation.
 #[cycle(copy_spec)]
 fn copy_operation(op: &SpecOp, args: &Vec<SpecExpr>, pos: Pos) -> Result<SpecExpr, AllocError>
     ensures { IfOk result
@@ -221,7 +215,6 @@ fn copy_operation(op: &SpecOp, args: &Vec<SpecExpr>, pos: Pos) -> Result<SpecExp
     })
 }
 
-/// Copies a `with`.
 #[cycle(copy_spec)]
 fn copy_with(decls: &Vec<Ident>, body: &Box<SpecExpr>, pos: Pos) -> Result<SpecExpr, AllocError>
     ensures { IfOk result
@@ -234,7 +227,6 @@ fn copy_with(decls: &Vec<Ident>, body: &Box<SpecExpr>, pos: Pos) -> Result<SpecE
     })
 }
 
-/// Copies a macro within a spec expression.
 #[cycle(copy_spec)]
 fn copy_macro(params: &Vec<Ident>, body: &Box<SpecExpr>, pos: Pos) -> Result<SpecExpr, AllocError>
     ensures { IfOk result
@@ -248,7 +240,6 @@ fn copy_macro(params: &Vec<Ident>, body: &Box<SpecExpr>, pos: Pos) -> Result<Spe
     })
 }
 
-/// Copies the expansion of a macro.
 #[cycle(copy_spec)]
 fn copy_expansion(name: &Ident, args: &Vec<SpecExpr>, pos: Pos) -> Result<SpecExpr, AllocError>
     ensures { IfOk result
@@ -262,7 +253,6 @@ fn copy_expansion(name: &Ident, args: &Vec<SpecExpr>, pos: Pos) -> Result<SpecEx
     })
 }
 
-/// Copies a variant of an enum.
 #[cycle(copy_spec)]
 fn copy_enum(
     name: &Ident,
@@ -283,7 +273,6 @@ fn copy_enum(
     })
 }
 
-/// Copies a struct.
 #[cycle(copy_spec)]
 fn copy_struct(fields: &Vec<FieldInit>, pos: Pos) -> Result<SpecExpr, AllocError>
     ensures { IfOk result
@@ -296,7 +285,6 @@ fn copy_struct(fields: &Vec<FieldInit>, pos: Pos) -> Result<SpecExpr, AllocError
     })
 }
 
-/// Copies spec expressions, in order.
 #[cycle(copy_spec)]
 fn copy_specs(exprs: &Vec<SpecExpr>) -> Result<Vec<SpecExpr>, AllocError>
     ensures { IfOk result (λ copies. specs_of copies.items ≡ specs_of exprs.now.items) }
@@ -308,7 +296,7 @@ fn copy_specs(exprs: &Vec<SpecExpr>) -> Result<Vec<SpecExpr>, AllocError>
     Ok(copies)
 }
 
-/// Copies the arms of a `match`, in order.
+/// Copies the arms of a `match`.
 #[cycle(copy_spec)]
 fn copy_arms(arms: &Vec<Arm>) -> Result<Vec<Arm>, AllocError>
     ensures { IfOk result (λ copies. single_arms_of copies.items ≡ single_arms_of arms.now.items) }
@@ -320,7 +308,6 @@ fn copy_arms(arms: &Vec<Arm>) -> Result<Vec<Arm>, AllocError>
     Ok(copies)
 }
 
-/// Copies an arm of a `match`.
 #[cycle(copy_spec)]
 fn copy_arm(arm: &Arm) -> Result<Arm, AllocError>
     ensures { IfOk result (λ copy. single_arm_of copy ≡ single_arm_of arm.now) }
@@ -333,7 +320,7 @@ fn copy_arm(arm: &Arm) -> Result<Arm, AllocError>
     })
 }
 
-/// Copies the definitions of a `let`, in order.
+/// Copies the definitions of a `let`.
 #[cycle(copy_spec)]
 fn copy_spec_lets(defs: &Vec<(Ident, SpecExpr)>) -> Result<Vec<(Ident, SpecExpr)>, AllocError>
     ensures { IfOk result
@@ -346,7 +333,7 @@ fn copy_spec_lets(defs: &Vec<(Ident, SpecExpr)>) -> Result<Vec<(Ident, SpecExpr)
     Ok(copies)
 }
 
-/// Copies the fields of a struct, in order.
+/// Copies the fields of a struct.
 #[cycle(copy_spec)]
 fn copy_field_inits(fields: &Vec<FieldInit>) -> Result<Vec<FieldInit>, AllocError>
     ensures { IfOk result
@@ -359,7 +346,6 @@ fn copy_field_inits(fields: &Vec<FieldInit>) -> Result<Vec<FieldInit>, AllocErro
     Ok(copies)
 }
 
-/// Copies a field of a struct.
 #[cycle(copy_spec)]
 fn copy_field_init(field: &FieldInit) -> Result<FieldInit, AllocError>
     ensures { IfOk result (λ copy. single_field_init_of copy ≡ single_field_init_of field.now) }

@@ -1,4 +1,4 @@
-//! The comparison of spec expressions.
+//! Comparison of spec expressions.
 
 ghost use Rattle.std.specs.Prelude.{◌≡◌, ◌&&◌, true};
 ghost use Rattle.std.specs.Cmp.{partial_equiv_from_equiv};
@@ -65,14 +65,12 @@ impl Eq for FieldInit {
     ghost laws = { field_inits_equiv };
 }
 
-/// Tells whether two lists of names are equal.
 fn same_names(names: &Vec<Ident>, others: &Vec<Ident>) -> bool
     ensures { result ≡ same_names (names_of names.now.items) (names_of others.now.items) }
 {
     names == others
 }
 
-/// Tells whether two spec expressions are equal.
 #[cycle(same)]
 #[tactic(auto, using(crate::proofs::SpecLets::let_seen))]
 fn same_spec(a: &SpecExpr, b: &SpecExpr) -> bool
@@ -114,7 +112,7 @@ fn same_spec(a: &SpecExpr, b: &SpecExpr) -> bool
     }
 }
 
-/// Tells whether two spec expressions are equal, of which the first has lists of parts.
+/// Returns whether two spec expressions are equal, if the first has lists of parts.
 #[cycle(same)]
 #[tactic(auto, using(crate::proofs::SpecLets::let_seen))]
 fn same_parts(a: &SpecExpr, b: &SpecExpr) -> bool
@@ -163,7 +161,6 @@ fn same_parts(a: &SpecExpr, b: &SpecExpr) -> bool
     }
 }
 
-/// Tells whether two lists of spec expressions are equal.
 #[cycle(same)]
 fn same_specs(exprs: &Vec<SpecExpr>, others: &Vec<SpecExpr>) -> bool
     ensures { result
@@ -181,7 +178,6 @@ fn same_specs(exprs: &Vec<SpecExpr>, others: &Vec<SpecExpr>) -> bool
     true
 }
 
-/// Tells whether two lists of arms are equal.
 #[cycle(same)]
 fn same_arms(arms: &Vec<Arm>, others: &Vec<Arm>) -> bool
     ensures { result
@@ -199,7 +195,6 @@ fn same_arms(arms: &Vec<Arm>, others: &Vec<Arm>) -> bool
     true
 }
 
-/// Tells whether two arms are equal.
 #[cycle(same)]
 fn same_arm(arm: &Arm, other: &Arm) -> bool
     ensures { result ≡ same_single_arm (single_arm_of arm.now) (single_arm_of other.now) }
@@ -210,7 +205,6 @@ fn same_arm(arm: &Arm, other: &Arm) -> bool
         && arm.pos == other.pos
 }
 
-/// Tells whether two lists of definitions of a `let` are equal.
 #[cycle(same)]
 fn same_spec_lets(defs: &Vec<(Ident, SpecExpr)>, others: &Vec<(Ident, SpecExpr)>) -> bool
     ensures { result
@@ -228,7 +222,6 @@ fn same_spec_lets(defs: &Vec<(Ident, SpecExpr)>, others: &Vec<(Ident, SpecExpr)>
     true
 }
 
-/// Tells whether two definitions of a `let` are equal.
 #[cycle(same)]
 fn same_spec_let(def: &(Ident, SpecExpr), other: &(Ident, SpecExpr)) -> bool
     ensures { result
@@ -237,7 +230,6 @@ fn same_spec_let(def: &(Ident, SpecExpr), other: &(Ident, SpecExpr)) -> bool
     def.0 == other.0 && same_spec(&def.1, &other.1)
 }
 
-/// Tells whether two lists of fields of a struct are equal.
 #[cycle(same)]
 fn same_field_inits(fields: &Vec<FieldInit>, others: &Vec<FieldInit>) -> bool
     ensures { result
@@ -255,7 +247,6 @@ fn same_field_inits(fields: &Vec<FieldInit>, others: &Vec<FieldInit>) -> bool
     true
 }
 
-/// Tells whether two fields of a struct are equal.
 #[cycle(same)]
 fn same_field_init(field: &FieldInit, other: &FieldInit) -> bool
     ensures { result

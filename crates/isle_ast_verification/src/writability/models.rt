@@ -1,4 +1,4 @@
-//! Which models of types are written so that they read back.
+//! The models of types that can be written as text and read back.
 
 ghost use Rattle.std.specs.Prelude.{◌≡◌};
 ghost use Rattle.isle_ast_verification.specs.TreeView.{model_list_of, single_model_field_of};
@@ -11,7 +11,7 @@ ghost use Rattle.isle_ast_verification.specs.WritableDeciders.{is_writable_singl
 use crate::{ModelField, ModelType};
 use isle_ast_names::writability::is_name;
 
-/// Tells whether a model is writable.
+/// Returns whether a model is writable.
 #[cycle(writable)]
 pub fn is_writable_model(model: &ModelType) -> bool
     ensures { result ≡ is_writable_model (type_model_of model.now) }
@@ -28,7 +28,6 @@ pub fn is_writable_model(model: &ModelType) -> bool
     }
 }
 
-/// Tells whether each field is writable.
 #[cycle(writable)]
 fn are_writable_fields(fields: &Vec<ModelField>) -> bool
     ensures { result
@@ -42,7 +41,6 @@ fn are_writable_fields(fields: &Vec<ModelField>) -> bool
     true
 }
 
-/// Tells whether a field is writable.
 #[cycle(writable)]
 fn is_writable_field(field: &ModelField) -> bool
     ensures { result ≡ is_writable_single_model_field (single_model_field_of field.now) }
@@ -50,7 +48,7 @@ fn is_writable_field(field: &ModelField) -> bool
     is_name(&field.name) && is_writable_model(&field.ty)
 }
 
-/// Each width of the type may be written.
+/// Every width of the type can be written.
 fn is_width(_width: Option<usize>) -> bool
     ensures { result ≡ is_optional_width _width }
 {

@@ -1,4 +1,4 @@
-//! Which specs are written so that they read back.
+//! The specs that can be written as text and read back.
 
 ghost use Rattle.std.specs.Prelude.{◌≡◌, map, string_bytes};
 ghost use Rattle.std.specs.List.{list_all};
@@ -34,7 +34,7 @@ use isle_ast_names::writability::{
     are_names, is_bool_name, is_name, is_optional_name, is_whole_number,
 };
 
-/// Tells whether a spec expression is writable.
+/// Returns whether a spec expression is writable.
 #[cycle(writable)]
 #[tactic(auto, using(crate::proofs::SpecLets::let_seen))]
 pub fn is_writable_spec(expr: &SpecExpr) -> bool
@@ -68,7 +68,7 @@ pub fn is_writable_spec(expr: &SpecExpr) -> bool
     }
 }
 
-/// Tells whether each spec expression is writable.
+/// Returns whether each spec expression is writable.
 #[cycle(writable)]
 pub(super) fn are_writable_specs(exprs: &Vec<SpecExpr>) -> bool
     ensures { result ≡ are_writable_specs (spec_list_of (specs_of exprs.now.items)) }
@@ -81,7 +81,7 @@ pub(super) fn are_writable_specs(exprs: &Vec<SpecExpr>) -> bool
     true
 }
 
-/// Tells whether the arguments of a `switch` are writable: the first one, and each other one as a
+/// Returns whether the arguments of a `switch` are writable: the first, and each other one as a
 /// pair.
 #[cycle(writable)]
 fn are_writable_cases(exprs: &Vec<SpecExpr>) -> bool
@@ -98,7 +98,7 @@ fn are_writable_cases(exprs: &Vec<SpecExpr>) -> bool
     true
 }
 
-/// Tells whether a spec expression is a pair of two writable ones.
+/// Returns whether a spec expression is a pair of two writable ones.
 #[cycle(writable)]
 fn is_writable_pair(expr: &SpecExpr) -> bool
     ensures { result ≡ is_writable_pair (spec_of expr.now) }
@@ -109,7 +109,6 @@ fn is_writable_pair(expr: &SpecExpr) -> bool
     }
 }
 
-/// Tells whether each arm of a `match` is writable.
 #[cycle(writable)]
 fn are_writable_arms(arms: &Vec<Arm>) -> bool
     ensures { result ≡ are_writable_arms (arm_list_of (single_arms_of arms.now.items)) }
@@ -122,7 +121,6 @@ fn are_writable_arms(arms: &Vec<Arm>) -> bool
     true
 }
 
-/// Tells whether an arm of a `match` is writable.
 #[cycle(writable)]
 fn is_writable_arm(arm: &Arm) -> bool
     ensures { result ≡ is_writable_single_arm (single_arm_of arm.now) }
@@ -130,7 +128,7 @@ fn is_writable_arm(arm: &Arm) -> bool
     is_name(&arm.variant) && are_names(&arm.args) && is_writable_spec(&arm.body)
 }
 
-/// Tells whether each name of a `let` and its value are writable.
+/// Returns whether each name and value of a `let` is writable.
 #[cycle(writable)]
 fn are_writable_lets(defs: &Vec<(Ident, SpecExpr)>) -> bool
     ensures { result
@@ -144,7 +142,7 @@ fn are_writable_lets(defs: &Vec<(Ident, SpecExpr)>) -> bool
     true
 }
 
-/// Tells whether each field of a `struct` is writable.
+/// Returns whether each field of a `struct` is writable.
 #[cycle(writable)]
 fn are_writable_fields(fields: &Vec<FieldInit>) -> bool
     ensures { result
@@ -158,7 +156,6 @@ fn are_writable_fields(fields: &Vec<FieldInit>) -> bool
     true
 }
 
-/// Tells whether a field of a `struct` is writable.
 #[cycle(writable)]
 fn is_writable_field(field: &FieldInit) -> bool
     ensures { result ≡ is_writable_single_field_init (single_field_init_of field.now) }
@@ -166,15 +163,15 @@ fn is_writable_field(field: &FieldInit) -> bool
     is_name(&field.name) && is_writable_spec(&field.value)
 }
 
-/// Tells whether a bit vector has at least one bit, and a value that has no more bits.
+/// Returns whether a bit vector has at least one bit, and its value fits.
 fn is_bit_vector(val: u128, width: usize) -> bool
     ensures { result ≡ is_writable_bit_vector val width }
 {
     width >= 1 && (width >= 128 || val < 1 << width)
 }
 
-/// Tells whether the names of an enum and its variant are writable: that of the enum holds no dot,
-/// and both together are no operator.
+/// Returns whether the names of an enum and its variant are writable: the enum's name has no dot,
+/// and the two together are no operator.
 fn is_variant_name(name: &Ident, variant: &Ident) -> bool
     ensures { result ≡ is_writable_variant_name (name_of name.now) (name_of variant.now) }
 {
@@ -184,14 +181,13 @@ fn is_variant_name(name: &Ident, variant: &Ident) -> bool
         && !(name.0.as_str() == "fp" && is_float_name(&variant.0))
 }
 
-/// Tells whether a name holds a dot.
 fn has_dot(name: &Ident) -> bool
     ensures { result ≡ has_dot (string_bytes name.now.0) }
 {
     name.0.as_bytes().contains(&b'.')
 }
 
-/// What the operators of floats are named after `fp.`.
+/// The names of the operators on floats, after `fp.`.
 const FLOAT_NAMES: [&str; 30] = [
     "eq",
     "ne",
@@ -225,14 +221,14 @@ const FLOAT_NAMES: [&str; 30] = [
     "to_sbv",
 ];
 
-/// Tells whether an operator has this name after `fp.`.
+/// Returns whether an operator has this name after `fp.`.
 fn is_float_name(name: &str) -> bool
     ensures { result ≡ is_float_name name.now }
 {
     FLOAT_NAMES.contains(&name)
 }
 
-/// Tells whether what holds of a term is writable.
+/// Returns whether the specification of a term is writable.
 pub fn is_writable_definition(spec: &Spec) -> bool
     ensures { result ≡ is_writable_spec_definition (spec_definition_of spec.now) }
 {
@@ -244,28 +240,27 @@ pub fn is_writable_definition(spec: &Spec) -> bool
         && are_writable_modifies(&spec.modifies)
 }
 
-/// Tells whether each state that a term changes is writable.
 fn are_writable_modifies(modifies: &[Modifies]) -> bool
     ensures { result ≡ list_all is_writable_modified (map modified_of modifies.now) }
 {
     modifies.iter().all(is_writable_modified)
 }
 
-/// Tells whether a state that a term changes is writable.
+/// Returns whether a state that a term modifies is writable.
 fn is_writable_modified(modified: &Modifies) -> bool
     ensures { result ≡ is_writable_modified (modified_of modified.now) }
 {
     is_name(&modified.state) && is_optional_name(&modified.cond)
 }
 
-/// Tells whether a macro of spec expressions is writable.
+/// Returns whether a macro of spec expressions is writable.
 pub fn is_writable_macro(spec_macro: &SpecMacro) -> bool
     ensures { result ≡ is_writable_spec_macro (spec_macro_of spec_macro.now) }
 {
     is_name(&spec_macro.name) && are_names(&spec_macro.params) && is_writable_spec(&spec_macro.body)
 }
 
-/// Tells whether a state that specs speak of is writable.
+/// Returns whether a state of specs is writable.
 pub fn is_writable_state(state: &State) -> bool
     ensures { result ≡ is_writable_state (state_of state.now) }
 {

@@ -1,4 +1,4 @@
-//! Laws of positions and of lexing, which run no code.
+//! Laws of positions and of lexing. They have no code to run.
 
 ghost use Rattle.std.specs.Prelude.{◌≡◌, ◌↔◌, ℕ, List, IsTrue};
 ghost use Rattle.isle_base_source.specs.declared.error.Error.{Error};
@@ -12,25 +12,25 @@ ghost use Rattle.isle_base.specs.TokenView.{token_of};
 use crate::lexer::Token;
 pub use isle_base_source::laws::positions_are_ordered;
 
-/// Each text has tokens and an ending, and just one of each.
+/// Each text has exactly one sequence of tokens, and one ending.
 pub fn one_lexing()
     ensures { (text : List ℕ) → HasOneLexing text }
 {}
 
-/// A text that had tokens up to its end before a lone `-` was a symbol
-/// has the same tokens now.
+/// If a text had tokens up to its end under upstream's rules, where a lone `-` is no symbol, it has
+/// the same tokens under these.
 pub fn upstream_tokens_stay()
     ensures { (text : List ℕ) (tokens : List Lexeme)
         → upstream_lexes text tokens end → lexes text tokens end }
 {}
 
-/// Two tokens are equal exactly if they are the same one.
+/// Two tokens compare as equal exactly if they have the same kind and value.
 pub fn tokens_are_equal_as_written()
     ensures { (a b : Token) → IsTrue (⟦<Token as PartialEq>⟧.eq a b) ↔ (token_of a ≡ token_of b) }
 {}
 
-/// What a lexer is in a contract decides what it gives next. So a lexer
-/// and its copy hand out the same tokens, up to the same refusal, lack of memory aside.
+/// A lexer's value in contracts determines what it returns next. So a lexer and its copy return the
+/// same tokens, up to the same error, unless memory runs out.
 pub fn copies_go_on_alike()
     ensures token { (feed : Feed) (x y : Placed) (a b : Feed)
         → Takes feed x a → Takes feed y b → (x ≡ y) × (a ≡ b) }

@@ -1,8 +1,8 @@
-//! Where a symbol, blanks or a line comment end, found many bytes at a time.
+//! The ends of symbols, blanks and line comments, found many bytes at a time.
 //!
-//! Which bytes these are made of is the rule of the lexer of upstream `cranelift-isle`. Most runs
-//! are a few bytes long, and how many can't be foretold, so lanes look at the first bytes too: they
-//! find the end of a short run without a branch that hangs on its length.
+//! The classes of bytes are those of upstream's lexer. Most runs are a few bytes long, and their
+//! lengths are hard to predict. So lanes look at the first bytes too: they find the end of a short
+//! run without a branch that depends on its length.
 
 ghost use Rattle.std.specs.Prelude.{◌≡◌, ◌+◌, ◌≤◌, ℕ, Bool, not, map, drop, length};
 ghost use Rattle.std.specs.List.{prefix_len};
@@ -12,26 +12,27 @@ ghost use Rattle.isle_base.specs.Skips.{in_line, is_blank};
 
 use std::simd::prelude::*;
 
-/// The byte that may stand in comments alone.
+/// The form feed, which is allowed only in comments.
 pub(crate) const FORM_FEED: u8 = 0x0c;
 
-/// How many bytes are looked at together.
+/// The number of bytes compared at once.
 const LANES: usize = 32;
 
-/// A class of bytes, of which runs are made.
+/// A class of bytes.
 trait Class {
     ghost holds: { ℕ → Bool };
 
-    /// Tells whether a byte is of the class. One comparison decides on letters, and comes first.
+    /// Returns whether a byte belongs to the class. Letters need one comparison, and it comes
+    /// first.
     fn has(byte: u8) -> bool
         ensures { result ≡ holds byte };
 
-    /// Tells which of 32 bytes aren't of the class: a bit for each, the lowest for the first.
+    /// A bit for each of 32 bytes, the lowest for the first: set if the byte is not in the class.
     fn misses(bytes: u8x32) -> u64
         ensures { result ≡ mask_l (map (λ byte. not (holds byte)) bytes) };
 }
 
-/// The bytes that may stand in a symbol after its first.
+/// The bytes that a symbol may contain after its first.
 struct InSymbol;
 
 impl Class for InSymbol {
@@ -84,7 +85,7 @@ impl Class for Blank {
     }
 }
 
-/// Each byte but LF and CR.
+/// Every byte but LF and CR.
 struct InLine;
 
 impl Class for InLine {
@@ -103,7 +104,7 @@ impl Class for InLine {
     }
 }
 
-/// Finds where a run ends, byte by byte.
+/// The end of a run, found byte by byte.
 #[inline(always)]
 fn rest_end<C: Class>(bytes: &[u8], from: usize) -> usize
     requires { from ≤ length bytes.now }
@@ -116,7 +117,7 @@ fn rest_end<C: Class>(bytes: &[u8], from: usize) -> usize
     at
 }
 
-/// Finds where a run ends, 32 bytes at a time, and what is left byte by byte.
+/// The end of a run, found 32 bytes at a time, and byte by byte at the end of the text.
 #[inline(never)]
 fn run_end<C: Class>(bytes: &[u8], from: usize) -> usize
     requires { from ≤ length bytes.now }
@@ -133,15 +134,15 @@ fn run_end<C: Class>(bytes: &[u8], from: usize) -> usize
     rest_end::<C>(bytes, at)
 }
 
-/// Finds where a symbol ends: the offset of the first byte from `from` on that can't stand in a
-/// symbol, or the length of `bytes` if there is none.
+/// The end of a symbol: the offset of the first byte at or after `from` that cannot be in a symbol,
+/// or `bytes.len()` if there is none.
 ///
-/// Such a byte is `(`, `)`, `;`, `@`, space, tab, LF, form feed or CR. Any other goes on with the
-/// symbol, also NUL, VT and each byte from 128 on. The byte at `from` is looked at like those
-/// after it, and isn't asked to begin a symbol.
+/// Such bytes are `(`, `)`, `;`, `@`, space, tab, LF, form feed and CR. All others continue the
+/// symbol, including NUL, VT and every byte from 128 on. The byte at `from` is tested like the
+/// others, and need not be able to begin a symbol.
 ///
-/// `from` and the answer are byte offsets into `bytes`, from 0. It asks that `from` is at most the
-/// length. `bytes` needn't be UTF-8, and no memory is taken.
+/// Offsets are in bytes, and `from` must be at most `bytes.len()`. `bytes` need not be UTF-8, and
+/// nothing is allocated.
 #[inline(always)]
 pub fn symbol_end(bytes: &[u8], from: usize) -> usize
     requires { from ≤ length bytes.now }
@@ -151,14 +152,14 @@ pub fn symbol_end(bytes: &[u8], from: usize) -> usize
     run_end::<InSymbol>(bytes, from)
 }
 
-/// Finds where blanks end: the offset of the first byte from `from` on that is no space, tab, LF
-/// or CR, or the length of `bytes` if there is none.
+/// The end of blanks: the offset of the first byte at or after `from` that is no space, tab, LF or
+/// CR, or `bytes.len()` if there is none.
 ///
-/// Form feed and VT are no blanks, nor is the `;` of a comment. Where the byte at `from` is no
-/// blank, the answer is `from`.
+/// Form feed and VT are not blanks, and neither is the `;` of a comment. If the byte at `from` is
+/// not a blank, the result is `from`.
 ///
-/// `from` and the answer are byte offsets into `bytes`, from 0. It asks that `from` is at most the
-/// length. `bytes` needn't be UTF-8, and no memory is taken.
+/// Offsets are in bytes, and `from` must be at most `bytes.len()`. `bytes` need not be UTF-8, and
+/// nothing is allocated.
 pub fn blank_end(bytes: &[u8], from: usize) -> usize
     requires { from ≤ length bytes.now }
     ensures { result ≡ from + prefix_len is_blank (drop from bytes.now) }
@@ -166,15 +167,15 @@ pub fn blank_end(bytes: &[u8], from: usize) -> usize
     run_end::<Blank>(bytes, from)
 }
 
-/// Finds where a line comment ends: the offset of the first LF or CR from `from` on, or the length
-/// of `bytes` if there is none.
+/// The end of a line comment: the offset of the first LF or CR at or after `from`, or `bytes.len()`
+/// if there is none.
 ///
-/// Nothing else ends a line comment, form feed and `;)` neither. The byte at `from` is looked at
-/// like those after it, so `from` may be the offset of the comment's `;` or any further one. The
-/// LF or CR isn't part of the comment.
+/// Nothing else ends a line comment, neither a form feed nor `;)`. The byte at `from` is tested
+/// like the others, so `from` may be the offset of the comment's `;` or any later one. The LF or CR
+/// is not part of the comment.
 ///
-/// `from` and the answer are byte offsets into `bytes`, from 0. It asks that `from` is at most the
-/// length. `bytes` needn't be UTF-8, and no memory is taken.
+/// Offsets are in bytes, and `from` must be at most `bytes.len()`. `bytes` need not be UTF-8, and
+/// nothing is allocated.
 pub fn line_comment_end(bytes: &[u8], from: usize) -> usize
     requires { from ≤ length bytes.now }
     ensures { result ≡ from + prefix_len in_line (drop from bytes.now) }

@@ -12,7 +12,7 @@ ghost use Rattle.isle_base.specs.Skips.{begins_with};
 use crate::scanner::read::Reason;
 use crate::scanner::skips::byte_at;
 
-/// Tells whether a byte is a hexadecimal digit or `_`.
+/// Returns whether a byte is a hexadecimal digit or `_`.
 #[tactic(auto, unfolding(crate::specs::Literals::in_literal))]
 fn is_in_literal(byte: u8) -> bool
     ensures { result ≡ in_literal byte }
@@ -20,7 +20,7 @@ fn is_in_literal(byte: u8) -> bool
     byte.is_ascii_hexdigit() || byte == b'_'
 }
 
-/// Finds the first byte from an offset on that is in no literal, or the end of the text.
+/// The first offset from `from` on whose byte cannot be in a literal, or the end of the text.
 fn literal_end(bytes: &[u8], from: usize) -> usize
     requires { from ≤ length bytes.now }
     ensures end { result ≡ from + prefix_len in_literal (drop from bytes.now) }
@@ -33,7 +33,7 @@ fn literal_end(bytes: &[u8], from: usize) -> usize
     at
 }
 
-/// Gives the radix that a letter after `0` stands for.
+/// The radix of the prefix `0` and this letter.
 #[tactic(auto, unfolding(crate::specs::Literals::radix_of))]
 fn radix_of(letter: u8) -> Option<u32>
     ensures { result ≡ letter_radix letter }
@@ -46,7 +46,7 @@ fn radix_of(letter: u8) -> Option<u32>
     }
 }
 
-/// Gives the radix of the prefix at an offset.
+/// The radix of the prefix at an offset.
 #[tactic(auto, using(crate::proofs::Places::prefix_pair, crate::proofs::Places::prefix_end))]
 fn prefix_at(bytes: &[u8], at: usize) -> Option<u32>
     requires { at ≤ length bytes.now }
@@ -59,7 +59,7 @@ fn prefix_at(bytes: &[u8], at: usize) -> Option<u32>
     }
 }
 
-/// Gives the radix of the digits at an offset, and the offset of the first of them.
+/// The radix of the digits at an offset, and the offset of the first of them.
 #[tactic(auto, using(crate::proofs::Values::prefix_passed, crate::proofs::Values::prefix_absent, crate::proofs::Values::prefix_room, crate::proofs::Values::radix_known))]
 fn digits_at(bytes: &[u8], at: usize) -> (u32, usize)
     requires { at ≤ length bytes.now }
@@ -74,7 +74,6 @@ fn digits_at(bytes: &[u8], at: usize) -> (u32, usize)
     }
 }
 
-/// Tells whether `-` stands at an offset.
 fn minus_at(bytes: &[u8], at: usize) -> bool
     requires { at < length bytes.now }
     ensures { result ≡ has_minus (drop at bytes.now) }
@@ -82,7 +81,7 @@ fn minus_at(bytes: &[u8], at: usize) -> bool
     bytes[at] == b'-'
 }
 
-/// Reads the number that digits of a radix write. Underscores don't count.
+/// Reads the number written by digits of a radix, ignoring underscores.
 fn number_of(radix: u32, run: &[u8]) -> Result<u128, Reason>
     requires { IsRadix radix }
     ensures { WritesNumber radix (digits_of run.now) result }
@@ -126,7 +125,7 @@ fn signed(minus: bool, number: u128) -> Result<i128, Reason>
     }
 }
 
-/// Gives the offset after the `-` at an offset, if one stands there.
+/// The offset after the `-` at `from`, or `from` if there is none.
 #[tactic(auto, using(crate::proofs::Values::sign_passed, crate::proofs::Values::sign_absent))]
 fn sign_end(bytes: &[u8], from: usize) -> usize
     requires { from < length bytes.now }
@@ -161,7 +160,7 @@ pub(crate) fn literal_at(bytes: &[u8], from: usize) -> Result<(i128, usize), Rea
     }
 }
 
-/// Finds the end of the integer literal at an offset, if it is one that has a value.
+/// The end of the integer literal at an offset, or `None` if it has no value.
 pub fn integer_end(bytes: &[u8], from: usize) -> Option<usize>
     requires within { from < length bytes.now }
     requires begins { begins_with begins_literal (drop from bytes.now) ≡ true }

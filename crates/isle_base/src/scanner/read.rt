@@ -17,25 +17,25 @@ use isle_base_source::error::{Error, Span};
 use isle_base_source::pos::Pos;
 use std::alloc::{AllocError, Global};
 
-/// Why a text is refused.
+/// Why a text is rejected.
 #[derive(Clone, Copy)]
 pub(crate) enum Reason {
-    /// A block comment has no end.
+    /// A block comment is never closed.
     UnclosedComment,
-    /// A form feed stands where none may.
+    /// There is a form feed outside of comments.
     FormFeed,
-    /// A literal has no digit.
+    /// A literal has no digits.
     Empty,
-    /// A digit isn't one of the radix.
+    /// A digit is too large for the radix.
     InvalidDigit,
-    /// A number doesn't fit 128 bits.
+    /// A number does not fit in 128 bits.
     TooLarge,
-    /// A number after `-` isn't below 2^127.
+    /// A number after `-` is not below 2^127.
     NotInI128,
 }
 
 impl Reason {
-    /// Gives the text for the user.
+    /// The message for users.
     fn message(self) -> &'static str {
         match self {
             Reason::UnclosedComment => "unterminated block comment",
@@ -48,18 +48,17 @@ impl Reason {
     }
 }
 
-/// What is found in a text from an offset on, after blanks and comments.
+/// The next token, end or fault of a text from an offset on, after blanks and comments.
 #[derive(Clone, Copy)]
 pub(crate) enum Found<'src> {
-    /// A token: the offset of its first byte, itself, and the offset after its last.
+    /// A token: the offset of its first byte, the token, and the offset after its last byte.
     Token(usize, TokenRef<'src>, usize),
     /// The end of the text.
     End,
-    /// A fault: the offset of its first byte, and why the text is refused.
+    /// A fault: the offset of its first byte, and the reason.
     Fault(usize, Reason),
 }
 
-/// Reads the symbol at an offset.
 #[inline(always)]
 fn symbol_at<'src>(src: &'src str, start: usize) -> Found<'src>
     requires within { start < length src.now }
@@ -71,7 +70,6 @@ fn symbol_at<'src>(src: &'src str, start: usize) -> Found<'src>
     Found::Token(start, TokenRef::Symbol(&src[start..end]), end)
 }
 
-/// Reads the literal at an offset.
 #[inline(always)]
 fn integer_at<'src>(bytes: &[u8], start: usize) -> Found<'src>
     requires within { start < length bytes.now }
@@ -85,7 +83,7 @@ fn integer_at<'src>(bytes: &[u8], start: usize) -> Found<'src>
     }
 }
 
-/// Tells whether the `-` at an offset is a symbol by itself: no byte of a symbol follows it.
+/// Returns whether the `-` at an offset is a symbol by itself: no byte of a symbol follows it.
 pub fn is_lone_minus_at(bytes: &[u8], at: usize) -> bool
     requires within { at < length bytes.now }
     requires minus { has_minus (drop at bytes.now) ≡ true }
@@ -94,7 +92,7 @@ pub fn is_lone_minus_at(bytes: &[u8], at: usize) -> bool
     symbol_end(bytes, at + 1) == at + 1
 }
 
-/// Reads what begins with the `-` at an offset: a symbol, or a literal.
+/// Reads the symbol or literal that begins with the `-` at an offset.
 #[inline(always)]
 fn from_minus_at<'src>(src: &'src str, start: usize) -> Found<'src>
     requires within { start < length src.now }
@@ -109,7 +107,7 @@ fn from_minus_at<'src>(src: &'src str, start: usize) -> Found<'src>
     }
 }
 
-/// Reads the token at an offset at which no blank and no comment begins.
+/// Reads the token at an offset where no blank and no comment begins.
 #[inline(always)]
 fn token_at<'src>(src: &'src str, start: usize) -> Found<'src>
     requires within { start < length src.now }
@@ -128,7 +126,7 @@ fn token_at<'src>(src: &'src str, start: usize) -> Found<'src>
     }
 }
 
-/// Finds what a text has from an offset on.
+/// Finds the next token, end or fault of a text from an offset on.
 #[inline(always)]
 pub(crate) fn read<'src>(src: &'src str, from: usize) -> Found<'src>
     requires within { from ≤ length src.now }
@@ -147,7 +145,7 @@ pub(crate) fn read<'src>(src: &'src str, from: usize) -> Found<'src>
     }
 }
 
-/// Makes the error of a refused text.
+/// Builds the error of a rejected text.
 #[inline(never)]
 pub(crate) fn error(alloc: Global, pos: Pos, reason: Reason) -> Result<Error, AllocError>
     requires { pos.offset + 1 < 2 ^ 64 }

@@ -1,4 +1,4 @@
-//! What stands between the tokens of a text: blanks and comments.
+//! The blanks and comments between the tokens of a text.
 
 ghost use Rattle.std.specs.Prelude.{◌≡◌, ◌≤◌, ◌+◌, drop, length};
 ghost use Rattle.std.specs.List.{prefix_len};
@@ -7,7 +7,6 @@ ghost use Rattle.isle_base.specs.Reads.{EndsComment, EndsSkip, ShowsByte};
 
 use crate::scanner::lanes::{blank_end, line_comment_end};
 
-/// Gives the byte at an offset.
 pub(crate) fn byte_at(bytes: &[u8], at: usize) -> Option<u8>
     requires { at ≤ length bytes.now }
     ensures { ShowsByte bytes.now at result }
@@ -19,7 +18,7 @@ pub(crate) fn byte_at(bytes: &[u8], at: usize) -> Option<u8>
     }
 }
 
-/// Tells whether `(;` stands at an offset.
+/// Returns whether `(;` is at an offset.
 #[tactic(auto, using(crate::proofs::Places::opens_pair, crate::proofs::Places::opens_end))]
 pub fn opens_at(bytes: &[u8], at: usize) -> bool
     requires { at ≤ length bytes.now }
@@ -28,7 +27,7 @@ pub fn opens_at(bytes: &[u8], at: usize) -> bool
     at + 1 < bytes.len() && bytes[at] == b'(' && bytes[at + 1] == b';'
 }
 
-/// Tells whether `;)` stands at an offset.
+/// Returns whether `;)` is at an offset.
 #[tactic(auto, using(crate::proofs::Places::closes_pair, crate::proofs::Places::closes_end))]
 fn closes_at(bytes: &[u8], at: usize) -> bool
     requires { at ≤ length bytes.now }
@@ -37,7 +36,7 @@ fn closes_at(bytes: &[u8], at: usize) -> bool
     at + 1 < bytes.len() && bytes[at] == b';' && bytes[at + 1] == b')'
 }
 
-/// Finds the end of the block comment whose inside begins at an offset, after its `;)`.
+/// The offset after the `;)` of the block comment whose inside begins at an offset.
 #[inline(never)]
 pub fn block_comment_end(bytes: &[u8], from: usize) -> Option<usize>
     requires { from ≤ length bytes.now }
@@ -61,7 +60,7 @@ pub fn block_comment_end(bytes: &[u8], from: usize) -> Option<usize>
     Some(at)
 }
 
-/// Finds where blanks end. Most blanks stand by themselves, and the byte after one shows it.
+/// The end of blanks. Most blanks are single, which the byte after one shows.
 #[inline(always)]
 #[tactic(auto, unfolding(crate::specs::Skips::is_blank))]
 fn blanks_behind(bytes: &[u8], from: usize) -> usize
@@ -74,8 +73,8 @@ fn blanks_behind(bytes: &[u8], from: usize) -> usize
     blank_end(bytes, from)
 }
 
-/// Finds the first byte from an offset on that belongs to no blank and no comment, or the end of
-/// the text. The error is the offset of a block comment without an end.
+/// The first offset from `from` on that is in no blank and no comment, or the end of the text. The
+/// error is the offset of a block comment that is never closed.
 #[inline(always)]
 pub(crate) fn skip_end(bytes: &[u8], from: usize) -> Result<usize, usize>
     requires { from ≤ length bytes.now }

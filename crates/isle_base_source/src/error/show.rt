@@ -1,4 +1,4 @@
-//! What `Display` writes of an error.
+//! The text that `Display` writes for an error.
 ghost use Rattle.std.specs.Prelude.{◌≡◌, ◌+◌, ◌^◌, ◌<◌, ◌≤◌, ◌-◌, ◌==◌, if◌then◌else◌, not, true};
 ghost use Rattle.std.specs.Prelude.{◌++◌, [], ◌∷◌};
 ghost use Rattle.std.specs.Prelude.{codes, length, slice_index};
@@ -13,7 +13,6 @@ use crate::error::{Error, Span};
 use crate::files::{Files, LineMap};
 use std::fmt;
 
-/// Writes some errors.
 pub fn write_errors<W: fmt::Write>(
     f: &mut fmt::Formatter<W>,
     files: &Files,
@@ -29,7 +28,6 @@ pub fn write_errors<W: fmt::Write>(
     Ok(())
 }
 
-/// Writes one error.
 fn write_error<W: fmt::Write>(
     f: &mut fmt::Formatter<W>,
     files: &Files,
@@ -45,7 +43,7 @@ fn write_error<W: fmt::Write>(
     f.write_str("\n")
 }
 
-/// Writes what is wrong.
+/// Writes the message of an error, without its place.
 pub fn write_message<W: fmt::Write>(f: &mut fmt::Formatter<W>, error: &Error) -> fmt::Result
     ensures { WritesStyledOnOk W.write_str_gives f.old result (message error.now) f.new }
 {
@@ -61,7 +59,6 @@ pub fn write_message<W: fmt::Write>(f: &mut fmt::Formatter<W>, error: &Error) ->
     }
 }
 
-/// Writes the kind of an error, and its reason.
 fn write_reason<W: fmt::Write>(f: &mut fmt::Formatter<W>, kind: &str, reason: &str) -> fmt::Result
     ensures { WritesStyledOnOk W.write_str_gives f.old result (kind.now ++ reason.now) f.new }
 {
@@ -69,7 +66,7 @@ fn write_reason<W: fmt::Write>(f: &mut fmt::Formatter<W>, kind: &str, reason: &s
     f.write_str(reason)
 }
 
-/// Writes the places that an error speaks of.
+/// Writes the places of an error.
 fn write_error_labels<W: fmt::Write>(
     f: &mut fmt::Formatter<W>,
     files: &Files,
@@ -92,7 +89,6 @@ fn write_error_labels<W: fmt::Write>(
     }
 }
 
-/// Writes some places.
 fn write_labels<W: fmt::Write>(
     f: &mut fmt::Formatter<W>,
     files: &Files,
@@ -108,7 +104,7 @@ fn write_labels<W: fmt::Write>(
     Ok(())
 }
 
-/// Writes one place: its file, line and column, and the line itself, with a line feed in any case.
+/// Writes one place: its file, line and column, and the line itself, always ended by a line feed.
 fn write_label<W: fmt::Write>(f: &mut fmt::Formatter<W>, files: &Files, span: &Span) -> fmt::Result
     requires { span_fits files.now span.now ≡ true }
     ensures { WritesStyledOnOk W.write_str_gives f.old result
@@ -131,7 +127,6 @@ fn write_line_end<W: fmt::Write>(f: &mut fmt::Formatter<W>, is_last: bool) -> fm
     if is_last { f.write_str("\n") } else { Ok(()) }
 }
 
-/// Writes a file's name, a line and a column, and the line itself.
 fn write_place<W: fmt::Write>(
     f: &mut fmt::Formatter<W>,
     name: &str,
@@ -153,7 +148,7 @@ fn write_place<W: fmt::Write>(
     f.write_str(line)
 }
 
-/// Writes a number in decimal, whatever the formatter's options are.
+/// Writes a number in decimal, regardless of the formatter's options.
 fn write_number<W: fmt::Write>(f: &mut fmt::Formatter<W>, number: usize) -> fmt::Result
     ensures { WritesStyledOnOk W.write_str_gives f.old result (decimal number) f.new }
 {
@@ -164,7 +159,6 @@ fn write_number<W: fmt::Write>(f: &mut fmt::Formatter<W>, number: usize) -> fmt:
     write_digit(f, number % 10)
 }
 
-/// Writes a decimal digit.
 fn write_digit<W: fmt::Write>(f: &mut fmt::Formatter<W>, digit: usize) -> fmt::Result
     requires { digit < 10 }
     ensures { WritesStyledOnOk W.write_str_gives f.old result ((48 + digit) ∷ []) f.new }
@@ -172,7 +166,7 @@ fn write_digit<W: fmt::Write>(f: &mut fmt::Formatter<W>, digit: usize) -> fmt::R
     f.write_char((b'0' + digit as u8) as char)
 }
 
-/// Writes how many errors there are, where there is more than one.
+/// Writes the number of errors if there is more than one.
 pub fn write_count<W: fmt::Write>(f: &mut fmt::Formatter<W>, count: usize) -> fmt::Result
     ensures { WritesStyledOnOk W.write_str_gives f.old result (found_text count) f.new }
 {
@@ -184,20 +178,19 @@ pub fn write_count<W: fmt::Write>(f: &mut fmt::Formatter<W>, count: usize) -> fm
     Ok(())
 }
 
-/// The line of a text on which an offset lies.
+/// The line of a text that contains an offset.
 #[derive(Drop)]
 struct SourceLine<'a> {
-    /// Its number, from 0.
+    /// The line number, from 0.
     number: usize,
-    /// How many of its bytes stand before the offset.
+    /// The number of bytes before the offset on its line.
     column: usize,
     /// The line, with its line feed if it has one.
     text: &'a str,
-    /// Whether it is the last line, which has none.
+    /// Whether this is the last line, which has no line feed.
     is_last: bool,
 }
 
-/// Finds the line of a text on which an offset lies.
 fn source_line<'a>(text: &'a str, line_map: &LineMap, offset: usize) -> SourceLine<'a>
     requires { line_map.now ≡ line_ends text.now }
     ensures number { result.number ≡ line text.now offset }
@@ -217,7 +210,7 @@ fn source_line<'a>(text: &'a str, line_map: &LineMap, offset: usize) -> SourceLi
     }
 }
 
-/// Gives the byte offset at which a line begins.
+/// The byte offset at which a line begins.
 fn line_begin(line_map: &LineMap, number: usize) -> usize
     requires { number ≤ length line_map.now }
     ensures { result ≡ (if number == 0 then 0 else slice_index line_map.now (number - 1)) }

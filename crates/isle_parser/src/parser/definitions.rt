@@ -41,7 +41,7 @@ pub(super) fn parse_def(cursor: &mut Cursor, alloc: Global) -> Result<Def, Stop>
     parse_keyword_form(cursor, alloc)
 }
 
-/// A keyword, what follows it, and the closing parenthesis.
+/// Parses a keyword, the rest of its definition, and the closing parenthesis.
 #[tactic(auto, unfolding(isle_parser_cursor::specs::Reading::closed, crate::specs::DefinitionReaders::keyword_form))]
 fn parse_keyword_form(cursor: &mut Cursor, alloc: Global) -> Result<Def, Stop>
     ensures reads { ReadsOff definition_of (closed keyword_form) cursor.old result cursor.new }
@@ -52,9 +52,9 @@ fn parse_keyword_form(cursor: &mut Cursor, alloc: Global) -> Result<Def, Stop>
     parse_behind(cursor, alloc, place, word)
 }
 
-/// What follows this keyword, and the closing parenthesis. The keyword is at this place. Each
-/// kind of definition is made in a call of its own, so that no frame holds the nodes of all kinds,
-/// and is closed there, so that it is handed on where it lies.
+/// Parses the rest of a definition after this keyword, and the closing parenthesis. The keyword is
+/// at `place`. One function per kind keeps this stack frame small, and building the `Def` there
+/// avoids moving it.
 #[tactic(auto, unfolding(crate::specs::DefinitionReaders::behind_keyword, isle_parser_cursor::specs::Reading::closed))]
 fn parse_behind(cursor: &mut Cursor, alloc: Global, place: Pos, word: &str) -> Result<Def, Stop>
     requires { IsPlace (source cursor.old) place }
@@ -231,7 +231,7 @@ fn parse_converter_def(cursor: &mut Cursor, alloc: Global) -> Result<Def, Stop>
     Ok(Def::Converter(converter))
 }
 
-/// Refuses this word, which is at this place. It begins no definition.
+/// Rejects this word at `place`, which begins no definition.
 #[inline(never)]
 fn refuse_keyword(cursor: &Cursor, alloc: Global, place: Pos, word: &str) -> Result<Def, Stop>
     requires { IsPlace (source cursor.now) place }

@@ -27,7 +27,7 @@ pub(super) fn parse_form(cursor: &mut Cursor, alloc: Global) -> Result<Form, Sto
     })
 }
 
-/// Signatures, up to the closing parenthesis.
+/// Parses signatures, up to the closing parenthesis.
 fn parse_signatures(cursor: &mut Cursor, alloc: Global) -> Result<Vec<Signature>, Stop>
     ensures { ReadsOff (λ ss. signatures_of ss.items) signatures cursor.old result cursor.new }
 {
@@ -48,7 +48,7 @@ fn parse_signature(cursor: &mut Cursor, alloc: Global) -> Result<Signature, Stop
     cursor.close(alloc, Signature { args, ret, pos })
 }
 
-/// A term's own signatures where `(` is ahead, else a form and tags.
+/// Parses a term's own signatures if `(` is ahead, else a form and tags.
 pub(super) fn parse_instantiation(cursor: &mut Cursor, alloc: Global) -> Result<Instantiation, Stop>
     ensures { ReadsOff instantiation_of instantiation_of_term cursor.old result cursor.new }
 {
@@ -75,7 +75,7 @@ pub(super) fn parse_instantiation(cursor: &mut Cursor, alloc: Global) -> Result<
     })
 }
 
-/// Tags, up to the closing parenthesis.
+/// Parses tags, up to the closing parenthesis.
 fn parse_tags(cursor: &mut Cursor, alloc: Global) -> Result<Vec<Ident>, Stop>
     ensures { ReadsOff (λ is. names_of is.items) (many at_rparen tag) cursor.old result cursor.new }
 {

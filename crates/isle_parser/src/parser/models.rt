@@ -22,7 +22,7 @@ pub(super) fn parse_model(cursor: &mut Cursor, alloc: Global) -> Result<Model, S
     cursor.close(alloc, Model { name, val })
 }
 
-/// What a model is given by. The model's name is at this place.
+/// Parses the contents of a model. The model's name is at `place`.
 fn parse_model_value(cursor: &mut Cursor, alloc: Global, place: Pos) -> Result<ModelValue, Stop>
     requires { IsPlace (source cursor.old) place }
     ensures { ReadsOff model_content_of model_content_inside cursor.old result cursor.new }

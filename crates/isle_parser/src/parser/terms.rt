@@ -1,4 +1,4 @@
-//! What is said of terms: declarations, attributes, externals and conversions; and pragmas.
+//! Declarations, attributes, externals and conversions of terms; and pragmas.
 #![tactic(auto, unfolding(crate::specs::DefinitionReaders::declaration, crate::specs::DefinitionReaders::conversion, crate::specs::TermReaders::attribute, crate::specs::TermReaders::kind, isle_parser_cursor::specs::Reading::in_parentheses, crate::specs::TermReaders::kind_inside, crate::specs::TermReaders::veri_kind, crate::specs::TermReaders::extern_definition, crate::specs::TermReaders::extern_etor, crate::specs::TermReaders::extern_constant))]
 
 ghost use Rattle.std.specs.Prelude.{◌≡◌, IfErr, map};
@@ -57,7 +57,7 @@ pub(super) fn parse_converter(cursor: &mut Cursor, alloc: Global) -> Result<Conv
     })
 }
 
-/// There are no pragmas yet: each is refused.
+/// Rejects every pragma, since none is defined.
 pub(super) fn parse_pragma(cursor: &mut Cursor, alloc: Global) -> Result<Pragma, Stop>
     ensures same { source cursor.new ≡ source cursor.old }
     ensures refused { IfErr result (Stops (pragma (left cursor.old)) (source cursor.new)) }
@@ -83,7 +83,7 @@ pub(super) fn parse_attr(cursor: &mut Cursor, alloc: Global) -> Result<Attr, Sto
     Ok(Attr { target, kinds, pos })
 }
 
-/// What attributes say, up to the closing parenthesis.
+/// Parses attributes, up to the closing parenthesis.
 fn parse_attr_kinds(cursor: &mut Cursor, alloc: Global) -> Result<Vec<AttrKind>, Stop>
     ensures { ReadsOff (λ ks. map kind_of ks.items) (many at_rparen kind) cursor.old result
         cursor.new }
@@ -143,8 +143,8 @@ pub(super) fn parse_extern(cursor: &mut Cursor, alloc: Global) -> Result<Extern,
     parse_extern_extractor(cursor, alloc, place, pos)
 }
 
-/// An external extractor at this position, or else a constant. What follows `extern` is at
-/// `place`.
+/// Parses an external extractor at position `pos`, or else a constant. The token after `extern` is
+/// at `place`.
 fn parse_extern_extractor(
     cursor: &mut Cursor,
     alloc: Global,
@@ -168,7 +168,7 @@ fn parse_extern_extractor(
     parse_extern_const(cursor, alloc, place)
 }
 
-/// An external constant. What follows `extern` is at `place`.
+/// Parses an external constant. The token after `extern` is at `place`.
 fn parse_extern_const(cursor: &mut Cursor, alloc: Global, place: Pos) -> Result<Extern, Stop>
     requires { IsPlace (source cursor.old) place }
     ensures { ReadsOff extern_of extern_constant cursor.old result cursor.new }

@@ -37,7 +37,7 @@ pub(super) fn parse_type(cursor: &mut Cursor, alloc: Global) -> Result<TypeDef, 
     })
 }
 
-/// The modifiers of a type: whether `extern` is among them, and `nodebug`.
+/// Parses the modifiers of a type, and returns whether `extern` and `nodebug` are among them.
 fn parse_modifiers(cursor: &mut Cursor, alloc: Global) -> Result<(bool, bool), Stop>
     ensures { ReadsOff (λ set. set) modifier_flags cursor.old result cursor.new }
 {
@@ -74,7 +74,7 @@ fn parse_typevalue(cursor: &mut Cursor, alloc: Global) -> Result<TypeValue, Stop
     cursor.close(alloc, ty)
 }
 
-/// `primitive`, `enum` or `struct`, and what follows the word. The `(` is at this place.
+/// Parses `primitive`, `enum` or `struct`, and the rest of the type. The `(` is at `place`.
 fn parse_typevalue_inside(
     cursor: &mut Cursor,
     alloc: Global,
@@ -96,7 +96,7 @@ fn parse_typevalue_inside(
     Err(cursor.refuse_at(place, String::from_str(alloc, "Unknown type definition")))
 }
 
-/// Variants, up to the closing parenthesis.
+/// Parses variants, up to the closing parenthesis.
 fn parse_type_variants(cursor: &mut Cursor, alloc: Global) -> Result<Vec<Variant>, Stop>
     ensures { ReadsOff (λ vs. map variant_of vs.items) (many at_rparen variant) cursor.old result
         cursor.new }
@@ -170,7 +170,7 @@ fn parse_tuple_fields(cursor: &mut Cursor, alloc: Global) -> Result<TupleFields,
     Ok(TupleFields { fields, pos })
 }
 
-/// A field that is known by its place, counted from 0.
+/// Parses a positional field. Its index is counted from 0.
 fn parse_tuple_field(cursor: &mut Cursor, alloc: Global, index: usize) -> Result<TupleField, Stop>
     ensures reads { ReadsOff (λ f. name_of f.ty) name cursor.old result cursor.new }
     ensures field { IfOk result (λ f. indexed_field_of f ≡ indexed index (name_of f.ty)) }

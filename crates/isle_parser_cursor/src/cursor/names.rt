@@ -15,7 +15,7 @@ use isle_base::lexer::Pos;
 use std::alloc::{AllocError, Global};
 
 impl<'src> Cursor<'src> {
-    /// Refuses the text of the symbol at this place where it isn't an identifier.
+    /// Rejects the symbol at this place if its text is not an identifier.
     pub fn check_identifier(&self, alloc: Global, place: Pos, text: &str) -> Result<(), Stop>
         requires { IsPlace (source self.now) place }
         ensures { PassesOrRefuses (is_identifier text.now) (source self.now) result }
@@ -26,7 +26,7 @@ impl<'src> Cursor<'src> {
         Err(refuse(place, identifier_message(alloc, text)))
     }
 
-    /// An identifier, at its position.
+    /// Parses an identifier.
     pub fn parse_ident(&mut self, alloc: Global) -> Result<Ident, Stop>
         ensures { ReadsOff name_of name self.old result self.new }
     {
@@ -37,8 +37,8 @@ impl<'src> Cursor<'src> {
         Ok(Ident(String::from_str(alloc, text)?, pos))
     }
 
-    /// An identifier where a symbol is ahead. A symbol that isn't one is refused at this place, as
-    /// an invalid `what`.
+    /// Parses an identifier if a symbol is ahead. A symbol that is not an identifier is rejected at
+    /// this place, as an invalid `what`.
     pub fn parse_optional_ident(
         &mut self,
         alloc: Global,
@@ -60,7 +60,7 @@ impl<'src> Cursor<'src> {
         Err(self.refuse_at(place, format!(in alloc; "Invalid {what}: {message}")))
     }
 
-    /// Identifiers, up to the closing parenthesis.
+    /// Parses identifiers, up to the closing parenthesis.
     pub fn parse_ident_list(&mut self, alloc: Global) -> Result<Vec<Ident>, Stop>
         ensures { ReadsOff (λ is. names_of is.items) (many at_rparen name) self.old result
             self.new }
@@ -72,7 +72,7 @@ impl<'src> Cursor<'src> {
         Ok(idents)
     }
 
-    /// Identifiers in parentheses.
+    /// Parses identifiers in parentheses.
     pub fn parse_idents(&mut self, alloc: Global) -> Result<Vec<Ident>, Stop>
         ensures { ReadsOff (λ is. names_of is.items) names self.old result self.new }
     {
@@ -81,7 +81,7 @@ impl<'src> Cursor<'src> {
         self.close(alloc, idents)
     }
 
-    /// A name and names after it, in parentheses.
+    /// Parses a name and further names, in parentheses.
     pub fn parse_headed(&mut self, alloc: Global) -> Result<(Ident, Vec<Ident>), Stop>
         ensures { ReadsOff (λ h. (name_of h.0, names_of h.1.items)) (in_parentheses head_inside)
             self.old result self.new }
@@ -93,7 +93,7 @@ impl<'src> Cursor<'src> {
     }
 }
 
-/// The message about a text that isn't an identifier.
+/// The message for a text that is not an identifier.
 fn identifier_message(alloc: Global, text: &str) -> Result<String, AllocError> {
     match text.chars().next() {
         None => String::from_str(alloc, "empty symbol"),

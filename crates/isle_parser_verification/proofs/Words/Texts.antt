@@ -56,7 +56,7 @@ before_last_other byte b [] e = rw e refl
 before_last_other byte b (x ∷ []) e = rw e refl
 before_last_other byte b (x ∷ y ∷ front) e = ap (option_map (λ (f : List ℕ). x ∷ f)) (before_last_other byte b (y ∷ front) e)
 
--- what is in front of a text leaves its last byte
+-- what is before a text leaves its last byte
 pub before_last_behind : (byte : ℕ) (front : List ℕ) (y : ℕ) (text : List ℕ) → before_last byte (y ∷ text) ≡ None → before_last byte (front ++ y ∷ text) ≡ None
 before_last_behind byte [] y text e = e
 before_last_behind byte (x ∷ []) y text e = ap (option_map (λ (f : List ℕ). x ∷ f)) e

@@ -12,7 +12,7 @@ use Rattle.isle_ast.specs.Tree.{Definition, type_def, rule, extractor, decl, att
 use Rattle.isle_printer_layout.proofs.Erased.Names.{shapes-erased, names-erased}
 use Rattle.isle_printer_layout.specs.NameShapes.{name_shape, flag_shape, form_shape}
 use Rattle.isle_printer_layout.specs.Sexp.{atom, list_of}
-use Rattle.isle_printer_rules.proofs.Erased.Rules.{any-erased, macro_arg-erased, rule_macro_arg-erased, rule-erased, extractor-erased}
+use Rattle.isle_printer.proofs.Erased.Rules.{any-erased, macro_arg-erased, rule_macro_arg-erased, rule-erased, extractor-erased}
 use Rattle.isle_printer_verification.proofs.Erased.Specs.{model-erased, spec-erased, spec_definition-erased, spec_macro-erased, state-erased}
 use Rattle.isle_printer_verification.specs.SpecShapes.{model_shape}
 use Rattle.isle_printer.specs.DefinitionShapes.{definition_shape, named_field_shape, indexed_field_shape, field_shapes, variant_shape, type_content_shape, target_shape, tag_shape, kind_shape}
@@ -91,7 +91,7 @@ definition_shape-erased (external (extern_constructor term func _)) = refl
 definition_shape-erased (external (extern_const name ty _)) = refl
 definition_shape-erased (converter c) = refl
 
--- the argument of a macro
+-- a macro argument
 
 definition_macro_arg-erased : (d : Definition) → definition_has_macro_arg (erase_definition d) ≡ definition_has_macro_arg d
 definition_macro_arg-erased (type_def _) = refl

@@ -31,7 +31,7 @@ use Rattle.isle_printer_layout.specs.ReadBack.{unplaced}
 use Rattle.isle_printer_verification.proofs.ShapeLaw.Models.{spell-model}
 use Rattle.isle_printer_verification.proofs.ShapeLaw.SpecDefinitions.{spell-spec_definition, spell-spec_macro, spell-state}
 use Rattle.isle_printer_verification.proofs.ShapeLaw.Specs.{spell-spec}
-use Rattle.isle_printer_rules.proofs.ShapeLaw.Rules.{spell-rule, spell-extractor_definition}
+use Rattle.isle_printer.proofs.ShapeLaw.Rules.{spell-rule, spell-extractor_definition}
 use Rattle.isle_printer_layout.proofs.Spellings.{ItemTokens, ◌then◌, IsAhead, item-ahead, items-ahead, Spelling, spell-nothing, spell-word, spell-flag, spell-name, spell-all, spell-names, spell-list}
 use Rattle.isle_printer_layout.proofs.Spellings.{spell-behind, spell-form, InTurn, spell-turn, differs-test, regrouped, spell-constant}
 use Rattle.isle_printer_layout.proofs.WordSymbols.{word-decl, word-convert, word-pure, word-multi, word-partial, word-rec, word-type, word-extern, word-nodebug, word-primitive, word-enum, word-struct}
@@ -212,7 +212,7 @@ spell-pair first second is so rest =
     let a = spell-name first is b.all in
     spell-turn b a
 
--- `extern`, a word, and what stands behind it
+-- `extern`, a word, and what comes after it
 spell-extern : (e : ExternDefinition) → IsWritableExtern e → (rest : List Tok) → Spelling (extern_shape e ∷ []) (SpellsDefinition (external (erase_extern e))) rest
 spell-extern (extern_extractor term func _ infallible) is rest =
     let pair = spell-pair term func is.0 is.1 (rparen ∷ rest) in

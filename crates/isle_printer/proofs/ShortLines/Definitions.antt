@@ -21,7 +21,7 @@ use Rattle.isle_printer_layout.specs.ShortLines.{HasShortLines}
 use Rattle.isle_printer.proofs.Printing.{IsPrinted-text}
 use Rattle.isle_printer_layout.proofs.ShortLines.Layout.{IsTidy, layout-short, HasShortLines-empty}
 use Rattle.isle_printer_layout.proofs.ShortLines.Parts.{TidyItems, ◌then◌, tidy-nothing, tidy-item, tidy-word, tidy-flag, tidy-name, tidy-all, tidy-list, tidy-form, tidy-form_item, tidy-names_item}
-use Rattle.isle_printer_rules.proofs.ShortLines.Rules.{tidy-constant, tidy-rule, tidy-extractor}
+use Rattle.isle_printer.proofs.ShortLines.Rules.{tidy-constant, tidy-rule, tidy-extractor}
 use Rattle.isle_printer_verification.proofs.ShortLines.Specs.{tidy-model, tidy-spec, tidy-spec_definition, tidy-spec_macro, tidy-state}
 
 -- types

@@ -10,10 +10,10 @@ ghost use Rattle.isle_printer_layout.specs.Sexp.{unless};
 ghost use Rattle.isle_printer_layout.specs.SexpView.{sexp_of};
 ghost use Rattle.isle_printer_layout.specs.declared.sexpr.PrintFault.TheVariants.{MacroArg, Memory};
 
+use super::rules;
 use super::to_sexpr::{Put, ToSExpr};
 use isle_ast::ast::Def;
 use isle_printer_layout::{Pieces, PrintFault, SExpr, Tape, sexpr_of};
-use isle_printer_rules::rules;
 use isle_printer_verification::definitions as specs;
 use std::alloc::{AllocError, Global};
 
@@ -40,7 +40,7 @@ impl ToSExpr for Def {
     }
 }
 
-/// The pieces of a definition's S-expression, unless it holds the argument of a macro.
+/// The pieces of a definition's S-expression, unless the definition contains a macro argument.
 pub(crate) fn pieces_of<'src>(alloc: Global, def: &'src Def) -> Result<Pieces<'src>, PrintFault>
     ensures plain { IfOk result (λ _. definition_has_macro_arg (definition_of def.now) ≡ false) }
     ensures made { IfOk result
@@ -59,7 +59,7 @@ pub(crate) fn pieces_of<'src>(alloc: Global, def: &'src Def) -> Result<Pieces<'s
     Ok(tape.pieces())
 }
 
-/// Puts the S-expression of a definition.
+/// Prepends a definition.
 fn definition<'src>(def: &'src Def, tape: &mut Tape<'src>) -> Result<(), AllocError>
     ensures { OnOk result
         (tape.new ≡ put_before (definition_shape (definition_of def.now) ∷ []) tape.old) }

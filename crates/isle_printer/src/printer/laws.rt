@@ -1,4 +1,4 @@
-//! The laws of the printer. A law is a function that runs no code: its contract is what is proved.
+//! Laws of the printer. A law has no code to run: its contract is the theorem.
 
 ghost use Rattle.std.specs.Prelude.{List, true, ℕ, ◌↔◌, ◌≡◌, ◌≤◌};
 ghost use Rattle.isle_ast.specs.Erased.{erase};
@@ -16,8 +16,8 @@ pub use isle_printer_layout::laws::{
     rules_give_least_choice, s_expressions_are_compared,
 };
 
-/// The print of spelt definitions, at any width, is spelt by the same definitions, erased. The
-/// erased definitions have the same print.
+/// If some tokens spell definitions, their print at every width spells them too, erased. The erased
+/// definitions have the same print.
 pub fn prints_read_back()
     ensures reads_back { (width : ℕ) (ds : List Definition) (text : List ℕ)
         → IsPrinted width ds text → ReadsBack ds text }
@@ -25,9 +25,9 @@ pub fn prints_read_back()
         → IsPrinted width ds text ↔ IsPrinted width (erase ds) text }
 {}
 
-/// The print of definitions, at any width, is spelt by them, erased, exactly if they are writable.
-/// Then it has the same tokens at every width, offsets aside. Definitions that hold the argument of
-/// a macro have no print, and aren't writable.
+/// The print of definitions, at any width, spells them, erased, exactly if they are writable. Then
+/// it has the same tokens at every width, offsets aside. Definitions that contain a macro argument
+/// have no print, and are not writable.
 pub fn writable_definitions_read_back()
     ensures spelt { (width : ℕ) (ds : List Definition) (text : List ℕ) → AreWritable ds
         → IsPrinted width ds text → IsSpelt nowhere text (erase ds) }
@@ -40,8 +40,9 @@ pub fn writable_definitions_read_back()
         → definitions_have_macro_arg ds ≡ true → AreWritable ds → ⊥ }
 {}
 
-/// A line of the print of writable definitions, at a width from 1, that holds a whole list is no
-/// longer than the width, its indentation and one byte for each empty list on it.
+/// Lines of the print of writable definitions are short at every width from 1. A line that contains
+/// a whole list is at most as long as the width, its indentation, and one byte for each empty list
+/// on it.
 pub fn prints_have_short_lines()
     ensures { (width : ℕ) (ds : List Definition) (text : List ℕ) → 1 ≤ width → AreWritable ds
         → IsPrinted width ds text → HasShortLines width text }

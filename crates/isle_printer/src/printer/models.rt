@@ -1,4 +1,4 @@
-//! The S-expressions of models of types, of what holds them, and of their definitions.
+//! The S-expressions of models and signatures. Functions prepend to the tape.
 
 ghost use Rattle.std.specs.Prelude.{OnOk, [], codes, map, ◌∷◌, ◌≡◌};
 ghost use Rattle.isle_ast.specs.TreeView.{model_content_of, model_definition_of, signature_of};
@@ -76,7 +76,7 @@ impl Put for Signature {
     }
 }
 
-/// Puts the list of `args` and models.
+/// Prepends the list of `args` and models.
 fn arguments<'src>(args: &'src [ModelType], tape: &mut Tape<'src>) -> Result<(), AllocError>
     ensures { OnOk result (tape.new
         ≡ put_before
@@ -88,7 +88,7 @@ fn arguments<'src>(args: &'src [ModelType], tape: &mut Tape<'src>) -> Result<(),
     tape.open(outer)
 }
 
-/// Puts the list of `ret` and a model.
+/// Prepends the list of `ret` and a model.
 fn returned<'src>(ret: &'src ModelType, tape: &mut Tape<'src>) -> Result<(), AllocError>
     ensures { OnOk result (tape.new
         ≡ put_before
@@ -100,7 +100,7 @@ fn returned<'src>(ret: &'src ModelType, tape: &mut Tape<'src>) -> Result<(), All
     tape.open(outer)
 }
 
-/// Puts the S-expressions of signatures.
+/// Prepends signatures.
 pub(super) fn each_signature<'src>(
     signatures: &'src [Signature],
     tape: &mut Tape<'src>,

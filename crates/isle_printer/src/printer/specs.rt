@@ -1,5 +1,4 @@
-//! The S-expressions of spec expressions, of their operators, and of specs, their macros and
-//! states.
+//! The S-expressions of specs, their macros and states, spec expressions and operators.
 
 ghost use Rattle.isle_ast_verification.specs.TreeView.{modified_of, single_arm_of};
 ghost use Rattle.isle_ast_verification.specs.TreeView.{single_field_init_of, spec_definition_of};

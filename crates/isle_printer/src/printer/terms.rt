@@ -1,4 +1,4 @@
-//! The S-expressions of the definitions that speak of terms.
+//! The S-expressions of definitions of terms. Functions prepend to the tape.
 
 ghost use Rattle.std.specs.Prelude.{OnOk, [], codes, map, ◌∷◌, ◌≡◌};
 ghost use Rattle.isle_ast.specs.TreeView.{attribute_of, conversion_of, declaration_of, extern_of};
@@ -139,7 +139,7 @@ impl Put for Attr {
     }
 }
 
-/// Puts the S-expression of the form if there is one, else those of the signatures.
+/// Prepends the form if there is one, else the signatures.
 fn instance<'src>(
     form: &'src Option<Ident>,
     signatures: &'src [Signature],
@@ -155,7 +155,7 @@ fn instance<'src>(
     }
 }
 
-/// Puts the S-expressions of tags.
+/// Prepends tags.
 fn each_tag<'src>(tags: &'src [Ident], tape: &mut Tape<'src>) -> Result<(), AllocError>
     ensures { OnOk result (tape.new ≡ put_before (map tag_shape (names_of tags.now)) tape.old) }
 {
@@ -165,7 +165,7 @@ fn each_tag<'src>(tags: &'src [Ident], tape: &mut Tape<'src>) -> Result<(), Allo
     Ok(())
 }
 
-/// Puts the S-expression of a tag.
+/// Prepends a tag.
 fn tag<'src>(tag: &'src Ident, tape: &mut Tape<'src>) -> Result<(), AllocError>
     ensures { OnOk result (tape.new ≡ put_before (tag_shape (name_of tag.now) ∷ []) tape.old) }
 {
@@ -175,7 +175,7 @@ fn tag<'src>(tag: &'src Ident, tape: &mut Tape<'src>) -> Result<(), AllocError>
     tape.open(outer)
 }
 
-/// Puts the S-expressions of what an attribute speaks of.
+/// Prepends the target of an attribute.
 fn target<'src>(target: &'src AttrTarget, tape: &mut Tape<'src>) -> Result<(), AllocError>
     ensures { OnOk result (tape.new ≡ put_before (target_shape (target_of target.now)) tape.old) }
 {
@@ -188,7 +188,7 @@ fn target<'src>(target: &'src AttrTarget, tape: &mut Tape<'src>) -> Result<(), A
     }
 }
 
-/// Puts the S-expressions of what an attribute says.
+/// Prepends the attributes of a definition.
 fn each_kind<'src>(kinds: &'src [AttrKind], tape: &mut Tape<'src>) -> Result<(), AllocError>
     ensures { OnOk result
         (tape.new ≡ put_before (map kind_shape (map kind_of kinds.now)) tape.old) }
@@ -199,7 +199,7 @@ fn each_kind<'src>(kinds: &'src [AttrKind], tape: &mut Tape<'src>) -> Result<(),
     Ok(())
 }
 
-/// Puts the list of `veri` and a word.
+/// Prepends the list of `veri` and a word.
 fn verification<'src>(word: &'src str, tape: &mut Tape<'src>) -> Result<(), AllocError>
     ensures { OnOk result (tape.new
         ≡ put_before (form_shape (codes "veri") (atom word.now ∷ []) ∷ []) tape.old) }

@@ -1,4 +1,4 @@
-//! The S-expressions of type definitions and their parts.
+//! The S-expressions of type definitions and their parts. Functions prepend to the tape.
 
 ghost use Rattle.std.specs.Prelude.{OnOk, map, ◌≡◌};
 ghost use Rattle.isle_ast.specs.TreeView.{fields_of, indexed_field_of, named_field_of};
@@ -81,7 +81,7 @@ impl Put for TupleField {
     }
 }
 
-/// Puts the S-expressions of the variants of an enum type.
+/// Prepends the variants of an enum type.
 fn each_variant<'src>(variants: &'src [Variant], tape: &mut Tape<'src>) -> Result<(), AllocError>
     ensures { OnOk result
         (tape.new ≡ put_before (map variant_shape (map variant_of variants.now)) tape.old) }
@@ -92,8 +92,7 @@ fn each_variant<'src>(variants: &'src [Variant], tape: &mut Tape<'src>) -> Resul
     Ok(())
 }
 
-/// Puts the S-expressions of the fields of a variant or of a struct type: nothing where there are
-/// none.
+/// Prepends the fields of a variant or of a struct type, if there are any.
 fn each_field<'src>(fields: &'src Fields, tape: &mut Tape<'src>) -> Result<(), AllocError>
     ensures { OnOk result (tape.new ≡ put_before (field_shapes (fields_of fields.now)) tape.old) }
 {
@@ -104,7 +103,7 @@ fn each_field<'src>(fields: &'src Fields, tape: &mut Tape<'src>) -> Result<(), A
     }
 }
 
-/// Puts the S-expressions of fields that have names.
+/// Prepends named fields.
 fn each_struct_field<'src>(
     fields: &'src [StructField],
     tape: &mut Tape<'src>,
@@ -118,7 +117,7 @@ fn each_struct_field<'src>(
     Ok(())
 }
 
-/// Puts the S-expressions of fields that are known by their places.
+/// Prepends positional fields.
 fn each_tuple_field<'src>(
     fields: &'src [TupleField],
     tape: &mut Tape<'src>,

@@ -177,7 +177,7 @@ mutual
   flat_behind-stays none tidy = refl
   flat_behind-stays (more s ss) tidy = all_append stays (codes " " ++ flat s) (flat_behind ss) (flat-stays s tidy.0) (flat_behind-stays ss tidy.1)
 
--- the line that is begun: how far it is written behind its indentation
+-- the line that is begun: how far it is written after its indentation
 record IsBegun (column : ℕ) (begun : List ℕ) : Type 0 where
   bytes : list_all is_opening begun ≡ true
   within : (behind : List ℕ) → length begun ≤ column + leading_spaces (begun ++ behind)

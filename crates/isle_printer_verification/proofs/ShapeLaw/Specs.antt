@@ -73,7 +73,7 @@ spell-placed_turn second first = record {
   spells = (item-ahead first.tokens, unplaced second.all, first.spells, second.spells);
 }
 
--- the same in parentheses, alone and behind a word
+-- the same in parentheses, alone and after a word
 
 spell-list_turn : {x : Sexp} {xs ys : List Sexp} {First Second : List Placed → List Placed → Type 0} {rest : List Tok}
     → (second : Spelling ys Second (rparen ∷ rest)) → Spelling (x ∷ xs) First second.all
@@ -110,7 +110,7 @@ plain-test : (operator : SpecOp) → operator ≢ op.Switch → is_plain_operato
 plain-test op.Switch no_switch = absurd (no_switch refl)
 plain-test _ no_switch = refl
 
--- what stands behind an operator
+-- what comes after an operator
 abbrev SpellsArguments : SpecOp → SpecList → List Placed → List Placed → Type 0
 SpellsArguments operator args inner close =
     (is_plain_operator operator ≡ true) × SpellsSpecs args inner close ⊎ (operator ≡ op.Switch) × SpellsCases args inner close

@@ -1,4 +1,4 @@
-//! Which models, forms and instantiations are written so that they read back.
+//! The models, forms and instantiations that can be written as text and read back.
 
 ghost use Rattle.std.specs.Prelude.{◌≡◌, map};
 ghost use Rattle.std.specs.List.{list_all};
@@ -17,14 +17,14 @@ use isle_ast_names::writability::{are_names, is_name};
 use isle_ast_verification::writability::models::is_writable_model;
 use isle_ast_verification::writability::specs::is_writable_spec;
 
-/// Tells whether the model of a type is writable.
+/// Returns whether the model of a type is writable.
 pub(super) fn is_writable_definition(model: &Model) -> bool
     ensures { result ≡ is_writable_model_definition (model_definition_of model.now) }
 {
     is_name(&model.name) && is_writable_value(&model.val)
 }
 
-/// Tells whether what a model is given by is writable.
+/// Returns whether the contents of a model are writable.
 fn is_writable_value(value: &ModelValue) -> bool
     ensures { result ≡ is_writable_model_content (model_content_of value.now) }
 {
@@ -34,42 +34,37 @@ fn is_writable_value(value: &ModelValue) -> bool
     }
 }
 
-/// Tells whether a form is writable.
 pub(super) fn is_writable_form(form: &Form) -> bool
     ensures { result ≡ is_writable_form (form_of form.now) }
 {
     is_name(&form.name) && are_writable_signatures(&form.signatures)
 }
 
-/// Tells whether each signature is writable.
 fn are_writable_signatures(signatures: &[Signature]) -> bool
     ensures { result ≡ list_all is_writable_signature (signatures_of signatures.now) }
 {
     signatures.iter().all(is_writable_signature)
 }
 
-/// Tells whether a signature is writable.
 fn is_writable_signature(signature: &Signature) -> bool
     ensures { result ≡ is_writable_signature (signature_of signature.now) }
 {
     are_writable_models(&signature.args) && is_writable_model(&signature.ret)
 }
 
-/// Tells whether each model is writable.
 fn are_writable_models(models: &[ModelType]) -> bool
     ensures { result ≡ list_all is_writable_model (map type_model_of models.now) }
 {
     models.iter().all(is_writable_model)
 }
 
-/// Tells whether the signatures of a term are writable.
 pub(super) fn is_writable_instantiation(instantiation: &Instantiation) -> bool
     ensures { result ≡ is_writable_instantiation (instantiation_of instantiation.now) }
 {
     is_name(&instantiation.term) && are_writable_instances(instantiation)
 }
 
-/// Tells whether a term has the signatures of a form, under tags, or at least one of its own.
+/// Returns whether a term has a form and its tags, or else at least one signature.
 fn are_writable_instances(instantiation: &Instantiation) -> bool
     ensures { result
         ≡ are_writable_instances (instantiation_of instantiation.now).form

@@ -1,5 +1,5 @@
-//! Which declarations, attributes, outside terms and conversions are written so that they read
-//! back.
+//! The declarations, attributes, external terms and conversions that can be written as text and
+//! read back.
 
 ghost use Rattle.std.specs.Prelude.{◌≡◌, ◌||◌, codes, map};
 ghost use Rattle.std.specs.List.{list_all};
@@ -13,7 +13,6 @@ ghost use Rattle.isle_ast.specs.TermGrammar.{term_is_no_flag};
 use crate::ast::{Attr, AttrKind, AttrTarget, Converter, Decl, Extern};
 use isle_ast_names::writability::{are_names, is_constant_name, is_name};
 
-/// Tells whether a declaration is writable.
 pub(super) fn is_writable_decl(decl: &Decl) -> bool
     ensures { result ≡ is_writable_declaration (declaration_of decl.now) }
 {
@@ -23,8 +22,8 @@ pub(super) fn is_writable_decl(decl: &Decl) -> bool
         && term_is_no_flag(decl)
 }
 
-/// Tells whether the term isn't read as a flag that the declaration doesn't have: where it is the
-/// word of a flag, this flag or a later one is set.
+/// Returns whether the term can't be mistaken for a flag: if it is named like one, that flag or a
+/// later one is set.
 fn term_is_no_flag(decl: &Decl) -> bool
     ensures { result ≡ term_is_no_flag (declaration_of decl.now) }
 {
@@ -37,14 +36,13 @@ fn term_is_no_flag(decl: &Decl) -> bool
     }
 }
 
-/// Tells whether an attribute is writable.
 pub(super) fn is_writable_attr(attr: &Attr) -> bool
     ensures { result ≡ is_writable_attribute (attribute_of attr.now) }
 {
     is_writable_target(&attr.target) && are_writable_kinds(&attr.kinds)
 }
 
-/// Tells whether the target of an attribute is writable: a term isn't named `rule`.
+/// Returns whether the target of an attribute is writable: a term must not be named `rule`.
 fn is_writable_target(target: &AttrTarget) -> bool
     ensures { result ≡ is_writable_target (target_of target.now) }
 {
@@ -54,14 +52,12 @@ fn is_writable_target(target: &AttrTarget) -> bool
     }
 }
 
-/// Tells whether all that an attribute says is writable.
 fn are_writable_kinds(kinds: &[AttrKind]) -> bool
     ensures { result ≡ list_all is_writable_kind (map kind_of kinds.now) }
 {
     kinds.iter().all(is_writable_kind)
 }
 
-/// Tells whether what an attribute says is writable.
 fn is_writable_kind(kind: &AttrKind) -> bool
     ensures { result ≡ is_writable_kind (kind_of kind.now) }
 {
@@ -71,7 +67,6 @@ fn is_writable_kind(kind: &AttrKind) -> bool
     }
 }
 
-/// Tells whether a term or a constant that is defined outside is writable.
 pub(super) fn is_writable_extern(definition: &Extern) -> bool
     ensures { result ≡ is_writable_extern (extern_of definition.now) }
 {
@@ -87,7 +82,6 @@ pub(super) fn is_writable_extern(definition: &Extern) -> bool
     }
 }
 
-/// Tells whether a conversion is writable.
 pub(super) fn is_writable_converter(converter: &Converter) -> bool
     ensures { result ≡ is_writable_conversion (conversion_of converter.now) }
 {

@@ -1,4 +1,4 @@
-//! Which types are written so that they read back.
+//! The types that can be written as text and read back.
 
 ghost use Rattle.std.specs.Prelude.{◌≡◌, map};
 ghost use Rattle.std.specs.List.{list_all};
@@ -11,14 +11,13 @@ ghost use Rattle.isle_ast.specs.WritableDeciders.{is_writable_type_content, is_w
 use crate::ast::{Fields, StructField, TupleField, TypeDef, TypeValue, Variant};
 use isle_ast_names::writability::is_name;
 
-/// Tells whether the definition of a type is writable.
 pub(super) fn is_writable_type(def: &TypeDef) -> bool
     ensures { result ≡ is_writable_type (type_definition_of def.now) }
 {
     is_name(&def.name) && is_writable_value(&def.ty)
 }
 
-/// Tells whether what a type consists of is writable.
+/// Returns whether the contents of a type are writable.
 fn is_writable_value(value: &TypeValue) -> bool
     ensures { result ≡ is_writable_type_content (type_content_of value.now) }
 {
@@ -29,21 +28,19 @@ fn is_writable_value(value: &TypeValue) -> bool
     }
 }
 
-/// Tells whether each variant is writable.
 fn are_writable_variants(variants: &[Variant]) -> bool
     ensures { result ≡ list_all is_writable_variant (map variant_of variants.now) }
 {
     variants.iter().all(is_writable_variant)
 }
 
-/// Tells whether a variant is writable.
 fn is_writable_variant(variant: &Variant) -> bool
     ensures { result ≡ is_writable_variant (variant_of variant.now) }
 {
     is_name(&variant.name) && are_writable_fields(&variant.fields)
 }
 
-/// Tells whether fields are writable: with names or by their places they are at least one.
+/// Returns whether fields are writable: if they are not `Unit`, there is at least one.
 fn are_writable_fields(fields: &Fields) -> bool
     ensures { result ≡ are_writable_fields (fields_of fields.now) }
 {
@@ -58,21 +55,19 @@ fn are_writable_fields(fields: &Fields) -> bool
     }
 }
 
-/// Tells whether each field that has a name is writable.
 fn are_writable_named_fields(fields: &[StructField]) -> bool
     ensures { result ≡ list_all is_writable_named_field (map named_field_of fields.now) }
 {
     fields.iter().all(is_writable_named_field)
 }
 
-/// Tells whether a field that has a name is writable.
 fn is_writable_named_field(field: &StructField) -> bool
     ensures { result ≡ is_writable_named_field (named_field_of field.now) }
 {
     is_name(&field.name) && is_name(&field.ty)
 }
 
-/// Tells whether each field is writable and has its place for its index.
+/// Returns whether each positional field is writable and has its place as its index.
 fn are_at_their_places(fields: &[TupleField]) -> bool
     ensures { result ≡ are_writable_indexed_fields 0 (map indexed_field_of fields.now) }
 {

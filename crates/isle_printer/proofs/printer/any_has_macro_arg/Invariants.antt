@@ -1,4 +1,4 @@
--- An argument of a macro is in what is left, if there is one.
+-- A macro argument is in what is left, if there is one.
 use Rattle.std.proofs.Common.{◌≡◌, drop}
 use Rattle.isle_ast.specs.MacroArgs.{definitions_have_macro_arg}
 use Rattle.isle_ast.specs.TreeView.{definitions_of}

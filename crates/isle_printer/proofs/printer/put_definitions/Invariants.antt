@@ -1,4 +1,4 @@
--- What is written is the printed text of the definitions so far. An argument of a macro is in what
+-- What is written is the printed text of the definitions so far. A macro argument is in what
 -- is left, if there is one. The looks so far, and the nodes that are left, are the looks at first
 -- and all nodes.
 use Rattle.std.proofs.Common.{◌≡◌, ◌≤◌, ◌+◌, drop, string_bytes, take}

@@ -1,4 +1,4 @@
--- The names that are put are the last ones.
+-- The names on the tape are the last ones.
 use Rattle.std.proofs.Common.{◌≡◌, drop}
 use Rattle.isle_ast_names.specs.TreeView.{names_of}
 use Rattle.isle_printer_layout.specs.NameShapes.{name_shapes}

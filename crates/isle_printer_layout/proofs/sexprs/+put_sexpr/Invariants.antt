@@ -1,4 +1,4 @@
--- The S-expressions that are put are the last ones.
+-- The S-expressions on the tape are the last ones.
 use Rattle.std.proofs.Common.{◌≡◌, drop}
 use Rattle.isle_printer_layout.specs.Pieces.{put_before}
 use Rattle.isle_printer_layout.specs.SexpView.{sexps_of}

@@ -1,4 +1,4 @@
--- What is put is the last of what a term changes.
+-- The states on the tape are the last ones.
 use Rattle.std.proofs.Common.{◌≡◌, drop, map}
 use Rattle.isle_ast_verification.specs.TreeView.{modified_of}
 use Rattle.isle_printer_layout.specs.Pieces.{put_before}

@@ -1,4 +1,4 @@
--- The fields that are put are the last ones.
+-- The fields on the tape are the last ones.
 use Rattle.std.proofs.Common.{◌≡◌, drop}
 use Rattle.isle_ast_verification.specs.TreeView.{model_list_of, single_model_fields_of}
 use Rattle.isle_printer_layout.specs.Pieces.{put_before}

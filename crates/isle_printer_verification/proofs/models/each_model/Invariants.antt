@@ -1,4 +1,4 @@
--- The models that are put are the last ones.
+-- The models on the tape are the last ones.
 use Rattle.std.proofs.Common.{◌≡◌, drop, map}
 use Rattle.isle_ast_verification.specs.TreeView.{type_model_of}
 use Rattle.isle_printer_layout.specs.Pieces.{put_before}

@@ -1,4 +1,4 @@
--- The nodes that are put are the last ones. A list that is begun has what was made around it.
+-- The nodes on the tape are the last ones. A list that is begun has the tape of the list around it.
 use Rattle.std.proofs.Common.{◌≡◌, ◌∷◌, drop}
 use Rattle.isle_ast_verification.specs.TreeView.{arm_list_of, field_init_list_of, single_arms_of, single_field_inits_of, single_spec_lets_of, spec_let_list_of, spec_list_of, specs_of}
 use Rattle.isle_printer_layout.specs.Pieces.{put_before}

@@ -1,4 +1,4 @@
--- The signatures that are put are the last ones.
+-- The signatures on the tape are the last ones.
 use Rattle.std.proofs.Common.{◌≡◌, drop, map}
 use Rattle.isle_ast.specs.TreeView.{signatures_of}
 use Rattle.isle_printer.specs.DefinitionShapes.{signature_shape}

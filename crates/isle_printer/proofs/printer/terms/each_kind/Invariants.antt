@@ -1,4 +1,4 @@
--- The kinds that are put are the last ones.
+-- The kinds on the tape are the last ones.
 use Rattle.std.proofs.Common.{◌≡◌, drop, map}
 use Rattle.isle_ast.specs.TreeView.{kind_of}
 use Rattle.isle_printer.specs.DefinitionShapes.{kind_shape}

@@ -1,4 +1,4 @@
--- The tags that are put are the last ones.
+-- The tags on the tape are the last ones.
 use Rattle.std.proofs.Common.{◌≡◌, drop, map}
 use Rattle.isle_ast_names.specs.TreeView.{names_of}
 use Rattle.isle_printer.specs.DefinitionShapes.{tag_shape}

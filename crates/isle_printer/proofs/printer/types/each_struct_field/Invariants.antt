@@ -1,4 +1,4 @@
--- The fields that are put are the last ones.
+-- The fields on the tape are the last ones.
 use Rattle.std.proofs.Common.{◌≡◌, drop, map}
 use Rattle.isle_ast.specs.TreeView.{named_field_of}
 use Rattle.isle_printer.specs.DefinitionShapes.{named_field_shape}

@@ -1,4 +1,4 @@
--- The variants that are put are the last ones.
+-- The variants on the tape are the last ones.
 use Rattle.std.proofs.Common.{◌≡◌, drop, map}
 use Rattle.isle_ast.specs.TreeView.{variant_of}
 use Rattle.isle_printer.specs.DefinitionShapes.{variant_shape}

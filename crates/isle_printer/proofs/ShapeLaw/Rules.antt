@@ -21,7 +21,7 @@ use Rattle.isle_ast_names.specs.Writable.{IsName}
 use Rattle.isle_ast_rules.specs.Writable.{HasNoDollar, IsPatternVariable, IsExpressionVariable, IsWritablePattern, AreWritablePatterns, IsWritableExpression, AreWritableExpressions, AreWritableLets}
 use Rattle.isle_ast_rules.specs.Writable.{IsWritableCondition, IsWritableRule, IsWritableExtractor}
 use Rattle.isle_printer_layout.specs.ReadBack.{ReadsAs, unplaced}
-use Rattle.isle_printer_rules.specs.RuleShapes.{pattern_shape, pattern_shapes, expression_shape, expression_shapes, let_shapes, condition_shape, rule_name_shape, priority_shape, rule_shape, extractor_shape}
+use Rattle.isle_printer.specs.RuleShapes.{pattern_shape, pattern_shapes, expression_shape, expression_shapes, let_shapes, condition_shape, rule_name_shape, priority_shape, rule_shape, extractor_shape}
 use Rattle.isle_printer_layout.specs.Sexp.{Sexp, atom, binding, list_of}
 use Rattle.isle_printer_layout.specs.NameShapes.{name_shape, name_shapes}
 use Rattle.isle_printer_layout.proofs.NumberAtoms.{signed_decimal-ReadsAs}

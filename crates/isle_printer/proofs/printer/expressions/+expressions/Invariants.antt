@@ -1,9 +1,9 @@
--- What is put is the last ones.
+-- The nodes on the tape are the last ones.
 use Rattle.std.proofs.Common.{◌≡◌, drop}
 use Rattle.isle_ast_rules.specs.TreeView.{expression_list_of, expressions_of, let_list_of, single_lets_of}
 use Rattle.isle_printer_layout.specs.Pieces.{put_before}
-use Rattle.isle_printer_rules.specs.RuleShapes.{expression_shapes, let_shapes}
-use Rattle.isle_printer_rules.proofs.expressions.+expressions.Given as goal
+use Rattle.isle_printer.specs.RuleShapes.{expression_shapes, let_shapes}
+use Rattle.isle_printer.proofs.printer.expressions.+expressions.Given as goal
 
 abbrev pub invariant-each_expression-loop-at : goal.invariant-each_expression-loop-at
 invariant-each_expression-loop-at l =

@@ -7,14 +7,14 @@ use Rattle.isle_ast_rules.specs.Tree.{no_pattern, more_pattern, Expression, term
 use Rattle.isle_ast_rules.specs.Tree.{no_expression, more_expression, LetList, no_let, more_let, Condition, RuleDefinition, ExtractorDefinition}
 use Rattle.isle_ast_names.specs.Writable.{IsName}
 use Rattle.isle_ast_rules.specs.Writable.{IsConstantName, IsWritablePattern, AreWritablePatterns, IsWritableExpression, AreWritableExpressions, AreWritableLets, IsWritableCondition, IsWritableRule, IsWritableExtractor}
-use Rattle.isle_printer_rules.specs.RuleShapes.{pattern_shape, pattern_shapes, expression_shape, expression_shapes, let_shapes, condition_shape, rule_name_shape, priority_shape, rule_shape, extractor_shape}
+use Rattle.isle_printer.specs.RuleShapes.{pattern_shape, pattern_shapes, expression_shape, expression_shapes, let_shapes, condition_shape, rule_name_shape, priority_shape, rule_shape, extractor_shape}
 use Rattle.isle_printer_layout.specs.Sexp.{list_of}
 use Rattle.isle_printer_layout.specs.NameShapes.{constant_shape}
 use Rattle.isle_printer_layout.proofs.ShortLines.Layout.{IsNoEmptyList, IsTidy}
 use Rattle.isle_printer_layout.proofs.ShortLines.Parts.{plain-identifier, plain-bool_word, plain-priority, plain-integer, TidyItems, ◌then◌, tidy-nothing, tidy-item, tidy-word, tidy-name, tidy-all}
 use Rattle.isle_printer_layout.proofs.ShortLines.Parts.{BeginsWell, tidy-list, tidy-form, tidy-headed_item}
 
--- a constant is an identifier behind `$`
+-- a constant is an identifier after `$`
 pub tidy-constant : (n : Name) → IsConstantName n → IsTidy (constant_shape n)
 tidy-constant n is = plain-identifier (36 ∷ n.text) is
 

@@ -10,8 +10,8 @@ use Rattle.isle_ast_rules.specs.TreeView.{SingleLet}
 use Rattle.isle_printer_layout.specs.Sexp.{Sexp, atom, binding, list_of}
 use Rattle.isle_printer_layout.specs.NameShapes.{name_shape, name_shapes, form_shape, constant_shape, integer_shape}
 
--- `x`, `x @ P`, `true` or `false`, an integer, `$c`, `(t P..)`, `_`, `(and P..)`. The argument of
--- a macro is never printed, and its shape means nothing.
+-- `x`, `x @ P`, `true` or `false`, an integer, `$c`, `(t P..)`, `_`, `(and P..)`. A macro argument
+-- is never printed, and its shape has no meaning.
 abbrev mutual
   pub pattern_shape : PatternNode → Sexp
   pattern_shape (var_pattern var _) = name_shape var
@@ -52,7 +52,7 @@ abbrev mutual
 abbrev pub let_shape : SingleLet → Sexp
 let_shape d = list_of (name_shape d.var ∷ name_shape d.ty ∷ expression_shape d.val ∷ [])
 
--- `(if-let P X)`, also where the pattern is `_`
+-- `(if-let P X)`, even if the pattern is `_`
 abbrev pub condition_shape : Condition → Sexp
 condition_shape c = form_shape (codes "if-let") (pattern_shape c.pattern ∷ expression_shape c.expr ∷ [])
 
@@ -66,7 +66,7 @@ abbrev pub priority_shape : Option ℤ → List Sexp
 priority_shape None = []
 priority_shape (Some prio) = atom (signed_decimal prio) ∷ []
 
--- `(rule name prio P condition.. X)`, with the name and the priority where they are given
+-- `(rule name prio P condition.. X)`, with the name and the priority if they are given
 abbrev pub rule_shape : RuleDefinition → Sexp
 rule_shape r =
     list_of

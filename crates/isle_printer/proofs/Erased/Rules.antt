@@ -1,5 +1,5 @@
 -- Positions play no part in the shapes of patterns, expressions, rules and extractors, nor in
--- whether one holds the argument of a macro.
+-- whether one contains a macro argument.
 use Rattle.std.proofs.Common.{◌≡◌, List, [], ◌∷◌, ◌++◌, map, codes, Bool, ◌||◌, Option, None, Some, refl, ap, ◌∙◌}
 use Rattle.std.specs.List.{list_any}
 use Rattle.isle_ast_names.specs.Tree.{Name}
@@ -9,7 +9,7 @@ use Rattle.isle_ast_rules.specs.Tree.{no_pattern, more_pattern, Expression, term
 use Rattle.isle_ast_rules.specs.Tree.{no_expression, more_expression, LetList, no_let, more_let, Condition, RuleDefinition, ExtractorDefinition}
 use Rattle.isle_ast_rules.specs.Erased.{erase_pattern, erase_patterns, erase_expression, erase_expressions, erase_lets, erase_condition, erase_rule, erase_extractor}
 use Rattle.isle_ast_rules.specs.MacroArgs.{has_macro_arg, have_macro_arg, condition_has_macro_arg, rule_has_macro_arg}
-use Rattle.isle_printer_rules.specs.RuleShapes.{pattern_shape, pattern_shapes, expression_shape, expression_shapes, let_shapes, condition_shape, rule_name_shape, priority_shape, rule_shape, extractor_shape}
+use Rattle.isle_printer.specs.RuleShapes.{pattern_shape, pattern_shapes, expression_shape, expression_shapes, let_shapes, condition_shape, rule_name_shape, priority_shape, rule_shape, extractor_shape}
 use Rattle.isle_printer_layout.specs.Sexp.{Sexp, atom, binding, list_of}
 use Rattle.isle_printer_layout.specs.NameShapes.{name_shape, name_shapes, form_shape}
 use Rattle.isle_printer_layout.proofs.Erased.Names.{shapes-erased, names-erased}
@@ -84,7 +84,7 @@ extractor-erased e =
     ap (λ ss. list_of (atom (codes "extractor") ∷ [] ++ list_of (name_shape e.term ∷ ss) ∷ [] ++ pattern_shape (erase_pattern e.template) ∷ [])) (names-erased e.args)
     ∙ ap (λ s. list_of (atom (codes "extractor") ∷ [] ++ list_of (name_shape e.term ∷ name_shapes e.args) ∷ [] ++ s ∷ [])) (pattern-erased e.template)
 
--- the argument of a macro
+-- a macro argument
 
 mutual
   pub macro_arg-erased : (p : PatternNode) → has_macro_arg (erase_pattern p) ≡ has_macro_arg p

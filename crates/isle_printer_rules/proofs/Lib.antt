@@ -1,3 +1,0 @@
-pub mod Erased
-pub mod ShapeLaw
-pub mod ShortLines
