@@ -1,4 +1,4 @@
-//! What the exports answer, before it goes into the caller's slice.
+//! The outputs of the exports, before they are written to the caller's slice.
 
 ghost use Rattle.std.specs.Prelude.{◌≡◌, ◌≤◌, ◌-◌, ◌==◌, if◌then◌else◌, IfErr};
 ghost use Rattle.std.specs.Prelude.{IfOk, IsUtf8, OnOk, length, slice_index, string_bytes};
@@ -18,16 +18,16 @@ use isle_syntax::files::LineMap;
 use isle_syntax::lexer::Fault;
 use std::alloc::{AllocError, AllocFailed, Global};
 
-/// Why nothing is written.
+/// Why there is no output.
 #[derive(Drop)]
 pub enum NoAnswer {
-    /// The text is one of ISLE, where a refusal was asked for.
+    /// The text is valid, so that no error can be reported.
     Accepted,
-    /// The text is none of ISLE.
+    /// The text is rejected.
     Refused,
     /// A text isn't UTF-8.
     NotUtf8,
-    /// A growth of memory was refused.
+    /// Out of memory.
     Memory,
 }
 
@@ -48,7 +48,7 @@ impl<T: Drop> From<AllocFailed<T>> for NoAnswer {
 }
 
 impl NoAnswer {
-    /// The number that stands for it.
+    /// Its status.
     pub fn status(&self) -> u32
         ensures { result ≡ status_of self.now }
     {
@@ -60,7 +60,7 @@ impl NoAnswer {
         }
     }
 
-    /// What a call tells that writes nothing.
+    /// The answer of a call without output.
     pub fn answer(&self) -> Answer
         ensures { result ≡ record { status = status_of self.now; len = 0 } }
     {
@@ -71,16 +71,15 @@ impl NoAnswer {
     }
 }
 
-/// Why a text is refused, and where.
+/// Why a text is rejected, and where.
 #[derive(Drop)]
 pub struct Refusal {
-    /// The message, without its kind.
+    /// The message of the error, without its kind.
     pub reason: String,
-    /// The place.
+    /// The position of the error.
     pub place: Place,
 }
 
-/// The formatted text.
 pub fn formatted(alloc: Global, bytes: &[u8], width: usize) -> Result<String, NoAnswer>
     ensures ok { IfOk result (λ answer. IsFormatted width bytes.now (string_bytes answer)) }
     ensures utf8 { OnOk result (IsUtf8 bytes.now) }
@@ -91,7 +90,7 @@ pub fn formatted(alloc: Global, bytes: &[u8], width: usize) -> Result<String, No
     Ok(answer)
 }
 
-/// The error with which the text is refused.
+/// The error with which the bytes are rejected.
 pub fn refused(alloc: Global, bytes: &[u8]) -> Result<Error, NoAnswer>
     ensures ok { OnOk result (IsUtf8 bytes.now × IsRefused bytes.now) }
     ensures err { IfErr result (IsRefusalFailure bytes.now) }
@@ -101,7 +100,7 @@ pub fn refused(alloc: Global, bytes: &[u8]) -> Result<Error, NoAnswer>
     Ok(error)
 }
 
-/// Why and where the text is refused.
+/// Why and where the bytes are rejected.
 pub fn refusal_of(alloc: Global, bytes: &[u8]) -> Result<Refusal, NoAnswer>
     ensures ok { IfOk result
         (λ refusal. IsRefusedAt bytes.now refusal.place (string_bytes refusal.reason)) }
@@ -114,7 +113,7 @@ pub fn refusal_of(alloc: Global, bytes: &[u8]) -> Result<Refusal, NoAnswer>
     Ok(refusal)
 }
 
-/// The diagnostic of a text that is refused, with this name for its file.
+/// The diagnostic of a text that is rejected, under this file name.
 pub fn diagnostic_of(alloc: Global, name: &[u8], text: &[u8]) -> Result<String, NoAnswer>
     ensures ok { IfOk result (λ shown. IsDiagnosticOf name.now text.now (string_bytes shown)) }
     ensures utf8 { OnOk result (IsUtf8 name.now × IsUtf8 text.now) }
@@ -127,7 +126,7 @@ pub fn diagnostic_of(alloc: Global, name: &[u8], text: &[u8]) -> Result<String, 
     Ok(shown)
 }
 
-/// The print of the tree that a text spells.
+/// The print of a text's tree.
 fn print_of(alloc: Global, text: &str, width: usize) -> Result<String, NoAnswer>
     ensures ok { IfOk result (λ answer. IsFormatted width text.now (string_bytes answer)) }
     ensures err { IfErr result (IsFormatFailure text.now) }
@@ -140,7 +139,7 @@ fn print_of(alloc: Global, text: &str, width: usize) -> Result<String, NoAnswer>
     }
 }
 
-/// The error with which a text is refused.
+/// The error with which a text is rejected.
 fn error_of(alloc: Global, text: &str) -> Result<Error, NoAnswer>
     ensures ok { IfOk result (IsRefusedWith text.now) }
     ensures err { IfErr result (IsRefusalFailure text.now) }
@@ -153,7 +152,7 @@ fn error_of(alloc: Global, text: &str) -> Result<Error, NoAnswer>
     }
 }
 
-/// The reason of an error, and its place in the text.
+/// The reason and the place of an error.
 pub fn parts(alloc: Global, text: &str, error: Error) -> Result<Refusal, AllocError>
     requires { RefusesIn 0 (length text.now) error }
     ensures { IfOk result
@@ -168,7 +167,6 @@ pub fn parts(alloc: Global, text: &str, error: Error) -> Result<Refusal, AllocEr
     }
 }
 
-/// The place of an offset in a text.
 fn place_of(alloc: Global, text: &str, offset: usize) -> Result<Place, AllocError>
     requires { offset ≤ length text.now }
     ensures { IfOk result (λ place. place ≡ place_at text.now offset) }
@@ -185,7 +183,6 @@ fn place_of(alloc: Global, text: &str, offset: usize) -> Result<Place, AllocErro
     })
 }
 
-/// The offset at which a line begins.
 fn line_begin(map: &LineMap, line: usize) -> usize
     requires { line ≤ length map.now }
     ensures { result ≡ (if line == 0 then 0 else slice_index map.now (line - 1)) }

@@ -1,9 +1,9 @@
-//! The syntax layer of ISLE, and tidying, as a static library, for callers that are not Rattle.
+//! The syntax layer of ISLE and tidying as a static library, for callers in C and other languages.
 //!
-//! Texts come as slices of bytes, and an answer is written into a slice of the caller's, with its
-//! whole length told: a slice that is too short is an answer too. No pointer is handed out, nothing
-//! is kept between two calls, and nothing is for the caller to free. Each call tests what it needs,
-//! so none has a `requires`. `README.md` says what a caller owes all the same.
+//! Texts are passed as slices of bytes. The output is written to a slice of the caller's, and its
+//! whole length is returned, even if the slice is too short. No pointer is handed out, no state is
+//! kept between calls, and the caller frees nothing. Every call checks its arguments, so none has a
+//! `requires`. `bindings/c/isle.h` has the obligations of a caller.
 #![tactic(auto)]
 
 ghost use Rattle.std.specs.Prelude.{◌≡◌, ◌≢◌, ◌↔◌, ◌≤◌, IsUtf8};
@@ -26,78 +26,75 @@ use slices::write;
 use std::alloc::Global;
 use tidying::{is_tidy, tidied, tidy_refusal_of};
 
-/// The whole answer stands at the front of the caller's slice.
+/// The whole output is at the front of the caller's slice.
 pub const WRITTEN: u32 = 0;
 
-/// The caller's slice is too short for the answer, and left as it was.
+/// The caller's slice is too short for the output, and unchanged.
 pub const TOO_SHORT: u32 = 1;
 
-/// The text is one of ISLE.
+/// The text is valid.
 pub const ACCEPTED: u32 = 2;
 
-/// The text is none of ISLE.
+/// The text is rejected: it does not parse, or, in the calls that tidy, can't be tidied.
 pub const REFUSED: u32 = 3;
 
 /// A text isn't UTF-8.
 pub const NOT_UTF8: u32 = 4;
 
-/// A growth of memory was refused.
+/// Out of memory.
 pub const MEMORY: u32 = 5;
 
-/// The text can be tidied, and isn't tidy.
+/// The text can be tidied, but isn't tidy.
 pub const UNTIDY: u32 = 6;
 
-/// How a call ended, and how long its answer is.
+/// The status of a call, and the length of its output.
 #[repr(C)]
 #[derive(Clone, Copy)]
 pub struct Answer {
-    /// One of the numbers above.
+    /// One of the constants of this crate.
     pub status: u32,
-    /// How many bytes the whole answer has, whether they fit in or not; 0 where there is none.
+    /// The number of bytes of the whole output, even if it does not fit; 0 if there is none.
     pub len: usize,
 }
 
-/// Where a text is refused. Offsets and columns count bytes.
+/// The position of an error. Offsets and columns count bytes.
 #[repr(C)]
 #[derive(Clone, Copy)]
 pub struct Place {
-    /// The offset of the byte that is refused, from 0; the text's length, where it ends too early.
+    /// The offset of the error, from 0; the text's length if the text ends too early.
     pub offset: usize,
-    /// The line of that byte, from 1.
+    /// Its line, from 1.
     pub line: usize,
     /// Its column, from 1.
     pub column: usize,
     /// The offset at which that line begins.
     pub line_begin: usize,
-    /// The offset behind that line, with its line feed if it has one.
+    /// The offset at which that line ends, after its line feed if it has one.
     pub line_end: usize,
 }
 
-/// A version, by its three numbers.
+/// A version.
 #[repr(C)]
 #[derive(Clone, Copy)]
 pub struct Version {
-    /// The first number.
     pub major: u32,
-    /// The second number.
     pub minor: u32,
-    /// The third number.
     pub patch: u32,
 }
 
-/// Formats a text of ISLE at a width in bytes, as `isle_syntax::format` does.
+/// Formats a text at a width in bytes, as `isle_syntax::format` does.
 ///
-/// The answer is the formatted text, which is UTF-8. `REFUSED` comes where no tree is spelt by the
-/// text; `isle_c_refusal` and `isle_c_diagnostic` say why.
+/// The output is the formatted text, in UTF-8. The status is `REFUSED` if the text does not parse;
+/// `isle_c_refusal` and `isle_c_diagnostic` say why.
 #[unsafe(no_mangle)]
 pub extern "C" fn isle_c_format(alloc: Global, text: &[u8], width: usize, into: &mut [u8]) -> Answer
-    // The answer is that of `format`, with all that its clauses say.
+    // The output is that of `format`, with all that its clauses say.
     ensures written { result.status ≡ WRITTEN
         → Writes into.old into.new result.len (IsFormatted width text.now) }
     ensures too_short { result.status ≡ TOO_SHORT
         → Wants into.old result.len (IsFormatted width text.now) }
 
-    // When there is none, and why.
+    // Why there is no output.
     ensures refused { result.status ≡ REFUSED → IsRefused text.now }
     ensures not_utf8 { (result.status ≡ NOT_UTF8) ↔ (¬ (IsUtf8 text.now)) }
     ensures statuses { (result.status ≢ ACCEPTED) × (result.status ≤ MEMORY) }
@@ -109,11 +106,11 @@ pub extern "C" fn isle_c_format(alloc: Global, text: &[u8], width: usize, into: 
     }
 }
 
-/// Parses a text of ISLE: writes the encoding of the one tree that the text spells.
+/// Parses a text, and writes the encoding of its tree.
 ///
-/// Each position is a byte offset in the text, with this number for its file. What the bytes mean
-/// is said at the head of the crate `isle_encoding`; they are UTF-8. `REFUSED` comes where no tree
-/// is spelt by the text; `isle_c_refusal` and `isle_c_diagnostic` say why.
+/// Each position is a byte offset in the text, with this number for its file. The crate
+/// `isle_encoding` describes the encoding, which is UTF-8. The status is `REFUSED` if the text does
+/// not parse; `isle_c_refusal` and `isle_c_diagnostic` say why.
 #[unsafe(no_mangle)]
 pub extern "C" fn isle_c_parse(alloc: Global, text: &[u8], file: usize, into: &mut [u8]) -> Answer
     ensures written { result.status ≡ WRITTEN
@@ -121,7 +118,7 @@ pub extern "C" fn isle_c_parse(alloc: Global, text: &[u8], file: usize, into: &m
     ensures too_short { result.status ≡ TOO_SHORT
         → Wants into.old result.len (IsEncodedTree file text.now) }
 
-    // When there is none, and why.
+    // Why there is no output.
     ensures refused { result.status ≡ REFUSED → IsRefused text.now }
     ensures not_utf8 { (result.status ≡ NOT_UTF8) ↔ (¬ (IsUtf8 text.now)) }
     ensures statuses { (result.status ≢ ACCEPTED) × (result.status ≤ MEMORY) }
@@ -133,7 +130,7 @@ pub extern "C" fn isle_c_parse(alloc: Global, text: &[u8], file: usize, into: &m
     }
 }
 
-/// Tells whether a text is one of ISLE: `ACCEPTED`, or why not.
+/// Returns `ACCEPTED` if a text parses, and otherwise why it does not.
 #[unsafe(no_mangle)]
 pub extern "C" fn isle_c_check(alloc: Global, text: &[u8]) -> u32
     ensures accepted { result ≡ ACCEPTED → SpellsTree text.now }
@@ -147,10 +144,10 @@ pub extern "C" fn isle_c_check(alloc: Global, text: &[u8]) -> u32
     }
 }
 
-/// Tells why and where a text is refused: the reason, which is the answer and UTF-8, and the place.
+/// Writes why a text does not parse, in UTF-8, and sets `place` to the position of the error.
 ///
-/// The reason is the message without its kind: each refusal is a parse error. `ACCEPTED` comes
-/// where there is no refusal, since the text is one of ISLE.
+/// The reason is the message of the error without its kind, which is always a parse error. The
+/// status is `ACCEPTED` if the text parses.
 #[unsafe(no_mangle)]
 pub extern "C" fn isle_c_refusal(
     alloc: Global,
@@ -163,7 +160,7 @@ pub extern "C" fn isle_c_refusal(
     ensures too_short { result.status ≡ TOO_SHORT
         → Wants reason.old result.len (IsRefusedAt text.now place.new) }
 
-    // When there is none, and why.
+    // Why there is no output.
     ensures accepted { result.status ≡ ACCEPTED → SpellsTree text.now }
     ensures not_utf8 { (result.status ≡ NOT_UTF8) ↔ (¬ (IsUtf8 text.now)) }
     ensures statuses { (result.status ≢ REFUSED) × (result.status ≤ MEMORY) }
@@ -179,11 +176,10 @@ pub extern "C" fn isle_c_refusal(
     }
 }
 
-/// Gives the diagnostic of a text that is refused, with this name for its file: the message, then
-/// file, line and column, counted from 1, and the line itself, as `Errors` shows it.
+/// Writes the diagnostic of a text that does not parse, in UTF-8, as `Errors` shows it: the
+/// message, then this file name, line and column, both counted from 1, and the line itself.
 ///
-/// The diagnostic is UTF-8. `ACCEPTED` comes where there is none, since the text is one of ISLE.
-/// `NOT_UTF8` comes where the name isn't UTF-8, too.
+/// The status is `ACCEPTED` if the text parses, and `NOT_UTF8` also if the name isn't UTF-8.
 #[unsafe(no_mangle)]
 pub extern "C" fn isle_c_diagnostic(
     alloc: Global,
@@ -196,7 +192,7 @@ pub extern "C" fn isle_c_diagnostic(
     ensures too_short { result.status ≡ TOO_SHORT
         → Wants into.old result.len (IsDiagnosticOf name.now text.now) }
 
-    // When there is none, and why.
+    // Why there is no output.
     ensures accepted { result.status ≡ ACCEPTED → SpellsTree text.now }
     ensures not_utf8 { (result.status ≡ NOT_UTF8) ↔ (¬ (IsUtf8 name.now × IsUtf8 text.now)) }
     ensures statuses { (result.status ≢ REFUSED) × (result.status ≤ MEMORY) }
@@ -208,10 +204,10 @@ pub extern "C" fn isle_c_diagnostic(
     }
 }
 
-/// Tidies a text, as `isle_tidy_core::tidy` does: keeps the author's lines and every comment.
+/// Tidies a text, as `isle_tidy_core::tidy` does. All comments and line breaks are kept.
 ///
-/// The answer is the tidy text, which is UTF-8. A text need not be one of ISLE: `REFUSED` comes
-/// where it doesn't lex or its parentheses don't match, and `isle_c_tidy_refusal` says why.
+/// The output is the tidy text, in UTF-8. A text need not parse: the status is `REFUSED` only if it
+/// doesn't lex or its parentheses don't match, and `isle_c_tidy_refusal` says why.
 #[unsafe(no_mangle)]
 pub extern "C" fn isle_c_tidy(alloc: Global, text: &[u8], into: &mut [u8]) -> Answer
     ensures written { result.status ≡ WRITTEN
@@ -219,7 +215,7 @@ pub extern "C" fn isle_c_tidy(alloc: Global, text: &[u8], into: &mut [u8]) -> An
     ensures too_short { result.status ≡ TOO_SHORT
         → Wants into.old result.len (IsTidyTextOf text.now) }
 
-    // When there is none, and why.
+    // Why there is no output.
     ensures refused { result.status ≡ REFUSED → HasNoDocument text.now }
     ensures not_utf8 { (result.status ≡ NOT_UTF8) ↔ (¬ (IsUtf8 text.now)) }
     ensures statuses { (result.status ≢ ACCEPTED) × (result.status ≤ MEMORY) }
@@ -231,7 +227,7 @@ pub extern "C" fn isle_c_tidy(alloc: Global, text: &[u8], into: &mut [u8]) -> An
     }
 }
 
-/// Tells whether a text is tidy: `ACCEPTED` if tidying gives it back, `UNTIDY` if not, or why it
+/// Returns `ACCEPTED` if tidying leaves a text as it is, `UNTIDY` if not, and otherwise why it
 /// can't be tidied.
 #[unsafe(no_mangle)]
 pub extern "C" fn isle_c_is_tidy(alloc: Global, text: &[u8]) -> u32
@@ -248,11 +244,10 @@ pub extern "C" fn isle_c_is_tidy(alloc: Global, text: &[u8]) -> u32
     }
 }
 
-/// Tells why and where a text can't be tidied: the reason, which is the answer and UTF-8, and the
-/// place.
+/// Writes why a text can't be tidied, in UTF-8, and sets `place` to the position of the error.
 ///
-/// The reason is the lexer's, `unmatched ')'` or `unclosed '('`. `ACCEPTED` comes where the text
-/// can be tidied.
+/// The reason is the lexer's message, `unmatched ')'` or `unclosed '('`. The status is `ACCEPTED`
+/// if the text can be tidied.
 #[unsafe(no_mangle)]
 pub extern "C" fn isle_c_tidy_refusal(
     alloc: Global,
@@ -265,7 +260,7 @@ pub extern "C" fn isle_c_tidy_refusal(
     ensures too_short { result.status ≡ TOO_SHORT
         → Wants reason.old result.len (IsUntidiableAt text.now place.new) }
 
-    // When there is none, and why.
+    // Why there is no output.
     ensures accepted { result.status ≡ ACCEPTED → HasDocument text.now }
     ensures not_utf8 { (result.status ≡ NOT_UTF8) ↔ (¬ (IsUtf8 text.now)) }
     ensures statuses { (result.status ≢ REFUSED) × (result.status ≤ MEMORY) }
@@ -281,7 +276,7 @@ pub extern "C" fn isle_c_tidy_refusal(
     }
 }
 
-/// The version of `cranelift-isle` that this library answers as.
+/// The version of `cranelift-isle` whose behavior this library has.
 #[unsafe(no_mangle)]
 pub extern "C" fn isle_c_version() -> Version
     ensures { result ≡ record { major = 0; minor = 137; patch = 1 } }

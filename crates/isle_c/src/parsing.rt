@@ -1,4 +1,4 @@
-//! What the export that parses answers, before it goes into the caller's slice.
+//! The output of the export that parses, before it is written to the caller's slice.
 
 ghost use Rattle.std.specs.Prelude.{◌≡◌, ◌↔◌, IfErr, IfOk, IsErrOf, IsUtf8, List, Ok, OnOk, ℕ};
 ghost use Rattle.std.specs.Prelude.{false, string_bytes, true};
@@ -18,7 +18,7 @@ use isle_syntax::lexer::{Fault, Lexer};
 use isle_syntax::parser::Parser;
 use std::alloc::Global;
 
-/// The encoding of the tree that a text spells, whose positions are in this file.
+/// The encoding of the tree of these bytes, whose positions are in this file.
 pub fn encoded_tree(alloc: Global, bytes: &[u8], file: usize) -> Result<String, NoAnswer>
     ensures ok { IfOk result (λ answer. IsEncodedTree file bytes.now (string_bytes answer)) }
     ensures utf8 { OnOk result (IsUtf8 bytes.now) }
@@ -42,7 +42,7 @@ fn encoding_of(alloc: Global, text: &str, file: usize) -> Result<String, NoAnswe
     }
 }
 
-/// Parses a text, and puts each definition as soon as it is read. So one is held at a time.
+/// Parses a text, and encodes each definition as soon as it is read, so that memory holds one.
 fn parsed(alloc: Global, text: &str, file: usize) -> Result<String, Fault>
     ensures encoded { IfOk result (λ answer. IsEncodedTree file text.now (string_bytes answer)) }
     ensures refused { IfErr result (IfError (λ _. IsRefused text.now)) }
@@ -57,7 +57,7 @@ fn parsed(alloc: Global, text: &str, file: usize) -> Result<String, Fault>
     Ok(answer)
 }
 
-/// Puts each definition that a parser has still to give, one after another.
+/// Encodes the remaining definitions of a parser.
 fn put_all(alloc: Global, parser: &mut Parser, answer: &mut String) -> Result<(), Fault>
     requires ready { has_failed parser.old ≡ false }
     ensures put { (file : ℕ) (text : List ℕ) → IsAtStartIn file text parser.old
@@ -70,7 +70,7 @@ fn put_all(alloc: Global, parser: &mut Parser, answer: &mut String) -> Result<()
     Ok(())
 }
 
-/// Puts the next definition, and tells whether there was one.
+/// Encodes the next definition, and returns whether there was one.
 fn put_next(alloc: Global, parser: &mut Parser, answer: &mut String) -> Result<bool, Fault>
     ensures put { result ≡ Ok true
         → IsPutNext parser.old parser.new (string_bytes answer.old) (string_bytes answer.new) }

@@ -1,4 +1,4 @@
-//! What crosses: texts that come as bytes, and answers that go into the caller's slice.
+//! The slices of the caller: texts as bytes, and room for the output.
 
 ghost use Rattle.std.specs.Prelude.{◌≡◌, ◌≤◌, IfErr, IfOk, IsUtf8};
 ghost use Rattle.isle_c.specs.Answers.{Wants, Writes};
@@ -7,7 +7,7 @@ ghost use Rattle.isle_c.specs.declared.calls.NoAnswer.TheVariants.{NotUtf8};
 use crate::calls::NoAnswer;
 use crate::{Answer, TOO_SHORT, WRITTEN};
 
-/// The text that these bytes are in UTF-8.
+/// The bytes as a text, if they are UTF-8.
 pub fn text_of(bytes: &[u8]) -> Result<&str, NoAnswer>
     ensures ok { IfOk result (λ text. (text.now ≡ bytes.now) × IsUtf8 bytes.now) }
     ensures err { IfErr result (λ why. (why ≡ NotUtf8) × (¬ (IsUtf8 bytes.now))) }
@@ -18,7 +18,7 @@ pub fn text_of(bytes: &[u8]) -> Result<&str, NoAnswer>
     }
 }
 
-/// Writes an answer to the front of the caller's slice, where it fits in, and tells its length.
+/// Writes the output to the front of the caller's slice, if it fits, and returns its length.
 pub fn write(answer: &str, into: &mut [u8]) -> Answer
     ensures written { result.status ≡ WRITTEN
         → Writes into.old into.new result.len (λ bytes. bytes ≡ answer.now) }

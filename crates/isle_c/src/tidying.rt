@@ -1,4 +1,4 @@
-//! What the exports that tidy answer, before it goes into the caller's slice.
+//! The outputs of the exports that tidy, before they are written to the caller's slice.
 
 ghost use Rattle.std.specs.Prelude.{◌≡◌, IfErr, IfOk, IsUtf8, OnOk, string_bytes};
 ghost use Rattle.isle_c.specs.NoAnswers.{IsTidyFailure, IsTidyRefusalFailure};
@@ -14,7 +14,6 @@ use isle_syntax::lexer::Fault;
 use isle_tidy_core::tidy;
 use std::alloc::Global;
 
-/// The tidy text.
 pub fn tidied(alloc: Global, bytes: &[u8]) -> Result<String, NoAnswer>
     ensures ok { IfOk result (λ answer. IsTidyTextOf bytes.now (string_bytes answer)) }
     ensures utf8 { OnOk result (IsUtf8 bytes.now) }
@@ -25,7 +24,7 @@ pub fn tidied(alloc: Global, bytes: &[u8]) -> Result<String, NoAnswer>
     Ok(answer)
 }
 
-/// Whether the text is its own tidy text.
+/// Whether tidying leaves the bytes as they are.
 pub fn is_tidy(alloc: Global, bytes: &[u8]) -> Result<bool, NoAnswer>
     ensures ok { IfOk result (IsWhetherTidy bytes.now) }
     ensures utf8 { OnOk result (IsUtf8 bytes.now) }
@@ -36,7 +35,7 @@ pub fn is_tidy(alloc: Global, bytes: &[u8]) -> Result<bool, NoAnswer>
     Ok(is_tidy)
 }
 
-/// Why and where the text can't be tidied.
+/// Why and where the bytes can't be tidied.
 pub fn tidy_refusal_of(alloc: Global, bytes: &[u8]) -> Result<Refusal, NoAnswer>
     ensures ok { IfOk result
         (λ refusal. IsUntidiableAt bytes.now refusal.place (string_bytes refusal.reason)) }
@@ -49,7 +48,6 @@ pub fn tidy_refusal_of(alloc: Global, bytes: &[u8]) -> Result<Refusal, NoAnswer>
     Ok(refusal)
 }
 
-/// The tidy text of a text.
 fn tidy_text_of(alloc: Global, text: &str) -> Result<String, NoAnswer>
     ensures ok { IfOk result (λ answer. IsTidyTextOf text.now (string_bytes answer)) }
     ensures err { IfErr result (IsTidyFailure text.now) }
@@ -62,7 +60,7 @@ fn tidy_text_of(alloc: Global, text: &str) -> Result<String, NoAnswer>
     }
 }
 
-/// Whether a text is its own tidy text.
+/// Whether tidying leaves a text as it is.
 fn whether_tidy(alloc: Global, text: &str) -> Result<bool, NoAnswer>
     ensures ok { IfOk result (IsWhetherTidy text.now) }
     ensures err { IfErr result (IsTidyFailure text.now) }
@@ -75,7 +73,7 @@ fn whether_tidy(alloc: Global, text: &str) -> Result<bool, NoAnswer>
     }
 }
 
-/// The error with which a text is refused that can't be tidied.
+/// The error of a text that can't be tidied.
 fn tidy_error_of(alloc: Global, text: &str) -> Result<Error, NoAnswer>
     ensures ok { IfOk result (RefusesToTidy text.now) }
     ensures err { IfErr result (IsTidyRefusalFailure text.now) }

@@ -8,12 +8,11 @@ use Rattle.std.specs.declared.string.String.{String}
 use Rattle.isle_base_source.specs.Source.{Source}
 use Rattle.isle_cli.specs.Diagnostics.{only_file}
 use Rattle.isle_cli.specs.Sources.{ReadsInput, fault_line}
-use Rattle.isle_cli.specs.declared.failure.Failure.{Failure}
 use Rattle.isle_cli.specs.declared.program.Program.{Program}
 use Rattle.isle_cli.specs.declared.sources.SourceFault.TheVariants.{Unreadable}
 
 -- the whole input is one text more
-pub one_source_more : (stdin_name : List ℕ) (program : Program) (input input' : Option (List ℕ)) (sources : List Source) (faults : List ℕ) (sources' : List Source) (faults' : List ℕ) (text : List ℕ) (result : Result (Unit {0}) Failure)
+pub one_source_more : {E : Type 0} (stdin_name : List ℕ) (program : Program) (input input' : Option (List ℕ)) (sources : List Source) (faults : List ℕ) (sources' : List Source) (faults' : List ℕ) (text : List ℕ) (result : Result (Unit {0}) E)
     → IsUtf8 text → Consumes input input' text → IsAtEnd input' → OnOk result (sources' ≡ sources ++ only_file stdin_name text) → faults' ≡ faults
     → OnOk result (ReadsInput stdin_name program input input' sources faults sources' faults')
 one_source_more stdin_name program input input' sources faults sources' faults' text (Ok _) utf8 consumed ended list same =
@@ -21,7 +20,7 @@ one_source_more stdin_name program input input' sources faults sources' faults' 
 one_source_more stdin_name program input input' sources faults sources' faults' text (Err _) utf8 consumed ended list same = tt
 
 -- or one fault more
-pub one_fault_more : (stdin_name : List ℕ) (program : Program) (input input' : Option (List ℕ)) (sources : List Source) (faults : List ℕ) (sources' : List Source) (faults' : List ℕ) (result : Result (Unit {0}) Failure)
+pub one_fault_more : {E : Type 0} (stdin_name : List ℕ) (program : Program) (input input' : Option (List ℕ)) (sources : List Source) (faults : List ℕ) (sources' : List Source) (faults' : List ℕ) (result : Result (Unit {0}) E)
     → sources' ≡ sources → OnOk result (faults' ≡ faults ++ fault_line program stdin_name Unreadable)
     → OnOk result (ReadsInput stdin_name program input input' sources faults sources' faults')
 one_fault_more stdin_name program input input' sources faults sources' faults' (Ok _) list told = inr (list, told)

@@ -1,15 +1,12 @@
 -- Why a program doesn't do its work: what each reason says, its status, and what standard error gets.
 use Rattle.std.specs.Prelude.{◌≡◌, ℕ, List, Option, ◌++◌, codes, string_bytes}
 use Rattle.std.specs.Io.KnownBytes.{Keeps}
-use Rattle.isle_cli.specs.Diagnostics.{IsRefusal}
 use Rattle.isle_cli.specs.Streams.{ReadsText, WritesBeginning}
 use Rattle.isle_cli.specs.declared.failure.Failure.{Failure}
 use Rattle.isle_cli.specs.declared.failure.Failure.TheVariants as failures
 use Rattle.isle_cli.specs.declared.program.Program.{Program}
 use Rattle.isle_cli.specs.declared.streams.ReadFault.{ReadFault}
 use Rattle.isle_cli.specs.declared.streams.ReadFault.TheVariants as read_faults
-use Rattle.isle_cli.specs.declared.words.WordsFault.{WordsFault}
-use Rattle.isle_cli.specs.declared.words.WordsFault.TheVariants as words_faults
 
 abbrev pub status_of : Failure → ℕ
 status_of (failures.Refused _) = 1
@@ -33,23 +30,10 @@ pub record IsDiagnostic (program : Program) (status : ℕ) (text : List ℕ) : T
   pub memory : status ≡ 4 → text ≡ program.name.now ++ codes ": out of memory\n"
   pub output : status ≡ 5 → text ≡ program.name.now ++ codes ": output failed\n"
 
--- what a fault of the words of the command line is to a program
-abbrev pub words_failure : WordsFault → Failure
-words_failure words_faults.NotUtf8 = failures.Usage
-words_failure words_faults.Memory = failures.Memory
-
--- what a fault of reading is to it
+-- what a fault of reading is to a program
 abbrev pub read_failure : ReadFault → Failure
 read_failure read_faults.Unreadable = failures.Input
 read_failure read_faults.Memory = failures.Memory
-
--- a text is refused, with its diagnostic under this name, or memory was refused
-abbrev pub IsRefusalFailure : Failure → (name text : List ℕ) → Type 0
-IsRefusalFailure (failures.Refused diagnostic) name text = IsRefusal name text (string_bytes diagnostic)
-IsRefusalFailure failures.Usage name text = ⊥
-IsRefusalFailure failures.Input name text = ⊥
-IsRefusalFailure failures.Memory name text = Unit {0}
-IsRefusalFailure failures.Output name text = ⊥
 
 -- What a failure says of standard input and output, before and after, where the words are usable or not. Of the whole
 -- input Refused holds with the text that is told, or Written with the text of which the output got a beginning.

@@ -1,4 +1,4 @@
-//! The words of a command line: options, which stand anywhere, and names.
+//! The arguments of a command line: options, which may stand anywhere, and names.
 
 ghost use Rattle.std.specs.Prelude.{◌≡◌, ◌⊎◌, ◌++◌, IfErr, IfOk, None, OnOk, Some, map};
 ghost use Rattle.std.specs.Prelude.{option_to_list, string_bytes};
@@ -13,35 +13,35 @@ use crate::diagnostics::INPUT_NAME;
 use crate::failure::Failure;
 use std::alloc::{AllocError, Global};
 
-/// The options of a program, without `--help`, `--version` and `--stdin-name NAME`, which each
-/// program takes.
+/// The options of a program, besides `--help`, `--version` and `--stdin-name NAME`, which every
+/// program accepts.
 #[derive(Clone, Copy, Debug)]
 pub struct Options {
-    /// The options without a value, as `--check`.
+    /// The options without a value, such as `--check`.
     pub flags: &'static [&'static str],
-    /// The options whose value is the next word, as `--width`.
+    /// The options whose value is the next word, such as `--width`.
     pub settings: &'static [&'static str],
 }
 
-/// What a word of the command line gives, or an option and its value.
+/// An argument: a word of the command line, or an option with its value.
 #[derive(Debug, Drop)]
 pub enum Argument {
     /// An option without a value.
     Flag(String),
-    /// An option, and its value.
+    /// An option and its value.
     Setting(String, String),
     /// A name; `-` stands for standard input.
     Name(String),
 }
 
-/// What a command line asks for.
+/// What the user asks for.
 #[derive(Debug, Drop)]
 pub enum Request {
-    /// To print the help.
+    /// Print the help.
     Help,
-    /// To print the version.
+    /// Print the version.
     Version,
-    /// To do the program's work, with these arguments.
+    /// Do the program's work with these arguments.
     Work(Vec<Argument>),
 }
 
@@ -56,20 +56,20 @@ enum Awaited {
     Names,
 }
 
-/// What a word gives, and what the next one may be.
+/// The argument that a word completes, if any, and what the next word may be.
 #[derive(Drop)]
 struct Taken {
     argument: Option<Argument>,
     awaited: Awaited,
 }
 
-/// Reads the words of a command line, without the program's name.
+/// Parses the words of a command line, without the program's name.
 ///
-/// Options stand anywhere among the names; after `--` each word is a name. A word that begins with
-/// `-` is an option, and `-` alone is a name. An option may be given more than once.
+/// Options may stand anywhere among the names; after `--` every word is a name. A word that begins
+/// with `-` is an option, except `-` alone, which is a name. An option may be repeated.
 ///
-/// It fails with `Usage` where an option is unknown or its value is missing, and with `Memory`.
-/// Else `--help` comes before `--version`, and both before the work.
+/// It fails with `Usage` if an option is unknown or its value is missing, and with `Memory`.
+/// Otherwise `--help` takes precedence over `--version`, and both over the work.
 pub fn requested(alloc: Global, options: &Options, words: &[String]) -> Result<Request, Failure>
     ensures ok { IfOk result (λ request. asked options.now (map string_bytes words.now)
         ≡ Some (request_of request)) }
@@ -86,7 +86,7 @@ pub fn requested(alloc: Global, options: &Options, words: &[String]) -> Result<R
     Ok(Request::Work(arguments))
 }
 
-/// Reads options and names.
+/// Parses options and names.
 fn arguments_of(
     alloc: Global,
     options: &Options,
@@ -111,7 +111,7 @@ fn arguments_of(
     }
 }
 
-/// Adds what a word gives.
+/// Adds the argument that a word completes, if any.
 fn push_argument(
     arguments: &mut Vec<Argument>,
     argument: Option<Argument>,
@@ -125,7 +125,7 @@ fn push_argument(
     }
 }
 
-/// Takes one word.
+/// Parses one word.
 fn take(alloc: Global, options: &Options, awaited: Awaited, word: &str) -> Result<Taken, Failure>
     ensures ok { IfOk result (λ next. taken options.now (awaited_of awaited) word.now
         ≡ Some (taken_of next)) }
@@ -146,7 +146,7 @@ fn take(alloc: Global, options: &Options, awaited: Awaited, word: &str) -> Resul
     }
 }
 
-/// Takes a word that may be an option or a name.
+/// Parses a word that may be an option or a name.
 fn take_any(options: &Options, word: String) -> Result<Taken, Failure>
     ensures ok { IfOk result (λ next. taken options.now anything_awaited (string_bytes word)
         ≡ Some (taken_of next)) }
@@ -181,14 +181,14 @@ fn take_any(options: &Options, word: String) -> Result<Taken, Failure>
 }
 
 impl Options {
-    /// Tells whether a word is an option without a value.
+    /// Returns whether a word is an option without a value.
     fn is_flag(&self, word: &str) -> bool
         ensures { result ≡ is_flag self.now word.now }
     {
         word == "--help" || word == "--version" || is_among(self.flags, word)
     }
 
-    /// Tells whether a word is an option with a value.
+    /// Returns whether a word is an option with a value.
     fn is_setting(&self, word: &str) -> bool
         ensures { result ≡ is_setting self.now word.now }
     {
@@ -196,7 +196,6 @@ impl Options {
     }
 }
 
-/// Tells whether a word is one of these.
 fn is_among(words: &[&str], word: &str) -> bool
     ensures { result ≡ is_among (map (λ other. other.now) words.now) word.now }
 {
@@ -208,14 +207,14 @@ fn is_among(words: &[&str], word: &str) -> bool
     false
 }
 
-/// Tells whether a word is a name where options may stand: it is `-`, or begins with another byte.
+/// Returns whether a word is no option: it is `-`, or does not begin with `-`.
 fn is_name_word(word: &str) -> bool
     ensures { result ≡ is_name word.now }
 {
     word == "-" || !word.starts_with('-')
 }
 
-/// Tells whether an option without a value is given.
+/// Returns whether an option without a value is given.
 pub fn has_flag(arguments: &[Argument], flag: &str) -> bool
     ensures { result ≡ gives_flag flag.now (map given_of arguments.now) }
 {
@@ -227,7 +226,7 @@ pub fn has_flag(arguments: &[Argument], flag: &str) -> bool
     false
 }
 
-/// Gives the value of an option, where it is given: the last one.
+/// The value of an option, if it is given: the last one.
 pub fn setting_of<'a>(arguments: &'a [Argument], option: &str) -> Option<&'a str>
     ensures { option_copied result ≡ last_setting option.now None (map given_of arguments.now) }
 {
@@ -242,14 +241,14 @@ pub fn setting_of<'a>(arguments: &'a [Argument], option: &str) -> Option<&'a str
     value
 }
 
-/// Gives the name of standard input: the value of `--stdin-name`, or `<stdin>`.
+/// The name of standard input: the value of `--stdin-name`, or `<stdin>`.
 pub fn stdin_name_of(arguments: &[Argument]) -> &str
     ensures { result.now ≡ stdin_name (map given_of arguments.now) }
 {
     setting_of(arguments, "--stdin-name").unwrap_or(INPUT_NAME)
 }
 
-/// Gives the names, in order.
+/// The names, in order.
 pub fn names_of(alloc: Global, arguments: &[Argument]) -> Result<Vec<String>, AllocError>
     ensures { IfOk result (λ names. map string_bytes names.items
         ≡ name_list (map given_of arguments.now)) }
@@ -264,7 +263,7 @@ pub fn names_of(alloc: Global, arguments: &[Argument]) -> Result<Vec<String>, Al
 }
 
 impl Argument {
-    /// Tells whether the argument is this option without a value.
+    /// Returns whether the argument is this option without a value.
     fn is_this_flag(&self, word: &str) -> bool
         ensures { result ≡ is_this_flag word.now (given_of self.now) }
     {

@@ -1,25 +1,24 @@
-//! Why a program doesn't do its work.
+//! The ways in which a program fails.
 
 ghost use Rattle.std.specs.Prelude.{◌≡◌};
-ghost use Rattle.isle_cli.specs.Failure.{read_failure, status_of, words_failure};
+ghost use Rattle.isle_cli.specs.Failure.{read_failure, status_of};
 ghost use Rattle.isle_cli.specs.declared.failure.Failure.TheVariants.{Memory};
 
 use crate::streams::ReadFault;
-use crate::words::WordsFault;
 use std::alloc::{AllocError, AllocFailed};
 
-/// Why a program doesn't do its work.
+/// Why a program fails.
 #[derive(Debug, Drop)]
 pub enum Failure {
-    /// The program finds something wrong in its input; with the text to write.
+    /// The input is rejected, with this message.
     Refused(String),
-    /// The command line is none of the usage.
+    /// The command line is invalid.
     Usage,
     /// The input can't be read to its end, or isn't UTF-8.
     Input,
-    /// A growth of memory was refused.
+    /// Out of memory.
     Memory,
-    /// The output refused bytes.
+    /// The output can't be written whole.
     Output,
 }
 
@@ -50,19 +49,8 @@ impl From<ReadFault> for Failure {
     }
 }
 
-impl From<WordsFault> for Failure {
-    ghost from_gives = { λ fault failure. failure ≡ words_failure fault };
-
-    fn from(fault: WordsFault) -> Failure {
-        match fault {
-            WordsFault::NotUtf8 => Failure::Usage,
-            WordsFault::Memory => Failure::Memory,
-        }
-    }
-}
-
 impl Failure {
-    /// The status that a program ends with: 1 to 5, in the order of the variants.
+    /// The exit status: 1 to 5, in the order of the variants.
     pub fn status(&self) -> u8
         ensures { result ≡ status_of self.now }
     {

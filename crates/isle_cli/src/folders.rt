@@ -1,15 +1,12 @@
-//! The files beneath a folder.
+//! The files below a folder.
 
-ghost use Rattle.std.specs.Prelude.{◌≡◌, IfErr};
-ghost use Rattle.isle_cli.specs.declared.failure.Failure.TheVariants.{Memory};
-
-use crate::failure::Failure;
 use crate::program::Program;
 use crate::sources::{SourceFault, fault_line, fault_of};
+use std::alloc::AllocError;
 use std::fs::{DirEntry, Files, read_dir};
 use std::io;
 
-/// The end of the name of a file of ISLE.
+/// The suffix of the names of ISLE files.
 const SUFFIX: &str = ".isle";
 
 /// A file or a folder.
@@ -19,19 +16,17 @@ struct Entry {
     is_folder: bool,
 }
 
-/// Gives the names of the files that a name stands for: itself, or, if it is a folder, each file
-/// beneath it whose name ends in `.isle`, in order of name.
+/// The names of the files that a name stands for: itself, or, if it is a folder, each file below it
+/// whose name ends in `.isle`, in order of name.
 ///
-/// Beneath a folder, hidden folders and links are left out. What can't be read gives a line of
-/// `faults`, and the others are given all the same. It fails only with `Memory`.
+/// Below a folder, hidden folders and links are left out. A line is added to `faults` for each file
+/// or folder that can't be read, and the other files are returned all the same.
 pub fn files_of<R: Files + AllocGlobal + Clone + Drop>(
     rt: &R,
     program: &Program,
     name: &str,
     faults: &mut String,
-) -> Result<Vec<String>, Failure>
-    ensures { IfErr result (λ failure. failure ≡ Memory) }
-{
+) -> Result<Vec<String>, AllocError> {
     let mut files = Vec::new(rt.alloc());
     let is_folder = match rt.metadata(name) {
         Ok(metadata) => metadata.is_dir(),
@@ -54,16 +49,14 @@ pub fn files_of<R: Files + AllocGlobal + Clone + Drop>(
     Ok(files)
 }
 
-/// Puts what is in a folder on top of what is pending, the first name last.
+/// Puts the entries of a folder on top of the pending ones, the first name last.
 fn push_entries<R: Files + AllocGlobal + Clone + Drop>(
     rt: &R,
     program: &Program,
     folder: &str,
     pending: &mut Vec<Entry>,
     faults: &mut String,
-) -> Result<(), Failure>
-    ensures { IfErr result (λ failure. failure ≡ Memory) }
-{
+) -> Result<(), AllocError> {
     let entries = match read_dir(rt, folder) {
         Ok(entries) => entries,
         Err(error) => return push_fault(rt, program, folder, error, faults),
@@ -83,7 +76,7 @@ fn push_entries<R: Files + AllocGlobal + Clone + Drop>(
     Ok(())
 }
 
-/// Gives a folder that isn't hidden, or a file of ISLE, and nothing of anything else.
+/// The entry, if it is a folder that isn't hidden or an ISLE file.
 fn entry_of<R: Files + AllocGlobal>(rt: &R, entry: &DirEntry<R>) -> io::Result<Option<Entry>> {
     let name = entry.file_name();
     let kind = entry.file_type()?;
@@ -96,18 +89,16 @@ fn entry_of<R: Files + AllocGlobal>(rt: &R, entry: &DirEntry<R>) -> io::Result<O
     Ok(Some(Entry { path, is_folder }))
 }
 
-/// Adds the line that says why a name can't be read.
+/// Adds the line that says why a name can't be read. Fails if the error is that memory ran out.
 fn push_fault<R: Files + AllocGlobal>(
     rt: &R,
     program: &Program,
     name: &str,
     error: io::Error,
     faults: &mut String,
-) -> Result<(), Failure>
-    ensures { IfErr result (λ failure. failure ≡ Memory) }
-{
+) -> Result<(), AllocError> {
     match fault_of(error) {
-        SourceFault::Memory => Err(Failure::Memory),
+        SourceFault::Memory => Err(AllocError),
         fault => {
             let line = fault_line(rt.alloc(), program, name, fault)?;
             faults.push_str(line.as_str())?;

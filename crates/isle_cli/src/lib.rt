@@ -1,5 +1,5 @@
-//! What the programs of this repository share: the command line, the files that it names, streams
-//! that are read and written whole, and what is said of a failure.
+//! The command-line parts that the programs share: arguments, the files that they name, whole reads
+//! and writes of streams, and the messages of failures.
 #![tactic(auto)]
 
 pub mod arguments;

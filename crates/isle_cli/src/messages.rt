@@ -10,11 +10,10 @@ use isle_base_source::error::Error;
 use isle_base_source::files::LineMap;
 use std::alloc::{AllocError, Global};
 
-/// Makes a line that says something of a place: `FILE:LINE:COLUMN: KIND: MESSAGE`, with its line
-/// end.
+/// The line of a message about a place: `FILE:LINE:COLUMN: KIND: MESSAGE`, with its line end.
 ///
-/// The place is a byte offset of the text, whose lines these are. Lines and the bytes of a line
-/// are counted from 1.
+/// The place is a byte offset in the text, and `lines` are the text's. Lines are counted from 1,
+/// and so are columns, in bytes.
 pub fn message_line(
     alloc: Global,
     name: &str,
@@ -34,7 +33,7 @@ pub fn message_line(
     format!(in alloc; "{name}:{number}:{column}: {kind}: {message}\n")
 }
 
-/// Tells how many bytes of its line stand before an offset.
+/// The number of bytes before an offset in its line.
 fn column_of(text: &str, lines: &LineMap, offset: usize) -> usize
     requires { lines.now ≡ line_ends text.now }
     ensures { result ≡ column text.now offset }
@@ -42,7 +41,7 @@ fn column_of(text: &str, lines: &LineMap, offset: usize) -> usize
     offset - line_begin(lines, lines.line(offset))
 }
 
-/// Gives the byte offset at which a line begins.
+/// The byte offset at which a line begins.
 fn line_begin(lines: &LineMap, number: usize) -> usize
     requires { number ≤ length lines.now }
     ensures { result ≡ (if number == 0 then 0 else slice_index lines.now (number - 1)) }
@@ -53,10 +52,9 @@ fn line_begin(lines: &LineMap, number: usize) -> usize
     }
 }
 
-/// Makes the line that says why a text was refused: `FILE:LINE:COLUMN: error: MESSAGE`, with its
-/// line end.
+/// The line of an error in a text: `FILE:LINE:COLUMN: error: MESSAGE`, with its line end.
 ///
-/// The error is one by which the text was refused, which is file 0.
+/// The text must have been rejected with this error, as file 0.
 pub fn error_line(
     alloc: Global,
     name: &str,

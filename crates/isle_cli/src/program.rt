@@ -1,34 +1,43 @@
-//! What a program says of itself and of its failures.
+//! What a program says about itself and about its failures.
 
-ghost use Rattle.std.specs.Prelude.{◌≡◌, ◌≢◌, ◌⊎◌, ◌++◌, ◌≤◌, IfErr, IfOk, OnOk, Ok, length};
+ghost use Rattle.std.specs.Prelude.{◌≡◌, ◌⊎◌, ◌++◌, IfErr, OnOk};
 ghost use Rattle.std.specs.Io.KnownBytes.{Appends, Keeps};
-ghost use Rattle.isle_parser_cursor.specs.Outcomes.{RefusesIn};
-ghost use Rattle.isle_cli.specs.Failure.{IsDiagnostic, IsRefusalFailure, status_of, text_of};
+ghost use Rattle.isle_cli.specs.Failure.{IsDiagnostic, status_of, text_of};
 ghost use Rattle.isle_cli.specs.Streams.{AppendsBeginning, WritesBeginning};
 ghost use Rattle.isle_cli.specs.declared.failure.Failure.TheVariants.{Output};
 
-use crate::diagnostics::diagnostic;
 use crate::failure::Failure;
 use crate::streams::write_whole;
-use isle_base_source::error::Error;
-use std::alloc::Global;
 use std::io;
 use std::io::Write;
 
-/// What a program says of itself.
+/// A program: its name, and the texts that it prints about itself.
 #[derive(Clone, Copy, Debug)]
 pub struct Program {
-    /// Its name, which begins its messages.
+    /// Its name, with which its messages begin.
     pub name: &'static str,
-    /// How it is called: a line, with its line end.
+    /// How to call it: one line, with its line end, for standard error after a usage error.
     pub usage: &'static str,
+    /// The text of `--help`; empty if the program has no such option.
+    pub help: &'static str,
+    /// The text of `--version`; empty if the program has no such option.
+    pub version: &'static str,
 }
 
-/// Writes what a failure says to standard error, as far as it takes it, and gives the status.
+/// The text of `--version`: the name of a tool, the version of the tools, and in parentheses the
+/// version of `cranelift-isle` whose syntax they accept.
+#[macro_export]
+macro_rules! version {
+    ($name:literal) => {
+        concat!($name, " 0.2.0 (ISLE 0.137.1)\n")
+    };
+}
+
+/// Writes the message of a failure to standard error, and returns the exit status.
 ///
-/// A refusal has its own text; wrong words get the usage. Of any other failure it writes the
-/// program's name and the reason: `: input is unreadable or not UTF-8`, `: out of memory` or
-/// `: output failed`.
+/// The message is the text of `Refused`, the usage for `Usage`, and otherwise the program's name
+/// and the reason: `: input is unreadable or not UTF-8`, `: out of memory` or `: output failed`.
+/// Errors of standard error are ignored: it then has a beginning of the message.
 pub fn report<E: Write>(program: &Program, failure: &Failure, faults: &mut E) -> u8
     ensures status { result ≡ status_of failure.now }
     ensures text { AppendsBeginning (E.contents faults.old) (E.contents faults.new)
@@ -38,7 +47,7 @@ pub fn report<E: Write>(program: &Program, failure: &Failure, faults: &mut E) ->
     failure.status()
 }
 
-/// Writes what a failure says.
+/// Writes the message of a failure.
 fn write_failure<E: Write>(program: &Program, failure: &Failure, faults: &mut E) -> io::Result<()>
     ensures { AppendsBeginning (E.contents faults.old) (E.contents faults.new)
         (text_of program.now failure.now) }
@@ -52,7 +61,7 @@ fn write_failure<E: Write>(program: &Program, failure: &Failure, faults: &mut E)
     }
 }
 
-/// Writes two texts, the second one only if the first is written whole.
+/// Writes two texts, the second only if all of the first was written.
 fn write_both<W: Write>(writer: &mut W, first: &str, second: &str) -> io::Result<()>
     ensures { AppendsBeginning (W.contents writer.old) (W.contents writer.new)
         (first.now ++ second.now) }
@@ -61,7 +70,7 @@ fn write_both<W: Write>(writer: &mut W, first: &str, second: &str) -> io::Result
     write_whole(writer, second.as_bytes())
 }
 
-/// Writes a text onto the output. After an error the output has a beginning of it.
+/// Writes a text to the output. After an error the output has a beginning of it.
 pub fn put<W: Write>(output: &mut W, text: &str) -> Result<(), Failure>
     ensures ok { OnOk result (Appends (W.contents output.old) (W.contents output.new) text.now) }
     ensures err { IfErr result (λ failure. (failure ≡ Output)
@@ -73,8 +82,8 @@ pub fn put<W: Write>(output: &mut W, text: &str) -> Result<(), Failure>
     }
 }
 
-/// Writes a text onto the output, as that of `--help`, and gives the status: 0, or 5 where the
-/// output refuses bytes, which standard error is told.
+/// Writes a text to the output, such as that of `--help`, and returns the exit status: 0, or 5
+/// after an error of the output, with a message on standard error.
 pub fn tell<W: Write, E: Write>(program: &Program, text: &str, output: &mut W, faults: &mut E) -> u8
     ensures statuses { (result ≡ 0) ⊎ (result ≡ 5) }
     ensures done { result ≡ 0
@@ -88,18 +97,5 @@ pub fn tell<W: Write, E: Write>(program: &Program, text: &str, output: &mut W, f
     match put(output, text) {
         Ok(()) => 0,
         Err(failure) => report(program, &failure, faults),
-    }
-}
-
-/// Makes the failure of a refused text, with its diagnostic under this name.
-///
-/// The error is one by which the text was refused, which is file 0.
-pub fn refusal(alloc: Global, name: &str, text: &str, error: Error) -> Failure
-    requires { RefusesIn 0 (length text.now) error }
-    ensures { IsRefusalFailure result name.now text.now }
-{
-    match diagnostic(alloc, name, text, error) {
-        Ok(shown) => Failure::Refused(shown),
-        Err(_) => Failure::Memory,
     }
 }

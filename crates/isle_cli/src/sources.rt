@@ -1,11 +1,9 @@
-//! The texts that a command line names: standard input, files, and the files beneath folders.
+//! The texts that a command line names: standard input, files, and the files below folders.
 
-ghost use Rattle.std.specs.Prelude.{◌≡◌, ◌++◌, [], IfErr, IfOk, OnOk, map, string_bytes};
+ghost use Rattle.std.specs.Prelude.{◌≡◌, ◌++◌, [], IfOk, OnOk, map, string_bytes};
 ghost use Rattle.isle_cli.specs.Diagnostics.{only_file};
 ghost use Rattle.isle_cli.specs.Sources.{IsReadFrom, ReadsInput, fault_line, reason_of, source_of};
-ghost use Rattle.isle_cli.specs.declared.failure.Failure.TheVariants.{Memory};
 
-use crate::failure::Failure;
 use crate::folders::files_of;
 use crate::program::Program;
 use crate::streams::{ReadFault, read_text};
@@ -14,52 +12,51 @@ use std::fs::{Files, OpenOptions};
 use std::io;
 use std::io::{ErrorKind, Read};
 
-/// A text, and the name that messages give it.
+/// A text, and its name in messages.
 #[derive(Debug, Drop)]
 pub struct Source {
-    /// The name.
+    /// Its name in messages.
     pub name: String,
     /// The text.
     pub text: String,
 }
 
-/// The texts that could be read, in the order of their names on the command line, and what
-/// standard error gets of the others.
+/// The texts that could be read, in the order of their names on the command line, and the messages
+/// about the others.
 #[derive(Debug, Drop)]
 pub struct Sources {
     /// The texts.
     pub list: Vec<Source>,
-    /// A line for each name that can't be read; empty if all can.
+    /// A line for each name that can't be read.
     pub faults: String,
 }
 
-/// Why a name stands for no text.
+/// Why a file can't be read.
 #[derive(Clone, Copy, Debug)]
 pub enum SourceFault {
     /// There is no such file or folder.
     Missing,
     /// It can't be read to its end, or isn't UTF-8.
     Unreadable,
-    /// A growth of memory was refused.
+    /// Out of memory.
     Memory,
 }
 
-/// Reads what the names of a command line stand for: standard input for `-` and where there is no
-/// name, the files beneath a folder as `files_of` finds them, or a file.
+/// Reads the texts that the names of a command line stand for: standard input for `-`, the files
+/// that `files_of` finds below a folder, or a file. Without names it reads standard input.
 ///
-/// What can't be read gives a line of `faults`, and the others are read all the same. It fails
-/// only with `Memory`.
+/// A line is added to `faults` for each text that can't be read, and the others are read all the
+/// same.
 pub fn read_sources<R: Files + AllocGlobal + Clone + Drop, I: Read>(
     rt: &R,
     program: &Program,
     names: &[String],
     stdin_name: &str,
     input: &mut I,
-) -> Result<Sources, Failure>
-    ensures ok { IfOk result (λ read. IsReadFrom (map string_bytes names.now) stdin_name.now
+) -> Result<Sources, AllocError>
+    ensures { IfOk result (λ read. IsReadFrom (map string_bytes names.now) stdin_name.now
         program.now (I.remaining input.old) (I.remaining input.new)
         (map source_of read.list.items) (string_bytes read.faults)) }
-    ensures err { IfErr result (λ failure. failure ≡ Memory) }
 {
     let mut read = Sources::none(rt.alloc());
     if names.is_empty() {
@@ -77,7 +74,7 @@ pub fn read_sources<R: Files + AllocGlobal + Clone + Drop, I: Read>(
 }
 
 impl Sources {
-    /// Gives no texts and no faults.
+    /// No texts and no faults.
     fn none(alloc: Global) -> Sources
         ensures list { map source_of result.list.items ≡ [] }
         ensures faults { string_bytes result.faults ≡ [] }
@@ -89,29 +86,27 @@ impl Sources {
     }
 
     /// Adds a text.
-    fn push(&mut self, alloc: Global, name: &str, text: String) -> Result<(), Failure>
+    fn push(&mut self, alloc: Global, name: &str, text: String) -> Result<(), AllocError>
         ensures list { OnOk result (map source_of self.new.list.items
             ≡ map source_of self.old.list.items ++ only_file name.now (string_bytes text)) }
         ensures faults { string_bytes self.new.faults ≡ string_bytes self.old.faults }
-        ensures err { IfErr result (λ failure. failure ≡ Memory) }
     {
         let name = String::from_str(alloc, name)?;
         self.list.push(Source { name, text })?;
         Ok(())
     }
 
-    /// Adds the line that says why a name stands for no text.
+    /// Adds the line that says why a name can't be read.
     fn push_fault(
         &mut self,
         alloc: Global,
         program: &Program,
         name: &str,
         fault: SourceFault,
-    ) -> Result<(), Failure>
+    ) -> Result<(), AllocError>
         ensures list { map source_of self.new.list.items ≡ map source_of self.old.list.items }
         ensures faults { OnOk result (string_bytes self.new.faults
             ≡ string_bytes self.old.faults ++ fault_line program.now name.now fault) }
-        ensures err { IfErr result (λ failure. failure ≡ Memory) }
     {
         let line = fault_line(alloc, program, name, fault)?;
         self.faults.push_str(line.as_str())?;
@@ -119,49 +114,46 @@ impl Sources {
     }
 }
 
-/// Reads standard input, after what was read before.
+/// Adds standard input.
 fn read_input<I: Read>(
     alloc: Global,
     program: &Program,
     stdin_name: &str,
     input: &mut I,
     read: &mut Sources,
-) -> Result<(), Failure>
-    ensures ok { OnOk result (ReadsInput stdin_name.now program.now
+) -> Result<(), AllocError>
+    ensures { OnOk result (ReadsInput stdin_name.now program.now
         (I.remaining input.old) (I.remaining input.new)
         (map source_of read.old.list.items) (string_bytes read.old.faults)
         (map source_of read.new.list.items) (string_bytes read.new.faults)) }
-    ensures err { IfErr result (λ failure. failure ≡ Memory) }
 {
     match read_text(alloc, input) {
         Ok(text) => read.push(alloc, stdin_name, text),
         Err(ReadFault::Unreadable) => {
             read.push_fault(alloc, program, stdin_name, SourceFault::Unreadable)
         }
-        Err(ReadFault::Memory) => Err(Failure::Memory),
+        Err(ReadFault::Memory) => Err(AllocError),
     }
 }
 
-/// Reads a file, or the files beneath a folder, after what was read before.
+/// Adds a file, or the files below a folder.
 fn read_path<R: Files + AllocGlobal + Clone + Drop>(
     rt: &R,
     program: &Program,
     name: &str,
     read: &mut Sources,
-) -> Result<(), Failure>
-    ensures { IfErr result (λ failure. failure ≡ Memory) }
-{
+) -> Result<(), AllocError> {
     for file in files_of(rt, program, name, &mut read.faults)? {
         match read_file(rt, file.as_str()) {
             Ok(text) => read.push(rt.alloc(), file.as_str(), text)?,
-            Err(SourceFault::Memory) => return Err(Failure::Memory),
+            Err(SourceFault::Memory) => return Err(AllocError),
             Err(fault) => read.push_fault(rt.alloc(), program, file.as_str(), fault)?,
         }
     }
     Ok(())
 }
 
-/// Reads the text of a file.
+/// Reads a file in UTF-8.
 pub fn read_file<R: Files + AllocGlobal>(rt: &R, name: &str) -> Result<String, SourceFault> {
     let mut file = OpenOptions::new()
         .read(true)
@@ -174,7 +166,7 @@ pub fn read_file<R: Files + AllocGlobal>(rt: &R, name: &str) -> Result<String, S
     }
 }
 
-/// What an error of the system says of a name.
+/// Why a file can't be read, from the error of the system.
 pub fn fault_of(error: io::Error) -> SourceFault {
     match error.kind() {
         ErrorKind::NotFound => SourceFault::Missing,
@@ -183,8 +175,7 @@ pub fn fault_of(error: io::Error) -> SourceFault {
     }
 }
 
-/// Makes the line that says why a name stands for no text: `PROGRAM: NAME: REASON`, with its line
-/// end.
+/// The line that says why a name can't be read: `PROGRAM: NAME: REASON`, with its line end.
 pub fn fault_line(
     alloc: Global,
     program: &Program,
@@ -196,7 +187,7 @@ pub fn fault_line(
     format!(in alloc; "{}: {name}: {}\n", program.name, reason_of(fault))
 }
 
-/// Why a name stands for no text, in words.
+/// The reason in words.
 fn reason_of(fault: SourceFault) -> &'static str
     ensures { result.now ≡ reason_of fault }
 {

@@ -1,4 +1,4 @@
-//! Reading and writing whole, over any reader and any writer.
+//! Reading to the end and writing whole texts, for any reader and any writer.
 
 ghost use Rattle.std.specs.Prelude.{◌≡◌, ◌<◌, length, string_bytes, IfOk, Ok, OnOk, false};
 ghost use Rattle.std.specs.Io.{StartsWith, appended_bytes};
@@ -10,7 +10,7 @@ use std::alloc::{AllocError, AllocFailed, Global};
 use std::io;
 use std::io::{ErrorKind, Read, Write};
 
-/// How many bytes one read asks for at most.
+/// The most bytes that one read asks for.
 const READ_LEN: usize = 64 * 1024;
 
 /// The three streams of a program.
@@ -20,12 +20,11 @@ pub struct Streams<I, W, E> {
     pub input: I,
     /// Standard output.
     pub output: W,
-    /// Standard error, which gets what is said of failures.
+    /// Standard error, for the messages of failures.
     pub faults: E,
 }
 
 impl<I, W, E> Streams<I, W, E> {
-    /// Makes one value of the streams.
     pub fn new(input: I, output: W, faults: E) -> Self
         ensures input { result.input ≡ input }
         ensures output { result.output ≡ output }
@@ -44,7 +43,7 @@ impl<I, W, E> Streams<I, W, E> {
 pub enum ReadFault {
     /// The input can't be read to its end, or isn't UTF-8.
     Unreadable,
-    /// A growth of memory was refused.
+    /// Out of memory.
     Memory,
 }
 
@@ -66,8 +65,7 @@ impl<T: Drop> From<AllocFailed<T>> for ReadFault {
 
 /// Reads a text in UTF-8 to its end.
 ///
-/// A read that is interrupted is made again. After an error the reader has given some of its bytes,
-/// which are lost.
+/// An interrupted read is repeated. After an error the bytes read so far are lost.
 pub fn read_text<R: Read>(alloc: Global, input: &mut R) -> Result<String, ReadFault>
     ensures consumed { IfOk result (λ text.
         Consumes (R.remaining input.old) (R.remaining input.new) (string_bytes text)) }
@@ -83,7 +81,7 @@ pub fn read_text<R: Read>(alloc: Global, input: &mut R) -> Result<String, ReadFa
     Err(ReadFault::Unreadable)
 }
 
-/// Reads once, and tells whether there may be more. A read that is interrupted gives nothing.
+/// Reads once, and returns whether there may be more. An interrupted read adds no bytes.
 fn read_more<R: Read>(
     input: &mut R,
     buffer: &mut [u8],
@@ -105,10 +103,10 @@ fn read_more<R: Read>(
     }
 }
 
-/// Writes bytes in as many calls as the writer needs, and flushes it.
+/// Writes all bytes, in as many calls as the writer needs, and flushes it.
 ///
-/// A call that is interrupted is made again. After another fault the writer has a beginning of the
-/// bytes, which is why this isn't std's `write_all`: that one doesn't tell what a fault leaves.
+/// An interrupted call is repeated. After any other error the writer has a beginning of the bytes,
+/// which std's `write_all` does not promise.
 pub fn write_whole<W: Write>(writer: &mut W, bytes: &[u8]) -> io::Result<()>
     ensures ok { OnOk result (Appends (W.contents writer.old) (W.contents writer.new) bytes.now) }
     ensures part { AppendsBeginning (W.contents writer.old) (W.contents writer.new) bytes.now }

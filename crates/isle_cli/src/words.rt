@@ -1,12 +1,11 @@
 //! The words of the command line.
 
-ghost use Rattle.std.specs.Prelude.{◌≡◌, drop, map, string_bytes, IfErr, IfOk, IsErr, IsOkAnd};
+ghost use Rattle.std.specs.Prelude.{◌≡◌, ◌⊎◌, drop, map, string_bytes, IfErr, IfOk, IsErr, IsOkAnd};
 ghost use Rattle.std.specs.Vec.Iter.{into_iter_items};
 ghost use Rattle.std.specs.Option.{SomeIff};
 ghost use Rattle.std.specs.Str.Parse.{digits_value};
 ghost use Rattle.isle_cli.specs.Words.{GiveWidth, IsWidth, given_width};
-ghost use Rattle.isle_cli.specs.declared.failure.Failure.TheVariants.{Usage};
-ghost use Rattle.isle_cli.specs.declared.words.WordsFault.TheVariants.{Memory, NotUtf8};
+ghost use Rattle.isle_cli.specs.declared.failure.Failure.TheVariants.{Memory, Usage};
 
 use crate::failure::Failure;
 use std::alloc::{AllocError, Global};
@@ -14,53 +13,39 @@ use std::env::{Args, Env, FillError};
 use std::io::ErrorKind;
 use std::{env, io};
 
-/// The width of the output where the command line gives none, in bytes.
+/// The width of the output if the command line has none, in bytes.
 pub const DEFAULT_WIDTH: usize = 78;
 
-/// Why the words of the command line can't be had.
-#[derive(Debug, Drop)]
-pub enum WordsFault {
-    /// A word isn't UTF-8.
-    NotUtf8,
-    /// A growth of memory was refused.
-    Memory,
-}
-
-impl From<AllocError> for WordsFault {
-    ghost from_gives = { λ _ fault. fault ≡ Memory };
-
-    fn from(_error: AllocError) -> WordsFault {
-        WordsFault::Memory
-    }
-}
-
-/// Gives the words of the command line, without the program's name, which may be any bytes.
-pub fn taken_words<R: Env + AllocGlobal>(rt: &R) -> Result<Vec<String>, WordsFault> {
+/// The words of the command line, without the program's name, which may be any bytes.
+///
+/// It fails with `Usage` if a word isn't UTF-8, and with `Memory`.
+pub fn taken_words<R: Env + AllocGlobal>(rt: &R) -> Result<Vec<String>, Failure>
+    ensures { IfErr result (λ failure. (failure ≡ Memory) ⊎ (failure ≡ Usage)) }
+{
     words_of(rt.alloc(), env::args(&(Unnamed(rt), rt.alloc())))
 }
 
-/// Gives the arguments that could be read, without the first.
-fn words_of(alloc: Global, args: io::Result<Args>) -> Result<Vec<String>, WordsFault>
+/// The arguments that were read, without the first.
+fn words_of(alloc: Global, args: io::Result<Args>) -> Result<Vec<String>, Failure>
     ensures ok { IfOk result
         (λ words. IsOkAnd args (λ all. words.items ≡ drop 1 (into_iter_items all))) }
-    ensures err { IfErr result (λ fault. fault ≡ NotUtf8 → IsErr args) }
+    ensures err { IfErr result (λ failure. (failure ≡ Memory) ⊎ (failure ≡ Usage) × IsErr args) }
 {
     match args {
-        Ok(args) => Ok(behind_first(list_of(alloc, args)?)),
-        Err(error) if error.kind() == ErrorKind::OutOfMemory => Err(WordsFault::Memory),
-        Err(_) => Err(WordsFault::NotUtf8),
+        Ok(args) => Ok(after_first(list_of(alloc, args)?)),
+        Err(error) if error.kind() == ErrorKind::OutOfMemory => Err(Failure::Memory),
+        Err(_) => Err(Failure::Usage),
     }
 }
 
-/// Gives the arguments as a list.
 fn list_of(alloc: Global, args: Args) -> Result<Vec<String>, AllocError>
     ensures { IfOk result (λ list. list.items ≡ into_iter_items args) }
 {
     args.collect(alloc)
 }
 
-/// Gives the arguments behind the first, which is the program's name.
-fn behind_first(mut args: Vec<String>) -> Vec<String>
+/// The arguments after the first, which is the program's name.
+fn after_first(mut args: Vec<String>) -> Vec<String>
     ensures { result.items ≡ drop 1 args.items }
 {
     if !args.is_empty() {
@@ -69,7 +54,7 @@ fn behind_first(mut args: Vec<String>) -> Vec<String>
     args
 }
 
-/// Gives the number that a word of decimal digits writes, where it fits `usize`.
+/// The number that a word of decimal digits writes, if it fits `usize`.
 pub fn parsed_width(word: &str) -> Option<usize>
     ensures { SomeIff result (IsWidth word.now) (digits_value 10 word.now) }
 {
@@ -79,7 +64,9 @@ pub fn parsed_width(word: &str) -> Option<usize>
     word.parse::<usize>().ok()
 }
 
-/// Gives the width of the words `[WIDTH]`: 78 where there is none.
+/// The width in the words `[WIDTH]`, or 78 if there is none.
+///
+/// It fails with `Usage` if there is more than one word, or the word is no width.
 pub fn width_of(words: &[String]) -> Result<usize, Failure>
     ensures ok { IfOk result (λ width. GiveWidth (map string_bytes words.now)
         × (width ≡ given_width (map string_bytes words.now))) }
@@ -93,8 +80,8 @@ pub fn width_of(words: &[String]) -> Result<usize, Failure>
     }
 }
 
-/// A command line whose first word, the program's name, is empty: nothing asks for it, and it need
-/// not be UTF-8.
+/// An environment whose command line has an empty first word: no program uses its own name, which
+/// need not be UTF-8.
 #[derive(Drop)]
 struct Unnamed<'a, R>(&'a R);
 

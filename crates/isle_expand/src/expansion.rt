@@ -1,4 +1,4 @@
-//! From the texts of a program to the print of its expansion.
+//! The expansion of a program, from its texts to the print.
 
 ghost use Rattle.std.specs.Prelude.{◌≡◌, IfErr, IfOk, codes, false, map, string_bytes};
 ghost use Rattle.isle_base.specs.Place.{nowhere};
@@ -28,7 +28,7 @@ use isle_syntax::ast::Def;
 use isle_syntax::printer::{PrintFault, print};
 use std::alloc::{AllocError, Global};
 
-/// What the program makes of its texts.
+/// The output for a program.
 #[derive(Drop)]
 pub struct Answer {
     /// The print of the expansion.
@@ -37,7 +37,9 @@ pub struct Answer {
     pub warnings: String,
 }
 
-/// Makes the print of the expansion of a program, or tells why there is none.
+/// The print of the expansion of a program, and its warnings.
+///
+/// It fails with `Refused` if a text does not parse or an extractor is misused, and with `Memory`.
 pub fn answer_to(alloc: Global, sources: &[Source], width: usize) -> Result<Answer, Failure>
     ensures print { IfOk result (λ answer. IsPrintOfExpansion width (map source_of sources.now)
         (string_bytes answer.print)) }
@@ -52,7 +54,7 @@ pub fn answer_to(alloc: Global, sources: &[Source], width: usize) -> Result<Answ
     answer
 }
 
-/// Makes the print of the expansion of a program that is read, or tells why there is none.
+/// The same of a program that is parsed.
 fn answer_to_reading(
     alloc: Global,
     sources: &[Source],
@@ -75,7 +77,7 @@ fn answer_to_reading(
     answer_to_program(alloc, sources, &reading.defs, width)
 }
 
-/// Makes the print of the expansion of a program whose definitions these are.
+/// The same of the definitions of a program.
 fn answer_to_program(
     alloc: Global,
     sources: &[Source],
@@ -96,7 +98,7 @@ fn answer_to_program(
     Ok(Answer { print, warnings })
 }
 
-/// Makes the print of the expansion of definitions, or tells the first misuse of an extractor.
+/// The print of the expansion of definitions. It fails with the first misuse of an extractor.
 fn printed_expansion(
     alloc: Global,
     sources: &[Source],
@@ -139,7 +141,7 @@ fn print_writable(alloc: Global, defs: &[Def], width: usize) -> Result<String, F
     }
 }
 
-/// Makes the line that tells a misuse of an extractor.
+/// The line of a misuse of an extractor.
 fn misuse_line(alloc: Global, sources: &[Source], misuse: &Misuse) -> Result<String, AllocError>
     ensures { IfOk result (λ line. string_bytes line ≡ line_at (map source_of sources.now)
         (misuse_pos (misuse_of misuse.now)) (codes "error")
@@ -149,7 +151,7 @@ fn misuse_line(alloc: Global, sources: &[Source], misuse: &Misuse) -> Result<Str
     line_at(alloc, sources, misuse.pos(), "error", message.as_str())
 }
 
-/// Tells what the expansion of definitions may lose, a line for each.
+/// The lines of the warnings about definitions.
 fn told_warnings(alloc: Global, sources: &[Source], defs: &[Def]) -> Result<String, AllocError>
     requires { IsProgramOf (map source_of sources.now) (definitions_of defs.now) }
     ensures { IfOk result
@@ -159,7 +161,6 @@ fn told_warnings(alloc: Global, sources: &[Source], defs: &[Def]) -> Result<Stri
     warning_lines(alloc, sources, &warnings)
 }
 
-/// Makes the lines of warnings.
 fn warning_lines(
     alloc: Global,
     sources: &[Source],
@@ -176,7 +177,6 @@ fn warning_lines(
     Ok(lines)
 }
 
-/// Makes the line of a warning.
 fn warning_line(alloc: Global, sources: &[Source], warning: &Warning) -> Result<String, AllocError>
     ensures { IfOk result (λ line. string_bytes line
         ≡ warning_line (map source_of sources.now) (warning_of warning.now)) }

@@ -1,23 +1,23 @@
-//! `isle-expand [--width N] [--stdin-name NAME] [FILE ..]`: expands the extractors of a program of
-//! ISLE.
+//! `isle-expand [--width N] [--stdin-name NAME] [FILE ..]`: inlines the extractors of an ISLE
+//! program.
 #![tactic(auto)]
 
 mod expansion;
 mod options;
 mod program;
 
-use isle_cli::failure::Failure;
 use isle_cli::program::report;
 use isle_cli::streams::Streams;
 use isle_cli::words::taken_words;
-use options::this_program;
+use options::PROGRAM;
 pub use program::run;
 use std::process::ExitCode;
 
 fn main(rt: HostRuntime) -> ExitCode {
     let mut streams = Streams::new(rt.stdin(), rt.stdout(), rt.stderr());
-    ExitCode::from(match taken_words(&rt) {
+    let status = match taken_words(&rt) {
         Ok(words) => run(&rt, &words, &mut streams),
-        Err(fault) => report(&this_program(), &Failure::from(fault), &mut streams.faults),
-    })
+        Err(failure) => report(&PROGRAM, &failure, &mut streams.faults),
+    };
+    ExitCode::from(status)
 }

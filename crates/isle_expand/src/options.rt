@@ -1,4 +1,4 @@
-//! What the program says of itself, and the words that it takes.
+//! The command line: the help, and the options.
 
 ghost use Rattle.std.specs.Prelude.{◌≡◌, IfErr, IfOk, map};
 ghost use Rattle.isle_cli.specs.Arguments.{given_of};
@@ -8,33 +8,52 @@ ghost use Rattle.isle_expand.specs.Program.{AreOwn, GivesWidth, IsThis, given_wi
 use isle_cli::arguments::{Argument, Options, setting_of};
 use isle_cli::failure::Failure;
 use isle_cli::program::Program;
+use isle_cli::version;
 use isle_cli::words::{DEFAULT_WIDTH, parsed_width};
 
-/// The version: that of the upstream crate whose syntax this is.
-pub const VERSION: &str = "isle-expand 0.137.1\n";
+/// This program.
+pub const PROGRAM: Program = Program {
+    name: "isle-expand",
+    usage: "usage: isle-expand [--width N] [--stdin-name NAME] [FILE ..]\n",
+    help: HELP,
+    version: VERSION,
+};
+
+/// The version.
+pub const VERSION: &str = version!("isle-expand");
 
 /// The help.
 pub const HELP: &str = "\
 usage: isle-expand [--width N] [--stdin-name NAME] [FILE ..]
 
-Prints a program of ISLE with each use of an extractor replaced by what it stands for, without
-extractors and comments. The files are one program; of a folder, each file beneath it whose name
-ends in .isle; without files, or for -, standard input.
+Inlines every extractor of a complete ISLE program, and prints the result. Extractors, declarations
+that only they define, and comments are dropped. The result compiles to the same code, except in
+three cases, and each of those prints a warning.
 
-  --width N          prints at this width in bytes, 78 without it
-  --stdin-name NAME  names standard input in messages
-  --help             prints this
-  --version          prints the version
+The files are one program. A folder stands for every .isle file below it, and - for standard input.
+With no FILE, standard input is expanded.
+
+Options:
+  --width N          break lines that are wider than N bytes (78 by default)
+  --stdin-name NAME  use NAME for standard input in messages
+  --                 treat all later arguments as files
+  --help             print this help
+  --version          print the version
+
+Exit status:
+  0  success
+  1  an input does not parse, or an extractor cannot be inlined
+  2  usage error
+  3  an input cannot be read, or is not UTF-8
+  4  out of memory
+  5  the output cannot be written
 ";
 
-/// What the program says of itself.
+/// `PROGRAM`, with a contract, since no clause can name a constant that holds references.
 pub fn this_program() -> Program
     ensures { IsThis result }
 {
-    Program {
-        name: "isle-expand",
-        usage: "usage: isle-expand [--width N] [--stdin-name NAME] [FILE ..]\n",
-    }
+    PROGRAM
 }
 
 /// Its own options.
@@ -47,7 +66,9 @@ pub fn own_options() -> Options
     }
 }
 
-/// Gives the width that the arguments give: the last value of `--width`, or 78.
+/// The width that the arguments give: the last value of `--width`, or 78.
+///
+/// It fails with `Usage` if that value is no width.
 pub fn width_of(arguments: &[Argument]) -> Result<usize, Failure>
     ensures ok { IfOk result (λ width. GivesWidth (map given_of arguments.now)
         × (width ≡ given_width (map given_of arguments.now))) }

@@ -1,4 +1,4 @@
-//! The program's work, over any files, any reader and any two writers.
+//! The program, for any files, reader and writers.
 
 ghost use Rattle.std.specs.Prelude.{◌≡◌, ◌≢◌, ◌≤◌, IfErr, IfOk, OnOk, map, string_bytes};
 ghost use Rattle.std.specs.Io.KnownBytes.{Keeps};
@@ -12,7 +12,7 @@ ghost use Rattle.isle_expand.specs.Expansion.{AreWarnings, IsPrintOfExpansion};
 ghost use Rattle.isle_expand.specs.Program.{AsAsked, AskForNothing, IsDiagnostic};
 
 use crate::expansion::answer_to;
-use crate::options::{HELP, VERSION, own_options, this_program, width_of};
+use crate::options::{PROGRAM, own_options, this_program, width_of};
 use isle_cli::arguments::{Argument, Request, names_of, requested, stdin_name_of};
 use isle_cli::failure::Failure;
 use isle_cli::program::{Program, put, report, tell};
@@ -22,32 +22,31 @@ use std::alloc::Global;
 use std::fs::Files;
 use std::io::{Read, Write};
 
-/// Expands the extractors of a program onto the output, and gives the status.
+/// Inlines the extractors of a program, prints the result, and returns the exit status.
 ///
-/// The words are those of the command line, without the program's name. They are looked at before
-/// anything is read; all texts are read whole before they are expanded; and the output gets nothing
-/// before the whole answer stands.
+/// `words` is the command line without the program's name. It is checked before anything is read.
+/// All texts are read whole before they are expanded, and nothing is written before the whole
+/// output is ready.
 ///
 /// | Status | When | Standard error gets |
 /// |---|---|---|
-/// | 0 | the output got the print of the expansion, or the help or the version | warnings |
-/// | 1 | a text is no text of ISLE, or an extractor is misused | a line for each, or the first |
-/// | 2 | the words are none of the usage | the usage |
-/// | 3 | a file, or standard input, can't be read whole, or isn't UTF-8 | a line for each |
-/// | 4 | memory was refused | `isle-expand: out of memory` |
-/// | 5 | the output failed, with a beginning of the print in it | `isle-expand: output failed` |
+/// | 0 | the expansion, the help or the version is printed | warnings |
+/// | 1 | a text does not parse, or an extractor is misused | a line for each, or the first |
+/// | 2 | usage error | the usage |
+/// | 3 | a file or standard input can't be read, or isn't UTF-8 | a line for each |
+/// | 4 | out of memory | `isle-expand: out of memory` |
+/// | 5 | the output fails, after a beginning of the print | `isle-expand: output failed` |
 ///
-/// A warning is a line for each implicit conversion that the expansion may lose. The help and the
-/// version come where they are asked for; then there is none.
+/// There is a warning, of one line, for each implicit conversion that the expansion may lose.
 ///
-/// A width is one ASCII digit or more, of a number of bytes that fits `usize`; without `--width` it
-/// is 78. Where standard error refuses bytes, the status stays the same.
+/// A width is one or more ASCII digits, for a number of bytes that fits `usize`. Errors of standard
+/// error do not change the status.
 pub fn run<R: Files + AllocGlobal + Clone + Drop, I: Read, W: Write, E: Write>(
     rt: &R,
     words: &[String],
     streams: &mut Streams<I, W, E>,
 ) -> u8
-    // What is asked for is done; or the output is cut. Any other status leaves it alone.
+    // The request is done, or the output has a beginning. Any other status leaves it alone.
     ensures expanded { result ≡ 0 → AsAsked (map string_bytes words.now)
         (λ program request. DoesAsked program request
         (I.remaining streams.old.input) (I.remaining streams.new.input)
@@ -60,7 +59,7 @@ pub fn run<R: Files + AllocGlobal + Clone + Drop, I: Read, W: Write, E: Write>(
     ensures unwritten { result ≢ 0 → result ≢ 5
         → Keeps (W.contents streams.old.output) (W.contents streams.new.output) }
 
-    // The program is refused, or can't be read.
+    // The program is rejected, or can't be read.
     ensures refused { result ≡ 1 → AsAsked (map string_bytes words.now)
         (λ program request. RefusesAsked program request
         (I.remaining streams.old.input) (I.remaining streams.new.input)
@@ -70,13 +69,13 @@ pub fn run<R: Files + AllocGlobal + Clone + Drop, I: Read, W: Write, E: Write>(
         (I.remaining streams.old.input) (I.remaining streams.new.input)
         (E.contents streams.old.faults) (E.contents streams.new.faults)) }
 
-    // Past 1, but for what can't be read, standard error gets the text of the status.
+    // With status 2, 4 or 5 standard error gets the message of the status.
     ensures told { 2 ≤ result → result ≢ 3
         → WritesBeginning (E.contents streams.old.faults) (E.contents streams.new.faults)
         (IsDiagnostic result) }
     ensures statuses { result ≤ 5 }
 
-    // The words alone decide on status 2, and then nothing is read.
+    // Status 2 depends on the command line alone, and then nothing is read.
     ensures usage { result ≡ 2 → AskForNothing (map string_bytes words.now) }
     ensures unread { result ≡ 2
         → Keeps (I.remaining streams.old.input) (I.remaining streams.new.input) }
@@ -84,9 +83,21 @@ pub fn run<R: Files + AllocGlobal + Clone + Drop, I: Read, W: Write, E: Write>(
     let (program, options) = (this_program(), own_options());
     let arguments = match requested(rt.alloc(), &options, words) {
         Ok(Request::Work(arguments)) => arguments,
-        Ok(Request::Help) => return tell(&program, HELP, &mut streams.output, &mut streams.faults),
+        Ok(Request::Help) => {
+            return tell(
+                &program,
+                PROGRAM.help,
+                &mut streams.output,
+                &mut streams.faults,
+            );
+        }
         Ok(Request::Version) => {
-            return tell(&program, VERSION, &mut streams.output, &mut streams.faults);
+            return tell(
+                &program,
+                PROGRAM.version,
+                &mut streams.output,
+                &mut streams.faults,
+            );
         }
         Err(failure) => return report(&program, &failure, &mut streams.faults),
     };
@@ -96,16 +107,16 @@ pub fn run<R: Files + AllocGlobal + Clone + Drop, I: Read, W: Write, E: Write>(
     }
 }
 
-/// The width that the arguments give, and what was read of what they name.
+/// The width that the arguments give, and the texts that they name.
 #[derive(Drop)]
 pub struct Taken {
     /// The width.
     pub width: usize,
-    /// What was read.
+    /// The texts.
     pub sources: Sources,
 }
 
-/// Expands what the arguments name onto the output, and gives the status, 0 or 3.
+/// Expands the program that the arguments name, and returns the exit status, 0 or 3.
 fn expand<R: Files + AllocGlobal + Clone + Drop, I: Read, W: Write, E: Write>(
     rt: &R,
     program: &Program,
@@ -128,7 +139,8 @@ fn expand<R: Files + AllocGlobal + Clone + Drop, I: Read, W: Write, E: Write>(
     }
 }
 
-/// Reads what the arguments name, where they give a width.
+/// Reads the texts that the arguments name. It fails with `Usage`, before it reads, if the width is
+/// none.
 fn read_program<R: Files + AllocGlobal + Clone + Drop, I: Read>(
     rt: &R,
     program: &Program,
@@ -146,7 +158,7 @@ fn read_program<R: Files + AllocGlobal + Clone + Drop, I: Read>(
     Ok(Taken { width, sources })
 }
 
-/// Expands what was read onto the output, if all could be read, and gives the status, 0 or 3.
+/// Prints the expansion, if all texts could be read, and returns the exit status, 0 or 3.
 fn put_program<W: Write, E: Write>(
     alloc: Global,
     read: Taken,
@@ -171,7 +183,7 @@ fn put_program<W: Write, E: Write>(
     }
 }
 
-/// Expands the texts of a program onto the output.
+/// Prints the expansion of a program, and its warnings.
 fn put_expansion<W: Write, E: Write>(
     alloc: Global,
     sources: &[Source],

@@ -1,4 +1,4 @@
-//! The program's work, over any reader and any two writers.
+//! The program, for any reader and writers.
 
 ghost use Rattle.std.specs.Prelude.{◌≡◌, ◌≢◌, ◌≤◌, map, string_bytes, IfOk, IfErr, OnOk};
 ghost use Rattle.std.specs.Io.KnownBytes.{Keeps};
@@ -17,35 +17,40 @@ use isle_syntax::lexer::Fault;
 use std::alloc::Global;
 use std::io::{Read, Write};
 
-/// What the program says of itself.
-pub fn this_program() -> Program
+/// This program. It has no options: every word but a width is a usage error.
+pub const PROGRAM: Program = Program {
+    name: "isle-fmt",
+    usage: "usage: isle-fmt [WIDTH]\n",
+    help: "",
+    version: "",
+};
+
+/// `PROGRAM`, with a contract, since no clause can name a constant that holds references.
+fn this_program() -> Program
     ensures { IsThis result }
 {
-    Program {
-        name: "isle-fmt",
-        usage: "usage: isle-fmt [WIDTH]\n",
-    }
+    PROGRAM
 }
 
-/// Formats the input onto the output, and answers the program's status.
+/// Formats the input to the output, and returns the exit status.
 ///
-/// The words are those of the command line, without the program's name. They are looked at before
-/// anything is read; the input is read whole before it is formatted; and the output gets nothing
-/// before the whole answer stands.
+/// `words` is the command line without the program's name. It is checked before anything is read.
+/// The input is read whole before it is formatted, and nothing is written before the whole output
+/// is ready.
 ///
 /// | Status | When | Standard error gets |
 /// |---|---|---|
-/// | 0 | the output got the formatted text | nothing |
-/// | 1 | the input is no text of ISLE | the message, and the line with its place |
-/// | 2 | there is more than one word, or one that is no width | `usage: isle-fmt [WIDTH]` |
-/// | 3 | the input isn't readable or UTF-8 | `isle-fmt: input is unreadable or not UTF-8` |
-/// | 4 | memory was refused | `isle-fmt: out of memory` |
-/// | 5 | the output failed, with a beginning of the text in it | `isle-fmt: output failed` |
+/// | 0 | the formatted text is written | nothing |
+/// | 1 | the input does not parse | the message, and the line of the error |
+/// | 2 | there are several words, or one that is no width | `usage: isle-fmt [WIDTH]` |
+/// | 3 | the input is unreadable | `isle-fmt: input is unreadable or not UTF-8` |
+/// | 4 | out of memory | `isle-fmt: out of memory` |
+/// | 5 | the output fails, after a beginning of the text | `isle-fmt: output failed` |
 ///
-/// The line comes after `<stdin>:LINE:COLUMN: `, both counted from 1.
+/// The line of the error comes after `<stdin>:LINE:COLUMN: `, both counted from 1.
 ///
-/// A width is one ASCII digit or more, of a number of bytes that fits `usize`; without a word it
-/// is 78. Where standard error refuses bytes, the status stays the same.
+/// A width is one or more ASCII digits, for a number of bytes that fits `usize`; it is 78 by
+/// default. Errors of standard error do not change the status.
 pub fn run<R: Read, W: Write, E: Write>(
     alloc: Global,
     words: &[String],
@@ -53,13 +58,13 @@ pub fn run<R: Read, W: Write, E: Write>(
 ) -> u8
     ensures statuses { result ≤ 5 }
 
-    // The words alone decide on status 2, and then nothing is read.
+    // Status 2 depends on the command line alone, and then nothing is read.
     ensures usage { result ≡ 2 → ¬ (GiveWidth (map string_bytes words.now)) }
     ensures width { result ≢ 2 → GiveWidth (map string_bytes words.now) }
     ensures unread { result ≡ 2
         → Keeps (R.remaining streams.old.input) (R.remaining streams.new.input) }
 
-    // The whole input is a text in UTF-8 where the formatter had its say.
+    // With status 0, 1 or 5 the input was valid UTF-8 and was read to its end.
     ensures formatted { result ≡ 0
         → ReadsText (R.remaining streams.old.input) (R.remaining streams.new.input)
         (λ text. Writes (W.contents streams.old.output) (W.contents streams.new.output)
@@ -78,7 +83,7 @@ pub fn run<R: Read, W: Write, E: Write>(
     ensures unwritten { result ≢ 0 → result ≢ 5
         → Keeps (W.contents streams.old.output) (W.contents streams.new.output) }
 
-    // Standard error gets nothing, or the text of the status as far as it takes it.
+    // Standard error gets nothing, or the message of the status, or a beginning of it.
     ensures quiet { result ≡ 0
         → Keeps (E.contents streams.old.faults) (E.contents streams.new.faults) }
     ensures told { result ≢ 0
@@ -91,7 +96,7 @@ pub fn run<R: Read, W: Write, E: Write>(
     }
 }
 
-/// Formats the input onto the output.
+/// Formats the input to the output.
 fn formatted<R: Read, W: Write>(
     alloc: Global,
     words: &[String],

@@ -10,6 +10,7 @@ use Rattle.isle_cli.specs.declared.program.Program.{Program}
 use Rattle.isle_cli.specs.Arguments.{Asked, asked, given_of}
 use Rattle.isle_cli.specs.declared.arguments.Argument.{Argument}
 use Rattle.isle_cli.specs.declared.arguments.Options.{Options}
+use Rattle.isle_lint.specs.declared.options.TheConstants.{HELP, VERSION}
 use Rattle.isle_lint.specs.Doing.{AreOptions, Ask, Cuts, IsFailureText, IsProgram, Tells}
 
 -- nothing is changed
@@ -23,6 +24,8 @@ this =
     record {
       name = record { ref_ptr = (0, 0); now = codes "isle-lint" };
       usage = record { ref_ptr = (0, 0); now = codes "usage: isle-lint [--all] [--whole] [--lint NAME] [--allow NAME] [--stdin-name NAME] [FILE ..]\n" };
+      help = HELP;
+      version = VERSION;
     }
 
 -- What is told of a failure, where nothing was told before. `text_of` looks at no place of the program's texts.

@@ -1,11 +1,10 @@
-//! `isle-lint [OPTION ..] [FILE ..]`: tells what lints find in ISLE source.
+//! `isle-lint [OPTION ..] [FILE ..]`: lints ISLE source.
 #![tactic(auto)]
 
 mod options;
 mod program;
 mod report;
 
-use isle_cli::failure::Failure;
 use isle_cli::program::report as report_failure;
 use isle_cli::streams::Streams;
 use isle_cli::words::taken_words;
@@ -17,7 +16,7 @@ fn main(rt: HostRuntime) -> ExitCode {
     let mut streams = Streams::new(rt.stdin(), rt.stdout(), rt.stderr());
     let status = match taken_words(&rt) {
         Ok(words) => run(&rt, &words, &mut streams),
-        Err(fault) => report_failure(&PROGRAM, &Failure::from(fault), &mut streams.faults),
+        Err(failure) => report_failure(&PROGRAM, &failure, &mut streams.faults),
     };
     ExitCode::from(status)
 }

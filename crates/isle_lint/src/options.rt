@@ -1,4 +1,4 @@
-//! The command line: which lints it turns on.
+//! The command line: the help, and the lints that the options enable.
 
 ghost use Rattle.std.specs.Prelude.{◌≡◌, ◌⊎◌, ◌||◌, IfErr, IfOk, OnOk, codes, false};
 ghost use Rattle.std.specs.Prelude.{filter, map, true};
@@ -10,47 +10,60 @@ ghost use Rattle.isle_lint.specs.Options.{names_lint};
 
 use isle_cli::arguments::{Argument, has_flag};
 use isle_cli::failure::Failure;
+use isle_cli::version;
 use isle_lint_core::Lint;
 use std::alloc::{AllocError, Global};
 
-/// The version: that of the upstream crate whose syntax this is.
-pub const VERSION: &str = "isle-lint 0.137.1\n";
+/// The version.
+pub const VERSION: &str = version!("isle-lint");
 
 /// The help.
 pub const HELP: &str = "\
 usage: isle-lint [--all] [--whole] [--lint NAME] [--allow NAME] [--stdin-name NAME] [FILE ..]
 
-Tells what lints find in ISLE source. The files are one program; of a folder, each file beneath it
-whose name ends in .isle; without files, or for -, standard input.
+Lints ISLE source. All files are linted as one program. A folder stands for every .isle file below
+it, and - for standard input. With no FILE, standard input is linted.
 
-  --all              turns on all lints but those of a whole program
-  --whole            says that the files are a whole program
-  --lint NAME        turns a lint on
-  --allow NAME       turns a lint off
-  --stdin-name NAME  names standard input in messages
-  --help             prints this
-  --version          prints the version
+Options:
+  --all              enable all lints, except those that need the complete program
+  --whole            treat the files as a complete program, and enable the lints that need one
+  --lint NAME        enable a lint; may be repeated
+  --allow NAME       disable a lint; may be repeated, and takes precedence over --lint
+  --stdin-name NAME  use NAME for standard input in messages
+  --                 treat all later arguments as files
+  --help             print this help
+  --version          print the version
 
-A comment `; isle-lint: allow NAME` on the line above a definition turns a lint off for it.
+The comment `; isle-lint: allow NAME` on the line above a definition disables a lint for it.
 
-On by default:
-  unused-let               a variable that a let binds and nothing uses
-  unknown-variable         a variable that an expression uses and nothing binds
-  duplicate-rule-name      a rule name that an earlier rule has
-  duplicate-declaration    a term that is declared already
-  duplicate-extractor      a term that has an extractor already
-  duplicate-constructor    a term that has rules or a constructor already
-  wrong-arity              a term with more or fewer arguments than it takes
-With --whole:
-  unknown-term             a term that no decl and no variant gives
-  undefined-term           a term that no rule, extractor or extern defines
-Off by default:
-  unused-binding           a variable before an @ that nothing uses
-  unused-pattern-variable  a variable of a pattern that nothing uses
-  shadowed-variable        a variable of a let that is bound already
+Lints that are enabled by default:
+  unused-let               a variable of a let is never used
+  unknown-variable         an expression uses a variable that is not bound
+  duplicate-rule-name      an earlier rule has the same name
+  duplicate-declaration    a term is already declared
+  duplicate-extractor      a term already has an extractor
+  duplicate-constructor    a term already has a constructor, or rules
+  wrong-arity              a term is used with the wrong number of arguments
+Lints that --whole enables:
+  unknown-term             a term has no declaration, and is no variant
+  undefined-term           a term has no rule, extractor or extern
+Other lints:
+  unused-binding           the variable before an @ is never used
+  unused-pattern-variable  a variable of a pattern is never used
+  shadowed-variable        a variable of a let hides another of the same name
+
+Exit status:
+  0  nothing was found
+  1  something was found, or an input does not parse
+  2  usage error
+  3  an input cannot be read, or is not UTF-8
+  4  out of memory
+  5  the output cannot be written
 ";
 
-/// Gives the lints that the command line turns on. It fails with `Usage` where a name is no lint's.
+/// The lints that the arguments enable.
+///
+/// It fails with `Usage` if `--lint` or `--allow` names no lint, and with `Memory`.
 pub fn lints_of(alloc: Global, arguments: &[Argument]) -> Result<Vec<Lint>, Failure>
     ensures ok { IfOk result (λ lints. lints.items ≡ lints_on (map given_of arguments.now)) }
     ensures usable { OnOk result (are_usable (map given_of arguments.now) ≡ true) }
@@ -64,7 +77,7 @@ pub fn lints_of(alloc: Global, arguments: &[Argument]) -> Result<Vec<Lint>, Fail
     Ok(lints)
 }
 
-/// Gives those of the lints that are on.
+/// Those of the lints that are enabled.
 fn on_among(alloc: Global, arguments: &[Argument], lints: &[Lint]) -> Result<Vec<Lint>, AllocError>
     ensures { IfOk result (λ on. on.items ≡ filter (is_on (map given_of arguments.now)) lints.now) }
 {
@@ -77,7 +90,7 @@ fn on_among(alloc: Global, arguments: &[Argument], lints: &[Lint]) -> Result<Vec
     Ok(on)
 }
 
-/// Tells whether each name of `--lint` and `--allow` is a lint's.
+/// Returns whether each `--lint` and `--allow` names a lint.
 fn are_usable(arguments: &[Argument]) -> bool
     ensures { result ≡ are_usable (map given_of arguments.now) }
 {
@@ -89,7 +102,7 @@ fn are_usable(arguments: &[Argument]) -> bool
     true
 }
 
-/// Tells whether an argument names a lint, where it is to name one.
+/// Returns whether an argument names a lint, if it has to.
 fn is_usable(argument: &Argument) -> bool
     ensures { result ≡ is_usable (given_of argument.now) }
 {
@@ -101,7 +114,7 @@ fn is_usable(argument: &Argument) -> bool
     }
 }
 
-/// Tells whether an option takes the name of a lint.
+/// Returns whether the value of an option names a lint.
 fn is_lint_option(option: &str) -> bool
     ensures { result
         ≡ (bytes_eq option.now (codes "--lint") || bytes_eq option.now (codes "--allow")) }
@@ -109,7 +122,8 @@ fn is_lint_option(option: &str) -> bool
     option == "--lint" || option == "--allow"
 }
 
-/// Tells whether a lint is on: it isn't allowed, and it is asked for, or is on by default.
+/// Returns whether a lint is enabled: `--allow` does not name it, and `--lint`, the other options
+/// or the default enable it.
 fn is_on(arguments: &[Argument], lint: Lint) -> bool
     ensures { result ≡ is_on (map given_of arguments.now) lint }
 {
@@ -125,7 +139,7 @@ fn is_on(arguments: &[Argument], lint: Lint) -> bool
     lint.is_default() || has_flag(arguments, "--all")
 }
 
-/// Tells whether an option names a lint.
+/// Returns whether some argument is this option with this lint.
 fn names_lint(arguments: &[Argument], option: &str, lint: Lint) -> bool
     ensures { result ≡ names_lint option.now lint (map given_of arguments.now) }
 {
@@ -137,7 +151,7 @@ fn names_lint(arguments: &[Argument], option: &str, lint: Lint) -> bool
     false
 }
 
-/// Tells whether an argument is this option, and names the lint.
+/// Returns whether an argument is this option with this lint.
 fn is_naming(argument: &Argument, option: &str, lint: Lint) -> bool
     ensures { result ≡ is_naming option.now lint (given_of argument.now) }
 {

@@ -1,4 +1,4 @@
-//! The program's work, over any files, any reader and any two writers.
+//! The program, for any files, reader and writers.
 
 ghost use Rattle.std.specs.Prelude.{◌≡◌, ◌≢◌, ◌≤◌, ◌⊎◌, IfErr, IfOk, MatchResult, false, map};
 ghost use Rattle.std.specs.Prelude.{string_bytes};
@@ -24,6 +24,8 @@ pub const PROGRAM: Program = Program {
     name: "isle-lint",
     usage: "usage: isle-lint [--all] [--whole] [--lint NAME] [--allow NAME] \
             [--stdin-name NAME] [FILE ..]\n",
+    help: HELP,
+    version: VERSION,
 };
 
 /// Its options.
@@ -32,45 +34,46 @@ pub const OPTIONS: Options = Options {
     settings: &["--lint", "--allow"],
 };
 
-/// Tells on the output what lints find in a program, and gives the status.
+/// Lints a program, writes the findings to the output, and returns the exit status.
 ///
 /// | Status | When |
 /// |---|---|
-/// | 0 | nothing is found; or the help or the version is asked for, which the output gets |
-/// | 1 | something is found, or a text is no text of ISLE |
-/// | 2 | the words are none of the usage, which standard error gets |
-/// | 3 | a file, or standard input, can't be read or isn't UTF-8: standard error has each |
-/// | 4 | memory ran out: `isle-lint: out of memory` |
-/// | 5 | the output failed: `isle-lint: output failed` |
+/// | 0 | nothing is found, or the help or the version is printed |
+/// | 1 | something is found, or a text does not parse |
+/// | 2 | usage error; standard error gets the usage |
+/// | 3 | an input can't be read or isn't UTF-8; standard error gets a line for each |
+/// | 4 | `isle-lint: out of memory` |
+/// | 5 | `isle-lint: output failed` |
 ///
-/// With status 1 and 3 the output gets a line for each finding and each refused text, in order of
-/// file and place, and a line that counts them; with status 5 a beginning of that. With status 2
-/// and 4 it gets nothing.
+/// With status 1 and 3 the output gets a line for each finding and each text that does not parse,
+/// in order of file and position, and a line that counts them; with status 5 a beginning of that.
+/// With status 2 and 4 it gets nothing.
 ///
-/// Where standard error refuses bytes, the status stays the same.
+/// Errors of standard error do not change the status.
 pub fn run<R: Files + AllocGlobal + Clone + Drop, I: Read, W: Write, E: Write>(
     rt: &R,
     words: &[String],
     streams: &mut Streams<I, W, E>,
 ) -> u8
-    // Nothing is read, and nothing is told but the usage, where the words are none of the usage.
+    // Status 2 is a usage error, and then nothing is read.
     ensures usage { result ≡ 2 → IsMisuse (map string_bytes words.now) }
     ensures unread { result ≡ 2
         → Keeps (I.remaining streams.old.input) (I.remaining streams.new.input) }
 
-    // With any other status but 4 and 5 what is asked for is done, as far as texts can be read.
+    // With status 0, 1 or 3 the request is done, as far as texts can be read.
     ensures done { result ≢ 2 → result ≢ 4 → result ≢ 5 → AsAsked (map string_bytes words.now)
         (λ what. Does what result (I.remaining streams.old.input) (I.remaining streams.new.input)
         (W.contents streams.old.output) (W.contents streams.new.output)) }
 
-    // The output is left alone, or cut.
+    // The output is left alone, or has a beginning.
     ensures unwritten { result ≡ 2 ⊎ result ≡ 4
         → Keeps (W.contents streams.old.output) (W.contents streams.new.output) }
     ensures cut { result ≡ 5 → AsAsked (map string_bytes words.now) (λ what. CutsAsked what
         (I.remaining streams.old.input) (I.remaining streams.new.input)
         (W.contents streams.old.output) (W.contents streams.new.output)) }
 
-    // Standard error gets nothing, a line for each text that can't be read, or that of the status.
+    // Standard error gets nothing, a line for each text that can't be read, or the message of the
+    // status.
     ensures quiet { result ≤ 1
         → Keeps (E.contents streams.old.faults) (E.contents streams.new.faults) }
     ensures told { 2 ≤ result → result ≢ 3 → WritesBeginning (E.contents streams.old.faults)
@@ -78,14 +81,28 @@ pub fn run<R: Files + AllocGlobal + Clone + Drop, I: Read, W: Write, E: Write>(
     ensures statuses { result ≤ 5 }
 {
     match requested(rt.alloc(), &OPTIONS, words) {
-        Ok(Request::Help) => tell(&PROGRAM, HELP, &mut streams.output, &mut streams.faults),
-        Ok(Request::Version) => tell(&PROGRAM, VERSION, &mut streams.output, &mut streams.faults),
+        Ok(Request::Help) => {
+            tell(
+                &PROGRAM,
+                PROGRAM.help,
+                &mut streams.output,
+                &mut streams.faults,
+            )
+        }
+        Ok(Request::Version) => {
+            tell(
+                &PROGRAM,
+                PROGRAM.version,
+                &mut streams.output,
+                &mut streams.faults,
+            )
+        }
         Ok(Request::Work(arguments)) => work(rt, &arguments, streams),
         Err(failure) => report(&PROGRAM, &failure, &mut streams.faults),
     }
 }
 
-/// Does the work of these arguments, and gives the status.
+/// Does what the arguments ask for, and returns the exit status.
 fn work<R: Files + AllocGlobal + Clone + Drop, I: Read, W: Write, E: Write>(
     rt: &R,
     arguments: &[Argument],
@@ -113,7 +130,7 @@ fn work<R: Files + AllocGlobal + Clone + Drop, I: Read, W: Write, E: Write>(
     }
 }
 
-/// Tells what is found in what the arguments name, and gives the status.
+/// Lints the files that the arguments name, and returns the exit status.
 fn lint<R: Files + AllocGlobal + Clone + Drop, I: Read, W: Write, E: Write>(
     rt: &R,
     arguments: &[Argument],
@@ -146,7 +163,7 @@ fn lint<R: Files + AllocGlobal + Clone + Drop, I: Read, W: Write, E: Write>(
     Ok(status_of(is_whole, told.is_empty()))
 }
 
-/// The status where all could be read, or not, and nothing is told, or something.
+/// The exit status if all could be read, or not, and nothing was found, or something.
 fn status_of(is_read: bool, is_clean: bool) -> u8
     ensures { result ≡ told_status is_read is_clean }
 {

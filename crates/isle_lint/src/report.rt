@@ -1,4 +1,4 @@
-//! What is told of a program.
+//! The report on a program.
 
 ghost use Rattle.std.specs.Prelude.{◌≡◌, ◌++◌, [], IfErr, IfOk, OnOk, length, map};
 ghost use Rattle.std.specs.Prelude.{string_bytes};
@@ -27,12 +27,12 @@ use isle_program::messages::{place_line, refusal_line};
 use isle_program::trees::{Reading, drop_reading, read_all, refused_count};
 use std::alloc::{AllocError, Global};
 
-/// Tells what these lints find in a program, and which of its texts spell no tree: a line for
-/// each, in order of file and place, and a line that counts them. It is empty where there is
-/// nothing to tell.
+/// The report of these lints on a program: a line for each finding and for each text that does not
+/// parse, in order of file and position, and a line that counts them. It is empty if there are
+/// none.
 ///
-/// Where a text spells no tree, or `is_whole` doesn't hold, the lints of a whole program find
-/// nothing.
+/// The lints that need the complete program find nothing if a text does not parse, or `is_whole` is
+/// `false`.
 pub fn report_on(
     alloc: Global,
     sources: &[Source],
@@ -49,7 +49,7 @@ pub fn report_on(
     Ok(report?)
 }
 
-/// Tells what these lints find in what is read.
+/// The report on a program that is parsed.
 fn report_on_reading(
     alloc: Global,
     sources: &[Source],
@@ -69,7 +69,7 @@ fn report_on_reading(
     whole_report(alloc, sources, &reading.refusals, &told)
 }
 
-/// Makes the report of these refusals and findings.
+/// The report of these parse errors and findings.
 fn whole_report(
     alloc: Global,
     sources: &[Source],
@@ -86,7 +86,7 @@ fn whole_report(
     Ok(report)
 }
 
-/// Gives the lints that can be used.
+/// The lints that can be used: without a whole program, those that need none.
 fn usable(alloc: Global, lints: &[Lint], is_whole: bool) -> Result<Vec<Lint>, AllocError>
     ensures { IfOk result (λ usable_lints. usable_lints.items ≡ usable is_whole lints.now) }
 {
@@ -99,14 +99,14 @@ fn usable(alloc: Global, lints: &[Lint], is_whole: bool) -> Result<Vec<Lint>, Al
     Ok(usable)
 }
 
-/// Tells whether the texts are a whole program: they are said to be, and each spells a tree.
+/// Returns whether the texts are a whole program: `is_whole` says so, and each of them parses.
 fn is_program(is_whole: bool, refusals: &[Option<Error>]) -> bool
     ensures { result ≡ is_program is_whole refusals.now }
 {
     is_whole && refused_count(refusals) == 0
 }
 
-/// Gives the findings that no comment turns off, in order.
+/// The findings that no comment disables, in order.
 fn told<'a>(
     alloc: Global,
     sources: &[Source],
@@ -122,7 +122,7 @@ fn told<'a>(
     Ok(told)
 }
 
-/// Adds those in the file of this number.
+/// Adds the findings in the file with this number that no comment disables.
 fn add_told<'a>(
     alloc: Global,
     file: usize,
@@ -143,7 +143,7 @@ fn add_told<'a>(
     Ok(())
 }
 
-/// Adds a finding, where it counts.
+/// Adds a finding, if it counts.
 fn push_if<'a>(
     counts: bool,
     finding: &Finding<'a>,
@@ -158,7 +158,7 @@ fn push_if<'a>(
     Ok(())
 }
 
-/// Tells whether a finding is in the file of this number, and no comment turns it off.
+/// Returns whether a finding is in the file with this number, and no comment disables it.
 fn is_told(file: usize, lines: &LineMap, above: &[&[u8]], finding: &Finding) -> bool
     ensures { (source : texts.Source) → lines.now ≡ line_ends source.text
         → map (λ line. line.now) above.now ≡ lines_above [] [] (Lines.lines source.text)
@@ -167,7 +167,7 @@ fn is_told(file: usize, lines: &LineMap, above: &[&[u8]], finding: &Finding) -> 
     finding.pos.file == file && !is_allowed(lines, above, finding)
 }
 
-/// Makes the lines of the texts that spell no tree, and of the findings.
+/// The lines of the parse errors and of the findings.
 fn sources_text(
     alloc: Global,
     sources: &[Source],
@@ -185,7 +185,7 @@ fn sources_text(
     Ok(report)
 }
 
-/// Makes the lines of the file of this number.
+/// The lines of the file with this number.
 fn source_text(
     alloc: Global,
     file: usize,
@@ -210,7 +210,7 @@ fn source_text(
     Ok(report)
 }
 
-/// Makes the line of a finding.
+/// The line of a finding.
 fn finding_line(
     alloc: Global,
     source: &Source,
@@ -226,7 +226,7 @@ fn finding_line(
     place_line(alloc, source, lines, finding.pos.offset, "warning", text)
 }
 
-/// What a finding says.
+/// The message of a finding.
 fn message_of(alloc: Global, finding: &Finding) -> Result<String, AllocError>
     ensures { IfOk result (λ message. string_bytes message
         ≡ message_text (finding_of finding.now)) }
@@ -240,7 +240,7 @@ fn message_of(alloc: Global, finding: &Finding) -> Result<String, AllocError>
     Ok(message)
 }
 
-/// Makes the line that counts errors and warnings. It is empty where there are none.
+/// The line that counts errors and warnings; empty if there are none.
 fn count_line(alloc: Global, errors: usize, warnings: usize) -> Result<String, AllocError>
     ensures { IfOk result (λ line. string_bytes line ≡ count_text errors warnings) }
 {
@@ -259,7 +259,7 @@ fn count_line(alloc: Global, errors: usize, warnings: usize) -> Result<String, A
     format!(in alloc; "found {refused} and {warned}\n")
 }
 
-/// Makes the text of a number of things.
+/// A number and a noun, in the plural unless the number is 1.
 fn counted(alloc: Global, number: usize, noun: &str) -> Result<String, AllocError>
     ensures { IfOk result (λ text. string_bytes text ≡ counted number noun.now) }
 {

@@ -1,4 +1,4 @@
-//! `isle-lsp`: answers an editor about ISLE source, on standard input and output.
+//! `isle-lsp`: a language server for ISLE, on standard input and output.
 #![tactic(auto)]
 
 mod conversation;
@@ -26,7 +26,7 @@ fn main(rt: HostRuntime) -> ExitCode {
     };
     let status = match taken_words(&rt) {
         Ok(words) => run(&rt, &words, &mut input, &mut output, &mut faults),
-        Err(fault) => report(&PROGRAM, &Failure::from(fault), &mut faults),
+        Err(failure) => report(&PROGRAM, &failure, &mut faults),
     };
     ExitCode::from(status)
 }

@@ -7,6 +7,7 @@ use crate::conversation::converse;
 use isle_cli::arguments::{Options, Request, requested};
 use isle_cli::failure::Failure;
 use isle_cli::program::{Program, report, tell};
+use isle_cli::version;
 use std::fs::Files;
 use std::io::{BufRead, Write};
 
@@ -14,6 +15,8 @@ use std::io::{BufRead, Write};
 pub const PROGRAM: Program = Program {
     name: "isle-lsp",
     usage: "usage: isle-lsp [--stdio | --help | --version]\n",
+    help: HELP,
+    version: VERSION,
 };
 
 /// Its options.
@@ -22,31 +25,40 @@ const OPTIONS: Options = Options {
     settings: &[],
 };
 
-/// The version: that of the upstream crate whose syntax this is.
-const VERSION: &str = "isle-lsp 0.137.1\n";
+/// The version.
+const VERSION: &str = version!("isle-lsp");
 
 /// The help.
 const HELP: &str = "\
 usage: isle-lsp [--stdio | --help | --version]
 
-Answers an editor about ISLE source, by the Language Server Protocol, on standard input and
-standard output. It is started by the editor.
+A language server for ISLE. An editor starts it, and speaks the Language Server Protocol with it on
+its standard input and output.
 
-  --stdio            changes nothing: it is what some editors say
-  --help             prints this
-  --version          prints the version
+Options:
+  --stdio    accepted for compatibility; stdio is the only transport
+  --help     print this help
+  --version  print the version
+
+Exit status:
+  0  the editor sent `shutdown` and then `exit`
+  1  `exit` came before `shutdown`, or the input ended early or was malformed
+  2  usage error
+  3  the input cannot be read
+  4  out of memory
+  5  the output cannot be written
 ";
 
-/// Converses with an editor, and gives the status.
+/// Serves an editor, and returns the exit status.
 ///
 /// | Status | When |
 /// |---|---|
-/// | 0 | `exit` came after `shutdown`; or the help or the version is asked for |
-/// | 1 | `exit` came before `shutdown`; or the input ends before, or is malformed, as it says |
-/// | 2 | the words are none of the usage, which standard error gets |
+/// | 0 | `exit` came after `shutdown`, or the help or the version is printed |
+/// | 1 | `exit` came before `shutdown`, or the input ended early or was malformed |
+/// | 2 | usage error; standard error gets the usage |
 /// | 3 | standard input can't be read |
-/// | 4 | memory ran out |
-/// | 5 | the output failed |
+/// | 4 | out of memory |
+/// | 5 | the output can't be written |
 pub fn run<R: Files + AllocGlobal + Clone + Drop, I: BufRead, W: Write, E: Write>(
     rt: &R,
     words: &[String],
@@ -63,14 +75,14 @@ pub fn run<R: Files + AllocGlobal + Clone + Drop, I: BufRead, W: Write, E: Write
         return converse(rt, input, output, faults);
     }
     match requested(rt.alloc(), &OPTIONS, words) {
-        Ok(Request::Help) => tell(&PROGRAM, HELP, output, faults),
-        Ok(Request::Version) => tell(&PROGRAM, VERSION, output, faults),
+        Ok(Request::Help) => tell(&PROGRAM, PROGRAM.help, output, faults),
+        Ok(Request::Version) => tell(&PROGRAM, PROGRAM.version, output, faults),
         Ok(Request::Work(_)) => report(&PROGRAM, &Failure::Usage, faults),
         Err(failure) => report(&PROGRAM, &failure, faults),
     }
 }
 
-/// Tells whether words ask for nothing but a conversation.
+/// Returns whether the words ask to serve an editor.
 fn asks_nothing(words: &[String]) -> bool
     ensures { length words.now ≡ 0 → result ≡ true }
 {

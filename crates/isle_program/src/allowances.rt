@@ -1,4 +1,4 @@
-//! The comments that turn a lint off for a definition.
+//! The comments that disable a lint for a definition.
 
 ghost use Rattle.std.specs.Prelude.{◌≡◌, ◌++◌, [], IfOk, List, map, ℕ};
 ghost use Rattle.std.specs.Str.{bytes_eq};
@@ -13,11 +13,11 @@ use isle_base_source::files::LineMap;
 use isle_lint_core::{Finding, Lint};
 use std::alloc::{AllocError, Global};
 
-/// What follows the semicolons of a comment that turns a lint off, before the lint's name.
+/// The text between the semicolons of a comment that disables a lint and the lint's name.
 const ALLOW: &[u8] = b" isle-lint: allow ";
 
-/// Gives, for each line of a text, the line above the definition that it is part of: that above the
-/// last line up to it that begins with `(`. It is empty where there is none.
+/// For each line of a text, the line above its definition: above the last line up to it that begins
+/// with `(`. It is empty if there is none.
 pub fn lines_above(alloc: Global, text: &str) -> Result<Vec<&[u8]>, AllocError>
     ensures { IfOk result
         (λ above. map (λ line. line.now) above.items ≡ lines_above [] [] (lines text.now)) }
@@ -37,14 +37,12 @@ pub fn lines_above(alloc: Global, text: &str) -> Result<Vec<&[u8]>, AllocError>
     Ok(all)
 }
 
-/// Gives the lines of a text.
 fn lines_of(alloc: Global, text: &str) -> Result<Vec<&str>, AllocError>
     ensures { IfOk result (λ all. map (λ line. line.now) all.items ≡ lines text.now) }
 {
     text.lines().collect(alloc)
 }
 
-/// Tells whether a line begins with a byte.
 fn begins_with(line: &[u8], byte: u8) -> bool
     ensures { result ≡ begins_with byte line.now }
 {
@@ -54,8 +52,8 @@ fn begins_with(line: &[u8], byte: u8) -> bool
     }
 }
 
-/// Tells whether a comment turns a finding off, in the text that has these lines, and of each line
-/// this one above its definition.
+/// Returns whether a comment disables the lint of a finding. `lines` are the text's, and `above`
+/// has, for each of them, the line above its definition.
 pub fn is_allowed(lines: &LineMap, above: &[&[u8]], finding: &Finding) -> bool
     ensures { (text : List ℕ) → lines.now ≡ line_ends text
         → map (λ line. line.now) above.now ≡ lines_above [] [] (Lines.lines text)
@@ -67,8 +65,8 @@ pub fn is_allowed(lines: &LineMap, above: &[&[u8]], finding: &Finding) -> bool
     }
 }
 
-/// Tells whether a line is a comment that turns this lint off: semicolons,
-/// ` isle-lint: allow ` and the lint's name.
+/// Returns whether a line is a comment that disables this lint: semicolons, ` isle-lint: allow `
+/// and the lint's name.
 pub fn allows(line: &[u8], lint: Lint) -> bool
     ensures { result ≡ allows line.now lint }
 {
@@ -76,7 +74,7 @@ pub fn allows(line: &[u8], lint: Lint) -> bool
     begins_with(line, b';') && is_joined(rest, ALLOW, lint.name().as_bytes())
 }
 
-/// Gives what follows the semicolons that a line begins with.
+/// The rest of a line after the semicolons at its start.
 fn after_semicolons(line: &[u8]) -> &[u8]
     ensures { result.now ≡ after_semicolons line.now }
 {
@@ -87,7 +85,7 @@ fn after_semicolons(line: &[u8]) -> &[u8]
     rest
 }
 
-/// Tells whether bytes are these two texts, one after the other.
+/// Returns whether bytes are these two texts, one after the other.
 #[tactic(auto, using(crate::proofs::AllowanceLemmas::joined))]
 fn is_joined(bytes: &[u8], first: &[u8], second: &[u8]) -> bool
     ensures { result ≡ bytes_eq bytes.now (first.now ++ second.now) }

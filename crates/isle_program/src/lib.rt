@@ -1,5 +1,5 @@
-//! What the texts of a program spell, lines that say something of a place in one of them, and the
-//! comments that turn a lint off.
+//! Several files read as one program: their trees, messages about positions in them, and the
+//! comments that disable lints.
 #![tactic(auto)]
 
 pub mod allowances;

@@ -1,4 +1,4 @@
-//! Lines that say something of a place in one of several texts, which are numbered from 0.
+//! Messages of one line about positions in several texts, which are numbered from 0.
 
 ghost use Rattle.std.specs.Prelude.{◌≡◌, IfOk, map, option_map, slice_get, string_bytes};
 ghost use Rattle.isle_base_source.specs.Lines.{line_ends};
@@ -14,7 +14,7 @@ use isle_cli::messages::message_line;
 use isle_cli::sources::Source;
 use std::alloc::{AllocError, Global};
 
-/// Makes the lines of the texts that spell no tree: of each why, at its place, in order.
+/// The lines of the texts that do not parse, in order: the error of each, at its position.
 pub fn refusal_lines(
     alloc: Global,
     sources: &[Source],
@@ -31,7 +31,7 @@ pub fn refusal_lines(
     Ok(lines)
 }
 
-/// Makes the line of the text of this number, if it spells no tree.
+/// The line of the text with this number; empty if it parses.
 fn refusal_text(
     alloc: Global,
     source: &Source,
@@ -50,7 +50,7 @@ fn refusal_text(
     }
 }
 
-/// Makes the line of a text that spells no tree, whose lines these are.
+/// The line of a text that does not parse. `lines` are the text's.
 pub fn refusal_line(
     alloc: Global,
     source: &Source,
@@ -70,8 +70,7 @@ pub fn refusal_line(
     }
 }
 
-/// Makes the line that says something of a position, in the text that has its file's number. It is
-/// empty where there is no such text.
+/// The line of a message about a position; empty if no text has the number of its file.
 pub fn line_at(
     alloc: Global,
     sources: &[Source],
@@ -85,7 +84,7 @@ pub fn line_at(
     line_of(alloc, sources.get(pos.file), pos.offset, kind, message)
 }
 
-/// Makes the line that says something of a place, if there is its text.
+/// The line of a message about a byte offset; empty without a text.
 fn line_of(
     alloc: Global,
     source: Option<&Source>,
@@ -105,7 +104,7 @@ fn line_of(
     }
 }
 
-/// Makes the line that says something of a place of a text, whose lines these are.
+/// The line of a message about a byte offset in a text. `lines` are the text's.
 pub fn place_line(
     alloc: Global,
     source: &Source,

@@ -1,4 +1,4 @@
-//! The trees of a program's texts.
+//! Parsing the texts of a program.
 
 ghost use Rattle.std.specs.Prelude.{◌≡◌, ◌++◌, ◌∷◌, [], IfErr, IfOk, map, string_bytes};
 ghost use Rattle.isle_ast.specs.TreeView.{definitions_of};
@@ -15,16 +15,16 @@ use isle_parser::dropping::drop_definitions;
 use isle_parser::parser::parse;
 use std::alloc::{AllocError, Global};
 
-/// What the texts of a program spell.
+/// A program that is parsed.
 #[derive(Drop)]
 pub struct Reading {
-    /// The definitions of the texts that spell a tree, in order.
+    /// The definitions of the texts that parse, in order.
     pub defs: Vec<Def>,
-    /// Of each text, why it spells none, where it doesn't.
+    /// For each text, why it does not parse, if it doesn't.
     pub refusals: Vec<Option<Error>>,
 }
 
-/// Reads the texts of a program, each as the file of its number. It fails only with `Memory`.
+/// Parses the texts of a program, each as the file with its index. The only failure is `Memory`.
 pub fn read_all(alloc: Global, sources: &[Source]) -> Result<Reading, Failure>
     ensures ok { IfOk result (λ reading. IsReading (map source_of sources.now)
         (definitions_of reading.defs.items) reading.refusals.items) }
@@ -41,7 +41,7 @@ pub fn read_all(alloc: Global, sources: &[Source]) -> Result<Reading, Failure>
     Ok(reading)
 }
 
-/// Adds what one text spells.
+/// Adds the outcome of parsing one text.
 fn with(reading: Reading, read: Result<Vec<Def>, Fault>) -> Result<Reading, Failure>
     ensures ok { IfOk result (Adds reading read) }
     ensures err { IfErr result (λ failure. failure ≡ Memory) }
@@ -56,7 +56,7 @@ fn with(reading: Reading, read: Result<Vec<Def>, Fault>) -> Result<Reading, Fail
     }
 }
 
-/// Adds a tree.
+/// Adds the definitions of a text that parses.
 fn with_tree(mut reading: Reading, mut defs: Vec<Def>) -> Result<Reading, AllocError>
     ensures defs { IfOk result (λ more. definitions_of more.defs.items
         ≡ definitions_of reading.defs.items ++ definitions_of defs.items) }
@@ -74,7 +74,7 @@ fn with_tree(mut reading: Reading, mut defs: Vec<Def>) -> Result<Reading, AllocE
     }
 }
 
-/// Adds why a text spells no tree, if it doesn't.
+/// Adds why a text does not parse, if it doesn't.
 fn with_refusal(mut reading: Reading, refusal: Option<Error>) -> Result<Reading, AllocError>
     ensures defs { IfOk result (λ more. more.defs.items ≡ reading.defs.items) }
     ensures refusals { IfOk result (λ more. more.refusals.items
@@ -89,12 +89,12 @@ fn with_refusal(mut reading: Reading, refusal: Option<Error>) -> Result<Reading,
     }
 }
 
-/// Drops what texts spell. A crate that does so itself proves how, node by node.
+/// Drops a program. A crate that drops one itself has to prove how, node by node.
 pub fn drop_reading(reading: Reading) {
     drop_definitions(reading.defs);
 }
 
-/// Tells how many texts spell no tree.
+/// The number of texts that do not parse.
 pub fn refused_count(refusals: &[Option<Error>]) -> usize
     ensures { result ≡ refused_count refusals.now }
 {
@@ -107,7 +107,7 @@ pub fn refused_count(refusals: &[Option<Error>]) -> usize
     count
 }
 
-/// Reads the definitions that a text spells, as the file of this number.
+/// Parses a text as the file with this number.
 pub fn read_defs(alloc: Global, file: usize, text: &str) -> Result<Vec<Def>, Fault>
     ensures { IsReadAs file text.now result }
 {

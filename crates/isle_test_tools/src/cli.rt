@@ -17,6 +17,8 @@ use std::{fs, io};
 const PROGRAM: Program = Program {
     name: "isle-test",
     usage: "usage: isle-test [FILE ..]\n",
+    help: "",
+    version: "",
 };
 
 const OPTIONS: Options = Options {

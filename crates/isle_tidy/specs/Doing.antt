@@ -10,6 +10,7 @@ use Rattle.isle_cli.specs.declared.failure.Failure.TheVariants as failures
 use Rattle.isle_cli.specs.declared.program.Program.{Program}
 use Rattle.isle_tidy_core.specs.Refused.{HasNoDocument}
 use Rattle.isle_tidy_core.specs.Tidied.{IsTidyTextOf, IsUntidy}
+use Rattle.isle_tidy.specs.declared.program.TheConstants.{HELP, VERSION}
 use Rattle.isle_parser_cursor.specs.Outcomes.{RefusesIn}
 
 -- whether the text is untidy
@@ -111,8 +112,8 @@ DoesTask list input input' output output' =
 
 -- what is asked for is done
 abbrev pub Does : Program → Asked → (input input' output output' : Option (List ℕ)) → Type 0
-Does program help_asked input input' output output' = Keeps input input' × Appends output output' program.usage.now
-Does program version_asked input input' output output' = Keeps input input' × Appends output output' (codes "isle-tidy 0.137.1\n")
+Does program help_asked input input' output output' = Keeps input input' × Appends output output' HELP.now
+Does program version_asked input input' output output' = Keeps input input' × Appends output output' VERSION.now
 Does program (work_asked list) input input' output output' = DoesTask list input input' output output'
 
 -- status 1: nothing but a text can be found wanting
@@ -124,8 +125,8 @@ Finds (work_asked list) input input' output output' faults faults' =
 
 -- status 5: the output got a beginning of what is asked for
 abbrev pub Cuts : Program → Asked → (input input' output output' : Option (List ℕ)) → Type 0
-Cuts program help_asked input input' output output' = Keeps input input' × AppendsBeginning output output' program.usage.now
-Cuts program version_asked input input' output output' = Keeps input input' × AppendsBeginning output output' (codes "isle-tidy 0.137.1\n")
+Cuts program help_asked input input' output output' = Keeps input input' × AppendsBeginning output output' HELP.now
+Cuts program version_asked input input' output output' = Keeps input input' × AppendsBeginning output output' VERSION.now
 Cuts program (work_asked list) input input' output output' =
     name_list list ≡ [] → CutsInput (checks list) (stdin_name list) input input' output output'
 

@@ -1,4 +1,4 @@
-//! Tidying files in place: whole or not at all.
+//! Tidying files in place: all of a file, or nothing of it.
 
 ghost use Rattle.std.specs.Prelude.{◌≡◌, IfErr, OnOk, false};
 ghost use Rattle.isle_cli.specs.Streams.{Writes};
@@ -13,16 +13,14 @@ use std::io::ErrorKind;
 use std::os::unix::fs::MetadataExt;
 use std::{fs, io};
 
-/// How many names are tried for the new file beside the old one.
+/// The number of names that are tried for the new file beside the old one.
 const NAMES: u32 = 100;
 
-/// Tidies a file, and tells whether its tidy text is another than what it holds. With `check` the
-/// file is left alone.
+/// Tidies a file, and returns whether its text was untidy. With `check` the file is left alone.
 ///
-/// A link is followed: the file that it leads to is tidied. The new text is written into a new
-/// file beside it, which gets the old one's owner and permissions, is written through to the
-/// disk, and then takes its place. After an error the old file is there as it was, and the new
-/// one is gone.
+/// A link is followed, and its target is tidied. The tidy text is written to a new file beside the
+/// old one, with the old one's owner and permissions. Once it is synced to disk, the new file
+/// replaces the old one. After an error the old file is unchanged, and the new one is removed.
 pub fn tidy_file<R: Files + AllocGlobal>(rt: &R, name: &str, check: bool) -> Result<bool, Failure>
     ensures { IfErr result IsFileFailure }
 {
@@ -45,7 +43,7 @@ pub fn tidy_file<R: Files + AllocGlobal>(rt: &R, name: &str, check: bool) -> Res
     Ok(is_untidy)
 }
 
-/// What an error of the system is, where a file is read.
+/// The failure of reading a file, from the error of the system.
 fn unreadable(error: io::Error) -> Failure
     ensures { IsFileFailure result }
 {
@@ -56,8 +54,8 @@ fn unreadable(error: io::Error) -> Failure
     }
 }
 
-/// Puts a new file with the tidy text of a text in the place of a file. It asks that this text is
-/// another one, and that there is no `check`.
+/// Replaces a file by a new one with the tidy text of `text`, which must be untidy. `check` must be
+/// `false`.
 fn replace<R: Files + AllocGlobal>(
     rt: &R,
     path: &str,
@@ -87,14 +85,14 @@ fn replace<R: Files + AllocGlobal>(
     placed
 }
 
-/// What an error of the system is, where a file is written.
+/// The failure of writing a file, from the error of the system.
 fn unwritable(_error: io::Error) -> Failure
     ensures { IsFileFailure result }
 {
     Failure::Output
 }
 
-/// Makes a new, empty file beside another one, and gives its name.
+/// Creates an empty file beside another one, and returns it and its name.
 fn new_beside<R: Files + AllocGlobal>(rt: &R, path: &str) -> Result<(String, R::File), Failure>
     ensures { IfErr result IsFileFailure }
 {
@@ -113,8 +111,8 @@ fn new_beside<R: Files + AllocGlobal>(rt: &R, path: &str) -> Result<(String, R::
     Err(Failure::Output)
 }
 
-/// Gives a new file the owner and the permissions of an old one, and the tidy text of a text, down
-/// to the disk.
+/// Sets the owner and permissions of a new file to those of an old one, writes the tidy text of
+/// `text` to it, and syncs it to disk.
 fn fill<R: Files + AllocGlobal>(
     rt: &R,
     name: &str,
@@ -131,7 +129,7 @@ fn fill<R: Files + AllocGlobal>(
     file.sync_all().map_err(unwritable)
 }
 
-/// Gives a new file the owner and the permissions of an old one.
+/// Sets the owner and permissions of a new file to those of an old one.
 fn hand_over<R: Files>(rt: &R, name: &str, file: &R::File, old: &Metadata) -> io::Result<()> {
     let new = file.metadata()?;
     if new.uid() != old.uid() || new.gid() != old.gid() {

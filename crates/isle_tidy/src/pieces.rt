@@ -1,4 +1,4 @@
-//! The tidy text of a text, written piece by piece, so that it is held nowhere.
+//! Writing a tidy text piece by piece, so that memory never holds all of it.
 
 ghost use Rattle.std.specs.Prelude.{◌≡◌, ◌≢◌, ◌<◌, List, Ok, ℕ, IfErr, IfOk, OnOk, false, length};
 ghost use Rattle.std.specs.Prelude.{true};
@@ -21,10 +21,10 @@ use isle_tidy_core::tidying::Tidying;
 use std::alloc::Global;
 use std::io::Write;
 
-/// How many bytes are written at once, at least.
+/// The fewest bytes that are written at once, except at the end.
 const PIECE: usize = 64 * 1024;
 
-/// Gives what a fault says of a text of this name.
+/// The failure for a fault in a text of this name.
 fn failure_of(alloc: Global, name: &str, text: &str, fault: Fault) -> Failure
     requires refused { IfError (λ e. HasNoDocument text.now
         × IsRefusedFor text.now e × IsWithin (length text.now) e) fault }
@@ -41,7 +41,7 @@ fn failure_of(alloc: Global, name: &str, text: &str, fault: Fault) -> Failure
     }
 }
 
-/// Tells whether the tidy text of a text is another one, or why there is none.
+/// Returns whether a text is untidy, or why it can't be tidied.
 pub fn is_untidy(alloc: Global, name: &str, text: &str) -> Result<bool, Failure>
     ensures ok { IfOk result (λ is_untidy. IsJudged text.now is_untidy) }
     ensures err { IfErr result (λ failure. IsTidyFailure failure name.now text.now) }
@@ -52,7 +52,7 @@ pub fn is_untidy(alloc: Global, name: &str, text: &str) -> Result<bool, Failure>
     }
 }
 
-/// Writes the next piece of a tidy text, and tells whether more is to come.
+/// Writes the next piece of a tidy text, and returns whether there are more.
 fn put_piece<W: Write>(
     tidying: &mut Tidying<'_>,
     piece: &mut String,
@@ -77,8 +77,8 @@ fn put_piece<W: Write>(
     }
 }
 
-/// Writes the pieces of a tidy text that follow the first one. Where memory runs out, the failure
-/// is that the output has a beginning of the text alone.
+/// Writes the pieces of a tidy text after the first. If memory runs out, it fails with `Output`,
+/// since the output then has a beginning of the text.
 fn put_others<W: Write>(
     tidying: &mut Tidying<'_>,
     piece: &mut String,
@@ -119,7 +119,7 @@ fn put_pieces<W: Write>(
     }
 }
 
-/// Writes the tidy text of a text of this name.
+/// Writes the tidy text of a text. `name` is the text's name in messages.
 pub fn put_tidied<W: Write>(
     alloc: Global,
     name: &str,

@@ -1,4 +1,4 @@
-//! The program's work, over any files, any reader and any two writers.
+//! The program, for any files, reader and writers.
 
 ghost use Rattle.std.specs.Prelude.{◌≡◌, ◌≢◌, ◌≤◌, ◌⊎◌, ◌++◌, [], IfErr, IfOk, OnOk, codes};
 ghost use Rattle.std.specs.Prelude.{false, map, string_bytes, true};
@@ -26,21 +26,53 @@ use isle_cli::failure::Failure;
 use isle_cli::folders::files_of;
 use isle_cli::program::{Program, put, report, tell};
 use isle_cli::streams::{Streams, read_text, write_whole};
+use isle_cli::version;
 use std::alloc::Global;
 use std::fs::Files;
 use std::io::{Read, Write};
 
-/// The version: that of the upstream crate whose syntax this is.
-const VERSION: &str = "isle-tidy 0.137.1\n";
+/// This program.
+pub const PROGRAM: Program = Program {
+    name: "isle-tidy",
+    usage: "usage: isle-tidy [--check] [--stdin-name NAME] [FILE ..]\n",
+    help: HELP,
+    version: VERSION,
+};
 
-/// What the program says of itself.
-pub fn this_program() -> Program
+/// Its version.
+pub const VERSION: &str = version!("isle-tidy");
+
+/// Its help.
+pub const HELP: &str = "\
+usage: isle-tidy [--check] [--stdin-name NAME] [FILE ..]
+
+Fixes the indentation and spacing of ISLE source to match Cranelift's style. All comments and line
+breaks are kept.
+
+Each FILE is rewritten in place. A folder stands for every .isle file below it, and - for standard
+input, which goes to standard output. With no FILE, standard input is tidied.
+
+Options:
+  --check            list the files that would change, and change nothing
+  --stdin-name NAME  use NAME for standard input in messages
+  --                 treat all later arguments as files
+  --help             print this help
+  --version          print the version
+
+Exit status (with several files, the greatest of theirs):
+  0  success; with --check, nothing would change
+  1  an input cannot be tidied; with --check, or an input would change
+  2  usage error
+  3  an input cannot be read, or is not UTF-8
+  4  out of memory
+  5  an output cannot be written
+";
+
+/// `PROGRAM`, with a contract, since no clause can name a constant that holds references.
+fn this_program() -> Program
     ensures { IsThis result }
 {
-    Program {
-        name: "isle-tidy",
-        usage: "usage: isle-tidy [--check] [--stdin-name NAME] [FILE ..]\n",
-    }
+    PROGRAM
 }
 
 /// Its own options.
@@ -53,20 +85,21 @@ fn own_options() -> Options
     }
 }
 
-/// Tidies standard input onto standard output, or files in place, and gives the program's status.
+/// Tidies standard input to standard output, or files in place, and returns the exit status.
 ///
 /// | Status | When |
 /// |---|---|
 /// | 0 | all is tidied; with `--check`, all is tidy |
-/// | 1 | a text can't be tidied; with `--check`, one would change |
-/// | 2 | the words are none of the usage |
-/// | 3 | the input, or a file, can't be read, or isn't UTF-8 |
-/// | 4 | memory was refused |
-/// | 5 | the output, or a file, can't be written whole |
+/// | 1 | a text can't be tidied; with `--check`, or one would change |
+/// | 2 | usage error |
+/// | 3 | standard input or a file can't be read, or isn't UTF-8 |
+/// | 4 | out of memory |
+/// | 5 | standard output or a file can't be written whole |
 ///
-/// A name is that of a file, of a folder, which stands for each `.isle` file beneath it, or `-`,
-/// which stands for standard input. All words are looked at before any file is touched. Of several
-/// names each is done whatever comes of the others; the status is the greatest.
+/// `words` is the command line without the program's name. It names files, folders, each of which
+/// stands for every `.isle` file below it, and `-`, which stands for standard input. The whole
+/// command line is checked before any file is touched. An error in one file does not stop the
+/// others; the status is the greatest of theirs.
 pub fn run<R: Files + AllocGlobal + Clone + Drop, I: Read, W: Write, E: Write>(
     rt: &R,
     words: &[String],
@@ -74,7 +107,7 @@ pub fn run<R: Files + AllocGlobal + Clone + Drop, I: Read, W: Write, E: Write>(
 ) -> u8
     ensures statuses { result ≤ 5 }
 
-    // The words alone decide on status 2, and then nothing is read.
+    // Status 2 depends on the command line alone, and then nothing is read.
     ensures usage { result ≡ 2 → AskForNothing (map string_bytes words.now) }
     ensures unread { result ≡ 2
         → Keeps (I.remaining streams.old.input) (I.remaining streams.new.input) }
@@ -87,7 +120,7 @@ pub fn run<R: Files + AllocGlobal + Clone + Drop, I: Read, W: Write, E: Write>(
         (λ program request. HandlesFiles request
         (I.remaining streams.old.input) (I.remaining streams.new.input)) }
 
-    // What is asked for is done; or, of standard input, it is refused or found untidy.
+    // The request is done, or standard input is rejected or found untidy.
     ensures done { result ≡ 0 → AsAsked (map string_bytes words.now)
         (λ program request. Does program request
         (I.remaining streams.old.input) (I.remaining streams.new.input)
@@ -98,13 +131,13 @@ pub fn run<R: Files + AllocGlobal + Clone + Drop, I: Read, W: Write, E: Write>(
         (W.contents streams.old.output) (W.contents streams.new.output)
         (E.contents streams.old.faults) (E.contents streams.new.faults)) }
 
-    // Files in place leave the output alone.
+    // Tidying files in place leaves the output alone.
     ensures in_place { Keeps (W.contents streams.old.output) (W.contents streams.new.output)
         ⊎ AsAsked (map string_bytes words.now)
         (λ program request. LeavesOutput request
         (W.contents streams.old.output) (W.contents streams.new.output)) }
 
-    // The output is cut. Without names, any other status leaves it alone.
+    // The output has a beginning. Without names, any other status leaves it alone.
     ensures cut { result ≡ 5 → AsAsked (map string_bytes words.now)
         (λ program request. Cuts program request
         (I.remaining streams.old.input) (I.remaining streams.new.input)
@@ -112,8 +145,7 @@ pub fn run<R: Files + AllocGlobal + Clone + Drop, I: Read, W: Write, E: Write>(
     ensures unwritten { 2 ≤ result → result ≢ 5 → ¬ (HaveNames (map string_bytes words.now))
         → Keeps (W.contents streams.old.output) (W.contents streams.new.output) }
 
-    // Standard error gets nothing; or, without names, the text of the status, as far as it takes
-    // it.
+    // Standard error gets nothing, or, without names, the message of the status, or a beginning.
     ensures quiet { result ≡ 0
         → Keeps (E.contents streams.old.faults) (E.contents streams.new.faults) }
     ensures told { 2 ≤ result → ¬ (HaveNames (map string_bytes words.now))
@@ -125,29 +157,36 @@ pub fn run<R: Files + AllocGlobal + Clone + Drop, I: Read, W: Write, E: Write>(
         Ok(Request::Help) => {
             tell(
                 &program,
-                program.usage,
+                PROGRAM.help,
                 &mut streams.output,
                 &mut streams.faults,
             )
         }
-        Ok(Request::Version) => tell(&program, VERSION, &mut streams.output, &mut streams.faults),
+        Ok(Request::Version) => {
+            tell(
+                &program,
+                PROGRAM.version,
+                &mut streams.output,
+                &mut streams.faults,
+            )
+        }
         Ok(Request::Work(arguments)) => work(rt, &program, &arguments, streams),
         Err(failure) => report(&program, &failure, &mut streams.faults),
     }
 }
 
-/// What is to be done with texts.
+/// What to do with each input.
 #[derive(Clone, Copy)]
 pub struct Task<'a> {
-    /// What the program says of itself.
+    /// The program.
     pub program: &'a Program,
-    /// Whether it is only told what would change.
+    /// Whether files that would change are listed, and nothing is changed.
     pub check: bool,
     /// The name of standard input in messages.
     pub stdin_name: &'a str,
 }
 
-/// Does the work that arguments ask for.
+/// Does what the arguments ask for.
 fn work<R: Files + AllocGlobal + Clone + Drop, I: Read, W: Write, E: Write>(
     rt: &R,
     program: &Program,
@@ -195,7 +234,7 @@ fn work<R: Files + AllocGlobal + Clone + Drop, I: Read, W: Write, E: Write>(
     }
 }
 
-/// Tidies the input onto the output, or tells whether it would change.
+/// Tidies the input to the output, or lists it if it would change, and returns the exit status.
 fn run_on_input<I: Read, W: Write, E: Write>(
     alloc: Global,
     task: &Task<'_>,
@@ -228,8 +267,8 @@ fn run_on_input<I: Read, W: Write, E: Write>(
     }
 }
 
-/// Tidies the input onto the output, or names it where it would change; and tells whether all is
-/// done, or tidy.
+/// Tidies the input to the output, or, with `check`, lists it if it would change. Returns `false`
+/// if it is listed.
 fn do_input<I: Read, W: Write>(
     alloc: Global,
     task: &Task<'_>,
@@ -250,7 +289,7 @@ fn do_input<I: Read, W: Write>(
     Ok(true)
 }
 
-/// Tidies the input onto the output.
+/// Tidies the input to the output.
 fn tidy_input<I: Read, W: Write>(
     alloc: Global,
     name: &str,
@@ -267,7 +306,7 @@ fn tidy_input<I: Read, W: Write>(
     put_tidied(alloc, name, text.as_str(), output)
 }
 
-/// Names the input on the output where it would change, and tells whether it would not.
+/// Lists the input on the output if it would change, and returns whether it is tidy.
 fn check_input<I: Read, W: Write>(
     alloc: Global,
     name: &str,
@@ -288,7 +327,7 @@ fn check_input<I: Read, W: Write>(
     Ok(true)
 }
 
-/// Tells whether the input would change.
+/// Returns whether the input would change.
 fn is_untidy_input<I: Read>(alloc: Global, name: &str, input: &mut I) -> Result<bool, Failure>
     ensures ok { IfOk result (λ is_untidy. ReadsText (I.remaining input.old)
         (I.remaining input.new) (λ text. IsJudged text is_untidy)) }
@@ -299,7 +338,7 @@ fn is_untidy_input<I: Read>(alloc: Global, name: &str, input: &mut I) -> Result<
     is_untidy(alloc, name, text.as_str())
 }
 
-/// Writes a text and a line end onto the output.
+/// Writes a text and a line end to the output.
 fn put_line<W: Write>(output: &mut W, text: &str) -> Result<(), Failure>
     ensures ok { OnOk result (Appends (W.contents output.old) (W.contents output.new)
         (text.now ++ codes "\n")) }
@@ -311,7 +350,7 @@ fn put_line<W: Write>(output: &mut W, text: &str) -> Result<(), Failure>
     put(output, "\n")
 }
 
-/// Tells whether `-` is among names.
+/// Returns whether `-` is among the names.
 fn names_stdin(names: &[String]) -> bool
     ensures { result ≡ is_among (map string_bytes names.now) (codes "-") }
 {
@@ -321,7 +360,7 @@ fn names_stdin(names: &[String]) -> bool
     }
 }
 
-/// Tidies what names stand for, one after another. The status is the greatest of all.
+/// Tidies the inputs of these names in turn. The status is the greatest of theirs.
 fn run_on_names<R: Files + AllocGlobal + Clone + Drop, I: Read, W: Write, E: Write>(
     rt: &R,
     task: &Task<'_>,
@@ -367,7 +406,7 @@ fn run_on_all<R: Files + AllocGlobal + Clone + Drop, I: Read, W: Write, E: Write
     status
 }
 
-/// Tidies standard input, a file, or those beneath a folder.
+/// Tidies standard input, a file, or the files below a folder.
 fn run_on_name<R: Files + AllocGlobal + Clone + Drop, I: Read, W: Write, E: Write>(
     rt: &R,
     task: &Task<'_>,
@@ -386,7 +425,7 @@ fn run_on_name<R: Files + AllocGlobal + Clone + Drop, I: Read, W: Write, E: Writ
     }
 }
 
-/// Tidies files, and those beneath folders.
+/// Tidies files, and the files below folders.
 fn run_on_paths<R: Files + AllocGlobal + Clone + Drop, W: Write, E: Write>(
     rt: &R,
     task: &Task<'_>,
@@ -405,7 +444,7 @@ fn run_on_paths<R: Files + AllocGlobal + Clone + Drop, W: Write, E: Write>(
     status
 }
 
-/// Tidies a file, or those beneath a folder.
+/// Tidies a file, or the files below a folder.
 fn run_on_path<R: Files + AllocGlobal + Clone + Drop, W: Write, E: Write>(
     rt: &R,
     task: &Task<'_>,
@@ -427,7 +466,7 @@ fn run_on_path<R: Files + AllocGlobal + Clone + Drop, W: Write, E: Write>(
     }
 }
 
-/// Tidies each file, or names those that would change. The status is the greatest of all.
+/// Tidies each file, or lists those that would change. The status is the greatest of theirs.
 fn run_on_files<R: Files + AllocGlobal, W: Write, E: Write>(
     rt: &R,
     task: &Task<'_>,
@@ -446,7 +485,7 @@ fn run_on_files<R: Files + AllocGlobal, W: Write, E: Write>(
     status
 }
 
-/// Tidies a file, or names it where it would change.
+/// Tidies a file, or, with `check`, lists it if it would change.
 fn run_on_file<R: Files + AllocGlobal, W: Write, E: Write>(
     rt: &R,
     task: &Task<'_>,
@@ -464,7 +503,7 @@ fn run_on_file<R: Files + AllocGlobal, W: Write, E: Write>(
     }
 }
 
-/// Names a file that would change on the output.
+/// Lists a file that would change on the output.
 fn named<W: Write, E: Write>(task: &Task<'_>, name: &str, output: &mut W, faults: &mut E) -> u8
     ensures statuses { (result ≡ 1) ⊎ (result ≡ 5) }
 {
@@ -474,7 +513,7 @@ fn named<W: Write, E: Write>(task: &Task<'_>, name: &str, output: &mut W, faults
     }
 }
 
-/// Writes what a failure says of a file to standard error, and gives the status.
+/// Writes the message of a file's failure to standard error, and returns the exit status.
 fn report_on_file<E: Write>(failure: &Failure, name: &str, faults: &mut E) -> u8
     ensures { result ≡ status_of failure.now }
 {
@@ -493,7 +532,7 @@ fn report_on_file<E: Write>(failure: &Failure, name: &str, faults: &mut E) -> u8
     failure.status()
 }
 
-/// What is said of a file, after its name.
+/// The reason, which follows the file's name in the message.
 fn reason(failure: &Failure) -> &'static str {
     match failure {
         Failure::Refused(_) => "can't be tidied",

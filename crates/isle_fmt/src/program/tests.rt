@@ -14,8 +14,8 @@ const BROKEN: &str = "(decl\n    foo\n    (A)\n    B\n)\n";
 
 const REFUSED: &str = "(decl pure () T)\n";
 
-/// Gives the bytes that are left, a step at a time, after some interrupted reads. At their end it
-/// fails, or says that they ended.
+/// A reader of some bytes, at most a step at a time, after some interrupted reads. At their end it
+/// fails, or reports the end of the input.
 #[derive(Drop)]
 struct Reader<'a> {
     left: &'a [u8],
@@ -52,8 +52,8 @@ impl Read for Reader<'_> {
     }
 }
 
-/// Holds what it took, at most a step at a time, after some interrupted writes. It fails where it
-/// has no room, or where it is flushed.
+/// A writer that holds the bytes written, at most a step at a time, after some interrupted writes.
+/// It fails if it has no room, or when it is flushed.
 #[derive(Drop)]
 struct Writer {
     held: Vec<u8>,
@@ -351,7 +351,7 @@ fn takes_the_words(rt: HostRuntime) -> Result<(), Fail> {
     let words: &[&[u8]] = &[b"isle-fmt", b"5", &[255]];
     assert!(rt;
         matches!(
-            taken_words(&CommandLine { alloc, words }).map_err(Failure::from),
+            taken_words(&CommandLine { alloc, words }),
             Err(Failure::Usage)
         )
     );

@@ -1,5 +1,0 @@
-use Rattle.std.proofs.Common.{rules, tests}
-use Rattle.isle_cli.proofs.failure.FailureFromWordsFault.from.Goals as goal
-
-pub returns-in-NotUtf8 : goal.returns-in-NotUtf8
-returns-in-NotUtf8 c = search (tests, rules)
