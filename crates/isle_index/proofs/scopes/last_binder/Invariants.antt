@@ -1,6 +1,6 @@
 use Rattle.std.proofs.Common.{◌≡◌, drop}
 use Rattle.isle_index.specs.Scopes.{bounds_of, last_bound, or_else}
-use Rattle.isle_index.proofs.scopes.last_bound.Given as goal
+use Rattle.isle_index.proofs.scopes.last_binder.Given as goal
 
 abbrev pub invariant-loop-variable : goal.invariant-loop-variable
 invariant-loop-variable l =

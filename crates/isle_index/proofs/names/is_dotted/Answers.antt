@@ -3,7 +3,7 @@ use Rattle.std.proofs.lemmas.List.{append_cancel_left}
 use Rattle.std.proofs.lemmas.Bool.Decides.{Decides-eqb}
 use Rattle.std.proofs.lemmas.Slice.Eq.{strip_prefix_is}
 use Rattle.isle_index.proofs.Texts.{behind, bytes-false, nothing_behind, same_front}
-use Rattle.isle_index.proofs.names.are_joined.Goals as goal
+use Rattle.isle_index.proofs.names.is_dotted.Goals as goal
 
 pub returns-in-Some-strip_prefix : goal.returns-in-Some-strip_prefix
 returns-in-Some-strip_prefix c =

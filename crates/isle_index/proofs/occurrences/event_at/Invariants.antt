@@ -1,7 +1,7 @@
 use Rattle.std.proofs.Common.{◌≡◌, drop}
 use Rattle.isle_index.specs.Entries.{all_of, unpacked_from}
 use Rattle.isle_index.specs.Occurrences.{seen_at}
-use Rattle.isle_index.proofs.occurrences.seen_at.Given as goal
+use Rattle.isle_index.proofs.occurrences.event_at.Given as goal
 
 abbrev pub invariant-loop-number : goal.invariant-loop-number
 invariant-loop-number l =

@@ -1,7 +1,7 @@
 use Rattle.std.proofs.Common.{◌≡◌, ◌++◌, drop, map}
 use Rattle.isle_index.specs.Entries.{all_of, unpacked_from}
 use Rattle.isle_index.specs.Symbols.{symbol_of, symbols}
-use Rattle.isle_index.proofs.symbols.symbols.Given as goal
+use Rattle.isle_index.proofs.Index.symbols.Given as goal
 
 abbrev pub invariant-loop-number : goal.invariant-loop-number
 invariant-loop-number l =
