@@ -1,4 +1,4 @@
-//! The names that definitions give.
+//! The terms that definitions declare and define, and the names of rules.
 
 ghost use Rattle.std.specs.Prelude.{◌≡◌, ◌++◌, [], IfOk, OnOk};
 ghost use Rattle.std.specs.Option.{option_map};
@@ -14,22 +14,22 @@ use crate::names::{absent, repeated};
 use isle_ast::ast::{Def, Extern, Ident};
 use std::alloc::{AllocError, Global};
 
-/// What a definition may give a name to, or a term.
+/// A way in which a definition gives a name.
 #[derive(Clone, Copy)]
 pub enum Giving {
-    /// The declaration of a term.
+    /// A `decl` declares a term.
     Declaration,
-    /// An extractor of a term.
+    /// An `extractor` or an `extern extractor` defines a term.
     Extractor,
-    /// A constructor of a term that is defined outside.
+    /// An `extern constructor` defines a term.
     Constructor,
-    /// A rule of a term.
+    /// A rule defines a term.
     RuledTerm,
-    /// The name of a rule.
+    /// A rule has a name.
     RuleName,
 }
 
-/// Gives the names that definitions give, and that one before them has given.
+/// The names that an earlier definition gives in the same way.
 pub fn repeated_in<'a>(
     alloc: Global,
     defs: &'a [Def],
@@ -41,7 +41,7 @@ pub fn repeated_in<'a>(
     repeated(alloc, &[], &given(alloc, defs, giving)?)
 }
 
-/// Gives the terms that have rules, or a constructor outside, and are given one outside.
+/// The terms of `extern constructor`s that have rules or an earlier `extern constructor`.
 pub fn constructed_twice<'a>(alloc: Global, defs: &'a [Def]) -> Result<Vec<&'a Ident>, AllocError>
     ensures { IfOk result
         (λ found. names_at found.items ≡ constructed_twice (definitions_of defs.now)) }
@@ -50,7 +50,7 @@ pub fn constructed_twice<'a>(alloc: Global, defs: &'a [Def]) -> Result<Vec<&'a I
     repeated(alloc, &ruled, &given(alloc, defs, Giving::Constructor)?)
 }
 
-/// Gives the terms that are declared, and that nothing defines.
+/// The terms that are declared and that nothing defines.
 pub fn undefined_terms<'a>(alloc: Global, defs: &'a [Def]) -> Result<Vec<&'a Ident>, AllocError>
     ensures { IfOk result
         (λ found. names_at found.items ≡ undefined_terms (definitions_of defs.now)) }
@@ -60,7 +60,7 @@ pub fn undefined_terms<'a>(alloc: Global, defs: &'a [Def]) -> Result<Vec<&'a Ide
     absent(alloc, &defined, &declared)
 }
 
-/// Gives the terms that rules, extractors and constructors outside define.
+/// The terms that rules, extractors and `extern constructor`s define.
 fn defined<'a>(alloc: Global, defs: &'a [Def]) -> Result<Vec<&'a Ident>, AllocError>
     ensures { IfOk result (λ names. names_at names.items ≡ defined (definitions_of defs.now)) }
 {
@@ -71,7 +71,6 @@ fn defined<'a>(alloc: Global, defs: &'a [Def]) -> Result<Vec<&'a Ident>, AllocEr
     Ok(names)
 }
 
-/// Gives the names that the definitions give, in order.
 fn given<'a>(alloc: Global, defs: &'a [Def], giving: Giving) -> Result<Vec<&'a Ident>, AllocError>
     ensures { IfOk result (λ names. names_at names.items ≡ given giving (definitions_of defs.now)) }
 {
@@ -80,7 +79,6 @@ fn given<'a>(alloc: Global, defs: &'a [Def], giving: Giving) -> Result<Vec<&'a I
     Ok(names)
 }
 
-/// Adds the names that the definitions give, in order.
 fn add_given<'a>(
     defs: &'a [Def],
     giving: Giving,
@@ -97,7 +95,6 @@ fn add_given<'a>(
     Ok(())
 }
 
-/// Gives the name that one definition gives, if it gives one.
 fn name_given(def: &Def, giving: Giving) -> Option<&Ident>
     ensures { option_map (λ name. name_of name.now) result
         ≡ name_given giving (definition_of def.now) }
@@ -111,7 +108,6 @@ fn name_given(def: &Def, giving: Giving) -> Option<&Ident>
     }
 }
 
-/// Gives the term that a `decl` declares.
 fn declared(def: &Def) -> Option<&Ident>
     ensures { option_map (λ name. name_of name.now) result ≡ declared_term (definition_of def.now) }
 {
@@ -121,7 +117,7 @@ fn declared(def: &Def) -> Option<&Ident>
     }
 }
 
-/// Gives the term that is given an extractor.
+/// The term of an `extractor` or an `extern extractor`.
 fn extracted(def: &Def) -> Option<&Ident>
     ensures { option_map (λ name. name_of name.now) result
         ≡ extracted_term (definition_of def.now) }
@@ -133,7 +129,7 @@ fn extracted(def: &Def) -> Option<&Ident>
     }
 }
 
-/// Gives the term that is given a constructor outside.
+/// The term of an `extern constructor`.
 fn constructed(def: &Def) -> Option<&Ident>
     ensures { option_map (λ name. name_of name.now) result
         ≡ constructed_term (definition_of def.now) }
@@ -144,7 +140,6 @@ fn constructed(def: &Def) -> Option<&Ident>
     }
 }
 
-/// Gives the term of a rule.
 fn ruled(def: &Def) -> Option<&Ident>
     ensures { option_map (λ name. name_of name.now) result ≡ ruled_term (definition_of def.now) }
 {
@@ -154,7 +149,6 @@ fn ruled(def: &Def) -> Option<&Ident>
     }
 }
 
-/// Gives the name of a rule.
 fn named(def: &Def) -> Option<&Ident>
     ensures { option_map (λ name. name_of name.now) result ≡ rule_name (definition_of def.now) }
 {

@@ -1,10 +1,9 @@
-//! What a lint finds in definitions of ISLE: variables that nothing uses or nothing binds, names
-//! that are given twice, terms that take another number of arguments, and terms that nothing
-//! declares or nothing defines.
+//! Lints for ISLE definitions: variables that are unused or unbound, duplicate names, terms with a
+//! wrong number of arguments, and terms that are undeclared or undefined.
 //!
-//! `findings` gives what some lints find, in order of place. What can't be known from the
-//! definitions at hand is not told: a symbol that stands alone is always a variable, and how many
-//! arguments a term takes is known only where its `decl` or its variant is among the definitions.
+//! `findings` runs some of the lints. It does not report what the definitions at hand leave open: a
+//! symbol that stands alone is always taken as a variable, and the number of a term's arguments is
+//! checked only if its `decl` or its variant is among the definitions.
 #![tactic(auto)]
 
 ghost use Rattle.std.specs.Prelude.{◌≡◌, ◌++◌, IfOk, OnOk, map};
@@ -33,28 +32,28 @@ use isle_ast::ast::{Def, Ident};
 pub use lint::Lint;
 use std::alloc::{AllocError, Global};
 
-/// Finds what these lints find in definitions, in order of place.
+/// Runs `lints` on `defs`. Returns the findings in order of position.
 ///
-/// | Lint | What is found, each at its name |
+/// | Lint | Finds, each at its name |
 /// |---|---|
 /// | `unused-let` | a variable that a `let` binds and nothing uses |
-/// | `unknown-variable` | a variable that an expression uses, and nothing binds before it |
+/// | `unknown-variable` | a variable that an expression uses and nothing binds before it |
 /// | `duplicate-rule-name` | the name of a rule that an earlier rule has too |
 /// | `duplicate-declaration` | a term that an earlier `decl` declares too |
-/// | `duplicate-extractor` | a term that an earlier definition gave an extractor |
+/// | `duplicate-extractor` | a term that has an earlier extractor |
 /// | `duplicate-constructor` | an `extern constructor` of a term with rules, or an earlier one |
 /// | `wrong-arity` | a term with more or fewer arguments than its `decl` or its variant has |
-/// | `unknown-term` | a term that is used or defined, and that no `decl` and no variant gives |
+/// | `unknown-term` | a term that is used or defined, and is neither declared nor a variant |
 /// | `undefined-term` | the term of a `decl` that no rule, extractor or `extern` defines |
-/// | `unused-binding` | a variable in front of an `@` that nothing uses |
-/// | `unused-pattern-variable` | a variable that stands alone in a pattern and that nothing uses |
-/// | `shadowed-variable` | a variable that a `let` binds, and that is bound already |
+/// | `unused-binding` | a variable before an `@` that nothing uses |
+/// | `unused-pattern-variable` | a variable alone in a pattern that nothing uses |
+/// | `shadowed-variable` | a variable that a `let` binds although it is bound already |
 ///
-/// A name that begins with `_` is never found. The first occurrence of a variable in the patterns
-/// of a rule binds it, and every other one uses it. A condition's expression is computed before its
-/// pattern binds; the definitions of a `let` are seen by those after them and by the body. A
-/// variable that an extractor's template binds is bound in every rule. A lint that stands twice
-/// among the lints gives its findings twice. An `Err` means that memory ran out.
+/// A name that begins with `_` is never reported. The first occurrence of a variable in a rule's
+/// patterns binds it, and every later one uses it. A condition's expression comes before its
+/// pattern. A definition of a `let` is in scope in the later ones and in the body. A variable that
+/// an extractor's template binds is bound in every rule. A lint that is listed twice reports its
+/// findings twice. An `Err` means out of memory.
 pub fn findings<'a>(
     alloc: Global,
     defs: &'a [Def],
@@ -71,7 +70,7 @@ pub fn findings<'a>(
     Ok(found)
 }
 
-/// Finds what these lints find, lint by lint.
+/// The findings, lint by lint.
 fn collected<'a>(
     alloc: Global,
     defs: &'a [Def],
@@ -87,7 +86,7 @@ fn collected<'a>(
     Ok(found)
 }
 
-/// Gives the names that a lint finds.
+/// The names that a lint finds, those that begin with `_` included.
 fn names_found<'a>(alloc: Global, defs: &'a [Def], lint: Lint) -> Result<Vec<&'a Ident>, AllocError>
     ensures { IfOk result
         (λ found. names_at found.items ≡ names_found lint (definitions_of defs.now)) }

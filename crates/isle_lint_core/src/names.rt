@@ -1,4 +1,4 @@
-//! Names among other names.
+//! Lists of names: which occur twice, and which are not in another list.
 
 ghost use Rattle.std.specs.Prelude.{◌≡◌, ◌∷◌, ◌++◌, List, IfOk, OnOk, not};
 ghost use Rattle.isle_ast_names.specs.Tree.{Name};
@@ -11,7 +11,7 @@ use isle_ast::ast::Ident;
 use std::alloc::{AllocError, Global};
 use std::collections::BTreeSet;
 
-/// Adds a name, where it counts.
+/// Adds a name if it counts.
 pub fn add_if<'a>(
     counts: bool,
     name: &'a Ident,
@@ -26,7 +26,6 @@ pub fn add_if<'a>(
     Ok(())
 }
 
-/// Tells whether one of the names has this text.
 pub fn has(names: &[&Ident], text: &str) -> bool
     ensures { result ≡ has (names_at names.now) text.now }
 {
@@ -38,7 +37,7 @@ pub fn has(names: &[&Ident], text: &str) -> bool
     false
 }
 
-/// Tells whether a name begins with `_`.
+/// Returns whether a name begins with `_`.
 pub fn is_private(text: &str) -> bool
     ensures { result ≡ is_private text.now }
 {
@@ -48,7 +47,7 @@ pub fn is_private(text: &str) -> bool
     }
 }
 
-/// Gives the names whose text one of the earlier names has, or one that stands before.
+/// The names that are equal to one of `earlier` or to a name before them, by text.
 pub fn repeated<'a>(
     alloc: Global,
     earlier: &[&'a Ident],
@@ -61,7 +60,7 @@ pub fn repeated<'a>(
     add_repeated(alloc, &mut seen, names)
 }
 
-/// Gives the names whose text none of the others has.
+/// The names that are not among `others`, by text.
 pub fn absent<'a>(
     alloc: Global,
     others: &[&'a Ident],
@@ -79,7 +78,6 @@ pub fn absent<'a>(
     Ok(found)
 }
 
-/// Gives the texts of names.
 fn texts<'a>(alloc: Global, names: &[&'a Ident]) -> Result<BTreeSet<&'a str>, AllocError>
     ensures { IfOk result (λ seen. Knows seen (names_at names.now)) }
 {
@@ -90,7 +88,6 @@ fn texts<'a>(alloc: Global, names: &[&'a Ident]) -> Result<BTreeSet<&'a str>, Al
     Ok(seen)
 }
 
-/// Tells whether one of the texts is that of the name.
 fn is_seen<'a>(seen: &BTreeSet<&'a str>, name: &'a Ident) -> bool
     ensures { (names : List Name) → Knows seen.now names
         → result ≡ has names (name_of name.now).text }
@@ -98,7 +95,7 @@ fn is_seen<'a>(seen: &BTreeSet<&'a str>, name: &'a Ident) -> bool
     seen.contains(&name.0.as_str())
 }
 
-/// Gives the names that are seen already, or that stand after an equal one.
+/// The names that are in `seen` or equal to a name before them. Adds all of them to `seen`.
 fn add_repeated<'a>(
     alloc: Global,
     seen: &mut BTreeSet<&'a str>,
@@ -115,7 +112,7 @@ fn add_repeated<'a>(
     Ok(found)
 }
 
-/// Puts a name to those that are seen, and tells whether it is a new one.
+/// Adds a name to `seen`. Returns whether it is new.
 fn put<'a>(seen: &mut BTreeSet<&'a str>, name: &'a Ident) -> Result<bool, AllocError>
     ensures new { IfOk result (λ new. (names : List Name) → Knows seen.old names
         → new ≡ not (has names (name_of name.now).text)) }
