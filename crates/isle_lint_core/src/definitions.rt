@@ -5,12 +5,11 @@ ghost use Rattle.std.specs.Option.{option_map};
 ghost use Rattle.isle_ast.specs.TreeView.{definition_of, definitions_of};
 ghost use Rattle.isle_ast_names.specs.TreeView.{name_of};
 ghost use Rattle.isle_lint_core.specs.Givings.{constructed_term, declared_term, extracted_term};
-ghost use Rattle.isle_lint_core.specs.Givings.{given};
-ghost use Rattle.isle_lint_core.specs.Givings.{name_given, rule_name, ruled_term};
+ghost use Rattle.isle_lint_core.specs.Givings.{given, name_given, rule_name, ruled_term};
 ghost use Rattle.isle_lint_core.specs.Givings.{constructed_twice, defined, undefined_terms};
 ghost use Rattle.isle_lint_core.specs.Names.{names_at, repeated};
 
-use crate::names::{absent, repeated};
+use crate::names::{absent_names, repeats};
 use isle_ast::ast::{Def, Extern, Ident};
 use std::alloc::{AllocError, Global};
 
@@ -30,56 +29,56 @@ pub enum Giving {
 }
 
 /// The names that an earlier definition gives in the same way.
-pub fn repeated_in<'a>(
-    alloc: Global,
-    defs: &'a [Def],
-    giving: Giving,
-) -> Result<Vec<&'a Ident>, AllocError>
+pub fn repeats_in(alloc: Global, defs: &[Def], giving: Giving) -> Result<Vec<&Ident>, AllocError>
     ensures { IfOk result (λ found. names_at found.items
         ≡ repeated [] (given giving (definitions_of defs.now))) }
 {
-    repeated(alloc, &[], &given(alloc, defs, giving)?)
+    repeats(alloc, &[], &given_names(alloc, defs, giving)?)
 }
 
 /// The terms of `extern constructor`s that have rules or an earlier `extern constructor`.
-pub fn constructed_twice<'a>(alloc: Global, defs: &'a [Def]) -> Result<Vec<&'a Ident>, AllocError>
+pub fn repeated_constructors(alloc: Global, defs: &[Def]) -> Result<Vec<&Ident>, AllocError>
     ensures { IfOk result
         (λ found. names_at found.items ≡ constructed_twice (definitions_of defs.now)) }
 {
-    let ruled = given(alloc, defs, Giving::RuledTerm)?;
-    repeated(alloc, &ruled, &given(alloc, defs, Giving::Constructor)?)
+    let ruled = given_names(alloc, defs, Giving::RuledTerm)?;
+    repeats(
+        alloc,
+        &ruled,
+        &given_names(alloc, defs, Giving::Constructor)?,
+    )
 }
 
 /// The terms that are declared and that nothing defines.
-pub fn undefined_terms<'a>(alloc: Global, defs: &'a [Def]) -> Result<Vec<&'a Ident>, AllocError>
+pub fn undefined_terms(alloc: Global, defs: &[Def]) -> Result<Vec<&Ident>, AllocError>
     ensures { IfOk result
         (λ found. names_at found.items ≡ undefined_terms (definitions_of defs.now)) }
 {
-    let defined = defined(alloc, defs)?;
-    let declared = given(alloc, defs, Giving::Declaration)?;
-    absent(alloc, &defined, &declared)
+    let defined = defined_terms(alloc, defs)?;
+    let declared = given_names(alloc, defs, Giving::Declaration)?;
+    absent_names(alloc, &defined, &declared)
 }
 
 /// The terms that rules, extractors and `extern constructor`s define.
-fn defined<'a>(alloc: Global, defs: &'a [Def]) -> Result<Vec<&'a Ident>, AllocError>
+fn defined_terms(alloc: Global, defs: &[Def]) -> Result<Vec<&Ident>, AllocError>
     ensures { IfOk result (λ names. names_at names.items ≡ defined (definitions_of defs.now)) }
 {
     let mut names = Vec::new(alloc);
-    add_given(defs, Giving::RuledTerm, &mut names)?;
-    add_given(defs, Giving::Extractor, &mut names)?;
-    add_given(defs, Giving::Constructor, &mut names)?;
+    add_given_names(defs, Giving::RuledTerm, &mut names)?;
+    add_given_names(defs, Giving::Extractor, &mut names)?;
+    add_given_names(defs, Giving::Constructor, &mut names)?;
     Ok(names)
 }
 
-fn given<'a>(alloc: Global, defs: &'a [Def], giving: Giving) -> Result<Vec<&'a Ident>, AllocError>
+fn given_names(alloc: Global, defs: &[Def], giving: Giving) -> Result<Vec<&Ident>, AllocError>
     ensures { IfOk result (λ names. names_at names.items ≡ given giving (definitions_of defs.now)) }
 {
     let mut names = Vec::new(alloc);
-    add_given(defs, giving, &mut names)?;
+    add_given_names(defs, giving, &mut names)?;
     Ok(names)
 }
 
-fn add_given<'a>(
+fn add_given_names<'a>(
     defs: &'a [Def],
     giving: Giving,
     names: &mut Vec<&'a Ident>,
@@ -88,27 +87,27 @@ fn add_given<'a>(
         ≡ names_at names.old.items ++ given giving (definitions_of defs.now)) }
 {
     for def in defs {
-        if let Some(name) = name_given(def, giving) {
+        if let Some(name) = given_name(def, giving) {
             names.push(name)?;
         }
     }
     Ok(())
 }
 
-fn name_given(def: &Def, giving: Giving) -> Option<&Ident>
+fn given_name(def: &Def, giving: Giving) -> Option<&Ident>
     ensures { option_map (λ name. name_of name.now) result
         ≡ name_given giving (definition_of def.now) }
 {
     match giving {
-        Giving::Declaration => declared(def),
-        Giving::Extractor => extracted(def),
-        Giving::Constructor => constructed(def),
-        Giving::RuledTerm => ruled(def),
-        Giving::RuleName => named(def),
+        Giving::Declaration => declared_term(def),
+        Giving::Extractor => extracted_term(def),
+        Giving::Constructor => constructed_term(def),
+        Giving::RuledTerm => ruled_term(def),
+        Giving::RuleName => rule_name(def),
     }
 }
 
-fn declared(def: &Def) -> Option<&Ident>
+fn declared_term(def: &Def) -> Option<&Ident>
     ensures { option_map (λ name. name_of name.now) result ≡ declared_term (definition_of def.now) }
 {
     match def {
@@ -118,7 +117,7 @@ fn declared(def: &Def) -> Option<&Ident>
 }
 
 /// The term of an `extractor` or an `extern extractor`.
-fn extracted(def: &Def) -> Option<&Ident>
+fn extracted_term(def: &Def) -> Option<&Ident>
     ensures { option_map (λ name. name_of name.now) result
         ≡ extracted_term (definition_of def.now) }
 {
@@ -130,7 +129,7 @@ fn extracted(def: &Def) -> Option<&Ident>
 }
 
 /// The term of an `extern constructor`.
-fn constructed(def: &Def) -> Option<&Ident>
+fn constructed_term(def: &Def) -> Option<&Ident>
     ensures { option_map (λ name. name_of name.now) result
         ≡ constructed_term (definition_of def.now) }
 {
@@ -140,7 +139,7 @@ fn constructed(def: &Def) -> Option<&Ident>
     }
 }
 
-fn ruled(def: &Def) -> Option<&Ident>
+fn ruled_term(def: &Def) -> Option<&Ident>
     ensures { option_map (λ name. name_of name.now) result ≡ ruled_term (definition_of def.now) }
 {
     match def {
@@ -149,7 +148,7 @@ fn ruled(def: &Def) -> Option<&Ident>
     }
 }
 
-fn named(def: &Def) -> Option<&Ident>
+fn rule_name(def: &Def) -> Option<&Ident>
     ensures { option_map (λ name. name_of name.now) result ≡ rule_name (definition_of def.now) }
 {
     match def {

@@ -1,7 +1,6 @@
 //! The variables of expressions: which are used, unknown, unused or shadowed.
 
 ghost use Rattle.std.specs.Prelude.{◌≡◌, ◌++◌, OnOk};
-ghost use Rattle.isle_ast_names.specs.TreeView.{name_of};
 ghost use Rattle.isle_ast_rules.specs.TreeView.{expression_of, expression_list_of, expressions_of};
 ghost use Rattle.isle_ast_rules.specs.TreeView.{let_list_of, single_lets_of};
 ghost use Rattle.isle_lint_core.specs.Names.{names_at};

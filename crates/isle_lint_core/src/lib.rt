@@ -6,7 +6,7 @@
 //! checked only if its `decl` or its variant is among the definitions.
 #![tactic(auto)]
 
-ghost use Rattle.std.specs.Prelude.{◌≡◌, ◌++◌, IfOk, OnOk, map};
+ghost use Rattle.std.specs.Prelude.{◌≡◌, IfOk, map};
 ghost use Rattle.std.specs.List.Sorted.{IsPermutation, IsSortedByKey};
 ghost use Rattle.isle_base_source.specs.PositionOrder.{position_cmp};
 ghost use Rattle.isle_ast.specs.TreeView.{definitions_of};
@@ -25,12 +25,14 @@ mod rules;
 mod signatures;
 mod terms;
 
-use definitions::{Giving, repeated_in};
+use definitions::{Giving, repeated_constructors, repeats_in, undefined_terms};
 pub use finding::Finding;
 use finding::add;
 use isle_ast::ast::{Def, Ident};
 pub use lint::Lint;
+use rules::{Asked, find_variables};
 use std::alloc::{AllocError, Global};
+use terms::{unknown_terms, wrong_arities};
 
 /// Runs `lints` on `defs`. Returns the findings in order of position.
 ///
@@ -65,13 +67,13 @@ pub fn findings<'a>(
         (λ found. IsSortedByKey (λ finding. finding.pos) position_cmp found.items) }
     ensures ties { IfOk result (λ found. IsSortedByKey finding_of finding_cmp found.items) }
 {
-    let mut found = collected(alloc, defs, lints)?;
+    let mut found = collect(alloc, defs, lints)?;
     found.sort()?;
     Ok(found)
 }
 
 /// The findings, lint by lint.
-fn collected<'a>(
+fn collect<'a>(
     alloc: Global,
     defs: &'a [Def],
     lints: &[Lint],
@@ -81,30 +83,28 @@ fn collected<'a>(
 {
     let mut found = Vec::new(alloc);
     for lint in lints {
-        add(&mut found, *lint, &names_found(alloc, defs, *lint)?)?;
+        add(&mut found, *lint, &find_names(alloc, defs, *lint)?)?;
     }
     Ok(found)
 }
 
 /// The names that a lint finds, those that begin with `_` included.
-fn names_found<'a>(alloc: Global, defs: &'a [Def], lint: Lint) -> Result<Vec<&'a Ident>, AllocError>
+fn find_names(alloc: Global, defs: &[Def], lint: Lint) -> Result<Vec<&Ident>, AllocError>
     ensures { IfOk result
         (λ found. names_at found.items ≡ names_found lint (definitions_of defs.now)) }
 {
     match lint {
-        Lint::UnusedLet => rules::found_in(alloc, defs, rules::Asked::UnusedLets),
-        Lint::UnknownVariable => rules::found_in(alloc, defs, rules::Asked::UnknownVariables),
-        Lint::DuplicateRuleName => repeated_in(alloc, defs, Giving::RuleName),
-        Lint::DuplicateDeclaration => repeated_in(alloc, defs, Giving::Declaration),
-        Lint::DuplicateExtractor => repeated_in(alloc, defs, Giving::Extractor),
-        Lint::DuplicateConstructor => definitions::constructed_twice(alloc, defs),
-        Lint::WrongArity => terms::wrong_arities(alloc, defs),
-        Lint::UnknownTerm => terms::unknown_terms(alloc, defs),
-        Lint::UndefinedTerm => definitions::undefined_terms(alloc, defs),
-        Lint::UnusedBinding => rules::found_in(alloc, defs, rules::Asked::UnusedBindings),
-        Lint::UnusedPatternVariable => {
-            rules::found_in(alloc, defs, rules::Asked::UnusedPatternVariables)
-        }
-        Lint::ShadowedVariable => rules::found_in(alloc, defs, rules::Asked::ShadowedVariables),
+        Lint::UnusedLet => find_variables(alloc, defs, Asked::UnusedLets),
+        Lint::UnknownVariable => find_variables(alloc, defs, Asked::UnknownVariables),
+        Lint::DuplicateRuleName => repeats_in(alloc, defs, Giving::RuleName),
+        Lint::DuplicateDeclaration => repeats_in(alloc, defs, Giving::Declaration),
+        Lint::DuplicateExtractor => repeats_in(alloc, defs, Giving::Extractor),
+        Lint::DuplicateConstructor => repeated_constructors(alloc, defs),
+        Lint::WrongArity => wrong_arities(alloc, defs),
+        Lint::UnknownTerm => unknown_terms(alloc, defs),
+        Lint::UndefinedTerm => undefined_terms(alloc, defs),
+        Lint::UnusedBinding => find_variables(alloc, defs, Asked::UnusedBindings),
+        Lint::UnusedPatternVariable => find_variables(alloc, defs, Asked::UnusedPatternVariables),
+        Lint::ShadowedVariable => find_variables(alloc, defs, Asked::ShadowedVariables),
     }
 }

@@ -3,8 +3,7 @@
 ghost use Rattle.std.specs.Prelude.{◌≡◌, ◌∷◌, ◌++◌, List, IfOk, OnOk, not};
 ghost use Rattle.isle_ast_names.specs.Tree.{Name};
 ghost use Rattle.isle_ast_names.specs.TreeView.{name_of};
-ghost use Rattle.isle_lint_core.specs.Names.{absent, has, is_private, kept_if, names_at};
-ghost use Rattle.isle_lint_core.specs.Names.{repeated};
+ghost use Rattle.isle_lint_core.specs.Names.{absent, has, is_private, kept_if, names_at, repeated};
 ghost use Rattle.isle_lint_core.specs.Seen.{Knows};
 
 use isle_ast::ast::Ident;
@@ -48,7 +47,7 @@ pub fn is_private(text: &str) -> bool
 }
 
 /// The names that are equal to one of `earlier` or to a name before them, by text.
-pub fn repeated<'a>(
+pub fn repeats<'a>(
     alloc: Global,
     earlier: &[&'a Ident],
     names: &[&'a Ident],
@@ -57,11 +56,11 @@ pub fn repeated<'a>(
         ≡ repeated (names_at earlier.now) (names_at names.now)) }
 {
     let mut seen = texts(alloc, earlier)?;
-    add_repeated(alloc, &mut seen, names)
+    find_repeats(alloc, &mut seen, names)
 }
 
 /// The names that are not among `others`, by text.
-pub fn absent<'a>(
+pub fn absent_names<'a>(
     alloc: Global,
     others: &[&'a Ident],
     names: &[&'a Ident],
@@ -96,7 +95,7 @@ fn is_seen<'a>(seen: &BTreeSet<&'a str>, name: &'a Ident) -> bool
 }
 
 /// The names that are in `seen` or equal to a name before them. Adds all of them to `seen`.
-fn add_repeated<'a>(
+fn find_repeats<'a>(
     alloc: Global,
     seen: &mut BTreeSet<&'a str>,
     names: &[&'a Ident],

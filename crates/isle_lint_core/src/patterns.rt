@@ -4,7 +4,7 @@ ghost use Rattle.std.specs.Prelude.{◌≡◌, ◌++◌, IfOk, OnOk};
 ghost use Rattle.isle_ast_rules.specs.TreeView.{conditions_of, pattern_of, pattern_list_of};
 ghost use Rattle.isle_ast_rules.specs.TreeView.{patterns_of, rule_of};
 ghost use Rattle.isle_lint_core.specs.Names.{names_at};
-ghost use Rattle.isle_lint_core.specs.Variables.{all, condition_variables, list_variables};
+ghost use Rattle.isle_lint_core.specs.Variables.{condition_variables, list_variables};
 ghost use Rattle.isle_lint_core.specs.Variables.{rule_variables, variables};
 
 use crate::names::add_if;

@@ -3,11 +3,11 @@
 ghost use Rattle.std.specs.Prelude.{◌≡◌, ◌++◌, IfOk, OnOk, count_by, ◌==◌};
 ghost use Rattle.std.specs.List.{flat_map};
 ghost use Rattle.std.specs.Str.{bytes_eq};
-ghost use Rattle.isle_ast.specs.TreeView.{definition_of, definitions_of};
-ghost use Rattle.isle_ast_names.specs.TreeView.{name_of, names_of};
+ghost use Rattle.isle_ast.specs.TreeView.{definitions_of};
+ghost use Rattle.isle_ast_names.specs.TreeView.{names_of};
 ghost use Rattle.isle_ast_rules.specs.TreeView.{conditions_of, expression_of, extractor_of};
-ghost use Rattle.isle_ast_rules.specs.TreeView.{pattern_of, rule_of};
-ghost use Rattle.isle_lint_core.specs.Findings.{asked_of, of_rule, of_rules};
+ghost use Rattle.isle_ast_rules.specs.TreeView.{rule_of};
+ghost use Rattle.isle_lint_core.specs.Findings.{asked_of, of_rules};
 ghost use Rattle.isle_lint_core.specs.Names.{has, names_at};
 ghost use Rattle.isle_lint_core.specs.Shadowed.{conditions_shadowed, shadowed_variables};
 ghost use Rattle.isle_lint_core.specs.Unknown.{conditions_unknown, unknown_variables};
@@ -15,12 +15,12 @@ ghost use Rattle.isle_lint_core.specs.Unused.{conditions_idle, idle, is_idle, ru
 ghost use Rattle.isle_lint_core.specs.Unused.{unused, unused_lets};
 ghost use Rattle.isle_lint_core.specs.Uses.{uses_after};
 ghost use Rattle.isle_lint_core.specs.Variables.{condition_variables, own_variables};
-ghost use Rattle.isle_lint_core.specs.Variables.{template_variables, variables};
+ghost use Rattle.isle_lint_core.specs.Variables.{template_variables};
 
 use crate::expressions::{add_shadowed, add_unknown, add_unused, uses};
 use crate::names::{add_if, has};
 use crate::patterns::{ALL, Wanted, add_variables, rule_variables, variables};
-use isle_ast::ast::{Def, Expr, Extractor, Ident, IfLet, Pattern, Rule};
+use isle_ast::ast::{Def, Expr, Extractor, Ident, IfLet, Rule};
 use std::alloc::{AllocError, Global};
 
 /// Which variables of rules to find.
@@ -48,11 +48,7 @@ const ALONE: Wanted = Wanted {
     bindings: false,
 };
 
-pub fn found_in<'a>(
-    alloc: Global,
-    defs: &'a [Def],
-    asked: Asked,
-) -> Result<Vec<&'a Ident>, AllocError>
+pub fn find_variables(alloc: Global, defs: &[Def], asked: Asked) -> Result<Vec<&Ident>, AllocError>
     ensures { IfOk result (λ found. names_at found.items
         ≡ of_rules (asked_of asked (template_variables (definitions_of defs.now)))
         (definitions_of defs.now)) }
@@ -61,14 +57,14 @@ pub fn found_in<'a>(
     let mut found = Vec::new(alloc);
     for def in defs {
         if let Def::Rule(rule) = def {
-            add_found(alloc, rule, &outer, asked, &mut found)?;
+            add_asked(alloc, rule, &outer, asked, &mut found)?;
         }
     }
     Ok(found)
 }
 
 /// Adds those of one rule. The names `outer` are bound around it.
-fn add_found<'a>(
+fn add_asked<'a>(
     alloc: Global,
     rule: &'a Rule,
     outer: &[&'a Ident],

@@ -17,7 +17,7 @@ use std::alloc::{AllocError, Global};
 use std::collections::BTreeMap;
 
 /// The terms that have more or fewer arguments than they take.
-pub fn wrong_arities<'a>(alloc: Global, defs: &'a [Def]) -> Result<Vec<&'a Ident>, AllocError>
+pub fn wrong_arities(alloc: Global, defs: &[Def]) -> Result<Vec<&Ident>, AllocError>
     ensures { IfOk result
         (λ found. names_at found.items ≡ wrong_arities (definitions_of defs.now)) }
 {
@@ -32,7 +32,7 @@ pub fn wrong_arities<'a>(alloc: Global, defs: &'a [Def]) -> Result<Vec<&'a Ident
 }
 
 /// The terms that are neither declared nor variants.
-pub fn unknown_terms<'a>(alloc: Global, defs: &'a [Def]) -> Result<Vec<&'a Ident>, AllocError>
+pub fn unknown_terms(alloc: Global, defs: &[Def]) -> Result<Vec<&Ident>, AllocError>
     ensures { IfOk result
         (λ found. names_at found.items ≡ unknown_terms (definitions_of defs.now)) }
 {

@@ -1,7 +1,7 @@
 use Rattle.std.proofs.Common.{◌∙◌}
 use Rattle.isle_lint_core.specs.Names.{names_at}
 use Rattle.isle_lint_core.proofs.NameLemmas.{absent-step}
-use Rattle.isle_lint_core.proofs.names.absent.Goals as goal
+use Rattle.isle_lint_core.proofs.names.absent_names.Goals as goal
 
 pub loop-name-preserved : goal.loop-name-preserved
 loop-name-preserved c =

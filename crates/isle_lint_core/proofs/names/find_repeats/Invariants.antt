@@ -2,7 +2,7 @@ use Rattle.std.proofs.Common.{◌≡◌, ◌++◌, List, drop}
 use Rattle.isle_ast_names.specs.Tree.{Name}
 use Rattle.isle_lint_core.specs.Names.{names_at, repeated}
 use Rattle.isle_lint_core.specs.Seen.{Knows}
-use Rattle.isle_lint_core.proofs.names.add_repeated.Given as goal
+use Rattle.isle_lint_core.proofs.names.find_repeats.Given as goal
 
 -- the names found, and those to be found among the names to come, are all
 abbrev pub invariant-loop-name : goal.invariant-loop-name

@@ -2,7 +2,7 @@ use Rattle.std.proofs.Common.{◌++◌, ◌∷◌, ap, ◌∙◌}
 use Rattle.isle_ast_names.specs.TreeView.{name_of}
 use Rattle.isle_lint_core.specs.Names.{names_at, repeated}
 use Rattle.isle_lint_core.proofs.SeenLemmas.{repeated-step}
-use Rattle.isle_lint_core.proofs.names.add_repeated.Goals as goal
+use Rattle.isle_lint_core.proofs.names.find_repeats.Goals as goal
 
 pub loop-name-init : goal.loop-name-init
 loop-name-init c = λ earlier knows.

@@ -1,6 +1,6 @@
 use Rattle.std.proofs.Common.{◌≡◌, ◌++◌, drop}
 use Rattle.isle_lint_core.specs.Names.{absent, names_at}
-use Rattle.isle_lint_core.proofs.names.absent.Given as goal
+use Rattle.isle_lint_core.proofs.names.absent_names.Given as goal
 
 abbrev pub invariant-loop-name : goal.invariant-loop-name
 invariant-loop-name l =

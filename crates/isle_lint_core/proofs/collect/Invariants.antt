@@ -2,7 +2,7 @@ use Rattle.std.proofs.Common.{◌≡◌, ◌++◌, drop, map}
 use Rattle.isle_ast.specs.TreeView.{definitions_of}
 use Rattle.isle_lint_core.specs.Finding.{finding_of}
 use Rattle.isle_lint_core.specs.Findings.{findings_in}
-use Rattle.isle_lint_core.proofs.collected.Given as goal
+use Rattle.isle_lint_core.proofs.collect.Given as goal
 
 abbrev pub invariant-loop-lint : goal.invariant-loop-lint
 invariant-loop-lint l =

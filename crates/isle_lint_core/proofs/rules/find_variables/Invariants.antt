@@ -3,7 +3,7 @@ use Rattle.isle_ast.specs.TreeView.{definitions_of}
 use Rattle.isle_lint_core.specs.Findings.{asked_of, of_rules}
 use Rattle.isle_lint_core.specs.Names.{names_at}
 use Rattle.isle_lint_core.specs.Variables.{template_variables}
-use Rattle.isle_lint_core.proofs.rules.found_in.Given as goal
+use Rattle.isle_lint_core.proofs.rules.find_variables.Given as goal
 
 abbrev pub invariant-loop-def : goal.invariant-loop-def
 invariant-loop-def l =
