@@ -1,4 +1,4 @@
--- The names that may be written at a place.
+-- Completion: the names that can be written at a position.
 use Rattle.std.specs.Prelude.{ℕ, List, [], ◌∷◌, ◌++◌, Bool, true, ◌&&◌, Option, None, Some, map, filter, codes, string_bytes, nat_le, nat_eq, ◌==◌, if◌then◌else◌}
 use Rattle.std.specs.List.{filter_map, starts_with}
 use Rattle.isle_base_source.specs.declared.pos.Pos.{Pos}
@@ -22,7 +22,7 @@ abbrev pub is_behind : Option Near → ℕ → Bool
 is_behind None offset = true
 is_behind (Some best) offset = nat_le best.offset offset
 
--- whether an occurrence begins at a place or before it, in its file, and not before the best one
+-- whether an occurrence begins at or before a position, in its file, and not before the best one
 abbrev pub is_nearer : Pos → Option Near → Occurrence → Bool
 is_nearer place best o = (o.pos.file == place.file) && nat_le o.pos.offset place.offset && is_behind best o.pos.offset
 
@@ -30,12 +30,12 @@ abbrev pub nearer_by : Pos → Option Near → ℕ → Option Occurrence → Opt
 nearer_by place best number None = best
 nearer_by place best number (Some o) = if is_nearer place best o then Some (record { number = number; offset = o.pos.offset }) else best
 
--- the name that begins last at a place or before it; of two at one offset the later one
+-- the last name that begins at or before a position; the later of two at one offset
 abbrev pub nearest : Pos → Option Near → List SeenNode → Option Near
 nearest place best [] = best
 nearest place best (s ∷ ss) = nearest place (nearer_by place best s.number (occurrence s)) ss
 
--- the variables that are bound after the event of this number
+-- the variables in scope after the event of this number
 abbrev pub bound_at : ℕ → List BoundNode → List SeenNode → List BoundNode
 bound_at number bound [] = []
 bound_at number bound (s ∷ ss) =
@@ -45,12 +45,12 @@ abbrev pub visible_by : ℕ → Option Near → List SeenNode → List BoundNode
 visible_by from None ss = []
 visible_by from (Some near) ss = if nat_le from near.offset then bound_at near.number [] ss else []
 
--- the variables that are bound at the name that begins last at a place or before it, if it begins at this offset or
+-- the variables in scope at the last name that begins at or before a position, if it begins at the offset `from` or
 -- after it
 abbrev pub visible : Pos → ℕ → List SeenNode → List BoundNode
 visible place from ss = visible_by from (nearest place None ss) ss
 
--- the text of a symbol as it is written in a rule
+-- the text of a symbol in the source of a rule
 abbrev pub written : SymbolKind → List ℕ → List ℕ
 written symbol_kinds.Term text = text
 written symbol_kinds.Type text = text
@@ -67,7 +67,7 @@ variable_candidate b = record { kind = symbol_kinds.Variable; text = b.text }
 abbrev pub begins_with : List ℕ → CandidateNode → Bool
 begins_with prefix c = starts_with nat_eq c.text prefix
 
--- what the program defines, and the variables that are bound at a place, as far as they begin so
+-- the names that the program defines and the variables in scope, if they start with the prefix
 abbrev pub candidates : Pos → ℕ → List ℕ → List SeenNode → List CandidateNode
 candidates place from prefix ss =
     filter (begins_with prefix)

@@ -1,5 +1,5 @@
--- How an index holds its events: an entry has the numbers of its texts among the texts of the index. Its own number is
--- its place among the entries.
+-- How an index stores its events: an entry has the numbers of its texts among the texts of the index. Its own number
+-- is its place among the entries.
 use Rattle.std.specs.Prelude.{ℕ, ◌+◌, List, [], ◌∷◌, Option, None, Some, option_map, string_bytes}
 use Rattle.std.specs.List.{slice_get}
 use Rattle.std.specs.declared.alloc.Global.{Global}
@@ -20,7 +20,7 @@ abbrev pub or_no_bytes : Option (List ℕ) → List ℕ
 or_no_bytes None = []
 or_no_bytes (Some text) = text
 
--- the text of a number; where there is none, no bytes
+-- the text of a number, empty if there is none
 abbrev pub text_at : List (String Global) → ℕ → List ℕ
 text_at texts number = or_no_bytes (text_in texts number)
 

@@ -21,17 +21,17 @@ all_in index = unpacked_from index.texts.items.items 0 index.entries.items
 abbrev pub Extends : List (String Global) → List (String Global) → Type 0
 Extends old new = (number : ℕ) (text : List ℕ) → text_in old number ≡ Some text → text_in new number ≡ Some text
 
--- this is where a name is written, with the number of its text
+-- this is a name as it occurs in the source, packed
 pub record IsSpotOf (texts : List (String Global)) (name : Name) (spot : Spot) : Type 0 where
   pub text : text_in texts spot.text ≡ Some name.text
   pub file : spot.file ≡ name.pos.file
   pub offset : spot.offset ≡ name.pos.offset
 
--- there is a text of this number
+-- the text of a packed name is there
 abbrev pub HasText : List (String Global) → Spot → Type 0
 HasText texts spot = (text : List ℕ) × (text_in texts spot.text ≡ Some text)
 
--- there are texts of the numbers of an entry
+-- the texts of an entry are there
 abbrev pub HasTexts : List (String Global) → Entry → Type 0
 HasTexts texts (entries.Defines _ spot) = HasText texts spot
 HasTexts texts (entries.Uses _ spot) = HasText texts spot

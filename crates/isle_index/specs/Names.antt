@@ -1,4 +1,4 @@
--- What events name.
+-- Names, and which events name which.
 use Rattle.std.specs.Prelude.{ℕ, List, ◌++◌, Bool, true, false, ◌&&◌, ◌==◌, Option, None, Some, option_map, codes, string_bytes}
 use Rattle.std.specs.Str.{bytes_eq}
 use Rattle.isle_resolve.specs.declared.event.Kind.{Kind}
@@ -9,7 +9,7 @@ use Rattle.isle_index.specs.Scopes.{SeenNode}
 use Rattle.isle_index.specs.declared.names.Name as code
 
 pub data NameNode : Type 0 where
-  -- a name of this kind that holds in the whole program
+  -- a name of this kind that is visible in the whole program
   global : Kind → List ℕ → NameNode
   -- the variable that the event of this number binds
   variable : (binder : ℕ) → List ℕ → NameNode
@@ -18,11 +18,11 @@ abbrev pub named_of : code.Name → NameNode
 named_of (names.Global kind text) = global kind (string_bytes text)
 named_of (names.Variable binder text) = variable binder (string_bytes text)
 
--- the term that a variant of a type is
+-- the name of a variant as a term
 abbrev pub joined : List ℕ → List ℕ → List ℕ
 joined owner member = owner ++ codes "." ++ member
 
--- what an event names, where this number is that of the event that binds its variable
+-- the name of an event, whose variable is bound by the event of this number
 abbrev pub meaning : EventNode → Option ℕ → Option NameNode
 meaning (defines kind name) binder = Some (global kind name.text)
 meaning (uses kind name) binder = Some (global kind name.text)
@@ -39,7 +39,7 @@ same_kind kinds.Type kinds.Type = true
 same_kind kinds.Constant kinds.Constant = true
 same_kind _ _ = false
 
--- whether an event names what has this kind and this text
+-- whether an event defines or uses the global name of this kind and text
 abbrev pub gives : Kind → List ℕ → EventNode → Bool
 gives kind text (defines k name) = same_kind kind k && bytes_eq name.text text
 gives kind text (uses k name) = same_kind kind k && bytes_eq name.text text
@@ -54,7 +54,7 @@ abbrev pub is_number : ℕ → Option ℕ → Bool
 is_number n None = false
 is_number n (Some m) = m == n
 
--- whether an event names this
+-- whether an event is one of this name
 abbrev pub is_of : NameNode → SeenNode → Bool
 is_of (global kind text) s = gives kind text s.event
 is_of (variable binder _) s = is_number binder s.binder

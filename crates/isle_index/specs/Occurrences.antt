@@ -1,4 +1,4 @@
--- Where names are written.
+-- Where names occur in the source.
 use Rattle.std.specs.Prelude.{ℕ, ◌+◌, List, [], ◌∷◌, Bool, true, false, ◌&&◌, Option, None, Some, option_and_then, length, filter, nat_le, ◌==◌, if◌then◌else◌}
 use Rattle.std.specs.List.{filter_map}
 use Rattle.isle_base_source.specs.declared.pos.Pos.{Pos}
@@ -10,7 +10,7 @@ use Rattle.isle_index.specs.Scopes.{SeenNode}
 use Rattle.isle_index.specs.Names.{NameNode, is_of, is_number, meaning}
 use Rattle.isle_index.specs.declared.occurrences.Occurrence.{Occurrence}
 
--- how long a name is as it is written: a constant has a `$`
+-- the length of a name in the source: a constant has a `$`
 abbrev pub written_len : Kind → Name → ℕ
 written_len kinds.Term name = length name.text
 written_len kinds.Type name = length name.text
@@ -19,7 +19,7 @@ written_len kinds.Constant name = length name.text + 1
 abbrev pub place : Name → ℕ → Bool → Option Occurrence
 place name len is_definition = Some (record { pos = name.pos; len = len; is_definition = is_definition })
 
--- where the name of an event is written, and whether it is a definition: of a variable, the event that binds it
+-- the occurrence of an event's name. A variable is defined by the event that binds it
 abbrev pub occurrence_of : EventNode → Bool → Option Occurrence
 occurrence_of (defines kind name) own = place name (written_len kind name) true
 occurrence_of (uses kind name) own = place name (written_len kind name) false
@@ -40,7 +40,7 @@ occurrences name ss = filter_map occurrence (filter (is_of name) ss)
 abbrev pub definitions : NameNode → List SeenNode → List Occurrence
 definitions name ss = filter (λ o. o.is_definition) (occurrences name ss)
 
--- whether a place is at one of the bytes of an occurrence, or right after its last
+-- whether a position is at a byte of an occurrence or right after its last one
 abbrev pub covers : Pos → Occurrence → Bool
 covers place o = (o.pos.file == place.file) && nat_le o.pos.offset place.offset && nat_le place.offset (o.pos.offset + o.len)
 
@@ -48,7 +48,7 @@ abbrev pub is_covered : Pos → Option Occurrence → Bool
 is_covered place None = false
 is_covered place (Some o) = covers place o
 
--- the first event at a place
+-- the first event whose name covers a position
 abbrev pub seen_at : Pos → List SeenNode → Option SeenNode
 seen_at place [] = None
 seen_at place (s ∷ ss) = if is_covered place (occurrence s) then Some s else seen_at place ss
@@ -56,6 +56,6 @@ seen_at place (s ∷ ss) = if is_covered place (occurrence s) then Some s else s
 abbrev pub occurrence_at : Pos → List SeenNode → Option Occurrence
 occurrence_at place ss = option_and_then occurrence (seen_at place ss)
 
--- what the name at a place names
+-- the name at a position
 abbrev pub name_at : Pos → List SeenNode → Option NameNode
 name_at place ss = option_and_then (λ s. meaning s.event s.binder) (seen_at place ss)

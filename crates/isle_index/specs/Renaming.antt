@@ -1,4 +1,4 @@
--- When a name may be given another text, and which places change then.
+-- Whether a name can be renamed, and which positions change.
 use Rattle.std.specs.Prelude.{ℕ, List, [], ◌∷◌, Bool, true, false, ◌&&◌, ◌||◌, not, Option, None, Some, Result, Ok, Err, map, filter, codes, if◌then◌else◌, ◌==◌, ◌≡◌}
 use Rattle.std.specs.List.{filter_map, list_any}
 use Rattle.std.specs.List.Sorted.{IsPermutation, IsSorted}
@@ -17,18 +17,18 @@ use Rattle.isle_index.specs.Names.{NameNode, global, variable, gives, is_of, is_
 use Rattle.isle_index.specs.declared.rename.Refusal.{Refusal}
 use Rattle.isle_index.specs.declared.rename.Refusal.TheVariants as refusals
 
--- the words that the grammar reads as something else than a name at some place of a name
+-- the words that the grammar parses as something other than a name, at some place of a name
 abbrev pub is_reserved : List ℕ → Bool
 is_reserved text =
     bytes_eq text (codes "_") || bytes_eq text (codes "true") || bytes_eq text (codes "false") || bytes_eq text (codes "and")
     || bytes_eq text (codes "let") || bytes_eq text (codes "if") || bytes_eq text (codes "rule") || bytes_eq text (codes "pure")
     || bytes_eq text (codes "multi") || bytes_eq text (codes "partial") || bytes_eq text (codes "rec")
 
--- whether a text may be a new name: an identifier, without `$` in front, that is no reserved word
+-- whether a text can be a new name: an identifier that does not begin with `$` and is no reserved word
 abbrev pub is_new_name : List ℕ → Bool
 is_new_name text = is_identifier text && not (begins_with is_dollar text) && not (is_reserved text)
 
--- the name of a variant, where an event gives one of this type
+-- the variant of this type that an event defines, if it defines one
 abbrev pub member_of : List ℕ → EventNode → Option (List ℕ)
 member_of owner (defines_variant o m) = if bytes_eq o.text owner then Some m.text else None
 member_of owner (defines _ _) = None
@@ -43,11 +43,11 @@ member_of owner ends = None
 abbrev pub members : List ℕ → List SeenNode → List (List ℕ)
 members owner ss = filter_map (λ s. member_of owner s.event) ss
 
--- whether a text is that of one of these variants of a type
+-- whether a text is the name of one of these variants of a type
 abbrev pub is_member : List ℕ → List (List ℕ) → List ℕ → Bool
 is_member owner ms text = list_any (λ m. bytes_eq (joined owner m) text) ms
 
--- whether an event writes one of these variants of a type, behind the type's name
+-- whether an event is one of these variants of a type, with the type's name before it
 abbrev pub writes_member : List ℕ → List (List ℕ) → EventNode → Bool
 writes_member owner ms (defines kind name) = same_kind kind kinds.Term && is_member owner ms name.text
 writes_member owner ms (uses kind name) = same_kind kind kinds.Term && is_member owner ms name.text
@@ -73,15 +73,14 @@ variable_text ends = []
 abbrev pub is_variable : ℕ → List ℕ → SeenNode → Bool
 is_variable binder text s = is_number binder s.binder && bytes_eq (variable_text s.event) text
 
--- whether the text of an event changes with the text of a name. With a type the names of its variants change, which
--- are these
+-- whether renaming a name changes the text of an event. A type's variants, which are these, change with it
 abbrev pub changes : List (List ℕ) → NameNode → SeenNode → Bool
 changes ms (global kinds.Type text) s = gives kinds.Type text s.event || writes_member text ms s.event
 changes ms (global kinds.Term text) s = gives kinds.Term text s.event
 changes ms (global kinds.Constant text) s = gives kinds.Constant text s.event
 changes ms (variable binder text) s = is_variable binder text s
 
--- where the name of an event is written
+-- the position of an event's name
 abbrev pub position : EventNode → Option Pos
 position (defines _ name) = Some name.pos
 position (uses _ name) = Some name.pos
@@ -92,12 +91,12 @@ position (reads name) = Some name.pos
 position closes = None
 position ends = None
 
--- the places that change, in the order of the events
+-- the positions that change, in the order of the events
 abbrev pub changed_places : NameNode → List SeenNode → List Pos
 changed_places name ss =
     filter_map (λ s. position s.event) (filter (changes (members (name_text name) ss) name) ss)
 
--- whether an event defines something, where it may be that it binds its variable
+-- whether an event defines something. `own` says whether it binds its variable
 abbrev pub is_definition : EventNode → Bool → Bool
 is_definition (defines _ _) own = true
 is_definition (uses _ _) own = false
@@ -108,7 +107,7 @@ is_definition (reads _) own = own
 is_definition closes own = false
 is_definition ends own = false
 
--- whether an event defines what has this name
+-- whether an event defines this name
 abbrev pub defines_it : NameNode → SeenNode → Bool
 defines_it name s = is_of name s && is_definition s.event (is_number s.number s.binder)
 
@@ -116,7 +115,7 @@ abbrev pub is_variant : EventNode → Bool
 is_variant (defines_variant _ _) = true
 is_variant _ = false
 
--- whether an event gives a variant of this name
+-- whether an event defines a variant of this name
 abbrev pub gives_variant : NameNode → SeenNode → Bool
 gives_variant name s = is_of name s && is_variant s.event
 
@@ -124,11 +123,11 @@ gives_variant name s = is_of name s && is_variant s.event
 abbrev pub has : Kind → List ℕ → List SeenNode → Bool
 has kind text ss = list_any (λ s. gives kind text s.event) ss
 
--- whether one of these variants of a type gets the name of another term
+-- whether the new name of one of these variants of a type is that of another term
 abbrev pub has_member : List ℕ → List (List ℕ) → List SeenNode → Bool
 has_member new ms ss = list_any (λ m. has kinds.Term (joined new m) ss) ms
 
--- whether an event gives a variant of another type that is the same term as one of these variants of a type
+-- whether an event defines a variant of another type that is the same term as one of these variants of a type
 abbrev pub shares : List ℕ → List (List ℕ) → EventNode → Bool
 shares owner ms (defines_variant o m) = not (bytes_eq o.text owner) && is_member owner ms (joined o.text m.text)
 shares owner ms (defines _ _) = false
@@ -142,7 +141,7 @@ shares owner ms ends = false
 abbrev pub type_is_taken : List ℕ → List ℕ → List (List ℕ) → List SeenNode → Bool
 type_is_taken old new ms ss = has kinds.Type new ss || (has_member new ms ss || list_any (λ s. shares old ms s.event) ss)
 
--- whether something else has the new name already. With a type the names of its variants change
+-- whether something else has the new name already, or a type's variant the new name of one of its variants
 abbrev pub is_taken : NameNode → List ℕ → List SeenNode → Bool
 is_taken (global kinds.Type text) new ss = type_is_taken text new (members text ss) ss
 is_taken (global kinds.Term text) new ss = has kinds.Term new ss
@@ -172,12 +171,12 @@ same_binders [] (_ ∷ _) = false
 same_binders (_ ∷ _) [] = false
 same_binders (s ∷ ss) (t ∷ ts) = same_binder s.binder t.binder && same_binders ss ts
 
--- whether some variable has another binder once the variable of this binder has the new text
+-- whether a variable gets another binder when the variable of this binder gets the new text
 abbrev pub is_captured : NameNode → List ℕ → List SeenNode → Bool
 is_captured (global _ _) new ss = false
 is_captured (variable binder old) new ss = not (same_binders (seen (map (renamed_variable binder old new) ss)) ss)
 
--- why a name can't be given a text, if it can't: the first reason that holds
+-- the first reason that holds why a name cannot be renamed, if there is one
 abbrev pub refusal : NameNode → List ℕ → List SeenNode → Option Refusal
 refusal name new ss =
     if not (is_new_name new) then Some refusals.NotAName
@@ -187,13 +186,13 @@ refusal name new ss =
     else if is_captured name new ss then Some refusals.Captured
     else None
 
--- the name can have the text, and these are the places that change, in order
+-- the name can be renamed, and these are the positions that change, in order
 pub record IsAccepted (name : NameNode) (new : List ℕ) (ss : List SeenNode) (places : List Pos) : Type 0 where
   pub accepted : refusal name new ss ≡ None
   pub exact : IsPermutation (changed_places name ss) places
   pub in_order : IsSorted position_cmp places
 
--- the places that change, or why there are none
+-- the positions that change, or why the name cannot be renamed
 abbrev pub IsAnswer : NameNode → List ℕ → List SeenNode → Result (Vec Pos) Refusal → Type 0
 IsAnswer name new ss (Ok places) = IsAccepted name new ss places.items
 IsAnswer name new ss (Err why) = refusal name new ss ≡ Some why

@@ -1,5 +1,5 @@
--- Scopes: which event binds the variable of which event. The events are numbered from 0. The last variable of a name
--- that is bound hides the others.
+-- Scopes: which event binds the variable of an event. The events are numbered from 0. Of several variables of one name
+-- that are bound, the last one hides the others.
 use Rattle.std.specs.Prelude.{ℕ, ◌+◌, ◌-◌, List, [], ◌∷◌, ◌++◌, Option, None, Some, is_some, length, map, take, if◌then◌else◌}
 use Rattle.std.specs.Str.{bytes_eq}
 use Rattle.isle_ast_names.specs.Tree.{Name}
@@ -19,7 +19,7 @@ bound_of b = record { text = b.text.now; number = b.number }
 abbrev pub bounds_of : List Bound → List BoundNode
 bounds_of bs = map bound_of bs
 
--- the first one, where there is one; else the second
+-- the first one if there is one, and otherwise the second
 abbrev pub or_else : Option ℕ → Option ℕ → Option ℕ
 or_else None second = second
 or_else (Some n) second = Some n
@@ -32,7 +32,7 @@ last_bound (b ∷ bs) text = or_else (last_bound bs text) (if bytes_eq b.text te
 abbrev pub bound_more : List BoundNode → Name → ℕ → List BoundNode
 bound_more bound name number = bound ++ record { text = name.text; number = number } ∷ []
 
--- the variables that are bound after an event of this number, where these are bound before it
+-- the variables in scope after an event of this number, if these are in scope before it
 abbrev pub after : EventNode → ℕ → List BoundNode → List BoundNode
 after (defines _ _) number bound = bound
 after (uses _ _) number bound = bound
@@ -43,7 +43,7 @@ after (reads _) number bound = bound
 after closes number bound = take (length bound - 1) bound
 after ends number bound = []
 
--- the number of the event that binds the variable of an event, where it has one
+-- the number of the event that binds the variable of an event, if it has one
 abbrev pub binder : EventNode → ℕ → List BoundNode → Option ℕ
 binder (defines _ _) number bound = None
 binder (uses _ _) number bound = None
@@ -63,7 +63,7 @@ pub record SeenNode : Type 0 where
 abbrev pub seen_of : Seen → SeenNode
 seen_of s = record { event = event_of s.event; number = s.number; binder = s.binder }
 
--- events, the first of which has this number, where these variables are bound before them
+-- events, the first of which has this number. These variables are in scope before them
 abbrev pub seen_from : ℕ → List BoundNode → List EventNode → List SeenNode
 seen_from number bound [] = []
 seen_from number bound (e ∷ es) =

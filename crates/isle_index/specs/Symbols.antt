@@ -1,4 +1,4 @@
--- The names that are defined.
+-- The names that files define.
 use Rattle.std.specs.Prelude.{ℕ, List, Option, None, Some, length, filter, string_bytes, ◌==◌}
 use Rattle.std.specs.List.{filter_map}
 use Rattle.isle_base_source.specs.declared.pos.Pos.{Pos}
@@ -26,7 +26,7 @@ kind_of kinds.Term = symbol_kinds.Term
 kind_of kinds.Type = symbol_kinds.Type
 kind_of kinds.Constant = symbol_kinds.Constant
 
--- what an event defines in the whole program
+-- the global name that an event defines
 abbrev pub symbol : EventNode → Option SymbolNode
 symbol (defines kind name) = Some (record { kind = kind_of kind; text = name.text; pos = name.pos; len = written_len kind name })
 symbol (uses _ _) = None
@@ -38,6 +38,6 @@ symbol (reads _) = None
 symbol closes = None
 symbol ends = None
 
--- what is defined in a file, in order
+-- the names that a file defines, in order
 abbrev pub symbols : ℕ → List SeenNode → List SymbolNode
 symbols file ss = filter (λ s. s.pos.file == file) (filter_map (λ s. symbol s.event) ss)

@@ -1,8 +1,8 @@
-//! The names that may be written at a place.
+//! Completion: the names that can be written at a position.
 
 ghost use Rattle.std.specs.Prelude.{◌≡◌, ◌++◌, ◌∷◌, [], IfOk, OnOk, filter, map, string_bytes};
 ghost use Rattle.std.specs.List.{filter_map};
-ghost use Rattle.isle_index.specs.Candidates.{begins_with, bound_at, candidate_of, candidates};
+ghost use Rattle.isle_index.specs.Candidates.{begins_with, bound_at, candidate_of};
 ghost use Rattle.isle_index.specs.Candidates.{global_candidate, is_behind, is_nearer, nearer_by};
 ghost use Rattle.isle_index.specs.Candidates.{nearest, variable_candidate, visible, written};
 ghost use Rattle.isle_index.specs.Entries.{all_of};
@@ -16,45 +16,24 @@ use crate::symbols::{SymbolKind, defined_symbol};
 use isle_base::lexer::Pos;
 use std::alloc::{AllocError, Global};
 
-/// A name that may be written at a place.
+/// A name that can be written at a position.
 #[derive(Debug, Drop)]
 pub struct Candidate {
-    /// What it is.
     pub kind: SymbolKind,
-    /// Its text as it is written in a rule: of a variant that of the term, `TYPE.VARIANT`, of a
-    /// constant with its `$`.
+    /// Its text in the source of a rule: `TYPE.VARIANT` for a variant, and with its `$` for a
+    /// constant.
     pub text: String,
 }
 
-/// The number of an event, and where its name begins.
+/// The number of an event, and the byte offset of its name.
 #[derive(Clone, Copy)]
 pub struct Near {
-    /// The number.
     pub number: usize,
-    /// The byte offset.
     pub offset: usize,
 }
 
-/// Gives the names that begin so and may be written at a place.
-pub fn candidates(
-    alloc: Global,
-    entries: &Entries,
-    place: Pos,
-    from: usize,
-    prefix: &[u8],
-) -> Result<Vec<Candidate>, AllocError>
-    ensures { IfOk result (λ found. map candidate_of found.items
-        ≡ candidates place from prefix.now (all_of entries.now)) }
-{
-    let mut found = Vec::new(alloc);
-    add_globals(alloc, entries, prefix, &mut found)?;
-    let bound = visible(alloc, entries, place, from)?;
-    add_variables(alloc, &bound, prefix, &mut found)?;
-    Ok(found)
-}
-
-/// Adds what the program defines.
-fn add_globals(
+/// Adds the names that the program defines and that start with `prefix`.
+pub fn add_globals(
     alloc: Global,
     entries: &Entries,
     prefix: &[u8],
@@ -65,17 +44,17 @@ fn add_globals(
         (map global_candidate (filter_map (λ s. symbol s.event) (all_of entries.now)))) }
 {
     for (number, entry) in entries.items.iter().enumerate() {
-        let event = entries.unpacked(number, entry);
+        let event = entries.unpack(number, entry);
         if let Some(symbol) = defined_symbol(alloc, &event.event)? {
-            let text = written(alloc, symbol.kind, symbol.text)?;
+            let text = source_text(alloc, symbol.kind, symbol.text)?;
             add(symbol.kind, text, prefix, found)?;
         }
     }
     Ok(())
 }
 
-/// Gives the text of a symbol as it is written in a rule.
-fn written(alloc: Global, kind: SymbolKind, text: String) -> Result<String, AllocError>
+/// The text of a symbol in the source of a rule.
+fn source_text(alloc: Global, kind: SymbolKind, text: String) -> Result<String, AllocError>
     ensures { IfOk result
         (λ written_text. string_bytes written_text ≡ written kind (string_bytes text)) }
 {
@@ -89,8 +68,8 @@ fn written(alloc: Global, kind: SymbolKind, text: String) -> Result<String, Allo
     }
 }
 
-/// Adds variables.
-fn add_variables(
+/// Adds the variables that start with `prefix`.
+pub fn add_variables(
     alloc: Global,
     bound: &[Bound],
     prefix: &[u8],
@@ -107,7 +86,7 @@ fn add_variables(
     Ok(())
 }
 
-/// Adds a name, if it begins so.
+/// Adds a name if it starts with `prefix`.
 fn add(
     kind: SymbolKind,
     text: String,
@@ -124,9 +103,9 @@ fn add(
     Ok(())
 }
 
-/// Gives the variables that are bound at the name that begins last at a place or before it, if it
-/// begins at this byte offset or after it.
-fn visible<'a>(
+/// The variables in scope at the last name that begins at or before `place`, if that name begins at
+/// the byte offset `from` or after it.
+pub fn visible_variables<'a>(
     alloc: Global,
     entries: &Entries<'a>,
     place: Pos,
@@ -135,26 +114,25 @@ fn visible<'a>(
     ensures { IfOk result
         (λ bound. bounds_of bound.items ≡ visible place from (all_of entries.now)) }
 {
-    match nearest(entries, place) {
-        Some(near) if from <= near.offset => bound_at(alloc, entries, near.number),
+    match nearest_name(entries, place) {
+        Some(near) if from <= near.offset => variables_at(alloc, entries, near.number),
         _ => Ok(Vec::new(alloc)),
     }
 }
 
-/// Gives the name that begins last at a place or before it.
-fn nearest(entries: &Entries, place: Pos) -> Option<Near>
+/// The last name that begins at or before `place`, in its file.
+fn nearest_name(entries: &Entries, place: Pos) -> Option<Near>
     ensures { result ≡ nearest place None (all_of entries.now) }
 {
     let mut best = None;
     for (number, entry) in entries.items.iter().enumerate() {
-        let event = entries.unpacked(number, entry);
-        best = nearer(place, best, event.number, occurrence_in(&event));
+        let event = entries.unpack(number, entry);
+        best = nearer_of(place, best, event.number, occurrence_in(&event));
     }
     best
 }
 
-/// Gives the nearer of two names.
-fn nearer(
+fn nearer_of(
     place: Pos,
     best: Option<Near>,
     number: usize,
@@ -171,17 +149,16 @@ fn nearer(
     }
 }
 
-/// Tells whether a name begins at a place or before it, and not before the best one.
+/// Returns whether a name begins at or before `place`, and not before the best one so far.
 fn is_nearer(place: Pos, best: Option<Near>, occurrence: &Occurrence) -> bool
     ensures { result ≡ is_nearer place best occurrence.now }
 {
     occurrence.pos.file == place.file
         && occurrence.pos.offset <= place.offset
-        && is_behind(best, occurrence.pos.offset)
+        && is_not_before(best, occurrence.pos.offset)
 }
 
-/// Tells whether an offset is not before that of the best name, if there is one.
-fn is_behind(best: Option<Near>, offset: usize) -> bool
+fn is_not_before(best: Option<Near>, offset: usize) -> bool
     ensures { result ≡ is_behind best offset }
 {
     match best {
@@ -190,8 +167,8 @@ fn is_behind(best: Option<Near>, offset: usize) -> bool
     }
 }
 
-/// Gives the variables that are bound after the event of this number.
-fn bound_at<'a>(
+/// The variables in scope after the event of this number.
+fn variables_at<'a>(
     alloc: Global,
     entries: &Entries<'a>,
     number: usize,
@@ -201,7 +178,7 @@ fn bound_at<'a>(
 {
     let mut bound = Vec::new(alloc);
     for (index, entry) in entries.items.iter().enumerate() {
-        let event = entries.unpacked(index, entry);
+        let event = entries.unpack(index, entry);
         bind(&event.event, event.number, &mut bound)?;
         if event.number == number {
             return Ok(bound);

@@ -6,16 +6,15 @@ ghost use Rattle.isle_ast.specs.Tree.{Definition};
 ghost use Rattle.isle_ast_names.specs.Tree.{Name};
 ghost use Rattle.isle_base_source.specs.declared.pos.Pos.{Pos};
 ghost use Rattle.isle_index.specs.Names.{NameNode, is_of, name_text};
-ghost use Rattle.isle_index.specs.Renamed.{Renames, after_renaming, are_apart, places_of};
-ghost use Rattle.isle_index.specs.Renamed.{replaced};
+ghost use Rattle.isle_index.specs.Renamed.{Renames, after_renaming, are_apart, places_of, replaced};
 ghost use Rattle.isle_index.specs.Renaming.{IsAccepted, refusal};
 ghost use Rattle.isle_index.specs.Scopes.{seen};
 ghost use Rattle.isle_resolve.specs.Events.{events};
 ghost use Rattle.isle_resolve.specs.Mapped.{map_definitions};
 
-/// A law, which runs no code: the places that `Index::rename` gives are those of the name. Where no
-/// two names of the definitions stand at one place, replacing the old text by the new one at these
-/// places gives the name its new text, and leaves all other names as they are.
+/// A law, which runs no code: the positions that `Index::rename` returns are those of the name. If
+/// no two names of the definitions are at one position, replacing the old text by the new one at
+/// these positions gives the name its new text, and leaves all other names as they are.
 pub fn places_are_those_of_the_name()
     ensures { (ds : List Definition) (name : NameNode) (new : List ℕ) (places : List Pos)
         → are_apart (places_of (seen (events ds))) ≡ true
@@ -23,10 +22,10 @@ pub fn places_are_those_of_the_name()
         → Renames (replaced places (name_text name) new) name new (seen (events ds)) }
 {}
 
-/// A law, which runs no code: renaming keeps what names mean. Where `Index::rename` gives places,
-/// and the name has the new text there in the definitions, each name of the program is named at
-/// exactly the places where it was: the name itself with its new text, and every other name as it
-/// was. So no variable is captured, and no two names become one.
+/// A law, which runs no code: renaming keeps what names mean. If `Index::rename` returns positions,
+/// and the definitions get the new text there, each name of the program occurs at exactly the
+/// positions where it did before: the name itself with its new text, and every other name with its
+/// own. So no variable is captured, and no two names become one.
 pub fn renaming_keeps_what_names_mean()
     ensures { (ds : List Definition) (name : NameNode) (new : List ℕ) (f : Name → Name)
         → refusal name new (seen (events ds)) ≡ None

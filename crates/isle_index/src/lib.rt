@@ -1,12 +1,11 @@
-//! The index of a program of ISLE: what names there are, and where they are defined and used, by
-//! ISLE's scopes.
+//! The index of an ISLE program: its names, and where each is defined and used by ISLE's scopes.
 //!
-//! Names are terms (variants of types among them, as `TYPE.VARIANT`), types, constants, and the
-//! variables of a rule or an extractor. The first occurrence of a variable in a rule's patterns
-//! binds it, and every other one uses it; a condition's expression comes before its pattern; a
-//! `let`'s definition is seen by the later ones and by its body. The parameters of an extractor and
-//! the variables of its template are the extractor's own. What stands inside specs and models is
-//! not indexed.
+//! A name is a term (or a variant of a type, as `TYPE.VARIANT`), a type, a constant, or a variable
+//! of a rule or an extractor. The first occurrence of a variable in a rule's patterns binds it, and
+//! every later one uses it. A condition's expression comes before its pattern. A definition of a
+//! `let` is in scope in the later ones and in the body. The parameters of an extractor and the
+//! variables of its template are local to the extractor. Names inside specs and models are not
+//! indexed.
 #![tactic(auto)]
 
 ghost use Rattle.std.specs.Prelude.{◌≡◌, ◌++◌, [], IfOk, List, OnOk, length, map, option_map};
@@ -35,6 +34,7 @@ mod scopes;
 mod symbols;
 
 pub use candidates::Candidate;
+use candidates::{add_globals, add_variables, visible_variables};
 use entries::{Entries, Entry};
 use isle_ast::ast::Def;
 use isle_base::lexer::Pos;
@@ -42,16 +42,19 @@ use isle_resolve::event::Event;
 pub use isle_resolve::event::Kind;
 use isle_resolve::events;
 pub use names::Name;
+use names::meaning;
 use numbers::Texts;
 pub use occurrences::Occurrence;
+use occurrences::{event_at, occurrence_in};
 pub use rename::Refusal;
+use rename::{changed_places, refusal_for};
 use scopes::bind;
 use std::alloc::{AllocError, Global};
 use std::slice;
+use symbols::defined_symbol;
 pub use symbols::{Symbol, SymbolKind};
 
-/// The index of a program: its names, each where it is written. It holds what it needs, and borrows
-/// no tree.
+/// The index of a program. It borrows no tree.
 #[derive(Drop)]
 pub struct Index {
     texts: Texts,
@@ -59,7 +62,7 @@ pub struct Index {
 }
 
 impl Index {
-    /// Makes an index that holds nothing.
+    /// Makes an empty index.
     pub fn new(alloc: Global) -> Self
         ensures { IsIndexOf [] result }
     {
@@ -69,11 +72,10 @@ impl Index {
         }
     }
 
-    /// Adds definitions behind those that the index holds. The files are numbered as in the
-    /// positions of the definitions; a file that isn't parsed can be left out. An `Err` means that
-    /// memory ran out, and that some of the definitions may have been added: the index is of no use
-    /// then. Numbers past 2^32 are out of memory: no index holds as many texts or names, nor places
-    /// in as many files or past as many bytes of one.
+    /// Adds definitions after those in the index. Files are numbered as in the positions of the
+    /// definitions, and a file that does not parse can be left out. An `Err` means out of memory,
+    /// and that some of the definitions may have been added, so drop the index then. Numbers of
+    /// texts, names and files and byte offsets past `u32::MAX` count as out of memory.
     pub fn add(&mut self, alloc: Global, defs: &[Def]) -> Result<(), AllocError>
         ensures { OnOk result ((ds : List Definition) → IsIndexOf ds self.old
             → IsIndexOf (ds ++ definitions_of defs.now) self.new) }
@@ -85,7 +87,7 @@ impl Index {
         Ok(())
     }
 
-    /// Adds events, where no variable is bound before them.
+    /// Adds events, with no variable in scope before them.
     fn add_events(&mut self, alloc: Global, events: &[Event]) -> Result<(), AllocError>
         ensures { OnOk result (Adds (seen_from (length self.old.entries.items) []
             (events_of events.now)) self.old self.new) }
@@ -100,7 +102,6 @@ impl Index {
         Ok(())
     }
 
-    /// Gives all entries, to be read.
     fn entries(&self) -> Entries<'_>
         ensures { all_of result ≡ all_in self.now }
     {
@@ -110,25 +111,30 @@ impl Index {
         }
     }
 
-    /// Gives the occurrence at a place: that of the name one of whose bytes is there, or which ends
-    /// there.
+    /// The occurrence of a name at `place`: one of its bytes is there, or it ends there.
     pub fn occurrence_at(&self, place: Pos) -> Option<Occurrence>
         ensures { result ≡ occurrence_at place (all_in self.now) }
     {
-        occurrences::occurrence_at(&self.entries(), place)
+        match event_at(&self.entries(), place) {
+            Some(event) => occurrence_in(&event),
+            None => None,
+        }
     }
 
-    /// Gives what the name at a place names. There is none where no name is at the place, and where
-    /// nothing binds the variable there. An `Err` means that memory ran out.
+    /// The name at `place`: `None` if no name is there, or a variable that nothing binds. An `Err`
+    /// means out of memory.
     pub fn name_at(&self, alloc: Global, place: Pos) -> Result<Option<Name>, AllocError>
         ensures { IfOk result (λ name. option_map named_of name
             ≡ name_at place (all_in self.now)) }
     {
-        occurrences::name_at(alloc, &self.entries(), place)
+        match event_at(&self.entries(), place) {
+            Some(event) => meaning(alloc, &event),
+            None => Ok(None),
+        }
     }
 
-    /// Gives all occurrences of a name of this index, each once, in the order of places. An `Err`
-    /// means that memory ran out.
+    /// All occurrences of a name of this index, each once, in order of position. An `Err` means out
+    /// of memory.
     pub fn occurrences(&self, alloc: Global, name: &Name) -> Result<Vec<Occurrence>, AllocError>
         ensures exact { IfOk result (λ found. IsPermutation
             (occurrences (named_of name.now) (all_in self.now)) found.items) }
@@ -140,10 +146,9 @@ impl Index {
         Ok(found)
     }
 
-    /// Gives the definitions of a name of this index, in the order of places: of a term its `decl`
-    /// or its variant, of a type its `type`, of a constant its `extern const`, of a variable the
-    /// occurrence that binds it. Where the program is whole there is one. An `Err` means that
-    /// memory ran out.
+    /// The definitions of a name of this index, in order of position: the `decl` or variant of a
+    /// term, the `type` of a type, the `extern const` of a constant, the binding occurrence of a
+    /// variable. In a complete program there is one. An `Err` means out of memory.
     pub fn definitions(&self, alloc: Global, name: &Name) -> Result<Vec<Occurrence>, AllocError>
         ensures exact { IfOk result (λ found. IsPermutation
             (definitions (named_of name.now) (all_in self.now)) found.items) }
@@ -155,21 +160,29 @@ impl Index {
         Ok(found)
     }
 
-    /// Gives what the file of this number defines, in the order in which it stands there. An `Err`
-    /// means that memory ran out.
+    /// The names that the file of this number defines, in source order. An `Err` means out of
+    /// memory.
     pub fn symbols(&self, alloc: Global, file: usize) -> Result<Vec<Symbol>, AllocError>
         ensures { IfOk result (λ found. map symbol_of found.items
             ≡ symbols file (all_in self.now)) }
     {
-        symbols::symbols(alloc, &self.entries(), file)
+        let entries = self.entries();
+        let mut found = Vec::new(alloc);
+        for (number, entry) in entries.items.iter().enumerate() {
+            let event = entries.unpack(number, entry);
+            if let Some(symbol) = defined_symbol(alloc, &event.event)? {
+                if symbol.pos.file == file {
+                    found.push(symbol)?;
+                }
+            }
+        }
+        Ok(found)
     }
 
-    /// Gives the names that may be written at a place and whose texts, as they are written there,
-    /// begin with these bytes: all that the program defines, and the variables that are bound at
-    /// the name that begins last at the place or before it, if it begins at the byte offset `from`
-    /// or after it. So where a definition around the place begins at `from`, the variables of
-    /// earlier ones are left out. A name that is defined twice, or bound twice, is there twice. An
-    /// `Err` means that memory ran out.
+    /// Completion candidates at `place` that start with `prefix`: every name that the program
+    /// defines, and the variables in scope at the last name that begins in `from..=place.offset`.
+    /// Pass the byte offset of the enclosing definition as `from`. May contain duplicates. An `Err`
+    /// means out of memory.
     pub fn candidates(
         &self,
         alloc: Global,
@@ -180,14 +193,18 @@ impl Index {
         ensures { IfOk result (λ found. map candidate_of found.items
             ≡ candidates place from prefix.now (all_in self.now)) }
     {
-        candidates::candidates(alloc, &self.entries(), place, from, prefix)
+        let entries = self.entries();
+        let mut found = Vec::new(alloc);
+        add_globals(alloc, &entries, prefix, &mut found)?;
+        let bound = visible_variables(alloc, &entries, place, from)?;
+        add_variables(alloc, &bound, prefix, &mut found)?;
+        Ok(found)
     }
 
-    /// Gives the places that change where a name of this index gets a new text, in order, or says
-    /// why it can't get it. At each place the bytes of the old text give way to the new one: from
-    /// the place on, of a constant from the byte after its `$` on. With a type the names of its
-    /// variants change, of which the type's name is the first part. An `Err` means that memory ran
-    /// out.
+    /// The positions to edit to rename `name`, a name of this index, to `new`, in order, or why it
+    /// cannot be renamed. Each edit replaces the old text by the new one; a constant's edit starts
+    /// after its `$`. Renaming a type also edits the first part of its variants' names,
+    /// `TYPE.VARIANT`. An `Err` means out of memory.
     pub fn rename(
         &self,
         alloc: Global,
@@ -197,6 +214,14 @@ impl Index {
         ensures { IfOk result
             (IsAnswer (named_of name.now) new.now (all_in self.now)) }
     {
-        rename::rename(alloc, &self.entries(), name, new)
+        let entries = self.entries();
+        match refusal_for(alloc, &entries, name, new)? {
+            Some(refusal) => Ok(Err(refusal)),
+            None => {
+                let mut places = changed_places(alloc, &entries, name)?;
+                places.sort()?;
+                Ok(Ok(places))
+            }
+        }
     }
 }

@@ -1,4 +1,4 @@
-//! What events name.
+//! Names, and which events name which.
 
 ghost use Rattle.std.specs.Prelude.{◌≡◌, ◌++◌, IfOk, codes, option_map, string_bytes};
 ghost use Rattle.std.specs.Str.{bytes_eq};
@@ -14,24 +14,21 @@ use std::alloc::{AllocError, Global};
 /// A name of an index.
 #[derive(Debug, Drop)]
 pub enum Name {
-    /// A name that holds in the whole program.
+    /// A name that is visible in the whole program.
     Global {
-        /// What it names.
         kind: Kind,
-        /// Its text: of a variant that of the term, `TYPE.VARIANT`, of a constant without its `$`.
+        /// Its text: `TYPE.VARIANT` for a variant, and without its `$` for a constant.
         text: String,
     },
     /// A variable of a rule or an extractor.
     Variable {
-        /// The number of the event that binds it, in the index that gave the name.
+        /// The number of the event that binds it, in the index that returned the name.
         binder: usize,
-        /// Its text.
         text: String,
     },
 }
 
 impl Name {
-    /// Gives the text of the name.
     pub fn text(&self) -> &str
         ensures { result.now ≡ name_text (named_of self.now) }
     {
@@ -40,7 +37,7 @@ impl Name {
         }
     }
 
-    /// Tells whether an event names this.
+    /// Returns whether an event is one of this name.
     pub fn is_of(&self, seen: &Seen) -> bool
         ensures { result ≡ is_of (named_of self.now) (seen_of seen.now) }
     {
@@ -51,37 +48,42 @@ impl Name {
     }
 }
 
-/// Gives what an event names.
+/// The name of an event. There is none for an unbound variable and for the end of a scope.
 pub fn meaning(alloc: Global, seen: &Seen) -> Result<Option<Name>, AllocError>
     ensures { IfOk result (λ name. option_map named_of name
         ≡ meaning (event_of seen.now.event) seen.now.binder) }
 {
     match &seen.event {
-        Event::Defines(kind, word) | Event::Uses(kind, word) => global(alloc, *kind, word.text),
+        Event::Defines(kind, word) | Event::Uses(kind, word) => global_name(
+            alloc, *kind, word.text,
+        ),
         Event::DefinesVariant { owner, member } => {
-            let text = joined(alloc, owner.text, member.text)?;
+            let text = full_name(alloc, owner.text, member.text)?;
             Ok(Some(Name::Global {
                 kind: Kind::Term,
                 text,
             }))
         }
         Event::Occurs(word) | Event::Binds(word) | Event::Reads(word) => {
-            variable(alloc, seen.binder, word)
+            variable_name(alloc, seen.binder, word)
         }
         Event::Closes | Event::Ends => Ok(None),
     }
 }
 
-/// Makes the name of what holds in the whole program.
-fn global(alloc: Global, kind: Kind, text: &str) -> Result<Option<Name>, AllocError>
+fn global_name(alloc: Global, kind: Kind, text: &str) -> Result<Option<Name>, AllocError>
     ensures { IfOk result (λ name. option_map named_of name ≡ Some (global kind text.now)) }
 {
     let text = String::from_str(alloc, text)?;
     Ok(Some(Name::Global { kind, text }))
 }
 
-/// Makes the name of a variable, if it is bound.
-fn variable(alloc: Global, binder: Option<usize>, word: &Word) -> Result<Option<Name>, AllocError>
+/// The name of a variable, if it is bound.
+fn variable_name(
+    alloc: Global,
+    binder: Option<usize>,
+    word: &Word,
+) -> Result<Option<Name>, AllocError>
     ensures { IfOk result (λ name. option_map named_of name
         ≡ option_map (λ b. variable b word.now.text.now) binder) }
 {
@@ -94,8 +96,8 @@ fn variable(alloc: Global, binder: Option<usize>, word: &Word) -> Result<Option<
     }
 }
 
-/// Gives the term that a variant of a type is.
-pub fn joined(alloc: Global, owner: &str, member: &str) -> Result<String, AllocError>
+/// The name of a variant as a term, `OWNER.MEMBER`.
+pub fn full_name(alloc: Global, owner: &str, member: &str) -> Result<String, AllocError>
     ensures { IfOk result (λ text. string_bytes text ≡ joined owner.now member.now) }
 {
     let mut text = String::from_str(alloc, owner)?;
@@ -104,7 +106,6 @@ pub fn joined(alloc: Global, owner: &str, member: &str) -> Result<String, AllocE
     Ok(text)
 }
 
-/// Tells whether two kinds are the same.
 fn same_kind(first: Kind, second: Kind) -> bool
     ensures { result ≡ same_kind first second }
 {
@@ -115,7 +116,7 @@ fn same_kind(first: Kind, second: Kind) -> bool
     }
 }
 
-/// Tells whether an event names what has this kind and this text.
+/// Returns whether an event defines or uses the global name of this kind and text.
 pub fn gives(event: &Event, kind: Kind, text: &str) -> bool
     ensures { result ≡ gives kind text.now (event_of event.now) }
 {
@@ -124,7 +125,7 @@ pub fn gives(event: &Event, kind: Kind, text: &str) -> bool
             same_kind(kind, *other) && word.text == text
         }
         Event::DefinesVariant { owner, member } => {
-            same_kind(kind, Kind::Term) && is_joined(text, owner.text, member.text)
+            same_kind(kind, Kind::Term) && is_full_name(text, owner.text, member.text)
         }
         Event::Occurs(_) | Event::Binds(_) | Event::Reads(_) | Event::Closes | Event::Ends => {
             false
@@ -132,15 +133,15 @@ pub fn gives(event: &Event, kind: Kind, text: &str) -> bool
     }
 }
 
-/// Tells whether a text is that of the term that a variant of a type is.
-pub fn is_joined(text: &str, owner: &str, member: &str) -> bool
+/// Returns whether `text` is `OWNER.MEMBER`.
+pub fn is_full_name(text: &str, owner: &str, member: &str) -> bool
     ensures { result ≡ bytes_eq (joined owner.now member.now) text.now }
 {
-    are_joined(text.as_bytes(), owner.as_bytes(), member.as_bytes())
+    is_dotted(text.as_bytes(), owner.as_bytes(), member.as_bytes())
 }
 
-/// Tells whether bytes are a first part, a dot and a last part.
-fn are_joined(bytes: &[u8], first: &[u8], last: &[u8]) -> bool
+/// Returns whether `bytes` are `first`, a dot and `last`.
+fn is_dotted(bytes: &[u8], first: &[u8], last: &[u8]) -> bool
     ensures { result ≡ bytes_eq (first.now ++ codes "." ++ last.now) bytes.now }
 {
     match bytes.strip_prefix(first) {
@@ -152,12 +153,8 @@ fn are_joined(bytes: &[u8], first: &[u8], last: &[u8]) -> bool
     }
 }
 
-/// Tells whether there is a number, and it is this one.
 pub fn is_number(number: usize, other: Option<usize>) -> bool
     ensures { result ≡ is_number number other }
 {
-    match other {
-        Some(other) => other == number,
-        None => false,
-    }
+    other == Some(number)
 }

@@ -1,4 +1,4 @@
-//! The texts of an index, each under one number.
+//! The texts of an index, each stored once and known by a number.
 
 ghost use Rattle.std.specs.Prelude.{◌≡◌, [], IfOk, IfSome, OnOk, Some};
 ghost use Rattle.isle_index.specs.Entries.{text_in, with_binder};
@@ -7,22 +7,20 @@ ghost use Rattle.isle_index.specs.Scopes.{binder, bounds_of};
 ghost use Rattle.isle_resolve.specs.EventView.{event_of, word_of};
 
 use crate::entries::{Entry, Spot};
-use crate::scopes::{Bound, last_bound};
+use crate::scopes::{Bound, last_binder};
 use isle_resolve::event::{Event, Word};
 use std::alloc::{AllocError, Global};
 use std::collections::HashMap;
 
-/// Texts, and the number of each.
 #[derive(Drop)]
 pub struct Texts {
-    /// The texts, by their numbers.
+    /// The text of each number.
     pub items: Vec<String>,
-    /// The numbers, by the texts.
+    /// The number of each text.
     numbers: HashMap<String, u32>,
 }
 
 impl Texts {
-    /// Makes no texts.
     pub fn new(alloc: Global) -> Self
         ensures { result.items.items ≡ [] }
     {
@@ -32,7 +30,8 @@ impl Texts {
         }
     }
 
-    /// Makes the entry of an event, where these variables are bound.
+    /// Packs an event that has this number and stores its texts. The variables `bound` are bound
+    /// before it.
     pub fn entry_of(
         &mut self,
         alloc: Global,
@@ -54,13 +53,13 @@ impl Texts {
                 Ok(Entry::DefinesVariant { owner, member })
             }
             Event::Occurs(word) => {
-                let binder = last_bound(bound, word.text).unwrap_or(number);
-                let binder = small(binder)?;
+                let binder = last_binder(bound, word.text).unwrap_or(number);
+                let binder = narrow(binder)?;
                 Ok(Entry::Occurs(self.spot_of(alloc, word)?, binder))
             }
             Event::Binds(word) => Ok(Entry::Binds(self.spot_of(alloc, word)?)),
             Event::Reads(word) => {
-                let binder = small_or_none(last_bound(bound, word.text))?;
+                let binder = narrow_option(last_binder(bound, word.text))?;
                 Ok(Entry::Reads(self.spot_of(alloc, word)?, binder))
             }
             Event::Closes => Ok(Entry::Closes),
@@ -68,30 +67,30 @@ impl Texts {
         }
     }
 
-    /// Holds the text of a word, and gives where the word is.
+    /// Packs a name and stores its text.
     fn spot_of(&mut self, alloc: Global, word: &Word) -> Result<Spot, AllocError>
         ensures is { IfOk result (IsSpotOf self.new.items.items (word_of word.now)) }
         ensures kept { OnOk result (Extends self.old.items.items self.new.items.items) }
     {
         let text = self.number_of(alloc, word.text)?;
-        let file = small(word.pos.file)?;
-        let offset = small(word.pos.offset)?;
+        let file = narrow(word.pos.file)?;
+        let offset = narrow(word.pos.offset)?;
         Ok(Spot { text, file, offset })
     }
 
-    /// Gives the number of a text, and holds the text if it isn't held.
+    /// The number of a text, which is stored unless it was before.
     fn number_of(&mut self, alloc: Global, text: &str) -> Result<u32, AllocError>
         ensures is { IfOk result (λ number. text_in self.new.items.items number ≡ Some text.now) }
         ensures kept { OnOk result (Extends self.old.items.items self.new.items.items) }
     {
-        match self.known(text) {
+        match self.find(text) {
             Some(number) => Ok(number),
-            None => self.hold(alloc, text),
+            None => self.store(alloc, text),
         }
     }
 
-    /// Gives the number of a text that is held.
-    fn known(&self, text: &str) -> Option<u32>
+    /// The number of a stored text.
+    fn find(&self, text: &str) -> Option<u32>
         ensures { IfSome result (λ number. text_in self.now.items.items number ≡ Some text.now) }
     {
         let number = self.numbers.get(text)?;
@@ -101,35 +100,30 @@ impl Texts {
         }
     }
 
-    /// Holds a text, and gives its number.
-    fn hold(&mut self, alloc: Global, text: &str) -> Result<u32, AllocError>
+    /// Stores a new text and returns its number.
+    fn store(&mut self, alloc: Global, text: &str) -> Result<u32, AllocError>
         ensures is { IfOk result (λ number. text_in self.new.items.items number ≡ Some text.now) }
         ensures kept { OnOk result (Extends self.old.items.items self.new.items.items) }
     {
-        let number = small(self.items.len())?;
+        let number = narrow(self.items.len())?;
         self.items.push(String::from_str(alloc, text)?)?;
         self.numbers.insert(String::from_str(alloc, text)?, number)?;
         Ok(number)
     }
 }
 
-/// Gives the same number. Where it is past `u32`, it is out of memory: texts and events are fewer,
-/// and texts are shorter.
-fn small(number: usize) -> Result<u32, AllocError>
+/// Converts a number to `u32`. A larger one counts as out of memory.
+fn narrow(number: usize) -> Result<u32, AllocError>
     ensures { IfOk result (λ same. same ≡ number) }
 {
-    match u32::try_from(number) {
-        Ok(number) => Ok(number),
-        Err(_) => Err(AllocError),
-    }
+    u32::try_from(number).map_err(|_| AllocError)
 }
 
-/// Gives the same number, if there is one.
-fn small_or_none(number: Option<usize>) -> Result<Option<u32>, AllocError>
+fn narrow_option(number: Option<usize>) -> Result<Option<u32>, AllocError>
     ensures { IfOk result (λ same. same ≡ number) }
 {
     match number {
-        Some(number) => Ok(Some(small(number)?)),
+        Some(number) => Ok(Some(narrow(number)?)),
         None => Ok(None),
     }
 }

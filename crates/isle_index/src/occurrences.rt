@@ -1,34 +1,33 @@
-//! Where names are written.
+//! Where names occur in the source.
 
-ghost use Rattle.std.specs.Prelude.{◌≡◌, ◌++◌, IfOk, OnOk, length, option_and_then, option_map};
+ghost use Rattle.std.specs.Prelude.{◌≡◌, IfOk, option_map};
 ghost use Rattle.isle_index.specs.Entries.{all_of};
 ghost use Rattle.isle_index.specs.Names.{named_of};
-ghost use Rattle.isle_index.specs.Occurrences.{covers, definitions, is_covered, name_at};
-ghost use Rattle.isle_index.specs.Occurrences.{occurrence, occurrence_at, occurrence_of};
+ghost use Rattle.isle_index.specs.Occurrences.{covers, definitions, is_covered, occurrence};
 ghost use Rattle.isle_index.specs.Occurrences.{occurrences, place, seen_at, written_len};
 ghost use Rattle.isle_index.specs.Scopes.{seen_of};
-ghost use Rattle.isle_resolve.specs.EventView.{event_of, word_of};
+ghost use Rattle.isle_resolve.specs.EventView.{word_of};
 
 use crate::entries::Entries;
-use crate::names::{Name, is_number, meaning};
+use crate::names::{Name, is_number};
 use crate::scopes::Seen;
 use isle_base::lexer::Pos;
 use isle_resolve::event::{Event, Kind, Word};
 use std::alloc::{AllocError, Global};
 
-/// A name where it is written. Occurrences are ordered by place.
+/// A name as it occurs in the source. Occurrences are ordered by position.
 #[derive(Clone, Copy, Debug, PartialEq, Eq, PartialOrd, Ord)]
 pub struct Occurrence {
-    /// The position of its first byte: of a constant that of the `$`.
+    /// The position of its first byte, which for a constant is the `$`.
     pub pos: Pos,
-    /// How many bytes it has: of a variant in its type those of its own name, of a constant those
-    /// of the name and the `$`.
+    /// Its length in bytes. The `$` of a constant counts, and a variant's definition has only its
+    /// own name, without the type.
     pub len: usize,
-    /// Whether the name is defined here; of a variable, whether it is bound here.
+    /// Whether the name is defined here, or the variable bound here.
     pub is_definition: bool,
 }
 
-/// Gives the occurrences of a name, in the order of the events.
+/// The occurrences of a name, in the order of the events.
 pub fn occurrences(
     alloc: Global,
     entries: &Entries,
@@ -39,7 +38,7 @@ pub fn occurrences(
 {
     let mut found = Vec::new(alloc);
     for (number, entry) in entries.items.iter().enumerate() {
-        let event = entries.unpacked(number, entry);
+        let event = entries.unpack(number, entry);
         if name.is_of(&event) {
             if let Some(occurrence) = occurrence_in(&event) {
                 found.push(occurrence)?;
@@ -49,7 +48,7 @@ pub fn occurrences(
     Ok(found)
 }
 
-/// Gives the definitions of a name, in the order of the events.
+/// The occurrences that define a name, in the order of the events.
 pub fn definitions(
     alloc: Global,
     entries: &Entries,
@@ -68,7 +67,7 @@ pub fn definitions(
     Ok(found)
 }
 
-/// Gives where the name of an event is written, if it has one.
+/// The occurrence of an event's name, if it has one.
 pub fn occurrence_in(seen: &Seen) -> Option<Occurrence>
     ensures { result ≡ occurrence (seen_of seen.now) }
 {
@@ -84,7 +83,7 @@ pub fn occurrence_in(seen: &Seen) -> Option<Occurrence>
     }
 }
 
-/// Gives how long a name is as it is written.
+/// The length of a name in the source, in bytes.
 pub fn written_len(kind: Kind, word: &Word) -> usize
     ensures { result ≡ written_len kind (word_of word.now) }
 {
@@ -94,7 +93,6 @@ pub fn written_len(kind: Kind, word: &Word) -> usize
     }
 }
 
-/// Makes the occurrence of a name.
 fn place(word: &Word, len: usize, is_definition: bool) -> Option<Occurrence>
     ensures { result ≡ place (word_of word.now) len is_definition }
 {
@@ -105,33 +103,12 @@ fn place(word: &Word, len: usize, is_definition: bool) -> Option<Occurrence>
     })
 }
 
-/// Gives the occurrence at a place.
-pub fn occurrence_at(entries: &Entries, place: Pos) -> Option<Occurrence>
-    ensures { result ≡ occurrence_at place (all_of entries.now) }
-{
-    match seen_at(entries, place) {
-        Some(event) => occurrence_in(&event),
-        None => None,
-    }
-}
-
-/// Gives what the name at a place names.
-pub fn name_at(alloc: Global, entries: &Entries, place: Pos) -> Result<Option<Name>, AllocError>
-    ensures { IfOk result
-        (λ name. option_map named_of name ≡ name_at place (all_of entries.now)) }
-{
-    match seen_at(entries, place) {
-        Some(event) => meaning(alloc, &event),
-        None => Ok(None),
-    }
-}
-
-/// Gives the first event at a place.
-fn seen_at<'a>(entries: &Entries<'a>, place: Pos) -> Option<Seen<'a>>
+/// The first event whose name covers `place`.
+pub fn event_at<'a>(entries: &Entries<'a>, place: Pos) -> Option<Seen<'a>>
     ensures { option_map seen_of result ≡ seen_at place (all_of entries.now) }
 {
     for (number, entry) in entries.items.iter().enumerate() {
-        let event = entries.unpacked(number, entry);
+        let event = entries.unpack(number, entry);
         if is_covered(place, occurrence_in(&event)) {
             return Some(event);
         }
@@ -139,7 +116,6 @@ fn seen_at<'a>(entries: &Entries<'a>, place: Pos) -> Option<Seen<'a>>
     None
 }
 
-/// Tells whether there is an occurrence and it is at a place.
 fn is_covered(place: Pos, occurrence: Option<Occurrence>) -> bool
     ensures { result ≡ is_covered place occurrence }
 {
@@ -149,7 +125,7 @@ fn is_covered(place: Pos, occurrence: Option<Occurrence>) -> bool
     }
 }
 
-/// Tells whether a place is at one of the bytes of an occurrence, or right after its last.
+/// Returns whether `place` is at a byte of the occurrence or right after its last one.
 fn covers(place: Pos, occurrence: &Occurrence) -> bool
     ensures { result ≡ covers place occurrence.now }
 {

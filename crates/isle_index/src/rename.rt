@@ -1,10 +1,10 @@
-//! When a name may get another text, and which places change then.
+//! Renaming: whether a name can get another text, and which positions change.
 
-ghost use Rattle.std.specs.Prelude.{◌≡◌, ◌++◌, IfOk, OnOk, map, not, option_map};
+ghost use Rattle.std.specs.Prelude.{◌≡◌, IfOk, map, option_map};
 ghost use Rattle.std.specs.List.{list_any};
 ghost use Rattle.isle_index.specs.Entries.{all_of};
 ghost use Rattle.isle_index.specs.Names.{is_number, named_of};
-ghost use Rattle.isle_index.specs.Renaming.{IsAnswer, changed_places, changes, defines_it};
+ghost use Rattle.isle_index.specs.Renaming.{changed_places, changes, defines_it};
 ghost use Rattle.isle_index.specs.Renaming.{gives_variant, has, has_member, is_captured};
 ghost use Rattle.isle_index.specs.Renaming.{is_definition, is_member, is_variable, shares};
 ghost use Rattle.isle_index.specs.Renaming.{type_is_taken, variable_text};
@@ -15,49 +15,30 @@ ghost use Rattle.isle_index.specs.Scopes.{seen, seen_of};
 ghost use Rattle.isle_resolve.specs.EventView.{event_of};
 
 use crate::entries::Entries;
-use crate::names::{Name, gives, is_joined, is_number, joined};
+use crate::names::{Name, full_name, gives, is_full_name, is_number};
 use crate::scopes::{Seen, bind, binder};
 use isle_ast_names::identifier::is_identifier;
 use isle_base::lexer::Pos;
 use isle_resolve::event::{Event, Kind, Word};
 use std::alloc::{AllocError, Global};
 
-/// Why a name can't get another text.
+/// Why a name cannot be renamed.
 #[derive(Clone, Copy, Debug, PartialEq, Eq)]
 pub enum Refusal {
-    /// The text is no identifier, begins with `$`, or is a word that ISLE reads as something else.
+    /// The new text is no identifier, begins with `$`, or is a keyword.
     NotAName,
     /// The program doesn't define the name.
     Undefined,
     /// The name is that of a variant.
     Variant,
-    /// Something of the same kind has the text already.
+    /// Another name of the same kind has the new text, or a variant would get another term's name.
     Taken,
-    /// A variable would be captured: it would be taken for another one.
+    /// A variable would be captured: it would be bound elsewhere than before.
     Captured,
 }
 
-/// Gives the places that change where a name gets a new text, in order, or says why it can't.
-pub fn rename(
-    alloc: Global,
-    entries: &Entries,
-    name: &Name,
-    new: &str,
-) -> Result<Result<Vec<Pos>, Refusal>, AllocError>
-    ensures { IfOk result (IsAnswer (named_of name.now) new.now (all_of entries.now)) }
-{
-    match refusal_for(alloc, entries, name, new)? {
-        Some(refusal) => Ok(Err(refusal)),
-        None => {
-            let mut places = changed_places(alloc, entries, name)?;
-            places.sort()?;
-            Ok(Ok(places))
-        }
-    }
-}
-
-/// Says why a name can't get a text, if it can't: the first reason that holds.
-fn refusal_for(
+/// The first reason that holds why `name` cannot be renamed to `new`, if there is one.
+pub fn refusal_for(
     alloc: Global,
     entries: &Entries,
     name: &Name,
@@ -84,14 +65,13 @@ fn refusal_for(
     Ok(None)
 }
 
-/// Tells whether a text may be a new name.
 fn is_new_name(text: &str) -> bool
     ensures { result ≡ is_new_name text.now }
 {
     is_identifier(text) && !text.starts_with('$') && !is_reserved(text)
 }
 
-/// Tells whether a text is a word that ISLE reads as something else.
+/// Returns whether ISLE parses `text` as something other than a name, at some place of a name.
 fn is_reserved(text: &str) -> bool
     ensures { result ≡ is_reserved text.now }
 {
@@ -110,12 +90,11 @@ fn is_reserved(text: &str) -> bool
     )
 }
 
-/// Tells whether the program defines a name.
 fn is_defined(entries: &Entries, name: &Name) -> bool
     ensures { result ≡ list_any (defines_it (named_of name.now)) (all_of entries.now) }
 {
     for (number, entry) in entries.items.iter().enumerate() {
-        let event = entries.unpacked(number, entry);
+        let event = entries.unpack(number, entry);
         if name.is_of(&event) && is_definition(&event) {
             return true;
         }
@@ -123,7 +102,7 @@ fn is_defined(entries: &Entries, name: &Name) -> bool
     false
 }
 
-/// Tells whether an event defines something, or binds its variable.
+/// Returns whether an event defines a name or binds its variable.
 fn is_definition(seen: &Seen) -> bool
     ensures { result ≡ is_definition (event_of seen.now.event)
         (is_number seen.now.number seen.now.binder) }
@@ -137,12 +116,11 @@ fn is_definition(seen: &Seen) -> bool
     }
 }
 
-/// Tells whether a name is that of a variant.
 fn is_variant(entries: &Entries, name: &Name) -> bool
     ensures { result ≡ list_any (gives_variant (named_of name.now)) (all_of entries.now) }
 {
     for (number, entry) in entries.items.iter().enumerate() {
-        let event = entries.unpacked(number, entry);
+        let event = entries.unpack(number, entry);
         if name.is_of(&event) && matches!(event.event, Event::DefinesVariant { .. }) {
             return true;
         }
@@ -150,7 +128,7 @@ fn is_variant(entries: &Entries, name: &Name) -> bool
     false
 }
 
-/// Tells whether something else has the new name already.
+/// Returns whether something else has the new name already.
 fn is_taken(alloc: Global, entries: &Entries, name: &Name, new: &str) -> Result<bool, AllocError>
     ensures { IfOk result
         (λ taken. taken ≡ is_taken (named_of name.now) new.now (all_of entries.now)) }
@@ -168,8 +146,8 @@ fn is_taken(alloc: Global, entries: &Entries, name: &Name, new: &str) -> Result<
     }
 }
 
-/// Tells whether something else has the new name of a type, or the name that one of its variants
-/// gets. These are its variants.
+/// Returns whether something else has the new name of a type, or the new name of one of its
+/// variants, `members`.
 fn type_is_taken(
     alloc: Global,
     entries: &Entries,
@@ -189,7 +167,7 @@ fn type_is_taken(
     has_shared(alloc, entries, old, members)
 }
 
-/// Tells whether one of these variants of a type gets the name of another term.
+/// Returns whether a variant, `new` and one of `members`, has the name of another term.
 fn has_member(
     alloc: Global,
     entries: &Entries,
@@ -200,7 +178,7 @@ fn has_member(
         ≡ has_member new.now (map (λ m. m.now) members.now) (all_of entries.now)) }
 {
     for member in members {
-        let term = joined(alloc, new, member)?;
+        let term = full_name(alloc, new, member)?;
         if has(entries, Kind::Term, term.as_str()) {
             return Ok(true);
         }
@@ -208,7 +186,7 @@ fn has_member(
     Ok(false)
 }
 
-/// Tells whether a variant of another type is the same term as one of these variants of a type.
+/// Returns whether another type has a variant that is the same term as one of `owner`'s.
 fn has_shared(
     alloc: Global,
     entries: &Entries,
@@ -219,7 +197,7 @@ fn has_shared(
         (λ s. shares owner.now (map (λ m. m.now) members.now) s.event) (all_of entries.now)) }
 {
     for (number, entry) in entries.items.iter().enumerate() {
-        let event = entries.unpacked(number, entry);
+        let event = entries.unpack(number, entry);
         if shares(alloc, &event.event, owner, members)? {
             return Ok(true);
         }
@@ -227,8 +205,8 @@ fn has_shared(
     Ok(false)
 }
 
-/// Tells whether an event gives a variant of another type that is the same term as one of these
-/// variants of a type.
+/// Returns whether an event defines a variant of another type that is the same term as one of
+/// `owner`'s.
 fn shares(alloc: Global, event: &Event, owner: &str, members: &[&str]) -> Result<bool, AllocError>
     ensures { IfOk result (λ shared. shared
         ≡ shares owner.now (map (λ m. m.now) members.now) (event_of event.now)) }
@@ -238,19 +216,18 @@ fn shares(alloc: Global, event: &Event, owner: &str, members: &[&str]) -> Result
             owner: other,
             member,
         } if other.text != owner => {
-            let term = joined(alloc, other.text, member.text)?;
+            let term = full_name(alloc, other.text, member.text)?;
             Ok(is_member(term.as_str(), owner, members))
         }
         _ => Ok(false),
     }
 }
 
-/// Tells whether something of a kind has this text.
 fn has(entries: &Entries, kind: Kind, text: &str) -> bool
     ensures { result ≡ has kind text.now (all_of entries.now) }
 {
     for (number, entry) in entries.items.iter().enumerate() {
-        let event = entries.unpacked(number, entry);
+        let event = entries.unpack(number, entry);
         if gives(&event.event, kind, text) {
             return true;
         }
@@ -258,7 +235,7 @@ fn has(entries: &Entries, kind: Kind, text: &str) -> bool
     false
 }
 
-/// Gives the name of a variant, where an event gives one of this type.
+/// The variant of the type `owner` that an event defines, if it defines one.
 fn member_of<'a>(event: &Event<'a>, owner: &str) -> Option<&'a str>
     ensures { option_map (λ m. m.now) result ≡ member_of owner.now (event_of event.now) }
 {
@@ -268,7 +245,6 @@ fn member_of<'a>(event: &Event<'a>, owner: &str) -> Option<&'a str>
     }
 }
 
-/// Gives the variants of a type.
 fn members<'a>(
     alloc: Global,
     entries: &Entries<'a>,
@@ -279,7 +255,7 @@ fn members<'a>(
 {
     let mut found = Vec::new(alloc);
     for (number, entry) in entries.items.iter().enumerate() {
-        let event = entries.unpacked(number, entry);
+        let event = entries.unpack(number, entry);
         if let Some(member) = member_of(&event.event, owner) {
             found.push(member)?;
         }
@@ -287,7 +263,7 @@ fn members<'a>(
     Ok(found)
 }
 
-/// Tells whether an event writes one of these variants of a type.
+/// Returns whether an event is a term `OWNER.MEMBER`, for one of `members`.
 fn writes_member(event: &Event, owner: &str, members: &[&str]) -> bool
     ensures { result
         ≡ writes_member owner.now (map (λ m. m.now) members.now) (event_of event.now) }
@@ -300,20 +276,20 @@ fn writes_member(event: &Event, owner: &str, members: &[&str]) -> bool
     }
 }
 
-/// Tells whether a text is that of one of these variants of a type.
+/// Returns whether `text` is `OWNER.MEMBER`, for one of `members`.
 fn is_member(text: &str, owner: &str, members: &[&str]) -> bool
     ensures { result ≡ is_member owner.now (map (λ m. m.now) members.now) text.now }
 {
     for member in members {
-        if is_joined(text, owner, member) {
+        if is_full_name(text, owner, member) {
             return true;
         }
     }
     false
 }
 
-/// Tells whether the text of an event changes with the text of a name, where these are the variants
-/// that change with it.
+/// Returns whether renaming `name`, whose variants are `members` if it is a type, changes the text
+/// of an event.
 fn changes(seen: &Seen, name: &Name, members: &[&str]) -> bool
     ensures { result
         ≡ changes (map (λ m. m.now) members.now) (named_of name.now) (seen_of seen.now) }
@@ -328,15 +304,15 @@ fn changes(seen: &Seen, name: &Name, members: &[&str]) -> bool
     }
 }
 
-/// Gives the places that change, in the order of the events.
-fn changed_places(alloc: Global, entries: &Entries, name: &Name) -> Result<Vec<Pos>, AllocError>
+/// The positions that change, in the order of the events.
+pub fn changed_places(alloc: Global, entries: &Entries, name: &Name) -> Result<Vec<Pos>, AllocError>
     ensures { IfOk result
         (λ places. places.items ≡ changed_places (named_of name.now) (all_of entries.now)) }
 {
     let members = members(alloc, entries, name.text())?;
     let mut places = Vec::new(alloc);
     for (number, entry) in entries.items.iter().enumerate() {
-        let event = entries.unpacked(number, entry);
+        let event = entries.unpack(number, entry);
         if changes(&event, name, &members) {
             if let Some(place) = position(&event.event) {
                 places.push(place)?;
@@ -346,7 +322,6 @@ fn changed_places(alloc: Global, entries: &Entries, name: &Name) -> Result<Vec<P
     Ok(places)
 }
 
-/// Gives where the name of an event is written.
 fn position(event: &Event) -> Option<Pos>
     ensures { result ≡ position (event_of event.now) }
 {
@@ -361,7 +336,7 @@ fn position(event: &Event) -> Option<Pos>
     }
 }
 
-/// Tells whether some variable would have another binder.
+/// Returns whether a variable would be bound elsewhere than before.
 fn is_captured(alloc: Global, entries: &Entries, name: &Name, new: &str) -> Result<bool, AllocError>
     ensures { IfOk result
         (λ captured. captured ≡ is_captured (named_of name.now) new.now (all_of entries.now)) }
@@ -374,8 +349,8 @@ fn is_captured(alloc: Global, entries: &Entries, name: &Name, new: &str) -> Resu
     }
 }
 
-/// Tells whether each variable has the binder that it had, once the variable that the event of this
-/// number binds has a new text.
+/// Returns whether each variable keeps its binder when the one bound by the event `variable` gets
+/// the text `new`.
 fn keeps_binders(
     alloc: Global,
     entries: &Entries,
@@ -389,8 +364,8 @@ fn keeps_binders(
 {
     let mut bound = Vec::new(alloc);
     for (number, entry) in entries.items.iter().enumerate() {
-        let event = entries.unpacked(number, entry);
-        let renamed = renamed_variable(&event, variable, old, new);
+        let event = entries.unpack(number, entry);
+        let renamed = rename_variable(&event, variable, old, new);
         if !same_binder(binder(&renamed, number, &bound), event.binder) {
             return Ok(false);
         }
@@ -399,8 +374,8 @@ fn keeps_binders(
     Ok(true)
 }
 
-/// Gives an event, with a new text where its variable is that which the event of this number binds.
-fn renamed_variable<'a>(seen: &Seen<'a>, variable: usize, old: &str, new: &'a str) -> Event<'a>
+/// The event with the text `new` if its variable is the one bound by the event `variable`.
+fn rename_variable<'a>(seen: &Seen<'a>, variable: usize, old: &str, new: &'a str) -> Event<'a>
     ensures { event_of result ≡ renamed_variable variable old.now new.now (seen_of seen.now) }
 {
     if is_variable(seen, variable, old) {
@@ -410,14 +385,14 @@ fn renamed_variable<'a>(seen: &Seen<'a>, variable: usize, old: &str, new: &'a st
     }
 }
 
-/// Tells whether an event has the variable that the event of this number binds, with this text.
+/// Returns whether an event has the variable bound by the event `variable`, with this text.
 fn is_variable(seen: &Seen, variable: usize, text: &str) -> bool
     ensures { result ≡ is_variable variable text.now (seen_of seen.now) }
 {
     is_number(variable, seen.binder) && variable_text(&seen.event) == text
 }
 
-/// Gives the text of an event's variable.
+/// The text of an event's variable, empty if it has none.
 fn variable_text<'a>(event: &Event<'a>) -> &'a str
     ensures { result.now ≡ variable_text (event_of event.now) }
 {
@@ -427,7 +402,7 @@ fn variable_text<'a>(event: &Event<'a>) -> &'a str
     }
 }
 
-/// Gives an event with another text in its variable.
+/// The event with another text in its variable, if it has one.
 fn with_text<'a>(event: &Event<'a>, new: &'a str) -> Event<'a>
     ensures { event_of result ≡ with_text new.now (event_of event.now) }
 {
@@ -448,12 +423,8 @@ fn with_text<'a>(event: &Event<'a>, new: &'a str) -> Event<'a>
     }
 }
 
-/// Tells whether two numbers are both missing or the same.
 fn same_binder(first: Option<usize>, second: Option<usize>) -> bool
     ensures { result ≡ same_binder first second }
 {
-    match first {
-        Some(first) => is_number(first, second),
-        None => second.is_none(),
-    }
+    first == second
 }

@@ -1,40 +1,38 @@
-//! Scopes: which event binds the variable of which event.
+//! Scopes: which event binds the variable of an event.
 
 ghost use Rattle.std.specs.Prelude.{◌≡◌, OnOk};
 ghost use Rattle.isle_index.specs.Scopes.{after, binder, bound_more, bounds_of, last_bound};
 ghost use Rattle.isle_resolve.specs.EventView.{event_of, word_of};
 
 use isle_resolve::event::{Event, Word};
-use std::alloc::{AllocError, Global};
+use std::alloc::AllocError;
 
 /// A variable that is bound.
 #[derive(Clone, Copy, Debug)]
 pub struct Bound<'a> {
-    /// Its name.
     pub text: &'a str,
     /// The number of the event that binds it.
     pub number: usize,
 }
 
-/// An event with its number, counted from 0.
+/// An event of an index.
 #[derive(Clone, Copy, Debug)]
 pub struct Seen<'a> {
-    /// The event.
     pub event: Event<'a>,
-    /// Its number.
+    /// Its place among the events of the index, from 0.
     pub number: usize,
-    /// The number of the event that binds its variable, if it has a variable that is bound.
+    /// The number of the event that binds its variable, if it has a bound variable.
     pub binder: Option<usize>,
 }
 
-/// Gives the number of the event that binds the variable of an event, where it has one.
+/// The number of the event that binds the variable of an event, if it has a bound variable.
 pub fn binder(event: &Event, number: usize, bound: &[Bound]) -> Option<usize>
     ensures { result ≡ binder (event_of event.now) number (bounds_of bound.now) }
 {
     match event {
-        Event::Occurs(word) => Some(last_bound(bound, word.text).unwrap_or(number)),
+        Event::Occurs(word) => Some(last_binder(bound, word.text).unwrap_or(number)),
         Event::Binds(_) => Some(number),
-        Event::Reads(word) => last_bound(bound, word.text),
+        Event::Reads(word) => last_binder(bound, word.text),
         Event::Defines(..)
         | Event::Uses(..)
         | Event::DefinesVariant { .. }
@@ -43,8 +41,8 @@ pub fn binder(event: &Event, number: usize, bound: &[Bound]) -> Option<usize>
     }
 }
 
-/// Gives the number of the event that binds the last variable of this name.
-pub fn last_bound(bound: &[Bound], text: &str) -> Option<usize>
+/// The number of the event that binds the last of the variables of this name.
+pub fn last_binder(bound: &[Bound], text: &str) -> Option<usize>
     ensures { result ≡ last_bound (bounds_of bound.now) text.now }
 {
     let mut last = None;
@@ -56,7 +54,8 @@ pub fn last_bound(bound: &[Bound], text: &str) -> Option<usize>
     last
 }
 
-/// Binds and lets go the variables that an event binds or whose scope it ends.
+/// Updates the bound variables: adds the one that an event binds, and drops those whose scope it
+/// ends.
 pub fn bind<'a>(
     event: &Event<'a>,
     number: usize,
@@ -67,7 +66,7 @@ pub fn bind<'a>(
 {
     match event {
         Event::Occurs(word) => {
-            if last_bound(bound, word.text).is_none() {
+            if last_binder(bound, word.text).is_none() {
                 bind_word(word, number, bound)?;
             }
         }
@@ -81,7 +80,6 @@ pub fn bind<'a>(
     Ok(())
 }
 
-/// Binds a variable.
 fn bind_word<'a>(
     word: &Word<'a>,
     number: usize,

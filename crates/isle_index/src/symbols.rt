@@ -1,63 +1,41 @@
-//! The names that are defined.
+//! The symbols of a file: the names that it defines.
 
-ghost use Rattle.std.specs.Prelude.{◌≡◌, IfOk, map, option_map};
-ghost use Rattle.isle_index.specs.Entries.{all_of};
-ghost use Rattle.isle_index.specs.Symbols.{kind_of, symbol, symbol_of, symbols};
+ghost use Rattle.std.specs.Prelude.{◌≡◌, IfOk, option_map};
+ghost use Rattle.isle_index.specs.Symbols.{kind_of, symbol, symbol_of};
 ghost use Rattle.isle_resolve.specs.EventView.{event_of};
 
-use crate::entries::Entries;
-use crate::names::joined;
+use crate::names::full_name;
 use crate::occurrences::written_len;
 use isle_base::lexer::Pos;
 use isle_resolve::event::{Event, Kind};
 use std::alloc::{AllocError, Global};
 
-/// What a symbol or a candidate is.
+/// The kind of a symbol or a candidate.
 #[derive(Clone, Copy, Debug, PartialEq, Eq)]
 pub enum SymbolKind {
-    /// A term, which a `decl` gives.
+    /// A term declared by a `decl`.
     Term,
-    /// A type.
     Type,
     /// A variant of a type.
     Variant,
-    /// A constant.
     Constant,
-    /// A variable. No symbol is one.
+    /// A variable, which only a candidate can be.
     Variable,
 }
 
 /// A name that is defined.
 #[derive(Debug, Drop)]
 pub struct Symbol {
-    /// What it is.
     pub kind: SymbolKind,
-    /// Its name: of a variant that of the term, `TYPE.VARIANT`, of a constant without its `$`.
+    /// Its name: `TYPE.VARIANT` for a variant, and without its `$` for a constant.
     pub text: String,
-    /// The position of the name's first byte: of a constant that of the `$`.
+    /// The position of the name's first byte, which for a constant is the `$`.
     pub pos: Pos,
-    /// How many bytes the name has there.
+    /// The length of the name there, in bytes.
     pub len: usize,
 }
 
-/// Gives what a file defines, in order.
-pub fn symbols(alloc: Global, entries: &Entries, file: usize) -> Result<Vec<Symbol>, AllocError>
-    ensures { IfOk result
-        (λ found. map symbol_of found.items ≡ symbols file (all_of entries.now)) }
-{
-    let mut found = Vec::new(alloc);
-    for (number, entry) in entries.items.iter().enumerate() {
-        let event = entries.unpacked(number, entry);
-        if let Some(symbol) = defined_symbol(alloc, &event.event)? {
-            if symbol.pos.file == file {
-                found.push(symbol)?;
-            }
-        }
-    }
-    Ok(found)
-}
-
-/// Gives what an event defines in the whole program.
+/// The global name that an event defines, if it defines one.
 pub fn defined_symbol(alloc: Global, event: &Event) -> Result<Option<Symbol>, AllocError>
     ensures { IfOk result
         (λ found. option_map symbol_of found ≡ symbol (event_of event.now)) }
@@ -73,7 +51,7 @@ pub fn defined_symbol(alloc: Global, event: &Event) -> Result<Option<Symbol>, Al
             }))
         }
         Event::DefinesVariant { owner, member } => {
-            let text = joined(alloc, owner.text, member.text)?;
+            let text = full_name(alloc, owner.text, member.text)?;
             Ok(Some(Symbol {
                 kind: SymbolKind::Variant,
                 text,
@@ -90,7 +68,6 @@ pub fn defined_symbol(alloc: Global, event: &Event) -> Result<Option<Symbol>, Al
     }
 }
 
-/// Gives the kind of a symbol that is no variant.
 fn kind_of(kind: Kind) -> SymbolKind
     ensures { result ≡ kind_of kind }
 {

@@ -1,4 +1,4 @@
--- A finding as a pure value: which lint finds which name, and where.
+-- A finding as a pure value: a lint, a name and its position.
 use Rattle.std.specs.Prelude.{ℕ, List, map, filter, not}
 use Rattle.std.specs.Cmp.Lexicographic.{slice_cmp}
 use Rattle.std.specs.Ordering.{nat_cmp, on, then_cmp}
@@ -24,11 +24,11 @@ finding_of f = record { pos = f.pos; lint = f.lint; name = f.name.now }
 abbrev pub found : Lint → Name → Found
 found lint n = record { pos = n.pos; lint = lint; name = n.text }
 
--- those of a lint; a name that begins with `_` is never found
+-- the findings of a lint. A name that begins with `_` is never reported
 abbrev pub all_found : Lint → List Name → List Found
 all_found lint names = map (found lint) (filter (λ n. not (is_private n.text)) names)
 
--- the order of findings: by place, then by lint, then by name
+-- the order of findings: by position, then by lint, then by name
 abbrev pub finding_cmp : Found → Found → Ordering
 finding_cmp =
     then_cmp (on (λ f. f.pos) position_cmp)

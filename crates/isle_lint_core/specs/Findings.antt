@@ -18,7 +18,7 @@ use Rattle.isle_lint_core.specs.Unknown.{unknown_variables}
 use Rattle.isle_lint_core.specs.Unused.{rule_idle, unused_lets}
 use Rattle.isle_lint_core.specs.Variables.{template_variables}
 
--- what rules have of something; other definitions have none of it
+-- the names that a rule has by `f`; other definitions have none
 abbrev pub of_rule : (RuleDefinition → List Name) → Definition → List Name
 of_rule f (rule r) = f r
 of_rule f _ = []
@@ -26,7 +26,7 @@ of_rule f _ = []
 abbrev pub of_rules : (RuleDefinition → List Name) → List Definition → List Name
 of_rules f ds = flat_map (of_rule f) ds
 
--- the variables of a rule that are asked for, where these names are bound around it
+-- the variables of a rule that are asked for. The names `outer` are bound around it
 abbrev pub asked_of : Asked → List Name → RuleDefinition → List Name
 asked_of asked.UnusedLets outer r = unused_lets r
 asked_of asked.UnknownVariables outer r = unknown_variables outer r
@@ -49,6 +49,6 @@ names_found lints.UnusedBinding ds = of_rules (rule_idle (record { alone = false
 names_found lints.UnusedPatternVariable ds = of_rules (rule_idle (record { alone = true; bindings = false })) ds
 names_found lints.ShadowedVariable ds = of_rules shadowed_variables ds
 
--- all that these lints find
+-- the findings of these lints
 abbrev pub findings_in : List Lint → List Definition → List Found
 findings_in ls ds = flat_map (λ l. all_found l (names_found l ds)) ls

@@ -1,4 +1,4 @@
--- The names that definitions give.
+-- The terms that definitions declare and define, and the names of rules.
 use Rattle.std.specs.Prelude.{List, ◌++◌, Option, None, Some}
 use Rattle.std.specs.List.{filter_map}
 use Rattle.isle_ast_names.specs.Tree.{Name}
@@ -13,7 +13,7 @@ abbrev pub declared_term : Definition → Option Name
 declared_term (decl d) = Some d.term
 declared_term _ = None
 
--- the term that an outside definition gives an extractor, and a constructor
+-- the term of an `extern extractor`, and that of an `extern constructor`
 abbrev pub outside_extractor : ExternDefinition → Option Name
 outside_extractor (extern_extractor term _ _ _) = Some term
 outside_extractor _ = None
@@ -22,13 +22,13 @@ abbrev pub outside_constructor : ExternDefinition → Option Name
 outside_constructor (extern_constructor term _ _) = Some term
 outside_constructor _ = None
 
--- the term that is given an extractor, inside or outside
+-- the term of an `extractor` or an `extern extractor`
 abbrev pub extracted_term : Definition → Option Name
 extracted_term (extractor e) = Some e.term
 extracted_term (external e) = outside_extractor e
 extracted_term _ = None
 
--- the term that is given a constructor outside
+-- the term of an `extern constructor`
 abbrev pub constructed_term : Definition → Option Name
 constructed_term (external e) = outside_constructor e
 constructed_term _ = None
@@ -54,14 +54,14 @@ name_given givings.RuleName d = rule_name d
 abbrev pub given : Giving → List Definition → List Name
 given giving ds = filter_map (name_given giving) ds
 
--- the terms that are given a constructor outside, and that rules or an earlier one construct too
+-- the terms of `extern constructor`s that have rules or an earlier `extern constructor`
 abbrev pub constructed_twice : List Definition → List Name
 constructed_twice ds = repeated (given givings.RuledTerm ds) (given givings.Constructor ds)
 
--- the terms that rules, extractors and outside constructors define
+-- the terms that rules, extractors and `extern constructor`s define
 abbrev pub defined : List Definition → List Name
 defined ds = given givings.RuledTerm ds ++ given givings.Extractor ds ++ given givings.Constructor ds
 
--- the terms that are declared, and that nothing defines
+-- the terms that are declared and that nothing defines
 abbrev pub undefined_terms : List Definition → List Name
 undefined_terms ds = absent (defined ds) (given givings.Declaration ds)

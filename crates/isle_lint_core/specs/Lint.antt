@@ -1,4 +1,4 @@
--- The lints: their names, which are on without being asked for, and what they say.
+-- The lints: their names, defaults and messages.
 use Rattle.std.specs.Prelude.{ℕ, List, [], ◌∷◌, Bool, true, false, codes}
 use Rattle.isle_lint_core.specs.declared.lint.Lint.{Lint}
 use Rattle.isle_lint_core.specs.declared.lint.Lint.TheVariants as lints
@@ -38,7 +38,7 @@ name lints.UnusedBinding = codes "unused-binding"
 name lints.UnusedPatternVariable = codes "unused-pattern-variable"
 name lints.ShadowedVariable = codes "shadowed-variable"
 
--- whether a lint is on without being asked for
+-- whether a lint is on by default
 abbrev pub is_default : Lint → Bool
 is_default lints.UnusedLet = true
 is_default lints.UnknownVariable = true
@@ -53,13 +53,13 @@ is_default lints.UnusedBinding = false
 is_default lints.UnusedPatternVariable = false
 is_default lints.ShadowedVariable = false
 
--- whether a lint's findings mean something only where the definitions are a whole program
+-- whether a lint's findings are meaningful only for a complete program
 abbrev pub needs_whole_program : Lint → Bool
 needs_whole_program lints.UnknownTerm = true
 needs_whole_program lints.UndefinedTerm = true
 needs_whole_program _ = false
 
--- what a finding says in front of its name
+-- the message of a finding, which the name follows
 abbrev pub message : Lint → List ℕ
 message lints.UnusedLet = codes "unused variable"
 message lints.UnknownVariable = codes "unknown variable"

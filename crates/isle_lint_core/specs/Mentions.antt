@@ -1,4 +1,4 @@
--- Terms, wherever definitions name them.
+-- The places where definitions name a term.
 use Rattle.std.specs.Prelude.{ℕ, suc, List, [], ◌∷◌, ◌++◌, Option, None, Some, length, map}
 use Rattle.std.specs.List.{flat_map}
 use Rattle.isle_ast_names.specs.Tree.{Name}
@@ -7,7 +7,7 @@ use Rattle.isle_ast_rules.specs.Tree.{PatternNode, var_pattern, bind_pattern, bo
 use Rattle.isle_ast.specs.Tree.{ExternDefinition, extern_extractor, extern_constructor, extern_const, Definition, rule, extractor, external, converter}
 use Rattle.isle_lint_core.specs.declared.mentions.Mention.{Mention}
 
--- a term, and how many arguments stand with it, where there is a place for them
+-- a term, and the number of its arguments if the place has any
 pub record Mentioned : Type 0 where
   pub name : Name
   pub count : Option ℕ
@@ -22,7 +22,7 @@ mentions_at ms = map mention_of ms
 abbrev pub one_mention : Name → Option ℕ → List Mentioned
 one_mention name count = record { name = name; count = count } ∷ []
 
--- how many patterns, and how many expressions
+-- the number of patterns, and of expressions
 abbrev pub pattern_count : PatternList → ℕ
 pattern_count no_pattern = 0
 pattern_count (more_pattern _ ps) = suc (pattern_count ps)

@@ -1,4 +1,4 @@
--- Names among other names.
+-- Lists of names: which occur twice, and which are not in another list.
 use Rattle.std.specs.Prelude.{ℕ, List, [], ◌∷◌, ◌++◌, Bool, false, not, map, filter, ◌==◌, if◌then◌else◌}
 use Rattle.std.specs.Borrow.{Bor}
 use Rattle.std.specs.List.{list_any}
@@ -21,15 +21,15 @@ abbrev pub is_private : List ℕ → Bool
 is_private [] = false
 is_private (c ∷ _) = c == underscore
 
--- the name, where it counts
+-- the name if it counts
 abbrev pub kept_if : Bool → Name → List Name
 kept_if counts name = if counts then name ∷ [] else []
 
--- the names whose text one of the earlier names has, or one that stands before
+-- the names that are equal to an earlier one or to a name before them, by text
 abbrev pub repeated : List Name → List Name → List Name
 repeated earlier [] = []
 repeated earlier (n ∷ ns) = kept_if (has earlier n.text) n ++ repeated (n ∷ earlier) ns
 
--- the names whose text none of the others has
+-- the names that are not among the others, by text
 abbrev pub absent : List Name → List Name → List Name
 absent others names = filter (λ n. not (has others n.text)) names

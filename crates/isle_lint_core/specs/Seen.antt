@@ -1,4 +1,4 @@
--- A set of texts, seen as the names that were put to it.
+-- A set of texts, viewed as the names that were added to it.
 use Rattle.std.specs.Prelude.{◌≡◌, ℕ, List}
 use Rattle.std.specs.Borrow.{Bor}
 use Rattle.std.specs.BTreeSet.{BTreeSet, contains}

@@ -1,4 +1,4 @@
--- Variables that a `let` binds, and that are bound already.
+-- Variables that a `let` binds although they are bound already.
 use Rattle.std.specs.Prelude.{List, [], ◌∷◌, ◌++◌}
 use Rattle.isle_ast_names.specs.Tree.{Name}
 use Rattle.isle_ast_rules.specs.Tree.{Expression, term_expression, var_expression, bool_expression, int_expression, constant_expression, let_expression, ExpressionList, no_expression, more_expression, LetList, no_let, more_let, Condition, RuleDefinition}
@@ -6,7 +6,7 @@ use Rattle.isle_lint_core.specs.Names.{has, kept_if}
 use Rattle.isle_lint_core.specs.Unknown.{let_names}
 use Rattle.isle_lint_core.specs.Variables.{all, variables, condition_variables}
 
--- those of an expression, where these names are bound around it
+-- those of an expression. These names are bound around it
 abbrev mutual
   pub shadowed : Expression → List Name → List Name
   shadowed (term_expression _ args _) bound = list_shadowed args bound

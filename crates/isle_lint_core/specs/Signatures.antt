@@ -1,9 +1,9 @@
--- How many arguments terms take, as far as definitions say it.
+-- The number of arguments of each term that definitions declare.
 use Rattle.std.specs.Prelude.{ℕ, List, [], ◌∷◌, ◌++◌, length, map, codes}
 use Rattle.std.specs.List.{flat_map}
 use Rattle.isle_ast.specs.Tree.{FieldList, unit_fields, struct_fields, tuple_fields, EnumVariant, TypeContent, primitive_type, enum_type, struct_type, TypeDefinition, Definition, type_def, decl}
 
--- a term, and how many arguments it takes
+-- a term and the number of its arguments
 pub record Signature : Type 0 where
   pub name : List ℕ
   pub count : ℕ

@@ -1,4 +1,4 @@
--- Terms with a wrong number of arguments, and terms that nothing gives.
+-- Terms with a wrong number of arguments, and unknown terms.
 use Rattle.std.specs.Prelude.{ℕ, List, Bool, true, false, not, Option, None, Some, filter, map, ◌==◌}
 use Rattle.isle_ast_names.specs.Tree.{Name}
 use Rattle.isle_ast.specs.Tree.{Definition}
@@ -20,7 +20,7 @@ abbrev pub is_none : Option ℕ → Bool
 is_none None = true
 is_none (Some _) = false
 
--- whether no `decl` and no variant gives a term
+-- whether a term is neither declared nor a variant
 abbrev pub is_unknown : List Signature → Mentioned → Bool
 is_unknown known m = is_none (count_of known m.name.text)
 

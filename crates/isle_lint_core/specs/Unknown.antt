@@ -1,4 +1,4 @@
--- Variables that an expression uses and nothing binds before.
+-- Variables that an expression uses and nothing binds before it.
 use Rattle.std.specs.Prelude.{List, [], ◌∷◌, ◌++◌, not}
 use Rattle.isle_ast_names.specs.Tree.{Name}
 use Rattle.isle_ast_rules.specs.Tree.{Expression, term_expression, var_expression, bool_expression, int_expression, constant_expression, let_expression, ExpressionList, no_expression, more_expression, LetList, no_let, more_let, Condition, RuleDefinition}
@@ -10,7 +10,7 @@ abbrev pub let_names : LetList → List Name
 let_names no_let = []
 let_names (more_let var _ _ _ ds) = var ∷ let_names ds
 
--- the unknown variables of an expression, where these names are bound around it
+-- the unknown variables of an expression. These names are bound around it
 abbrev mutual
   pub unknown : Expression → List Name → List Name
   unknown (term_expression _ args _) bound = list_unknown args bound
@@ -34,7 +34,7 @@ abbrev pub conditions_unknown : List Condition → List Name → List Name
 conditions_unknown [] bound = []
 conditions_unknown (c ∷ cs) bound = unknown c.expr bound ++ conditions_unknown cs (bound ++ variables all c.pattern)
 
--- those of a rule, where these names are bound around it
+-- those of a rule. These names are bound around it
 abbrev pub unknown_variables : List Name → RuleDefinition → List Name
 unknown_variables outer r =
     conditions_unknown r.iflets (variables all r.pattern ++ outer)

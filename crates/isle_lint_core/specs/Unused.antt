@@ -33,7 +33,7 @@ abbrev mutual
 abbrev pub unused_lets : RuleDefinition → List Name
 unused_lets r = flat_map (λ c. unused c.expr) r.iflets ++ unused r.expr
 
--- whether a variable of a pattern is idle: it is written once in all the patterns, and not used after its own
+-- whether a variable of a pattern is idle: it occurs once in all the patterns and is not used after its own
 abbrev pub is_idle : List Name → (List ℕ → Bool) → List ℕ → Bool
 is_idle written after name = (count_by (λ n. bytes_eq n.text name) written == 1) && not (after name)
 

@@ -1,5 +1,5 @@
--- Which expressions use a variable that is bound around them. The definitions of a `let` are seen by those after them
--- and by the body.
+-- Which expressions use a variable that is bound around them. A definition of a `let` is in scope in the later ones
+-- and in the body.
 use Rattle.std.specs.Prelude.{ℕ, List, [], ◌∷◌, Bool, false, not, ◌&&◌, ◌||◌}
 use Rattle.std.specs.Str.{bytes_eq}
 use Rattle.isle_ast_rules.specs.Tree.{Expression, term_expression, var_expression, bool_expression, int_expression, constant_expression, let_expression, ExpressionList, no_expression, more_expression, LetList, no_let, more_let, Condition}

@@ -1,4 +1,4 @@
--- The variables of patterns, each where it is written. The first one of a name binds it, and every other one uses it.
+-- The variables of patterns, once for each occurrence. The first one of a name binds it, and every later one uses it.
 use Rattle.std.specs.Prelude.{List, [], ◌∷◌, ◌++◌, true}
 use Rattle.std.specs.List.{flat_map}
 use Rattle.isle_ast_names.specs.Tree.{Name}
@@ -7,7 +7,7 @@ use Rattle.isle_ast.specs.Tree.{Definition, extractor}
 use Rattle.isle_lint_core.specs.Names.{absent, kept_if}
 use Rattle.isle_lint_core.specs.declared.patterns.Wanted.{Wanted}
 
--- all variables are wanted: those that stand alone, and those in front of an `@`
+-- all variables are wanted: those that stand alone, and those before an `@`
 abbrev pub all : Wanted
 all = record { alone = true; bindings = true }
 

@@ -1,87 +1,84 @@
-//! The names that definitions give.
+//! The terms that definitions declare and define, and the names of rules.
 
 ghost use Rattle.std.specs.Prelude.{◌≡◌, ◌++◌, [], IfOk, OnOk};
 ghost use Rattle.std.specs.Option.{option_map};
 ghost use Rattle.isle_ast.specs.TreeView.{definition_of, definitions_of};
 ghost use Rattle.isle_ast_names.specs.TreeView.{name_of};
 ghost use Rattle.isle_lint_core.specs.Givings.{constructed_term, declared_term, extracted_term};
-ghost use Rattle.isle_lint_core.specs.Givings.{given};
-ghost use Rattle.isle_lint_core.specs.Givings.{name_given, rule_name, ruled_term};
+ghost use Rattle.isle_lint_core.specs.Givings.{given, name_given, rule_name, ruled_term};
 ghost use Rattle.isle_lint_core.specs.Givings.{constructed_twice, defined, undefined_terms};
 ghost use Rattle.isle_lint_core.specs.Names.{names_at, repeated};
 
-use crate::names::{absent, repeated};
+use crate::names::{absent_names, repeats};
 use isle_ast::ast::{Def, Extern, Ident};
 use std::alloc::{AllocError, Global};
 
-/// What a definition may give a name to, or a term.
+/// A way in which a definition gives a name.
 #[derive(Clone, Copy)]
 pub enum Giving {
-    /// The declaration of a term.
+    /// A `decl` declares a term.
     Declaration,
-    /// An extractor of a term.
+    /// An `extractor` or an `extern extractor` defines a term.
     Extractor,
-    /// A constructor of a term that is defined outside.
+    /// An `extern constructor` defines a term.
     Constructor,
-    /// A rule of a term.
+    /// A rule defines a term.
     RuledTerm,
-    /// The name of a rule.
+    /// A rule has a name.
     RuleName,
 }
 
-/// Gives the names that definitions give, and that one before them has given.
-pub fn repeated_in<'a>(
-    alloc: Global,
-    defs: &'a [Def],
-    giving: Giving,
-) -> Result<Vec<&'a Ident>, AllocError>
+/// The names that an earlier definition gives in the same way.
+pub fn repeats_in(alloc: Global, defs: &[Def], giving: Giving) -> Result<Vec<&Ident>, AllocError>
     ensures { IfOk result (λ found. names_at found.items
         ≡ repeated [] (given giving (definitions_of defs.now))) }
 {
-    repeated(alloc, &[], &given(alloc, defs, giving)?)
+    repeats(alloc, &[], &given_names(alloc, defs, giving)?)
 }
 
-/// Gives the terms that have rules, or a constructor outside, and are given one outside.
-pub fn constructed_twice<'a>(alloc: Global, defs: &'a [Def]) -> Result<Vec<&'a Ident>, AllocError>
+/// The terms of `extern constructor`s that have rules or an earlier `extern constructor`.
+pub fn repeated_constructors(alloc: Global, defs: &[Def]) -> Result<Vec<&Ident>, AllocError>
     ensures { IfOk result
         (λ found. names_at found.items ≡ constructed_twice (definitions_of defs.now)) }
 {
-    let ruled = given(alloc, defs, Giving::RuledTerm)?;
-    repeated(alloc, &ruled, &given(alloc, defs, Giving::Constructor)?)
+    let ruled = given_names(alloc, defs, Giving::RuledTerm)?;
+    repeats(
+        alloc,
+        &ruled,
+        &given_names(alloc, defs, Giving::Constructor)?,
+    )
 }
 
-/// Gives the terms that are declared, and that nothing defines.
-pub fn undefined_terms<'a>(alloc: Global, defs: &'a [Def]) -> Result<Vec<&'a Ident>, AllocError>
+/// The terms that are declared and that nothing defines.
+pub fn undefined_terms(alloc: Global, defs: &[Def]) -> Result<Vec<&Ident>, AllocError>
     ensures { IfOk result
         (λ found. names_at found.items ≡ undefined_terms (definitions_of defs.now)) }
 {
-    let defined = defined(alloc, defs)?;
-    let declared = given(alloc, defs, Giving::Declaration)?;
-    absent(alloc, &defined, &declared)
+    let defined = defined_terms(alloc, defs)?;
+    let declared = given_names(alloc, defs, Giving::Declaration)?;
+    absent_names(alloc, &defined, &declared)
 }
 
-/// Gives the terms that rules, extractors and constructors outside define.
-fn defined<'a>(alloc: Global, defs: &'a [Def]) -> Result<Vec<&'a Ident>, AllocError>
+/// The terms that rules, extractors and `extern constructor`s define.
+fn defined_terms(alloc: Global, defs: &[Def]) -> Result<Vec<&Ident>, AllocError>
     ensures { IfOk result (λ names. names_at names.items ≡ defined (definitions_of defs.now)) }
 {
     let mut names = Vec::new(alloc);
-    add_given(defs, Giving::RuledTerm, &mut names)?;
-    add_given(defs, Giving::Extractor, &mut names)?;
-    add_given(defs, Giving::Constructor, &mut names)?;
+    add_given_names(defs, Giving::RuledTerm, &mut names)?;
+    add_given_names(defs, Giving::Extractor, &mut names)?;
+    add_given_names(defs, Giving::Constructor, &mut names)?;
     Ok(names)
 }
 
-/// Gives the names that the definitions give, in order.
-fn given<'a>(alloc: Global, defs: &'a [Def], giving: Giving) -> Result<Vec<&'a Ident>, AllocError>
+fn given_names(alloc: Global, defs: &[Def], giving: Giving) -> Result<Vec<&Ident>, AllocError>
     ensures { IfOk result (λ names. names_at names.items ≡ given giving (definitions_of defs.now)) }
 {
     let mut names = Vec::new(alloc);
-    add_given(defs, giving, &mut names)?;
+    add_given_names(defs, giving, &mut names)?;
     Ok(names)
 }
 
-/// Adds the names that the definitions give, in order.
-fn add_given<'a>(
+fn add_given_names<'a>(
     defs: &'a [Def],
     giving: Giving,
     names: &mut Vec<&'a Ident>,
@@ -90,29 +87,27 @@ fn add_given<'a>(
         ≡ names_at names.old.items ++ given giving (definitions_of defs.now)) }
 {
     for def in defs {
-        if let Some(name) = name_given(def, giving) {
+        if let Some(name) = given_name(def, giving) {
             names.push(name)?;
         }
     }
     Ok(())
 }
 
-/// Gives the name that one definition gives, if it gives one.
-fn name_given(def: &Def, giving: Giving) -> Option<&Ident>
+fn given_name(def: &Def, giving: Giving) -> Option<&Ident>
     ensures { option_map (λ name. name_of name.now) result
         ≡ name_given giving (definition_of def.now) }
 {
     match giving {
-        Giving::Declaration => declared(def),
-        Giving::Extractor => extracted(def),
-        Giving::Constructor => constructed(def),
-        Giving::RuledTerm => ruled(def),
-        Giving::RuleName => named(def),
+        Giving::Declaration => declared_term(def),
+        Giving::Extractor => extracted_term(def),
+        Giving::Constructor => constructed_term(def),
+        Giving::RuledTerm => ruled_term(def),
+        Giving::RuleName => rule_name(def),
     }
 }
 
-/// Gives the term that a `decl` declares.
-fn declared(def: &Def) -> Option<&Ident>
+fn declared_term(def: &Def) -> Option<&Ident>
     ensures { option_map (λ name. name_of name.now) result ≡ declared_term (definition_of def.now) }
 {
     match def {
@@ -121,8 +116,8 @@ fn declared(def: &Def) -> Option<&Ident>
     }
 }
 
-/// Gives the term that is given an extractor.
-fn extracted(def: &Def) -> Option<&Ident>
+/// The term of an `extractor` or an `extern extractor`.
+fn extracted_term(def: &Def) -> Option<&Ident>
     ensures { option_map (λ name. name_of name.now) result
         ≡ extracted_term (definition_of def.now) }
 {
@@ -133,8 +128,8 @@ fn extracted(def: &Def) -> Option<&Ident>
     }
 }
 
-/// Gives the term that is given a constructor outside.
-fn constructed(def: &Def) -> Option<&Ident>
+/// The term of an `extern constructor`.
+fn constructed_term(def: &Def) -> Option<&Ident>
     ensures { option_map (λ name. name_of name.now) result
         ≡ constructed_term (definition_of def.now) }
 {
@@ -144,8 +139,7 @@ fn constructed(def: &Def) -> Option<&Ident>
     }
 }
 
-/// Gives the term of a rule.
-fn ruled(def: &Def) -> Option<&Ident>
+fn ruled_term(def: &Def) -> Option<&Ident>
     ensures { option_map (λ name. name_of name.now) result ≡ ruled_term (definition_of def.now) }
 {
     match def {
@@ -154,8 +148,7 @@ fn ruled(def: &Def) -> Option<&Ident>
     }
 }
 
-/// Gives the name of a rule.
-fn named(def: &Def) -> Option<&Ident>
+fn rule_name(def: &Def) -> Option<&Ident>
     ensures { option_map (λ name. name_of name.now) result ≡ rule_name (definition_of def.now) }
 {
     match def {

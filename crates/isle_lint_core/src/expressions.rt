@@ -1,8 +1,6 @@
-//! The variables of expressions: which are used, which nothing binds, and which a `let` binds in
-//! vain, or though they are bound.
+//! The variables of expressions: which are used, unknown, unused or shadowed.
 
 ghost use Rattle.std.specs.Prelude.{◌≡◌, ◌++◌, OnOk};
-ghost use Rattle.isle_ast_names.specs.TreeView.{name_of};
 ghost use Rattle.isle_ast_rules.specs.TreeView.{expression_of, expression_list_of, expressions_of};
 ghost use Rattle.isle_ast_rules.specs.TreeView.{let_list_of, single_lets_of};
 ghost use Rattle.isle_lint_core.specs.Names.{names_at};
@@ -15,7 +13,7 @@ use crate::names::{add_if, has};
 use isle_ast::ast::{Expr, Ident, LetDef};
 use std::alloc::AllocError;
 
-/// Tells whether an expression uses the variable of this name that is bound around it.
+/// Returns whether an expression uses the variable of this name that is bound around it.
 #[cycle(uses)]
 pub fn uses(expr: &Expr, name: &str) -> bool
     ensures { result ≡ uses (expression_of expr.now) name.now }
@@ -31,7 +29,6 @@ pub fn uses(expr: &Expr, name: &str) -> bool
     }
 }
 
-/// Tells whether one of the expressions uses a variable.
 #[cycle(uses)]
 fn list_uses(exprs: &Vec<Expr>, name: &str) -> bool
     ensures { result
@@ -45,7 +42,7 @@ fn list_uses(exprs: &Vec<Expr>, name: &str) -> bool
     false
 }
 
-/// Tells whether a `let` with these definitions uses a variable, where its body does or doesn't.
+/// Returns whether a `let` uses a variable. `body` says whether its body does.
 #[cycle(uses)]
 fn let_uses(defs: &[LetDef], name: &str, body: bool) -> bool
     ensures { result ≡ let_uses (let_list_of (single_lets_of defs.now)) name.now body }
@@ -61,7 +58,7 @@ fn let_uses(defs: &[LetDef], name: &str, body: bool) -> bool
     body
 }
 
-/// Adds the variables that an expression uses and nothing binds, where these names are bound around
+/// Adds the variables that an expression uses and nothing binds. The names `bound` are bound around
 /// it.
 #[cycle(unknown)]
 pub fn add_unknown<'a>(
@@ -90,7 +87,6 @@ pub fn add_unknown<'a>(
     Ok(())
 }
 
-/// Adds the variables that the expressions use and nothing binds.
 #[cycle(unknown)]
 fn add_list_unknown<'a>(
     exprs: &'a Vec<Expr>,
@@ -108,7 +104,7 @@ fn add_list_unknown<'a>(
     Ok(())
 }
 
-/// Adds the variables that the values of a `let` use and nothing binds, and binds the names.
+/// Adds the variables that the values of a `let` use and nothing binds. Adds its own to `bound`.
 #[cycle(unknown)]
 fn add_let_unknown<'a>(
     defs: &'a Vec<LetDef>,
@@ -127,7 +123,7 @@ fn add_let_unknown<'a>(
     Ok(())
 }
 
-/// Adds the variables that a `let` of the expression binds and nothing uses.
+/// Adds the variables that a `let` in the expression binds and nothing uses.
 #[cycle(unused)]
 pub fn add_unused<'a>(expr: &'a Expr, found: &mut Vec<&'a Ident>) -> Result<(), AllocError>
     ensures { OnOk result (names_at found.new.items
@@ -146,7 +142,6 @@ pub fn add_unused<'a>(expr: &'a Expr, found: &mut Vec<&'a Ident>) -> Result<(), 
     }
 }
 
-/// Adds the variables that a `let` of the expressions binds and nothing uses.
 #[cycle(unused)]
 fn add_list_unused<'a>(exprs: &'a Vec<Expr>, found: &mut Vec<&'a Ident>) -> Result<(), AllocError>
     ensures { OnOk result (names_at found.new.items
@@ -159,7 +154,7 @@ fn add_list_unused<'a>(exprs: &'a Vec<Expr>, found: &mut Vec<&'a Ident>) -> Resu
     Ok(())
 }
 
-/// Adds the variables of a `let` that nothing uses, and those of the values.
+/// Adds the variables of a `let` that nothing uses, and those of each `let` in its values.
 #[cycle(unused)]
 fn add_let_unused<'a>(
     defs: &'a Vec<LetDef>,
@@ -179,8 +174,8 @@ fn add_let_unused<'a>(
     Ok(())
 }
 
-/// Adds the variables that a `let` of the expression binds where they are bound already, where
-/// these names are bound around it.
+/// Adds the variables that a `let` in the expression binds although they are bound already. The
+/// names `bound` are bound around it.
 #[cycle(shadowed)]
 pub fn add_shadowed<'a>(
     expr: &'a Expr,
@@ -208,7 +203,6 @@ pub fn add_shadowed<'a>(
     Ok(())
 }
 
-/// Adds the variables that a `let` of the expressions binds where they are bound already.
 #[cycle(shadowed)]
 fn add_list_shadowed<'a>(
     exprs: &'a Vec<Expr>,
@@ -226,8 +220,8 @@ fn add_list_shadowed<'a>(
     Ok(())
 }
 
-/// Adds the variables of a `let` that are bound already, and those of the values, and binds the
-/// names.
+/// Adds the variables of a `let` that are bound already, and those of each `let` in its values.
+/// Adds its own to `bound`.
 #[cycle(shadowed)]
 fn add_let_shadowed<'a>(
     defs: &'a Vec<LetDef>,

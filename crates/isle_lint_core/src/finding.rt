@@ -1,4 +1,4 @@
-//! A finding: which lint finds which name, and where.
+//! Findings.
 
 ghost use Rattle.std.specs.Prelude.{◌≡◌, ◌++◌, OnOk, map};
 ghost use Rattle.isle_lint_core.specs.Finding.{all_found, finding_of};
@@ -10,14 +10,12 @@ use isle_ast::ast::Ident;
 use isle_base::lexer::Pos;
 use std::alloc::AllocError;
 
-/// A finding. Findings are ordered by place, then by lint, then by name.
+/// A name that a lint finds. Findings are ordered by position, then by lint, then by name.
 #[derive(Clone, Copy, Debug, PartialEq, Eq, PartialOrd, Ord)]
 pub struct Finding<'a> {
-    /// Where the name stands.
+    /// The position of the name.
     pub pos: Pos,
-    /// The lint that finds it.
     pub lint: Lint,
-    /// The name.
     pub name: &'a str,
 }
 

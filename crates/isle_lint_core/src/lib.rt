@@ -1,13 +1,12 @@
-//! What a lint finds in definitions of ISLE: variables that nothing uses or nothing binds, names
-//! that are given twice, terms that take another number of arguments, and terms that nothing
-//! declares or nothing defines.
+//! Lints for ISLE definitions: variables that are unused or unbound, duplicate names, terms with a
+//! wrong number of arguments, and terms that are undeclared or undefined.
 //!
-//! `findings` gives what some lints find, in order of place. What can't be known from the
-//! definitions at hand is not told: a symbol that stands alone is always a variable, and how many
-//! arguments a term takes is known only where its `decl` or its variant is among the definitions.
+//! `findings` runs some of the lints. It does not report what the definitions at hand leave open: a
+//! symbol that stands alone is always taken as a variable, and the number of a term's arguments is
+//! checked only if its `decl` or its variant is among the definitions.
 #![tactic(auto)]
 
-ghost use Rattle.std.specs.Prelude.{◌≡◌, ◌++◌, IfOk, OnOk, map};
+ghost use Rattle.std.specs.Prelude.{◌≡◌, IfOk, map};
 ghost use Rattle.std.specs.List.Sorted.{IsPermutation, IsSortedByKey};
 ghost use Rattle.isle_base_source.specs.PositionOrder.{position_cmp};
 ghost use Rattle.isle_ast.specs.TreeView.{definitions_of};
@@ -26,35 +25,37 @@ mod rules;
 mod signatures;
 mod terms;
 
-use definitions::{Giving, repeated_in};
+use definitions::{Giving, repeated_constructors, repeats_in, undefined_terms};
 pub use finding::Finding;
 use finding::add;
 use isle_ast::ast::{Def, Ident};
 pub use lint::Lint;
+use rules::{Asked, find_variables};
 use std::alloc::{AllocError, Global};
+use terms::{unknown_terms, wrong_arities};
 
-/// Finds what these lints find in definitions, in order of place.
+/// Runs `lints` on `defs`. Returns the findings in order of position.
 ///
-/// | Lint | What is found, each at its name |
+/// | Lint | Finds, each at its name |
 /// |---|---|
 /// | `unused-let` | a variable that a `let` binds and nothing uses |
-/// | `unknown-variable` | a variable that an expression uses, and nothing binds before it |
+/// | `unknown-variable` | a variable that an expression uses and nothing binds before it |
 /// | `duplicate-rule-name` | the name of a rule that an earlier rule has too |
 /// | `duplicate-declaration` | a term that an earlier `decl` declares too |
-/// | `duplicate-extractor` | a term that an earlier definition gave an extractor |
+/// | `duplicate-extractor` | a term that has an earlier extractor |
 /// | `duplicate-constructor` | an `extern constructor` of a term with rules, or an earlier one |
 /// | `wrong-arity` | a term with more or fewer arguments than its `decl` or its variant has |
-/// | `unknown-term` | a term that is used or defined, and that no `decl` and no variant gives |
+/// | `unknown-term` | a term that is used or defined, and is neither declared nor a variant |
 /// | `undefined-term` | the term of a `decl` that no rule, extractor or `extern` defines |
-/// | `unused-binding` | a variable in front of an `@` that nothing uses |
-/// | `unused-pattern-variable` | a variable that stands alone in a pattern and that nothing uses |
-/// | `shadowed-variable` | a variable that a `let` binds, and that is bound already |
+/// | `unused-binding` | a variable before an `@` that nothing uses |
+/// | `unused-pattern-variable` | a variable alone in a pattern that nothing uses |
+/// | `shadowed-variable` | a variable that a `let` binds although it is bound already |
 ///
-/// A name that begins with `_` is never found. The first occurrence of a variable in the patterns
-/// of a rule binds it, and every other one uses it. A condition's expression is computed before its
-/// pattern binds; the definitions of a `let` are seen by those after them and by the body. A
-/// variable that an extractor's template binds is bound in every rule. A lint that stands twice
-/// among the lints gives its findings twice. An `Err` means that memory ran out.
+/// A name that begins with `_` is never reported. The first occurrence of a variable in a rule's
+/// patterns binds it, and every later one uses it. A condition's expression comes before its
+/// pattern. A definition of a `let` is in scope in the later ones and in the body. A variable that
+/// an extractor's template binds is bound in every rule. A lint that is listed twice reports its
+/// findings twice. An `Err` means out of memory.
 pub fn findings<'a>(
     alloc: Global,
     defs: &'a [Def],
@@ -66,13 +67,13 @@ pub fn findings<'a>(
         (λ found. IsSortedByKey (λ finding. finding.pos) position_cmp found.items) }
     ensures ties { IfOk result (λ found. IsSortedByKey finding_of finding_cmp found.items) }
 {
-    let mut found = collected(alloc, defs, lints)?;
+    let mut found = collect(alloc, defs, lints)?;
     found.sort()?;
     Ok(found)
 }
 
-/// Finds what these lints find, lint by lint.
-fn collected<'a>(
+/// The findings, lint by lint.
+fn collect<'a>(
     alloc: Global,
     defs: &'a [Def],
     lints: &[Lint],
@@ -82,30 +83,28 @@ fn collected<'a>(
 {
     let mut found = Vec::new(alloc);
     for lint in lints {
-        add(&mut found, *lint, &names_found(alloc, defs, *lint)?)?;
+        add(&mut found, *lint, &find_names(alloc, defs, *lint)?)?;
     }
     Ok(found)
 }
 
-/// Gives the names that a lint finds.
-fn names_found<'a>(alloc: Global, defs: &'a [Def], lint: Lint) -> Result<Vec<&'a Ident>, AllocError>
+/// The names that a lint finds, those that begin with `_` included.
+fn find_names(alloc: Global, defs: &[Def], lint: Lint) -> Result<Vec<&Ident>, AllocError>
     ensures { IfOk result
         (λ found. names_at found.items ≡ names_found lint (definitions_of defs.now)) }
 {
     match lint {
-        Lint::UnusedLet => rules::found_in(alloc, defs, rules::Asked::UnusedLets),
-        Lint::UnknownVariable => rules::found_in(alloc, defs, rules::Asked::UnknownVariables),
-        Lint::DuplicateRuleName => repeated_in(alloc, defs, Giving::RuleName),
-        Lint::DuplicateDeclaration => repeated_in(alloc, defs, Giving::Declaration),
-        Lint::DuplicateExtractor => repeated_in(alloc, defs, Giving::Extractor),
-        Lint::DuplicateConstructor => definitions::constructed_twice(alloc, defs),
-        Lint::WrongArity => terms::wrong_arities(alloc, defs),
-        Lint::UnknownTerm => terms::unknown_terms(alloc, defs),
-        Lint::UndefinedTerm => definitions::undefined_terms(alloc, defs),
-        Lint::UnusedBinding => rules::found_in(alloc, defs, rules::Asked::UnusedBindings),
-        Lint::UnusedPatternVariable => {
-            rules::found_in(alloc, defs, rules::Asked::UnusedPatternVariables)
-        }
-        Lint::ShadowedVariable => rules::found_in(alloc, defs, rules::Asked::ShadowedVariables),
+        Lint::UnusedLet => find_variables(alloc, defs, Asked::UnusedLets),
+        Lint::UnknownVariable => find_variables(alloc, defs, Asked::UnknownVariables),
+        Lint::DuplicateRuleName => repeats_in(alloc, defs, Giving::RuleName),
+        Lint::DuplicateDeclaration => repeats_in(alloc, defs, Giving::Declaration),
+        Lint::DuplicateExtractor => repeats_in(alloc, defs, Giving::Extractor),
+        Lint::DuplicateConstructor => repeated_constructors(alloc, defs),
+        Lint::WrongArity => wrong_arities(alloc, defs),
+        Lint::UnknownTerm => unknown_terms(alloc, defs),
+        Lint::UndefinedTerm => undefined_terms(alloc, defs),
+        Lint::UnusedBinding => find_variables(alloc, defs, Asked::UnusedBindings),
+        Lint::UnusedPatternVariable => find_variables(alloc, defs, Asked::UnusedPatternVariables),
+        Lint::ShadowedVariable => find_variables(alloc, defs, Asked::ShadowedVariables),
     }
 }

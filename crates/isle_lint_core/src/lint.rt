@@ -1,4 +1,4 @@
-//! The lints: their names, which are on without being asked for, and what they say.
+//! The lints: their names, defaults and messages.
 
 ghost use Rattle.std.specs.Prelude.{◌≡◌};
 ghost use Rattle.std.specs.List.{find};
@@ -6,37 +6,37 @@ ghost use Rattle.std.specs.Str.{bytes_eq};
 ghost use Rattle.isle_lint_core.specs.Lint.{all_lints, is_default, message, name};
 ghost use Rattle.isle_lint_core.specs.Lint.{needs_whole_program};
 
-/// A lint: one kind of finding.
+/// A lint, which finds one kind of mistake.
 #[derive(Clone, Copy, Debug, PartialEq, Eq, PartialOrd, Ord, Hash)]
 pub enum Lint {
     /// A variable that a `let` binds and nothing uses.
     UnusedLet,
-    /// A variable that an expression uses and nothing binds.
+    /// A variable that an expression uses and nothing binds before it.
     UnknownVariable,
     /// The name of a rule that an earlier rule has too.
     DuplicateRuleName,
     /// A term that an earlier `decl` declares too.
     DuplicateDeclaration,
-    /// A term that has an extractor already.
+    /// A term that has an earlier extractor.
     DuplicateExtractor,
-    /// A term with an `extern constructor` that has rules, or another `extern constructor`.
+    /// An `extern constructor` of a term that has rules or an earlier one.
     DuplicateConstructor,
-    /// A term with more or fewer arguments than its `decl`, or its variant, gives it.
+    /// A term with more or fewer arguments than its `decl` or its variant has.
     WrongArity,
-    /// A term that no `decl` declares and that is no variant.
+    /// A term that is used or defined, and is neither declared nor a variant.
     UnknownTerm,
-    /// A term that a `decl` declares, and that no rule, extractor or `extern` defines.
+    /// The term of a `decl` that no rule, extractor or `extern` defines.
     UndefinedTerm,
-    /// A variable in front of an `@` that nothing uses.
+    /// A variable before an `@` that nothing uses.
     UnusedBinding,
-    /// A variable that stands alone in a pattern and that nothing uses.
+    /// A variable alone in a pattern that nothing uses.
     UnusedPatternVariable,
-    /// A variable that a `let` binds, and that is bound already.
+    /// A variable that a `let` binds although it is bound already.
     ShadowedVariable,
 }
 
 impl Lint {
-    /// Each lint, once.
+    /// Each lint once, in the order of the variants.
     pub const ALL: [Lint; 12] = [
         Lint::UnusedLet,
         Lint::UnknownVariable,
@@ -52,7 +52,7 @@ impl Lint {
         Lint::ShadowedVariable,
     ];
 
-    /// The name of the lint: `unused-let`.
+    /// The name of the lint on the command line, such as `unused-let`.
     pub fn name(&self) -> &'static str
         ensures { result.now ≡ name self.now }
     {
@@ -72,14 +72,14 @@ impl Lint {
         }
     }
 
-    /// The lint that has this name; None where there is none.
+    /// The lint of this name, or `None` if there is none.
     pub fn named(text: &str) -> Option<Lint>
         ensures { result ≡ find (λ lint. bytes_eq (name lint) text.now) all_lints }
     {
         Lint::ALL.iter().copied().find(|lint| lint.name() == text)
     }
 
-    /// Whether the lint is on without being asked for.
+    /// Returns whether the lint is on by default.
     pub fn is_default(&self) -> bool
         ensures { result ≡ is_default self.now }
     {
@@ -99,7 +99,7 @@ impl Lint {
         }
     }
 
-    /// Whether the lint's findings mean something only where the definitions are a whole program.
+    /// Returns whether the lint's findings are meaningful only for a complete program.
     pub fn needs_whole_program(&self) -> bool
         ensures { result ≡ needs_whole_program self.now }
     {
@@ -109,7 +109,7 @@ impl Lint {
         }
     }
 
-    /// What a finding says in front of its name.
+    /// The message of a finding, which the name follows.
     pub fn message(&self) -> &'static str
         ensures { result.now ≡ message self.now }
     {

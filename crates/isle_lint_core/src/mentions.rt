@@ -1,4 +1,4 @@
-//! Terms, wherever definitions name them.
+//! The places where definitions name a term.
 
 ghost use Rattle.std.specs.Prelude.{◌≡◌, ◌++◌, IfOk, OnOk};
 ghost use Rattle.std.specs.List.{flat_map};
@@ -18,16 +18,15 @@ ghost use Rattle.isle_lint_core.specs.Mentions.{extractor_mentions, one_mention,
 use isle_ast::ast::{Def, Expr, Extern, Extractor, Ident, IfLet, LetDef, Pattern, Rule};
 use std::alloc::{AllocError, Global};
 
-/// A term where a definition names it.
+/// A place where a definition names a term.
 #[derive(Clone, Copy)]
 pub struct Mention<'a> {
-    /// Its name.
     pub name: &'a Ident,
-    /// How many arguments stand with it; None where there is no place for them.
+    /// The number of arguments there, or `None` if the place has none.
     pub count: Option<usize>,
 }
 
-/// Gives the terms that definitions name, each where it is named, in order.
+/// The places where definitions name a term, in source order.
 pub fn mentions(alloc: Global, defs: &[Def]) -> Result<Vec<Mention<'_>>, AllocError>
     ensures { IfOk result (λ found. mentions_at found.items ≡ mentions (definitions_of defs.now)) }
 {
@@ -38,7 +37,6 @@ pub fn mentions(alloc: Global, defs: &[Def]) -> Result<Vec<Mention<'_>>, AllocEr
     Ok(found)
 }
 
-/// Adds those of one definition.
 fn add_in_definition<'a>(def: &'a Def, found: &mut Vec<Mention<'a>>) -> Result<(), AllocError>
     ensures { OnOk result (mentions_at found.new.items
         ≡ mentions_at found.old.items ++ definition_mentions (definition_of def.now)) }
@@ -54,7 +52,6 @@ fn add_in_definition<'a>(def: &'a Def, found: &mut Vec<Mention<'a>>) -> Result<(
     }
 }
 
-/// Adds a term.
 fn add<'a>(
     name: &'a Ident,
     count: Option<usize>,
@@ -67,7 +64,6 @@ fn add<'a>(
     Ok(())
 }
 
-/// Adds those of an extractor: its own, and those of its template.
 fn add_in_extractor<'a>(
     extractor: &'a Extractor,
     found: &mut Vec<Mention<'a>>,
@@ -79,7 +75,6 @@ fn add_in_extractor<'a>(
     add_in_pattern(&extractor.template, found)
 }
 
-/// Adds those of a rule.
 fn add_in_rule<'a>(rule: &'a Rule, found: &mut Vec<Mention<'a>>) -> Result<(), AllocError>
     ensures { OnOk result (mentions_at found.new.items
         ≡ mentions_at found.old.items ++ rule_mentions (rule_of rule.now)) }
@@ -89,7 +84,6 @@ fn add_in_rule<'a>(rule: &'a Rule, found: &mut Vec<Mention<'a>>) -> Result<(), A
     add_in_expression(&rule.expr, found)
 }
 
-/// Adds those of conditions.
 fn add_in_conditions<'a>(
     conditions: &'a [IfLet],
     found: &mut Vec<Mention<'a>>,
@@ -104,21 +98,18 @@ fn add_in_conditions<'a>(
     Ok(())
 }
 
-/// Gives the number of patterns.
 fn pattern_count(patterns: &Vec<Pattern>) -> usize
     ensures { result ≡ pattern_count (pattern_list_of (patterns_of patterns.now.items)) }
 {
     patterns.len()
 }
 
-/// Gives the number of expressions.
 fn expression_count(exprs: &Vec<Expr>) -> usize
     ensures { result ≡ expression_count (expression_list_of (expressions_of exprs.now.items)) }
 {
     exprs.len()
 }
 
-/// Adds those of a pattern.
 #[cycle(pattern_mentions)]
 fn add_in_pattern<'a>(pattern: &'a Pattern, found: &mut Vec<Mention<'a>>) -> Result<(), AllocError>
     ensures { OnOk result (mentions_at found.new.items
@@ -140,7 +131,6 @@ fn add_in_pattern<'a>(pattern: &'a Pattern, found: &mut Vec<Mention<'a>>) -> Res
     }
 }
 
-/// Adds those of patterns.
 #[cycle(pattern_mentions)]
 fn add_in_patterns<'a>(
     patterns: &'a Vec<Pattern>,
@@ -155,7 +145,6 @@ fn add_in_patterns<'a>(
     Ok(())
 }
 
-/// Adds those of an expression.
 #[cycle(expression_mentions)]
 fn add_in_expression<'a>(expr: &'a Expr, found: &mut Vec<Mention<'a>>) -> Result<(), AllocError>
     ensures { OnOk result (mentions_at found.new.items
@@ -177,7 +166,6 @@ fn add_in_expression<'a>(expr: &'a Expr, found: &mut Vec<Mention<'a>>) -> Result
     }
 }
 
-/// Adds those of expressions.
 #[cycle(expression_mentions)]
 fn add_in_expressions<'a>(
     exprs: &'a Vec<Expr>,
@@ -192,7 +180,6 @@ fn add_in_expressions<'a>(
     Ok(())
 }
 
-/// Adds those of the values of a `let`.
 #[cycle(expression_mentions)]
 fn add_in_lets<'a>(defs: &'a Vec<LetDef>, found: &mut Vec<Mention<'a>>) -> Result<(), AllocError>
     ensures { OnOk result (mentions_at found.new.items ≡ mentions_at found.old.items

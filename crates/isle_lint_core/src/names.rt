@@ -1,17 +1,16 @@
-//! Names among other names.
+//! Lists of names: which occur twice, and which are not in another list.
 
 ghost use Rattle.std.specs.Prelude.{◌≡◌, ◌∷◌, ◌++◌, List, IfOk, OnOk, not};
 ghost use Rattle.isle_ast_names.specs.Tree.{Name};
 ghost use Rattle.isle_ast_names.specs.TreeView.{name_of};
-ghost use Rattle.isle_lint_core.specs.Names.{absent, has, is_private, kept_if, names_at};
-ghost use Rattle.isle_lint_core.specs.Names.{repeated};
+ghost use Rattle.isle_lint_core.specs.Names.{absent, has, is_private, kept_if, names_at, repeated};
 ghost use Rattle.isle_lint_core.specs.Seen.{Knows};
 
 use isle_ast::ast::Ident;
 use std::alloc::{AllocError, Global};
 use std::collections::BTreeSet;
 
-/// Adds a name, where it counts.
+/// Adds a name if it counts.
 pub fn add_if<'a>(
     counts: bool,
     name: &'a Ident,
@@ -26,7 +25,6 @@ pub fn add_if<'a>(
     Ok(())
 }
 
-/// Tells whether one of the names has this text.
 pub fn has(names: &[&Ident], text: &str) -> bool
     ensures { result ≡ has (names_at names.now) text.now }
 {
@@ -38,7 +36,7 @@ pub fn has(names: &[&Ident], text: &str) -> bool
     false
 }
 
-/// Tells whether a name begins with `_`.
+/// Returns whether a name begins with `_`.
 pub fn is_private(text: &str) -> bool
     ensures { result ≡ is_private text.now }
 {
@@ -48,8 +46,8 @@ pub fn is_private(text: &str) -> bool
     }
 }
 
-/// Gives the names whose text one of the earlier names has, or one that stands before.
-pub fn repeated<'a>(
+/// The names that are equal to one of `earlier` or to a name before them, by text.
+pub fn repeats<'a>(
     alloc: Global,
     earlier: &[&'a Ident],
     names: &[&'a Ident],
@@ -58,11 +56,11 @@ pub fn repeated<'a>(
         ≡ repeated (names_at earlier.now) (names_at names.now)) }
 {
     let mut seen = texts(alloc, earlier)?;
-    add_repeated(alloc, &mut seen, names)
+    find_repeats(alloc, &mut seen, names)
 }
 
-/// Gives the names whose text none of the others has.
-pub fn absent<'a>(
+/// The names that are not among `others`, by text.
+pub fn absent_names<'a>(
     alloc: Global,
     others: &[&'a Ident],
     names: &[&'a Ident],
@@ -79,7 +77,6 @@ pub fn absent<'a>(
     Ok(found)
 }
 
-/// Gives the texts of names.
 fn texts<'a>(alloc: Global, names: &[&'a Ident]) -> Result<BTreeSet<&'a str>, AllocError>
     ensures { IfOk result (λ seen. Knows seen (names_at names.now)) }
 {
@@ -90,7 +87,6 @@ fn texts<'a>(alloc: Global, names: &[&'a Ident]) -> Result<BTreeSet<&'a str>, Al
     Ok(seen)
 }
 
-/// Tells whether one of the texts is that of the name.
 fn is_seen<'a>(seen: &BTreeSet<&'a str>, name: &'a Ident) -> bool
     ensures { (names : List Name) → Knows seen.now names
         → result ≡ has names (name_of name.now).text }
@@ -98,8 +94,8 @@ fn is_seen<'a>(seen: &BTreeSet<&'a str>, name: &'a Ident) -> bool
     seen.contains(&name.0.as_str())
 }
 
-/// Gives the names that are seen already, or that stand after an equal one.
-fn add_repeated<'a>(
+/// The names that are in `seen` or equal to a name before them. Adds all of them to `seen`.
+fn find_repeats<'a>(
     alloc: Global,
     seen: &mut BTreeSet<&'a str>,
     names: &[&'a Ident],
@@ -115,7 +111,7 @@ fn add_repeated<'a>(
     Ok(found)
 }
 
-/// Puts a name to those that are seen, and tells whether it is a new one.
+/// Adds a name to `seen`. Returns whether it is new.
 fn put<'a>(seen: &mut BTreeSet<&'a str>, name: &'a Ident) -> Result<bool, AllocError>
     ensures new { IfOk result (λ new. (names : List Name) → Knows seen.old names
         → new ≡ not (has names (name_of name.now).text)) }

@@ -4,29 +4,28 @@ ghost use Rattle.std.specs.Prelude.{◌≡◌, ◌++◌, IfOk, OnOk};
 ghost use Rattle.isle_ast_rules.specs.TreeView.{conditions_of, pattern_of, pattern_list_of};
 ghost use Rattle.isle_ast_rules.specs.TreeView.{patterns_of, rule_of};
 ghost use Rattle.isle_lint_core.specs.Names.{names_at};
-ghost use Rattle.isle_lint_core.specs.Variables.{all, condition_variables, list_variables};
+ghost use Rattle.isle_lint_core.specs.Variables.{condition_variables, list_variables};
 ghost use Rattle.isle_lint_core.specs.Variables.{rule_variables, variables};
 
 use crate::names::add_if;
 use isle_ast::ast::{Ident, IfLet, Pattern, Rule};
 use std::alloc::{AllocError, Global};
 
-/// Which variables of a pattern are wanted.
+/// Which variables of a pattern to list.
 #[derive(Clone, Copy)]
 pub struct Wanted {
-    /// Those that stand alone.
+    /// Those that are patterns of their own.
     pub alone: bool,
-    /// Those in front of an `@`.
+    /// Those before an `@`.
     pub bindings: bool,
 }
 
-/// All variables.
 pub const ALL: Wanted = Wanted {
     alone: true,
     bindings: true,
 };
 
-/// Gives the variables of all patterns of a rule, each where it is written, in order.
+/// The variables of all patterns of a rule, once for each occurrence, in source order.
 pub fn rule_variables(alloc: Global, rule: &Rule) -> Result<Vec<&Ident>, AllocError>
     ensures { IfOk result (λ names. names_at names.items ≡ rule_variables (rule_of rule.now)) }
 {
@@ -35,7 +34,7 @@ pub fn rule_variables(alloc: Global, rule: &Rule) -> Result<Vec<&Ident>, AllocEr
     Ok(names)
 }
 
-/// Gives the wanted variables of a pattern, each where it is written, in order.
+/// The wanted variables of a pattern, once for each occurrence, in source order.
 pub fn variables(
     alloc: Global,
     pattern: &Pattern,
@@ -49,7 +48,6 @@ pub fn variables(
     Ok(names)
 }
 
-/// Adds the variables of the patterns of conditions, in order.
 fn add_condition_variables<'a>(
     conditions: &'a [IfLet],
     names: &mut Vec<&'a Ident>,
@@ -63,7 +61,6 @@ fn add_condition_variables<'a>(
     Ok(())
 }
 
-/// Adds the wanted variables of a pattern, each where it is written, in order.
 #[cycle(variables)]
 pub fn add_variables<'a>(
     pattern: &'a Pattern,
@@ -90,7 +87,6 @@ pub fn add_variables<'a>(
     Ok(())
 }
 
-/// Adds the wanted variables of patterns, in order.
 #[cycle(variables)]
 fn add_list_variables<'a>(
     patterns: &'a Vec<Pattern>,

@@ -1,13 +1,13 @@
-//! The variables of rules.
+//! The variables of rules: which are unused, unknown or shadowed.
 
 ghost use Rattle.std.specs.Prelude.{◌≡◌, ◌++◌, IfOk, OnOk, count_by, ◌==◌};
 ghost use Rattle.std.specs.List.{flat_map};
 ghost use Rattle.std.specs.Str.{bytes_eq};
-ghost use Rattle.isle_ast.specs.TreeView.{definition_of, definitions_of};
-ghost use Rattle.isle_ast_names.specs.TreeView.{name_of, names_of};
+ghost use Rattle.isle_ast.specs.TreeView.{definitions_of};
+ghost use Rattle.isle_ast_names.specs.TreeView.{names_of};
 ghost use Rattle.isle_ast_rules.specs.TreeView.{conditions_of, expression_of, extractor_of};
-ghost use Rattle.isle_ast_rules.specs.TreeView.{pattern_of, rule_of};
-ghost use Rattle.isle_lint_core.specs.Findings.{asked_of, of_rule, of_rules};
+ghost use Rattle.isle_ast_rules.specs.TreeView.{rule_of};
+ghost use Rattle.isle_lint_core.specs.Findings.{asked_of, of_rules};
 ghost use Rattle.isle_lint_core.specs.Names.{has, names_at};
 ghost use Rattle.isle_lint_core.specs.Shadowed.{conditions_shadowed, shadowed_variables};
 ghost use Rattle.isle_lint_core.specs.Unknown.{conditions_unknown, unknown_variables};
@@ -15,47 +15,40 @@ ghost use Rattle.isle_lint_core.specs.Unused.{conditions_idle, idle, is_idle, ru
 ghost use Rattle.isle_lint_core.specs.Unused.{unused, unused_lets};
 ghost use Rattle.isle_lint_core.specs.Uses.{uses_after};
 ghost use Rattle.isle_lint_core.specs.Variables.{condition_variables, own_variables};
-ghost use Rattle.isle_lint_core.specs.Variables.{template_variables, variables};
+ghost use Rattle.isle_lint_core.specs.Variables.{template_variables};
 
 use crate::expressions::{add_shadowed, add_unknown, add_unused, uses};
 use crate::names::{add_if, has};
 use crate::patterns::{ALL, Wanted, add_variables, rule_variables, variables};
-use isle_ast::ast::{Def, Expr, Extractor, Ident, IfLet, Pattern, Rule};
+use isle_ast::ast::{Def, Expr, Extractor, Ident, IfLet, Rule};
 use std::alloc::{AllocError, Global};
 
-/// Which variables of rules are asked for.
+/// Which variables of rules to find.
 #[derive(Clone, Copy)]
 pub enum Asked {
     /// Those that a `let` binds and nothing uses.
     UnusedLets,
-    /// Those that an expression uses and nothing binds before.
+    /// Those that an expression uses and nothing binds before it.
     UnknownVariables,
-    /// Those in front of an `@` that nothing uses.
+    /// Those before an `@` that nothing uses.
     UnusedBindings,
-    /// Those that stand alone in a pattern and that nothing uses.
+    /// Those alone in a pattern that nothing uses.
     UnusedPatternVariables,
-    /// Those that a `let` binds, and that are bound already.
+    /// Those that a `let` binds although they are bound already.
     ShadowedVariables,
 }
 
-/// The variables in front of an `@`.
 const BINDINGS: Wanted = Wanted {
     alone: false,
     bindings: true,
 };
 
-/// The variables that stand alone.
 const ALONE: Wanted = Wanted {
     alone: true,
     bindings: false,
 };
 
-/// Gives the variables of rules that are asked for.
-pub fn found_in<'a>(
-    alloc: Global,
-    defs: &'a [Def],
-    asked: Asked,
-) -> Result<Vec<&'a Ident>, AllocError>
+pub fn find_variables(alloc: Global, defs: &[Def], asked: Asked) -> Result<Vec<&Ident>, AllocError>
     ensures { IfOk result (λ found. names_at found.items
         ≡ of_rules (asked_of asked (template_variables (definitions_of defs.now)))
         (definitions_of defs.now)) }
@@ -64,14 +57,14 @@ pub fn found_in<'a>(
     let mut found = Vec::new(alloc);
     for def in defs {
         if let Def::Rule(rule) = def {
-            add_found(alloc, rule, &outer, asked, &mut found)?;
+            add_asked(alloc, rule, &outer, asked, &mut found)?;
         }
     }
     Ok(found)
 }
 
-/// Adds those of one rule, where these names are bound around it.
-fn add_found<'a>(
+/// Adds those of one rule. The names `outer` are bound around it.
+fn add_asked<'a>(
     alloc: Global,
     rule: &'a Rule,
     outer: &[&'a Ident],
@@ -90,7 +83,7 @@ fn add_found<'a>(
     }
 }
 
-/// Gives the variables that the templates of extractors bind.
+/// The variables that the templates of extractors bind.
 fn template_variables(alloc: Global, defs: &[Def]) -> Result<Vec<&Ident>, AllocError>
     ensures { IfOk result
         (λ names. names_at names.items ≡ template_variables (definitions_of defs.now)) }
@@ -120,7 +113,6 @@ fn add_own_variables<'a>(
     Ok(())
 }
 
-/// Tells whether one of the parameters has this text.
 fn is_parameter(parameters: &[Ident], text: &str) -> bool
     ensures { result ≡ has (names_of parameters.now) text.now }
 {
@@ -132,7 +124,7 @@ fn is_parameter(parameters: &[Ident], text: &str) -> bool
     false
 }
 
-/// Adds the variables of the rule's patterns that are wanted and that nothing uses.
+/// Adds the wanted variables of the rule's patterns that nothing uses.
 fn add_rule_idle<'a>(
     alloc: Global,
     rule: &'a Rule,
@@ -148,7 +140,7 @@ fn add_rule_idle<'a>(
     add_conditions_idle(alloc, &written, wanted, &rule.iflets, &rule.expr, found)
 }
 
-/// Adds the variables of the conditions' patterns that are wanted and that nothing uses.
+/// Adds the wanted variables of the conditions' patterns that nothing uses.
 fn add_conditions_idle<'a>(
     alloc: Global,
     written: &[&Ident],
@@ -168,7 +160,7 @@ fn add_conditions_idle<'a>(
     Ok(())
 }
 
-/// Adds those of a pattern's own variables that are written once in the rule's patterns and that no
+/// Adds those of a pattern's `own` variables that occur once in the rule's patterns, and that no
 /// expression after the pattern uses.
 fn add_idle<'a>(
     written: &[&Ident],
@@ -188,7 +180,7 @@ fn add_idle<'a>(
     Ok(())
 }
 
-/// Tells whether a variable is written once in the rule's patterns, and no expression after its
+/// Returns whether a variable occurs once in the rule's patterns, and no expression after its
 /// pattern uses it.
 fn is_idle(written: &[&Ident], after: &[IfLet], expr: &Expr, name: &str) -> bool
     ensures { result ≡ is_idle (names_at written.now)
@@ -197,7 +189,7 @@ fn is_idle(written: &[&Ident], after: &[IfLet], expr: &Expr, name: &str) -> bool
     is_single(written, name) && !uses_after(after, expr, name)
 }
 
-/// Tells whether a name is written once.
+/// Returns whether a name occurs once.
 fn is_single(written: &[&Ident], text: &str) -> bool
     ensures { result
         ≡ (count_by (λ name. bytes_eq name.text text.now) (names_at written.now) == 1) }
@@ -209,7 +201,7 @@ fn is_single(written: &[&Ident], text: &str) -> bool
         == 1
 }
 
-/// Tells whether the expression of one of the conditions, or the expression, uses a variable.
+/// Returns whether the expression of one of the conditions, or `expr`, uses a variable.
 fn uses_after(after: &[IfLet], expr: &Expr, name: &str) -> bool
     ensures { result ≡ uses_after (conditions_of after.now) (expression_of expr.now) name.now }
 {
@@ -221,7 +213,7 @@ fn uses_after(after: &[IfLet], expr: &Expr, name: &str) -> bool
     uses(expr, name)
 }
 
-/// Adds the variables that a `let` of the rule binds and nothing uses.
+/// Adds the variables that a `let` in the rule binds and nothing uses.
 fn add_unused_lets<'a>(rule: &'a Rule, found: &mut Vec<&'a Ident>) -> Result<(), AllocError>
     ensures { OnOk result (names_at found.new.items
         ≡ names_at found.old.items ++ unused_lets (rule_of rule.now)) }
@@ -230,7 +222,6 @@ fn add_unused_lets<'a>(rule: &'a Rule, found: &mut Vec<&'a Ident>) -> Result<(),
     add_unused(&rule.expr, found)
 }
 
-/// Adds the variables that a `let` of the conditions binds and nothing uses.
 fn add_conditions_unused<'a>(
     conditions: &'a [IfLet],
     found: &mut Vec<&'a Ident>,
@@ -245,8 +236,8 @@ fn add_conditions_unused<'a>(
     Ok(())
 }
 
-/// Adds the variables that an expression of the rule uses and nothing binds before, where these
-/// names are bound around the rule.
+/// Adds the variables that an expression of the rule uses and nothing binds before it. The names
+/// `outer` are bound around the rule.
 fn add_unknown_variables<'a>(
     alloc: Global,
     rule: &'a Rule,
@@ -262,8 +253,8 @@ fn add_unknown_variables<'a>(
     add_unknown(&rule.expr, &mut bound, found)
 }
 
-/// Adds the variables that the expressions of conditions use and nothing binds before, and binds
-/// those of their patterns.
+/// Adds the variables that the conditions' expressions use and nothing binds before. Adds those of
+/// their patterns to `bound`.
 fn add_conditions_unknown<'a>(
     conditions: &'a [IfLet],
     bound: &mut Vec<&'a Ident>,
@@ -281,7 +272,7 @@ fn add_conditions_unknown<'a>(
     Ok(())
 }
 
-/// Adds the variables that a `let` of the rule binds, and that are bound already.
+/// Adds the variables that a `let` in the rule binds although they are bound already.
 fn add_shadowed_variables<'a>(
     alloc: Global,
     rule: &'a Rule,
@@ -295,8 +286,8 @@ fn add_shadowed_variables<'a>(
     add_shadowed(&rule.expr, &mut bound, found)
 }
 
-/// Adds the variables that a `let` of the conditions binds and that are bound already, and binds
-/// those of their patterns.
+/// Adds the variables that a `let` in the conditions binds although they are bound already. Adds
+/// those of the conditions' patterns to `bound`.
 fn add_conditions_shadowed<'a>(
     conditions: &'a [IfLet],
     bound: &mut Vec<&'a Ident>,

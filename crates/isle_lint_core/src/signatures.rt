@@ -1,4 +1,4 @@
-//! How many arguments terms take, as far as definitions say it.
+//! The number of arguments of each term that definitions declare.
 
 ghost use Rattle.std.specs.Prelude.{◌≡◌, ◌∷◌, ◌++◌, [], codes, string_bytes, IfOk, OnOk, List};
 ghost use Rattle.isle_ast.specs.TreeView.{definition_of, definitions_of, fields_of};
@@ -11,8 +11,8 @@ use isle_ast::ast::{Def, Fields, Ident, TypeDef, TypeValue};
 use std::alloc::{AllocError, Global};
 use std::collections::BTreeMap;
 
-/// Gives how many arguments each term takes that a definition declares, and each variant of an
-/// enum; where there are several of a name, the last one.
+/// The number of arguments of each declared term and each variant, by name. If several have one
+/// name, the last one counts.
 pub fn counts(alloc: Global, defs: &[Def]) -> Result<BTreeMap<String, usize>, AllocError>
     ensures { IfOk result (λ counts. Counts counts (signatures (definitions_of defs.now))) }
 {
@@ -23,7 +23,6 @@ pub fn counts(alloc: Global, defs: &[Def]) -> Result<BTreeMap<String, usize>, Al
     Ok(counts)
 }
 
-/// Puts the terms of one definition to the others.
 fn put_definition(
     alloc: Global,
     def: &Def,
@@ -39,7 +38,7 @@ fn put_definition(
     }
 }
 
-/// Puts the variants of a type to the others, where it is an enum.
+/// Adds the variants of a type if it is an enum.
 fn put_variants(
     alloc: Global,
     ty: &TypeDef,
@@ -57,7 +56,6 @@ fn put_variants(
     Ok(())
 }
 
-/// Puts a term to the others.
 fn put(counts: &mut BTreeMap<String, usize>, name: String, count: usize) -> Result<(), AllocError>
     ensures { OnOk result ((known : List Signature) → Counts counts.old known
         → Counts counts.new (known ++ record { name = string_bytes name; count = count } ∷ [])) }
@@ -66,7 +64,7 @@ fn put(counts: &mut BTreeMap<String, usize>, name: String, count: usize) -> Resu
     Ok(())
 }
 
-/// Gives the name by which programs call a variant.
+/// The name of a variant as a term, `TYPE.VARIANT`.
 fn full_name(alloc: Global, ty: &Ident, variant: &Ident) -> Result<String, AllocError>
     ensures { IfOk result (λ name. string_bytes name
         ≡ string_bytes ty.now.0 ++ codes "." ++ string_bytes variant.now.0) }
@@ -77,7 +75,6 @@ fn full_name(alloc: Global, ty: &Ident, variant: &Ident) -> Result<String, Alloc
     Ok(name)
 }
 
-/// Gives the number of fields.
 fn field_count(fields: &Fields) -> usize
     ensures { result ≡ field_count (fields_of fields.now) }
 {

@@ -1,4 +1,4 @@
-//! Terms with a wrong number of arguments, and terms that nothing gives.
+//! Terms with a wrong number of arguments, and unknown terms.
 
 ghost use Rattle.std.specs.Prelude.{◌≡◌, IfOk, List};
 ghost use Rattle.isle_ast.specs.TreeView.{definitions_of};
@@ -16,8 +16,8 @@ use isle_ast::ast::{Def, Ident};
 use std::alloc::{AllocError, Global};
 use std::collections::BTreeMap;
 
-/// Gives the terms that have more or fewer arguments than they take.
-pub fn wrong_arities<'a>(alloc: Global, defs: &'a [Def]) -> Result<Vec<&'a Ident>, AllocError>
+/// The terms that have more or fewer arguments than they take.
+pub fn wrong_arities(alloc: Global, defs: &[Def]) -> Result<Vec<&Ident>, AllocError>
     ensures { IfOk result
         (λ found. names_at found.items ≡ wrong_arities (definitions_of defs.now)) }
 {
@@ -31,8 +31,8 @@ pub fn wrong_arities<'a>(alloc: Global, defs: &'a [Def]) -> Result<Vec<&'a Ident
     Ok(found)
 }
 
-/// Gives the terms that no `decl` declares and that are no variants.
-pub fn unknown_terms<'a>(alloc: Global, defs: &'a [Def]) -> Result<Vec<&'a Ident>, AllocError>
+/// The terms that are neither declared nor variants.
+pub fn unknown_terms(alloc: Global, defs: &[Def]) -> Result<Vec<&Ident>, AllocError>
     ensures { IfOk result
         (λ found. names_at found.items ≡ unknown_terms (definitions_of defs.now)) }
 {
@@ -46,7 +46,6 @@ pub fn unknown_terms<'a>(alloc: Global, defs: &'a [Def]) -> Result<Vec<&'a Ident
     Ok(found)
 }
 
-/// Tells whether a term has more or fewer arguments than it takes.
 fn has_wrong_arity(counts: &BTreeMap<String, usize>, mention: &Mention) -> bool
     ensures { (known : List Signature) → Counts counts.now known
         → result ≡ has_wrong_arity known (mention_of mention.now) }
@@ -57,7 +56,7 @@ fn has_wrong_arity(counts: &BTreeMap<String, usize>, mention: &Mention) -> bool
     }
 }
 
-/// Tells whether nothing says how many arguments a term takes.
+/// Returns whether a term is neither declared nor a variant.
 fn is_unknown(counts: &BTreeMap<String, usize>, mention: &Mention) -> bool
     ensures { (known : List Signature) → Counts counts.now known
         → result ≡ is_unknown known (mention_of mention.now) }

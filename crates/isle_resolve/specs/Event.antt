@@ -1,4 +1,4 @@
--- What trees say of names, one thing after another.
+-- Events: each says that a name is defined, used or bound, or that a scope ends.
 use Rattle.isle_ast_names.specs.Tree.{Name}
 use Rattle.isle_resolve.specs.declared.event.Kind.{Kind}
 

@@ -1,6 +1,6 @@
 -- The events of definitions, in the order in which scopes are entered: the expression of a condition comes before its
--- pattern, and the value of a `let`'s definition before its variable. Specs and models name a term or a type; what
--- stands inside them is no event, since upstream's semantic pass does not look at it.
+-- pattern, and the value of a `let`'s definition before its variable. Specs and models name a term or a type; names
+-- inside them have no events, since upstream's semantic pass does not look at them.
 use Rattle.std.specs.Prelude.{List, [], ◌∷◌, ◌++◌, map}
 use Rattle.std.specs.List.{flat_map}
 use Rattle.isle_ast_names.specs.Tree.{Name}

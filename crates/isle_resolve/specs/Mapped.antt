@@ -1,4 +1,4 @@
--- Definitions and events with other names in the places of those that events speak of. All else stays.
+-- Definitions and events with the names replaced that events are about. All else stays as it is.
 use Rattle.std.specs.Prelude.{List, map}
 use Rattle.isle_ast_names.specs.Tree.{Name}
 use Rattle.isle_ast_rules.specs.Tree.{PatternNode, var_pattern, bind_pattern, bool_pattern, int_pattern, constant_pattern, term_pattern, wildcard_pattern, and_pattern, macro_arg_pattern, PatternList, no_pattern, more_pattern, Expression, term_expression, var_expression, bool_expression, int_expression, constant_expression, let_expression, ExpressionList, no_expression, more_expression, LetList, no_let, more_let, Condition, RuleDefinition, ExtractorDefinition}
@@ -117,7 +117,7 @@ map_definition f (instantiation i) = instantiation (map_instantiation f i)
 map_definition f (external e) = external (map_extern f e)
 map_definition f (converter c) = converter (map_conversion f c)
 
--- definitions, each name in them that an event speaks of replaced by what f gives for it
+-- definitions, with f applied to each name in them that an event is about
 abbrev pub map_definitions : (Name → Name) → List Definition → List Definition
 map_definitions f ds = map (map_definition f) ds
 

@@ -17,7 +17,7 @@ use crate::types::add_type;
 use isle_ast::ast::{AttrTarget, Converter, Decl, Def, Extern, Ident, Model, ModelValue};
 use std::alloc::{AllocError, Global};
 
-/// Gives the events of definitions, in order. An `Err` means that memory ran out.
+/// The events of `defs`, in order. An `Err` means out of memory.
 pub fn events(alloc: Global, defs: &[Def]) -> Result<Vec<Event<'_>>, AllocError>
     ensures { IfOk result (λ found. events_of found.items ≡ events (definitions_of defs.now)) }
 {
@@ -26,8 +26,8 @@ pub fn events(alloc: Global, defs: &[Def]) -> Result<Vec<Event<'_>>, AllocError>
     Ok(found)
 }
 
-/// Adds the events of definitions, in order. An `Err` means that memory ran out, and that some of
-/// them may have been added.
+/// Appends the events of `defs` to `found`, in order. An `Err` means out of memory, and that some
+/// of them may have been appended.
 pub fn add_events<'a>(defs: &'a [Def], found: &mut Vec<Event<'a>>) -> Result<(), AllocError>
     ensures { OnOk result (events_of found.new.items
         ≡ events_of found.old.items ++ events (definitions_of defs.now)) }
@@ -38,7 +38,6 @@ pub fn add_events<'a>(defs: &'a [Def], found: &mut Vec<Event<'a>>) -> Result<(),
     Ok(())
 }
 
-/// Adds those of one definition.
 fn add_definition<'a>(def: &'a Def, found: &mut Vec<Event<'a>>) -> Result<(), AllocError>
     ensures { OnOk result (events_of found.new.items
         ≡ events_of found.old.items ++ definition_events (definition_of def.now)) }
@@ -63,7 +62,7 @@ fn add_definition<'a>(def: &'a Def, found: &mut Vec<Event<'a>>) -> Result<(), Al
     }
 }
 
-/// Adds those of a declaration: its term, and the types of its arguments and of its value.
+/// Adds the definition of the term, and the uses of its argument types and its return type.
 fn add_declaration<'a>(decl: &'a Decl, found: &mut Vec<Event<'a>>) -> Result<(), AllocError>
     ensures { OnOk result (events_of found.new.items
         ≡ events_of found.old.items ++ declaration_events (declaration_of decl.now)) }
@@ -73,7 +72,7 @@ fn add_declaration<'a>(decl: &'a Decl, found: &mut Vec<Event<'a>>) -> Result<(),
     add(Event::Uses(Kind::Type, Word::new(&decl.ret_ty)), found)
 }
 
-/// Adds uses of types.
+/// Adds a use of each type.
 fn add_types<'a>(types: &'a [Ident], found: &mut Vec<Event<'a>>) -> Result<(), AllocError>
     ensures { OnOk result (events_of found.new.items
         ≡ events_of found.old.items ++ map (uses kinds.Type) (names_of types.now)) }
@@ -84,7 +83,7 @@ fn add_types<'a>(types: &'a [Ident], found: &mut Vec<Event<'a>>) -> Result<(), A
     Ok(())
 }
 
-/// Adds those of what attributes speak of.
+/// Adds a use of the term that has the attributes. The names of rules have no events.
 fn add_target<'a>(target: &'a AttrTarget, found: &mut Vec<Event<'a>>) -> Result<(), AllocError>
     ensures { OnOk result (events_of found.new.items
         ≡ events_of found.old.items ++ target_events (target_of target.now)) }
@@ -95,7 +94,7 @@ fn add_target<'a>(target: &'a AttrTarget, found: &mut Vec<Event<'a>>) -> Result<
     }
 }
 
-/// Adds those of a model: the type whose model it is.
+/// Adds a use of the type that is modelled. A model of a constant has no events.
 fn add_model<'a>(model: &'a Model, found: &mut Vec<Event<'a>>) -> Result<(), AllocError>
     ensures { OnOk result (events_of found.new.items ≡ events_of found.old.items
         ++ model_events (name_of model.now.name) (model_content_of model.now.val)) }
@@ -106,7 +105,6 @@ fn add_model<'a>(model: &'a Model, found: &mut Vec<Event<'a>>) -> Result<(), All
     }
 }
 
-/// Adds those of what is defined outside.
 fn add_extern<'a>(external: &'a Extern, found: &mut Vec<Event<'a>>) -> Result<(), AllocError>
     ensures { OnOk result (events_of found.new.items
         ≡ events_of found.old.items ++ extern_events (extern_of external.now)) }
@@ -122,7 +120,6 @@ fn add_extern<'a>(external: &'a Extern, found: &mut Vec<Event<'a>>) -> Result<()
     }
 }
 
-/// Adds those of a conversion.
 fn add_converter<'a>(converter: &'a Converter, found: &mut Vec<Event<'a>>) -> Result<(), AllocError>
     ensures { OnOk result (events_of found.new.items
         ≡ events_of found.old.items ++ conversion_events (conversion_of converter.now)) }

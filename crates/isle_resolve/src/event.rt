@@ -1,4 +1,4 @@
-//! Events: what trees say of names, one thing after another.
+//! Events: each says that a name is defined, used or bound, or that a scope ends.
 
 ghost use Rattle.std.specs.Prelude.{◌≡◌, ◌++◌, ◌∷◌, [], OnOk};
 ghost use Rattle.isle_ast_names.specs.TreeView.{name_of};
@@ -8,28 +8,27 @@ use isle_ast::ast::Ident;
 use isle_base::lexer::Pos;
 use std::alloc::AllocError;
 
-/// What a name that holds in the whole program names.
+/// The kind of a name that is visible in the whole program.
 #[derive(Clone, Copy, Debug, PartialEq, Eq)]
 pub enum Kind {
-    /// A term, which a `decl` gives, or a variant of a type, `TYPE.VARIANT`.
+    /// A term declared by a `decl`, or a variant of a type, `TYPE.VARIANT`.
     Term,
-    /// A type, which a `type` gives.
+    /// A type defined by a `type`.
     Type,
-    /// A constant, which an `extern const` gives; its text has no `$`.
+    /// A constant defined by an `extern const`. Its text has no `$`.
     Constant,
 }
 
-/// A name where it is written.
+/// A name as it occurs in the source.
 #[derive(Clone, Copy, Debug)]
 pub struct Word<'a> {
-    /// Its text.
+    /// Its text, which for a constant has no `$`.
     pub text: &'a str,
-    /// Its position: of a constant that of the `$`.
+    /// The position of its first byte, which for a constant is the `$`.
     pub pos: Pos,
 }
 
 impl<'a> Word<'a> {
-    /// Makes the word of an identifier.
     pub fn new(ident: &'a Ident) -> Self
         ensures { word_of result ≡ name_of ident.now }
     {
@@ -40,34 +39,33 @@ impl<'a> Word<'a> {
     }
 }
 
-/// What a tree says of a name, or of the scopes of variables.
+/// What happens to a name at one place of the source, or the end of a scope.
 #[derive(Clone, Copy, Debug)]
 pub enum Event<'a> {
-    /// A `decl`, a type or an outside constant gives a name.
+    /// A `decl`, a `type` or an `extern const` defines a name.
     Defines(Kind, Word<'a>),
     /// A name is used.
     Uses(Kind, Word<'a>),
-    /// A type gives a variant, which is the term `OWNER.MEMBER`.
+    /// A `type` defines a variant, which is the term `OWNER.MEMBER`.
     DefinesVariant {
         /// The type.
         owner: Word<'a>,
         /// The variant's own name.
         member: Word<'a>,
     },
-    /// A variable of a pattern, or a parameter of an extractor. It binds the variable where nothing
-    /// has bound it, and else it uses it.
+    /// A variable in a pattern, or a parameter of an extractor. It binds the variable if nothing
+    /// has bound it before, and uses it otherwise.
     Occurs(Word<'a>),
     /// A `let` binds a variable.
     Binds(Word<'a>),
     /// An expression uses a variable.
     Reads(Word<'a>),
-    /// The scope of the last variable that a `let` bound ends.
+    /// The scope of the variable that a `let` bound last ends.
     Closes,
-    /// The scope of a rule or of an extractor ends.
+    /// The scope of a rule or an extractor ends.
     Ends,
 }
 
-/// Adds one event.
 pub(crate) fn add<'a>(event: Event<'a>, found: &mut Vec<Event<'a>>) -> Result<(), AllocError>
     ensures { OnOk result (events_of found.new.items
         ≡ events_of found.old.items ++ event_of event.entry ∷ []) }

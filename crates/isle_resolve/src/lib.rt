@@ -1,5 +1,5 @@
-//! The events of trees: one flat list of what definitions of ISLE say of names, in the order in
-//! which scopes are entered. Names and scopes are functions over this list.
+//! The definitions, uses and scopes of the names in ISLE definitions: one flat list of events, in
+//! the order in which scopes are entered. What each name means follows from this list alone.
 #![tactic(auto)]
 
 mod definitions;

@@ -18,7 +18,6 @@ use crate::event::{Event, Kind, Word, add};
 use isle_ast::ast::{Expr, Extractor, Ident, IfLet, LetDef, Pattern, Rule};
 use std::alloc::AllocError;
 
-/// Adds those of a rule.
 pub fn add_rule<'a>(rule: &'a Rule, found: &mut Vec<Event<'a>>) -> Result<(), AllocError>
     ensures { OnOk result (events_of found.new.items
         ≡ events_of found.old.items ++ rule_events (rule_of rule.now)) }
@@ -29,7 +28,7 @@ pub fn add_rule<'a>(rule: &'a Rule, found: &mut Vec<Event<'a>>) -> Result<(), Al
     add(Event::Ends, found)
 }
 
-/// Adds those of conditions: of each, first those of its expression.
+/// Adds the events of each condition, those of its expression before those of its pattern.
 fn add_conditions<'a>(conditions: &'a [IfLet], found: &mut Vec<Event<'a>>) -> Result<(), AllocError>
     ensures { OnOk result (events_of found.new.items ≡ events_of found.old.items
         ++ flat_map condition_events (conditions_of conditions.now)) }
@@ -41,7 +40,6 @@ fn add_conditions<'a>(conditions: &'a [IfLet], found: &mut Vec<Event<'a>>) -> Re
     Ok(())
 }
 
-/// Adds those of an extractor.
 pub fn add_extractor<'a>(
     extractor: &'a Extractor,
     found: &mut Vec<Event<'a>>,
@@ -55,7 +53,6 @@ pub fn add_extractor<'a>(
     add(Event::Ends, found)
 }
 
-/// Adds those of parameters.
 fn add_parameters<'a>(parameters: &'a [Ident], found: &mut Vec<Event<'a>>) -> Result<(), AllocError>
     ensures { OnOk result (events_of found.new.items
         ≡ events_of found.old.items ++ map occurs (names_of parameters.now)) }
@@ -66,7 +63,6 @@ fn add_parameters<'a>(parameters: &'a [Ident], found: &mut Vec<Event<'a>>) -> Re
     Ok(())
 }
 
-/// Adds those of a pattern.
 #[cycle(pattern_events)]
 fn add_pattern<'a>(pattern: &'a Pattern, found: &mut Vec<Event<'a>>) -> Result<(), AllocError>
     ensures { OnOk result (events_of found.new.items
@@ -91,7 +87,6 @@ fn add_pattern<'a>(pattern: &'a Pattern, found: &mut Vec<Event<'a>>) -> Result<(
     }
 }
 
-/// Adds those of patterns.
 #[cycle(pattern_events)]
 fn add_patterns<'a>(
     patterns: &'a Vec<Pattern>,
@@ -106,7 +101,6 @@ fn add_patterns<'a>(
     Ok(())
 }
 
-/// Adds those of an expression.
 #[cycle(expression_events)]
 fn add_expression<'a>(expr: &'a Expr, found: &mut Vec<Event<'a>>) -> Result<(), AllocError>
     ensures { OnOk result (events_of found.new.items
@@ -128,7 +122,6 @@ fn add_expression<'a>(expr: &'a Expr, found: &mut Vec<Event<'a>>) -> Result<(), 
     }
 }
 
-/// Adds those of expressions.
 #[cycle(expression_events)]
 fn add_expressions<'a>(exprs: &'a Vec<Expr>, found: &mut Vec<Event<'a>>) -> Result<(), AllocError>
     ensures { OnOk result (events_of found.new.items ≡ events_of found.old.items
@@ -140,7 +133,7 @@ fn add_expressions<'a>(exprs: &'a Vec<Expr>, found: &mut Vec<Event<'a>>) -> Resu
     Ok(())
 }
 
-/// Adds those of the definitions of a `let`: of each value, and then of its type and its variable.
+/// Adds the events of each definition of a `let`: its value, then its type, then its variable.
 #[cycle(expression_events)]
 fn add_lets<'a>(defs: &'a Vec<LetDef>, found: &mut Vec<Event<'a>>) -> Result<(), AllocError>
     ensures { OnOk result (events_of found.new.items ≡ events_of found.old.items
@@ -154,7 +147,7 @@ fn add_lets<'a>(defs: &'a Vec<LetDef>, found: &mut Vec<Event<'a>>) -> Result<(),
     Ok(())
 }
 
-/// Adds the end of each variable of a `let`.
+/// Ends the scope of each variable of a `let`.
 fn add_let_ends<'a>(defs: &'a Vec<LetDef>, found: &mut Vec<Event<'a>>) -> Result<(), AllocError>
     ensures { OnOk result (events_of found.new.items ≡ events_of found.old.items
         ++ let_ends (let_list_of (single_lets_of defs.now.items))) }

@@ -15,7 +15,6 @@ use crate::event::{Event, Kind, Word, add};
 use isle_ast::ast::{Fields, Ident, StructField, TupleField, TypeDef, TypeValue, Variant};
 use std::alloc::AllocError;
 
-/// Adds those of a type.
 pub fn add_type<'a>(type_def: &'a TypeDef, found: &mut Vec<Event<'a>>) -> Result<(), AllocError>
     ensures { OnOk result (events_of found.new.items
         ≡ events_of found.old.items ++ type_events (type_definition_of type_def.now)) }
@@ -24,7 +23,6 @@ pub fn add_type<'a>(type_def: &'a TypeDef, found: &mut Vec<Event<'a>>) -> Result
     add_content(&type_def.name, &type_def.ty, found)
 }
 
-/// Adds those of what a type of this name consists of.
 fn add_content<'a>(
     owner: &'a Ident,
     content: &'a TypeValue,
@@ -40,7 +38,6 @@ fn add_content<'a>(
     }
 }
 
-/// Adds those of the variants of a type of this name.
 fn add_variants<'a>(
     owner: &'a Ident,
     variants: &'a [Variant],
@@ -55,7 +52,6 @@ fn add_variants<'a>(
     Ok(())
 }
 
-/// Adds those of one variant.
 fn add_variant<'a>(
     owner: &'a Ident,
     variant: &'a Variant,
@@ -72,7 +68,7 @@ fn add_variant<'a>(
     add_fields(&variant.fields, found)
 }
 
-/// Adds those of fields: their types.
+/// Adds a use of the type of each field.
 fn add_fields<'a>(fields: &'a Fields, found: &mut Vec<Event<'a>>) -> Result<(), AllocError>
     ensures { OnOk result (events_of found.new.items
         ≡ events_of found.old.items ++ field_events (fields_of fields.now)) }
@@ -84,7 +80,6 @@ fn add_fields<'a>(fields: &'a Fields, found: &mut Vec<Event<'a>>) -> Result<(), 
     }
 }
 
-/// Adds those of fields that have names.
 fn add_named_fields<'a>(
     fields: &'a [StructField],
     found: &mut Vec<Event<'a>>,
@@ -98,7 +93,6 @@ fn add_named_fields<'a>(
     Ok(())
 }
 
-/// Adds those of fields that are known by their places.
 fn add_indexed_fields<'a>(
     fields: &'a [TupleField],
     found: &mut Vec<Event<'a>>,

@@ -7,6 +7,6 @@ use Rattle.isle_lint_core.proofs.definitions.undefined_terms.Goals as goal
 
 pub returns : goal.returns
 returns c =
-    let Among : List Name → Type 0 = λ others. IfOk c.absent.result (λ found. names_at found.items ≡ absent others (names_at c.deref-2.result.now)) in
-    let Of : List Name → Type 0 = λ names. IfOk c.absent.result (λ found. names_at found.items ≡ absent (defined (definitions_of c.args.defs.now)) names) in
-    subst Of (ap names_at c.deref-2.ensures.value ∙ c.in_ok-declared.ensures) (subst Among (ap names_at c.deref.ensures.value ∙ c.in_ok-defined.ensures) c.absent.ensures)
+    let Among : List Name → Type 0 = λ others. IfOk c.absent_names.result (λ found. names_at found.items ≡ absent others (names_at c.deref-2.result.now)) in
+    let Of : List Name → Type 0 = λ names. IfOk c.absent_names.result (λ found. names_at found.items ≡ absent (defined (definitions_of c.args.defs.now)) names) in
+    subst Of (ap names_at c.deref-2.ensures.value ∙ c.in_ok-declared.ensures) (subst Among (ap names_at c.deref.ensures.value ∙ c.in_ok-defined.ensures) c.absent_names.ensures)
