@@ -3,15 +3,16 @@
 use crate::case::Case;
 use crate::errors::{line_map, overlap_error, parse_errors, refusal, shadowed_error};
 use crate::nodes::nodes;
+use crate::requests::request;
 use crate::terms::{substitute, template, terms};
 use crate::texts::{beginnings, damaged};
-use isle_syntax::ast::{Def, writable};
+use crate::trees::of_trees;
+use isle_syntax::ast::Def;
 use isle_syntax::format;
 use isle_syntax::lexer::{Fault, Lexer, Pos, Token};
-use isle_syntax::parser::{parse, parse_without_pos};
+use isle_syntax::parser::{Parser, parse, parse_without_pos};
 use isle_syntax::printer::{Looks, PrintFault, ToSExpr, fits};
-use isle_test_nodes::trees::{drop_definitions, read, show_definitions};
-use isle_test_writable::told_of_built;
+use isle_test_nodes::trees::{drop_definitions, next_word, read, show_definitions};
 use isle_tidy_core::tidy;
 use std::alloc::{AllocError, Global};
 use std::fmt::Debug;
@@ -45,12 +46,13 @@ pub fn placed(alloc: Global, text: &str) -> Result<String, AllocError> {
     Ok(out)
 }
 
-/// The answer of a case.
-pub fn answer(alloc: Global, case: &Case) -> Result<String, AllocError> {
+/// The answer of a case, after an `index` case with this program.
+pub fn answer(alloc: Global, case: &Case, program: &str) -> Result<String, AllocError> {
     match case.call.as_str() {
         "tokens" => tokens(alloc, case),
         "parse" => shown_tree(alloc, parsed(alloc, case)),
         "parse_without_pos" => shown_tree(alloc, parsed_without_pos(alloc, case)),
+        "next_def" => next_words(alloc, case),
         "format" => shown(alloc, formatted(alloc, case)?),
         "tidy" => shown(alloc, tidy(alloc, case.text(0))),
         "lines" => lines(alloc, case),
@@ -62,13 +64,14 @@ pub fn answer(alloc: Global, case: &Case) -> Result<String, AllocError> {
         "shadowed_error" => shown(alloc, shadowed_error(alloc, case)?),
         "line_map" => line_map(alloc, case),
         "fits" => shown(alloc, fitting(alloc, case)),
-        "writable" => shown(alloc, is_writable(alloc, case)),
-        "built" | "built_alone" | "built_print" => of_built(alloc, case),
         "nodes" => nodes(alloc, case),
         "terms" => terms(alloc, case),
         "template" => template(alloc, case),
         "substitute" => substitute(alloc, case),
-        _ => "no call".to_string(alloc),
+        "index" | "index_at" | "index_symbols" | "index_candidates" | "index_rename" => {
+            request(alloc, case, program)
+        }
+        _ => of_trees(alloc, case),
     }
 }
 
@@ -145,6 +148,20 @@ fn tokens(alloc: Global, case: &Case) -> Result<String, AllocError> {
     placed(alloc, out.trim_end())
 }
 
+/// A word for what each call of `next_def` answers, as many as the second number says.
+fn next_words(alloc: Global, case: &Case) -> Result<String, AllocError> {
+    let mut parser = match Lexer::new(alloc, case.number(0), case.text(0)) {
+        Ok(lexer) => Parser::new(lexer),
+        Err(fault) => return shown(alloc, fault),
+    };
+    let mut out = String::new(alloc);
+    for _ in 0..case.number(1) {
+        out.push_str(next_word(parser.next_def(alloc)))?;
+        out.push(' ')?;
+    }
+    out.trim_end().to_string(alloc)
+}
+
 /// The first text, formatted at the first width, the answer of that at the next one, and so on.
 fn formatted(alloc: Global, case: &Case) -> Result<Result<String, Fault>, AllocError> {
     let mut text = case.text(0).to_string(alloc)?;
@@ -199,17 +216,4 @@ fn fitting(alloc: Global, case: &Case) -> Result<Vec<bool>, Fault> {
     let answers = fit(alloc, &defs, case.number(0));
     drop_definitions(defs);
     answers
-}
-
-fn is_writable(alloc: Global, case: &Case) -> Result<bool, Fault> {
-    let defs = parsed(alloc, case)?;
-    let answer = writable(&defs);
-    drop_definitions(defs);
-    Ok(answer)
-}
-
-/// What is told of the tree by hand whose kind the first text is.
-fn of_built(alloc: Global, case: &Case) -> Result<String, AllocError> {
-    let words = case.texts.get(1..).unwrap_or(&[]);
-    told_of_built(alloc, &case.call, case.text(0), words, &case.numbers)
 }

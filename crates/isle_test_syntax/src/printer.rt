@@ -94,24 +94,6 @@ fn an_s_expression_of_a_condition(rt: HostRuntime) {
     assert!(rt; matches!(is_condition(rt.alloc()), Ok(true)));
 }
 
-#[test]
-fn prints_a_bit_vector_wider_than_its_width(rt: HostRuntime) {
-    let shown = print_of_bits(rt.alloc(), 4, 2);
-    assert!(rt; is_text(&shown, "#b100"));
-}
-
-#[test]
-fn prints_a_bit_vector_in_hexadecimal_digits(rt: HostRuntime) {
-    let shown = print_of_bits(rt.alloc(), 171, 4);
-    assert!(rt; is_text(&shown, "#xab"));
-}
-
-#[test]
-fn prints_a_bit_vector_without_bits(rt: HostRuntime) {
-    let shown = print_of_bits(rt.alloc(), 0, 0);
-    assert!(rt; is_text(&shown, "#x0"));
-}
-
 /// Whether a bit vector of 8,001 bits is printed with all of them.
 fn wide_bits_are_printed(alloc: Global) -> Result<bool, PrintFault> {
     let wide = print_of_bits(alloc, 1, 8001)?;

@@ -1,6 +1,6 @@
 use Rattle.std.proofs.Common.{refl, rules}
-use Rattle.isle_test_definitions.proofs.Gathered.{last_left}
-use Rattle.isle_test_definitions.proofs.walks.last_term.Goals as goal
+use Rattle.isle_test_trees.proofs.Gathered.{last_left}
+use Rattle.isle_test_trees.proofs.walks.last_term.Goals as goal
 
 pub returns : goal.returns
 returns c =

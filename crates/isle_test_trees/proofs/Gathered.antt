@@ -5,7 +5,7 @@ use Rattle.std.proofs.lemmas.List.Folds.{list_any-append}
 use Rattle.std.specs.List.{FoldsTo, list_any}
 use Rattle.isle_base_source.specs.declared.pos.Pos.{Pos}
 use Rattle.isle_ast_names.specs.Tree.{Name}
-use Rattle.isle_test_definitions.specs.Walks.{last_pos}
+use Rattle.isle_test_trees.specs.Walks.{last_pos}
 
 last_push : (heads : List (Pos × Name)) (head : Pos × Name) → last_pos (heads ++ (head ∷ [])) ≡ Some head.0
 last_push [] head = refl

@@ -4,12 +4,11 @@ ghost use Rattle.std.specs.Prelude.{◌≡◌};
 ghost use Rattle.std.specs.List.{list_any};
 ghost use Rattle.isle_ast_rules.specs.TermHeads.{expression_heads, heads};
 ghost use Rattle.isle_ast_rules.specs.TreeView.{expression_of, pattern_of};
-ghost use Rattle.isle_test_definitions.specs.Walks.{is_of_symbol, last_pos};
+ghost use Rattle.isle_test_trees.specs.Walks.{is_of_symbol, last_pos};
 
 use isle_syntax::ast::{Def, Expr, Ident, Pattern};
 use isle_syntax::lexer::{Fault, Pos};
-use isle_test_nodes::nodes::wildcard;
-use isle_test_nodes::trees::{drop_definitions, drop_pattern, parsed};
+use isle_test_nodes::trees::{drop_definitions, parsed};
 use std::alloc::Global;
 
 /// Gives the position of the last term of a pattern.
@@ -34,54 +33,28 @@ fn mentions(expr: &Expr, symbol: &str) -> bool
 }
 
 /// What is told of the one rule: the position of the last term of its pattern, and whether its
-/// expression mentions `H` and `x`.
-fn told(defs: &[Def]) -> Option<(Option<Pos>, bool, bool)> {
+/// expression mentions each of two symbols.
+fn told(defs: &[Def], symbol: &str, other: &str) -> Option<(Option<Pos>, bool, bool)> {
     match defs {
         [Def::Rule(rule)] => Some((
             last_term(&rule.pattern),
-            mentions(&rule.expr, "H"),
-            mentions(&rule.expr, "x"),
+            mentions(&rule.expr, symbol),
+            mentions(&rule.expr, other),
         )),
         _ => None,
     }
 }
 
-/// What is told of a rule of the text, which is in file 2.
-fn told_of(alloc: Global, text: &str) -> Result<Option<(Option<Pos>, bool, bool)>, Fault> {
-    let defs = parsed(alloc, 2, text)?;
-    let told = told(&defs);
+/// The same of the one rule of a text in a file; `None` if the text is no single rule.
+pub fn told_of_rule(
+    alloc: Global,
+    file: usize,
+    text: &str,
+    symbol: &str,
+    other: &str,
+) -> Result<Option<(Option<Pos>, bool, bool)>, Fault> {
+    let defs = parsed(alloc, file, text)?;
+    let told = told(&defs, symbol, other);
     drop_definitions(defs);
     Ok(told)
-}
-
-const RULE: &str = "(rule (A (B x) y @ (C (D))) (let ((x T (F))) (G (H x))))";
-
-#[test]
-fn terms_of_a_rule(rt: HostRuntime) {
-    let told = told_of(rt.alloc(), RULE);
-    assert!(rt;
-        matches!(
-            told,
-            Ok(Some((
-                Some(Pos {
-                    file: 2,
-                    offset: 22
-                }),
-                true,
-                false
-            )))
-        )
-    );
-}
-
-fn wildcard_has_no_term() -> bool {
-    let pattern = wildcard();
-    let answer = last_term(&pattern).is_none();
-    drop_pattern(pattern);
-    answer
-}
-
-#[test]
-fn no_term_of_a_wildcard(rt: HostRuntime) {
-    assert!(rt; wildcard_has_no_term());
 }

@@ -1,45 +1,52 @@
-//! The answers to requests.
+//! Requests to the index of a program.
 
-use isle_base::lexer::Pos;
+use crate::answers::shown;
+use crate::case::Case;
 use isle_index::{Index, Name};
+use isle_syntax::ast::Def;
+use isle_syntax::lexer::Pos;
+use isle_test_nodes::trees::{drop_definitions, parsed};
 use std::alloc::{AllocError, Global};
 
-/// Answers requests to the index of a program, one a line.
-pub fn answers(alloc: Global, index: &Index, requests: &str) -> Result<String, AllocError> {
-    let mut all = String::new(alloc);
-    for line in requests.lines() {
-        all.push_str(line)?;
-        all.push_str("\n")?;
-        if !line.is_empty() && !line.starts_with('#') {
-            all.push_str(answer(alloc, index, line)?.as_str())?;
+/// The answer of a request to the index of a program.
+pub fn request(alloc: Global, case: &Case, program: &str) -> Result<String, AllocError> {
+    match parsed(alloc, 0, program) {
+        Ok(defs) => {
+            let index = index_of(alloc, &defs);
+            drop_definitions(defs);
+            shown(alloc, answer(alloc, &index?, case)?)
+        }
+        Err(fault) => shown(alloc, fault),
+    }
+}
+
+fn index_of(alloc: Global, defs: &[Def]) -> Result<Index, AllocError> {
+    let mut index = Index::new(alloc);
+    index.add(alloc, defs)?;
+    Ok(index)
+}
+
+fn answer(alloc: Global, index: &Index, case: &Case) -> Result<String, AllocError> {
+    let place = Pos::new(0, case.number(0));
+    match case.call.as_str() {
+        "index_at" => at(alloc, index, place),
+        "index_symbols" => symbols(alloc, index),
+        "index_candidates" => candidates(alloc, index, place, case),
+        "index_rename" => rename(alloc, index, place, case.text(0)),
+        _ => {
+            let count = index.symbols(alloc, 0)?.len();
+            format!(in alloc; "{count} symbols\n")
         }
     }
-    Ok(all)
 }
 
-/// Answers one request.
-fn answer(alloc: Global, index: &Index, line: &str) -> Result<String, AllocError> {
-    let mut words = line.split(' ');
-    let call = words.next().unwrap_or("");
-    let offset = words.next().unwrap_or("").parse::<usize>().unwrap_or(0);
-    let word = words.next().unwrap_or("");
-    let from = words.next().unwrap_or("").parse::<usize>().unwrap_or(0);
-    let place = Pos::new(0, offset);
-    match call {
-        "at" => at(alloc, index, place),
-        "symbols" => symbols(alloc, index),
-        "candidates" => candidates(alloc, index, place, from, word.as_bytes()),
-        "rename" => rename(alloc, index, place, word),
-        _ => String::from_str(alloc, "what?\n"),
-    }
-}
-
-/// Tells what is named at a place, and where else.
+/// The name at a place, its occurrences, each definition with a `*`, and how many definitions the
+/// name has.
 fn at(alloc: Global, index: &Index, place: Pos) -> Result<String, AllocError> {
     let Some(name) = index.name_at(alloc, place)? else {
         return String::from_str(alloc, "nothing\n");
     };
-    let mut answer = shown(alloc, &name)?;
+    let mut answer = shown_name(alloc, &name)?;
     for occurrence in &index.occurrences(alloc, &name)? {
         let mark = if occurrence.is_definition { "*" } else { "" };
         let (offset, len) = (occurrence.pos.offset, occurrence.len);
@@ -52,8 +59,7 @@ fn at(alloc: Global, index: &Index, place: Pos) -> Result<String, AllocError> {
     Ok(answer)
 }
 
-/// Shows a name.
-fn shown(alloc: Global, name: &Name) -> Result<String, AllocError> {
+fn shown_name(alloc: Global, name: &Name) -> Result<String, AllocError> {
     let text = name.text();
     match name {
         Name::Global { kind, .. } => format!(in alloc; "{kind:?} {text}:"),
@@ -61,7 +67,7 @@ fn shown(alloc: Global, name: &Name) -> Result<String, AllocError> {
     }
 }
 
-/// Tells what the program defines.
+/// A line for each definition of the program.
 fn symbols(alloc: Global, index: &Index) -> Result<String, AllocError> {
     let mut answer = String::new(alloc);
     for symbol in &index.symbols(alloc, 0)? {
@@ -73,14 +79,9 @@ fn symbols(alloc: Global, index: &Index) -> Result<String, AllocError> {
     Ok(answer)
 }
 
-/// Tells what may be written at a place.
-fn candidates(
-    alloc: Global,
-    index: &Index,
-    place: Pos,
-    from: usize,
-    prefix: &[u8],
-) -> Result<String, AllocError> {
+/// A line for each name that begins with the case's text and may be written at a place.
+fn candidates(alloc: Global, index: &Index, place: Pos, case: &Case) -> Result<String, AllocError> {
+    let (from, prefix) = (case.number(1), case.text(0).as_bytes());
     let mut answer = String::new(alloc);
     for candidate in &index.candidates(alloc, place, from, prefix)? {
         let (kind, text) = (candidate.kind, candidate.text.as_str());
@@ -90,14 +91,14 @@ fn candidates(
     Ok(answer)
 }
 
-/// Tells which places change where the name at a place gets a new text, or why it can't.
+/// The name at a place with the places that change when it is renamed, or why it can't be renamed.
 fn rename(alloc: Global, index: &Index, place: Pos, new: &str) -> Result<String, AllocError> {
     let Some(name) = index.name_at(alloc, place)? else {
         return String::from_str(alloc, "nothing\n");
     };
     match index.rename(alloc, &name, new)? {
         Ok(places) => {
-            let mut answer = shown(alloc, &name)?;
+            let mut answer = shown_name(alloc, &name)?;
             for place in &places {
                 let part = format!(in alloc; " {}", place.offset)?;
                 answer.push_str(part.as_str())?;

@@ -1,7 +1,7 @@
 //! Trees by hand and their prints: which trees are writable, and which prints read back.
 
+use crate::constants::constant;
 use crate::edits::edited;
-use crate::specs::constant;
 use isle_syntax::ast::{Def, writable};
 use isle_syntax::printer::print;
 use isle_test_nodes::trees::{drop_definitions, read};

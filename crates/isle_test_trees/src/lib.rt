@@ -18,9 +18,14 @@
 //! | `bits VALUE WIDTH` | a bit vector |
 #![tactic(auto)]
 
+pub mod by_hand;
+mod constants;
+pub mod copies;
 mod edits;
+pub mod names;
 mod renaming;
-mod specs;
+pub mod walks;
+pub mod whole;
 mod words;
 mod written;
 

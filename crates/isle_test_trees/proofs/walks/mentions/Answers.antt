@@ -1,7 +1,7 @@
 use Rattle.std.proofs.Common.{refl, rules}
-use Rattle.isle_test_definitions.proofs.Gathered.{any_left}
-use Rattle.isle_test_definitions.specs.Walks.{is_of_symbol}
-use Rattle.isle_test_definitions.proofs.walks.mentions.Goals as goal
+use Rattle.isle_test_trees.proofs.Gathered.{any_left}
+use Rattle.isle_test_trees.specs.Walks.{is_of_symbol}
+use Rattle.isle_test_trees.proofs.walks.mentions.Goals as goal
 
 pub returns : goal.returns
 returns c =

@@ -1,0 +1,31 @@
+//! The parser's calls, and the formatter.
+
+use isle_syntax::format;
+use isle_syntax::lexer::{Fault, Lexer};
+use isle_syntax::parser::Parser;
+use isle_test_nodes::trees::next_word;
+use std::alloc::Global;
+
+/// Whether there is a copy of a parser, which gives what the parser gives.
+fn is_copied(alloc: Global) -> Result<bool, Fault> {
+    let parser = Parser::new(Lexer::new(alloc, 3, "(decl f () T)")?);
+    let mut copy = parser.clone()?;
+    Ok(next_word(copy.next_def(alloc)) == "decl")
+}
+
+#[test]
+fn a_copy_of_a_parser(rt: HostRuntime) {
+    assert!(rt; matches!(is_copied(rt.alloc()), Ok(true)));
+}
+
+/// Whether a bit vector of so many digits formats as itself.
+fn bit_vector_is_kept(alloc: Global, count: usize) -> Result<bool, Fault> {
+    let digits = "0".repeat(alloc, count)?;
+    let model = format!(in alloc; "(model M (const #x{digits}))\n")?;
+    Ok(format(alloc, &model, 100_000)? == model)
+}
+
+#[test]
+fn formats_bit_vectors_past_upstreams_longest(rt: HostRuntime) {
+    assert!(rt; matches!(bit_vector_is_kept(rt.alloc(), 65_536), Ok(true)));
+}
