@@ -43,7 +43,7 @@ fn is_writable(alloc: Global, case: &Case) -> Result<bool, Fault> {
     Ok(answer)
 }
 
-/// What is told of the tree by hand whose kind the first text is.
+/// The answer for the tree whose kind is the first text.
 fn of_built(alloc: Global, case: &Case) -> Result<String, AllocError> {
     let words = case.texts.get(1..).unwrap_or(&[]);
     told_of_built(alloc, &case.call, case.text(0), words, &case.numbers)

@@ -1,6 +1,6 @@
-//! What calls answer, and what they should.
+//! Comparisons of answers.
 
-/// Whether a call answers this text.
+/// Returns whether a call answers this text.
 pub fn is_text<E>(answer: &Result<String, E>, want: &str) -> bool {
     match answer {
         Ok(text) => text.as_str() == want,

@@ -1,4 +1,4 @@
-//! What is written up to a refused write, errors that no text gives, and the builder.
+//! Tests of diagnostics: failing writers, errors that no text causes, and the builder.
 
 use crate::answers::is_text;
 use isle_syntax::error::{Error, Errors, ErrorsBuilder, Span};
@@ -47,7 +47,7 @@ fn a_span_is_a_range_of_bytes(rt: HostRuntime) {
     assert!(rt; range.start == 5 && range.end == 6);
 }
 
-/// What Display shows of the errors of a builder, behind how many there are.
+/// The number of a builder's errors, and the errors as Display shows them.
 fn shown(alloc: Global, builder: ErrorsBuilder) -> Result<String, AllocError> {
     if !builder.is_buildable() {
         return "not buildable".to_string(alloc);
@@ -56,7 +56,7 @@ fn shown(alloc: Global, builder: ErrorsBuilder) -> Result<String, AllocError> {
     format!(in alloc; "{}: {errors}", errors.errors().len())
 }
 
-/// Whether a type error is shown in the place of two errors.
+/// Returns whether a type error replaces two errors.
 fn is_one_for_two(alloc: Global) -> Result<bool, AllocError> {
     let error = Error::TypeError {
         msg: "m".to_string(alloc)?,
@@ -79,7 +79,7 @@ fn parse_error(alloc: Global, offset: usize) -> Result<Error, AllocError> {
     })
 }
 
-/// What Display shows of each fault, a line each.
+/// Each fault as Display shows it, a line each.
 fn faults(alloc: Global) -> Result<String, AllocError> {
     let refused = Fault::from(parse_error(alloc, 0)?);
     let (failed, memory) = (Fault::Failed, Fault::Memory);
@@ -93,7 +93,7 @@ fn faults_are_shown_by_their_reason(rt: HostRuntime) {
     assert!(rt; is_text(&shown, want));
 }
 
-/// A builder of two errors, with another one in their place.
+/// A builder of two errors, which another one replaces.
 fn one_error(alloc: Global) -> Result<ErrorsBuilder, AllocError> {
     two_errors(alloc)?.error(alloc, parse_error(alloc, 4)?)
 }
@@ -133,13 +133,13 @@ fn error_at(alloc: Global, span: Span) -> Result<Vec<Error>, AllocError> {
     Ok(vec![in alloc; Error::ParseError { msg, span }]?)
 }
 
-/// A name, and this text.
+/// A file name and this text.
 fn named(alloc: Global, text: &str) -> Result<(String, String), AllocError> {
     let name = "a.isle".to_string(alloc)?;
     Ok((name, text.to_string(alloc)?))
 }
 
-/// So many files of this text.
+/// A number of files with this text.
 fn files(alloc: Global, count: usize, text: &str) -> Result<Files, AllocError> {
     let mut pairs = Vec::new(alloc);
     for _ in 0..count {
@@ -148,14 +148,14 @@ fn files(alloc: Global, count: usize, text: &str) -> Result<Files, AllocError> {
     Files::from_names_and_contents(alloc, pairs)
 }
 
-/// Whether a parse error at this place can be shown with one file.
+/// Returns whether a parse error at this place can be shown with one file.
 fn is_accepted(alloc: Global, span: Span) -> Result<bool, AllocError> {
     let errors = error_at(alloc, span)?;
     Ok(Errors::accepts(&errors, &files(alloc, 1, "(A)")?))
 }
 
-/// Whether no errors are accepted with no files, and one in the file that is there, past its end,
-/// in another file, and at a place behind which there is none.
+/// Returns what is accepted: no errors without files; then, with one file, an error past its end,
+/// one in another file, and one at the greatest offset.
 fn accepted(alloc: Global) -> Result<[bool; 4], AllocError> {
     let greatest = Pos::new(0, usize::MAX);
     let past = Span {
@@ -176,7 +176,7 @@ fn accepted_errors(rt: HostRuntime) {
     assert!(rt; matches!(accepted(rt.alloc()), Ok(accepted) if accepted == want));
 }
 
-/// What is shown of two errors under options that other values heed.
+/// Returns whether two errors look the same under three format options.
 fn shown_with_options(alloc: Global) -> Result<[bool; 3], AllocError> {
     let builder = two_errors(alloc)?;
     if !builder.is_buildable() {
@@ -196,13 +196,12 @@ fn shows_errors_whatever_the_options(rt: HostRuntime) {
     assert!(rt; matches!(shown_with_options(rt.alloc()), Ok(shown) if shown == want));
 }
 
-/// Whether the errors, which are in file 3, can be shown with so many files.
+/// Returns whether errors in file 3 can be shown with this number of files.
 fn are_accepted_with(alloc: Global, errors: &[Error], count: usize) -> Result<bool, AllocError> {
     Ok(Errors::accepts(errors, &files(alloc, count, "a 12ab")?))
 }
 
-/// Whether the error of a text in file 3 can be shown with 1, 3 and 4 files; the fault is another
-/// one.
+/// Returns whether the error of a text in file 3 can be shown with 1, 3 and 4 files.
 fn accepted_with(alloc: Global) -> Result<[bool; 3], Fault> {
     let mut lexer = Lexer::new(alloc, 3, "a 12ab")?;
     match lexer.next(alloc) {
@@ -224,11 +223,11 @@ fn errors_in_the_fourth_file_want_four(rt: HostRuntime) {
     assert!(rt; matches!(accepted_with(rt.alloc()), Ok(accepted) if accepted == want));
 }
 
-/// A writer that takes a number of pieces and refuses any other.
+/// A writer that fails after a number of writes.
 #[derive(Drop)]
 struct Refusing {
     text: String,
-    /// The length of the text after each piece.
+    /// The length of the text after each write.
     ends: Vec<usize>,
     room: usize,
     refused: usize,
@@ -257,15 +256,15 @@ impl Write for Refusing {
     }
 }
 
-/// Whether a writer that refuses a piece is asked for no more of them, and has taken the beginning,
-/// of this length, of what is shown.
+/// Returns whether nothing follows the first write that fails, and the writer then holds the first
+/// `length` bytes of the message.
 fn is_refused_after(alloc: Global, errors: &Errors, room: usize, length: usize) -> bool {
     let mut writer = Refusing::new(alloc, room);
     let is_refused = write!(writer, "{errors}").is_err() && writer.refused == 1;
     is_refused && writer.text.len() == length && SHOWN.starts_with(writer.text.as_str())
 }
 
-/// Whether each write of what is shown of errors is refused in turn, and nothing is written after.
+/// Returns whether the same holds with each write of the message failing in turn.
 fn is_refused_at_each(alloc: Global, errors: &Errors) -> bool {
     let mut whole = Refusing::new(alloc, usize::MAX);
     if write!(whole, "{errors}").is_err() || whole.text.as_str() != SHOWN {

@@ -1,4 +1,4 @@
-//! Files and line maps.
+//! Tests of files and line maps.
 
 use crate::answers::is_text;
 use isle_syntax::files::{Files, LineMap};
@@ -7,7 +7,7 @@ use std::alloc::{AllocError, Global};
 
 const TEXT: &str = "line 0\nline 1";
 
-/// The text in the file `a.isle`.
+/// One file, `a.isle`, with the text.
 fn one_file(alloc: Global) -> Result<Files, AllocError> {
     let pair = ("a.isle".to_string(alloc)?, TEXT.to_string(alloc)?);
     Files::from_names_and_contents(alloc, vec![in alloc; pair]?)
@@ -35,7 +35,7 @@ fn copies_files(rt: HostRuntime) {
     assert!(rt; matches!(files_are_copied(rt.alloc()), Ok(true)));
 }
 
-/// Whether the line map of the file is that of its text.
+/// Returns whether the line map of the file is that of its text.
 fn is_map_of_file(alloc: Global, map: &LineMap) -> Result<bool, AllocError> {
     Ok(one_file(alloc)?.file_line_map(0) == Some(map))
 }

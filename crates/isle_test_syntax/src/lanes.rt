@@ -1,11 +1,11 @@
-//! Where symbols, blanks and line comments end: each end at each place of short and long texts.
+//! Tests of the ends of symbols, blanks and line comments, at each place of short and long texts.
 
 ghost use Rattle.std.specs.Prelude.{◌≤◌, length};
 
 use isle_syntax::lexer::{blank_end, line_comment_end, symbol_end};
 use std::alloc::{AllocError, Global};
 
-/// What the three calls find the end of.
+/// A run of bytes whose end one of three calls finds.
 #[derive(Clone, Copy)]
 enum Run {
     Symbol,
@@ -26,7 +26,7 @@ impl Run {
         }
     }
 
-    /// A byte that goes on with the run.
+    /// A byte that continues the run.
     fn inner(self) -> u8 {
         match self {
             Run::Symbol => b'a',
@@ -44,7 +44,7 @@ impl Run {
         }
     }
 
-    /// Tells whether a byte ends the run: those are listed, or for blanks the others.
+    /// Returns whether a byte ends the run.
     fn is_ended_by(self, byte: u8) -> bool {
         match self {
             Run::Symbol => b"();@ \t\n\x0c\r".contains(&byte),
@@ -54,7 +54,7 @@ impl Run {
     }
 }
 
-/// A run of this length, in which one byte is another if its place is inside.
+/// A run of this length with `byte` at the place `at`, if that is inside.
 fn run_with(
     alloc: Global,
     run: Run,
@@ -93,7 +93,8 @@ fn ends_of_line_comments(rt: HostRuntime) {
     assert!(rt; ends == [8, 1]);
 }
 
-/// Whether the run ends at the place, or behind it at the length, from each place.
+/// Returns whether the run ends at `at` from each place up to there, and at the end of the bytes
+/// from each place after.
 fn ends_from_each_place(run: Run, bytes: &[u8], at: usize) -> bool {
     for from in 0..=bytes.len() {
         if run.end(bytes, from) != if from <= at { at } else { bytes.len() } {
@@ -103,7 +104,7 @@ fn ends_from_each_place(run: Run, bytes: &[u8], at: usize) -> bool {
     true
 }
 
-/// Whether a run of this length ends at each place, from each place. At the length no byte ends it.
+/// Returns whether the same holds with the ending byte at each place in turn, and with none.
 fn ends_at_each_place(alloc: Global, run: Run, length: usize) -> Result<bool, AllocError> {
     for at in 0..=length {
         let bytes = run_with(alloc, run, length, at, run.ending())?;
@@ -130,8 +131,8 @@ fn ends_at_each_place_from_each_place(rt: HostRuntime) {
     assert!(rt; matches!(each_run_ends_at_each_place(rt.alloc()), Ok(true)));
 }
 
-/// Whether the byte ends the run where it is said to, near the beginning, in lanes, and in the rest
-/// behind them.
+/// Returns whether the byte ends the run if it should: at the beginning, within lanes, and in the
+/// rest after them.
 fn ends_at_byte(alloc: Global, run: Run, byte: u8) -> Result<bool, AllocError> {
     for at in [0, 40, 64] {
         let bytes = run_with(alloc, run, 65, at, byte)?;

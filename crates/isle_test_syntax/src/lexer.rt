@@ -1,4 +1,4 @@
-//! The lexer's calls, each once where it succeeds, and a lexer that has failed.
+//! Tests of the lexer's calls, and of a lexer that has failed.
 
 use isle_syntax::lexer::{Fault, Lexer, Pos, Token};
 use std::alloc::{AllocError, Global};
@@ -36,17 +36,17 @@ fn an_integer_and_a_sign(rt: HostRuntime) {
     assert!(rt; int.is_int() && !int.is_sym() && !at.is_int());
 }
 
-/// Whether what `next` gives is a symbol.
+/// Returns whether `next` answers a symbol.
 fn gives_symbol(alloc: Global, lexer: &mut Lexer) -> bool {
     matches!(lexer.next(alloc), Ok(Some((_, Token::Symbol(_)))))
 }
 
-/// Whether what `next` gives is an opening parenthesis.
+/// Returns whether `next` answers an opening parenthesis.
 fn gives_parenthesis(alloc: Global, lexer: &mut Lexer) -> bool {
     matches!(lexer.next(alloc), Ok(Some((_, Token::LParen))))
 }
 
-/// Whether a lexer is as it was after its copy has gone on.
+/// Returns whether a lexer stays as it is while its copy reads on.
 fn is_apart_from_its_copy(alloc: Global) -> Result<bool, Fault> {
     let mut lexer = Lexer::new(alloc, 0, "x (y)")?;
     let is_symbol = gives_symbol(alloc, &mut lexer);
@@ -62,17 +62,17 @@ fn a_lexer_and_its_copy(rt: HostRuntime) {
     assert!(rt; matches!(is_apart_from_its_copy(rt.alloc()), Ok(true)));
 }
 
-/// Whether `next` refuses the text.
+/// Returns whether `next` rejects the text.
 fn is_refused(alloc: Global, lexer: &mut Lexer) -> bool {
     matches!(lexer.next(alloc), Err(Fault::Error(_)))
 }
 
-/// Whether `next` answers that the text was refused before.
+/// Returns whether `next` answers that the lexer has failed before.
 fn has_failed(alloc: Global, lexer: &mut Lexer) -> bool {
     matches!(lexer.next(alloc), Err(Fault::Failed))
 }
 
-/// Whether a lexer refuses its text at the second token, and its copy has failed there.
+/// Returns whether a lexer rejects its text at the second token, and its copy has failed too.
 fn is_failed(alloc: Global) -> Result<bool, Fault> {
     let mut lexer = Lexer::new(alloc, 3, "a 12ab")?;
     let is_refused = is_refused(alloc, &mut lexer);

@@ -1,6 +1,6 @@
-//! The public calls of the lexer, the parser, the printer and diagnostics, each where it succeeds,
-//! and trees, streams and closures that no text gives: tests alone. Lists that are texts stand in
-//! `isle_test_conformance`; the calls of the tree have crates of their own, by kinds of node.
+//! Tests of the public calls of the lexer, the parser, the printer and diagnostics, each with a
+//! successful call, and with trees and writers that no text leads to. Tests that are a call and a
+//! text are data: the cases of `isle_test_conformance`.
 #![tactic(auto)]
 
 #[cfg(test)]

@@ -1,6 +1,6 @@
-//! Whether S-expressions fit a room, how definitions are printed, and how many looks that takes.
+//! Tests of the number of looks that fitting and printing take.
 //!
-//! Running code can't read how many looks there were, so clauses of the functions here say it.
+//! Running code can't read that number, so contracts of the functions here state it.
 
 ghost use Rattle.std.specs.Prelude.{◌≡◌, ◌≤◌, ◌+◌, [], ◌∷◌, replicate, codes, true, false, IfOk};
 ghost use Rattle.std.specs.Prelude.{OnOk};
@@ -33,7 +33,7 @@ fn pair(alloc: Global) -> Result<SExpr, AllocError>
     Ok(SExpr::List(items))
 }
 
-/// A list of as many empty atoms as `count` says.
+/// A list of `count` empty atoms.
 fn empty_atoms(alloc: Global, count: usize) -> Result<SExpr, AllocError>
     ensures { IfOk result (λ s. sexp_of s ≡ list_of (replicate count (atom []))) }
 {
@@ -44,7 +44,7 @@ fn empty_atoms(alloc: Global, count: usize) -> Result<SExpr, AllocError>
     Ok(SExpr::List(items))
 }
 
-/// `(a b)` fits a room of 5, and 3 looks tell so.
+/// `(a b)` fits a room of 5, which takes 3 looks.
 fn pair_fits(alloc: Global, looks: &mut Looks) -> Result<bool, AllocError>
     ensures fits { IfOk result (λ fits. fits ≡ true) }
     ensures looks { OnOk result (looks.new.count ≡ looks.old.count + 3) }
@@ -52,7 +52,7 @@ fn pair_fits(alloc: Global, looks: &mut Looks) -> Result<bool, AllocError>
     Ok(fits(&pair(alloc)?, 5, looks))
 }
 
-/// A hundred empty atoms in a list don't fit a room of 3, and at most 4 looks tell so.
+/// A list of a hundred empty atoms doesn't fit a room of 3, which takes at most 4 looks.
 fn hundred_fit(alloc: Global, looks: &mut Looks) -> Result<bool, AllocError>
     ensures fits { IfOk result (λ fits. fits ≡ false) }
     ensures looks { OnOk result (looks.new.count ≤ looks.old.count + 4) }
@@ -88,7 +88,7 @@ fn declaration_looks(alloc: Global, width: usize, looks: &mut Looks) -> Result<S
     shown
 }
 
-/// Whether each S-expression fits the room of its counted length, and none below it.
+/// Returns whether S-expressions fit rooms of their counted lengths, and smaller ones.
 fn fit_their_rooms(alloc: Global) -> Result<[bool; 5], AllocError> {
     let mut looks = Looks::new();
     let pair = pair(alloc)?;

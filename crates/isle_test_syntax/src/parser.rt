@@ -1,4 +1,4 @@
-//! The parser's calls, and the formatter.
+//! Tests of a parser's copy, and of the formatter on a long bit vector.
 
 use isle_syntax::format;
 use isle_syntax::lexer::{Fault, Lexer};
@@ -6,7 +6,7 @@ use isle_syntax::parser::Parser;
 use isle_test_nodes::trees::next_word;
 use std::alloc::Global;
 
-/// Whether there is a copy of a parser, which gives what the parser gives.
+/// Returns whether the copy of a parser answers its text's definition.
 fn is_copied(alloc: Global) -> Result<bool, Fault> {
     let parser = Parser::new(Lexer::new(alloc, 3, "(decl f () T)")?);
     let mut copy = parser.clone()?;
@@ -18,7 +18,7 @@ fn a_copy_of_a_parser(rt: HostRuntime) {
     assert!(rt; matches!(is_copied(rt.alloc()), Ok(true)));
 }
 
-/// Whether a bit vector of so many digits formats as itself.
+/// Returns whether a bit vector with this number of digits formats as itself.
 fn bit_vector_is_kept(alloc: Global, count: usize) -> Result<bool, Fault> {
     let digits = "0".repeat(alloc, count)?;
     let model = format!(in alloc; "(model M (const #x{digits}))\n")?;

@@ -1,4 +1,4 @@
-//! S-expressions of a caller's own, and nodes that no text gives.
+//! Tests of the printer with S-expressions of a caller's own, and with nodes that no text leads to.
 
 use crate::answers::is_text;
 use isle_syntax::printer::{PrintFault, SExpr, ToSExpr, print_node};
@@ -8,7 +8,7 @@ use isle_test_nodes::prints::{
 };
 use std::alloc::{AllocError, Global};
 
-/// A node of a caller's own, which has the S-expression that it holds.
+/// A node of a caller's own that holds its S-expression.
 #[derive(Drop)]
 struct Fixed(SExpr);
 
@@ -43,7 +43,7 @@ fn nested(alloc: Global) -> Result<Fixed, AllocError> {
     Ok(Fixed(SExpr::List(vec![in alloc; atoms(alloc, &[])?]?)))
 }
 
-/// Whether a node has this print at a width.
+/// Returns whether a node prints as this text at a width.
 fn is_printed(alloc: Global, node: &Fixed, width: usize, want: &str) -> Result<bool, PrintFault> {
     Ok(print_node(alloc, node, width)?.as_str() == want)
 }
@@ -75,7 +75,7 @@ fn lays_out_empty_lists(rt: HostRuntime) {
     assert!(rt; matches!(empty_lists_are_laid_out(rt.alloc()), Ok(true)));
 }
 
-/// Whether the S-expression of a conversion is the list of its words.
+/// Returns whether the S-expression of a conversion is the list of its words.
 fn is_conversion(alloc: Global) -> Result<bool, PrintFault> {
     conversion_is_list(alloc, &atoms(alloc, &["convert", "A", "B", "c"])?)
 }
@@ -94,7 +94,7 @@ fn an_s_expression_of_a_condition(rt: HostRuntime) {
     assert!(rt; matches!(is_condition(rt.alloc()), Ok(true)));
 }
 
-/// Whether a bit vector of 8,001 bits is printed with all of them.
+/// Returns whether a bit vector of 8,001 bits is printed with all of them.
 fn wide_bits_are_printed(alloc: Global) -> Result<bool, PrintFault> {
     let wide = print_of_bits(alloc, 1, 8001)?;
     Ok(wide.len() == 8003 && wide.starts_with("#b0000") && wide.ends_with("0001"))
@@ -127,7 +127,7 @@ fn prints_no_definitions_before_a_refused_one(rt: HostRuntime) {
     assert!(rt; matches!(printed, Ok(Err(PrintFault::MacroArg))));
 }
 
-/// What Display shows of each fault, a line each.
+/// Each fault as Display shows it, a line each.
 fn faults(alloc: Global) -> Result<String, AllocError> {
     let (refused, memory) = (PrintFault::MacroArg, PrintFault::Memory);
     format!(in alloc; "{refused}\n{refused:#}\n{memory}\n")

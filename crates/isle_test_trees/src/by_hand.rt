@@ -1,4 +1,4 @@
-//! Trees that no text gives: the argument of a macro by itself, in rules and in extractors;
+//! Nodes that no text leads to: the argument of a macro by itself, in rules and in extractors;
 //! templates, and patterns put in for their arguments; operators.
 
 use isle_syntax::ast::{Pattern, SpecOp};
@@ -8,7 +8,7 @@ use isle_test_nodes::templates::{becomes_an_argument, stays_put_in};
 use isle_test_nodes::trees::drop_pattern;
 use std::alloc::{AllocError, Global};
 
-/// Whether the argument of a macro has its position, and no term.
+/// Returns whether the argument of a macro has its position and no term.
 fn is_placed_without_term(argument: &Pattern) -> bool {
     argument.pos() == pos() && argument.root_term().is_none()
 }
@@ -26,7 +26,7 @@ fn operators_are_copied() -> Result<bool, AllocError> {
     Ok(copy == operator && operator.clone()? == SpecOp::Sub && copy != SpecOp::Switch)
 }
 
-/// What is asked of trees under this name.
+/// The answer of the check with this name.
 pub fn told_by_hand(alloc: Global, name: &str) -> Result<String, AllocError> {
     match name {
         "a name becomes an argument" => format!(in alloc; "{}", becomes_an_argument(alloc)?),

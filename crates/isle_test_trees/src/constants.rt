@@ -1,4 +1,4 @@
-//! Constants of models, by hand: operations, with arguments that no text gives them, and bit
+//! Constants of models, made by hand: operations with arguments that no text leads to, and bit
 //! vectors.
 
 use crate::words::{first_word, word};
@@ -25,8 +25,8 @@ fn op(op: SpecOp, args: Vec<SpecExpr>) -> SpecExpr {
     }
 }
 
-/// What a word says: `NAME` a variable, `!NAME` its negation, `NAME NAME` a pair, and `NAME NAME
-/// NAME` a pair of a pair and a variable.
+/// The argument for a word: a variable for `NAME`, its negation for `!NAME`, a pair for `NAME
+/// NAME`, and a pair of that and a variable for `NAME NAME NAME`.
 fn argument(alloc: Global, text: &str) -> Result<SpecExpr, AllocError> {
     if let Some(name) = text.strip_prefix('!') {
         return Ok(op(SpecOp::Not, vec![in alloc; var(alloc, name)?]?));
@@ -66,7 +66,7 @@ fn operation(alloc: Global, words: &[String]) -> Result<SpecExpr, AllocError> {
     Ok(op(operator(word(words, 0)), args))
 }
 
-/// The bit vector of a value and a width; without a width the widest.
+/// The bit vector with a value and a width, each the greatest one if it is missing.
 fn bits(words: &[String]) -> SpecExpr {
     SpecExpr::ConstBitVec {
         val: word(words, 0).parse().unwrap_or(u128::MAX),
@@ -75,7 +75,7 @@ fn bits(words: &[String]) -> SpecExpr {
     }
 }
 
-/// The spec expression of a kind that is made of the words.
+/// The spec expression of a kind, made from words.
 fn expression(alloc: Global, kind: &str, words: &[String]) -> Result<SpecExpr, AllocError> {
     match kind {
         "argument" => argument(alloc, word(words, 0)),
@@ -84,7 +84,7 @@ fn expression(alloc: Global, kind: &str, words: &[String]) -> Result<SpecExpr, A
     }
 }
 
-/// `(model A (const EXPRESSION))`, the spec expression that of a kind.
+/// `(model A (const EXPRESSION))`, with a spec expression of a kind, made from words.
 pub fn constant(alloc: Global, kind: &str, words: &[String]) -> Result<Vec<Def>, AllocError> {
     let name = ident(alloc, "A")?;
     let val = ModelValue::ConstValue(expression(alloc, kind, words)?);

@@ -1,4 +1,4 @@
-//! Laws of copies whose impl is derived: each is the contract of a function that makes the copy.
+//! Laws of copies whose impl is derived. Each is the contract of a function that copies.
 
 ghost use Rattle.std.specs.Prelude.{◌≡◌, IfOk};
 ghost use Rattle.isle_ast_names.specs.TreeView.{name_of};

@@ -1,4 +1,4 @@
-//! Trees of texts, each with an edit that makes of it what no text gives.
+//! Trees of texts, each with an edit that makes it a tree that no text leads to.
 
 use crate::renaming::Renaming;
 use crate::words::word;
@@ -7,7 +7,7 @@ use isle_test_nodes::nodes::{ident, macro_arg};
 use isle_test_nodes::trees::{drop_definitions, read};
 use std::alloc::{AllocError, Global};
 
-/// Makes the fields of a type, or of each variant, none.
+/// Removes the fields of a struct or of a variant.
 fn clear_fields(fields: &mut Fields) {
     match fields {
         Fields::Unit => {}
@@ -28,7 +28,7 @@ fn clear_type(def: &mut TypeDef) {
     }
 }
 
-/// Has the fields of a tuple stand at these places.
+/// Sets the places of the fields of a tuple.
 fn place_fields(def: &mut TypeDef, places: &[usize]) {
     if let TypeValue::Struct(Fields::Tuple(fields), _) = &mut def.ty {
         for (field, place) in fields.fields.iter_mut().zip(places) {
@@ -37,7 +37,7 @@ fn place_fields(def: &mut TypeDef, places: &[usize]) {
     }
 }
 
-/// Gives an instantiation this form or none, or one more tag.
+/// Sets or removes the form of an instantiation, or adds a tag.
 fn edit_instantiation(
     alloc: Global,
     kind: &str,
@@ -73,7 +73,7 @@ fn edit_extractor(kind: &str, extractor: &mut Extractor) {
     }
 }
 
-/// Makes an edit of a definition, if it is of the kind that the edit is for.
+/// Edits a definition, if the edit applies to its kind.
 fn edit(
     alloc: Global,
     kind: &str,
@@ -108,7 +108,7 @@ fn edit_all(
     Ok(())
 }
 
-/// The tree of the first word, a text, with an edit of a kind; `None` where the text is refused.
+/// The tree of the first word, a text, with an edit of a kind; `None` if the text is rejected.
 pub fn edited(
     alloc: Global,
     kind: &str,

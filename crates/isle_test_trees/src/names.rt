@@ -7,8 +7,8 @@ use isle_test_nodes::nodes::ident;
 use std::alloc::{AllocError, Global};
 use std::cmp::Ordering;
 
-/// Whether a text is an identifier, or its first character begins or continues one, as the call
-/// asks.
+/// Returns whether a text is an identifier, or its first character begins or continues one, as the
+/// call asks.
 pub fn is_of_identifiers(call: &str, text: &str) -> bool {
     let Some(first) = text.chars().next() else {
         return is_identifier(text);
@@ -20,7 +20,7 @@ pub fn is_of_identifiers(call: &str, text: &str) -> bool {
     }
 }
 
-/// How a name without a position compares with another one at an offset.
+/// The order of a name without a position and another one at an offset of file 0.
 pub fn order_of(
     alloc: Global,
     name: &str,

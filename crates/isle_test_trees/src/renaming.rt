@@ -1,4 +1,4 @@
-//! Another name in the place of one.
+//! Replacing one name by another.
 
 use isle_syntax::ast::{
     Arm, AttrTarget, Def, Expr, Extern, FieldInit, Fields, Ident, LetDef, ModelField, ModelType,
@@ -6,7 +6,7 @@ use isle_syntax::ast::{
 };
 use std::alloc::AllocError;
 
-/// A name, and the one that takes its place.
+/// A name, and the one that replaces it.
 #[derive(Drop)]
 pub struct Renaming<'a> {
     pub from: &'a str,
@@ -29,7 +29,7 @@ impl Renaming<'_> {
         Ok(())
     }
 
-    /// Renames what of the patterns is a variable.
+    /// Renames those of the patterns that are variables.
     fn variables(&self, patterns: &mut [Pattern]) -> Result<(), AllocError> {
         for pattern in patterns {
             if let Pattern::Var { var, .. } = pattern {
@@ -141,7 +141,7 @@ impl Renaming<'_> {
         self.spec_variable(x)
     }
 
-    /// Renames names, and the spec expression that they stand in.
+    /// Renames names, and the spec expression that they are in scope of.
     fn scope(&self, names: &mut [Ident], body: &mut SpecExpr) -> Result<(), AllocError> {
         self.names(names)?;
         self.spec_variable(body)

@@ -11,7 +11,7 @@ use isle_syntax::lexer::{Fault, Pos};
 use isle_test_nodes::trees::{drop_definitions, parsed};
 use std::alloc::Global;
 
-/// Gives the position of the last term of a pattern.
+/// The position of the last term of a pattern.
 fn last_term(pattern: &Pattern) -> Option<Pos>
     ensures { result ≡ last_pos (heads (pattern_of pattern.now)) }
 {
@@ -21,7 +21,7 @@ fn last_term(pattern: &Pattern) -> Option<Pos>
     last
 }
 
-/// Tells whether an expression has a term of this symbol.
+/// Returns whether an expression has a term with this symbol.
 fn mentions(expr: &Expr, symbol: &str) -> bool
     ensures { result
         ≡ list_any (is_of_symbol symbol.now) (expression_heads (expression_of expr.now)) }
@@ -32,8 +32,8 @@ fn mentions(expr: &Expr, symbol: &str) -> bool
     found
 }
 
-/// What is told of the one rule: the position of the last term of its pattern, and whether its
-/// expression mentions each of two symbols.
+/// The position of the last term of the one rule's pattern, and whether its expression has terms
+/// with each of two symbols; `None` unless the definitions are one rule.
 fn told(defs: &[Def], symbol: &str, other: &str) -> Option<(Option<Pos>, bool, bool)> {
     match defs {
         [Def::Rule(rule)] => Some((
@@ -45,7 +45,7 @@ fn told(defs: &[Def], symbol: &str, other: &str) -> Option<(Option<Pos>, bool, b
     }
 }
 
-/// The same of the one rule of a text in a file; `None` if the text is no single rule.
+/// The same for a text in a file.
 pub fn told_of_rule(
     alloc: Global,
     file: usize,

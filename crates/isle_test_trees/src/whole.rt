@@ -1,4 +1,4 @@
-//! What holds of all definitions of a text.
+//! Properties of all definitions of a text.
 
 use isle_syntax::ast::Def;
 use isle_syntax::lexer::Fault;
@@ -6,7 +6,8 @@ use isle_test_nodes::copies::{definitions_are_apart, differ_from, specs_are_apar
 use isle_test_nodes::trees::{drop_definitions, read};
 use std::alloc::Global;
 
-/// Whether what a call asks holds of a text's definitions, which have no positions.
+/// Returns whether the property named by a call holds of definitions, which are those of the text
+/// without positions.
 fn holds_of(
     alloc: Global,
     call: &str,
@@ -22,7 +23,7 @@ fn holds_of(
     }
 }
 
-/// Whether what a call asks holds of the definitions of a text.
+/// Returns whether the property named by a call holds of the definitions of a text.
 pub fn holds(alloc: Global, call: &str, file: usize, text: &str) -> Result<bool, Fault> {
     let defs = read(alloc, text)?;
     let answer = holds_of(alloc, call, &defs, file, text);

@@ -1,4 +1,4 @@
-//! Trees by hand and their prints: which trees are writable, and which prints read back.
+//! Whether trees are writable, and whether their prints parse as the trees.
 
 use crate::constants::constant;
 use crate::edits::edited;
@@ -7,8 +7,7 @@ use isle_syntax::printer::print;
 use isle_test_nodes::trees::{drop_definitions, read};
 use std::alloc::{AllocError, Global};
 
-/// The definitions of a kind that are made of the words and numbers; `None` where there is no such
-/// kind, or a text is refused.
+/// The definitions of a kind, made from words and numbers; `None` if a text is rejected.
 fn built(
     alloc: Global,
     kind: &str,
@@ -25,7 +24,7 @@ fn are_equal(defs: &Vec<Def>, others: &Vec<Def>) -> bool {
     defs == others
 }
 
-/// Whether a text spells these definitions and no others.
+/// Returns whether a text parses as these definitions, positions aside.
 fn spells(alloc: Global, text: &str, defs: &Vec<Def>) -> bool {
     match read(alloc, text) {
         Ok(read) => {
@@ -37,15 +36,15 @@ fn spells(alloc: Global, text: &str, defs: &Vec<Def>) -> bool {
     }
 }
 
-/// Whether the print of definitions at a width spells them and no others; `None` where they have no
+/// Returns whether the print of definitions at a width parses as them; `None` if they have no
 /// print.
 fn reads_back(alloc: Global, defs: &Vec<Def>, width: usize) -> Option<bool> {
     let text = print(alloc, defs, width).ok()?;
     Some(spells(alloc, &text, defs))
 }
 
-/// Whether definitions are writable, where their prints, at widths from the least to the greatest,
-/// read back exactly if they are.
+/// Whether definitions are writable, or an error if their prints parse as them and they aren't, or
+/// the other way round.
 fn told(alloc: Global, defs: &Vec<Def>) -> &'static str {
     let is_writable = writable(defs);
     for width in [0, 5, 78, usize::MAX] {
@@ -62,7 +61,7 @@ fn told(alloc: Global, defs: &Vec<Def>) -> &'static str {
     }
 }
 
-/// Whether each of the definitions is writable, without a print.
+/// Whether each of the definitions is writable, without printing.
 fn told_alone(defs: &[Def]) -> &'static str {
     for def in defs {
         if !def.is_writable() {
@@ -72,13 +71,13 @@ fn told_alone(defs: &[Def]) -> &'static str {
     "writable"
 }
 
-/// The print of definitions at 78, behind whether they are writable.
+/// Whether definitions are writable, and their print at width 78.
 fn shown(alloc: Global, defs: &[Def]) -> Result<String, AllocError> {
     let text = print(alloc, defs, 78);
     format!(in alloc; "{} {text:?}", writable(defs))
 }
 
-/// What a call tells of definitions.
+/// The answer of a call on definitions.
 fn told_by(alloc: Global, call: &str, defs: &Vec<Def>) -> Result<String, AllocError> {
     match call {
         "built" => told(alloc, defs).to_string(alloc),
@@ -87,7 +86,7 @@ fn told_by(alloc: Global, call: &str, defs: &Vec<Def>) -> Result<String, AllocEr
     }
 }
 
-/// What a call tells of definitions by hand.
+/// The answer of a call on the definitions of a kind, made from words and numbers.
 pub fn told_of_built(
     alloc: Global,
     call: &str,
