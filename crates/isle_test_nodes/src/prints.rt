@@ -2,7 +2,7 @@
 
 use crate::nodes::{condition, extractor, ident, macro_arg, pos, rule, term, wildcard};
 use crate::trees::drop_definitions;
-use isle_syntax::ast::{Converter, Def, Pattern, SpecExpr, SpecOp};
+use isle_syntax::ast::{Converter, Def, Pattern, SpecExpr};
 use isle_syntax::printer::{PrintFault, SExpr, ToSExpr, print, print_node};
 use std::alloc::{AllocError, Global};
 
@@ -30,25 +30,6 @@ pub fn print_of_bits(alloc: Global, val: u128, width: usize) -> Result<String, P
         pos: pos(),
     };
     print_node(alloc, &bits, 78)
-}
-
-/// The print of the operator `-`.
-pub fn print_of_sign(alloc: Global) -> Result<String, PrintFault> {
-    print_node(alloc, &SpecOp::Sub, 78)
-}
-
-fn integer(val: i128) -> SpecExpr {
-    SpecExpr::ConstInt { val, pos: pos() }
-}
-
-/// The print of `(- 1 2)`.
-pub fn print_of_minus(alloc: Global) -> Result<String, PrintFault> {
-    let minus = SpecExpr::Op {
-        op: SpecOp::Sub,
-        args: vec![in alloc; integer(1), integer(2)]?,
-        pos: pos(),
-    };
-    print_node(alloc, &minus, 78)
 }
 
 /// Returns whether the printer rejects a node for the argument of a macro. The node is dropped.

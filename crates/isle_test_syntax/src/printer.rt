@@ -3,8 +3,7 @@
 use crate::answers::is_text;
 use isle_syntax::printer::{PrintFault, SExpr, ToSExpr, print_node};
 use isle_test_nodes::prints::{
-    condition_is_list, conversion_is_list, print_of_bits, print_of_minus, print_of_rules,
-    print_of_sign, refused_for_arguments,
+    condition_is_list, conversion_is_list, print_of_bits, print_of_rules, refused_for_arguments,
 };
 use std::alloc::{AllocError, Global};
 
@@ -103,16 +102,6 @@ fn wide_bits_are_printed(alloc: Global) -> Result<bool, PrintFault> {
 #[test]
 fn prints_a_wide_bit_vector(rt: HostRuntime) {
     assert!(rt; matches!(wide_bits_are_printed(rt.alloc()), Ok(true)));
-}
-
-#[test]
-fn prints_a_minus(rt: HostRuntime) {
-    assert!(rt; is_text(&print_of_sign(rt.alloc()), "-"));
-}
-
-#[test]
-fn prints_a_difference(rt: HostRuntime) {
-    assert!(rt; is_text(&print_of_minus(rt.alloc()), "(- 1 2)"));
 }
 
 #[test]
