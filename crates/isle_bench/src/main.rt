@@ -1,14 +1,14 @@
-//! `isle_bench STEP ROUNDS < TEXT`: makes one step of the way from a text to its print, as many
-//! times as `ROUNDS` says, so that the step can be timed from outside.
+//! `isle_bench STEP ROUNDS < TEXT` repeats one step of formatting a text, so that it can be timed
+//! from outside.
 //!
-//! | STEP | What is made | What is written |
+//! | STEP | Calls | Printed, over all rounds |
 //! |---|---|---|
-//! | `lex` | `Lexer::new`, then `next` up to the end | how many tokens the rounds found in all |
-//! | `parse` | `parse` | how many definitions |
-//! | `format` | `format` at 78 | how many bytes |
+//! | `lex` | `Lexer::new`, then `next` up to the end | the number of tokens |
+//! | `parse` | `parse` | the number of definitions |
+//! | `format` | `format` at width 78 | the number of bytes |
 //!
-//! It ends with 0; with 1 where the text is refused, or no such step is named; with 4 at want of
-//! memory; and with 3 where a stream fails.
+//! It exits with 0, or with 1 if the text is rejected or the step unknown, 4 if memory runs out,
+//! and 3 if a stream fails.
 #![tactic(auto)]
 
 use isle_syntax::format;
@@ -21,10 +21,10 @@ use std::io::{ErrorKind, Read, Write};
 use std::process::ExitCode;
 use std::{env, io};
 
-/// How wide a text is formatted.
+/// The width of the formatted text, in bytes.
 const WIDTH: usize = 78;
 
-/// How many tokens a text has.
+/// The number of tokens of a text.
 fn lexed(alloc: Global, text: &str) -> Result<usize, Fault> {
     let mut lexer = Lexer::new(alloc, 0, text)?;
     let mut count: usize = 0;
@@ -37,7 +37,7 @@ fn lexed(alloc: Global, text: &str) -> Result<usize, Fault> {
     Ok(count)
 }
 
-/// How many definitions a text has.
+/// The number of definitions of a text.
 fn parsed(alloc: Global, text: &str) -> Result<usize, Fault> {
     let defs = parse(alloc, Lexer::new(alloc, 0, text)?)?;
     let count = defs.len();
@@ -45,12 +45,12 @@ fn parsed(alloc: Global, text: &str) -> Result<usize, Fault> {
     Ok(count)
 }
 
-/// How many bytes the print of a text has.
+/// The number of bytes of a formatted text.
 fn formatted(alloc: Global, text: &str) -> Result<usize, Fault> {
     Ok(format(alloc, text, WIDTH)?.len())
 }
 
-/// Makes a step once.
+/// Makes one step, and returns its number.
 fn step(alloc: Global, name: &str, text: &str) -> Result<usize, Fault> {
     match name {
         "lex" => lexed(alloc, text),
@@ -60,7 +60,7 @@ fn step(alloc: Global, name: &str, text: &str) -> Result<usize, Fault> {
     }
 }
 
-/// Makes a step as many times as is asked for, and sums what it finds.
+/// Repeats a step, and returns the sum of its numbers.
 fn rounds(alloc: Global, name: &str, times: usize, text: &str) -> Result<usize, Fault> {
     let mut sum: usize = 0;
     for _ in 0..times {
@@ -74,7 +74,7 @@ fn words<R: Env + AllocGlobal>(rt: &R) -> io::Result<Vec<String>> {
     Ok(env::args(rt)?.skip(1).collect(rt.alloc())?)
 }
 
-/// Reads the text, and makes the step that the words name.
+/// Reads the text, makes the step named by the words, and returns the exit status.
 fn run<R: Read, W: Write>(
     alloc: Global,
     words: &[String],

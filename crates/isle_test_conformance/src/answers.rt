@@ -1,35 +1,36 @@
-//! The answers of calls from a text.
+//! The answers of cases.
 
 use crate::case::Case;
 use crate::errors::{line_map, overlap_error, parse_errors, refusal, shadowed_error};
 use crate::nodes::nodes;
+use crate::requests::request;
 use crate::terms::{substitute, template, terms};
 use crate::texts::{beginnings, damaged};
-use isle_syntax::ast::{Def, writable};
+use crate::trees::of_trees;
+use isle_syntax::ast::Def;
 use isle_syntax::format;
 use isle_syntax::lexer::{Fault, Lexer, Pos, Token};
-use isle_syntax::parser::{parse, parse_without_pos};
+use isle_syntax::parser::{Parser, parse, parse_without_pos};
 use isle_syntax::printer::{Looks, PrintFault, ToSExpr, fits};
-use isle_test_nodes::trees::{drop_definitions, read, show_definitions};
-use isle_test_writable::told_of_built;
+use isle_test_nodes::trees::{drop_definitions, next_word, read, show_definitions};
 use isle_tidy_core::tidy;
 use std::alloc::{AllocError, Global};
 use std::fmt::Debug;
 
-/// What Debug shows of a value, which ends here, with each position as `FILE:OFFSET`.
+/// A value as Debug shows it, with each position as `FILE:OFFSET`. The value is dropped.
 pub fn shown<T: Debug + Drop>(alloc: Global, value: T) -> Result<String, AllocError> {
     let text = format!(in alloc; "{value:?}")?;
     drop(value);
     placed(alloc, &text)
 }
 
-/// What Debug shows of a tree, which ends here, or of the fault.
+/// A tree, or the fault, as Debug shows it. The tree is dropped.
 fn shown_tree(alloc: Global, answer: Result<Vec<Def>, Fault>) -> Result<String, AllocError> {
     let text = show_definitions(alloc, answer)?;
     placed(alloc, &text)
 }
 
-/// A text of Debug with each position as `FILE:OFFSET`.
+/// A text written by Debug, with each position as `FILE:OFFSET`.
 pub fn placed(alloc: Global, text: &str) -> Result<String, AllocError> {
     let mut out = String::new(alloc);
     for (i, part) in text.split("Pos { file: ").enumerate() {
@@ -45,12 +46,13 @@ pub fn placed(alloc: Global, text: &str) -> Result<String, AllocError> {
     Ok(out)
 }
 
-/// The answer of a case.
-pub fn answer(alloc: Global, case: &Case) -> Result<String, AllocError> {
+/// The answer of a case. `program` is the text of the last `index` case.
+pub fn answer(alloc: Global, case: &Case, program: &str) -> Result<String, AllocError> {
     match case.call.as_str() {
         "tokens" => tokens(alloc, case),
         "parse" => shown_tree(alloc, parsed(alloc, case)),
         "parse_without_pos" => shown_tree(alloc, parsed_without_pos(alloc, case)),
+        "next_def" => next_words(alloc, case),
         "format" => shown(alloc, formatted(alloc, case)?),
         "tidy" => shown(alloc, tidy(alloc, case.text(0))),
         "lines" => lines(alloc, case),
@@ -62,18 +64,19 @@ pub fn answer(alloc: Global, case: &Case) -> Result<String, AllocError> {
         "shadowed_error" => shown(alloc, shadowed_error(alloc, case)?),
         "line_map" => line_map(alloc, case),
         "fits" => shown(alloc, fitting(alloc, case)),
-        "writable" => shown(alloc, is_writable(alloc, case)),
-        "built" | "built_alone" | "built_print" => of_built(alloc, case),
         "nodes" => nodes(alloc, case),
         "terms" => terms(alloc, case),
         "template" => template(alloc, case),
         "substitute" => substitute(alloc, case),
-        _ => "no call".to_string(alloc),
+        "index" | "index_at" | "index_symbols" | "index_candidates" | "index_rename" => {
+            request(alloc, case, program)
+        }
+        _ => of_trees(alloc, case),
     }
 }
 
-/// A lexer of the first text, in the file of the first number, after as many calls of `next` as the
-/// second says.
+/// A lexer for the first text, in the file of the first number, after as many calls of `next` as
+/// the second number says.
 fn lexer<'a>(alloc: Global, case: &'a Case) -> Result<Lexer<'a>, Fault> {
     let mut lexer = Lexer::new(alloc, case.number(0), case.text(0))?;
     for _ in 0..case.number(1) {
@@ -82,7 +85,7 @@ fn lexer<'a>(alloc: Global, case: &'a Case) -> Result<Lexer<'a>, Fault> {
     Ok(lexer)
 }
 
-/// What `parse` answers of that lexer.
+/// The answer of `parse` on that lexer.
 pub fn parsed(alloc: Global, case: &Case) -> Result<Vec<Def>, Fault> {
     parse(alloc, lexer(alloc, case)?)
 }
@@ -91,8 +94,7 @@ fn parsed_without_pos(alloc: Global, case: &Case) -> Result<Vec<Def>, Fault> {
     parse_without_pos(alloc, lexer(alloc, case)?)
 }
 
-/// What the lexer tells before a call of `next`, in brackets: its position, and whether it has
-/// failed or is at its end.
+/// A lexer's state in brackets: its position, and whether it has failed or is at its end.
 fn state(alloc: Global, lexer: &Lexer) -> Result<String, AllocError> {
     let pos = lexer.pos();
     let state = match (lexer.peek().is_some(), lexer.eof()) {
@@ -104,7 +106,7 @@ fn state(alloc: Global, lexer: &Lexer) -> Result<String, AllocError> {
     format!(in alloc; "[{pos:?}{state}]")
 }
 
-/// What a call of `next` answers.
+/// An answer of `next`.
 fn step(alloc: Global, next: Result<Option<(Pos, Token)>, Fault>) -> Result<String, AllocError> {
     match next {
         Ok(Some(next)) => {
@@ -117,7 +119,7 @@ fn step(alloc: Global, next: Result<Option<(Pos, Token)>, Fault>) -> Result<Stri
     }
 }
 
-/// Makes a call of `next`, and adds the lexer's state before it and what it answers.
+/// Calls `next`, and adds the lexer's state before the call and the answer.
 fn push_step(alloc: Global, lexer: &mut Lexer, out: &mut String) -> Result<(), AllocError> {
     let state = state(alloc, lexer)?;
     let step = step(alloc, lexer.next(alloc))?;
@@ -125,8 +127,7 @@ fn push_step(alloc: Global, lexer: &mut Lexer, out: &mut String) -> Result<(), A
     out.push_str(&words)
 }
 
-/// Each call of `next` up to the second that comes when nothing is ahead, with the lexer's state in
-/// front of each.
+/// The answers of `next` up to the second one with nothing ahead, each after the lexer's state.
 fn tokens(alloc: Global, case: &Case) -> Result<String, AllocError> {
     let mut lexer = match lexer(alloc, case) {
         Ok(lexer) => lexer,
@@ -145,7 +146,21 @@ fn tokens(alloc: Global, case: &Case) -> Result<String, AllocError> {
     placed(alloc, out.trim_end())
 }
 
-/// The first text, formatted at the first width, the answer of that at the next one, and so on.
+/// A word for each of the first answers of `next_def`, as many as the second number says.
+fn next_words(alloc: Global, case: &Case) -> Result<String, AllocError> {
+    let mut parser = match Lexer::new(alloc, case.number(0), case.text(0)) {
+        Ok(lexer) => Parser::new(lexer),
+        Err(fault) => return shown(alloc, fault),
+    };
+    let mut out = String::new(alloc);
+    for _ in 0..case.number(1) {
+        out.push_str(next_word(parser.next_def(alloc)))?;
+        out.push(' ')?;
+    }
+    out.trim_end().to_string(alloc)
+}
+
+/// The first text formatted at the first width, its output at the next width, and so on.
 fn formatted(alloc: Global, case: &Case) -> Result<Result<String, Fault>, AllocError> {
     let mut text = case.text(0).to_string(alloc)?;
     for width in &case.numbers {
@@ -157,7 +172,7 @@ fn formatted(alloc: Global, case: &Case) -> Result<Result<String, Fault>, AllocE
     Ok(Ok(text))
 }
 
-/// The first text as many times as the second number says, or once.
+/// The first text, repeated as often as the second number says, at least once.
 fn repeated(alloc: Global, case: &Case) -> Result<String, AllocError> {
     let mut text = String::new(alloc);
     for _ in 0..case.number(1).max(1) {
@@ -179,7 +194,7 @@ fn lines(alloc: Global, case: &Case) -> Result<String, AllocError> {
     }
 }
 
-/// Whether the S-expression of each definition fits the room.
+/// Returns whether the S-expression of each definition fits the room.
 fn fit(alloc: Global, defs: &[Def], room: usize) -> Result<Vec<bool>, Fault> {
     let mut answers = Vec::new(alloc);
     let mut looks = Looks::new();
@@ -193,23 +208,10 @@ fn fit(alloc: Global, defs: &[Def], room: usize) -> Result<Vec<bool>, Fault> {
     Ok(answers)
 }
 
-/// Whether the S-expression of each definition fits the room that the number gives.
+/// Returns the same for the first text, with the first number as the room.
 fn fitting(alloc: Global, case: &Case) -> Result<Vec<bool>, Fault> {
     let defs = read(alloc, case.text(0))?;
     let answers = fit(alloc, &defs, case.number(0));
     drop_definitions(defs);
     answers
-}
-
-fn is_writable(alloc: Global, case: &Case) -> Result<bool, Fault> {
-    let defs = parsed(alloc, case)?;
-    let answer = writable(&defs);
-    drop_definitions(defs);
-    Ok(answer)
-}
-
-/// What is told of the tree by hand whose kind the first text is.
-fn of_built(alloc: Global, case: &Case) -> Result<String, AllocError> {
-    let words = case.texts.get(1..).unwrap_or(&[]);
-    told_of_built(alloc, &case.call, case.text(0), words, &case.numbers)
 }

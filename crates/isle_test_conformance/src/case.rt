@@ -1,9 +1,9 @@
-//! A case: a call with its numbers and texts.
+//! Cases.
 
 use std::alloc::{AllocError, Global};
 use std::str::Chars;
 
-/// A call, and what it takes.
+/// A call with its arguments.
 #[derive(Drop)]
 pub struct Case {
     pub call: String,
@@ -12,7 +12,7 @@ pub struct Case {
 }
 
 impl Case {
-    /// Reads a case off its line.
+    /// Parses the line of a case. Words that are neither numbers nor in quotes are skipped.
     pub fn new(alloc: Global, line: &str) -> Result<Case, AllocError> {
         let (call, mut rest) = line.split_once(' ').unwrap_or((line, ""));
         let mut case = Case {
@@ -29,7 +29,7 @@ impl Case {
         Ok(case)
     }
 
-    /// Takes one number or text off the front, and gives what follows.
+    /// Adds the number or text at the beginning of `rest`, and returns the rest after it.
     fn push_part<'a>(&mut self, alloc: Global, rest: &'a str) -> Result<&'a str, AllocError> {
         if let Some(quoted) = rest.strip_prefix('"') {
             let mut chars = quoted.chars();
@@ -57,7 +57,7 @@ impl Case {
     }
 }
 
-/// Reads the characters up to the closing quote, which is taken too.
+/// Reads up to the closing quote, and past it.
 fn unquoted(alloc: Global, chars: &mut Chars) -> Result<String, AllocError> {
     let mut text = String::new(alloc);
     for _ in 0..chars.as_str().len() {
@@ -70,7 +70,7 @@ fn unquoted(alloc: Global, chars: &mut Chars) -> Result<String, AllocError> {
     Ok(text)
 }
 
-/// The character that is meant by what stands behind a `\`.
+/// The character for an escape, after its `\`.
 fn escaped(chars: &mut Chars) -> char {
     match chars.next() {
         Some('n') => '\n',
@@ -83,7 +83,7 @@ fn escaped(chars: &mut Chars) -> char {
     }
 }
 
-/// The character whose number stands in braces, in hexadecimal digits.
+/// The character for a hexadecimal number in braces.
 fn numbered(chars: &mut Chars) -> char {
     let mut number: u32 = 0;
     for _ in 0..8 {

@@ -1,4 +1,4 @@
-//! What is shown of errors.
+//! Errors as Display shows them.
 
 use crate::case::Case;
 use isle_syntax::error::{Error, Errors, Span};
@@ -8,7 +8,7 @@ use isle_test_nodes::trees::{drop_definitions, parsed};
 use std::alloc::{AllocError, Global};
 use std::rc::Rc;
 
-/// What Display shows of errors in one file.
+/// Errors in one file, as Display shows them.
 fn display(
     alloc: Global,
     errors: Vec<Error>,
@@ -25,8 +25,7 @@ fn display(
     }
 }
 
-/// What is shown of the error for which a text is refused, in a file named as the program names its
-/// input.
+/// The error of a text in the file `<stdin>`, or `accepted`.
 pub fn refusal_of(alloc: Global, text: &str) -> Result<String, AllocError> {
     match parsed(alloc, 0, text) {
         Ok(defs) => {
@@ -39,7 +38,7 @@ pub fn refusal_of(alloc: Global, text: &str) -> Result<String, AllocError> {
     }
 }
 
-/// What is shown of the error for which the first text is refused.
+/// The error of the first text, or `accepted`.
 pub fn refusal(alloc: Global, case: &Case) -> Result<String, AllocError> {
     refusal_of(alloc, case.text(0))
 }
@@ -49,7 +48,7 @@ fn place(offset: usize) -> Span {
     Span::new_single(Pos::new(0, offset.min(1 << 40)))
 }
 
-/// The places of the numbers.
+/// Places in file 0.
 fn places(alloc: Global, offsets: &[usize]) -> Result<Vec<Span>, AllocError> {
     let mut spans = Vec::new(alloc);
     for offset in offsets {
@@ -58,7 +57,7 @@ fn places(alloc: Global, offsets: &[usize]) -> Result<Vec<Span>, AllocError> {
     Ok(spans)
 }
 
-/// What is shown of parse errors, one at each place.
+/// Parse errors at the offsets.
 pub fn parse_errors(alloc: Global, case: &Case) -> Result<String, AllocError> {
     let mut errors = Vec::new(alloc);
     for offset in &case.numbers {
@@ -70,7 +69,7 @@ pub fn parse_errors(alloc: Global, case: &Case) -> Result<String, AllocError> {
     display(alloc, errors, case.text(0), case.text(1))
 }
 
-/// What is shown of an overlap of rules at the places.
+/// An overlap of rules at the offsets.
 pub fn overlap_error(alloc: Global, case: &Case) -> Result<String, AllocError> {
     let error = Error::OverlapError {
         msg: "m".to_string(alloc)?,
@@ -79,7 +78,7 @@ pub fn overlap_error(alloc: Global, case: &Case) -> Result<String, AllocError> {
     display(alloc, vec![in alloc; error]?, case.text(0), case.text(1))
 }
 
-/// What is shown of rules at the places but the first, which that at the first shadows.
+/// Rules at all offsets but the first, shadowed by one at the first.
 pub fn shadowed_error(alloc: Global, case: &Case) -> Result<String, AllocError> {
     let others = case.numbers.get(1..).unwrap_or(&[]);
     let error = Error::ShadowedError {
@@ -89,7 +88,7 @@ pub fn shadowed_error(alloc: Global, case: &Case) -> Result<String, AllocError> 
     display(alloc, vec![in alloc; error]?, case.text(0), case.text(1))
 }
 
-/// The line of each place in the first text, and its line map.
+/// The line of each offset in the first text, and the line map of the text.
 pub fn line_map(alloc: Global, case: &Case) -> Result<String, AllocError> {
     let map = LineMap::from_str(alloc, case.text(0))?;
     let mut lines = Vec::new(alloc);

@@ -1,60 +1,81 @@
-//! Answers calls of the syntax layer, one a line, so that the lists of its tests are data.
+//! Answers calls of the syntax layer and of the index, one a line, so that their tests are data.
 //!
-//! Line by line, standard output answers standard input. A line that is empty or begins with `#`
-//! stands for itself. Any other is a case: the call, then the numbers and the texts that it takes.
-//! A text stands in quotes and is written as Debug writes it: behind a `\` stand `n`, `r`, `t`,
-//! `0`, a quote, a `\`, or `u{..}` with the number of a character.
+//! Each line of standard input is answered by a line of standard output. A line that is empty or
+//! begins with `#` is repeated. Any other line is a case: a call, then its numbers and texts. A
+//! text is in quotes, with the escapes of Debug: `\n`, `\r`, `\t`, `\0`, `\"`, `\\` and `\u{..}`.
 //!
-//! The answer of a case is what Debug shows of the call's, with each position as `FILE:OFFSET`. A
-//! lexer is of the text, in the file FILE, after READ calls of `next`. A number that is left out is
-//! 0. Each of many texts is also read by a lexer, parsed and formatted at the widths 0, 1 and the
-//! greatest: it is parsed and formatted where it is accepted, and else refused at a place in it, or
-//! the answer is `wrong`.
+//! Answers are written as Debug does, but with each position as `FILE:OFFSET`. A lexer is one for
+//! TEXT, in the file FILE, after READ calls of `next`. A missing number is 0. `beginnings` and
+//! `damaged` also read each text with a lexer, parse it, and format it at the widths 0, 1 and the
+//! greatest. All must succeed if the text is accepted, and otherwise fail at a place in the text;
+//! if not, the answer is `wrong`.
 //!
 //! | Case | The answer |
 //! |---|---|
-//! | `tokens FILE READ TEXT` | what each call of `next` gives, behind the lexer's state before it |
+//! | `tokens FILE READ TEXT` | each answer of `next`, after the lexer's state before the call |
 //! | `parse FILE READ TEXT`, `parse_without_pos FILE READ TEXT` | the tree, or the fault |
-//! | `format WIDTH.. TEXT` | the text at the first width, formatted at the next one, and so on |
+//! | `next_def FILE COUNT TEXT` | a word for each of the first COUNT answers of `next_def` |
+//! | `format WIDTH.. TEXT` | the text formatted at the first width, that formatted at the next one, and so on |
 //! | `tidy TEXT` | the tidy text |
-//! | `lines WIDTH TIMES TEXT` | how many lines the text, so many times, has when it is formatted, how long the longest is, and all of it |
-//! | `refusal TEXT` | what Display shows of the error, or `accepted` |
-//! | `beginnings TEXT` | of how many beginnings of the text which are accepted, and the hash of what `refusal` shows of the others |
-//! | `damaged PIECE TEXT` | the same of the texts in which the piece stands in place of a character |
-//! | `parse_errors OFFSET.. NAME TEXT` | what Display shows of parse errors at these places of a file |
-//! | `overlap_error OFFSET.. NAME TEXT` | what Display shows of an overlap of rules at these places |
-//! | `shadowed_error MASK OFFSET.. NAME TEXT` | what Display shows of rules at these places that another one shadows |
+//! | `lines WIDTH TIMES TEXT` | the numbers of lines, of bytes in the longest line, and of bytes, of the text repeated and formatted |
+//! | `refusal TEXT` | the error as Display shows it, or `accepted` |
+//! | `beginnings TEXT` | the number of beginnings of the text, those that are accepted, and a hash of the answers of `refusal` for the others |
+//! | `damaged PIECE TEXT` | the same for the texts with the piece in place of one character |
+//! | `parse_errors OFFSET.. NAME TEXT` | parse errors at these places of a file, as Display shows them |
+//! | `overlap_error OFFSET.. NAME TEXT` | an overlap of rules at these places, as Display shows it |
+//! | `shadowed_error MASK OFFSET.. NAME TEXT` | rules at these places that another one shadows, as Display shows them |
 //! | `line_map OFFSET.. TEXT` | the line of each place, and the line map |
 //! | `fits ROOM TEXT` | whether the S-expression of each definition fits the room |
 //! | `writable TEXT` | whether the tree is writable |
-//! | `built KIND NUMBER.. WORD..` | whether the tree of this kind, of `isle_test_writable`, is writable, and its print reads back if it is, at widths from the least to the greatest |
-//! | `built_alone KIND NUMBER.. WORD..` | whether each definition of it is writable, without a print |
-//! | `built_print KIND NUMBER.. WORD..` | whether it is writable, and its print at 78 |
-//! | `nodes FILE TEXT` | the text of each definition and of its parts by themselves, with the positions of patterns and expressions |
-//! | `terms TEXT` | the terms of rules and extractors, each with its place and its symbol |
-//! | `template PATTERN NAMES` | whether the template of the pattern holds arguments of the macro, and the template |
-//! | `substitute PATTERN NAMES PATTERN..` | the text of the template with the patterns behind the names put in |
+//! | `built KIND NUMBER.. WORD..` | whether the tree of this kind (see `isle_test_trees`) is writable; an error if its print parses as the tree and it isn't, or the other way round, at any of four widths |
+//! | `built_alone KIND NUMBER.. WORD..` | whether each of its definitions is writable, without printing |
+//! | `built_print KIND NUMBER.. WORD..` | whether it is writable, and its print at width 78 |
+//! | `nodes FILE TEXT` | each definition and each of its parts, printed by itself, with the positions of patterns and expressions |
+//! | `terms TEXT` | the position and the symbol of each term in rules and extractors |
+//! | `template PATTERN NAMES` | whether the template of the pattern holds arguments of a macro, and the template |
+//! | `substitute PATTERN NAMES PATTERN..` | the text of the template with the patterns after the names put in |
+//! | `by_hand NAME` | what `isle_test_trees` asks of trees by hand under this name |
+//! | `is_identifier TEXT` | whether the text is an identifier |
+//! | `begins_identifier TEXT`, `continues_identifier TEXT` | whether its first character begins an identifier, or continues one |
+//! | `name_order OFFSET NAME OTHER` | how a name without a position compares with another one at an offset |
+//! | `full_name OFFSET TYPE VARIANT` | the full name of a variant at an offset of file 2 |
+//! | `apart TEXT` | whether each definition is equal to its copy, and to no other definition |
+//! | `apart_specs TEXT` | the same of the spec expressions of each spec, and of their lists |
+//! | `apart_places FILE TEXT` | whether the definitions without positions differ from those in a file |
+//! | `holds_argument TEXT` | whether a definition holds the argument of a macro |
+//! | `walk FILE TEXT SYMBOL OTHER` | the position of the last term of the one rule's pattern, and whether its expression has terms of these symbols |
+//! | `index PROGRAM` | how many symbols the program defines. The cases below ask the index of the last such program, file 0 |
+//! | `index_at OFFSET` | the name there, and its occurrences, each definition with a `*` |
+//! | `index_symbols` | the program's definitions |
+//! | `index_candidates OFFSET FROM PREFIX` | the names that may be written there and begin with the prefix, with the variables from FROM on |
+//! | `index_rename OFFSET NAME` | the places that change when the name there is renamed, or why it can't be renamed |
 #![tactic(auto)]
 
 mod answers;
 mod case;
 mod errors;
 mod nodes;
+mod requests;
 mod terms;
 mod texts;
+mod trees;
 
 use answers::answer;
 use case::Case;
 use std::io;
 
 fn main(rt: HostRuntime) -> io::Result<()> {
+    let mut program = String::new(rt.alloc());
     for line in rt.lines(rt.alloc()) {
         let line = line?;
         if line.is_empty() || line.starts_with('#') {
             println!(rt; "{line}")?;
         } else {
             let case = Case::new(rt.alloc(), &line)?;
-            let answer = answer(rt.alloc(), &case)?;
+            if case.call.as_str() == "index" {
+                program = case.text(0).to_string(rt.alloc())?;
+            }
+            let answer = answer(rt.alloc(), &case, &program)?;
             println!(rt; "{answer}")?;
         }
     }

@@ -1,4 +1,4 @@
-//! The print of each kind of node by itself.
+//! Each node of a tree printed by itself.
 
 use crate::answers::{parsed, placed, shown};
 use crate::case::Case;
@@ -11,7 +11,7 @@ use isle_syntax::printer::{PrintFault, ToSExpr, print_node};
 use isle_test_nodes::trees::drop_definitions;
 use std::alloc::{AllocError, Global};
 
-/// Adds the text of a node, and a bar.
+/// Adds a node's text and a bar.
 fn put<N: ToSExpr>(node: &N, alloc: Global, out: &mut String) -> Result<(), PrintFault> {
     let text = print_node(alloc, node, usize::MAX)?;
     out.push_str(&text)?;
@@ -19,7 +19,7 @@ fn put<N: ToSExpr>(node: &N, alloc: Global, out: &mut String) -> Result<(), Prin
     Ok(())
 }
 
-/// Adds the texts of nodes, and a bar behind each.
+/// Adds each node's text and a bar.
 fn put_all<N: ToSExpr>(nodes: &[N], alloc: Global, out: &mut String) -> Result<(), PrintFault> {
     for node in nodes {
         put(node, alloc, out)?;
@@ -27,7 +27,7 @@ fn put_all<N: ToSExpr>(nodes: &[N], alloc: Global, out: &mut String) -> Result<(
     Ok(())
 }
 
-/// Adds the position of a node and its text.
+/// Adds a position, a node's text and a bar.
 fn put_at<N: ToSExpr>(
     pos: Pos,
     node: &N,
@@ -86,7 +86,7 @@ fn put_model(model: &Model, alloc: Global, out: &mut String) -> Result<(), Print
     }
 }
 
-/// Adds a pattern, whose symbol stands in front, if it is a term.
+/// Adds a pattern, after its symbol if it is a term.
 fn put_pattern(pattern: &Pattern, alloc: Global, out: &mut String) -> Result<(), PrintFault> {
     if let Some(sym) = pattern.root_term() {
         let words = format!(in alloc; "term {} ", sym.0)?;
@@ -95,7 +95,7 @@ fn put_pattern(pattern: &Pattern, alloc: Global, out: &mut String) -> Result<(),
     put_at(pattern.pos(), pattern, alloc, out)
 }
 
-/// Adds a pattern, and those that it holds if it is a term or a conjunction.
+/// Adds a pattern, and its parts if it is a term or a conjunction.
 fn put_patterns(pattern: &Pattern, alloc: Global, out: &mut String) -> Result<(), PrintFault> {
     put_pattern(pattern, alloc, out)?;
     match pattern {
@@ -134,7 +134,7 @@ fn put_args(args: &[SpecExpr], alloc: Global, out: &mut String) -> Result<(), Pr
     Ok(())
 }
 
-/// Adds a spec expression, and its lists.
+/// Adds a spec expression and its parts.
 fn put_spec_expr(expr: &SpecExpr, alloc: Global, out: &mut String) -> Result<(), PrintFault> {
     put_at(expr.pos(), expr, alloc, out)?;
     match expr {
@@ -184,7 +184,7 @@ fn put_definition(def: &Def, alloc: Global, out: &mut String) -> Result<(), Prin
     }
 }
 
-/// Adds each definition as the node that it is, and its parts.
+/// Adds definitions, and then the parts of each.
 fn put_definitions(defs: &[Def], alloc: Global, out: &mut String) -> Result<(), PrintFault> {
     put_all(defs, alloc, out)?;
     for def in defs {
@@ -193,7 +193,7 @@ fn put_definitions(defs: &[Def], alloc: Global, out: &mut String) -> Result<(), 
     Ok(())
 }
 
-/// The texts of definitions and of their parts, with the positions of those that can tell it.
+/// The texts of definitions and of their parts, with the positions of patterns and expressions.
 pub fn nodes(alloc: Global, case: &Case) -> Result<String, AllocError> {
     match parsed(alloc, case) {
         Ok(defs) => {

@@ -8,7 +8,7 @@ use isle_test_nodes::templates::{show_template, substituted};
 use isle_test_nodes::trees::drop_definitions;
 use std::alloc::{AllocError, Global};
 
-/// The terms of each rule and extractor, each with its position and its symbol.
+/// Adds the position and the symbol of each term in rules and extractors.
 fn push_terms(alloc: Global, out: &mut String, defs: &[Def]) -> Result<(), AllocError> {
     let mut noted = true;
     let mut note = |pos: Pos, sym: &Ident| {
@@ -47,8 +47,8 @@ fn push_term(alloc: Global, out: &mut String, pos: Pos, sym: &Ident) -> Result<(
     out.push(' ')
 }
 
-/// The template of the first text, with the names of the second as its parameters, and whether it
-/// holds arguments of the macro.
+/// The template of the first text, with the names in the second as parameters, after whether it
+/// holds arguments of a macro.
 pub fn template(alloc: Global, case: &Case) -> Result<String, AllocError> {
     match show_template(alloc, case.text(0), case.text(1)) {
         Ok(shown) => {
@@ -59,7 +59,7 @@ pub fn template(alloc: Global, case: &Case) -> Result<String, AllocError> {
     }
 }
 
-/// The text of the template with the patterns behind the names put in.
+/// The text of the template with the patterns after the names put in.
 pub fn substitute(alloc: Global, case: &Case) -> Result<String, AllocError> {
     let args = case.texts.get(2..).unwrap_or(&[]);
     shown(alloc, substituted(alloc, case.text(0), case.text(1), args))

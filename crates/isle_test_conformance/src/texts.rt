@@ -1,4 +1,4 @@
-//! Texts that are cut or damaged, all of a case at once.
+//! Cases of many texts: the beginnings of one, or one with each character damaged in turn.
 
 use crate::case::Case;
 use crate::errors::refusal_of;
@@ -8,8 +8,8 @@ use isle_syntax::lexer::{Fault, Lexer};
 use isle_test_nodes::trees::{drop_definitions, parsed};
 use std::alloc::{AllocError, Global};
 
-/// What is told of texts: how many there are, which of them are accepted, what is shown of the
-/// others, as one number, and the first text of which the calls say what they may not.
+/// The result for many texts: their number, the places of the accepted ones, a hash of the other
+/// ones' errors, and the first text on which a call was wrong.
 #[derive(Drop)]
 struct Tally {
     count: usize,
@@ -28,15 +28,15 @@ impl Tally {
         }
     }
 
-    /// Adds what is shown of a refused text: the FNV-1a hash of all of it.
+    /// Adds the error of a rejected text to the FNV-1a hash.
     fn add_shown(&mut self, shown: &str) {
         for byte in shown.bytes() {
             self.shown = (self.shown ^ u32::from(byte)).wrapping_mul(16_777_619);
         }
     }
 
-    /// Adds a text. It is wrong where `parse` and `format` do not agree on it, where a call refuses
-    /// it and not at a place in it, and where what is shown of a refused one is no parse error.
+    /// Adds a text. A call is wrong if `parse` and `format` disagree, if an error lies outside the
+    /// text, or if the error of a rejected text is no parse error.
     fn add(&mut self, alloc: Global, text: &str) -> Result<(), AllocError> {
         let shown = refusal_of(alloc, text)?;
         let is_accepted = shown.as_str() == "accepted";
@@ -57,7 +57,6 @@ impl Tally {
         Ok(())
     }
 
-    /// What is told in the end.
     fn told(&self, alloc: Global) -> Result<String, AllocError> {
         match &self.wrong {
             Some(text) => format!(in alloc; "wrong at {text:?}"),
@@ -69,12 +68,12 @@ impl Tally {
     }
 }
 
-/// Whether a refusal stands in the text or at its end.
+/// Returns whether a parse error begins in the text or at its end.
 fn is_within(fault: &Fault, text: &str) -> bool {
     matches!(fault, Fault::Error(Error::ParseError { span, .. }) if span.from.offset <= text.len())
 }
 
-/// Whether a lexer gives the tokens of a text up to its end, or refuses it at a place in it.
+/// Returns whether a lexer reads a text up to its end, or rejects it within the text.
 fn is_read(alloc: Global, text: &str) -> bool {
     let mut lexer = match Lexer::new(alloc, 0, text) {
         Ok(lexer) => lexer,
@@ -90,7 +89,7 @@ fn is_read(alloc: Global, text: &str) -> bool {
     false
 }
 
-/// Whether a text is parsed, if it is accepted, or else refused at a place in it.
+/// Returns whether an accepted text is parsed, and any other one rejected within the text.
 fn is_parsed(alloc: Global, text: &str, is_accepted: bool) -> bool {
     match parsed(alloc, 0, text) {
         Ok(defs) => {
@@ -101,8 +100,8 @@ fn is_parsed(alloc: Global, text: &str, is_accepted: bool) -> bool {
     }
 }
 
-/// Whether a text is formatted at widths from the least to the greatest, if it is accepted, or else
-/// refused at a place in it.
+/// Returns whether an accepted text is formatted at the widths 0, 1 and the greatest, and any other
+/// one rejected within the text.
 fn is_formatted(alloc: Global, text: &str, is_accepted: bool) -> bool {
     for width in [0, 1, usize::MAX] {
         let is_right = match format(alloc, text, width) {
@@ -116,7 +115,7 @@ fn is_formatted(alloc: Global, text: &str, is_accepted: bool) -> bool {
     true
 }
 
-/// What is told of every beginning of the text, at the borders of characters.
+/// The result for each beginning of the first text that ends at a character boundary.
 pub fn beginnings(alloc: Global, case: &Case) -> Result<String, AllocError> {
     let text = case.text(0);
     let mut tally = Tally::new(alloc);
@@ -127,7 +126,7 @@ pub fn beginnings(alloc: Global, case: &Case) -> Result<String, AllocError> {
     tally.told(alloc)
 }
 
-/// What is told of the second text where the first stands in place of a character, for each one.
+/// The result for the second text with the first in place of each of its characters in turn.
 pub fn damaged(alloc: Global, case: &Case) -> Result<String, AllocError> {
     let text = case.text(1);
     let mut tally = Tally::new(alloc);

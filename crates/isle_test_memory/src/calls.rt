@@ -1,4 +1,4 @@
-//! Calls that can want memory, and their answers as texts.
+//! Calls that may run out of memory, and their answers as texts.
 
 use isle_syntax::ast::{Def, TypeDef, TypeValue, Variant};
 use isle_syntax::error::{Error, ErrorsBuilder, Span};
@@ -14,7 +14,7 @@ use std::alloc::{AllocError, Global};
 use std::fmt::Debug;
 use std::rc::Rc;
 
-/// What Debug shows of an answer, which ends here, or want of memory.
+/// The answer as Debug shows it, unless the call ran out of memory.
 pub fn shown<T: Debug + Drop>(
     alloc: Global,
     answer: Result<T, Fault>,
@@ -28,7 +28,7 @@ pub fn shown<T: Debug + Drop>(
     text
 }
 
-/// What Debug shows of definitions, which are dropped, or want of memory.
+/// The definitions as Debug shows them, unless the call ran out of memory. They are dropped.
 fn shown_definitions(alloc: Global, answer: Result<Vec<Def>, Fault>) -> Result<String, AllocError> {
     match answer {
         Err(Fault::Memory) => Err(AllocError),
@@ -36,7 +36,7 @@ fn shown_definitions(alloc: Global, answer: Result<Vec<Def>, Fault>) -> Result<S
     }
 }
 
-/// What a printing call answers; no tree of a text holds the argument of a macro.
+/// The answer of a printing call. No parsed tree holds the argument of a macro.
 pub fn printed<T: Drop>(answer: Result<T, PrintFault>) -> Result<T, Fault> {
     match answer {
         Ok(value) => Ok(value),
@@ -45,7 +45,7 @@ pub fn printed<T: Drop>(answer: Result<T, PrintFault>) -> Result<T, Fault> {
     }
 }
 
-/// The answer of a call, on a text and at a width.
+/// The answer of a call on a text, at a width.
 pub fn answer(alloc: Global, call: &str, text: &str, width: usize) -> Result<String, AllocError> {
     match call {
         "tokens" => shown(alloc, tokens(alloc, text)),
@@ -66,7 +66,7 @@ pub fn answer(alloc: Global, call: &str, text: &str, width: usize) -> Result<Str
     }
 }
 
-/// What Debug shows of each token.
+/// Each token as Debug shows it, a line each.
 fn tokens(alloc: Global, text: &str) -> Result<String, Fault> {
     let mut out = String::new(alloc);
     let mut lexer = Lexer::new(alloc, 1, text)?;
@@ -95,7 +95,7 @@ fn counted(alloc: Global, text: &str, width: usize) -> Result<String, Fault> {
     printed(text)
 }
 
-/// What a way through the parts of the text's tree gives.
+/// The lines that a way through the parts of the tree adds.
 fn parts(alloc: Global, text: &str, way: Way) -> Result<String, Fault> {
     let defs = parsed(alloc, 1, text)?;
     let mut parts = Parts::new(alloc, way);
@@ -105,8 +105,8 @@ fn parts(alloc: Global, text: &str, way: Way) -> Result<String, Fault> {
     Ok(parts.out)
 }
 
-/// Whether copies of what is no part of a tree are equal, or made at all where nothing compares
-/// them.
+/// Returns whether copies of values outside trees are equal. A parser, which has no `==`, is only
+/// copied.
 fn others(alloc: Global, text: &str) -> Result<bool, Fault> {
     let lexer = Lexer::new(alloc, 1, text)?;
     let copy = lexer.clone()?;
@@ -130,7 +130,7 @@ fn nest(alloc: Global) -> Result<SExpr, AllocError> {
     Ok(SExpr::Binding("name".to_string(alloc)?, list))
 }
 
-/// Whether the copy of an S-expression that holds others is equal to it.
+/// Returns whether the copy of a nested S-expression is equal to it.
 fn is_nest_copied(alloc: Global) -> Result<bool, AllocError> {
     let nest = nest(alloc)?;
     Ok(nest.clone()? == nest)
@@ -165,7 +165,7 @@ fn put_full_names(alloc: Global, defs: &[Def], out: &mut String) -> Result<(), A
     Ok(())
 }
 
-/// The full name of each variant.
+/// The full name of each variant, a line each.
 fn full_names(alloc: Global, text: &str) -> Result<String, Fault> {
     let mut out = String::new(alloc);
     let defs = parsed(alloc, 1, text)?;
@@ -175,7 +175,7 @@ fn full_names(alloc: Global, text: &str) -> Result<String, Fault> {
     Ok(out)
 }
 
-/// Two files of the same text.
+/// Two files with the same text.
 pub fn files_of(alloc: Global, text: &str) -> Result<Files, AllocError> {
     let first = ("a.isle".to_string(alloc)?, text.to_string(alloc)?);
     let second = ("b.isle".to_string(alloc)?, text.to_string(alloc)?);
@@ -201,7 +201,7 @@ pub fn error(alloc: Global, msg: &str) -> Result<Error, AllocError> {
     })
 }
 
-/// What is shown of an error that took the place of another one.
+/// The message of an error that replaces another one in a builder.
 fn errors(alloc: Global, text: &str) -> Result<String, AllocError> {
     let files = Rc::new(alloc, files_of(alloc, text)?)?;
     let builder = ErrorsBuilder::new(alloc)?

@@ -1,27 +1,27 @@
-//! `isle_test_memory CALL [WIDTH] < TEXT`: makes one call of the syntax layer, so that each of its
-//! requests for memory can be refused in turn.
+//! `isle_test_memory CALL [WIDTH] < TEXT` makes one call of the syntax layer, so that each of its
+//! allocations can be made to fail in turn.
 //!
-//! It writes what the call answers and ends with 0; with 4, and writes nothing, where the answer is
-//! want of memory, be it the call's or the program's own; and with 3 where a stream fails.
+//! It prints the answer and exits with 0. If the call or the program itself runs out of memory, it
+//! exits with 4 and prints nothing; if a stream fails, with 3.
 //!
 //! CALL is one of these:
 //!
 //! - `tokens`: `Lexer::new`, then `next` up to the end.
 //! - `parse`, `parse_without_pos`: these.
 //! - `print`, `print_counted`, `format`: these, at the width.
-//! - `print_node`, `to_sexpr`, `clone`: these, of each definition and of each of its parts.
-//! - `clone_others`: `clone` of tokens, S-expressions, lexers, parsers, files and line maps.
-//! - `template`: `make_macro_template` and `subst_macro_args`, of each extractor's template.
-//! - `full_name`: this, of each variant.
+//! - `print_node`, `to_sexpr`, `clone`: these, for each definition and each of its parts.
+//! - `clone_others`: `clone` for tokens, S-expressions, lexers, parsers, files and line maps.
+//! - `template`: `make_macro_template` and `subst_macro_args`, for each extractor's template.
+//! - `full_name`: this, for each variant.
 //! - `files`: `from_names_and_contents`, `LineMap::from_str` and `pretty_print_line`.
-//! - `errors`: `ErrorsBuilder::new`, `error`, and what Display shows.
-//! - `next_def`: `next_def` up to the end. Each definition's place is written at once, and the word
-//!   `failed` to standard error where memory was refused and the parser then answers so.
-//! - `retry`: as `tokens`, but each token is written at once. Where memory is refused, the lexer
-//!   has to be as before, and the call is made again, with the word `retried` on standard error.
-//! - `nothing`, `lexer`, `tree`, `layout`, `places`, `builder`, `display`: calls that take no
-//!   memory. They write `right`, or `wrong` where they answer otherwise than they should. All make
-//!   the same things first, so all make as many requests as `nothing`.
+//! - `errors`: `ErrorsBuilder::new`, `error`, and Display.
+//! - `next_def`: `next_def` up to the end. Each definition's offset is printed at once. If memory
+//!   runs out and the parser then answers `Failed`, `failed` is printed to standard error.
+//! - `retry`: as `tokens`, but each token is printed at once. If memory runs out, the lexer must be
+//!   unchanged; the call is made again, and `retried` is printed to standard error.
+//! - `nothing`, `lexer`, `tree`, `layout`, `places`, `builder`, `display`: calls that never
+//!   allocate. They print `right`, or `wrong` after a wrong answer. All prepare the same values
+//!   first, so each makes as many allocations as `nothing`.
 #![tactic(auto)]
 
 mod calls;
@@ -42,7 +42,7 @@ fn words<R: Env + AllocGlobal>(rt: &R) -> io::Result<Vec<String>> {
     Ok(env::args(rt)?.skip(1).collect(rt.alloc())?)
 }
 
-/// Makes the call that the first word names, on the text that the input holds.
+/// Makes the call named by the first word, on the input as its text.
 fn sweep<R: Read, W: Write, E: Write>(
     alloc: Global,
     words: &[String],

@@ -1,5 +1,5 @@
-//! Calls that are made again where memory was refused. What they answer is written at once, so that
-//! nothing here wants memory but the calls.
+//! Calls that are made again when they run out of memory. Answers are printed at once, so that only
+//! the calls allocate.
 
 use isle_syntax::ast::Def;
 use isle_syntax::lexer::{Fault, Lexer, Pos, Token};
@@ -8,7 +8,7 @@ use isle_test_nodes::trees::{drop_definition, next_word};
 use std::alloc::Global;
 use std::io::{self, ErrorKind, Write};
 
-/// A number that tells tokens apart: what an integer is, or the FNV-1a hash of a symbol.
+/// A number for a token: an integer's absolute value, or the FNV-1a hash of a symbol.
 fn number_of(token: &Token) -> u128 {
     match token {
         Token::LParen => 1,
@@ -25,8 +25,8 @@ fn number_of(token: &Token) -> u128 {
     }
 }
 
-/// What a lexer tells: its lookahead's position and number, its own position, and whether it is at
-/// its end.
+/// A lexer as its caller sees it: its lookahead's position and number, its own position, and
+/// whether it is at its end.
 #[derive(Clone, Copy, PartialEq, Drop)]
 struct State {
     ahead: Option<(Pos, u128)>,
@@ -46,7 +46,7 @@ fn want_of_memory() -> io::Error {
     io::Error::from(ErrorKind::OutOfMemory)
 }
 
-/// What an answer about the next token is, in a word. The answer is dropped.
+/// A word for an answer about the next token. The answer is dropped.
 pub fn word_of(next: Result<Option<(Pos, Token)>, Fault>) -> &'static str {
     let word = match &next {
         Ok(Some(_)) => "token",
@@ -59,13 +59,13 @@ pub fn word_of(next: Result<Option<(Pos, Token)>, Fault>) -> &'static str {
     word
 }
 
-/// Writes a token's position and number.
+/// Prints a token's offset and number.
 fn write_token<W: Write>(output: &mut W, pos: Pos, token: &Token) -> io::Result<()> {
     let number = number_of(token);
     writeln!(output, "{} {number}", pos.offset)
 }
 
-/// Calls `next`, and again where memory was refused; then the lexer has to be as it was.
+/// Calls `next`, and again if it runs out of memory; the lexer must then be unchanged.
 fn next<E: Write>(
     alloc: Global,
     lexer: &mut Lexer,
@@ -84,7 +84,7 @@ fn next<E: Write>(
     }
 }
 
-/// Makes a lexer, again where memory was refused.
+/// Makes a lexer, with a second attempt if memory runs out.
 fn lexer_of<'a, E: Write>(
     alloc: Global,
     text: &'a str,
@@ -99,7 +99,7 @@ fn lexer_of<'a, E: Write>(
     Ok(Lexer::new(alloc, 1, text))
 }
 
-/// Writes each token of a text, and the fault that ends them.
+/// Prints each token of a text, and the end or the fault after them.
 pub fn retried<W: Write, E: Write>(
     alloc: Global,
     text: &str,
@@ -120,7 +120,7 @@ pub fn retried<W: Write, E: Write>(
     Ok(())
 }
 
-/// Writes what a fault is.
+/// Prints a word for a fault; running out of memory is an error.
 fn write_fault<W: Write>(output: &mut W, fault: &Fault) -> io::Result<()> {
     match fault {
         Fault::Error(_) => output.write_all(b"error\n"),
@@ -129,13 +129,13 @@ fn write_fault<W: Write>(output: &mut W, fault: &Fault) -> io::Result<()> {
     }
 }
 
-/// Whether a parser answers `Failed`, and nothing else, to two calls.
+/// Returns whether a parser answers `Failed` to two calls.
 fn has_failed(alloc: Global, parser: &mut Parser) -> bool {
     let first = next_word(parser.next_def(alloc));
     first == "failed" && next_word(parser.next_def(alloc)) == "failed"
 }
 
-/// A word for a definition, by which few are taken for one another.
+/// A definition's byte offset, or 0 for a kind without a position.
 fn place_of(def: &Def) -> usize {
     match def {
         Def::Decl(decl) => decl.pos.offset,
@@ -148,8 +148,8 @@ fn place_of(def: &Def) -> usize {
     }
 }
 
-/// Writes the place of each definition of a text, and what ends them. Where memory was refused the
-/// parser has to answer `Failed` from then on.
+/// Prints the offset of each definition of a text, and the end or the fault after them. Once memory
+/// runs out, the parser must answer `Failed`.
 pub fn definitions<W: Write, E: Write>(
     alloc: Global,
     text: &str,

@@ -1,4 +1,4 @@
-//! Calls that take no memory, in groups. Each group makes the same things first.
+//! Calls that never allocate, in groups. Each group prepares the same values first.
 
 use crate::calls::{error, files_of, printed};
 use crate::retry::word_of;
@@ -14,7 +14,7 @@ use std::fmt::{self, Write};
 use std::ops::Range;
 use std::rc::Rc;
 
-/// What the calls are made of.
+/// The values that the calls work on.
 #[derive(Drop)]
 struct Ready<'a> {
     text: &'a str,
@@ -26,7 +26,7 @@ struct Ready<'a> {
     errors: Vec<Error>,
 }
 
-/// A lexer that has refused its text.
+/// A lexer that has rejected its text.
 fn failed(alloc: Global) -> Result<Lexer<'static>, Fault> {
     let mut lexer = Lexer::new(alloc, 1, "a 12ab")?;
     match word_of(lexer.next(alloc)) {
@@ -55,7 +55,7 @@ fn make_ready<'a>(alloc: Global, text: &'a str, defs: &[Def]) -> Result<Ready<'a
     })
 }
 
-/// Whether the calls of this group answer as they should.
+/// Returns whether the calls of this group give the right answers.
 pub fn still(alloc: Global, call: &str, text: &str) -> Result<bool, AllocError> {
     match parsed(alloc, 1, text) {
         Ok(defs) => {
@@ -97,12 +97,12 @@ fn group(alloc: Global, call: &str, ready: Ready, defs: &[Def]) -> bool {
     }
 }
 
-/// Whether a lexer at its end says so.
+/// Returns whether a lexer is at its end, and `next` says so.
 fn is_at_end(alloc: Global, mut lexer: Lexer) -> bool {
     lexer.eof() && word_of(lexer.next(alloc)) == "end"
 }
 
-/// Whether `next` of a lexer of a text without a token is at its end.
+/// Returns whether a lexer for a text without tokens is at its end.
 fn ends(alloc: Global) -> bool {
     match Lexer::new(alloc, 1, " ") {
         Ok(lexer) => is_at_end(alloc, lexer),
@@ -110,8 +110,8 @@ fn ends(alloc: Global) -> bool {
     }
 }
 
-/// The calls of lexers, of tokens and of lanes, and a parser's beginning; `next` of a lexer that
-/// has failed, and of one at its end.
+/// Calls of lexers, tokens and the ends of runs, and `Parser::new`; `next` for a failed lexer and
+/// for one at its end.
 fn lexers(alloc: Global, text: &str, lexer: Lexer, mut failed: Lexer) -> bool {
     let is_token = match lexer.peek() {
         Some((pos, token)) => pos.file == 1 && !pos.is_unknown() && !token.is_int(),
@@ -131,7 +131,7 @@ fn lexers(alloc: Global, text: &str, lexer: Lexer, mut failed: Lexer) -> bool {
     is_token && is_symbol && is_ahead && is_symbol_end && are_ends && is_failed && ends(alloc)
 }
 
-/// The calls of trees.
+/// Calls of trees.
 fn trees(defs: &[Def]) -> bool {
     let mut terms: usize = 0;
     let mut known = true;
@@ -154,24 +154,24 @@ fn trees(defs: &[Def]) -> bool {
     is_right && known && terms > 0
 }
 
-/// Whether a pattern, with its symbol if it has one, and an expression stand in file 1.
+/// Returns whether a pattern, its symbol if it has one, and an expression are in file 1.
 fn is_placed(pattern: &Pattern, expr: &Expr) -> bool {
     let is_root = pattern.root_term().map_or(true, |sym| sym.1.file == 1);
     is_root && pattern.pos().file == 1 && expr.pos().file == 1
 }
 
-/// Whether spec expressions stand in file 1.
+/// Returns whether spec expressions are in file 1.
 fn are_placed(exprs: &[SpecExpr]) -> bool {
     exprs.iter().all(|expr| expr.pos().file == 1)
 }
 
-/// Whether an S-expression fits rooms.
+/// Returns whether an S-expression fits the greatest room, and not an empty one.
 fn layouts(sexpr: &SExpr) -> bool {
     let mut looks = Looks::new();
     fits(sexpr, usize::MAX, &mut looks) && !fits(sexpr, 0, &mut looks)
 }
 
-/// The calls of files, of line maps, of positions and of spans.
+/// Calls of files, line maps, positions and spans.
 fn places(alloc: Global, files: &Files) -> bool {
     let is_empty = Files::default(alloc).file_name(0).is_none();
     let is_start = LineMap::default(alloc).line(9) == 0;
@@ -184,14 +184,14 @@ fn places(alloc: Global, files: &Files) -> bool {
     is_empty && is_start && range.start == 7 && range.end == 8 && is_known && is_text
 }
 
-/// The builder's calls that take no memory, and those of errors.
+/// Calls of errors, and those of the builder that never allocate.
 fn builders(builder: ErrorsBuilder, errors: Vec<Error>, files: Rc<Files>) -> bool {
     let is_accepted = Errors::accepts(&errors, &files);
     let builder = builder.errors(errors).files(files);
     is_accepted && builder.is_buildable() && builder.build().errors().len() == 2
 }
 
-/// A writer into room of its own, which refuses a write when it has taken so many.
+/// A writer into a fixed buffer that fails after a number of writes.
 #[derive(Drop)]
 struct Fixed {
     bytes: [u8; 256],
@@ -227,10 +227,10 @@ impl Write for Fixed {
     }
 }
 
-/// What is shown of the errors, from the beginning and up to the source line.
+/// The beginning of the message, up to the source line.
 const SHOWN: &[u8] = b"parse error: first\nb.isle:1:3: ";
 
-/// Display of the errors into room that is there, and up to each write that is refused.
+/// Display of the errors into a fixed buffer, and with each write failing in turn.
 fn displays(builder: ErrorsBuilder, errors: Vec<Error>, files: Rc<Files>) -> bool {
     let builder = builder.errors(errors).files(files);
     if !builder.is_buildable() {

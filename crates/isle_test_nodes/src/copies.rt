@@ -6,7 +6,7 @@ use isle_syntax::ast::{Def, Pattern, SpecExpr};
 use isle_syntax::lexer::Fault;
 use std::alloc::{AllocError, Global};
 
-/// Whether each node is equal to its copy, and to no other.
+/// Returns whether each node is equal to its copy and to no other node.
 fn are_apart<T: Clone + PartialEq + Drop>(nodes: &[T]) -> Result<bool, AllocError> {
     for (i, one) in nodes.iter().enumerate() {
         let copy = one.clone()?;
@@ -24,12 +24,12 @@ fn are_apart<T: Clone + PartialEq + Drop>(nodes: &[T]) -> Result<bool, AllocErro
     Ok(true)
 }
 
-/// Whether definitions are apart, each from the others.
+/// Returns whether each definition is equal to its copy and to no other definition.
 pub fn definitions_are_apart(defs: &[Def]) -> Result<bool, AllocError> {
     are_apart(defs)
 }
 
-/// Whether the parts of a spec expression that are lists are apart, each from the others.
+/// Returns the same for the items of the lists in a spec expression.
 fn lists_are_apart(spec: &SpecExpr) -> Result<bool, AllocError> {
     match spec {
         SpecExpr::Match { arms, .. } => are_apart(arms),
@@ -48,7 +48,7 @@ fn expressions_are_apart(exprs: &[SpecExpr]) -> Result<bool, AllocError> {
     are_apart(exprs)
 }
 
-/// Whether the spec expressions of each spec are apart.
+/// Returns the same for the spec expressions of each spec, and for the items of their lists.
 pub fn specs_are_apart(defs: &[Def]) -> Result<bool, AllocError> {
     for def in defs {
         if let Def::Spec(spec) = def {
@@ -60,7 +60,7 @@ pub fn specs_are_apart(defs: &[Def]) -> Result<bool, AllocError> {
     Ok(true)
 }
 
-/// Whether the definitions of a text, in a file, are others than these.
+/// Returns whether the definitions of a text in a file differ from these.
 pub fn differ_from(alloc: Global, defs: &Vec<Def>, file: usize, text: &str) -> Result<bool, Fault> {
     let others = parsed(alloc, file, text)?;
     let differ = others != *defs;
@@ -68,7 +68,7 @@ pub fn differ_from(alloc: Global, defs: &Vec<Def>, file: usize, text: &str) -> R
     Ok(differ)
 }
 
-/// Whether the argument of a macro is found in a pattern, in the condition of the other pattern,
+/// Returns whether a macro's argument is found in a pattern, in a condition with the other pattern,
 /// and in a rule of both.
 fn found(alloc: Global, pattern: Pattern, other: Pattern) -> Result<[bool; 3], AllocError> {
     let iflet = condition(other);
@@ -77,7 +77,7 @@ fn found(alloc: Global, pattern: Pattern, other: Pattern) -> Result<[bool; 3], A
     Ok([in_pattern, in_condition, rule.has_macro_arg()])
 }
 
-/// Whether it is found in neither, in the pattern alone, and in the condition alone.
+/// The same for an argument in neither, in the pattern alone, and in the condition alone.
 pub fn arguments_in_rules(alloc: Global) -> Result<[[bool; 3]; 3], AllocError> {
     let none = found(alloc, wildcard(), wildcard())?;
     let in_pattern = found(alloc, term(alloc, "B", macro_arg())?, wildcard())?;
@@ -85,7 +85,7 @@ pub fn arguments_in_rules(alloc: Global) -> Result<[[bool; 3]; 3], AllocError> {
     Ok([none, in_pattern, in_condition])
 }
 
-/// Whether it is found in an extractor, and in the definition that the extractor is.
+/// Returns whether a macro's argument is found in an extractor, and in its definition.
 pub fn argument_in_extractor(alloc: Global) -> Result<[bool; 2], AllocError> {
     let extractor = extractor(alloc, macro_arg())?;
     let in_extractor = extractor.has_macro_arg();

@@ -1,8 +1,7 @@
-//! What the crates of tests share: trees of texts, trees that no text gives, and calls that drop
-//! trees.
+//! Helpers for the test crates: trees of texts, nodes made by hand, and calls that drop trees.
 //!
-//! A crate that drops a tree, or puts a node into a list or a box, proves how each part of it is
-//! dropped. So those of tests don't: they hand trees to the calls of `trees`.
+//! A crate that drops a tree, or puts a node into a list or a box, has to prove how each part is
+//! dropped. So test crates pass trees to the calls of `trees` instead.
 #![tactic(auto)]
 
 pub mod copies;

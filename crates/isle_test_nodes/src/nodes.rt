@@ -1,10 +1,10 @@
-//! Nodes by hand.
+//! Nodes made by hand.
 
 use isle_syntax::ast::{Expr, Extractor, Ident, IfLet, Pattern, Rule};
 use isle_syntax::lexer::Pos;
 use std::alloc::{AllocError, Global};
 
-/// The position of what was made by hand.
+/// The position of nodes made by hand.
 pub fn pos() -> Pos {
     Pos::default()
 }

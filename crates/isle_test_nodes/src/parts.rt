@@ -1,4 +1,4 @@
-//! Each part of a tree by itself.
+//! Copying, printing or shaping each part of a tree by itself.
 
 use isle_syntax::ast::{
     Attr, Def, Expr, Fields, Model, ModelType, ModelValue, Pattern, Rule, Spec, SpecExpr, TypeDef,
@@ -7,7 +7,7 @@ use isle_syntax::ast::{
 use isle_syntax::printer::{PrintFault, ToSExpr, print_node};
 use std::alloc::Global;
 
-/// What is done with each part.
+/// The operation on each part.
 #[derive(Clone, Copy, Drop)]
 pub enum Way {
     /// It is copied, and compared with its copy.
@@ -18,7 +18,7 @@ pub enum Way {
     Shape,
 }
 
-/// A way through the parts of a tree, and what it gives.
+/// A walk over the parts of a tree, and its output.
 #[derive(Drop)]
 pub struct Parts {
     alloc: Global,
@@ -49,7 +49,7 @@ impl Parts {
         Ok(self.out.push('\n')?)
     }
 
-    /// Adds a line that tells whether the copy of a node is equal to it.
+    /// Adds a line that says whether the copy of a node is equal to it.
     fn put_copy<N: Clone + PartialEq + Drop>(&mut self, node: &N) -> Result<(), PrintFault> {
         let copy = node.clone()?;
         let is_equal = copy == *node;
@@ -71,7 +71,7 @@ impl Parts {
         Ok(())
     }
 
-    /// Adds a line for fields if they are copied, and one for each of them.
+    /// Adds a line for each field, and in the way `Copy` one for all of them before.
     fn put_fields(&mut self, fields: &Fields) -> Result<(), PrintFault> {
         if matches!(self.way, Way::Copy) {
             self.put_copy(fields)?;

@@ -1,12 +1,12 @@
-//! S-expressions and prints of nodes by hand.
+//! S-expressions and prints of nodes made by hand.
 
 use crate::nodes::{condition, extractor, ident, macro_arg, pos, rule, term, wildcard};
 use crate::trees::drop_definitions;
-use isle_syntax::ast::{Converter, Def, Pattern, SpecExpr, SpecOp};
+use isle_syntax::ast::{Converter, Def, Pattern, SpecExpr};
 use isle_syntax::printer::{PrintFault, SExpr, ToSExpr, print, print_node};
 use std::alloc::{AllocError, Global};
 
-/// Whether the S-expression of `(convert A B c)` is this one.
+/// Returns whether the S-expression of `(convert A B c)` is this one.
 pub fn conversion_is_list(alloc: Global, want: &SExpr) -> Result<bool, PrintFault> {
     let converter = Converter {
         term: ident(alloc, "c")?,
@@ -17,7 +17,7 @@ pub fn conversion_is_list(alloc: Global, want: &SExpr) -> Result<bool, PrintFaul
     Ok(converter.to_sexpr(alloc)? == *want)
 }
 
-/// Whether the S-expression of `(if-let _ true)` is this one.
+/// Returns whether the S-expression of `(if-let _ true)` is this one.
 pub fn condition_is_list(alloc: Global, want: &SExpr) -> Result<bool, PrintFault> {
     Ok(condition(wildcard()).to_sexpr(alloc)? == *want)
 }
@@ -32,33 +32,13 @@ pub fn print_of_bits(alloc: Global, val: u128, width: usize) -> Result<String, P
     print_node(alloc, &bits, 78)
 }
 
-/// The print of the operator `-`.
-pub fn print_of_sign(alloc: Global) -> Result<String, PrintFault> {
-    print_node(alloc, &SpecOp::Sub, 78)
-}
-
-fn integer(val: i128) -> SpecExpr {
-    SpecExpr::ConstInt { val, pos: pos() }
-}
-
-/// The print of `(- 1 2)`.
-pub fn print_of_minus(alloc: Global) -> Result<String, PrintFault> {
-    let minus = SpecExpr::Op {
-        op: SpecOp::Sub,
-        args: vec![in alloc; integer(1), integer(2)]?,
-        pos: pos(),
-    };
-    print_node(alloc, &minus, 78)
-}
-
-/// Whether a node, which is dropped, is refused for the argument of a macro, and nothing of it is
-/// printed.
+/// Returns whether the printer rejects a node for the argument of a macro. The node is dropped.
 fn is_refused<N: ToSExpr + Drop>(alloc: Global, node: N) -> bool {
     matches!(node.to_sexpr(alloc), Err(PrintFault::MacroArg))
         && matches!(print_node(alloc, &node, 78), Err(PrintFault::MacroArg))
 }
 
-/// `(A x @ ARGUMENT)`, the argument that of a macro.
+/// `(A x @ ARGUMENT)`, with the argument of a macro.
 fn bound_argument(alloc: Global) -> Result<Pattern, AllocError> {
     let bound = Pattern::BindPattern {
         subpat: Box::new(alloc, macro_arg())?,
@@ -68,8 +48,8 @@ fn bound_argument(alloc: Global) -> Result<Pattern, AllocError> {
     term(alloc, "A", bound)
 }
 
-/// Whether the argument of a macro is refused, whether a wildcard is, and whether a pattern, a
-/// condition, an extractor and a rule are, each of which holds the argument.
+/// Returns whether the printer rejects the argument of a macro; a wildcard; and a pattern, a
+/// condition, an extractor and a rule that hold the argument.
 pub fn refused_for_arguments(alloc: Global) -> Result<[bool; 6], AllocError> {
     Ok([
         is_refused(alloc, macro_arg()),

@@ -22,7 +22,7 @@ fn pattern(alloc: Global, text: &str) -> Result<Pattern, Fault> {
     }
 }
 
-/// The names that stand between blanks.
+/// The names in a text, separated by blanks.
 fn names(alloc: Global, text: &str) -> Result<Vec<Ident>, AllocError> {
     let mut names = Vec::new(alloc);
     for word in text.split(' ') {
@@ -31,7 +31,7 @@ fn names(alloc: Global, text: &str) -> Result<Vec<Ident>, AllocError> {
     Ok(names)
 }
 
-/// The template of a pattern that holds no argument of a macro.
+/// The template of a pattern; a failure if the pattern holds the argument of a macro.
 fn filled(alloc: Global, pattern: &Pattern, names: &[Ident]) -> Result<Pattern, Fault> {
     if pattern.has_macro_arg() {
         return Err(Fault::Failed);
@@ -39,7 +39,7 @@ fn filled(alloc: Global, pattern: &Pattern, names: &[Ident]) -> Result<Pattern, 
     Ok(pattern.make_macro_template(alloc, names)?)
 }
 
-/// The template of a pattern's text, with names between blanks as its parameters.
+/// The template of a pattern's text. The names of its parameters are separated by blanks.
 fn template(alloc: Global, text: &str, params: &str) -> Result<Pattern, Fault> {
     let names = names(alloc, params)?;
     let pattern = pattern(alloc, text)?;
@@ -48,8 +48,7 @@ fn template(alloc: Global, text: &str, params: &str) -> Result<Pattern, Fault> {
     template
 }
 
-/// What Debug shows of the template of a pattern's text, behind whether it holds arguments of the
-/// macro.
+/// The template of a pattern's text as Debug shows it, after whether it holds arguments of a macro.
 pub fn show_template(alloc: Global, text: &str, params: &str) -> Result<String, Fault> {
     let template = template(alloc, text, params)?;
     let holds = template.has_macro_arg();
@@ -67,8 +66,8 @@ fn patterns(alloc: Global, texts: &[String]) -> Result<Vec<Pattern>, Fault> {
     Ok(patterns)
 }
 
-/// The text of the template of a pattern's text with patterns put in; `None` where there are too
-/// few of them, or the outcome has no print.
+/// The print of the template of a pattern's text with patterns put in; `None` if there are too few
+/// of them, or the result has no print.
 pub fn substituted(
     alloc: Global,
     text: &str,
@@ -89,7 +88,7 @@ pub fn substituted(
     }
 }
 
-/// Adds what Debug shows of the pattern that a template becomes with a wildcard put in.
+/// Adds a template with a wildcard put in, as Debug shows it.
 fn put_in_wildcard(alloc: Global, template: &Pattern, out: &mut String) -> Result<(), Fault> {
     let args = vec![in alloc; wildcard()]?;
     let put_in = template.subst_macro_args(alloc, &args)?;
@@ -98,8 +97,8 @@ fn put_in_wildcard(alloc: Global, template: &Pattern, out: &mut String) -> Resul
     Ok(out.push_str(&words?)?)
 }
 
-/// Adds what Debug shows of what two calls make of a pattern: its template for the name `x`, and
-/// that with a wildcard put in.
+/// Adds a pattern's template for the name `x`, and the template with a wildcard put in, as Debug
+/// shows them.
 fn put_template(alloc: Global, pattern: &Pattern, out: &mut String) -> Result<(), Fault> {
     let names = vec![in alloc; ident(alloc, "x")?]?;
     let template = filled(alloc, pattern, &names)?;
@@ -108,7 +107,7 @@ fn put_template(alloc: Global, pattern: &Pattern, out: &mut String) -> Result<()
     put_in_wildcard(alloc, &template, out)
 }
 
-/// Adds the same of the template of each extractor.
+/// Adds the same for the template of each extractor.
 pub fn put_templates(alloc: Global, defs: &[Def], out: &mut String) -> Result<(), Fault> {
     for def in defs {
         if let Def::Extractor(extractor) = def {
@@ -118,7 +117,7 @@ pub fn put_templates(alloc: Global, defs: &[Def], out: &mut String) -> Result<()
     Ok(())
 }
 
-/// Whether the name `x` alone becomes the argument of a macro.
+/// Returns whether the name `x` becomes the argument of a macro.
 pub fn becomes_an_argument(alloc: Global) -> Result<bool, AllocError> {
     let names = vec![in alloc; ident(alloc, "x")?]?;
     let x = Pattern::Var {
@@ -129,7 +128,8 @@ pub fn becomes_an_argument(alloc: Global) -> Result<bool, AllocError> {
     Ok(template == macro_arg())
 }
 
-/// Whether `subst_macro_args` leaves what it put in as it is, be it the argument of a macro.
+/// Returns whether `subst_macro_args` leaves a pattern that it has put in as it is, even the
+/// argument of a macro.
 pub fn stays_put_in(alloc: Global) -> Result<bool, AllocError> {
     let arg = Pattern::MacroArg {
         index: 5,

@@ -15,22 +15,19 @@ pub fn read(alloc: Global, text: &str) -> Result<Vec<Def>, Fault> {
     parse_without_pos(alloc, Lexer::new(alloc, 0, text)?)
 }
 
-/// Drops definitions.
 pub fn drop_definitions(defs: Vec<Def>) {
     drop(defs);
 }
 
-/// Drops a definition.
 pub fn drop_definition(def: Def) {
     drop(def);
 }
 
-/// Drops a pattern.
 pub fn drop_pattern(pattern: Pattern) {
     drop(pattern);
 }
 
-/// What Debug shows of definitions, or of the fault, which are dropped.
+/// Definitions, or the fault, as Debug shows them. They are dropped.
 pub fn show_definitions(
     alloc: Global,
     answer: Result<Vec<Def>, Fault>,
@@ -40,7 +37,7 @@ pub fn show_definitions(
     text
 }
 
-/// What an answer about the next definition is, in a word. The answer is dropped.
+/// A word for an answer of `next_def`. The answer is dropped.
 pub fn next_word(answer: Result<Option<Def>, Fault>) -> &'static str {
     let word = match &answer {
         Ok(Some(Def::Decl(_))) => "decl",

@@ -1,6 +1,6 @@
-//! What is asked of an answer.
+//! Comparisons of answers.
 
-/// Whether the answer is this text.
+/// Returns whether the answer is this text.
 pub fn is_text(answer: &Option<String>, want: &str) -> bool {
     match answer {
         Some(text) => text.as_str() == want,

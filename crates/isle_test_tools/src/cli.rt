@@ -1,4 +1,4 @@
-//! What the programs share: words, failures, messages, and the files that names stand for.
+//! Tests of the command lines: arguments, failures, messages and input files.
 
 use crate::answers::is_text;
 use isle_base_source::files::LineMap;
@@ -33,13 +33,13 @@ fn strings(alloc: Global, words: &[&str]) -> Result<Vec<String>, AllocError> {
         .try_collect(alloc)
 }
 
-/// What words ask for.
+/// The request that words make.
 fn request(alloc: Global, words: &[&str]) -> Result<Request, Failure> {
     let words = strings(alloc, words)?;
     requested(alloc, &OPTIONS, &words)
 }
 
-/// What words ask for, in a word.
+/// The kind of request that words make.
 fn asked(alloc: Global, words: &[&str]) -> &'static str {
     match request(alloc, words) {
         Ok(Request::Help) => "help",
@@ -50,7 +50,6 @@ fn asked(alloc: Global, words: &[&str]) -> &'static str {
     }
 }
 
-/// A line for an argument.
 fn shown(alloc: Global, argument: &Argument) -> Result<String, AllocError> {
     match argument {
         Argument::Flag(flag) => format!(in alloc; "flag {flag}\n"),
@@ -59,7 +58,7 @@ fn shown(alloc: Global, argument: &Argument) -> Result<String, AllocError> {
     }
 }
 
-/// A line for each argument of words that ask for work.
+/// A line for each argument; `None` if the words do not ask for work.
 fn shown_arguments(alloc: Global, words: &[&str]) -> Option<String> {
     let Ok(Request::Work(arguments)) = request(alloc, words) else {
         return None;
@@ -82,7 +81,7 @@ fn options_stand_anywhere(rt: HostRuntime) {
     assert!(rt; is_text(&given, lines));
 }
 
-/// Whether a flag is given, the width, the name of standard input, and how many names there are.
+/// Whether `--check` is given, the width, the name of standard input and the number of file names.
 fn found(alloc: Global, words: &[&str]) -> Option<String> {
     let Ok(Request::Work(arguments)) = request(alloc, words) else {
         return None;
@@ -129,7 +128,7 @@ fn help_comes_before_the_version(rt: HostRuntime) {
     assert!(rt; answers == ["help", "version"]);
 }
 
-/// A writer that takes this many bytes.
+/// A writer with room for a number of bytes; further writes fail.
 #[derive(Drop)]
 struct Writer {
     held: Vec<u8>,
@@ -160,13 +159,13 @@ impl Writer {
         }
     }
 
-    /// Whether it holds this text.
+    /// Returns whether exactly this text was written.
     fn holds(&self, text: &str) -> bool {
         self.held.as_slice() == text.as_bytes()
     }
 }
 
-/// Whether failures are told by their statuses and in these lines.
+/// Returns whether failures have their exit statuses and these messages.
 fn are_told(alloc: Global, lines: &str) -> bool {
     let mut faults = Writer::new(alloc, 1000);
     let statuses = [
@@ -177,7 +176,7 @@ fn are_told(alloc: Global, lines: &str) -> bool {
     statuses == [2, 3, 4] && faults.holds(lines)
 }
 
-/// Whether a failure is told up to a refused write: the reason isn't written where the name isn't.
+/// Returns whether a report stops at the first write that fails: without the name, no reason.
 fn is_told_up_to(alloc: Global, room: usize, beginning: &str) -> bool {
     let mut full = Writer::new(alloc, room);
     report(&PROGRAM, &Failure::Memory, &mut full) == 4 && full.holds(beginning)
@@ -190,7 +189,7 @@ fn failures_are_reported(rt: HostRuntime) {
     assert!(rt; are_told(rt.alloc(), lines) && is_told_up_to(rt.alloc(), 4, "isle"));
 }
 
-/// Whether an output that is cut is told, behind what it takes.
+/// Returns whether a failed write is reported after this beginning of the output.
 fn is_cut(alloc: Global, room: usize, beginning: &str) -> bool {
     let mut output = Writer::new(alloc, room);
     let mut faults = Writer::new(alloc, 1000);
@@ -203,7 +202,7 @@ fn a_cut_output_is_told(rt: HostRuntime) {
     assert!(rt; is_cut(rt.alloc(), 3, "hel"));
 }
 
-/// The message about a place of a text in the file `a.isle`.
+/// The message about byte 19 of a text in the file `a.isle`.
 fn message(alloc: Global, text: &str) -> Result<String, AllocError> {
     let lines = LineMap::from_str(alloc, text)?;
     message_line(alloc, "a.isle", text, &lines, 19, "warning", "why")
@@ -215,7 +214,7 @@ fn messages_name_the_place(rt: HostRuntime) {
     assert!(rt; is_text(&line, "a.isle:2:6: warning: why\n"));
 }
 
-/// What names give: a line for each text, and one for each that can't be read.
+/// The input that names stand for: a line for each text, then one for each unreadable file.
 fn read(rt: HostRuntime, names: &[&str]) -> Result<String, AllocError> {
     let names = strings(rt.alloc(), names)?;
     let mut input = io::Cursor::new(b"input".as_slice());
@@ -246,7 +245,7 @@ fn make_folder(rt: HostRuntime) -> io::Result<()> {
     symlink(&rt, "a.isle", "tree/l.isle")
 }
 
-/// What a folder, files and standard input give.
+/// The same for a folder, for files and for standard input.
 fn read_all(rt: HostRuntime) -> Result<String, AllocError> {
     let mut all = read(rt, &["tree"])?;
     all.push_str(&read(rt, &["tree/a.txt", "none", "-", "tree/l.isle"])?)?;
@@ -254,7 +253,7 @@ fn read_all(rt: HostRuntime) -> Result<String, AllocError> {
     Ok(all)
 }
 
-/// What is read of a folder that is made, and removed again.
+/// The same, with a folder that exists only for this call.
 fn read_made(rt: HostRuntime) -> Option<String> {
     make_folder(rt).ok()?;
     let all = read_all(rt).ok();

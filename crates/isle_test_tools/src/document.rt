@@ -1,4 +1,4 @@
-//! The tidy text of a text.
+//! Tests of the tidier.
 
 use crate::answers::is_text;
 use isle_base::lexer::Fault;
@@ -14,7 +14,7 @@ fn keeps_lines_and_comments(rt: HostRuntime) {
     assert!(rt; is_text(&answer, want));
 }
 
-/// What is appended for each entry of a text, each before a `|`, and then for its end.
+/// The output for each entry of a text, followed by a `|`, and for the end of the text.
 fn entries(alloc: Global, text: &str) -> Result<String, Fault> {
     let mut tidying = Tidying::new(alloc, text)?;
     let mut entries = String::new(alloc);
@@ -30,11 +30,11 @@ fn entries(alloc: Global, text: &str) -> Result<String, Fault> {
 #[test]
 fn tidies_entry_by_entry(rt: HostRuntime) {
     let entries = entries(rt.alloc(), "( a\n b )").ok();
-    // What stays as it is in the text is appended with what is next to it.
+    // Unchanged input is copied in long pieces, so an entry may add nothing by itself.
     assert!(rt; is_text(&entries, "|(||a\n b|)\n"));
 }
 
-/// Whether this is told of a text.
+/// Returns whether `is_tidy` answers this.
 fn is_told(alloc: Global, text: &str, want: bool) -> bool {
     match is_tidy(alloc, text) {
         Ok(told) => told == want,

@@ -1,4 +1,4 @@
-//! Definitions with their extractors expanded.
+//! Tests of the expansion of extractors.
 
 use crate::answers::is_text;
 use isle_expand_core::{ExpandFault, expand};
@@ -17,7 +17,7 @@ fn outcome(alloc: Global, text: &str) -> Result<Result<Vec<Def>, ExpandFault>, F
     Ok(outcome)
 }
 
-/// The print of the expansion of a text.
+/// The printed expansion of a text.
 fn printed(alloc: Global, text: &str) -> Option<String> {
     match outcome(alloc, text) {
         Ok(Ok(defs)) => {
@@ -30,7 +30,7 @@ fn printed(alloc: Global, text: &str) -> Option<String> {
     }
 }
 
-/// What Debug shows of the pattern of the first definition, a rule.
+/// The pattern of the first definition as Debug shows it; `None` unless it is a rule.
 fn pattern_of_first(alloc: Global, defs: &[Def]) -> Option<String> {
     match defs.first() {
         Some(Def::Rule(rule)) => format!(in alloc; "{:?}", rule.pattern).ok(),
@@ -38,7 +38,7 @@ fn pattern_of_first(alloc: Global, defs: &[Def]) -> Option<String> {
     }
 }
 
-/// The pattern of the first rule of the expansion of a text, with its places.
+/// The pattern of the first rule in the expansion of a text, with its positions.
 fn first_pattern(alloc: Global, text: &str) -> Option<String> {
     match outcome(alloc, text) {
         Ok(Ok(defs)) => {
@@ -51,7 +51,7 @@ fn first_pattern(alloc: Global, text: &str) -> Option<String> {
     }
 }
 
-/// What is told of a text that has no expansion, and where.
+/// The message for a text without an expansion, and its position.
 fn told(alloc: Global, text: &str) -> Option<(String, Pos)> {
     match outcome(alloc, text) {
         Ok(Ok(defs)) => {
@@ -67,7 +67,7 @@ fn told(alloc: Global, text: &str) -> Option<(String, Pos)> {
     }
 }
 
-/// Whether this is told, at this place.
+/// Returns whether the message is this one, at this offset.
 fn is_told(told: &Option<(String, Pos)>, want: &str, offset: usize) -> bool {
     match told {
         Some((told, pos)) => told.as_str() == want && *pos == Pos::new(0, offset),
@@ -91,7 +91,7 @@ fn expands_templates(rt: HostRuntime) {
     assert!(rt; is_text(&answer, "(rule (R (H (G p) (G p))) 1)\n"));
 }
 
-/// The pattern of the rule, with what the use becomes.
+/// The pattern of the rule of `USE` after the expansion.
 const PATTERN: &str = "Term { sym: Ident(\"R\", Pos { file: 0, offset: 39 }), args: [\
     Term { sym: Ident(\"F\", Pos { file: 0, offset: 20 }), args: [\
     Var { var: Ident(\"q\", Pos { file: 0, offset: 46 }), pos: Pos { file: 0, offset: 46 } }, \

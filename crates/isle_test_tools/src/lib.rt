@@ -1,5 +1,5 @@
-//! Calls of the crates behind the programs: tests alone. They stand here, since a crate with tests
-//! is proved twice.
+//! Tests of the libraries that the programs share. They are a crate of their own because a crate
+//! with tests is proved twice.
 #![tactic(auto)]
 
 #[cfg(test)]

@@ -1,0 +1,160 @@
+//! Tests of the ends of symbols, blanks and line comments, at each place of short and long texts.
+
+ghost use Rattle.std.specs.Prelude.{◌≤◌, length};
+
+use isle_syntax::lexer::{blank_end, line_comment_end, symbol_end};
+use std::alloc::{AllocError, Global};
+
+/// A run of bytes whose end one of three calls finds.
+#[derive(Clone, Copy)]
+enum Run {
+    Symbol,
+    Blanks,
+    LineComment,
+}
+
+const RUNS: [Run; 3] = [Run::Symbol, Run::Blanks, Run::LineComment];
+
+impl Run {
+    fn end(self, bytes: &[u8], from: usize) -> usize
+        requires { from ≤ length bytes.now }
+    {
+        match self {
+            Run::Symbol => symbol_end(bytes, from),
+            Run::Blanks => blank_end(bytes, from),
+            Run::LineComment => line_comment_end(bytes, from),
+        }
+    }
+
+    /// A byte that continues the run.
+    fn inner(self) -> u8 {
+        match self {
+            Run::Symbol => b'a',
+            Run::Blanks => b' ',
+            Run::LineComment => b';',
+        }
+    }
+
+    /// A byte that ends the run.
+    fn ending(self) -> u8 {
+        match self {
+            Run::Symbol => b')',
+            Run::Blanks => b'(',
+            Run::LineComment => b'\n',
+        }
+    }
+
+    /// Returns whether a byte ends the run.
+    fn is_ended_by(self, byte: u8) -> bool {
+        match self {
+            Run::Symbol => b"();@ \t\n\x0c\r".contains(&byte),
+            Run::Blanks => !b" \t\n\r".contains(&byte),
+            Run::LineComment => b"\n\r".contains(&byte),
+        }
+    }
+}
+
+/// A run of this length with `byte` at the place `at`, if that is inside.
+fn run_with(
+    alloc: Global,
+    run: Run,
+    length: usize,
+    at: usize,
+    byte: u8,
+) -> Result<Vec<u8>, AllocError> {
+    let mut bytes = vec![in alloc; run.inner(); length]?;
+    if let Some(place) = bytes.get_mut(at) {
+        *place = byte;
+    }
+    Ok(bytes)
+}
+
+#[test]
+fn ends_of_symbols(rt: HostRuntime) {
+    let ends = [
+        symbol_end(b"iadd.x y", 0),
+        symbol_end(b"a\0\x0b\x80\xff\x0cb", 0),
+    ];
+    assert!(rt; ends == [6, 5]);
+}
+
+#[test]
+fn ends_of_blanks(rt: HostRuntime) {
+    let ends = [blank_end(b"x \t\r\n(y)", 1), blank_end(b"\x0c", 0)];
+    assert!(rt; ends == [5, 0]);
+}
+
+#[test]
+fn ends_of_line_comments(rt: HostRuntime) {
+    let ends = [
+        line_comment_end(b"; (x)\x0c @\r\ny", 0),
+        line_comment_end(b"x\n", 1),
+    ];
+    assert!(rt; ends == [8, 1]);
+}
+
+/// Returns whether the run ends at `at` from each place up to there, and at the end of the bytes
+/// from each place after.
+fn ends_from_each_place(run: Run, bytes: &[u8], at: usize) -> bool {
+    for from in 0..=bytes.len() {
+        if run.end(bytes, from) != if from <= at { at } else { bytes.len() } {
+            return false;
+        }
+    }
+    true
+}
+
+/// Returns whether the same holds with the ending byte at each place in turn, and with none.
+fn ends_at_each_place(alloc: Global, run: Run, length: usize) -> Result<bool, AllocError> {
+    for at in 0..=length {
+        let bytes = run_with(alloc, run, length, at, run.ending())?;
+        if !ends_from_each_place(run, &bytes, at) {
+            return Ok(false);
+        }
+    }
+    Ok(true)
+}
+
+fn each_run_ends_at_each_place(alloc: Global) -> Result<bool, AllocError> {
+    for length in [0, 1, 31, 32, 33, 64, 65] {
+        for run in RUNS {
+            if !ends_at_each_place(alloc, run, length)? {
+                return Ok(false);
+            }
+        }
+    }
+    Ok(true)
+}
+
+#[test]
+fn ends_at_each_place_from_each_place(rt: HostRuntime) {
+    assert!(rt; matches!(each_run_ends_at_each_place(rt.alloc()), Ok(true)));
+}
+
+/// Returns whether the byte ends the run if it should: at the beginning, within lanes, and in the
+/// rest after them.
+fn ends_at_byte(alloc: Global, run: Run, byte: u8) -> Result<bool, AllocError> {
+    for at in [0, 40, 64] {
+        let bytes = run_with(alloc, run, 65, at, byte)?;
+        if run.end(&bytes, 0) != if run.is_ended_by(byte) { at } else { 65 } {
+            return Ok(false);
+        }
+    }
+    Ok(true)
+}
+
+fn each_run_ends_at_its_bytes(alloc: Global) -> Result<bool, AllocError> {
+    for byte in 0..=255 {
+        for run in RUNS {
+            if !ends_at_byte(alloc, run, byte)? {
+                return Ok(false);
+            }
+        }
+    }
+    Ok(true)
+}
+
+#[test]
+fn ends_at_each_byte_that_ends_it(rt: HostRuntime) {
+    assert!(rt; matches!(each_run_ends_at_its_bytes(rt.alloc()), Ok(true)));
+}
