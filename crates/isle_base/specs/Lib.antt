@@ -8,6 +8,7 @@ pub mod Literals
 pub mod Spellings
 pub mod Place
 pub mod Reads
+pub mod Refusal
 pub mod ScannerView
 pub mod Skips
 pub mod Steps

@@ -8,7 +8,7 @@ use Rattle.isle_base.specs.Steps.{RefusesAt}
 use Rattle.isle_c.specs.declared.Place.{Place}
 use Rattle.isle_cli.specs.Diagnostics.{refusal_text}
 use Rattle.isle_tidy_core.specs.Refused.{HasNoDocument, IsRefusedFor}
-use Rattle.isle_parser_cursor.specs.Outcomes.{RefusesIn}
+use Rattle.isle_base.specs.Refusal.{RefusesIn}
 use Rattle.isle_syntax.specs.Format.{IsRefused}
 
 -- the place of an offset in a text: line and column from 1, and the line's two ends

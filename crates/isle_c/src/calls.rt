@@ -6,7 +6,7 @@ ghost use Rattle.isle_c.specs.NoAnswers.{IsDiagnosticFailure, IsFormatFailure, I
 ghost use Rattle.isle_c.specs.NoAnswers.{status_of};
 ghost use Rattle.isle_c.specs.Refusals.{IsDiagnosticOf, IsRefusedAt, Tells, place_at};
 ghost use Rattle.isle_c.specs.declared.calls.NoAnswer.TheVariants.{Memory};
-ghost use Rattle.isle_parser_cursor.specs.Outcomes.{RefusesIn};
+ghost use Rattle.isle_base.specs.Refusal.{RefusesIn};
 ghost use Rattle.isle_syntax.specs.Format.{IsFormatted, IsRefused};
 ghost use Rattle.isle_syntax.specs.Streaming.{IsRefusedWith};
 

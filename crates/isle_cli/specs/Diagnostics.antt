@@ -3,7 +3,7 @@ use Rattle.std.specs.Prelude.{◌≡◌, ℕ, List, [], ◌∷◌, length}
 use Rattle.isle_base_source.specs.declared.error.Error.{Error}
 use Rattle.isle_base_source.specs.Diagnostic.{report_text}
 use Rattle.isle_base_source.specs.Source.{Source}
-use Rattle.isle_parser_cursor.specs.Outcomes.{RefusesIn}
+use Rattle.isle_base.specs.Refusal.{RefusesIn}
 
 -- the one file, with this name and this text
 abbrev pub only_file : List ℕ → List ℕ → List Source

@@ -3,7 +3,7 @@
 ghost use Rattle.std.specs.Prelude.{◌≡◌, length, string_bytes, true, IfOk};
 ghost use Rattle.isle_base_source.specs.Diagnostic.{report_text};
 ghost use Rattle.isle_base_source.specs.Labels.{all_fit};
-ghost use Rattle.isle_parser_cursor.specs.Outcomes.{RefusesIn};
+ghost use Rattle.isle_base.specs.Refusal.{RefusesIn};
 ghost use Rattle.isle_cli.specs.Diagnostics.{only_file, refusal_text};
 
 use isle_base_source::error::{Error, Errors};

@@ -3,7 +3,7 @@
 ghost use Rattle.std.specs.Prelude.{◌≡◌, ◌+◌, ◌-◌, ◌^◌, ◌<◌, ◌≤◌, ◌==◌, IfOk, length};
 ghost use Rattle.std.specs.Prelude.{if◌then◌else◌, slice_index, string_bytes};
 ghost use Rattle.isle_base_source.specs.Lines.{column, line_ends};
-ghost use Rattle.isle_parser_cursor.specs.Outcomes.{RefusesIn};
+ghost use Rattle.isle_base.specs.Refusal.{RefusesIn};
 ghost use Rattle.isle_cli.specs.Messages.{error_line, message_line};
 
 use isle_base_source::error::Error;

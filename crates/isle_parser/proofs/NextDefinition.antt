@@ -21,7 +21,8 @@ use Rattle.isle_parser.proofs.Positions.Definitions.{definition_known, definitio
 use Rattle.isle_parser.proofs.Reading.Definitions.{definition_begins, definition_not_read, definition_read, definition_shrinks, definition_sound, one_definition}
 use Rattle.isle_parser.proofs.Whole.{at_end_ends, fault_spells_nothing, not_parsed, parsed, same_ending, same_text}
 use Rattle.isle_parser_cursor.specs.declared.cursor.Cursor.{Cursor}
-use Rattle.isle_parser_cursor.specs.Outcomes.{RefusesIn, CursorSource, StandsAtFault, left, placing, source, tokens}
+use Rattle.isle_parser_cursor.specs.Outcomes.{CursorSource, StandsAtFault, left, placing, source, tokens}
+use Rattle.isle_base.specs.Refusal.{RefusesIn}
 use Rattle.isle_parser_cursor.proofs.Ahead.{left_spent, left_unspent}
 use Rattle.isle_parser_cursor.specs.Reading.{ends, is_ahead, many}
 use Rattle.isle_parser_cursor.proofs.Loops.{behind_front, loop_begin, loop_end, loop_none, loop_push}

@@ -14,7 +14,8 @@ use Rattle.isle_ast.specs.Erased.{erase}
 use Rattle.isle_ast.specs.MacroArgs.{definitions_have_macro_arg}
 use Rattle.isle_ast.specs.TreeView.{definitions_of}
 use Rattle.isle_ast.specs.Spelt.{Spells}
-use Rattle.isle_parser_cursor.specs.Outcomes.{CursorSource, RefusesIn}
+use Rattle.isle_parser_cursor.specs.Outcomes.{CursorSource}
+use Rattle.isle_base.specs.Refusal.{RefusesIn}
 use Rattle.isle_parser.specs.Parsed.{Parses, RefusesText, RefusesWith, SpellsOnly}
 use Rattle.isle_parser.specs.DefinitionReaders.{definitions}
 use Rattle.isle_ast.proofs.Erasing.{text_erased, text_placed}

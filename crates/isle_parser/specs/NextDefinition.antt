@@ -10,7 +10,8 @@ use Rattle.isle_base.specs.Place.{Placed}
 use Rattle.isle_base.specs.Steps.{is_at_end, is_failed}
 use Rattle.isle_parser.specs.declared.parser.Parser.{Parser}
 use Rattle.isle_parser_cursor.specs.declared.cursor.Cursor.{Cursor}
-use Rattle.isle_parser_cursor.specs.Outcomes.{RefusesIn, StandsAtFault, source, tokens}
+use Rattle.isle_parser_cursor.specs.Outcomes.{StandsAtFault, source, tokens}
+use Rattle.isle_base.specs.Refusal.{RefusesIn}
 
 -- whether the lexer had failed, or an earlier call of the parser returned an error
 abbrev pub has_failed : Parser → Bool

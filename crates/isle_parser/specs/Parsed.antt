@@ -10,7 +10,7 @@ use Rattle.isle_ast.specs.Tree.{Definition}
 use Rattle.isle_ast.specs.declared.ast.Def.{Def}
 use Rattle.isle_ast.specs.Spelt.{Spells}
 use Rattle.isle_ast.specs.TreeView.{definitions_of}
-use Rattle.isle_parser_cursor.specs.Outcomes.{RefusesIn}
+use Rattle.isle_base.specs.Refusal.{RefusesIn}
 use Rattle.isle_base.specs.declared.fault.Fault.TheVariants as faults
 
 -- the tokens spell this list of definitions, and no other

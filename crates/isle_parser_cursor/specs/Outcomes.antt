@@ -4,6 +4,7 @@ use Rattle.isle_base_source.specs.declared.pos.Pos.{Pos}
 use Rattle.isle_base.specs.Place.{Placed, in_file, nowhere, placed}
 use Rattle.isle_base.specs.Steps.{FacesFault, RefusesAt, is_failed}
 use Rattle.isle_base.specs.Token.{Ending, fault}
+use Rattle.isle_base.specs.Refusal.{RefusesIn}
 use Rattle.isle_parser_cursor.specs.declared.cursor.Cursor.{Cursor}
 use Rattle.isle_parser_cursor.specs.declared.cursor.Stop.{Stop}
 use Rattle.isle_parser_cursor.specs.Reading.{Reader}
@@ -48,10 +49,6 @@ pub record IsPlace (s : CursorSource) (pos : Pos) : Type 0 where
 abbrev pub IsRefusalAt : Pos → Stop → Type 0
 IsRefusalAt pos (stops.Parser e) = RefusesAt pos e.value
 IsRefusalAt pos stops.Memory = Unit {0}
-
--- a parse error whose span is one byte of the file, or the one after the text's end
-abbrev pub RefusesIn : ℕ → ℕ → Error → Type 0
-RefusesIn file size e = (offset : ℕ) × (offset ≤ size) × RefusesAt (in_file file offset) e
 
 -- a parse error at the fault that ends the text
 abbrev pub StandsAtFault : CursorSource → Error → Type 0

@@ -1,6 +1,7 @@
 -- The heads that code distinguishes, as pure values, and the results of functions on a text.
 use Rattle.std.specs.Prelude.{◌≡◌, Option, Some, None, Result, Ok, Err, string_bytes}
-use Rattle.isle_parser_cursor.specs.Outcomes.{CursorSource, RefusesIn}
+use Rattle.isle_parser_cursor.specs.Outcomes.{CursorSource}
+use Rattle.isle_base.specs.Refusal.{RefusesIn}
 use Rattle.isle_parser_verification.specs.SpecWords.{SpecHead, switch_head, let_head, with_head, match_head, struct_head, macro_head, as_head, discriminator_head, expansion_head, operator_head, field_head, variant_head}
 use Rattle.isle_parser_verification.specs.declared.spec_words.Head.{Head}
 use Rattle.isle_parser_cursor.specs.declared.cursor.Stop.{Stop}

@@ -14,7 +14,7 @@ use Rattle.isle_base.specs.Steps.{IfError, RefusesStart}
 use Rattle.isle_base.specs.Token.{end, fault, Feed}
 use Rattle.isle_base.proofs.Complete.{Lexes-unique}
 use Rattle.isle_parser.specs.Parsed.{RefusesText}
-use Rattle.isle_parser_cursor.specs.Outcomes.{RefusesIn}
+use Rattle.isle_base.specs.Refusal.{RefusesIn}
 use Rattle.isle_ast.specs.Grammar.{SpellsDefinitions}
 use Rattle.isle_ast.specs.Spelt.{Spells, IsSpelt}
 use Rattle.isle_ast.specs.Tree.{Definition}

@@ -12,7 +12,7 @@ use Rattle.isle_ast.specs.Spelt.{IsSpelt}
 use Rattle.isle_ast.specs.Tree.{Definition}
 use Rattle.isle_ast.specs.TreeView.{definitions_of}
 use Rattle.isle_ast.specs.declared.ast.Def.{Def}
-use Rattle.isle_parser_cursor.specs.Outcomes.{RefusesIn}
+use Rattle.isle_base.specs.Refusal.{RefusesIn}
 use Rattle.isle_program.specs.declared.trees.Reading.{Reading}
 
 -- the text, as the file of this number, spells this tree, with the positions that its tokens have, and no other

@@ -18,7 +18,7 @@ use Rattle.isle_printer.proofs.Printing.{IsPrinted-text, WiderHasNoMoreLines-fro
 use Rattle.isle_printer.proofs.PrintLaw.{IsPrinted-ReadsBack, IsPrinted-erased, IsPrinted-tokens}
 use Rattle.isle_printer.proofs.ShortLines.Definitions.{IsPrinted-HasShortLines}
 use Rattle.isle_parser.specs.Parsed.{RefusesText, RefusesWith}
-use Rattle.isle_parser_cursor.specs.Outcomes.{RefusesIn}
+use Rattle.isle_base.specs.Refusal.{RefusesIn}
 use Rattle.isle_base.specs.declared.fault.Fault.{Fault}
 use Rattle.isle_base.specs.Steps.{IfError, RefusesStart}
 use Rattle.isle_syntax.specs.Format.{IsFormatted, IsRefused, OfItsTree}

@@ -7,7 +7,8 @@ use Rattle.isle_base.specs.Steps.{is_at_end, is_failed}
 use Rattle.isle_base_source.specs.declared.error.Error.{Error}
 use Rattle.isle_parser.specs.NextDefinition.{has_failed}
 use Rattle.isle_parser.specs.declared.parser.Parser.{Parser}
-use Rattle.isle_parser_cursor.specs.Outcomes.{RefusesIn, source, tokens}
+use Rattle.isle_parser_cursor.specs.Outcomes.{source, tokens}
+use Rattle.isle_base.specs.Refusal.{RefusesIn}
 use Rattle.isle_printer.specs.Printed.{printed_text}
 use Rattle.isle_syntax.specs.Format.{IsRefused}
 

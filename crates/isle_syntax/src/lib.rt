@@ -9,7 +9,7 @@ ghost use Rattle.isle_ast.specs.Spelt.{IsSpelt};
 ghost use Rattle.isle_base.specs.Place.{nowhere};
 ghost use Rattle.isle_base.specs.Steps.{IfError};
 ghost use Rattle.isle_base.specs.declared.fault.Fault.TheVariants.{Failed};
-ghost use Rattle.isle_parser_cursor.specs.Outcomes.{RefusesIn};
+ghost use Rattle.isle_base.specs.Refusal.{RefusesIn};
 ghost use Rattle.isle_printer.specs.Lines.{WiderHasNoMoreLines};
 ghost use Rattle.isle_printer.specs.Printed.{IsPrinted};
 ghost use Rattle.isle_printer_layout.specs.ShortLines.{HasShortLines};

@@ -7,7 +7,7 @@ ghost use Rattle.isle_ast.specs.TreeView.{definitions_of};
 ghost use Rattle.isle_base.specs.Steps.{IfError};
 ghost use Rattle.isle_base.specs.declared.fault.Fault.TheVariants.{Failed};
 ghost use Rattle.isle_parser.specs.NextDefinition.{RefusesNext, has_failed};
-ghost use Rattle.isle_parser_cursor.specs.Outcomes.{RefusesIn};
+ghost use Rattle.isle_base.specs.Refusal.{RefusesIn};
 ghost use Rattle.isle_syntax.specs.Format.{IsRefused, SpellsTree};
 ghost use Rattle.isle_syntax.specs.Streaming.{IsAtStart, IsDone, IsRead, IsRefusedWith};
 ghost use Rattle.isle_syntax.specs.Trees.{IsTreeOf};

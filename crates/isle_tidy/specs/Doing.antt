@@ -11,7 +11,7 @@ use Rattle.isle_cli.specs.declared.program.Program.{Program}
 use Rattle.isle_tidy_core.specs.Refused.{HasNoDocument}
 use Rattle.isle_tidy_core.specs.Tidied.{IsTidyTextOf, IsUntidy}
 use Rattle.isle_tidy.specs.declared.program.TheConstants.{HELP, VERSION}
-use Rattle.isle_parser_cursor.specs.Outcomes.{RefusesIn}
+use Rattle.isle_base.specs.Refusal.{RefusesIn}
 
 -- whether the text is untidy
 abbrev pub IsJudged : (text : List ℕ) (is_untidy : Bool) → Type 0
