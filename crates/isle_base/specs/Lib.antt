@@ -1,5 +1,6 @@
 pub mod Bytes
 pub mod Computed
+pub mod Diagnostics
 pub mod UpstreamLexing
 pub mod FaultText
 pub mod LexerView

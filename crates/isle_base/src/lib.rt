@@ -4,6 +4,7 @@
 //! their upstream names.
 #![tactic(auto)]
 
+pub mod diagnostics;
 pub mod ends;
 pub mod fault;
 pub mod lexer;

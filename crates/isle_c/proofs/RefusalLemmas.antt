@@ -2,7 +2,7 @@
 use Rattle.std.proofs.Common.{◌≡◌, ℕ, List, subst}
 use Rattle.isle_base_source.specs.declared.error.Error.{Error}
 use Rattle.isle_c.specs.Refusals.{IsDiagnosticOf}
-use Rattle.isle_cli.specs.Diagnostics.{refusal_text}
+use Rattle.isle_base.specs.Diagnostics.{refusal_text}
 use Rattle.isle_syntax.specs.Streaming.{IsRefusedWith}
 
 pub diagnostic_of_bytes : (name name' text text' shown : List ℕ) (e : Error) → name ≡ name' → text ≡ text' → IsRefusedWith text e

@@ -6,7 +6,7 @@ use Rattle.isle_base_source.specs.Lines.{column, line, line_begin, line_end}
 use Rattle.isle_base.specs.Place.{in_file}
 use Rattle.isle_base.specs.Steps.{RefusesAt}
 use Rattle.isle_c.specs.declared.Place.{Place}
-use Rattle.isle_cli.specs.Diagnostics.{refusal_text}
+use Rattle.isle_base.specs.Diagnostics.{refusal_text}
 use Rattle.isle_tidy_core.specs.Refused.{HasNoDocument, IsRefusedFor}
 use Rattle.isle_base.specs.Refusal.{RefusesIn}
 use Rattle.isle_syntax.specs.Format.{IsRefused}

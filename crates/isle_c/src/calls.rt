@@ -12,7 +12,7 @@ ghost use Rattle.isle_syntax.specs.Streaming.{IsRefusedWith};
 
 use crate::slices::text_of;
 use crate::{ACCEPTED, Answer, MEMORY, NOT_UTF8, Place, REFUSED};
-use isle_cli::diagnostics::diagnostic;
+use isle_base::diagnostics::diagnostic;
 use isle_syntax::error::Error;
 use isle_syntax::files::LineMap;
 use isle_syntax::lexer::Fault;

@@ -6,7 +6,7 @@ use Rattle.std.specs.Io.KnownBytes.{Consumes, IsAtEnd}
 use Rattle.std.specs.declared.alloc.Global.{Global}
 use Rattle.std.specs.declared.string.String.{String}
 use Rattle.isle_base_source.specs.Source.{Source}
-use Rattle.isle_cli.specs.Diagnostics.{only_file}
+use Rattle.isle_base.specs.Diagnostics.{only_file}
 use Rattle.isle_cli.specs.Sources.{ReadsInput, fault_line}
 use Rattle.isle_cli.specs.declared.program.Program.{Program}
 use Rattle.isle_cli.specs.declared.sources.SourceFault.TheVariants.{Unreadable}

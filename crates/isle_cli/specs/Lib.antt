@@ -1,5 +1,4 @@
 pub mod Arguments
-pub mod Diagnostics
 pub mod Failure
 pub mod Messages
 pub mod Sources

@@ -2,7 +2,7 @@
 use Rattle.std.specs.Prelude.{◌≡◌, ◌≢◌, ◌⊎◌, ℕ, List, [], ◌++◌, Contains, Option, codes, string_bytes}
 use Rattle.std.specs.Io.KnownBytes.{Keeps}
 use Rattle.isle_base_source.specs.Source as files
-use Rattle.isle_cli.specs.Diagnostics.{only_file}
+use Rattle.isle_base.specs.Diagnostics.{only_file}
 use Rattle.isle_cli.specs.Streams.{ReadsText}
 use Rattle.isle_cli.specs.declared.program.Program.{Program}
 use Rattle.isle_cli.specs.declared.sources.Source.{Source}

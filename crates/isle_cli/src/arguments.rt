@@ -9,9 +9,11 @@ ghost use Rattle.isle_cli.specs.Arguments.{is_flag, is_name, is_setting, last_se
 ghost use Rattle.isle_cli.specs.Arguments.{request_of, stdin_name, taken, taken_of};
 ghost use Rattle.isle_cli.specs.declared.failure.Failure.TheVariants.{Memory, Usage};
 
-use crate::diagnostics::INPUT_NAME;
 use crate::failure::Failure;
 use std::alloc::{AllocError, Global};
+
+/// The name that stands for standard input.
+pub const INPUT_NAME: &str = "<stdin>";
 
 /// The options of a program, besides `--help`, `--version` and `--stdin-name NAME`, which every
 /// program accepts.

@@ -3,7 +3,6 @@
 #![tactic(auto)]
 
 pub mod arguments;
-pub mod diagnostics;
 pub mod failure;
 pub mod folders;
 pub mod messages;

@@ -1,7 +1,7 @@
 //! The texts that a command line names: standard input, files, and the files below folders.
 
 ghost use Rattle.std.specs.Prelude.{◌≡◌, ◌++◌, [], IfOk, OnOk, map, string_bytes};
-ghost use Rattle.isle_cli.specs.Diagnostics.{only_file};
+ghost use Rattle.isle_base.specs.Diagnostics.{only_file};
 ghost use Rattle.isle_cli.specs.Sources.{IsReadFrom, ReadsInput, fault_line, reason_of, source_of};
 
 use crate::folders::files_of;

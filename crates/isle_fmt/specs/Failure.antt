@@ -1,6 +1,6 @@
 -- The program, and why it writes no formatted text: what each reason says, and what standard error gets.
 use Rattle.std.specs.Prelude.{◌≡◌, ℕ, List, Option, codes, string_bytes}
-use Rattle.isle_cli.specs.Diagnostics as diagnostics
+use Rattle.isle_base.specs.Diagnostics as diagnostics
 use Rattle.isle_cli.specs.Failure as frame
 use Rattle.isle_cli.specs.Words.{GiveWidth, given_width}
 use Rattle.isle_cli.specs.declared.failure.Failure.{Failure}

@@ -8,7 +8,8 @@ ghost use Rattle.isle_cli.specs.Words.{GiveWidth, given_width};
 ghost use Rattle.isle_fmt.specs.Failure.{Explains, IsDiagnostic, IsFormatFailure, IsRefusal};
 ghost use Rattle.isle_fmt.specs.Failure.{IsThis};
 
-use isle_cli::diagnostics::{INPUT_NAME, diagnostic};
+use isle_base::diagnostics::diagnostic;
+use isle_cli::arguments::INPUT_NAME;
 use isle_cli::failure::Failure;
 use isle_cli::program::{Program, report};
 use isle_cli::streams::{Streams, read_text, write_whole};

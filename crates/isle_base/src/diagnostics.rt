@@ -4,15 +4,12 @@ ghost use Rattle.std.specs.Prelude.{◌≡◌, length, string_bytes, true, IfOk}
 ghost use Rattle.isle_base_source.specs.Diagnostic.{report_text};
 ghost use Rattle.isle_base_source.specs.Labels.{all_fit};
 ghost use Rattle.isle_base.specs.Refusal.{RefusesIn};
-ghost use Rattle.isle_cli.specs.Diagnostics.{only_file, refusal_text};
+ghost use Rattle.isle_base.specs.Diagnostics.{only_file, refusal_text};
 
 use isle_base_source::error::{Error, Errors};
 use isle_base_source::files::Files;
 use std::alloc::{AllocError, Global};
 use std::rc::Rc;
-
-/// The name that stands for standard input.
-pub const INPUT_NAME: &str = "<stdin>";
 
 /// Makes the diagnostic of a refused text: the message, and the place with its line.
 ///
