@@ -10,7 +10,6 @@ use Rattle.isle_cli.specs.declared.program.Program.{Program}
 use Rattle.isle_cli.specs.Arguments.{Asked, asked, given_of}
 use Rattle.isle_cli.specs.declared.arguments.Argument.{Argument}
 use Rattle.isle_cli.specs.declared.arguments.Options.{Options}
-use Rattle.isle_lint.specs.declared.options.TheConstants.{HELP, VERSION}
 use Rattle.isle_lint.specs.Doing.{AreOptions, Ask, Cuts, IsFailureText, IsProgram, Tells}
 
 -- nothing is changed
@@ -18,14 +17,14 @@ pub kept-same : (a : Option (List ℕ)) → Keeps a a
 kept-same None = tt
 kept-same (Some xs) = refl
 
--- this program, wherever its texts lie
+-- this program, wherever its texts lie; a failure shows neither its help nor its version
 abbrev pub this : Program
 this =
     record {
       name = record { ref_ptr = (0, 0); now = codes "isle-lint" };
       usage = record { ref_ptr = (0, 0); now = codes "usage: isle-lint [--all] [--whole] [--lint NAME] [--allow NAME] [--stdin-name NAME] [FILE ..]\n" };
-      help = HELP;
-      version = VERSION;
+      help = record { ref_ptr = (0, 0); now = codes "" };
+      version = record { ref_ptr = (0, 0); now = codes "" };
     }
 
 -- What is told of a failure, where nothing was told before. `text_of` looks at no place of the program's texts.
