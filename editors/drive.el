@@ -23,9 +23,9 @@
                                  (replace-regexp-in-string "^isle.*?: " "" (flymake-diagnostic-text it))))
                        (flymake-diagnostics))))
 
-(set-buffer-modified-p t)
+(call-interactively (key-binding (kbd "C-c C-f")))
 (save-buffer)
-(tell "saved" (with-temp-buffer (insert-file-contents "a.isle") (lines)))
+(tell "formatted" (with-temp-buffer (insert-file-contents "a.isle") (lines)))
 
 (go-to-use)
 (xref-find-definitions (xref-backend-identifier-at-point 'eglot))

@@ -31,8 +31,9 @@ tell("diagnostics", vim.tbl_map(function(it)
   return { it.lnum, lines()[it.lnum + 1]:sub(it.col + 1, it.end_col), it.message }
 end, vim.diagnostic.get(0)))
 
+vim.api.nvim_feedkeys("\\f", "tx", false)
 vim.cmd("write")
-tell("saved", vim.fn.readfile("a.isle"))
+tell("formatted", vim.fn.readfile("a.isle"))
 
 at_use(vim.lsp.buf.definition)
 wait(function() return vim.fn.line(".") == 3 end)

@@ -3,5 +3,4 @@
 (with-eval-after-load 'eglot
   (add-to-list 'eglot-server-programs '(isle-mode . ("isle-lsp"))))
 (add-hook 'isle-mode-hook #'eglot-ensure)
-(add-hook 'isle-mode-hook
-          (lambda () (add-hook 'before-save-hook #'eglot-format nil t)))
+(define-key isle-mode-map (kbd "C-c C-f") #'eglot-format)

@@ -5,7 +5,5 @@ vim.api.nvim_create_autocmd("FileType", { pattern = "isle", callback = function(
     name = "isle-lsp", cmd = { "isle-lsp" },
     root_dir = vim.fs.dirname(vim.fs.find(".git", { upward = true, path = file })[1]),
   })
-  vim.api.nvim_create_autocmd("BufWritePre", { buffer = event.buf, callback = function()
-    vim.lsp.buf.format()
-  end })
+  vim.keymap.set("n", "<leader>f", function() vim.lsp.buf.format() end, { buffer = event.buf })
 end })

@@ -1,2 +1,4 @@
+pub mod EndLemmas
 pub mod FailureLemmas
+pub mod ProgramLemmas
 pub mod ReportLemmas

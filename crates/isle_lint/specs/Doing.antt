@@ -21,6 +21,7 @@ use Rattle.isle_program.specs.Reading.{IsReading, refused_count}
 use Rattle.isle_cli.specs.declared.arguments.Options.{Options}
 use Rattle.isle_cli.specs.declared.program.Program.{Program}
 use Rattle.isle_lint.specs.declared.options.TheConstants.{HELP, VERSION}
+use Rattle.isle_lint.specs.Programs.{IsProgramsReport, Part}
 use Rattle.isle_lint.specs.Report.{count_text, is_program, sources_text, told, usable}
 
 -- What is shown is what these lints find in the trees of the texts, each finding once, in order of place, but for what
@@ -46,7 +47,7 @@ told_status is_read is_clean = if is_read then (if is_clean then 0 else 1) else 
 abbrev pub IsProgram : Program → Type 0
 IsProgram program =
     (program.name.now ≡ codes "isle-lint")
-    × (program.usage.now ≡ codes "usage: isle-lint [--all] [--whole] [--lint NAME] [--allow NAME] [--stdin-name NAME] [FILE ..]\n")
+    × (program.usage.now ≡ codes "usage: isle-lint [--all] [--whole] [--lint NAME] [--allow NAME] [--stdin-name NAME] [--program NAME] [--all-programs] [FILE ..]\n")
 
 abbrev pub AreOptions : Options → Type 0
 AreOptions options =
@@ -110,3 +111,33 @@ abbrev pub CutsAsked : Asked → (input input' output output' : Option (List ℕ
 CutsAsked help_asked input input' output output' = Keeps input input' × AppendsBeginning output output' HELP.now
 CutsAsked version_asked input input' output output' = Keeps input input' × AppendsBeginning output output' VERSION.now
 CutsAsked (work_asked given) input input' output output' = Cuts given input input' output output'
+
+-- Of some programs, with their texts, this is told, and this is the status; all of their files could be read, or not.
+pub record TellsPrograms (given : List Given) (status : ℕ) (output output' : Option (List ℕ)) : Type 0 where
+  pub sources : List Source
+  pub parts : List Part
+  pub shown : List ℕ
+  pub report : IsProgramsReport (lints_on given) sources parts shown
+  pub is_read : Bool
+  pub ends : status ≡ told_status is_read (is_empty shown)
+  pub written : Appends output output' shown
+
+-- the output got a beginning of it
+pub record CutsPrograms (given : List Given) (output output' : Option (List ℕ)) : Type 0 where
+  pub sources : List Source
+  pub parts : List Part
+  pub shown : List ℕ
+  pub report : IsProgramsReport (lints_on given) sources parts shown
+  pub begun : AppendsBeginning output output' shown
+
+-- nothing is told of programs, since there is no manifest, or it has a mistake; or what is in them is told
+abbrev pub Ends : List Given → ℕ → (output output' : Option (List ℕ)) → Type 0
+Ends given status output output' = ((status ≡ 2 ⊎ status ≡ 3) × Keeps output output') ⊎ TellsPrograms given status output output'
+
+-- what a failure says of the output
+abbrev pub ExplainsEnd : Failure → List Given → (output output' : Option (List ℕ)) → Type 0
+ExplainsEnd (failures.Refused text) given output output' = ⊥
+ExplainsEnd failures.Usage given output output' = Keeps output output'
+ExplainsEnd failures.Input given output output' = ⊥
+ExplainsEnd failures.Memory given output output' = Keeps output output'
+ExplainsEnd failures.Output given output output' = CutsPrograms given output output'

@@ -1,3 +1,4 @@
 pub mod Options
 pub mod Report
+pub mod Programs
 pub mod Doing

@@ -19,10 +19,14 @@ pub const VERSION: &str = version!("isle-lint");
 
 /// The help.
 pub const HELP: &str = "\
-usage: isle-lint [--all] [--whole] [--lint NAME] [--allow NAME] [--stdin-name NAME] [FILE ..]
+usage: isle-lint [--all] [--whole] [--lint NAME] [--allow NAME] [--stdin-name NAME]
+                 [--program NAME] [--all-programs] [FILE ..]
 
 Lints ISLE source. All files are linted as one program. A folder stands for every .isle file below
 it, and - for standard input. With no FILE, standard input is linted.
+
+With --program or --all-programs, programs of the nearest isle.toml are linted, each by itself. It
+is looked for in the current folder and above it, or in the one folder that is given.
 
 Options:
   --all              enable all lints, except those that need the complete program
@@ -30,6 +34,8 @@ Options:
   --lint NAME        enable a lint; may be repeated
   --allow NAME       disable a lint; may be repeated, and takes precedence over --lint
   --stdin-name NAME  use NAME for standard input in messages
+  --program NAME     lint this program of isle.toml; may be repeated
+  --all-programs     lint all programs of isle.toml
   --                 treat all later arguments as files
   --help             print this help
   --version          print the version
@@ -55,7 +61,7 @@ Other lints:
 Exit status:
   0  nothing was found
   1  something was found, or an input does not parse
-  2  usage error
+  2  usage error, or a mistake in isle.toml
   3  an input cannot be read, or is not UTF-8
   4  out of memory
   5  the output cannot be written

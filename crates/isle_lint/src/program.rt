@@ -23,7 +23,7 @@ use std::io::{Read, Write};
 pub const PROGRAM: Program = Program {
     name: "isle-lint",
     usage: "usage: isle-lint [--all] [--whole] [--lint NAME] [--allow NAME] \
-            [--stdin-name NAME] [FILE ..]\n",
+            [--stdin-name NAME] [--program NAME] [--all-programs] [FILE ..]\n",
     help: HELP,
     version: VERSION,
 };
@@ -164,7 +164,7 @@ fn lint<R: Files + AllocGlobal + Clone + Drop, I: Read, W: Write, E: Write>(
 }
 
 /// The exit status if all could be read, or not, and nothing was found, or something.
-fn status_of(is_read: bool, is_clean: bool) -> u8
+pub fn status_of(is_read: bool, is_clean: bool) -> u8
     ensures { result ≡ told_status is_read is_clean }
 {
     if !is_read {

@@ -87,7 +87,7 @@ fn whole_report(
 }
 
 /// The lints that can be used: without a whole program, those that need none.
-fn usable(alloc: Global, lints: &[Lint], is_whole: bool) -> Result<Vec<Lint>, AllocError>
+pub fn usable(alloc: Global, lints: &[Lint], is_whole: bool) -> Result<Vec<Lint>, AllocError>
     ensures { IfOk result (λ usable_lints. usable_lints.items ≡ usable is_whole lints.now) }
 {
     let mut usable = Vec::new(alloc);
@@ -100,14 +100,14 @@ fn usable(alloc: Global, lints: &[Lint], is_whole: bool) -> Result<Vec<Lint>, Al
 }
 
 /// Returns whether the texts are a whole program: `is_whole` says so, and each of them parses.
-fn is_program(is_whole: bool, refusals: &[Option<Error>]) -> bool
+pub fn is_program(is_whole: bool, refusals: &[Option<Error>]) -> bool
     ensures { result ≡ is_program is_whole refusals.now }
 {
     is_whole && refused_count(refusals) == 0
 }
 
 /// The findings that no comment disables, in order.
-fn told<'a>(
+pub fn told<'a>(
     alloc: Global,
     sources: &[Source],
     found: &[Finding<'a>],
@@ -227,7 +227,7 @@ fn finding_line(
 }
 
 /// The message of a finding.
-fn message_of(alloc: Global, finding: &Finding) -> Result<String, AllocError>
+pub fn message_of(alloc: Global, finding: &Finding) -> Result<String, AllocError>
     ensures { IfOk result (λ message. string_bytes message
         ≡ message_text (finding_of finding.now)) }
 {
@@ -241,7 +241,7 @@ fn message_of(alloc: Global, finding: &Finding) -> Result<String, AllocError>
 }
 
 /// The line that counts errors and warnings; empty if there are none.
-fn count_line(alloc: Global, errors: usize, warnings: usize) -> Result<String, AllocError>
+pub fn count_line(alloc: Global, errors: usize, warnings: usize) -> Result<String, AllocError>
     ensures { IfOk result (λ line. string_bytes line ≡ count_text errors warnings) }
 {
     if errors == 0 {

@@ -1,5 +1,5 @@
--- Whole conversations: which bytes are written for the bytes that are read.
-use Rattle.std.specs.Prelude.{◌≡◌, ◌≢◌, ◌⊎◌, ℕ, List, [], ◌∷◌, ◌++◌, Option, Some, Ok, Err, option_to_list}
+-- Whole conversations: which bytes are written for the bytes that are read and for what the disk shows.
+use Rattle.std.specs.Prelude.{◌≡◌, ◌≢◌, ◌⊎◌, ℕ, List, [], ◌∷◌, ◌++◌, false, Option, Some, Ok, Err, option_to_list}
 use Rattle.std.specs.Io.KnownBytes.{Appends}
 use Rattle.serde_json.specs.Data.{Data}
 use Rattle.isle_cli.specs.Failure.{status_of}
@@ -13,16 +13,21 @@ use Rattle.isle_lsp_protocol.specs.Machine.{next_state, action_of}
 use Rattle.isle_lsp_protocol.specs.declared.machine.State.{State}
 use Rattle.isle_lsp_protocol.specs.declared.machine.State.TheVariants.{Fresh, Running, ShutDown, Ended, Aborted}
 use Rattle.isle_lsp_protocol.specs.Decoding.{Decodes, message_in}
-use Rattle.isle_lsp.specs.Serving.{Held, KeepsFiles, documents_after, Sends}
+use Rattle.isle_lsp_files.specs.Disks.{Asked, Moment, View}
+use Rattle.isle_lsp.specs.Serving.{Held, Sends, Shows, asked, documents_after, folders_after, takes_after}
 
--- The message changes the server's state from old to new, and this is sent, if anything.
-pub record Answers (old : Held) (body : List ℕ) (new : Held) (sent : Option (List ℕ)) : Type 0 where
+-- The message changes the server's state from old to new, and this is sent, if anything. What it needs of the disk, the disk shows at the
+-- next moment.
+pub record Answers (old : Held) (moments : List Moment) (body : List ℕ) (new : Held) (later : List Moment) (sent : Option (List ℕ)) : Type 0 where
   pub json : Option Data
+  pub view : View
   pub decodes : Decodes body json
+  pub shows : Shows (asked (action_of old.state (message_in json)) json old) moments later view
   pub state : new.state ≡ next_state old.state (message_in json)
-  pub documents : new.documents ≡ documents_after (action_of old.state (message_in json)) json old.documents
-  pub files : KeepsFiles (action_of old.state (message_in json)) old.files new.files
-  pub sends : Sends (action_of old.state (message_in json)) json new sent
+  pub documents : new.documents ≡ documents_after (action_of old.state (message_in json)) json view old.documents
+  pub folders : new.folders ≡ folders_after (action_of old.state (message_in json)) json old.folders
+  pub takes : new.takes_document_changes ≡ takes_after (action_of old.state (message_in json)) json old.takes_document_changes
+  pub sends : Sends (action_of old.state (message_in json)) json new view sent
 
 abbrev pub frames : List (List ℕ) → List ℕ
 frames [] = []
@@ -30,40 +35,46 @@ frames (text ∷ texts) = frame text ++ frames texts
 
 -- the server's first state
 abbrev pub nothing : Held
-nothing = record { state = Fresh; documents = []; files = [] }
+nothing = record { state = Fresh; documents = []; folders = []; takes_document_changes = false }
 
--- From these bytes, one message after another was answered, and these texts were sent.
-pub data Conversation (bytes : List ℕ) : Held → List ℕ → List (List ℕ) → Type 0 where
-  begun : Conversation bytes nothing bytes []
-  answered : {old : Held} {rest : List ℕ} {texts : List (List ℕ)} {body : List ℕ} {after : List ℕ} {new : Held} {sent : Option (List ℕ)} →
-      Conversation bytes old rest texts → frame_at rest ≡ Ok (Some body, after) → Answers old body new sent → Conversation bytes new after (texts ++ option_to_list sent)
+-- what comes in: the bytes of the client, and the moments of the disk
+pub record World : Type 0 where
+  pub bytes : List ℕ
+  pub moments : List Moment
+
+-- From this world, one message after another was answered, and these texts were sent; this is left of it.
+pub data Conversation (world : World) : Held → World → List (List ℕ) → Type 0 where
+  begun : Conversation world nothing world []
+  answered : {old : Held} {rest : World} {texts : List (List ℕ)} {body after : List ℕ} {new : Held} {later : List Moment} {sent : Option (List ℕ)} →
+      Conversation world old rest texts → frame_at rest.bytes ≡ Ok (Some body, after) → Answers old rest.moments body new later sent →
+      Conversation world new (record { bytes = after; moments = later }) (texts ++ option_to_list sent)
 
 -- The conversation ended in this state; everything sent was written in full, and nothing else.
-pub record Ran (bytes : List ℕ) (state : State) (input before after : Option (List ℕ)) : Type 0 where
+pub record Ran (world : World) (state : State) (input before after : Option (List ℕ)) : Type 0 where
   pub held : Held
-  pub rest : List ℕ
+  pub rest : World
   pub texts : List (List ℕ)
   pub is_state : held.state ≡ state
-  pub left : input ≡ Some rest
-  pub conversation : Conversation bytes held rest texts
+  pub left : input ≡ Some rest.bytes
+  pub conversation : Conversation world held rest texts
   pub written : Appends before after (frames texts)
 
 -- It was cut off, and a prefix of what was sent was written.
-pub record IsCut (bytes : List ℕ) (before after : Option (List ℕ)) : Type 0 where
+pub record IsCut (world : World) (before after : Option (List ℕ)) : Type 0 where
   pub held : Held
-  pub rest : List ℕ
+  pub rest : World
   pub texts : List (List ℕ)
-  pub conversation : Conversation bytes held rest texts
+  pub conversation : Conversation world held rest texts
   pub written : AppendsBeginning before after (frames texts)
 
 -- It ended without `exit` after `shutdown`: by an `exit` before `shutdown`, by a message that cannot be read,
 -- or by the end of the input. Everything sent was written in full, and nothing else.
-pub record IsShort (bytes : List ℕ) (before after : Option (List ℕ)) : Type 0 where
+pub record IsShort (world : World) (before after : Option (List ℕ)) : Type 0 where
   pub held : Held
-  pub rest : List ℕ
+  pub rest : World
   pub texts : List (List ℕ)
-  pub conversation : Conversation bytes held rest texts
-  pub why : (held.state ≡ Aborted) ⊎ (((fault : FrameFault) × (frame_at rest ≡ Err fault)) ⊎ (rest ≡ []))
+  pub conversation : Conversation world held rest texts
+  pub why : (held.state ≡ Aborted) ⊎ (((fault : FrameFault) × (frame_at rest.bytes ≡ Err fault)) ⊎ (rest.bytes ≡ []))
   pub written : Appends before after (frames texts)
 
 -- `exit` came, or the input is at its end
@@ -71,22 +82,34 @@ abbrev pub IsOver : State → Option (List ℕ) → Type 0
 IsOver state input = (state ≡ Ended) ⊎ ((state ≡ Aborted) ⊎ (input ≡ Some []))
 
 -- the meaning of the exit status
-abbrev pub Converses : List ℕ → ℕ → (input before after : Option (List ℕ)) → Type 0
-Converses bytes status input before after =
-    (status ≡ 0 → Ran bytes Ended input before after) × (status ≡ 1 → IsShort bytes before after)
-    × (status ≢ 0 → status ≢ 1 → IsCut bytes before after)
+abbrev pub Converses : World → ℕ → (input before after : Option (List ℕ)) → Type 0
+Converses world status input before after =
+    (status ≡ 0 → Ran world Ended input before after) × (status ≡ 1 → IsShort world before after)
+    × (status ≢ 0 → status ≢ 1 → IsCut world before after)
+
+-- ---- the moments that are left
+
+-- an answer with what is left of the moments
+abbrev pub AnswersWithin : Held → List Moment → List ℕ → Held → (left : Option (List Moment)) → (sent : Option (List ℕ)) → Type 0
+AnswersWithin old moments body new left sent = (later : List Moment) × (left ≡ Some later) × Answers old moments body new later sent
+
+-- a view of what is asked, with what is left of the moments
+abbrev pub ShowsWithin : Option Asked → List Moment → (left : Option (List Moment)) → View → Type 0
+ShowsWithin question moments left view = (later : List Moment) × (left ≡ Some later) × Shows question moments later view
 
 -- ---- one message
 
 -- the message is answered, and the answer is written
-abbrev pub AnswersAs : Held → List ℕ → Held → (before after : Option (List ℕ)) → Type 0
-AnswersAs old body new before after = (sent : Option (List ℕ)) × Answers old body new sent × Appends before after (frames (option_to_list sent))
+abbrev pub AnswersAs : Held → List Moment → List ℕ → Held → (left : Option (List Moment)) → (before after : Option (List ℕ)) → Type 0
+AnswersAs old moments body new left before after =
+    (sent : Option (List ℕ)) × AnswersWithin old moments body new left sent × Appends before after (frames (option_to_list sent))
 
 -- nothing is written, or a prefix of the answer
-abbrev pub StopsAt : Held → List ℕ → (before after : Option (List ℕ)) → Type 0
-StopsAt old body before after =
+abbrev pub StopsAt : Held → List Moment → List ℕ → (before after : Option (List ℕ)) → Type 0
+StopsAt old moments body before after =
     AppendsBeginning before after []
-    ⊎ ((new : Held) × (sent : Option (List ℕ)) × Answers old body new sent × AppendsBeginning before after (frames (option_to_list sent)))
+    ⊎ ((new : Held) × (later : List Moment) × (sent : Option (List ℕ)) × Answers old moments body new later sent
+    × AppendsBeginning before after (frames (option_to_list sent)))
 
 -- the input is rejected, or memory ran out
 abbrev pub IsRefusal : Failure → Type 0
@@ -112,9 +135,9 @@ FromFault faults.Memory failure = failure ≡ Memory
 FromFault _ failure = IsRefusal failure
 
 -- the conversation before a failure
-abbrev pub Explains : Failure → List ℕ → (before after : Option (List ℕ)) → Type 0
-Explains (Refused text) bytes before after = IsShort bytes before after
-Explains Usage bytes before after = ⊥
-Explains Input bytes before after = IsCut bytes before after
-Explains Memory bytes before after = IsCut bytes before after
-Explains Output bytes before after = IsCut bytes before after
+abbrev pub Explains : Failure → World → (before after : Option (List ℕ)) → Type 0
+Explains (Refused text) world before after = IsShort world before after
+Explains Usage world before after = ⊥
+Explains Input world before after = IsCut world before after
+Explains Memory world before after = IsCut world before after
+Explains Output world before after = IsCut world before after

@@ -11,6 +11,7 @@ use Rattle.isle_lint_core.specs.Lint.{all_lints, is_default, message}
 use Rattle.isle_lint_core.specs.declared.finding.Finding.{Finding}
 use Rattle.isle_lint_core.specs.declared.lint.Lint.{Lint}
 use Rattle.isle_program.specs.Allowances.{is_allowed}
+use Rattle.isle_program.specs.Nesting.{FirstDeep}
 use Rattle.isle_program.specs.Reading.{IsRefusedWith, IsTreeOf}
 use Rattle.isle_lsp.specs.declared.diagnostics.Diagnostic.{Diagnostic}
 
@@ -52,7 +53,24 @@ pub record AreMarksOf (text : List ℕ) (ds : List Definition) (told : List Mark
   pub marks : told ≡ map (found_mark text) (shown text (map finding_of found))
 
 -- the marks of a text: of its tree, or why it has none
-abbrev pub AreMarks : List ℕ → List Mark → Type 0
-AreMarks text marks =
+abbrev pub AreShallowMarks : List ℕ → List Mark → Type 0
+AreShallowMarks text marks =
     ((ds : List Definition) × IsTreeOf 0 text ds × AreMarksOf text ds marks)
     ⊎ ((e : errors.Error) × IsRefusedWith 0 text e × (marks ≡ error_mark text e))
+
+-- the diagnostic of a text that nests too deeply, at the first token that does
+abbrev pub deep_mark : List ℕ → ℕ → Mark
+deep_mark text offset =
+    let start : ℕ = min offset (length text) in
+    record {
+      start = start;
+      end = start + min 1 (length text - start);
+      lint = None;
+      message = codes "more than 500 lists in one another, or '@' in one definition";
+    }
+
+-- the marks of any text; one that nests too deeply has that mark alone
+abbrev pub AreMarks : List ℕ → List Mark → Type 0
+AreMarks text marks =
+    ((offset : ℕ) × FirstDeep text (Some offset) × (marks ≡ deep_mark text offset ∷ []))
+    ⊎ (FirstDeep text None × AreShallowMarks text marks)

@@ -1,6 +1,5 @@
 pub mod Conversations
 pub mod Diagnostics
-pub mod Documents
 pub mod Formatted
 pub mod Published
 pub mod Serving

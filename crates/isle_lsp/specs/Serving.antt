@@ -1,10 +1,12 @@
 -- The server's handling of a message.
-use Rattle.std.specs.Prelude.{◌≡◌, ℕ, List, [], ◌∷◌, ◌++◌, Bool, Option, None, Some, is_none, filter, map, option_and_then}
+use Rattle.std.specs.Prelude.{◌≡◌, ℕ, List, [], ◌∷◌, ◌++◌, Bool, Option, None, Some, is_some, map, option_and_then, string_bytes}
 use Rattle.serde_json.specs.Data.{Data, null}
-use Rattle.isle_lsp.specs.Documents.{Document, document, document_of, text_of, without}
+use Rattle.isle_lsp_files.specs.Disks.{Asked, Moment, View, no_view}
+use Rattle.isle_lsp_files.specs.Documents.{Document, document, document_at, document_of, text_of, without}
+use Rattle.isle_lsp_files.specs.Texts.{program_of}
 use Rattle.isle_lsp_protocol.specs.declared.machine.ErrorCode.TheVariants.{InvalidParams, MethodNotFound}
 use Rattle.isle_lsp_protocol.specs.declared.machine.Notification as notifications
-use Rattle.isle_lsp_protocol.specs.declared.machine.Notification.TheVariants.{DidOpen, DidChange, DidClose}
+use Rattle.isle_lsp_protocol.specs.declared.machine.Notification.TheVariants.{DidOpen, DidChange, DidClose, DidChangeWorkspaceFolders}
 use Rattle.isle_lsp_protocol.specs.declared.machine.Request as requests
 use Rattle.isle_lsp_protocol.specs.declared.machine.Request.TheVariants.{Initialize, Shutdown, Formatting, Unknown}
 use Rattle.isle_lsp_protocol.specs.declared.machine.State.{State}
@@ -15,21 +17,52 @@ use Rattle.isle_lsp_protocol.specs.Replies as replies
 use Rattle.isle_lsp_protocol.specs.Replies.{IsTextOf, Outcome, done, error_outcome, reason_of, reply, reply_id}
 use Rattle.isle_lsp_protocol.specs.declared.results.TheConstants.{CAPABILITIES}
 use Rattle.serde_json.specs.Read.{read}
-use Rattle.isle_base_source.specs.Source.{Source}
-use Rattle.isle_cli.specs.Sources.{source_of}
 use Rattle.isle_lsp_features.specs.Answers as names
+use Rattle.isle_lsp_features.specs.Programs.{Question}
 use Rattle.isle_lsp.specs.Formatted.{IsFormatting}
 use Rattle.isle_lsp.specs.Published.{IsPublished}
 use Rattle.isle_lsp.specs.declared.server.Server.{Server}
 
--- the state of the server
+-- the state of the server: of the session, the open documents, the folders by their URIs, and whether the client takes edits with versions
 pub record Held : Type 0 where
   pub state : State
   pub documents : List Document
-  pub files : List Source
+  pub folders : List (List ℕ)
+  pub takes_document_changes : Bool
 
 abbrev pub held_of : Server → Held
-held_of s = record { state = s.state; documents = map document_of s.documents.items; files = map source_of s.files.items }
+held_of s =
+    record { state = s.state; documents = map document_of s.documents.items; folders = map string_bytes s.folders.items; takes_document_changes = s.takes_document_changes }
+
+-- ---- looks at the disk
+
+abbrev pub uri_or_none : Option (List ℕ) → List ℕ
+uri_or_none None = []
+uri_or_none (Some uri) = uri
+
+-- the URI of the document that a message names; empty if it names none
+abbrev pub named_uri : Option Data → List ℕ
+named_uri d = uri_or_none (option_and_then parameters.uri_of d)
+
+-- what is asked before a request is answered: nothing, unless it is about names
+abbrev pub asked_for : requests.Request → Asked → Option Asked
+asked_for Initialize question = None
+asked_for Shutdown question = None
+asked_for Formatting question = None
+asked_for Unknown question = None
+asked_for request question = Some question
+
+-- what is asked of the disk before an action: of a document that is opened, which file it is
+abbrev pub asked : actions.Action → Option Data → Held → Option Asked
+asked (Answer request) d held = asked_for request (record { folders = held.folders; documents = held.documents; uri = named_uri d })
+asked (Handle DidOpen) d held = Some record { folders = []; documents = []; uri = named_uri d }
+asked action d held = None
+
+-- the view of what is asked, at the next moment; if nothing is asked, the disk is not looked at
+abbrev pub Shows : Option Asked → (before after : List Moment) → View → Type 0
+Shows None before after view = (view ≡ no_view) × (after ≡ before)
+Shows (Some question) [] after view = ⊥
+Shows (Some question) (moment ∷ moments) after view = (view ≡ moment question) × (after ≡ moments)
 
 -- ---- requests
 
@@ -41,64 +74,69 @@ abbrev pub IsFormattingOf : Option (List ℕ) → Outcome → Type 0
 IsFormattingOf None o = o ≡ error_outcome InvalidParams
 IsFormattingOf (Some text) o = (d : Data) × IsFormatting text d × (o ≡ done d)
 
--- an open document as a text of a program
-abbrev pub source_at : Document → Source
-source_at d = record { name = d.uri; text = d.text }
+-- a request about names, as it is asked of a program
+abbrev pub question : requests.Request → Data → Held → View → Question
+question request d held view =
+    record { request = request; message = d; file = view.file; takes_document_changes = held.takes_document_changes }
 
-abbrev pub is_closed : List Document → Source → Bool
-is_closed docs s = is_none (text_of s.name docs)
-
--- the program: the open documents, and the files that are not open
-abbrev pub program_of : List Document → List Source → List Source
-program_of docs files = map source_at docs ++ filter (is_closed docs) files
-
--- the outcome of a request about names
-abbrev pub IsNamed : requests.Request → Data → Held → Outcome → Type 0
-IsNamed request d held o = names.IsAnswer request (program_of held.documents held.files) d o
+-- the outcome of a request about names: of the open documents, and of the files that the disk shows
+abbrev pub IsNamed : requests.Request → Data → Held → View → Outcome → Type 0
+IsNamed request d held view o = names.IsAnswer (question request d held view) (program_of (is_some (parameters.uri_of d)) held.documents view) o
 
 -- the outcome of a request with these parameters, in this state
-abbrev pub IsResult : requests.Request → Data → Held → Outcome → Type 0
-IsResult Initialize d held o = (value : Data) × (read CAPABILITIES.now ≡ Some value) × (o ≡ done value)
-IsResult Shutdown d held o = o ≡ done null
-IsResult Formatting d held o = IsFormattingOf (document_in d held.documents) o
-IsResult Unknown d held o = o ≡ error_outcome MethodNotFound
-IsResult request d held o = IsNamed request d held o
+abbrev pub IsResult : requests.Request → Data → Held → View → Outcome → Type 0
+IsResult Initialize d held view o = (value : Data) × (read CAPABILITIES.now ≡ Some value) × (o ≡ done value)
+IsResult Shutdown d held view o = o ≡ done null
+IsResult Formatting d held view o = IsFormattingOf (document_in d held.documents) o
+IsResult Unknown d held view o = o ≡ error_outcome MethodNotFound
+IsResult request d held view o = IsNamed request d held view o
 
-abbrev pub IsResultOf : requests.Request → Option Data → Held → Outcome → Type 0
-IsResultOf request None held o = o ≡ error_outcome InvalidParams
-IsResultOf request (Some d) held o = IsResult request d held o
+abbrev pub IsResultOf : requests.Request → Option Data → Held → View → Outcome → Type 0
+IsResultOf request None held view o = o ≡ error_outcome InvalidParams
+IsResultOf request (Some d) held view o = IsResult request d held view o
 
 -- ---- notifications
 
-abbrev pub did_open : List ℕ → Option (List ℕ) → List Document → List Document
-did_open uri None docs = docs
-did_open uri (Some text) docs = without uri docs ++ document uri text ∷ []
+abbrev pub did_open : (uri : List ℕ) → (text : Option (List ℕ)) → Data → View → List Document → List Document
+did_open uri None d view docs = docs
+did_open uri (Some text) d view docs = without uri docs ++ document uri view.file (parameters.version_of d) text ∷ []
 
-abbrev pub did_change : List ℕ → Option (List ℕ) → Data → List Document → List Document
+abbrev pub did_change : (uri : List ℕ) → Option Document → Data → List Document → List Document
 did_change uri None d docs = docs
-did_change uri (Some text) d docs = without uri docs ++ document uri (parameters.text_after d text) ∷ []
+did_change uri (Some old) d docs = without uri docs ++ document uri old.file (parameters.version_of d) (parameters.text_after d old.text) ∷ []
 
 -- the documents after a notification about one
-abbrev pub documents_noted : notifications.Notification → List ℕ → Data → List Document → List Document
-documents_noted DidOpen uri d docs = did_open uri (parameters.text_of d) docs
-documents_noted DidChange uri d docs = did_change uri (text_of uri docs) d docs
-documents_noted DidClose uri d docs = without uri docs
-documents_noted _ uri d docs = docs
+abbrev pub documents_noted : notifications.Notification → List ℕ → Data → View → List Document → List Document
+documents_noted DidOpen uri d view docs = did_open uri (parameters.text_of d) d view docs
+documents_noted DidChange uri d view docs = did_change uri (document_at uri docs) d docs
+documents_noted DidClose uri d view docs = without uri docs
+documents_noted _ uri d view docs = docs
 
-abbrev pub documents_named : notifications.Notification → Option (List ℕ) → Data → List Document → List Document
-documents_named notification None d docs = docs
-documents_named notification (Some uri) d docs = documents_noted notification uri d docs
+abbrev pub documents_named : notifications.Notification → Option (List ℕ) → Data → View → List Document → List Document
+documents_named notification None d view docs = docs
+documents_named notification (Some uri) d view docs = documents_noted notification uri d view docs
 
-abbrev pub documents_after_notification : notifications.Notification → Option Data → List Document → List Document
-documents_after_notification notification None docs = docs
-documents_after_notification notification (Some d) docs = documents_named notification (parameters.uri_of d) d docs
+abbrev pub documents_after_notification : notifications.Notification → Option Data → View → List Document → List Document
+documents_after_notification notification None view docs = docs
+documents_after_notification notification (Some d) view docs = documents_named notification (parameters.uri_of d) d view docs
 
 -- the documents after a message
-abbrev pub documents_after : actions.Action → Option Data → List Document → List Document
-documents_after (Handle notification) d docs = documents_after_notification notification d docs
-documents_after Ignore d docs = docs
-documents_after (Answer request) d docs = docs
-documents_after (Reject c) d docs = docs
+abbrev pub documents_after : actions.Action → Option Data → View → List Document → List Document
+documents_after (Handle notification) d view docs = documents_after_notification notification d view docs
+documents_after Ignore d view docs = docs
+documents_after (Answer request) d view docs = docs
+documents_after (Reject c) d view docs = docs
+
+-- the folders after a message
+abbrev pub folders_after : actions.Action → Option Data → List (List ℕ) → List (List ℕ)
+folders_after (Answer Initialize) (Some d) folders = parameters.folders_of d
+folders_after (Handle DidChangeWorkspaceFolders) (Some d) folders = parameters.folders_after d folders
+folders_after action d folders = folders
+
+-- whether the client takes edits with versions, after a message
+abbrev pub takes_after : actions.Action → Option Data → Bool → Bool
+takes_after (Answer Initialize) (Some d) takes = parameters.takes_document_changes d
+takes_after action d takes = takes
 
 -- the diagnostics of a document, or none if it is not open, are published
 abbrev pub Publishes : List ℕ → List Document → Option (List ℕ) → Type 0
@@ -116,14 +154,9 @@ ReportsNamed notification (Some uri) docs sent = Reports notification uri docs s
 
 -- ---- messages to the client
 
--- the files are read at `initialize`
-abbrev pub KeepsFiles : actions.Action → (old new : List Source) → Type 0
-KeepsFiles (Answer Initialize) old new = Unit {0}
-KeepsFiles _ old new = new ≡ old
-
--- the message that an action sends, with the state after it
-abbrev pub Sends : actions.Action → Option Data → Held → Option (List ℕ) → Type 0
-Sends Ignore d held sent = sent ≡ None
-Sends (Reject c) d held sent = (text : List ℕ) × (sent ≡ Some text) × IsTextOf (replies.error_response (reply_id d) c (reason_of c)) text
-Sends (Answer request) d held sent = (text : List ℕ) × (sent ≡ Some text) × (o : Outcome) × IsResultOf request d held o × IsTextOf (reply (reply_id d) o) text
-Sends (Handle notification) d held sent = ReportsNamed notification (option_and_then parameters.uri_of d) held.documents sent
+-- the message that an action sends, with the state after it and what the disk showed
+abbrev pub Sends : actions.Action → Option Data → Held → View → Option (List ℕ) → Type 0
+Sends Ignore d held view sent = sent ≡ None
+Sends (Reject c) d held view sent = (text : List ℕ) × (sent ≡ Some text) × IsTextOf (replies.error_response (reply_id d) c (reason_of c)) text
+Sends (Answer request) d held view sent = (text : List ℕ) × (sent ≡ Some text) × (o : Outcome) × IsResultOf request d held view o × IsTextOf (reply (reply_id d) o) text
+Sends (Handle notification) d held view sent = ReportsNamed notification (option_and_then parameters.uri_of d) held.documents sent

@@ -2,36 +2,42 @@
 
 ghost use Rattle.std.specs.Prelude.{◌≡◌, ◌⊎◌, ◌≤◌, ℕ, IfErr, IfOk, List, OnErr, OnOk, Some};
 ghost use Rattle.std.specs.Prelude.{option_map, string_bytes};
+ghost use Rattle.serde_json.specs.View.{view};
 ghost use Rattle.isle_cli.specs.declared.failure.Failure.TheVariants.{Memory, Output};
-ghost use Rattle.isle_lsp.specs.Conversations.{Answers, AnswersAs, Converses, EndsAs, Explains};
-ghost use Rattle.isle_lsp.specs.Conversations.{FromFault};
-ghost use Rattle.isle_lsp.specs.Conversations.{IsOver, IsRefusal, Ran, StopsAt};
-ghost use Rattle.isle_lsp.specs.Serving.{held_of};
+ghost use Rattle.isle_lsp.specs.Conversations.{AnswersAs, AnswersWithin, Converses, EndsAs};
+ghost use Rattle.isle_lsp.specs.Conversations.{Explains, FromFault, IsOver, IsRefusal, Ran};
+ghost use Rattle.isle_lsp.specs.Conversations.{ShowsWithin, StopsAt, World};
+ghost use Rattle.isle_lsp_files.specs.Disks.{Moment, view_of};
+ghost use Rattle.isle_lsp.specs.Serving.{asked, held_of, named_uri};
 
 use crate::program::PROGRAM;
 use crate::server::{Server, handle};
 use isle_cli::failure::Failure;
 use isle_cli::program::report;
+use isle_lsp_files::disk::{Disk, View};
 use isle_lsp_protocol::decoding::{decode, message_in};
 use isle_lsp_protocol::frames::{FrameFault, read_frame, write_frame};
-use isle_lsp_protocol::machine::{State, step};
-use std::alloc::Global;
-use std::fs::Files;
+use isle_lsp_protocol::machine::{Action, Notification, Request, State, step};
+use isle_lsp_protocol::parameters::uri_of;
+use serde_json::Value;
+use std::alloc::{AllocError, Global};
 use std::io::{BufRead, Write};
 
 /// Runs the session until `exit` or the end of the input, and returns the exit status.
-pub fn converse<R: Files + AllocGlobal + Clone + Drop, I: BufRead, W: Write, E: Write>(
-    rt: &R,
+pub fn converse<D: Disk, I: BufRead, W: Write, E: Write>(
+    alloc: Global,
+    disk: &mut D,
     input: &mut I,
     output: &mut W,
     faults: &mut E,
 ) -> u8
     ensures statuses { result ≤ 5 }
-    ensures told { (bytes : List ℕ) → I.remaining input.old ≡ Some bytes → Converses bytes result
+    ensures told { (world : World) → I.remaining input.old ≡ Some world.bytes
+        → D.moments disk.old ≡ Some world.moments → Converses world result
         (I.remaining input.new) (W.contents output.old) (W.contents output.new) }
 {
-    match main_loop(rt, input, output) {
-        Ok(state) => end_status(rt.alloc(), state, faults),
+    match main_loop(alloc, disk, input, output) {
+        Ok(state) => end_status(alloc, state, faults),
         Err(failure) => report(&PROGRAM, &failure, faults),
     }
 }
@@ -55,28 +61,31 @@ fn end_status<E: Write>(alloc: Global, state: State, faults: &mut E) -> u8
 }
 
 /// Answers one message after another, until `exit` or the end of the input.
-fn main_loop<R: Files + AllocGlobal + Clone + Drop, I: BufRead, W: Write>(
-    rt: &R,
+fn main_loop<D: Disk, I: BufRead, W: Write>(
+    alloc: Global,
+    disk: &mut D,
     input: &mut I,
     output: &mut W,
 ) -> Result<State, Failure>
-    ensures ok { (bytes : List ℕ) → I.remaining input.old ≡ Some bytes
-        → IfOk result (λ state. Ran bytes state
+    ensures ok { (world : World) → I.remaining input.old ≡ Some world.bytes
+        → D.moments disk.old ≡ Some world.moments → IfOk result (λ state. Ran world state
         (I.remaining input.new) (W.contents output.old) (W.contents output.new)) }
-    ensures over { (bytes : List ℕ) → I.remaining input.old ≡ Some bytes
+    ensures over { (world : World) → I.remaining input.old ≡ Some world.bytes
+        → D.moments disk.old ≡ Some world.moments
         → IfOk result (λ state. IsOver state (I.remaining input.new)) }
-    ensures err { (bytes : List ℕ) → I.remaining input.old ≡ Some bytes
-        → IfErr result (λ failure. Explains failure bytes
+    ensures err { (world : World) → I.remaining input.old ≡ Some world.bytes
+        → D.moments disk.old ≡ Some world.moments
+        → IfErr result (λ failure. Explains failure world
         (W.contents output.old) (W.contents output.new)) }
 {
-    let mut server = Server::new(rt.alloc());
+    let mut server = Server::new(alloc);
     for _ in 0..u64::MAX {
-        let body = match read_frame(rt.alloc(), input) {
+        let body = match read_frame(alloc, input) {
             Ok(Some(body)) => body,
             Ok(None) => return Ok(server.state),
-            Err(fault) => return Err(failure_of(rt.alloc(), fault)),
+            Err(fault) => return Err(failure_of(alloc, fault)),
         };
-        answer_message(rt, &mut server, body, output)?;
+        answer_message(alloc, disk, &mut server, body, output)?;
         if matches!(server.state, State::Ended | State::Aborted) {
             return Ok(server.state);
         }
@@ -85,39 +94,78 @@ fn main_loop<R: Files + AllocGlobal + Clone + Drop, I: BufRead, W: Write>(
 }
 
 /// Handles a message, and writes the answer, if any.
-fn answer_message<R: Files + AllocGlobal + Clone + Drop, W: Write>(
-    rt: &R,
+fn answer_message<D: Disk, W: Write>(
+    alloc: Global,
+    disk: &mut D,
     server: &mut Server,
     body: Vec<u8>,
     output: &mut W,
 ) -> Result<(), Failure>
-    ensures ok { OnOk result (AnswersAs (held_of server.old) body.items (held_of server.new)
-        (W.contents output.old) (W.contents output.new)) }
-    ensures err { OnErr result (StopsAt (held_of server.old) body.items
+    ensures ok { (moments : List Moment) → D.moments disk.old ≡ Some moments
+        → OnOk result (AnswersAs (held_of server.old) moments body.items (held_of server.new)
+        (D.moments disk.new) (W.contents output.old) (W.contents output.new)) }
+    ensures err { (moments : List Moment) → D.moments disk.old ≡ Some moments
+        → OnErr result (StopsAt (held_of server.old) moments body.items
         (W.contents output.old) (W.contents output.new)) }
     ensures kind { IfErr result (λ failure. (failure ≡ Memory) ⊎ (failure ≡ Output)) }
 {
-    match handle_message(rt, server, body)? {
-        Some(text) => write_frame(rt.alloc(), output, text.as_bytes()),
+    match handle_message(alloc, disk, server, body)? {
+        Some(text) => write_frame(alloc, output, text.as_bytes()),
         None => Ok(()),
     }
 }
 
 /// Handles a message, and returns the text to send, if any.
-fn handle_message<R: Files + AllocGlobal + Clone + Drop>(
-    rt: &R,
+fn handle_message<D: Disk>(
+    alloc: Global,
+    disk: &mut D,
     server: &mut Server,
     body: Vec<u8>,
 ) -> Result<Option<String>, Failure>
-    ensures ok { IfOk result (λ sent. Answers (held_of server.old) body.items (held_of server.new)
-        (option_map string_bytes sent)) }
+    ensures ok { (moments : List Moment) → D.moments disk.old ≡ Some moments
+        → IfOk result (λ sent. AnswersWithin (held_of server.old) moments body.items
+        (held_of server.new) (D.moments disk.new) (option_map string_bytes sent)) }
     ensures err { IfErr result (λ failure. failure ≡ Memory) }
 {
-    let message = decode(rt.alloc(), body.as_slice())?;
+    let message = decode(alloc, body.as_slice())?;
     drop(body);
     let (state, action) = step(server.state, message_in(&message));
+    let shown = view_for(alloc, disk, server, action, &message)?;
     server.state = state;
-    handle(rt, server, action, &message)
+    handle(alloc, server, action, &message, &shown)
+}
+
+/// What the disk shows of what an action needs. It is not looked at if the action needs nothing.
+fn view_for<D: Disk>(
+    alloc: Global,
+    disk: &mut D,
+    server: &Server,
+    action: Action,
+    message: &Option<Value>,
+) -> Result<View, AllocError>
+    ensures { (moments : List Moment) → D.moments disk.old ≡ Some moments
+        → IfOk result (λ shown. ShowsWithin (asked action (option_map view message.now)
+        (held_of server.now)) moments (D.moments disk.new) (view_of shown)) }
+{
+    let uri = named_uri(message);
+    match action {
+        Action::Answer(
+            Request::Initialize | Request::Shutdown | Request::Formatting | Request::Unknown,
+        ) => Ok(View::nothing(alloc)),
+        Action::Answer(_) => disk.look(alloc, &server.folders, &server.documents, uri),
+        Action::Handle(Notification::DidOpen) => disk.look(alloc, &[], &[], uri),
+        _ => Ok(View::nothing(alloc)),
+    }
+}
+
+/// The URI of the document that a message names, or nothing if it names none.
+fn named_uri(message: &Option<Value>) -> &str
+    ensures { result.now ≡ named_uri (option_map view message.now) }
+{
+    match message {
+        Some(message) => uri_of(message).unwrap_or(""),
+        None => "",
+    }
 }
 
 /// The failure of a session at a message that cannot be read.

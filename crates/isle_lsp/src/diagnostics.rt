@@ -1,5 +1,5 @@
-//! The diagnostics of an ISLE text: its parse error, or else the findings of the lints that are on
-//! by default, except those that comments allow.
+//! The diagnostics of an ISLE text: that it nests too deeply, or its parse error, or else the
+//! findings of the lints that are on by default, except those that comments allow.
 //!
 //! The text is read on its own, so lints of whole programs find nothing.
 
@@ -10,7 +10,7 @@ ghost use Rattle.isle_base_source.specs.declared.error.Error as errors;
 ghost use Rattle.isle_cli.specs.declared.failure.Failure.TheVariants.{Memory};
 ghost use Rattle.isle_lint_core.specs.Finding.{finding_of};
 ghost use Rattle.isle_lint_core.specs.Lint.{all_lints, is_default};
-ghost use Rattle.isle_lsp.specs.Diagnostics.{AreMarks, AreMarksOf};
+ghost use Rattle.isle_lsp.specs.Diagnostics.{AreMarks, AreMarksOf, AreShallowMarks, deep_mark};
 ghost use Rattle.isle_lsp.specs.Diagnostics.{error_mark, found_mark, found_text};
 ghost use Rattle.isle_lsp.specs.Diagnostics.{mark_of, shown};
 
@@ -22,6 +22,7 @@ use isle_cli::failure::Failure;
 use isle_lint_core::{Finding, Lint, findings};
 use isle_parser::dropping::drop_definitions;
 use isle_program::allowances::{is_allowed, lines_above};
+use isle_program::nesting::deep_list;
 use isle_program::trees::read_defs;
 use std::alloc::{AllocError, Global};
 
@@ -32,16 +33,48 @@ pub struct Diagnostic {
     pub start: usize,
     /// The byte offset at which it ends.
     pub end: usize,
-    /// The lint that found it, or `None` for a parse error.
+    /// The lint that found it, or `None` for an error.
     pub lint: Option<Lint>,
     /// The message.
     pub message: String,
 }
 
-/// The diagnostics of a text, in order of position: the parse error, or else the findings of
-/// `isle-lint` without options. The only error is `Memory`.
+/// What is wrong with a text that nests more deeply than `deep_list` takes.
+const DEEP: &str = "more than 500 lists in one another, or '@' in one definition";
+
+/// The diagnostics of a text, in order of position: where it nests too deeply, or the parse error,
+/// or else the findings of `isle-lint` without options. The only error is `Memory`.
 pub fn diagnostics(alloc: Global, text: &str) -> Result<Vec<Diagnostic>, Failure>
     ensures ok { IfOk result (λ found. AreMarks text.now (map mark_of found.items)) }
+    ensures err { IfErr result (λ failure. failure ≡ Memory) }
+{
+    match deep_list(alloc, text)? {
+        Some(offset) => Ok(deep_diagnostics(alloc, text, offset)?),
+        None => shallow_diagnostics(alloc, text),
+    }
+}
+
+/// The diagnostic of a text that nests too deeply at this byte offset.
+fn deep_diagnostics(alloc: Global, text: &str, offset: usize) -> Result<Vec<Diagnostic>, AllocError>
+    ensures { IfOk result
+        (λ diagnostics. map mark_of diagnostics.items ≡ deep_mark text.now offset ∷ []) }
+{
+    let start = offset.min(text.len());
+    let left = text.len() - start;
+    let message = String::from_str(alloc, DEEP)?;
+    let mut diagnostics = Vec::new(alloc);
+    diagnostics.push(Diagnostic {
+        start,
+        end: start + 1.min(left),
+        lint: None,
+        message,
+    })?;
+    Ok(diagnostics)
+}
+
+/// The diagnostics of a text that does not nest too deeply.
+fn shallow_diagnostics(alloc: Global, text: &str) -> Result<Vec<Diagnostic>, Failure>
+    ensures ok { IfOk result (λ found. AreShallowMarks text.now (map mark_of found.items)) }
     ensures err { IfErr result (λ failure. failure ≡ Memory) }
 {
     match read_defs(alloc, 0, text) {

@@ -3,17 +3,16 @@
 
 mod conversation;
 mod diagnostics;
-mod documents;
 mod formatting;
 mod program;
 mod published;
 mod server;
-mod workspace;
 
 pub use conversation::converse;
 use isle_cli::failure::Failure;
 use isle_cli::program::report;
 use isle_cli::words::taken_words;
+use isle_lsp_files::folders::Folders;
 use program::PROGRAM;
 pub use program::run;
 use std::io::BufReader;
@@ -25,7 +24,14 @@ fn main(rt: HostRuntime) -> ExitCode {
         return ExitCode::from(report(&PROGRAM, &Failure::Memory, &mut faults));
     };
     let status = match taken_words(&rt) {
-        Ok(words) => run(&rt, &words, &mut input, &mut output, &mut faults),
+        Ok(words) => run(
+            rt.alloc(),
+            &mut Folders::new(&rt),
+            &words,
+            &mut input,
+            &mut output,
+            &mut faults,
+        ),
         Err(failure) => report(&PROGRAM, &failure, &mut faults),
     };
     ExitCode::from(status)

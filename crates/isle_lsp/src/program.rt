@@ -1,14 +1,15 @@
 //! The command line of the program.
 
-ghost use Rattle.std.specs.Prelude.{◌≡◌, ◌≤◌, ℕ, List, Some, length, true};
-ghost use Rattle.isle_lsp.specs.Conversations.{Converses};
+ghost use Rattle.std.specs.Prelude.{◌≡◌, ◌≤◌, Some, length, true};
+ghost use Rattle.isle_lsp.specs.Conversations.{Converses, World};
 
 use crate::conversation::converse;
 use isle_cli::arguments::{Options, Request, requested};
 use isle_cli::failure::Failure;
 use isle_cli::program::{Program, report, tell};
 use isle_cli::version;
-use std::fs::Files;
+use isle_lsp_files::disk::Disk;
+use std::alloc::Global;
 use std::io::{BufRead, Write};
 
 /// This program.
@@ -59,22 +60,24 @@ Exit status:
 /// | 3 | standard input can't be read |
 /// | 4 | out of memory |
 /// | 5 | the output can't be written |
-pub fn run<R: Files + AllocGlobal + Clone + Drop, I: BufRead, W: Write, E: Write>(
-    rt: &R,
+pub fn run<D: Disk, I: BufRead, W: Write, E: Write>(
+    alloc: Global,
+    disk: &mut D,
     words: &[String],
     input: &mut I,
     output: &mut W,
     faults: &mut E,
 ) -> u8
     ensures statuses { result ≤ 5 }
-    ensures told { length words.now ≡ 0 → (bytes : List ℕ) → I.remaining input.old ≡ Some bytes
-        → Converses bytes result
+    ensures told { length words.now ≡ 0 → (world : World)
+        → I.remaining input.old ≡ Some world.bytes → D.moments disk.old ≡ Some world.moments
+        → Converses world result
         (I.remaining input.new) (W.contents output.old) (W.contents output.new) }
 {
     if asks_nothing(words) {
-        return converse(rt, input, output, faults);
+        return converse(alloc, disk, input, output, faults);
     }
-    match requested(rt.alloc(), &OPTIONS, words) {
+    match requested(alloc, &OPTIONS, words) {
         Ok(Request::Help) => tell(&PROGRAM, PROGRAM.help, output, faults),
         Ok(Request::Version) => tell(&PROGRAM, PROGRAM.version, output, faults),
         Ok(Request::Work(_)) => report(&PROGRAM, &Failure::Usage, faults),

@@ -4,35 +4,33 @@ ghost use Rattle.std.specs.Prelude.{◌≡◌, IfErr, IfOk, OnOk, Some, map, opt
 ghost use Rattle.std.specs.Prelude.{string_bytes};
 ghost use Rattle.serde_json.specs.View.{view};
 ghost use Rattle.isle_cli.specs.declared.failure.Failure.TheVariants.{Memory};
-ghost use Rattle.isle_lsp.specs.Documents as wanted;
-ghost use Rattle.isle_lsp.specs.Documents.{document_of};
+ghost use Rattle.isle_lsp_files.specs.Disks.{view_of};
+ghost use Rattle.isle_lsp_files.specs.Documents as wanted;
+ghost use Rattle.isle_lsp_files.specs.Documents.{document_of};
 ghost use Rattle.isle_lsp_protocol.specs.Replies.{IsTextOf, outcome_of};
 ghost use Rattle.isle_lsp_protocol.specs.Parameters as parameters_of;
 ghost use Rattle.isle_lsp_protocol.specs.Replies as replies_of;
-ghost use Rattle.isle_cli.specs.Sources.{source_of};
-ghost use Rattle.isle_lsp_features.specs.Programs as programs;
 ghost use Rattle.isle_lsp.specs.Conversations.{nothing};
 ghost use Rattle.isle_lsp.specs.Serving as serving;
-ghost use Rattle.isle_lsp.specs.Serving.{IsNamed, IsResult, IsResultOf, KeepsFiles, Publishes};
+ghost use Rattle.isle_lsp.specs.Serving.{IsNamed, IsResult, IsResultOf, Publishes};
 ghost use Rattle.isle_lsp.specs.Serving.{Reports, Sends};
 ghost use Rattle.isle_lsp.specs.Serving.{document_in, documents_after, documents_noted, held_of};
-ghost use Rattle.isle_lsp.specs.Serving.{documents_after_notification};
+ghost use Rattle.isle_lsp.specs.Serving.{documents_after_notification, folders_after, takes_after};
 
-use crate::documents::{Document, close, open, text_of};
 use crate::formatting::formatting;
 use crate::published::publish_diagnostics;
-use crate::workspace::workspace_files;
 use isle_cli::failure::Failure;
-use isle_cli::sources::Source;
-use isle_lsp_features::Text;
+use isle_lsp_features::Question;
+use isle_lsp_files::disk::View;
+use isle_lsp_files::documents::{Document, close, document_at, open, text_of};
+use isle_lsp_files::texts::program_of;
 use isle_lsp_protocol::machine::{Action, ErrorCode, Notification, Request, State};
-use isle_lsp_protocol::parameters::{root_of, text_after, uri_of};
+use isle_lsp_protocol::parameters::{takes_document_changes, text_after, uri_of, version_of};
 use isle_lsp_protocol::replies::{Outcome, error_outcome, reason_of, reply_id};
 use isle_lsp_protocol::results::capabilities;
 use isle_lsp_protocol::{parameters, replies};
 use serde_json::Value;
 use std::alloc::{AllocError, Global};
-use std::fs::Files;
 
 /// The state of the server.
 #[derive(Drop)]
@@ -41,8 +39,10 @@ pub struct Server {
     pub state: State,
     /// The open documents.
     pub documents: Vec<Document>,
-    /// The files in the editor's folder, as they were at `initialize`.
-    pub files: Vec<Source>,
+    /// The URIs of the editor's folders.
+    pub folders: Vec<String>,
+    /// Whether the client takes edits with versions.
+    pub takes_document_changes: bool,
 }
 
 impl Server {
@@ -53,57 +53,65 @@ impl Server {
         Server {
             state: State::Fresh,
             documents: Vec::new(alloc),
-            files: Vec::new(alloc),
+            folders: Vec::new(alloc),
+            takes_document_changes: false,
         }
     }
 }
 
-/// Performs an action on a message, and returns the text to send, if any. The only error is
-/// `Memory`.
-pub fn handle<R: Files + AllocGlobal + Clone + Drop>(
-    rt: &R,
+/// Performs an action on a message, with what the disk shows for it, and returns the text to send,
+/// if any. The only error is `Memory`.
+pub fn handle(
+    alloc: Global,
     server: &mut Server,
     action: Action,
     message: &Option<Value>,
+    shown: &View,
 ) -> Result<Option<String>, Failure>
     ensures state { server.new.state ≡ server.old.state }
     ensures documents { OnOk result (map document_of server.new.documents.items
-        ≡ documents_after action (option_map view message.now)
+        ≡ documents_after action (option_map view message.now) (view_of shown.now)
         (map document_of server.old.documents.items)) }
-    ensures files { OnOk result (KeepsFiles action (map source_of server.old.files.items)
-        (map source_of server.new.files.items)) }
+    ensures folders { OnOk result (map string_bytes server.new.folders.items
+        ≡ folders_after action (option_map view message.now)
+        (map string_bytes server.old.folders.items)) }
+    ensures takes { OnOk result (server.new.takes_document_changes
+        ≡ takes_after action (option_map view message.now) server.old.takes_document_changes) }
     ensures sends { IfOk result (λ sent. Sends action (option_map view message.now)
-        (held_of server.new) (option_map string_bytes sent)) }
+        (held_of server.new) (view_of shown.now) (option_map string_bytes sent)) }
     ensures err { IfErr result (λ failure. failure ≡ Memory) }
 {
     match action {
         Action::Ignore => Ok(None),
-        Action::Reject(code) => Ok(Some(error_response(rt.alloc(), message, code)?)),
+        Action::Reject(code) => Ok(Some(error_response(alloc, message, code)?)),
         Action::Handle(notification) => {
-            handle_notification(rt.alloc(), &mut server.documents, notification, message)
+            handle_notification(alloc, server, notification, message, shown)
         }
-        Action::Answer(Request::Initialize) => {
-            server.files = initial_files(rt, message)?;
-            Ok(Some(response(rt.alloc(), server, Request::Initialize, message)?))
+        Action::Answer(request) => {
+            if matches!(request, Request::Initialize) {
+                initialize(alloc, server, message)?;
+            }
+            Ok(Some(response(alloc, server, request, message, shown)?))
         }
-        Action::Answer(request) => Ok(Some(response(rt.alloc(), server, request, message)?)),
     }
 }
 
-/// Reads the files in the folder that `initialize` names.
-fn initial_files<R: Files + AllocGlobal + Clone + Drop>(
-    rt: &R,
-    message: &Option<Value>,
-) -> Result<Vec<Source>, Failure>
-    ensures { IfErr result (λ failure. failure ≡ Memory) }
+/// Learns the client's folders and capabilities.
+fn initialize(alloc: Global, server: &mut Server, message: &Option<Value>) -> Result<(), AllocError>
+    ensures state { server.new.state ≡ server.old.state }
+    ensures documents { server.new.documents ≡ server.old.documents }
+    ensures folders { OnOk result (map string_bytes server.new.folders.items
+        ≡ folders_after (Action.Answer Request.Initialize) (option_map view message.now)
+        (map string_bytes server.old.folders.items)) }
+    ensures takes { OnOk result (server.new.takes_document_changes
+        ≡ takes_after (Action.Answer Request.Initialize) (option_map view message.now)
+        server.old.takes_document_changes) }
 {
-    match message {
-        Some(message) => match root_of(message) {
-            Some(root) => workspace_files(rt, root),
-            None => Ok(Vec::new(rt.alloc())),
-        },
-        None => Ok(Vec::new(rt.alloc())),
+    if let Some(message) = message {
+        server.folders = parameters::folders_of(alloc, message)?;
+        server.takes_document_changes = takes_document_changes(message);
     }
+    Ok(())
 }
 
 /// The text of an error response to a message.
@@ -123,23 +131,37 @@ fn error_response(
 /// Handles a notification, and returns the text to send, if any.
 fn handle_notification(
     alloc: Global,
-    documents: &mut Vec<Document>,
+    server: &mut Server,
     notification: Notification,
     message: &Option<Value>,
+    shown: &View,
 ) -> Result<Option<String>, Failure>
-    ensures documents { OnOk result (map document_of documents.new.items
+    ensures state { server.new.state ≡ server.old.state }
+    ensures takes { server.new.takes_document_changes ≡ server.old.takes_document_changes }
+    ensures folders { OnOk result (map string_bytes server.new.folders.items
+        ≡ folders_after (Action.Handle notification) (option_map view message.now)
+        (map string_bytes server.old.folders.items)) }
+    ensures documents { OnOk result (map document_of server.new.documents.items
         ≡ documents_after_notification notification (option_map view message.now)
-        (map document_of documents.old.items)) }
+        (view_of shown.now) (map document_of server.old.documents.items)) }
     ensures sends { IfOk result (λ sent. serving.ReportsNamed notification
         (option_and_then parameters_of.uri_of (option_map view message.now))
-        (map document_of documents.new.items) (option_map string_bytes sent)) }
+        (map document_of server.new.documents.items) (option_map string_bytes sent)) }
     ensures err { IfErr result (λ failure. failure ≡ Memory) }
 {
     match message {
-        Some(message) => match uri_of(message) {
-            Some(uri) => handle_for(alloc, documents, notification, uri, message),
-            None => Ok(None),
-        },
+        Some(message) => {
+            if matches!(notification, Notification::DidChangeWorkspaceFolders) {
+                server.folders = parameters::folders_after(alloc, message, &server.folders)?;
+            }
+            match uri_of(message) {
+                Some(uri) => {
+                    let documents = &mut server.documents;
+                    handle_for(alloc, documents, notification, uri, message, shown)
+                }
+                None => Ok(None),
+            }
+        }
         None => Ok(None),
     }
 }
@@ -151,9 +173,10 @@ fn handle_for(
     notification: Notification,
     uri: &str,
     message: &Value,
+    shown: &View,
 ) -> Result<Option<String>, Failure>
     ensures documents { OnOk result (map document_of documents.new.items
-        ≡ documents_noted notification uri.now (view message.now)
+        ≡ documents_noted notification uri.now (view message.now) (view_of shown.now)
         (map document_of documents.old.items)) }
     ensures sends { IfOk result (λ sent. Reports notification uri.now
         (map document_of documents.new.items) (option_map string_bytes sent)) }
@@ -161,7 +184,7 @@ fn handle_for(
 {
     match notification {
         Notification::DidOpen => {
-            did_open(alloc, documents, uri, message)?;
+            did_open(alloc, documents, uri, message, shown)?;
             publish(alloc, documents, uri)
         }
         Notification::DidChange => {
@@ -172,7 +195,10 @@ fn handle_for(
             close(documents, uri);
             publish(alloc, documents, uri)
         }
-        Notification::Initialized | Notification::Exit | Notification::Other => Ok(None),
+        Notification::Initialized
+        | Notification::Exit
+        | Notification::DidChangeWorkspaceFolders
+        | Notification::Other => Ok(None),
     }
 }
 
@@ -192,12 +218,18 @@ fn did_open(
     documents: &mut Vec<Document>,
     uri: &str,
     message: &Value,
+    shown: &View,
 ) -> Result<(), AllocError>
     ensures { OnOk result (map document_of documents.new.items ≡ serving.did_open uri.now
-        (parameters_of.text_of (view message.now)) (map document_of documents.old.items)) }
+        (parameters_of.text_of (view message.now)) (view message.now) (view_of shown.now)
+        (map document_of documents.old.items)) }
 {
     match parameters::text_of(message) {
-        Some(text) => open(alloc, documents, uri, String::from_str(alloc, text)?),
+        Some(text) => {
+            let file = String::from_str(alloc, shown.file.as_str())?;
+            let text = String::from_str(alloc, text)?;
+            open(alloc, documents, uri, file, version_of(message), text)
+        }
         None => Ok(()),
     }
 }
@@ -210,14 +242,17 @@ fn did_change(
     message: &Value,
 ) -> Result<(), AllocError>
     ensures { OnOk result (map document_of documents.new.items ≡ serving.did_change uri.now
-        (wanted.text_of uri.now (map document_of documents.old.items))
+        (wanted.document_at uri.now (map document_of documents.old.items))
         (view message.now) (map document_of documents.old.items)) }
 {
-    let after = match text_of(documents, uri) {
-        Some(text) => text_after(alloc, message, text)?,
+    let (file, after) = match document_at(documents, uri) {
+        Some(document) => {
+            let file = String::from_str(alloc, document.file.as_str())?;
+            (file, text_after(alloc, message, document.text.as_str())?)
+        }
         None => return Ok(()),
     };
-    open(alloc, documents, uri, after)
+    open(alloc, documents, uri, file, version_of(message), after)
 }
 
 /// The text of the response to a request.
@@ -226,13 +261,14 @@ fn response(
     server: &Server,
     request: Request,
     message: &Option<Value>,
+    shown: &View,
 ) -> Result<String, Failure>
     ensures ok { IfOk result (λ text. Sends (Action.Answer request) (option_map view message.now)
-        (held_of server.now) (Some (string_bytes text))) }
+        (held_of server.now) (view_of shown.now) (Some (string_bytes text))) }
     ensures err { IfErr result (λ failure. failure ≡ Memory) }
 {
     let id = reply_id(message)?;
-    let outcome = outcome_for(alloc, server, request, message)?;
+    let outcome = outcome_for(alloc, server, request, message, shown)?;
     let text = replies::reply(alloc, id, outcome)?;
     Ok(text)
 }
@@ -243,13 +279,14 @@ fn outcome_for<'a>(
     server: &'a Server,
     request: Request,
     message: &Option<Value>,
+    shown: &'a View,
 ) -> Result<Outcome<'a>, Failure>
     ensures ok { IfOk result (λ outcome. IsResultOf request (option_map view message.now)
-        (held_of server.now) (outcome_of outcome)) }
+        (held_of server.now) (view_of shown.now) (outcome_of outcome)) }
     ensures err { IfErr result (λ failure. failure ≡ Memory) }
 {
     match message {
-        Some(message) => outcome_in(alloc, server, request, message),
+        Some(message) => outcome_in(alloc, server, request, message, shown),
         None => Ok(error_outcome(ErrorCode::InvalidParams)),
     }
 }
@@ -260,9 +297,10 @@ fn outcome_in<'a>(
     server: &'a Server,
     request: Request,
     message: &Value,
+    shown: &'a View,
 ) -> Result<Outcome<'a>, Failure>
     ensures ok { IfOk result (λ outcome. IsResult request (view message.now)
-        (held_of server.now) (outcome_of outcome)) }
+        (held_of server.now) (view_of shown.now) (outcome_of outcome)) }
     ensures err { IfErr result (λ failure. failure ≡ Memory) }
 {
     match request {
@@ -272,7 +310,7 @@ fn outcome_in<'a>(
             formatting_outcome(alloc, document_in(&server.documents, message))
         }
         Request::Unknown => Ok(error_outcome(ErrorCode::MethodNotFound)),
-        _ => name_outcome(alloc, server, request, message),
+        _ => name_outcome(alloc, server, request, message, shown),
     }
 }
 
@@ -294,50 +332,20 @@ fn name_outcome<'a>(
     server: &'a Server,
     request: Request,
     message: &Value,
+    shown: &'a View,
 ) -> Result<Outcome<'a>, Failure>
     ensures ok { IfOk result (λ outcome. IsNamed request (view message.now)
-        (held_of server.now) (outcome_of outcome)) }
+        (held_of server.now) (view_of shown.now) (outcome_of outcome)) }
     ensures err { IfErr result (λ failure. failure ≡ Memory) }
 {
-    let program = program_of(alloc, &server.documents, &server.files)?;
-    isle_lsp_features::answer(alloc, &program, request, message)
-}
-
-/// The program: the open documents, and the files that are not open.
-fn program_of<'a>(
-    alloc: Global,
-    documents: &'a [Document],
-    files: &'a [Source],
-) -> Result<Vec<Text<'a>>, AllocError>
-    ensures { IfOk result (λ program. map programs.source_of program.items
-        ≡ serving.program_of (map document_of documents.now) (map source_of files.now)) }
-{
-    let mut program = open_texts(alloc, documents)?;
-    for file in files {
-        if text_of(documents, file.name.as_str()).is_none() {
-            program.push(text_at(file.name.as_str(), file.text.as_str()))?;
-        }
-    }
-    Ok(program)
-}
-
-/// The open documents as texts of a program.
-fn open_texts<'a>(alloc: Global, documents: &'a [Document]) -> Result<Vec<Text<'a>>, AllocError>
-    ensures { IfOk result (λ texts. map programs.source_of texts.items
-        ≡ map serving.source_at (map document_of documents.now)) }
-{
-    let mut texts = Vec::new(alloc);
-    for document in documents {
-        texts.push(text_at(document.uri.as_str(), document.text.as_str()))?;
-    }
-    Ok(texts)
-}
-
-fn text_at<'a>(name: &'a str, text: &'a str) -> Text<'a>
-    ensures { programs.source_of result
-        ≡ serving.source_at (wanted.document name.now text.now) }
-{
-    Text { name, text }
+    let program = program_of(alloc, &server.documents, shown, uri_of(message).is_some())?;
+    let question = Question {
+        request,
+        message,
+        file: shown.file.as_str(),
+        takes_document_changes: server.takes_document_changes,
+    };
+    isle_lsp_features::answer(alloc, &program, question)
 }
 
 /// The text of the document that a message names, if it is open.

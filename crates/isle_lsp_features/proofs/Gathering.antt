@@ -4,12 +4,11 @@ use Rattle.std.specs.List.{flat_map}
 use Rattle.std.proofs.lemmas.Grind.{flat_map-append, take_at_read}
 use Rattle.std.proofs.lemmas.List.{append-nil, length-map, length-take-le, map-append}
 use Rattle.std.proofs.lemmas.List.Sums.{sum_by-append}
-use Rattle.isle_base_source.specs.Source as files
 use Rattle.isle_base_source.specs.declared.error.Error.{Error}
 use Rattle.isle_ast.specs.Grammar.{SpellsDefinition}
 use Rattle.isle_ast.specs.Tree.{Definition}
 use Rattle.isle_ast_names.specs.Words.{SpellsAll}
-use Rattle.isle_lsp_features.specs.Programs.{source_of}
+use Rattle.isle_lsp_features.specs.Programs.{Text as Node, text_of}
 use Rattle.isle_lsp_features.specs.declared.Text.{Text}
 use Rattle.isle_index.specs.Held.{IsIndexOf}
 use Rattle.isle_index.specs.declared.Index.{Index}
@@ -30,13 +29,13 @@ use Rattle.isle_base.specs.declared.fault.Fault.{Fault}
 use Rattle.isle_base.specs.declared.fault.Fault.TheVariants as faults
 use Rattle.isle_parser.specs.Parsed.{Parses, RefusesText, SpellsOnly}
 use Rattle.isle_program.proofs.ReadingLemmas.{read-tree, refused-start, refused-tree}
-use Rattle.isle_lsp_features.specs.Gathered.{AddsDefinitions, AddsText, AreParts, Grows, IsFront, IsGathered, IsPart, Part, all_known, front, is_front, known, refused_count, tree}
+use Rattle.isle_lsp_features.specs.Gathered.{AddsDefinitions, AddsText, AreParts, Grows, IsFront, IsGathered, IsPart, Part, all_known, deep, front, is_refused, known, refused_count, tree}
 
 one-on : (file n : ℕ) → file + suc n ≡ (file + 1) + n
 one-on file n = omega arith
 
 -- what is known of one text more
-parts-push : (file : ℕ) (ss : List files.Source) (ps : List Part) (s : files.Source) (p : Part) →
+parts-push : (file : ℕ) (ss : List Node) (ps : List Part) (s : Node) (p : Part) →
     AreParts file ss ps → IsPart (file + length ss) s.text p → AreParts file (ss ++ s ∷ []) (ps ++ p ∷ [])
 parts-push file [] [] s p each last = let At : ℕ → Type 0 = λ n. IsPart n s.text p in let none : file + 0 ≡ file = omega arith in (subst At none last, tt)
 parts-push file [] (q ∷ ps) s p each last = absurd each
@@ -55,31 +54,34 @@ abbrev pub refused-more : (spells : Bool) → ℕ → ℕ
 refused-more true n = n
 refused-more false n = n + 1
 
-count-more : (ps : List Part) (p : Part) (spells : Bool) → spells ≡ not (is_front p) → refused-more spells (refused_count ps) ≡ refused_count (ps ++ p ∷ [])
+count-more : (ps : List Part) (p : Part) (spells : Bool) → spells ≡ not (is_refused p) → refused-more spells (refused_count ps) ≡ refused_count (ps ++ p ∷ [])
 count-more ps (tree ds) spells is =
-    let more : refused_count (ps ++ tree ds ∷ []) ≡ refused_count ps + 0 = sum_by-append (λ p. cond (is_front p) 1 0) ps (tree ds ∷ []) in
+    let more : refused_count (ps ++ tree ds ∷ []) ≡ refused_count ps + 0 = sum_by-append (λ p. cond (is_refused p) 1 0) ps (tree ds ∷ []) in
     let same : refused_count ps ≡ refused_count (ps ++ tree ds ∷ []) = omega (arith, more) in
     ap (λ b. refused-more b (refused_count ps)) is ∙ same
 count-more ps (front ds e) spells is =
-    let more : refused_count (ps ++ front ds e ∷ []) ≡ refused_count ps + 1 = sum_by-append (λ p. cond (is_front p) 1 0) ps (front ds e ∷ []) in
+    let more : refused_count (ps ++ front ds e ∷ []) ≡ refused_count ps + 1 = sum_by-append (λ p. cond (is_refused p) 1 0) ps (front ds e ∷ []) in
+    ap (λ b. refused-more b (refused_count ps)) is ∙ sym more
+count-more ps (deep offset ds) spells is =
+    let more : refused_count (ps ++ deep offset ds ∷ []) ≡ refused_count ps + 1 = sum_by-append (λ p. cond (is_refused p) 1 0) ps (deep offset ds ∷ []) in
     ap (λ b. refused-more b (refused_count ps)) is ∙ sym more
 
 -- the index of a loop over the texts has one text more
 pub gathered-step : (xs : List Text) (i : ℕ) (d : Text) (old new : Index) (refused : ℕ) (spells : Bool) →
-    i < length xs → IsGathered (map source_of (take i xs)) old refused → AddsText i (source_of (get_or xs i d)).text old new spells →
-    IsGathered (map source_of (take (i + 1) xs)) new (refused-more spells refused)
+    i < length xs → IsGathered (map text_of (take i xs)) old refused → AddsText i (text_of (get_or xs i d)).text old new spells →
+    IsGathered (map text_of (take (i + 1) xs)) new (refused-more spells refused)
 gathered-step xs i d old new refused spells within before adds =
     let x : Text = get_or xs i d in
-    let count : i ≡ length (map source_of (take i xs)) = sym (length-map (take i xs) source_of ∙ length-take-le i xs (omega arith)) in
-    let At : ℕ → Type 0 = λ n. IsPart n (source_of x).text adds.part in
-    let Of : List files.Source → Type 0 = λ ss. AreParts 0 ss (before.parts ++ adds.part ∷ []) in
-    let first : length (map source_of (take i xs)) ≡ 0 + length (map source_of (take i xs)) = omega arith in
-    let grown : map source_of (take i xs) ++ source_of x ∷ [] ≡ map source_of (take (i + 1) xs) =
-    sym (map-append source_of (take i xs) (x ∷ []))
-    ∙ ap (λ ys. map source_of ys) (sym (take_at_read xs i d within).1) in
+    let count : i ≡ length (map text_of (take i xs)) = sym (length-map (take i xs) text_of ∙ length-take-le i xs (omega arith)) in
+    let At : ℕ → Type 0 = λ n. IsPart n (text_of x).text adds.part in
+    let Of : List Node → Type 0 = λ ss. AreParts 0 ss (before.parts ++ adds.part ∷ []) in
+    let first : length (map text_of (take i xs)) ≡ 0 + length (map text_of (take i xs)) = omega arith in
+    let grown : map text_of (take i xs) ++ text_of x ∷ [] ≡ map text_of (take (i + 1) xs) =
+    sym (map-append text_of (take i xs) (x ∷ []))
+    ∙ ap (λ ys. map text_of ys) (sym (take_at_read xs i d within).1) in
     record {
       parts = before.parts ++ adds.part ∷ [];
-      read = subst Of grown (parts-push 0 (map source_of (take i xs)) before.parts (source_of x) adds.part before.read (subst At (count ∙ first) adds.is));
+      read = subst Of grown (parts-push 0 (map text_of (take i xs)) before.parts (text_of x) adds.part before.read (subst At (count ∙ first) adds.is));
       holds = subst (λ ds. IsIndexOf ds new) (known-push before.parts adds.part) (adds.holds (all_known before.parts) before.holds);
       count = ap (refused-more spells) before.count ∙ count-more before.parts adds.part spells adds.spells;
     }

@@ -1,3 +1,4 @@
+pub mod Changing
 pub mod Completing
 pub mod Gathering
 pub mod Letters

@@ -1,8 +1,8 @@
 -- The outcomes of requests about the names of a program.
-use Rattle.std.specs.Prelude.{◌≡◌, ◌<◌, ◌⊎◌, ℕ, List, Option, None, Some, Result, Ok, Err, codes}
+use Rattle.std.specs.Prelude.{◌≡◌, ◌<◌, ◌⊎◌, if◌then◌else◌, ℕ, List, Bool, Option, None, Some, Result, Ok, Err, codes}
 use Rattle.std.specs.Global.{Vec}
 use Rattle.serde_json.specs.Data.{Data, null}
-use Rattle.isle_base_source.specs.Source.{Source}
+use Rattle.isle_lsp_features.specs.Programs.{Question, Text}
 use Rattle.isle_base_source.specs.declared.pos.Pos.{Pos}
 use Rattle.isle_index.specs.Names.{NameNode}
 use Rattle.isle_index.specs.Occurrences.{name_at, occurrence_at}
@@ -47,14 +47,14 @@ abbrev pub Renames : requests.Request → Type 0
 Renames request = (request ≡ Rename) ⊎ (request ≡ PrepareRename)
 
 -- These are all events of the known parts of the program's texts, and if the request renames, each text spells a tree.
-pub record IsIndex (program : List Source) (request : requests.Request) (all : List SeenNode) : Type 0 where
+pub record IsIndex (program : List Text) (request : requests.Request) (all : List SeenNode) : Type 0 where
   pub parts : List Part
   pub read : AreParts 0 program parts
   pub seen : all ≡ seen (events (all_known parts))
   pub whole : Renames request → refused_count parts ≡ 0
 
 -- the result of a request at a place
-abbrev pub FindsAt : requests.Request → List Source → List SeenNode → Place → Data → Data → Type 0
+abbrev pub FindsAt : requests.Request → List Text → List SeenNode → Place → (message : Data) → Data → Type 0
 FindsAt AskDefinition program all p message d = IsDefinition program (name_at p.pos all) all d
 FindsAt References program all p message d = AreReferences program (wants_definitions message) (name_at p.pos all) all d
 FindsAt DocumentHighlight program all p message d = AreHighlights p.pos.file p.text (name_at p.pos all) all d
@@ -63,28 +63,30 @@ FindsAt Hover program all p message d = IsHover program p.text (name_at p.pos al
 FindsAt Completion program all p message d = AreCompletions p.pos p.text all d
 FindsAt _ program all p message d = Unit {0}
 
--- the outcome of renaming, from the index's answer
-abbrev pub IsRenamingBy : List Source → NameNode → List ℕ → Result (Vec Pos) Refusal → Outcome → Type 0
-IsRenamingBy program name new (Ok places) a = a ≡ done (renamed.changes program name new places.items)
-IsRenamingBy program name new (Err why) a = a ≡ refused (renamed.reason_of why)
+-- The outcome of renaming, from the index's answer. A text that other programs share is not edited: they would miss the new name.
+abbrev pub IsRenamingBy : (takes : Bool) → List Text → NameNode → List ℕ → Result (Vec Pos) Refusal → Outcome → Type 0
+IsRenamingBy takes program name new (Ok places) a =
+    a ≡ (if renamed.are_shared program places.items then refused renamed.shared_reason else done (renamed.changes takes program name new places.items))
+IsRenamingBy takes program name new (Err why) a = a ≡ refused (renamed.reason_of why)
 
-abbrev pub IsRenaming : List Source → List SeenNode → NameNode → List ℕ → Outcome → Type 0
-IsRenaming program all name new a = (answer : Result (Vec Pos) Refusal) × renaming.IsAnswer name new all answer × IsRenamingBy program name new answer a
+abbrev pub IsRenaming : (takes : Bool) → List Text → List SeenNode → NameNode → List ℕ → Outcome → Type 0
+IsRenaming takes program all name new a =
+    (answer : Result (Vec Pos) Refusal) × renaming.IsAnswer name new all answer × IsRenamingBy takes program name new answer a
 
-abbrev pub IsRenamingOf : List Source → List SeenNode → (name : Option NameNode) → (new : Option (List ℕ)) → Outcome → Type 0
-IsRenamingOf program all name None a = a ≡ unplaced
-IsRenamingOf program all None (Some new) a = a ≡ refused (codes "there is no name to rename")
-IsRenamingOf program all (Some name) (Some new) a = IsRenaming program all name new a
+abbrev pub IsRenamingOf : (takes : Bool) → List Text → List SeenNode → (name : Option NameNode) → (new : Option (List ℕ)) → Outcome → Type 0
+IsRenamingOf takes program all name None a = a ≡ unplaced
+IsRenamingOf takes program all None (Some new) a = a ≡ refused (codes "there is no name to rename")
+IsRenamingOf takes program all (Some name) (Some new) a = IsRenaming takes program all name new a
 
-abbrev pub IsRenamingAt : List Source → List SeenNode → Option Place → Data → Outcome → Type 0
-IsRenamingAt program all None message a = a ≡ unplaced
-IsRenamingAt program all (Some p) message a = IsRenamingOf program all (name_at p.pos all) (new_name_of message) a
+abbrev pub IsRenamingAt : Question → List Text → List SeenNode → Option Place → Outcome → Type 0
+IsRenamingAt q program all None a = a ≡ unplaced
+IsRenamingAt q program all (Some p) a = IsRenamingOf q.takes_document_changes program all (name_at p.pos all) (new_name_of q.message) a
 
 -- the outcome of a request at a place
-abbrev pub IsAnswerAt : requests.Request → List Source → List SeenNode → Place → Data → Outcome → Type 0
+abbrev pub IsAnswerAt : requests.Request → List Text → List SeenNode → Place → Data → Outcome → Type 0
 IsAnswerAt request program all p message a = (d : Data) × FindsAt request program all p message d × (a ≡ done d)
 
-abbrev pub IsFoundAt : requests.Request → List Source → List SeenNode → Option Place → Data → Outcome → Type 0
+abbrev pub IsFoundAt : requests.Request → List Text → List SeenNode → Option Place → Data → Outcome → Type 0
 IsFoundAt request program all None message a = a ≡ unplaced
 IsFoundAt request program all (Some p) message a = IsAnswerAt request program all p message a
 
@@ -92,26 +94,26 @@ abbrev pub AreSymbols : List SeenNode → Option File → Outcome → Type 0
 AreSymbols all None a = a ≡ unplaced
 AreSymbols all (Some f) a = (d : Data) × AreDocumentSymbols f.text (symbols f.number all) d × (a ≡ done d)
 
-abbrev pub IsResolution : List Source → List SeenNode → (item : Option Data) → Outcome → Type 0
+abbrev pub IsResolution : List Text → List SeenNode → (item : Option Data) → Outcome → Type 0
 IsResolution program all None a = a ≡ unplaced
 IsResolution program all (Some item) a = (d : Data) × IsResolved program all (item_name item) item d × (a ≡ done d)
 
 -- the outcome of a request, from these events
-abbrev pub IsAnswerOf : requests.Request → List Source → List SeenNode → Data → Outcome → Type 0
-IsAnswerOf DocumentSymbol program all message a = AreSymbols all (file_in message program) a
-IsAnswerOf AskDefinition program all message a = IsFoundAt AskDefinition program all (place_in message program) message a
-IsAnswerOf References program all message a = IsFoundAt References program all (place_in message program) message a
-IsAnswerOf DocumentHighlight program all message a = IsFoundAt DocumentHighlight program all (place_in message program) message a
-IsAnswerOf PrepareRename program all message a = IsFoundAt PrepareRename program all (place_in message program) message a
-IsAnswerOf Rename program all message a = IsRenamingAt program all (place_in message program) message a
-IsAnswerOf Hover program all message a = IsFoundAt Hover program all (place_in message program) message a
-IsAnswerOf Completion program all message a = IsFoundAt Completion program all (place_in message program) message a
-IsAnswerOf ResolveCompletion program all message a = IsResolution program all (item_of message) a
-IsAnswerOf WorkspaceSymbol program all message a = a ≡ done (workspace_symbols (letters_of (query_of message)) program all)
-IsAnswerOf _ program all message a = Unit {0}
+abbrev pub IsAnswerOf : requests.Request → Question → List Text → List SeenNode → Outcome → Type 0
+IsAnswerOf DocumentSymbol q program all a = AreSymbols all (file_in q program) a
+IsAnswerOf AskDefinition q program all a = IsFoundAt AskDefinition program all (place_in q program) q.message a
+IsAnswerOf References q program all a = IsFoundAt References program all (place_in q program) q.message a
+IsAnswerOf DocumentHighlight q program all a = IsFoundAt DocumentHighlight program all (place_in q program) q.message a
+IsAnswerOf PrepareRename q program all a = IsFoundAt PrepareRename program all (place_in q program) q.message a
+IsAnswerOf Rename q program all a = IsRenamingAt q program all (place_in q program) a
+IsAnswerOf Hover q program all a = IsFoundAt Hover program all (place_in q program) q.message a
+IsAnswerOf Completion q program all a = IsFoundAt Completion program all (place_in q program) q.message a
+IsAnswerOf ResolveCompletion q program all a = IsResolution program all (item_of q.message) a
+IsAnswerOf WorkspaceSymbol q program all a = a ≡ done (workspace_symbols (letters_of (query_of q.message)) program all)
+IsAnswerOf _ q program all a = Unit {0}
 
 -- nothing is renamed while a text of the program spells no tree
-pub record IsHeld (program : List Source) (request : requests.Request) (a : Outcome) : Type 0 where
+pub record IsHeld (program : List Text) (request : requests.Request) (a : Outcome) : Type 0 where
   pub parts : List Part
   pub read : AreParts 0 program parts
   pub some : 0 < refused_count parts
@@ -119,5 +121,6 @@ pub record IsHeld (program : List Source) (request : requests.Request) (a : Outc
   pub is : a ≡ refused (codes "cannot rename: a file of the workspace has a syntax error")
 
 -- the outcome of a request about the names of a program
-abbrev pub IsAnswer : requests.Request → List Source → Data → Outcome → Type 0
-IsAnswer request program message a = IsHeld program request a ⊎ ((all : List SeenNode) × IsIndex program request all × IsAnswerOf request program all message a)
+abbrev pub IsAnswer : Question → List Text → Outcome → Type 0
+IsAnswer q program a =
+    IsHeld program q.request a ⊎ ((all : List SeenNode) × IsIndex program q.request all × IsAnswerOf q.request q program all a)

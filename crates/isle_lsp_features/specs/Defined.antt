@@ -4,7 +4,7 @@ use Rattle.std.specs.Char.{eq_ignore_ascii_case}
 use Rattle.std.specs.List.{flat_map}
 use Rattle.serde_json.specs.Data.{Data, array}
 use Rattle.serde_json.specs.View.{items_of}
-use Rattle.isle_base_source.specs.Source.{Source}
+use Rattle.isle_lsp_features.specs.Programs.{Text}
 use Rattle.isle_index.specs.Scopes.{SeenNode}
 use Rattle.isle_index.specs.Symbols.{SymbolNode, symbols}
 use Rattle.isle_index.specs.declared.symbols.SymbolKind.{SymbolKind}
@@ -57,17 +57,17 @@ letters_left [] b = []
 letters_left (l ∷ ls) b = if eq_ignore_ascii_case l b then ls else l ∷ ls
 
 -- a definition of a file, if its name matches the query
-unfoldable pub symbol_in : List ℕ → Source → SymbolNode → List Data
+unfoldable pub symbol_in : List ℕ → Text → SymbolNode → List Data
 symbol_in letters s x =
-    if has_letters letters x.text then results.workspace_symbol x.text (number_of x.kind) s.name (range_at s.text x.pos.offset x.len) ∷ [] else []
+    if has_letters letters x.text then results.workspace_symbol x.text (number_of x.kind) s.uri (range_at s.text x.pos.offset x.len) ∷ [] else []
 
 -- the definitions of files that are numbered from this number on
-abbrev pub symbols_from : ℕ → List ℕ → List Source → List SeenNode → List Data
+abbrev pub symbols_from : ℕ → List ℕ → List Text → List SeenNode → List Data
 symbols_from file letters [] all = []
 symbols_from file letters (s ∷ ss) all = flat_map (symbol_in letters s) (symbols file all) ++ symbols_from (file + 1) letters ss all
 
 -- the definitions of a program whose names match the query, file by file
-abbrev pub workspace_symbols : List ℕ → List Source → List SeenNode → Data
+abbrev pub workspace_symbols : List ℕ → List Text → List SeenNode → Data
 workspace_symbols letters program all = array (items_of (symbols_from 0 letters program all))
 
 abbrev pub letters_of : Option (List ℕ) → List ℕ

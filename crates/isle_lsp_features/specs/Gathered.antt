@@ -1,6 +1,7 @@
 -- The index of a program.
-use Rattle.std.specs.Prelude.{◌≡◌, ℕ, ◌+◌, List, [], ◌∷◌, ◌++◌, Bool, true, false, not, Result, Ok, Err, count_by}
+use Rattle.std.specs.Prelude.{◌≡◌, ℕ, ◌+◌, List, [], ◌∷◌, ◌++◌, ◌⊎◌, Bool, true, false, not, None, Some, Result, Ok, Err, count_by, take}
 use Rattle.std.specs.List.{flat_map}
+use Rattle.std.specs.Str.{IsCharBoundary}
 use Rattle.isle_ast.specs.Grammar.{SpellsDefinition}
 use Rattle.isle_ast.specs.Tree.{Definition}
 use Rattle.isle_ast_names.specs.Words.{SpellsAll}
@@ -9,11 +10,12 @@ use Rattle.isle_base.specs.Place.{Placed, in_file, placed}
 use Rattle.isle_base.specs.Token.{Ending, Lexeme}
 use Rattle.isle_base.specs.declared.fault.Fault.{Fault}
 use Rattle.isle_base.specs.declared.fault.Fault.TheVariants as faults
-use Rattle.isle_base_source.specs.Source.{Source}
+use Rattle.isle_lsp_features.specs.Programs.{Text}
 use Rattle.isle_base_source.specs.declared.error.Error.{Error}
 use Rattle.isle_index.specs.Held.{IsIndexOf}
 use Rattle.isle_index.specs.declared.Index.{Index}
 use Rattle.isle_parser.specs.NextDefinition.{LeavesNone}
+use Rattle.isle_program.specs.Nesting.{FirstDeep}
 use Rattle.isle_program.specs.Reading.{IsRefusedWith, IsTreeOf}
 
 -- The definitions that a text begins with, one after another. After them none is spelt, or only one that takes all tokens before a
@@ -26,17 +28,24 @@ pub record IsFront (file : ℕ) (text : List ℕ) (ds : List Definition) : Type 
   pub spelt : SpellsAll SpellsDefinition ds (placed (in_file file) tokens) rest
   pub no_more : LeavesNone rest
 
--- the known part of a text: the tree that it spells, or, if it spells none, the definitions that it begins with, and the error after them
+-- a text spells this tree, or it spells none and begins with these definitions
+abbrev pub IsFrontOrTree : ℕ → List ℕ → List Definition → Type 0
+IsFrontOrTree file text ds = IsTreeOf file text ds ⊎ ((e : Error) × IsRefusedWith file text e × IsFront file text ds)
+
+-- the known part of a text: the tree that it spells, or, if it spells none, the definitions that it begins with, and the error after them; of a text
+-- that nests too deeply, what is known of the bytes before the first token that does
 pub data Part : Type 0 where
   tree : List Definition → Part
   front : List Definition → Error → Part
+  deep : ℕ → List Definition → Part
 
 abbrev pub IsPart : ℕ → List ℕ → Part → Type 0
-IsPart file text (tree ds) = IsTreeOf file text ds
-IsPart file text (front ds e) = IsRefusedWith file text e × IsFront file text ds
+IsPart file text (tree ds) = FirstDeep text None × IsTreeOf file text ds
+IsPart file text (front ds e) = FirstDeep text None × IsRefusedWith file text e × IsFront file text ds
+IsPart file text (deep offset ds) = FirstDeep text (Some offset) × (IsCharBoundary text offset → IsFrontOrTree file (take offset text) ds)
 
 -- the known parts of texts that are numbered from this number on
-abbrev pub AreParts : ℕ → List Source → List Part → Type 0
+abbrev pub AreParts : ℕ → List Text → List Part → Type 0
 AreParts file [] [] = Unit {0}
 AreParts file [] (p ∷ ps) = ⊥
 AreParts file (s ∷ ss) [] = ⊥
@@ -45,21 +54,23 @@ AreParts file (s ∷ ss) (p ∷ ps) = IsPart file s.text p × AreParts (file + 1
 abbrev pub known : Part → List Definition
 known (tree ds) = ds
 known (front ds e) = ds
+known (deep offset ds) = ds
 
-abbrev pub is_front : Part → Bool
-is_front (tree ds) = false
-is_front (front ds e) = true
+abbrev pub is_refused : Part → Bool
+is_refused (tree ds) = false
+is_refused (front ds e) = true
+is_refused (deep offset ds) = true
 
 -- the known definitions of texts
 abbrev pub all_known : List Part → List Definition
 all_known ps = flat_map known ps
 
--- the number of texts that spell no tree
+-- the number of texts that spell no tree, or nest too deeply
 abbrev pub refused_count : List Part → ℕ
-refused_count ps = count_by is_front ps
+refused_count ps = count_by is_refused ps
 
--- the index holds the known parts of the texts, and this many of them spell no tree
-pub record IsGathered (program : List Source) (index : Index) (refused : ℕ) : Type 0 where
+-- the index holds the known parts of the texts, and this many of them spell no tree, or nest too deeply
+pub record IsGathered (program : List Text) (index : Index) (refused : ℕ) : Type 0 where
   pub parts : List Part
   pub read : AreParts 0 program parts
   pub holds : IsIndexOf (all_known parts) index
@@ -69,16 +80,16 @@ pub record IsGathered (program : List Source) (index : Index) (refused : ℕ) : 
 abbrev pub Grows : List Definition → Index → Index → Type 0
 Grows es old new = (ds : List Definition) → IsIndexOf ds old → IsIndexOf (ds ++ es) new
 
--- the known part of a text is added to an index, and whether it spells a tree
+-- the known part of a text is added to an index, and whether that is a tree
 pub record AddsText (file : ℕ) (text : List ℕ) (old new : Index) (is_tree : Bool) : Type 0 where
   pub part : Part
   pub is : IsPart file text part
-  pub spells : is_tree ≡ not (is_front part)
+  pub spells : is_tree ≡ not (is_refused part)
   pub holds : Grows (known part) old new
 
--- the known part of a text is added
+-- what a text spells, however deeply it nests, is added
 abbrev pub AddsDefinitions : ℕ → List ℕ → Index → Index → Result (Unit {0}) Fault → Type 0
-AddsDefinitions file text old new (Ok done) = (ds : List Definition) × IsPart file text (tree ds) × Grows ds old new
-AddsDefinitions file text old new (Err (faults.Error e)) = (ds : List Definition) × IsPart file text (front ds e) × Grows ds old new
+AddsDefinitions file text old new (Ok done) = (ds : List Definition) × IsTreeOf file text ds × Grows ds old new
+AddsDefinitions file text old new (Err (faults.Error e)) = (ds : List Definition) × (IsRefusedWith file text e × IsFront file text ds) × Grows ds old new
 AddsDefinitions file text old new (Err faults.Failed) = Unit {0}
 AddsDefinitions file text old new (Err faults.Memory) = Unit {0}

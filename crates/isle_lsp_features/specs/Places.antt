@@ -1,9 +1,8 @@
 -- Places in the texts of a program.
-use Rattle.std.specs.Prelude.{ℕ, ◌+◌, ◌-◌, List, [], ◌∷◌, Option, None, Some, length, min, bytes_eq, option_and_then, if◌then◌else◌}
-use Rattle.serde_json.specs.Data.{Data}
-use Rattle.isle_base_source.specs.Source.{Source}
+use Rattle.std.specs.Prelude.{ℕ, ◌+◌, ◌-◌, List, [], ◌∷◌, Option, None, Some, length, min, bytes_eq, if◌then◌else◌}
+use Rattle.isle_lsp_features.specs.Programs.{Question, Text}
 use Rattle.isle_base_source.specs.declared.pos.Pos.{Pos}
-use Rattle.isle_lsp_protocol.specs.Parameters.{position_of, uri_of}
+use Rattle.isle_lsp_protocol.specs.Parameters.{position_of}
 use Rattle.isle_lsp_features.specs.declared.places.File.{File as CodeFile}
 use Rattle.isle_lsp_features.specs.declared.places.Place.{Place as CodePlace}
 use Rattle.isle_lsp_text.specs.Positions.{offset_at, position_at}
@@ -29,23 +28,23 @@ pub record Place : Type 0 where
 abbrev pub place_of : CodePlace → Place
 place_of p = record { pos = p.pos; text = p.text.now }
 
--- the first text with this name, if the texts are numbered from this number on
-abbrev pub file_from : ℕ → List ℕ → List Source → Option File
-file_from number uri [] = None
-file_from number uri (s ∷ ss) = if bytes_eq s.name uri then Some (file number s.text) else file_from (number + 1) uri ss
+-- the first text of this file, if the texts are numbered from this number on
+abbrev pub file_from : ℕ → List ℕ → List Text → Option File
+file_from number name [] = None
+file_from number name (s ∷ ss) = if bytes_eq s.file name then Some (file number s.text) else file_from (number + 1) name ss
 
--- the text that a message names
-abbrev pub file_in : Data → List Source → Option File
-file_in d program = option_and_then (λ uri. file_from 0 uri program) (uri_of d)
+-- the text that a request is about
+abbrev pub file_in : Question → List Text → Option File
+file_in q program = file_from 0 q.file program
 
 abbrev pub position_in : Option File → Option Position → Option Place
 position_in None position = None
 position_in (Some f) None = None
 position_in (Some f) (Some p) = Some record { pos = record { file = f.number; offset = offset_at p f.text }; text = f.text }
 
--- the place that a message names
-abbrev pub place_in : Data → List Source → Option Place
-place_in d program = position_in (file_in d program) (position_of d)
+-- the place that a request is about
+abbrev pub place_in : Question → List Text → Option Place
+place_in q program = position_in (file_in q program) (position_of q.message)
 
 -- the range of `len` bytes from an offset on, cut at the end of the text
 abbrev pub range_at : List ℕ → (offset len : ℕ) → Range

@@ -1,9 +1,9 @@
 -- The edits that rename a name, as JSON.
-use Rattle.std.specs.Prelude.{ℕ, ◌+◌, ◌-◌, List, [], ◌∷◌, ◌++◌, ◌==◌, Option, None, Some, codes, length, min, if◌then◌else◌}
+use Rattle.std.specs.Prelude.{ℕ, ◌+◌, ◌-◌, List, [], ◌∷◌, ◌++◌, ◌==◌, ◌||◌, Bool, true, false, Option, None, Some, codes, length, min, slice_get, if◌then◌else◌}
 use Rattle.std.specs.List.{flat_map}
-use Rattle.serde_json.specs.Data.{Data, null, array}
+use Rattle.serde_json.specs.Data.{Data, Members, null, array, no_members, put}
 use Rattle.serde_json.specs.View.{items_of}
-use Rattle.isle_base_source.specs.Source.{Source}
+use Rattle.isle_lsp_features.specs.Programs.{Text}
 use Rattle.isle_base_source.specs.declared.pos.Pos.{Pos}
 use Rattle.isle_index.specs.Names.{NameNode, global, variable, name_text}
 use Rattle.isle_index.specs.declared.occurrences.Occurrence.{Occurrence}
@@ -11,7 +11,7 @@ use Rattle.isle_index.specs.declared.rename.Refusal.{Refusal}
 use Rattle.isle_index.specs.declared.rename.Refusal.TheVariants.{NotAName, Undefined, Variant, Taken, Captured}
 use Rattle.isle_resolve.specs.declared.event.Kind.TheVariants as kinds
 use Rattle.isle_lsp_protocol.specs.Items.{edits_data}
-use Rattle.isle_lsp_protocol.specs.Results.{document_edits, range_data, workspace_edit}
+use Rattle.isle_lsp_protocol.specs.Results.{document_edits, plain_edit, range_data, workspace_edit}
 use Rattle.isle_lsp_features.specs.Places.{range_at}
 use Rattle.isle_lsp_text.specs.declared.positions.Range.{Range}
 
@@ -20,6 +20,22 @@ abbrev pub prefix_len : NameNode → ℕ
 prefix_len (global kinds.Constant text) = 1
 prefix_len (global _ text) = 0
 prefix_len (variable binder text) = 0
+
+abbrev pub is_shared_text : Option Text → Bool
+is_shared_text None = false
+is_shared_text (Some s) = s.is_shared
+
+-- whether a position is in a text that other programs share
+abbrev pub is_shared_at : List Text → Pos → Bool
+is_shared_at program p = is_shared_text (slice_get program p.file)
+
+-- whether one of these positions is
+abbrev pub are_shared : List Text → List Pos → Bool
+are_shared program [] = false
+are_shared program (p ∷ ps) = is_shared_at program p || are_shared program ps
+
+abbrev pub shared_reason : List ℕ
+shared_reason = codes "the name is used in a file that other programs share: rename it there"
 
 -- the message of a refusal
 abbrev pub reason_of : Refusal → List ℕ
@@ -34,21 +50,40 @@ abbrev pub range_in : ℕ → List ℕ → NameNode → Pos → List Range
 range_in file text name pos =
     if pos.file == file then range_at text (min pos.offset (length text) + prefix_len name) (length (name_text name)) ∷ [] else []
 
-abbrev pub document_change : (uri new : List ℕ) → List Range → List Data
-document_change uri new [] = []
-document_change uri new (r ∷ rs) = document_edits uri (edits_data new (r ∷ rs)) ∷ []
+abbrev pub document_change : Text → (new : List ℕ) → List Range → List Data
+document_change s new [] = []
+document_change s new (r ∷ rs) = document_edits s.uri s.version (edits_data new (r ∷ rs)) ∷ []
 
 -- the edits in a text, if there are any
-abbrev pub change_in : ℕ → Source → NameNode → List ℕ → List Pos → List Data
-change_in file s name new places = document_change s.name new (flat_map (range_in file s.text name) places)
+abbrev pub change_in : ℕ → Text → NameNode → List ℕ → List Pos → List Data
+change_in file s name new places = document_change s new (flat_map (range_in file s.text name) places)
 
 -- the edits in texts that are numbered from this number on
-abbrev pub changes_from : ℕ → List Source → NameNode → List ℕ → List Pos → List Data
+abbrev pub changes_from : ℕ → List Text → NameNode → List ℕ → List Pos → List Data
 changes_from file [] name new places = []
 changes_from file (s ∷ ss) name new places = change_in file s name new places ++ changes_from (file + 1) ss name new places
 
-abbrev pub changes : List Source → NameNode → List ℕ → List Pos → Data
-changes program name new places = workspace_edit (array (items_of (changes_from 0 program name new places)))
+abbrev pub document_changes : List Text → NameNode → List ℕ → List Pos → Data
+document_changes program name new places = workspace_edit (array (items_of (changes_from 0 program name new places)))
+
+-- with the edits in a text, if there are any, in place of earlier ones at its URI
+abbrev pub with_change : Text → (new : List ℕ) → List Range → Members → Members
+with_change s new [] changes = changes
+with_change s new (r ∷ rs) changes = put s.uri (edits_data new (r ∷ rs)) changes
+
+-- with the edits in texts that are numbered from this number on
+abbrev pub with_changes : ℕ → List Text → NameNode → List ℕ → List Pos → Members → Members
+with_changes file [] name new places changes = changes
+with_changes file (s ∷ ss) name new places changes =
+    with_changes (file + 1) ss name new places (with_change s new (flat_map (range_in file s.text name) places) changes)
+
+abbrev pub plain_changes : List Text → NameNode → List ℕ → List Pos → Data
+plain_changes program name new places = plain_edit (with_changes 0 program name new places no_members)
+
+-- the edits in a program: of documents with their versions, if the client takes these
+abbrev pub changes : (takes_document_changes : Bool) → List Text → NameNode → List ℕ → List Pos → Data
+changes true program name new places = document_changes program name new places
+changes false program name new places = plain_changes program name new places
 
 -- the range of the name at a place; null if there is none
 abbrev pub prepared : List ℕ → Option NameNode → Option Occurrence → Data

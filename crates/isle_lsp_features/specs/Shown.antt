@@ -1,7 +1,7 @@
 -- The documentation of a name, as JSON.
 use Rattle.std.specs.Prelude.{◌≡◌, ℕ, ◌≤◌, List, ◌++◌, Option, None, Some, codes, length, nat_lt, slice_get, slice_range, IsCharBoundary}
 use Rattle.serde_json.specs.Data.{Data, null}
-use Rattle.isle_base_source.specs.Source.{Source}
+use Rattle.isle_lsp_features.specs.Programs.{Text}
 use Rattle.isle_index.specs.Names.{NameNode, name_text}
 use Rattle.isle_index.specs.Occurrences.{definitions}
 use Rattle.isle_index.specs.Scopes.{SeenNode}
@@ -32,16 +32,16 @@ IsShown text name o shown =
     × (shown ≡ codes "```isle\n" ++ part ++ codes "\n```")
 
 -- the documentation of a definition, if its text is in the program
-abbrev pub IsShownIn : Option Source → NameNode → Occurrence → Option (List ℕ) → Type 0
+abbrev pub IsShownIn : Option Text → NameNode → Occurrence → Option (List ℕ) → Type 0
 IsShownIn None name o shown = shown ≡ None
 IsShownIn (Some s) name o shown = (block : List ℕ) × IsShown s.text name o block × (shown ≡ Some block)
 
-abbrev pub IsFirstShown : List Source → NameNode → Option Occurrence → Option (List ℕ) → Type 0
+abbrev pub IsFirstShown : List Text → NameNode → Option Occurrence → Option (List ℕ) → Type 0
 IsFirstShown program name None shown = shown ≡ None
 IsFirstShown program name (Some o) shown = IsShownIn (slice_get program o.pos.file) name o shown
 
 -- the documentation of a name: its first definition, if it has one
-abbrev pub IsShownOf : List Source → NameNode → List SeenNode → Option (List ℕ) → Type 0
+abbrev pub IsShownOf : List Text → NameNode → List SeenNode → Option (List ℕ) → Type 0
 IsShownOf program name all shown =
     (found : List Occurrence) × InOrder (definitions name all) found × IsFirstShown program name (slice_get found 0) shown
 
@@ -52,7 +52,7 @@ hover_data text None at = null
 hover_data text (Some shown) at = results.hover shown (range_at text at.pos.offset at.len)
 
 -- the hover of an occurrence; null if there is no name
-abbrev pub IsHover : List Source → List ℕ → Option NameNode → Option Occurrence → List SeenNode → Data → Type 0
+abbrev pub IsHover : List Text → List ℕ → Option NameNode → Option Occurrence → List SeenNode → Data → Type 0
 IsHover program text None at all d = d ≡ null
 IsHover program text (Some name) None all d = d ≡ null
 IsHover program text (Some name) (Some at) all d =
@@ -65,6 +65,6 @@ resolved_data item None = item
 resolved_data item (Some shown) = results.with_documentation item shown
 
 -- an item with the documentation of its name; unchanged if there is none
-abbrev pub IsResolved : List Source → List SeenNode → Option NameNode → Data → Data → Type 0
+abbrev pub IsResolved : List Text → List SeenNode → Option NameNode → Data → Data → Type 0
 IsResolved program all None item d = d ≡ item
 IsResolved program all (Some name) item d = (shown : Option (List ℕ)) × IsShownOf program name all shown × (d ≡ resolved_data item shown)

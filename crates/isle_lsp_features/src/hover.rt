@@ -2,7 +2,7 @@
 
 ghost use Rattle.std.specs.Prelude.{◌≡◌, IfOk, Some, map, option_map, slice_get, string_bytes};
 ghost use Rattle.serde_json.specs.View.{view};
-ghost use Rattle.isle_lsp_features.specs.Programs.{source_of};
+ghost use Rattle.isle_lsp_features.specs.Programs.{text_of};
 ghost use Rattle.isle_index.specs.Names.{named_of};
 ghost use Rattle.isle_index.specs.Occurrences.{name_at, occurrence_at};
 ghost use Rattle.isle_index.specs.Held.{all_in};
@@ -31,7 +31,7 @@ pub fn hover(
     place: Place,
 ) -> Result<Value, AllocError>
     ensures { let all = all_in index.now in IfOk result (λ value.
-        IsHover (map source_of program.now) place.entry.text.now (name_at place.entry.pos all)
+        IsHover (map text_of program.now) place.entry.text.now (name_at place.entry.pos all)
         (occurrence_at place.entry.pos all) all (view value)) }
 {
     match (
@@ -72,7 +72,7 @@ pub fn resolve(
     index: &Index,
     item: &Value,
 ) -> Result<Value, AllocError>
-    ensures { IfOk result (λ value. IsResolved (map source_of program.now) (all_in index.now)
+    ensures { IfOk result (λ value. IsResolved (map text_of program.now) (all_in index.now)
         (item_name (view item.now)) (view item.now) (view value)) }
 {
     match item_name(alloc, item)? {
@@ -102,7 +102,7 @@ fn documentation(
     index: &Index,
     name: &Name,
 ) -> Result<Option<String>, AllocError>
-    ensures { IfOk result (λ shown. IsShownOf (map source_of program.now)
+    ensures { IfOk result (λ shown. IsShownOf (map text_of program.now)
         (named_of name.now) (all_in index.now) (option_map string_bytes shown)) }
 {
     let found = index.definitions(alloc, name)?;
@@ -119,7 +119,7 @@ fn documentation_at(
     name: &Name,
     definition: Occurrence,
 ) -> Result<Option<String>, AllocError>
-    ensures { IfOk result (λ shown. IsFirstShown (map source_of program.now)
+    ensures { IfOk result (λ shown. IsFirstShown (map text_of program.now)
         (named_of name.now) (Some definition) (option_map string_bytes shown)) }
 {
     match source_at(program, definition.pos.file) {
@@ -133,8 +133,8 @@ fn documentation_at(
 
 /// The text with this number.
 fn source_at<'a>(program: &'a [Text<'a>], file: usize) -> Option<&'a Text<'a>>
-    ensures { option_map (λ s. source_of s.now) result
-        ≡ slice_get (map source_of program.now) file }
+    ensures { option_map (λ s. text_of s.now) result
+        ≡ slice_get (map text_of program.now) file }
 {
     program.get(file)
 }

@@ -6,7 +6,7 @@
 
 ghost use Rattle.std.specs.Prelude.{◌≡◌, IfErr, IfOk, map};
 ghost use Rattle.serde_json.specs.View.{view};
-ghost use Rattle.isle_lsp_features.specs.Programs.{source_of};
+ghost use Rattle.isle_lsp_features.specs.Programs.{question_of, text_of};
 ghost use Rattle.isle_cli.specs.declared.failure.Failure.TheVariants.{Memory};
 ghost use Rattle.isle_index.specs.Held.{all_in};
 ghost use Rattle.isle_lsp_features.specs.Answers.{IsAnswer, IsAnswerAt, IsAnswerOf, list_outcome};
@@ -36,10 +36,29 @@ use std::alloc::{AllocError, Global};
 /// A text of a program.
 #[derive(Clone, Copy, Debug)]
 pub struct Text<'a> {
-    /// Its URI in the editor.
-    pub name: &'a str,
+    /// Its URI, as the client spells it.
+    pub uri: &'a str,
+    /// The file that it is, which has one name however its URI is spelt.
+    pub file: &'a str,
+    /// Whether a program has that file that is not part of this one.
+    pub is_shared: bool,
+    /// Its version, if the client has it open.
+    pub version: Option<i64>,
     /// The text.
     pub text: &'a str,
+}
+
+/// A request about the names of a program.
+#[derive(Clone, Copy, Debug)]
+pub struct Question<'a> {
+    /// The request.
+    pub request: Request,
+    /// The whole message.
+    pub message: &'a Value,
+    /// The file of the document that the message names.
+    pub file: &'a str,
+    /// Whether the client takes edits with versions.
+    pub takes_document_changes: bool,
 }
 
 /// Answers a request about the names of a program.
@@ -50,21 +69,20 @@ pub struct Text<'a> {
 pub fn answer<'a>(
     alloc: Global,
     program: &[Text<'a>],
-    request: Request,
-    message: &Value,
+    question: Question,
 ) -> Result<Outcome<'a>, Failure>
-    ensures ok { IfOk result (λ outcome. IsAnswer request (map source_of program.now)
-        (view message.now) (outcome_of outcome)) }
+    ensures ok { IfOk result (λ outcome. IsAnswer (question_of question.entry)
+        (map text_of program.now) (outcome_of outcome)) }
     ensures err { IfErr result (λ failure. failure ≡ Memory) }
 {
     let Gathered { index, refused } = gather(alloc, program)?;
-    if refused > 0 && matches!(request, Request::Rename | Request::PrepareRename) {
+    if refused > 0 && matches!(question.request, Request::Rename | Request::PrepareRename) {
         return Ok(Outcome::Failed(
             ErrorCode::RequestFailed,
             "cannot rename: a file of the workspace has a syntax error",
         ));
     }
-    Ok(answer_in(alloc, program, &index, request, message)?)
+    Ok(answer_in(alloc, program, &index, question)?)
 }
 
 /// Answers a request about the names in an index.
@@ -72,19 +90,20 @@ fn answer_in<'a>(
     alloc: Global,
     program: &[Text<'a>],
     index: &Index,
-    request: Request,
-    message: &Value,
+    question: Question,
 ) -> Result<Outcome<'a>, AllocError>
-    ensures { IfOk result (λ outcome. IsAnswerOf request (map source_of program.now)
-        (all_in index.now) (view message.now) (outcome_of outcome)) }
+    ensures { IfOk result (λ outcome. IsAnswerOf question.entry.request
+        (question_of question.entry) (map text_of program.now) (all_in index.now)
+        (outcome_of outcome)) }
 {
-    match request {
+    let message = question.message;
+    match question.request {
         Request::WorkspaceSymbol => {
             let query = query_of(message).unwrap_or("");
             let found = symbols::workspace_symbols(alloc, program, index, query)?;
             Ok(list_outcome(Some(found)))
         }
-        Request::DocumentSymbol => match file_of(program, message) {
+        Request::DocumentSymbol => match file_of(program, question.file) {
             Some(file) => {
                 let found = symbols::document_symbols(alloc, index, file)?;
                 Ok(list_outcome(Some(found)))
@@ -95,11 +114,11 @@ fn answer_in<'a>(
             Some(item) => Ok(Outcome::Done(hover::resolve(alloc, program, index, item)?)),
             None => Ok(error_outcome(ErrorCode::InvalidParams)),
         },
-        Request::Rename => match place_of(program, message) {
-            Some(place) => renaming::rename(alloc, program, index, place, message),
+        Request::Rename => match place_of(program, question) {
+            Some(place) => renaming::rename(alloc, program, index, place, question),
             None => Ok(error_outcome(ErrorCode::InvalidParams)),
         },
-        _ => match place_of(program, message) {
+        request => match place_of(program, question) {
             Some(place) => answer_at(alloc, program, index, request, place, message),
             None => Ok(error_outcome(ErrorCode::InvalidParams)),
         },
@@ -115,7 +134,7 @@ fn answer_at<'a>(
     place: Place,
     message: &Value,
 ) -> Result<Outcome<'a>, AllocError>
-    ensures { IfOk result (λ outcome. IsAnswerAt request (map source_of program.now)
+    ensures { IfOk result (λ outcome. IsAnswerAt request (map text_of program.now)
         (all_in index.now) (wanted.place_of place.entry) (view message.now)
         (outcome_of outcome)) }
 {

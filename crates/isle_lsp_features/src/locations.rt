@@ -1,8 +1,8 @@
 //! The locations of names.
 
-ghost use Rattle.std.specs.Prelude.{◌≡◌, ◌∷◌, [], IfOk, Some, map, option_map};
-ghost use Rattle.std.specs.Prelude.{option_to_list};
-ghost use Rattle.isle_lsp_features.specs.Programs.{source_of};
+ghost use Rattle.std.specs.Prelude.{◌≡◌, ◌++◌, IfOk, OnOk, map, option_map, option_to_list};
+ghost use Rattle.std.specs.List.{flat_map};
+ghost use Rattle.isle_lsp_features.specs.Programs.{text_of};
 ghost use Rattle.isle_index.specs.Occurrences.{name_at};
 ghost use Rattle.isle_index.specs.Held.{all_in};
 ghost use Rattle.isle_lsp_protocol.specs.Items.{item_data, items_data};
@@ -12,7 +12,7 @@ ghost use Rattle.isle_lsp_text.specs.Positions.{IsPlace};
 ghost use Rattle.isle_lsp_features.specs.Located.{AreHighlights, AreReferences, IsDefinition};
 
 use crate::Text;
-use crate::places::{Place, range_at, range_near};
+use crate::places::{Place, range_near};
 use isle_index::{Index, Occurrence};
 use isle_lsp_protocol::items::Item;
 use isle_lsp_text::positions::{Place as TextPlace, START};
@@ -26,7 +26,7 @@ pub fn definition<'a>(
     place: Place,
 ) -> Result<Option<Vec<Item<'a>>>, AllocError>
     ensures { let all = all_in index.now in IfOk result (λ items. IsDefinition
-        (map source_of program.now) (name_at place.entry.pos all) all (list_data items)) }
+        (map text_of program.now) (name_at place.entry.pos all) all (list_data items)) }
 {
     match index.name_at(alloc, place.pos)? {
         Some(name) => {
@@ -47,7 +47,7 @@ pub fn references<'a>(
     with_definitions: bool,
 ) -> Result<Option<Vec<Item<'a>>>, AllocError>
     ensures { let all = all_in index.now in IfOk result (λ items.
-        AreReferences (map source_of program.now) with_definitions (name_at place.entry.pos all) all
+        AreReferences (map text_of program.now) with_definitions (name_at place.entry.pos all) all
         (list_data items)) }
 {
     match index.name_at(alloc, place.pos)? {
@@ -78,7 +78,7 @@ pub fn highlights<'a>(
     }
 }
 
-/// The locations of occurrences, without definitions if they are not asked for.
+/// The locations of occurrences, text by text, without definitions if they are not asked for.
 fn locations<'a>(
     alloc: Global,
     program: &[Text<'a>],
@@ -86,43 +86,58 @@ fn locations<'a>(
     found: &[Occurrence],
 ) -> Result<Vec<Item<'a>>, AllocError>
     ensures { IfOk result (λ items. items_data items.items
-        ≡ wanted.locations (map source_of program.now) with_definitions found.now) }
+        ≡ wanted.locations (map text_of program.now) with_definitions found.now) }
 {
     let mut items = Vec::new(alloc);
-    for occurrence in found {
-        if let Some(item) = location_of(program, with_definitions, *occurrence) {
-            items.push(item)?;
-        }
+    for (number, source) in program.iter().enumerate() {
+        add_locations(number, *source, with_definitions, found, &mut items)?;
     }
     Ok(items)
 }
 
-/// The location of an occurrence, if it is asked for and its text is in the program.
-fn location_of<'a>(
-    program: &[Text<'a>],
+/// Adds the locations of the occurrences in the text with this number.
+fn add_locations<'a>(
+    number: usize,
+    source: Text<'a>,
     with_definitions: bool,
+    found: &[Occurrence],
+    items: &mut Vec<Item<'a>>,
+) -> Result<(), AllocError>
+    ensures { OnOk result (map item_data items.new.items ≡ map item_data items.old.items
+        ++ flat_map (wanted.location_in number (text_of source.entry) with_definitions)
+        found.now) }
+{
+    let mut near = START;
+    for occurrence in found {
+        if let Some(item) = location_in(number, source, with_definitions, &mut near, *occurrence) {
+            items.push(item)?;
+        }
+    }
+    Ok(())
+}
+
+/// The location of an occurrence, if it is in the text with this number and is asked for.
+fn location_in<'a>(
+    number: usize,
+    source: Text<'a>,
+    with_definitions: bool,
+    near: &mut TextPlace,
     occurrence: Occurrence,
 ) -> Option<Item<'a>>
-    ensures { option_to_list (option_map item_data result)
-        ≡ wanted.location_of (map source_of program.now) with_definitions occurrence }
+    requires { IsPlace source.text.now near.old }
+    ensures item { option_to_list (option_map item_data result)
+        ≡ wanted.location_in number (text_of source.entry) with_definitions occurrence }
+    ensures near { IsPlace source.entry.text.now near.new }
 {
+    if occurrence.pos.file != number {
+        return None;
+    }
     if !with_definitions && occurrence.is_definition {
         return None;
     }
-    match program.get(occurrence.pos.file) {
-        Some(source) => Some(location_in(*source, occurrence)),
-        None => None,
-    }
-}
-
-fn location_in<'a>(source: Text<'a>, occurrence: Occurrence) -> Item<'a>
-    ensures { item_data result ∷ []
-        ≡ wanted.location_in (Some (source_of source.entry)) occurrence }
-{
-    Item::Location {
-        uri: source.name,
-        range: range_at(source.text, occurrence.pos.offset, occurrence.len),
-    }
+    let uri = source.uri;
+    let range = range_near(source.text, near, occurrence.pos.offset, occurrence.len);
+    Some(Item::Location { uri, range })
 }
 
 /// The highlights of the occurrences in the text with this number.

@@ -1,16 +1,14 @@
 //! Places in the texts of a program.
 
 ghost use Rattle.std.specs.Prelude.{◌≡◌, map, option_map};
-ghost use Rattle.serde_json.specs.View.{view};
-ghost use Rattle.isle_lsp_features.specs.Programs.{source_of};
+ghost use Rattle.isle_lsp_features.specs.Programs.{question_of, text_of};
 ghost use Rattle.isle_lsp_features.specs.Places as wanted;
 ghost use Rattle.isle_lsp_text.specs.Positions.{IsPlace};
 
-use crate::Text;
+use crate::{Question, Text};
 use isle_base::lexer::Pos;
-use isle_lsp_protocol::parameters::{position_of, uri_of};
+use isle_lsp_protocol::parameters::position_of;
 use isle_lsp_text::positions::{Place as TextPlace, Range, START, offset_of, place_at};
-use serde_json::Value;
 
 /// A text of a program.
 #[derive(Clone, Copy, Debug)]
@@ -30,24 +28,13 @@ pub struct Place<'a> {
     pub text: &'a str,
 }
 
-/// The text that a message names.
-pub fn file_of<'a>(program: &[Text<'a>], message: &Value) -> Option<File<'a>>
+/// The text of this file.
+pub fn file_of<'a>(program: &[Text<'a>], name: &str) -> Option<File<'a>>
     ensures { option_map wanted.file_of result
-        ≡ wanted.file_in (view message.now) (map source_of program.now) }
-{
-    match uri_of(message) {
-        Some(uri) => file_named(program, uri),
-        None => None,
-    }
-}
-
-/// The text with this URI.
-fn file_named<'a>(program: &[Text<'a>], uri: &str) -> Option<File<'a>>
-    ensures { option_map wanted.file_of result
-        ≡ wanted.file_from 0 uri.now (map source_of program.now) }
+        ≡ wanted.file_from 0 name.now (map text_of program.now) }
 {
     for (number, source) in program.iter().enumerate() {
-        if source.name == uri {
+        if source.file == name {
             let text = source.text;
             return Some(File { number, text });
         }
@@ -55,12 +42,15 @@ fn file_named<'a>(program: &[Text<'a>], uri: &str) -> Option<File<'a>>
     None
 }
 
-/// The place that a message names.
-pub fn place_of<'a>(program: &[Text<'a>], message: &Value) -> Option<Place<'a>>
+/// The place that a request is about.
+pub fn place_of<'a>(program: &[Text<'a>], question: Question) -> Option<Place<'a>>
     ensures { option_map wanted.place_of result
-        ≡ wanted.place_in (view message.now) (map source_of program.now) }
+        ≡ wanted.place_in (question_of question.entry) (map text_of program.now) }
 {
-    match (file_of(program, message), position_of(message)) {
+    match (
+        file_of(program, question.file),
+        position_of(question.message),
+    ) {
         (Some(file), Some(position)) => Some(Place {
             pos: Pos::new(file.number, offset_of(file.text, position)),
             text: file.text,

@@ -1,22 +1,25 @@
 //! The edits that rename a name.
 
-ghost use Rattle.std.specs.Prelude.{◌≡◌, ◌≤◌, IfOk, Some, map, option_map, option_to_list};
+ghost use Rattle.std.specs.Prelude.{◌≡◌, ◌≤◌, IfOk, Some, if◌then◌else◌, map, option_map};
+ghost use Rattle.std.specs.Prelude.{option_to_list};
+ghost use Rattle.serde_json.specs.Data.{Members};
 ghost use Rattle.serde_json.specs.View.{view};
 ghost use Rattle.std.specs.List.{flat_map};
-ghost use Rattle.isle_lsp_features.specs.Programs.{source_of};
+ghost use Rattle.isle_lsp_features.specs.Programs.{text_of};
 ghost use Rattle.isle_index.specs.Names.{named_of};
 ghost use Rattle.isle_index.specs.Occurrences.{name_at, occurrence_at};
 ghost use Rattle.isle_index.specs.Held.{all_in};
 ghost use Rattle.isle_lsp_features.specs.Answers.{IsRenaming, IsRenamingOf};
 ghost use Rattle.isle_lsp_features.specs.Renamed as wanted;
-ghost use Rattle.isle_lsp_protocol.specs.Items.{item_data, items_data};
+ghost use Rattle.isle_lsp_protocol.specs.Items.{item_data, items_data, listing_data};
+ghost use Rattle.isle_lsp_protocol.specs.Items.{plain_changes, with_changes};
 ghost use Rattle.isle_lsp_protocol.specs.Parameters as parameters;
 ghost use Rattle.isle_lsp_protocol.specs.Replies.{outcome_of};
 ghost use Rattle.isle_lsp_protocol.specs.Results.{workspace_edit};
 ghost use Rattle.isle_lsp_text.specs.Positions.{IsPlace};
 
-use crate::Text;
 use crate::places::{Place, range_at, range_near};
+use crate::{Question, Text};
 use isle_base::lexer::Pos;
 use isle_index::{Index, Kind, Name, Occurrence, Refusal};
 use isle_lsp_protocol::items::{Item, Listing};
@@ -27,6 +30,9 @@ use isle_lsp_protocol::results::range_value;
 use isle_lsp_text::positions::{Place as TextPlace, Range, START};
 use serde_json::Value;
 use std::alloc::{AllocError, Global};
+
+/// The message where a rename would edit a text that other programs share.
+const SHARED: &str = "the name is used in a file that other programs share: rename it there";
 
 /// The range of the name at a place, or null if there is none.
 pub fn prepare(alloc: Global, index: &Index, place: Place) -> Result<Value, AllocError>
@@ -81,17 +87,20 @@ pub fn rename<'a>(
     program: &[Text<'a>],
     index: &Index,
     place: Place,
-    message: &Value,
+    question: Question,
 ) -> Result<Outcome<'a>, AllocError>
     ensures { let all = all_in index.now in IfOk result (λ outcome. IsRenamingOf
-        (map source_of program.now) all (name_at place.entry.pos all)
-        (parameters.new_name_of (view message.now)) (outcome_of outcome)) }
+        question.entry.takes_document_changes (map text_of program.now) all (name_at place.entry.pos all)
+        (parameters.new_name_of (view question.entry.message.now)) (outcome_of outcome)) }
 {
-    let Some(new) = new_name_of(message) else {
+    let Some(new) = new_name_of(question.message) else {
         return Ok(error_outcome(ErrorCode::InvalidParams));
     };
     match index.name_at(alloc, place.pos)? {
-        Some(name) => rename_name(alloc, program, index, &name, new),
+        Some(name) => {
+            let takes = question.takes_document_changes;
+            rename_name(alloc, program, index, &name, new, takes)
+        }
         None => Ok(Outcome::Failed(ErrorCode::RequestFailed, "there is no name to rename")),
     }
 }
@@ -103,16 +112,55 @@ fn rename_name<'a>(
     index: &Index,
     name: &Name,
     new: &str,
+    takes_document_changes: bool,
 ) -> Result<Outcome<'a>, AllocError>
-    ensures { IfOk result (λ outcome. IsRenaming (map source_of program.now)
+    ensures { IfOk result (λ outcome. IsRenaming takes_document_changes (map text_of program.now)
         (all_in index.now) (named_of name.now) new.now (outcome_of outcome)) }
 {
     match index.rename(alloc, name, new)? {
+        Ok(places) if are_shared(program, &places) => {
+            Ok(Outcome::Failed(ErrorCode::RequestFailed, SHARED))
+        }
         Ok(places) => {
             let changes = changes(alloc, program, name, new, &places)?;
-            Ok(Outcome::Listed(Listing::Changes(changes)))
+            Ok(Outcome::Listed(listing_of(takes_document_changes, changes)))
         }
         Err(refusal) => Ok(Outcome::Failed(ErrorCode::RequestFailed, reason_of(refusal))),
+    }
+}
+
+/// Returns whether one of the positions is in a text that other programs share.
+fn are_shared(program: &[Text], places: &[Pos]) -> bool
+    ensures { result ≡ wanted.are_shared (map text_of program.now) places.now }
+{
+    for pos in places {
+        if is_shared_at(program, *pos) {
+            return true;
+        }
+    }
+    false
+}
+
+/// Returns whether a position is in a text that other programs share.
+fn is_shared_at(program: &[Text], pos: Pos) -> bool
+    ensures { result ≡ wanted.is_shared_at (map text_of program.now) pos }
+{
+    match program.get(pos.file) {
+        Some(text) => text.is_shared,
+        None => false,
+    }
+}
+
+/// Changes as the client takes them.
+fn listing_of(takes_document_changes: bool, changes: Vec<Item>) -> Listing
+    ensures { listing_data result ≡ if takes_document_changes
+        then workspace_edit (items_data changes.entry.items)
+        else plain_changes changes.entry.items }
+{
+    if takes_document_changes {
+        Listing::Changes(changes)
+    } else {
+        Listing::PlainChanges(changes)
     }
 }
 
@@ -137,8 +185,11 @@ fn changes<'a>(
     new: &str,
     places: &[Pos],
 ) -> Result<Vec<Item<'a>>, AllocError>
-    ensures { IfOk result (λ items. workspace_edit (items_data items.items)
-        ≡ wanted.changes (map source_of program.now) (named_of name.now) new.now places.now) }
+    ensures documents { IfOk result (λ items. workspace_edit (items_data items.items)
+        ≡ wanted.document_changes (map text_of program.now) (named_of name.now) new.now
+        places.now) }
+    ensures plain { IfOk result (λ items. plain_changes items.items
+        ≡ wanted.plain_changes (map text_of program.now) (named_of name.now) new.now places.now) }
 {
     let mut items = Vec::new(alloc);
     for (number, source) in program.iter().enumerate() {
@@ -158,15 +209,21 @@ fn change_in<'a>(
     new: &str,
     places: &[Pos],
 ) -> Result<Option<Item<'a>>, AllocError>
-    ensures { IfOk result (λ item. option_to_list (option_map item_data item)
-        ≡ wanted.change_in number (source_of source.entry) (named_of name.now) new.now places.now) }
+    ensures documents { IfOk result (λ item. option_to_list (option_map item_data item)
+        ≡ wanted.change_in number (text_of source.entry) (named_of name.now) new.now places.now) }
+    ensures plain { IfOk result (λ item. (changes : Members)
+        → with_changes (option_to_list item) changes
+        ≡ wanted.with_change (text_of source.entry) new.now
+        (flat_map (wanted.range_in number source.entry.text.now (named_of name.now)) places.now)
+        changes) }
 {
     let ranges = ranges_in(alloc, number, source.text, name, places)?;
     if ranges.is_empty() {
         return Ok(None);
     }
     Ok(Some(Item::Edits {
-        uri: source.name,
+        uri: source.uri,
+        version: source.version,
         ranges,
         text: String::from_str(alloc, new)?,
     }))

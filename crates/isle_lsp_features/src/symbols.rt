@@ -4,7 +4,7 @@ ghost use Rattle.std.specs.Prelude.{◌≡◌, ◌++◌, IfOk, OnOk, map, option
 ghost use Rattle.std.specs.List.{flat_map};
 ghost use Rattle.serde_json.specs.Data.{array};
 ghost use Rattle.serde_json.specs.View.{items_of};
-ghost use Rattle.isle_lsp_features.specs.Programs.{source_of};
+ghost use Rattle.isle_lsp_features.specs.Programs.{text_of};
 ghost use Rattle.isle_index.specs.Held.{all_in};
 ghost use Rattle.isle_index.specs.Symbols.{symbol_of, symbols};
 ghost use Rattle.isle_lsp_protocol.specs.Items.{item_data, items_data};
@@ -96,7 +96,7 @@ pub fn workspace_symbols<'a>(
     query: &str,
 ) -> Result<Vec<Item<'a>>, AllocError>
     ensures { IfOk result (λ items. items_data items.items ≡ wanted.workspace_symbols query.now
-        (map source_of program.now) (all_in index.now)) }
+        (map text_of program.now) (all_in index.now)) }
 {
     let mut items = Vec::new(alloc);
     for (file, source) in program.iter().enumerate() {
@@ -115,7 +115,7 @@ fn add_matching<'a>(
     items: &mut Vec<Item<'a>>,
 ) -> Result<(), AllocError>
     ensures { OnOk result (map item_data items.new.items ≡ map item_data items.old.items
-        ++ flat_map (wanted.symbol_in query.now (source_of source.entry))
+        ++ flat_map (wanted.symbol_in query.now (text_of source.entry))
         (map symbol_of symbols.now)) }
 {
     let mut near = START;
@@ -138,7 +138,7 @@ fn matching_symbol<'a>(
 ) -> Result<Option<Item<'a>>, AllocError>
     requires { IsPlace source.text.now near.old }
     ensures item { IfOk result (λ item. option_to_list (option_map item_data item)
-        ≡ wanted.symbol_in query.now (source_of source.entry) (symbol_of symbol.now)) }
+        ≡ wanted.symbol_in query.now (text_of source.entry) (symbol_of symbol.now)) }
     ensures near { IsPlace source.entry.text.now near.new }
 {
     if !has_letters(symbol.text.as_str(), query) {
@@ -148,7 +148,7 @@ fn matching_symbol<'a>(
     Ok(Some(Item::WorkspaceSymbol {
         name: String::from_str(alloc, symbol.text.as_str())?,
         kind: number_of(symbol.kind),
-        uri: source.name,
+        uri: source.uri,
         range,
     }))
 }

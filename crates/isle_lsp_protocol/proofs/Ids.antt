@@ -6,13 +6,13 @@ use Rattle.json.specs.Json as tree
 use Rattle.json.specs.Token as json
 use Rattle.serde_json.proofs.Numbers.{number_of-decimal, number_of-negative}
 use Rattle.serde_json.specs.Data.{Data, Num, null, boolean, number, string, array, object, unsigned, negative, float}
-use Rattle.serde_json.specs.Find.{as_i64, as_number, as_str, as_u64, to_float}
+use Rattle.serde_json.specs.Find.{as_i64, as_number, as_str, as_u64, of_integer, to_float}
 use Rattle.serde_json.specs.Number.{is_valid, num_of}
 use Rattle.serde_json.specs.Read.{number_of}
 use Rattle.serde_json.specs.declared.number.N.{N}
 use Rattle.serde_json.specs.declared.number.N.TheVariants.{PosInt, NegInt, Float as FloatOf}
 use Rattle.isle_lsp_protocol.specs.Replies.{IsReplyId}
-use Rattle.isle_lsp_protocol.specs.Written.{Adds}
+use Rattle.isle_lsp_protocol.specs.Written.{Adds, Reads}
 
 is_string : (d : Data) (s : List ℕ) → as_str d ≡ Some s → d ≡ string s
 is_string null s e = cc
@@ -76,3 +76,7 @@ pub is_finite : (n : N) → is_valid n ≡ true → as_u64 (num_of n) ≡ None �
 is_finite (PosInt m) valid e f = cc
 is_finite (NegInt z) valid e f = cc
 is_finite (FloatOf x) valid e f = (refl, valid)
+
+pub integer_reads : (z : ℤ) → SFits w64 z → Reads (number (of_integer z))
+integer_reads (pos n) fits = rw (number_of-decimal n (grind arith)) refl
+integer_reads (negsuc n) fits = rw (number_of-negative n (grind arith)) refl

@@ -1,13 +1,15 @@
 -- What is written reads back.
-use Rattle.std.proofs.Common.{◌≡◌, ℕ, ◌-◌, ◌^◌, ◌<◌, ◌≤◌, List, [], ◌∷◌, ◌++◌, length, true, false, None, Some, Ok, arith, refl, ◌∙◌, ap, codes, decimal, append_assoc, length-append, ◌==◌, ◌||◌, nat_lt}
+use Rattle.std.proofs.Common.{◌≡◌, ℕ, ◌-◌, ◌^◌, ◌<◌, ◌≤◌, List, [], ◌∷◌, ◌++◌, length, Bool, true, false, None, Some, Ok, arith, refl, sym, ◌∙◌, ap, reverse, codes, decimal, append_assoc, length-append, ◌==◌, ◌||◌, nat_lt}
 use Rattle.std.specs.Io.BufRead.{take_through, drop_through}
 use Rattle.std.specs.Char.{is_ascii_digit}
+use Rattle.std.specs.List.{list_any}
 use Rattle.std.specs.Str.{all_ascii_digits}
 use Rattle.std.proofs.lemmas.Bool.{and_parts, le-ltb}
-use Rattle.std.proofs.lemmas.List.{take_at, drop_at}
+use Rattle.std.proofs.lemmas.List.{take_at, drop_at, reverse-reverse}
+use Rattle.std.proofs.lemmas.List.Sorted.{IsPermutation-reverse, list_any-IsPermutation}
 use Rattle.std.proofs.lemmas.Fmt.{decimal_is_IsNumeral, length-decimal-le}
 use Rattle.std.proofs.lemmas.Bool.Decides.{nat_tests}
-use Rattle.isle_lsp_protocol.specs.Frames.{frame, head, frame_at, head_at, header_length, field_length, number_of, after_blanks, said_length, length_after}
+use Rattle.isle_lsp_protocol.specs.Frames.{frame, head, frame_at, head_at, header_length, field_length, number_of, after_blanks, without_blanks, said_length, length_after}
 use Rattle.isle_lsp_protocol.proofs.Numbers.{own, number_again}
 use Rattle.isle_lsp_protocol.proofs.Heads.{blank, more}
 use Rattle.isle_lsp_protocol.proofs.Whole.{body_ok, frame_ok}
@@ -37,13 +39,32 @@ header_line field h =
 first_digit : (c : ℕ) → is_ascii_digit c ≡ true → (c == 32 || c == 9) ≡ false
 first_digit c h = grind (arith, nat_tests)
 
-no_blanks : (digits : List ℕ) → all_ascii_digits digits ≡ true → after_blanks digits ≡ digits
+is_blank : ℕ → Bool
+is_blank c = c == 32 || c == 9
+
+or_left : (x y : Bool) → (x || y) ≡ false → x ≡ false
+or_left false y h = refl
+or_left true y h = h
+
+no_blanks : (digits : List ℕ) → list_any is_blank digits ≡ false → after_blanks digits ≡ digits
+unfolding is_blank
 no_blanks [] h = refl
-no_blanks (c ∷ ds) h = rw (first_digit c (and_parts _ _ h).0) refl
+no_blanks (c ∷ ds) h = rw (or_left (c == 32 || c == 9) (list_any is_blank ds) h) refl
+
+without_any : (digits : List ℕ) → all_ascii_digits digits ≡ true → list_any is_blank digits ≡ false
+unfolding is_blank
+without_any [] h = refl
+without_any (c ∷ ds) h = let p = and_parts _ _ h in rw (first_digit c p.0) (without_any ds p.1)
+
+bare_digits : (digits : List ℕ) → all_ascii_digits digits ≡ true → without_blanks digits ≡ digits
+bare_digits digits h =
+    let none = without_any digits h in
+    let back = list_any-IsPermutation is_blank digits (reverse digits) (IsPermutation-reverse digits) in
+    ap (λ l. reverse (after_blanks (reverse l))) (no_blanks digits none) ∙ ap reverse (no_blanks (reverse digits) (sym back ∙ none)) ∙ reverse-reverse digits
 
 field_line : (digits : List ℕ) → all_ascii_digits digits ≡ true → field_length (codes "Content-Length: " ++ digits) ≡ said_length (number_of digits)
 unfolding field_length
-field_line digits h = ap (λ ds. said_length (number_of ds)) (no_blanks digits h)
+field_line digits h = ap (λ ds. said_length (number_of ds)) (bare_digits digits h)
 
 -- what is left of the 4096 bytes of a line, 16 of which are the name, its colon and a space, and 2 its end
 few_digits : (n : ℕ) → n < 2 ^ 64 → length (decimal n) ≤ 20

@@ -1,7 +1,9 @@
 pub mod Changes
+pub mod Folders
 pub mod Heads
 pub mod Ids
 pub mod Laws
+pub mod Lines
 pub mod Listings
 pub mod Numbers
 pub mod Readings

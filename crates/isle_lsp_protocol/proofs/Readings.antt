@@ -1,5 +1,5 @@
 -- Tokens that were written for data are read back as that data.
-use Rattle.std.proofs.Common.{◌≡◌, ℕ, ◌≤◌, List, [], ◌++◌, Option, Some, decimal, option_and_then, refl, sym, ap, ◌∙◌, arith, append-nil}
+use Rattle.std.proofs.Common.{◌≡◌, ℕ, ℤ, ◌≤◌, List, [], ◌++◌, Option, Some, decimal, option_and_then, refl, sym, ap, ◌∙◌, arith, append-nil}
 use Rattle.json.specs.Token.{Token}
 use Rattle.json.specs.Lex.{tokens}
 use Rattle.json.specs.Json as json
@@ -13,7 +13,7 @@ use Rattle.serde_json.specs.Written.{items_outline, members_outline, outline}
 use Rattle.isle_lsp_text.specs.declared.positions.Position.{Position}
 use Rattle.isle_lsp_text.specs.declared.positions.Range.{Range}
 use Rattle.isle_lsp_protocol.specs.Replies.{IsTextOf}
-use Rattle.isle_lsp_protocol.specs.Results.{completion_item, document_edits, document_symbol, error_data, location, position_data, range_data, text_edit, warning_data, workspace_edit, workspace_symbol}
+use Rattle.isle_lsp_protocol.specs.Results.{completion_item, document_edits, document_identifier, document_symbol, error_data, location, position_data, range_data, text_edit, version_data, warning_data, workspace_edit, workspace_symbol}
 use Rattle.isle_lsp_protocol.specs.Written.{Adds, Reads}
 
 mutual
@@ -66,8 +66,11 @@ document_symbol_reads name kind r selection k h s = rw k (rw h (rw s refl))
 pub workspace_symbol_reads : (name : List ℕ) (kind : ℕ) (uri : List ℕ) (r : Range) → ReadsNumber kind → Reads (location uri r) → Reads (workspace_symbol name kind uri r)
 workspace_symbol_reads name kind uri r k h = rw k (rw h refl)
 
-pub document_edits_reads : (uri : List ℕ) (edits : Data) → Reads edits → Reads (document_edits uri edits)
-document_edits_reads uri edits h = rw h refl
+pub identifier_reads : (uri : List ℕ) (version : Option ℤ) → Reads (version_data version) → Reads (document_identifier uri version)
+identifier_reads uri version h = rw h refl
+
+pub document_edits_reads : (uri : List ℕ) (version : Option ℤ) (edits : Data) → Reads edits → Reads (document_identifier uri version) → Reads (document_edits uri version edits)
+document_edits_reads uri version edits h v = rw h (rw v refl)
 
 pub changes_reads : (changes : Data) → Reads changes → Reads (workspace_edit changes)
 changes_reads changes h = rw h refl

@@ -3,17 +3,18 @@ use Rattle.std.specs.Prelude.{◌≡◌, List, ℕ, codes, Bool, ◌||◌, Optio
 use Rattle.serde_json.specs.Data.{Data}
 use Rattle.serde_json.specs.Find.{get, as_str, as_number, as_object}
 use Rattle.serde_json.specs.Read.{read}
+use Rattle.isle_lsp_escapes.specs.Mending.{mended}
 use Rattle.isle_lsp_protocol.specs.declared.machine.Request as requests
 use Rattle.isle_lsp_protocol.specs.declared.machine.Request.TheVariants.{Initialize, Shutdown, Formatting, DocumentSymbol, WorkspaceSymbol, Definition, References, DocumentHighlight, Hover, Completion, ResolveCompletion, PrepareRename, Rename, Unknown}
 use Rattle.isle_lsp_protocol.specs.declared.machine.Notification as notifications
-use Rattle.isle_lsp_protocol.specs.declared.machine.Notification.TheVariants.{Initialized, Exit, DidOpen, DidChange, DidClose, Other}
+use Rattle.isle_lsp_protocol.specs.declared.machine.Notification.TheVariants.{Initialized, Exit, DidOpen, DidChange, DidClose, DidChangeWorkspaceFolders, Other}
 use Rattle.isle_lsp_protocol.specs.declared.machine.Message as messages
 use Rattle.isle_lsp_protocol.specs.declared.machine.Message.TheVariants.{Request, Notification, Response, Invalid, Broken}
 
--- the bytes are this JSON, or none
+-- the bytes are this JSON, or none, once surrogates without their partners are replaced
 abbrev pub Decodes : List ℕ → Option Data → Type 0
-Decodes body (Some d) = IsUtf8 body × (read body ≡ Some d)
-Decodes body None = IsUtf8 body → read body ≡ None
+Decodes body (Some d) = IsUtf8 (mended body) × (read (mended body) ≡ Some d)
+Decodes body None = IsUtf8 (mended body) → read (mended body) ≡ None
 
 -- a message can have this `id`
 abbrev pub is_id : Data → Bool
@@ -26,7 +27,8 @@ notification_of name =
     else (if bytes_eq name (codes "textDocument/didOpen") then DidOpen
     else (if bytes_eq name (codes "textDocument/didChange") then DidChange
     else (if bytes_eq name (codes "textDocument/didClose") then DidClose
-    else Other))))
+    else (if bytes_eq name (codes "workspace/didChangeWorkspaceFolders") then DidChangeWorkspaceFolders
+    else Other)))))
 
 abbrev pub request_of : List ℕ → requests.Request
 request_of name =

@@ -1,5 +1,5 @@
 -- The frames of the protocol: header lines, a blank line, and as many bytes as the header says.
-use Rattle.std.specs.Prelude.{◌≡◌, ℕ, zero, suc, ◌-◌, ◌^◌, ◌&&◌, ◌||◌, ◌==◌, map, if◌then◌else◌, nat_lt, List, [], ◌∷◌, ◌++◌, length, take, drop, codes, decimal, Option, None, Some, Result, Ok, Err, bytes_eq}
+use Rattle.std.specs.Prelude.{◌≡◌, ◌≤◌, ℕ, zero, suc, ◌-◌, ◌^◌, ◌&&◌, ◌||◌, ◌==◌, map, if◌then◌else◌, nat_lt, List, [], ◌∷◌, ◌++◌, length, take, drop, reverse, codes, decimal, Option, None, Some, Result, Ok, Err, bytes_eq}
 use Rattle.std.specs.Char.{to_ascii_lowercase}
 use Rattle.std.specs.Str.{all_ascii_digits}
 use Rattle.std.specs.Str.Parse.{digits_value}
@@ -28,10 +28,14 @@ frame body = head (length body) ++ body
 unfoldable pub number_of : List ℕ → Option ℕ
 number_of digits = if all_ascii_digits digits && (nat_lt 0 (length digits) && nat_lt (digits_value 10 digits) (2 ^ 64)) then Some (digits_value 10 digits) else None
 
--- the value without the spaces and tabs in front
+-- the value without the spaces and tabs in front of it
 abbrev pub after_blanks : List ℕ → List ℕ
 after_blanks [] = []
 after_blanks (b ∷ bs) = if b == 32 || b == 9 then after_blanks bs else b ∷ bs
+
+-- the value without the spaces and tabs around it
+abbrev pub without_blanks : List ℕ → List ℕ
+without_blanks value = reverse (after_blanks (reverse (after_blanks value)))
 
 -- the value after the name of the length, which is matched in any case
 abbrev pub length_value : List ℕ → Option (List ℕ)
@@ -43,7 +47,7 @@ said_length (Some n) = Ok (Some n)
 
 abbrev pub length_in : Option (List ℕ) → Result (Option ℕ) FrameFault
 length_in None = Ok None
-length_in (Some value) = said_length (number_of (after_blanks value))
+length_in (Some value) = said_length (number_of (without_blanks value))
 
 -- the length that a header line states, without its line end
 unfoldable pub field_length : List ℕ → Result (Option ℕ) FrameFault
@@ -99,6 +103,10 @@ Fails Cut read = read ≡ Err Cut
 Fails TooLong read = read ≡ Err TooLong
 Fails Unreadable read = Unit {0}
 Fails Memory read = Unit {0}
+
+-- This was read of the line at the front of the bytes: 4,097 bytes at most, and the whole line if it has fewer.
+abbrev pub IsLine : (bytes line : List ℕ) → (rest : Option (List ℕ)) → Type 0
+IsLine bytes line rest = (line ≡ take 4097 (take_through 10 bytes)) × (length line ≤ 4096 → rest ≡ Some (drop_through 10 bytes))
 
 -- the result, seen by view, and the rest of the input are those of reading, unless the reader or memory failed
 abbrev pub Gives : {X Y : Type 0} → (X → Y) → Option (List ℕ) → Result X FrameFault → Result (Y × List ℕ) FrameFault → Type 0

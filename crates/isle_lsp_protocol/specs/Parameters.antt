@@ -1,7 +1,8 @@
 -- The parameters of a client's messages.
-use Rattle.std.specs.Prelude.{ℕ, List, codes, Bool, false, Option, None, Some, is_some, option_and_then, if◌then◌else◌}
+use Rattle.std.specs.Prelude.{ℕ, ℤ, List, [], ◌∷◌, ◌++◌, codes, bytes_eq, filter, Bool, false, not, ◌||◌, Option, None, Some, is_some, option_and_then, option_to_list, if◌then◌else◌}
 use Rattle.serde_json.specs.Data.{Data, Items, no_items, item}
-use Rattle.serde_json.specs.Find.{get, pointer, as_str, as_bool, as_number, as_object, as_u64, as_array}
+use Rattle.serde_json.specs.Find.{get, pointer, as_str, as_bool, as_number, as_object, as_i64, as_u64, as_array}
+use Rattle.isle_lsp_escapes.specs.Uris.{uri_of as uri_of_path}
 use Rattle.isle_lsp_text.specs.Changes.{apply_change}
 use Rattle.isle_lsp_text.specs.declared.positions.Position.{Position}
 use Rattle.isle_lsp_text.specs.declared.positions.Range.{Range}
@@ -38,9 +39,6 @@ label_of d = option_and_then as_str (get (codes "label") d)
 abbrev pub kind_of : Data → Option ℕ
 kind_of d = number_at (codes "kind") d
 
-abbrev pub root_of : Data → Option (List ℕ)
-root_of d = option_and_then as_str (pointer (codes "/params/rootUri") d)
-
 abbrev pub is_true : Option Bool → Bool
 is_true None = false
 is_true (Some b) = b
@@ -70,6 +68,62 @@ range_in d = range_with (position_at (codes "start") d) (position_at (codes "end
 -- the position of the request
 abbrev pub position_of : Data → Option Position
 position_of d = option_and_then position_in (pointer (codes "/params/position") d)
+
+-- the version of the document
+abbrev pub version_of : Data → Option ℤ
+version_of d = option_and_then as_i64 (option_and_then as_number (pointer (codes "/params/textDocument/version") d))
+
+-- the client takes edits of documents that have versions
+abbrev pub takes_document_changes : Data → Bool
+takes_document_changes d = is_true (option_and_then as_bool (pointer (codes "/params/capabilities/workspace/workspaceEdit/documentChanges") d))
+
+-- ---- folders
+
+-- the URIs of these folders
+abbrev pub uris_in : Items → List (List ℕ)
+uris_in no_items = []
+uris_in (item d ds) = option_to_list (option_and_then as_str (get (codes "uri") d)) ++ uris_in ds
+
+abbrev pub uris_in_any : Option Items → List (List ℕ)
+uris_in_any None = []
+uris_in_any (Some folders) = uris_in folders
+
+abbrev pub uris_at : List ℕ → Data → List (List ℕ)
+uris_at path d = uris_in_any (option_and_then as_array (pointer path d))
+
+-- the one folder of a client that knows no others
+abbrev pub one_folder : (uri path : Option (List ℕ)) → List (List ℕ)
+one_folder (Some uri) path = uri ∷ []
+one_folder None (Some path) = uri_of_path path ∷ []
+one_folder None None = []
+
+abbrev pub root_of : Data → List (List ℕ)
+root_of d = one_folder (option_and_then as_str (pointer (codes "/params/rootUri") d)) (option_and_then as_str (pointer (codes "/params/rootPath") d))
+
+abbrev pub folders_with : Option Items → Data → List (List ℕ)
+folders_with None d = root_of d
+folders_with (Some no_items) d = root_of d
+folders_with (Some (item f fs)) d = uris_in (item f fs)
+
+-- the URIs of the folders of `initialize`
+abbrev pub folders_of : Data → List (List ℕ)
+folders_of d = folders_with (option_and_then as_array (pointer (codes "/params/workspaceFolders") d)) d
+
+abbrev pub is_among : List (List ℕ) → List ℕ → Bool
+is_among [] uri = false
+is_among (known ∷ more) uri = bytes_eq known uri || is_among more uri
+
+abbrev pub without : (removed uris : List (List ℕ)) → List (List ℕ)
+without removed uris = filter (λ uri. not (is_among removed uri)) uris
+
+-- these with each of the others that is not there yet
+abbrev pub with_all : (uris added : List (List ℕ)) → List (List ℕ)
+with_all uris [] = uris
+with_all uris (uri ∷ added) = with_all (if is_among uris uri then uris else uris ++ uri ∷ []) added
+
+-- the folders after a message that some were removed and some added
+abbrev pub folders_after : Data → List (List ℕ) → List (List ℕ)
+folders_after d folders = with_all (without (uris_at (codes "/params/event/removed") d) folders) (uris_at (codes "/params/event/added") d)
 
 -- ---- changes
 

@@ -1,6 +1,7 @@
 -- The results of requests and their parts, as JSON.
-use Rattle.std.specs.Prelude.{ℕ, List, codes}
-use Rattle.serde_json.specs.Data.{Data, null, number, unsigned, string, object, member, no_members, put}
+use Rattle.std.specs.Prelude.{ℕ, ℤ, List, codes, Option, None, Some}
+use Rattle.serde_json.specs.Data.{Data, null, number, unsigned, string, object, Members, member, no_members, put}
+use Rattle.serde_json.specs.Find.{of_integer}
 use Rattle.isle_lsp_text.specs.declared.positions.Position.{Position}
 use Rattle.isle_lsp_text.specs.declared.positions.Range.{Range}
 
@@ -56,12 +57,21 @@ abbrev pub completion_item : (name : List ℕ) → (kind : ℕ) → Range → Da
 completion_item name kind range =
     object (member (codes "kind") (number (unsigned kind)) (member (codes "label") (string name) (member (codes "textEdit") (text_edit range name) no_members)))
 
--- the document with this URI, without its version
-abbrev pub document_identifier : List ℕ → Data
-document_identifier uri = object (member (codes "uri") (string uri) (member (codes "version") null no_members))
+-- null where the version is not known
+abbrev pub version_data : Option ℤ → Data
+version_data None = null
+version_data (Some version) = number (of_integer version)
 
-abbrev pub document_edits : List ℕ → Data → Data
-document_edits uri edits = object (member (codes "edits") edits (member (codes "textDocument") (document_identifier uri) no_members))
+-- the document with this URI, in this version
+abbrev pub document_identifier : List ℕ → Option ℤ → Data
+document_identifier uri version = object (member (codes "uri") (string uri) (member (codes "version") (version_data version) no_members))
+
+abbrev pub document_edits : List ℕ → Option ℤ → Data → Data
+document_edits uri version edits = object (member (codes "edits") edits (member (codes "textDocument") (document_identifier uri version) no_members))
 
 abbrev pub workspace_edit : Data → Data
 workspace_edit documents = object (member (codes "documentChanges") documents no_members)
+
+-- the edits of each document by its URI
+abbrev pub plain_edit : Members → Data
+plain_edit changes = object (member (codes "changes") (object changes) no_members)

@@ -9,15 +9,19 @@ ghost use Rattle.isle_lsp_protocol.specs.Decoding.{request_of};
 
 use crate::machine::{Message, Notification, Request};
 use isle_cli::failure::Failure;
+use isle_lsp_escapes::mending::mended;
 use serde_json::{Category, Value};
 use std::alloc::Global;
 
 /// Parses a message as JSON, or returns `None` if it is not JSON. The only error is `Memory`.
+///
+/// A surrogate without its partner is read as U+FFFD.
 pub fn decode(alloc: Global, body: &[u8]) -> Result<Option<Value>, Failure>
     ensures ok { IfOk result (λ value. Decodes body.now (option_map view value)) }
     ensures err { IfErr result (λ failure. failure ≡ Memory) }
 {
-    match Value::from_slice(alloc, body) {
+    let body = mended(alloc, body)?;
+    match Value::from_slice(alloc, &body) {
         Ok(value) => Ok(Some(value)),
         Err(error) if matches!(error.classify(), Category::Memory) => Err(Failure::Memory),
         Err(_) => Ok(None),
@@ -87,6 +91,7 @@ fn notification_of(name: &str) -> Notification
         "textDocument/didOpen" => Notification::DidOpen,
         "textDocument/didChange" => Notification::DidChange,
         "textDocument/didClose" => Notification::DidClose,
+        "workspace/didChangeWorkspaceFolders" => Notification::DidChangeWorkspaceFolders,
         _ => Notification::Other,
     }
 }

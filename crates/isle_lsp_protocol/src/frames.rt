@@ -2,17 +2,19 @@
 //!
 //! A header line ends with CR LF and has at most 4096 bytes. A header has at most 16 lines,
 //! including the blank one, and states the length of the message once: `Content-Length: 17`. The
-//! name is matched in any case, and other lines are ignored. Lengths are in bytes.
+//! name is matched in any case, and other lines are ignored. Spaces and tabs may stand around the
+//! number. Lengths are in bytes.
 
 ghost use Rattle.std.specs.Prelude.{◌≡◌, ◌≢◌, ◌⊎◌, ℕ, bytes_eq, codes, ◌≤◌, ◌<◌, ◌++◌, []};
 ghost use Rattle.std.specs.Prelude.{List, length, option_map, IfOk, IfErr, OnErr, OnOk, IfSome};
+ghost use Rattle.std.specs.Prelude.{reverse, option_to_list};
 ghost use Rattle.std.specs.Prelude.{IsTrue, ◌↔◌, EachIndex, slice_index, string_bytes, true, false};
 ghost use Rattle.std.specs.Int.{IsInRange};
 ghost use Rattle.std.specs.Io.KnownBytes.{Appends, Consumes, Keeps};
-ghost use Rattle.std.specs.Io.BufRead.{take_through, drop_through};
 ghost use Rattle.isle_cli.specs.Streams.{AppendsBeginning};
 ghost use Rattle.isle_cli.specs.declared.failure.Failure as failures;
-ghost use Rattle.isle_lsp_protocol.specs.Frames.{Gives, IsBroken, after_blanks, field_length};
+ghost use Rattle.isle_lsp_protocol.specs.Frames.{Gives, IsBroken, IsLine, after_blanks};
+ghost use Rattle.isle_lsp_protocol.specs.Frames.{field_length};
 ghost use Rattle.isle_lsp_protocol.specs.Frames.{frame, frame_at};
 ghost use Rattle.isle_lsp_protocol.specs.Frames.{head, head_at, header_length, length_after};
 ghost use Rattle.isle_lsp_protocol.specs.Frames.{length_value, number_of, only_one};
@@ -87,12 +89,23 @@ fn number_of(digits: &[u8]) -> Option<usize>
     }
 }
 
-/// The value without the spaces and tabs in front.
+/// The value without the spaces and tabs in front of it.
 fn after_blanks(value: &[u8]) -> &[u8]
     ensures { result.now ≡ after_blanks value.now }
 {
     let mut rest = value;
     while let [b' ' | b'\t', more @ ..] = rest {
+        rest = more;
+    }
+    rest
+}
+
+/// The value without the spaces and tabs behind it.
+fn before_blanks(value: &[u8]) -> &[u8]
+    ensures { result.now ≡ reverse (after_blanks (reverse value.now)) }
+{
+    let mut rest = value;
+    while let [more @ .., b' ' | b'\t'] = rest {
         rest = more;
     }
     rest
@@ -120,7 +133,7 @@ fn field_length(field: &[u8]) -> Result<Option<usize>, FrameFault>
 {
     match length_value(field) {
         None => Ok(None),
-        Some(value) => match number_of(after_blanks(value)) {
+        Some(value) => match number_of(before_blanks(after_blanks(value))) {
             Some(n) => Ok(Some(n)),
             None => Err(FrameFault::Malformed),
         },
@@ -183,19 +196,44 @@ fn is_at_end<R: BufRead>(input: &mut R) -> Result<bool, FrameFault>
     }
 }
 
-/// Reads a line with its LF, or the bytes up to the end of the input.
-fn read_line<R: BufRead>(alloc: Global, input: &mut R) -> Result<Vec<u8>, FrameFault>
-    ensures ok { (bytes : List ℕ) → R.remaining input.old ≡ Some bytes → IfOk result
-        (λ line. (line.items ≡ take_through 10 bytes)
-        × (R.remaining input.new ≡ Some (drop_through 10 bytes))) }
+/// Reads a byte, or returns `None` at the end of the input.
+fn read_byte<R: Read>(input: &mut R) -> Result<Option<u8>, FrameFault>
+    ensures some { IfOk result (λ found. Consumes (R.remaining input.old) (R.remaining input.new)
+        (option_to_list found)) }
+    ensures none { result ≡ Ok None → IfSome (R.remaining input.old) (λ bytes. bytes ≡ []) }
+    ensures err { IfErr result (λ fault. fault ≡ FrameFault.Unreadable) }
+{
+    let mut buffer = [0; 1];
+    for _ in 0..u64::MAX {
+        match input.read(&mut buffer) {
+            Ok(0) => return Ok(None),
+            Ok(_) => return Ok(Some(buffer[0])),
+            Err(error) if error.kind() == ErrorKind::Interrupted => {}
+            Err(_) => return Err(FrameFault::Unreadable),
+        }
+    }
+    Err(FrameFault::Unreadable)
+}
+
+/// Reads a line with its LF, or the bytes up to the end of the input. Of a line that is too long it
+/// reads one byte more than a line may have.
+fn read_line<R: Read>(alloc: Global, input: &mut R) -> Result<Vec<u8>, FrameFault>
+    ensures ok { (bytes : List ℕ) → R.remaining input.old ≡ Some bytes
+        → IfOk result (λ line. IsLine bytes line.items (R.remaining input.new)) }
+    ensures few { IfOk result (λ line. length line.items ≤ 4097) }
     ensures err { IfErr result IsBroken }
 {
     let mut line = Vec::new(alloc);
-    match input.read_until(b'\n', &mut line) {
-        Ok(_) => Ok(line),
-        Err(error) if error.kind() == ErrorKind::OutOfMemory => Err(FrameFault::Memory),
-        Err(_) => Err(FrameFault::Unreadable),
+    for _ in 0..=MAX_LINE_LEN {
+        let Some(byte) = read_byte(input)? else {
+            return Ok(line);
+        };
+        line.push(byte)?;
+        if byte == b'\n' {
+            return Ok(line);
+        }
     }
+    Ok(line)
 }
 
 /// Reads the header, and returns the length that it states.

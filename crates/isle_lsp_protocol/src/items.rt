@@ -1,19 +1,22 @@
 //! The items of a list in a response. A long list takes many times the memory of its text as JSON
 //! values, but not as items.
 
-ghost use Rattle.std.specs.Prelude.{◌≡◌, ◌++◌, ◌∷◌, OnOk, codes};
+ghost use Rattle.std.specs.Prelude.{◌≡◌, ◌++◌, ◌∷◌, IfOk, OnOk, codes};
 ghost use Rattle.json.specs.Token.{key};
 ghost use Rattle.json.specs.Tree.{json_tokens};
+ghost use Rattle.serde_json.specs.View.{view};
 ghost use Rattle.serde_json.specs.Written.{outline};
-ghost use Rattle.isle_lsp_protocol.specs.Items.{edits_data, item_data, items_data};
-ghost use Rattle.isle_lsp_protocol.specs.Items.{listing_data};
+ghost use Rattle.isle_lsp_protocol.specs.Items as lists;
+ghost use Rattle.isle_lsp_protocol.specs.Items.{edits_data, item_data, items_data, list_data};
 ghost use Rattle.isle_lsp_protocol.specs.Results as wanted;
 ghost use Rattle.isle_lsp_protocol.specs.Written.{Reads};
 
+use crate::results::text_edit;
 use crate::writing::{put_number, put_range, put_text};
 use isle_lsp_text::positions::Range;
 use json::Writer;
-use std::alloc::AllocError;
+use serde_json::{Map, Value, json, put};
+use std::alloc::{AllocError, Global};
 
 /// A result that is a list.
 #[derive(Debug, Drop)]
@@ -22,6 +25,8 @@ pub enum Listing<'a> {
     Items(Vec<Item<'a>>),
     /// The changes to a program, with an item for each changed document.
     Changes(Vec<Item<'a>>),
+    /// The same for a client that does not take versions of documents.
+    PlainChanges(Vec<Item<'a>>),
 }
 
 /// An item of a list.
@@ -70,10 +75,12 @@ pub enum Item<'a> {
         /// The part that it replaces.
         range: Range,
     },
-    /// The changes to a document: the same text replaces each part. The version is left open.
+    /// The changes to a document: the same text replaces each part.
     Edits {
         /// The document's URI.
         uri: &'a str,
+        /// The version of the document that is changed, or `None` if it has none.
+        version: Option<i64>,
         /// The parts.
         ranges: Vec<Range>,
         /// The text.
@@ -81,17 +88,51 @@ pub enum Item<'a> {
     },
 }
 
-/// Writes a result that is a list.
-pub fn put_listing(out: &mut Writer, listing: &Listing) -> Result<(), AllocError>
+/// Writes a list of items, or the changes to their documents.
+pub fn put_list(out: &mut Writer, items: &[Item], are_changes: bool) -> Result<(), AllocError>
     ensures before { out.new.before ≡ out.old.before }
     ensures tokens { OnOk result (out.new.tokens ≡ out.old.tokens
-        ++ json_tokens (outline (listing_data listing.now))) }
-    ensures reads { OnOk result (Reads (listing_data listing.now)) }
+        ++ json_tokens (outline (list_data are_changes items.now))) }
+    ensures reads { OnOk result (Reads (list_data are_changes items.now)) }
 {
-    match listing {
-        Listing::Items(items) => put_items(out, items),
-        Listing::Changes(items) => put_changes(out, items),
+    if are_changes {
+        put_changes(out, items)
+    } else {
+        put_items(out, items)
     }
+}
+
+/// The changes to the documents of the items, without versions. Of two items with one URI the last
+/// counts.
+pub fn plain_changes(alloc: Global, items: &[Item]) -> Result<Value, AllocError>
+    ensures { IfOk result (λ value. view value ≡ lists.plain_changes items.now) }
+{
+    let mut changes = Map::new(alloc);
+    for item in items {
+        if let Item::Edits {
+            uri,
+            ranges,
+            text,
+            ..
+        } = item
+        {
+            let edits = edits_value(alloc, ranges, text.as_str())?;
+            put(&mut changes, alloc, uri, edits)?;
+        }
+    }
+    let changes = Value::Object(changes);
+    json!(in alloc; {"changes": changes})
+}
+
+/// An edit for each range, which this text replaces.
+fn edits_value(alloc: Global, ranges: &[Range], text: &str) -> Result<Value, AllocError>
+    ensures { IfOk result (λ value. view value ≡ edits_data text.now ranges.now) }
+{
+    let mut edits = Vec::new(alloc);
+    for range in ranges {
+        edits.push(text_edit(alloc, *range, text)?)?;
+    }
+    Ok(Value::Array(edits))
 }
 
 #[tactic(auto, using(crate::proofs::Tokens::appended))]
@@ -144,7 +185,12 @@ fn put_item(out: &mut Writer, item: &Item) -> Result<(), AllocError>
         Item::Completion { name, kind, range } => {
             put_completion(out, name.as_str(), *kind, *range)
         }
-        Item::Edits { uri, ranges, text } => put_document_edits(out, uri, ranges, text.as_str()),
+        Item::Edits {
+            uri,
+            version,
+            ranges,
+            text,
+        } => put_document_edits(out, uri, *version, ranges, text.as_str()),
     }
 }
 
@@ -234,36 +280,55 @@ fn put_completion(out: &mut Writer, name: &str, kind: usize, range: Range) -> Re
 fn put_document_edits(
     out: &mut Writer,
     uri: &str,
+    version: Option<i64>,
     ranges: &[Range],
     text: &str,
 ) -> Result<(), AllocError>
     ensures before { out.new.before ≡ out.old.before }
-    ensures tokens { OnOk result (out.new.tokens ≡ out.old.tokens
-        ++ json_tokens (outline (wanted.document_edits uri.now (edits_data text.now ranges.now)))) }
+    ensures tokens { OnOk result (out.new.tokens ≡ out.old.tokens ++ json_tokens (outline
+        (wanted.document_edits uri.now version (edits_data text.now ranges.now)))) }
     ensures reads { OnOk result
-        (Reads (wanted.document_edits uri.now (edits_data text.now ranges.now))) }
+        (Reads (wanted.document_edits uri.now version (edits_data text.now ranges.now))) }
 {
     out.begin_object()?;
     out.key("edits")?;
     put_edits(out, ranges, text)?;
-    put_document_identifier(out, uri)?;
+    put_document_identifier(out, uri, version)?;
     out.end_object()
 }
 
 /// Writes the member `textDocument`, which identifies the changed document.
 #[tactic(auto, using(crate::proofs::Tokens::appended))]
-fn put_document_identifier(out: &mut Writer, uri: &str) -> Result<(), AllocError>
+fn put_document_identifier(
+    out: &mut Writer,
+    uri: &str,
+    version: Option<i64>,
+) -> Result<(), AllocError>
     ensures before { out.new.before ≡ out.old.before }
     ensures tokens { OnOk result (out.new.tokens ≡ out.old.tokens
         ++ key (codes "textDocument")
-        ∷ json_tokens (outline (wanted.document_identifier uri.now))) }
+        ∷ json_tokens (outline (wanted.document_identifier uri.now version))) }
+    ensures reads { OnOk result (Reads (wanted.document_identifier uri.now version)) }
 {
     out.key("textDocument")?;
     out.begin_object()?;
     put_text(out, "uri", uri)?;
     out.key("version")?;
-    out.null()?;
+    put_version(out, version)?;
     out.end_object()
+}
+
+/// Writes a version, or null if there is none.
+fn put_version(out: &mut Writer, version: Option<i64>) -> Result<(), AllocError>
+    ensures before { out.new.before ≡ out.old.before }
+    ensures tokens { OnOk result (out.new.tokens ≡ out.old.tokens
+        ++ json_tokens (outline (wanted.version_data version))) }
+    ensures reads { OnOk result (Reads (wanted.version_data version)) }
+{
+    match version {
+        Some(version) => out.i64(version),
+        None => out.null(),
+    }
 }
 
 /// Writes an edit for each range.

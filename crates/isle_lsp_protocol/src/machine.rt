@@ -66,6 +66,8 @@ pub enum Notification {
     DidChange,
     /// A document was closed.
     DidClose,
+    /// The folders of the workspace have changed.
+    DidChangeWorkspaceFolders,
     /// Any other method, which the server ignores.
     Other,
 }

@@ -1,9 +1,12 @@
 //! The parameters of a client's messages.
 
-ghost use Rattle.std.specs.Prelude.{◌≡◌, IfOk, option_map, string_bytes};
+ghost use Rattle.std.specs.Prelude.{◌≡◌, ◌∷◌, [], IfOk, Some, map, option_and_then};
+ghost use Rattle.std.specs.Prelude.{option_map, string_bytes};
+ghost use Rattle.serde_json.specs.Find.{as_array, as_str, pointer};
 ghost use Rattle.serde_json.specs.View.{items_view, view};
 ghost use Rattle.isle_lsp_protocol.specs.Parameters as wanted;
 
+use isle_lsp_escapes::uris;
 use isle_lsp_text::changes::apply_change;
 use isle_lsp_text::positions::{Position, Range};
 use serde_json::Value;
@@ -85,11 +88,172 @@ pub fn wants_definitions(message: &Value) -> bool
     }
 }
 
-/// The URI of the folder that the client works in.
-pub fn root_of(message: &Value) -> Option<&str>
-    ensures { option_map (λ root. root.now) result ≡ wanted.root_of (view message.now) }
+/// The version of the document that a message names.
+pub fn version_of(message: &Value) -> Option<i64>
+    ensures { result ≡ wanted.version_of (view message.now) }
 {
-    message.pointer("/params/rootUri").and_then(Value::as_str)
+    message
+        .pointer("/params/textDocument/version")
+        .and_then(Value::as_i64)
+}
+
+/// Returns whether the client of an `initialize` takes edits of documents that have versions.
+pub fn takes_document_changes(message: &Value) -> bool
+    ensures { result ≡ wanted.takes_document_changes (view message.now) }
+{
+    match message.pointer("/params/capabilities/workspace/workspaceEdit/documentChanges") {
+        Some(value) => value.as_bool() == Some(true),
+        None => false,
+    }
+}
+
+/// The URIs of the folders that the client of an `initialize` works in.
+///
+/// Those of `workspaceFolders`; if there are none, `rootUri`, or else the URI of `rootPath`.
+pub fn folders_of(alloc: Global, message: &Value) -> Result<Vec<String>, AllocError>
+    ensures { IfOk result
+        (λ folders. map string_bytes folders.items ≡ wanted.folders_of (view message.now)) }
+{
+    match array_at(message, "/params/workspaceFolders") {
+        Some(folders) => folders_with(alloc, folders, message),
+        None => root_of(alloc, message),
+    }
+}
+
+/// The folders of a message with this `workspaceFolders`.
+fn folders_with(
+    alloc: Global,
+    folders: &[Value],
+    message: &Value,
+) -> Result<Vec<String>, AllocError>
+    ensures { IfOk result (λ found. map string_bytes found.items
+        ≡ wanted.folders_with (Some (items_view folders.now)) (view message.now)) }
+{
+    if folders.is_empty() {
+        return root_of(alloc, message);
+    }
+    uris_in(alloc, folders)
+}
+
+/// The URIs of the folders after `workspace/didChangeWorkspaceFolders`: those of before without the
+/// removed ones, and the added ones that are not among them.
+pub fn folders_after(
+    alloc: Global,
+    message: &Value,
+    folders: &[String],
+) -> Result<Vec<String>, AllocError>
+    ensures { IfOk result (λ after. map string_bytes after.items
+        ≡ wanted.folders_after (view message.now) (map string_bytes folders.now)) }
+{
+    let removed = uris_at(alloc, message, "/params/event/removed")?;
+    let added = uris_at(alloc, message, "/params/event/added")?;
+    let kept = without(alloc, &removed, folders)?;
+    with_all(alloc, kept, &added)
+}
+
+fn array_at<'a>(message: &'a Value, path: &str) -> Option<&'a [Value]>
+    ensures { option_map (λ items. items_view items.now) result
+        ≡ option_and_then as_array (pointer path.now (view message.now)) }
+{
+    match message.pointer(path).and_then(Value::as_array) {
+        Some(items) => Some(items.as_slice()),
+        None => None,
+    }
+}
+
+fn text_at<'a>(message: &'a Value, path: &str) -> Option<&'a str>
+    ensures { option_map (λ text. text.now) result
+        ≡ option_and_then as_str (pointer path.now (view message.now)) }
+{
+    message.pointer(path).and_then(Value::as_str)
+}
+
+/// The URI of the one folder of a client that knows no others.
+fn root_of(alloc: Global, message: &Value) -> Result<Vec<String>, AllocError>
+    ensures { IfOk result
+        (λ folders. map string_bytes folders.items ≡ wanted.root_of (view message.now)) }
+{
+    match (
+        text_at(message, "/params/rootUri"),
+        text_at(message, "/params/rootPath"),
+    ) {
+        (Some(uri), _) => only(alloc, String::from_str(alloc, uri)?),
+        (None, Some(path)) => only(alloc, uris::uri_of(alloc, path)?),
+        (None, None) => Ok(Vec::new(alloc)),
+    }
+}
+
+fn only(alloc: Global, uri: String) -> Result<Vec<String>, AllocError>
+    ensures { IfOk result (λ uris. uris.items ≡ uri ∷ []) }
+{
+    let mut uris = Vec::new(alloc);
+    uris.push(uri)?;
+    Ok(uris)
+}
+
+/// The URIs of the folders at this place of a message.
+fn uris_at(alloc: Global, message: &Value, path: &str) -> Result<Vec<String>, AllocError>
+    ensures { IfOk result
+        (λ uris. map string_bytes uris.items ≡ wanted.uris_at path.now (view message.now)) }
+{
+    match array_at(message, path) {
+        Some(folders) => uris_in(alloc, folders),
+        None => Ok(Vec::new(alloc)),
+    }
+}
+
+fn uris_in(alloc: Global, folders: &[Value]) -> Result<Vec<String>, AllocError>
+    ensures { IfOk result
+        (λ uris. map string_bytes uris.items ≡ wanted.uris_in (items_view folders.now)) }
+{
+    let mut uris = Vec::new(alloc);
+    for folder in folders {
+        if let Some(uri) = folder.get("uri").and_then(Value::as_str) {
+            uris.push(String::from_str(alloc, uri)?)?;
+        }
+    }
+    Ok(uris)
+}
+
+fn is_among(uris: &[String], uri: &str) -> bool
+    ensures { result ≡ wanted.is_among (map string_bytes uris.now) uri.now }
+{
+    for known in uris {
+        if known.as_str() == uri {
+            return true;
+        }
+    }
+    false
+}
+
+/// The URIs that are not among the removed ones.
+fn without(alloc: Global, removed: &[String], uris: &[String]) -> Result<Vec<String>, AllocError>
+    ensures { IfOk result (λ kept. map string_bytes kept.items
+        ≡ wanted.without (map string_bytes removed.now) (map string_bytes uris.now)) }
+{
+    let mut kept = Vec::new(alloc);
+    for uri in uris {
+        let uri = uri.as_str();
+        if !is_among(removed, uri) {
+            kept.push(String::from_str(alloc, uri)?)?;
+        }
+    }
+    Ok(kept)
+}
+
+/// The URIs with each added one that is not among them.
+fn with_all(alloc: Global, uris: Vec<String>, added: &[String]) -> Result<Vec<String>, AllocError>
+    ensures { IfOk result (λ all. map string_bytes all.items
+        ≡ wanted.with_all (map string_bytes uris.items) (map string_bytes added.now)) }
+{
+    let mut all = uris;
+    for uri in added {
+        let uri = uri.as_str();
+        if !is_among(&all, uri) {
+            all.push(String::from_str(alloc, uri)?)?;
+        }
+    }
+    Ok(all)
 }
 
 #[tactic(auto, unfolding(crate::specs::Parameters::position_in))]

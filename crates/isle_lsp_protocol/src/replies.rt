@@ -4,12 +4,12 @@ ghost use Rattle.std.specs.Prelude.{◌≡◌, IfOk, OnOk, option_map, string_by
 ghost use Rattle.serde_json.specs.Data.{number as numeral};
 ghost use Rattle.serde_json.specs.Find.{of_integer};
 ghost use Rattle.serde_json.specs.View.{number_view, view};
-ghost use Rattle.isle_lsp_protocol.specs.Items.{listing_data};
+ghost use Rattle.isle_lsp_protocol.specs.Items.{list_data, listing_data};
 ghost use Rattle.isle_lsp_protocol.specs.Replies as wanted;
 ghost use Rattle.isle_lsp_protocol.specs.Replies.{IsReplyId, outcome_of};
 ghost use Rattle.isle_lsp_protocol.specs.Written.{Adds};
 
-use crate::items::{Listing, put_listing};
+use crate::items::{Item, Listing, plain_changes, put_list};
 use crate::machine::ErrorCode;
 use crate::writing::{into_text, put_text};
 use json::Writer;
@@ -81,23 +81,47 @@ pub fn listing_response(alloc: Global, id: &Value, listing: &Listing) -> Result<
     ensures { IfOk result (λ text. IsReplyId (view id.now) → wanted.IsTextOf
         (wanted.response (view id.now) (listing_data listing.now)) (string_bytes text)) }
 {
+    match listing {
+        Listing::Items(items) => list_response(alloc, id, items, false),
+        Listing::Changes(items) => list_response(alloc, id, items, true),
+        Listing::PlainChanges(items) => {
+            let changes = plain_changes(alloc, items)?;
+            response(alloc, id.clone()?, changes)
+        }
+    }
+}
+
+/// The text of a response whose result is written item by item.
+fn list_response(
+    alloc: Global,
+    id: &Value,
+    items: &[Item],
+    are_changes: bool,
+) -> Result<String, AllocError>
+    ensures { IfOk result (λ text. IsReplyId (view id.now) → wanted.IsTextOf
+        (wanted.response (view id.now) (list_data are_changes items.now)) (string_bytes text)) }
+{
     let mut out = Writer::new(Vec::new(alloc));
-    put_response(&mut out, id, listing)?;
+    put_response(&mut out, id, items, are_changes)?;
     Ok(into_text(out))
 }
 
-/// Writes a response whose result is a list.
-fn put_response(out: &mut Writer, id: &Value, listing: &Listing) -> Result<(), AllocError>
+fn put_response(
+    out: &mut Writer,
+    id: &Value,
+    items: &[Item],
+    are_changes: bool,
+) -> Result<(), AllocError>
     ensures before { out.new.before ≡ out.old.before }
-    ensures adds { OnOk result (IsReplyId (view id.now) → Adds
-        (wanted.response (view id.now) (listing_data listing.now)) out.old.tokens out.new.tokens) }
+    ensures adds { OnOk result (IsReplyId (view id.now) → Adds (wanted.response (view id.now)
+        (list_data are_changes items.now)) out.old.tokens out.new.tokens) }
 {
     out.begin_object()?;
     out.key("id")?;
     put_id(out, id)?;
     put_text(out, "jsonrpc", "2.0")?;
     out.key("result")?;
-    put_listing(out, listing)?;
+    put_list(out, items, are_changes)?;
     out.end_object()
 }
 

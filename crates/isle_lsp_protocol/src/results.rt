@@ -19,7 +19,9 @@ pub const CAPABILITIES: &str = "\
     \"documentFormattingProvider\":true,\"documentHighlightProvider\":true,\
     \"documentSymbolProvider\":true,\"hoverProvider\":true,\"positionEncoding\":\"utf-16\",\
     \"referencesProvider\":true,\"renameProvider\":{\"prepareProvider\":true},\
-    \"textDocumentSync\":{\"change\":2,\"openClose\":true},\"workspaceSymbolProvider\":true},\
+    \"textDocumentSync\":{\"change\":2,\"openClose\":true},\
+    \"workspace\":{\"workspaceFolders\":{\"changeNotifications\":true,\"supported\":true}},\
+    \"workspaceSymbolProvider\":true},\
     \"serverInfo\":{\"name\":\"isle-lsp\",\"version\":\"0.137.1\"}}";
 
 /// The result of `initialize`. The only error is `Memory`.

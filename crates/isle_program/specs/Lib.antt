@@ -1,3 +1,4 @@
 pub mod Allowances
 pub mod Messages
+pub mod Nesting
 pub mod Reading

@@ -10,3 +10,5 @@ mod cli;
 mod document;
 #[cfg(test)]
 mod expand;
+#[cfg(test)]
+mod manifest;

@@ -4,31 +4,31 @@ use Rattle.isle_lsp.proofs.Talks.{runs_start, runs_on, ran, ran_end, cut, explai
 use Rattle.isle_lsp.proofs.conversation.main_loop.Goals as goal
 
 pub loop-init : goal.loop-init
-loop-init g c = λ bytes e. runs_start bytes _ _ _ c.new-server.ensures e
+loop-init g c = λ world e m. runs_start world _ _ _ _ c.new-server.ensures e m
 
 pub returns-in-Ok-None-clause-ok : goal.returns-in-Ok-None-clause-ok
-returns-in-Ok-None-clause-ok g c = λ bytes e. (ran_end bytes _ _ _ _ (c.loop.invariant bytes e) _ (rw c.in-Ok-None.field-0-is at c.in-Ok-None.ensures)).0
+returns-in-Ok-None-clause-ok g c = λ world e m. (ran_end world _ _ _ _ _ (c.loop.invariant world e m) _ (rw c.in-Ok-None.field-0-is at c.in-Ok-None.ensures)).0
 
 pub returns-in-Ok-None-clause-over : goal.returns-in-Ok-None-clause-over
-returns-in-Ok-None-clause-over g c = λ bytes e. inr (inr (ran_end bytes _ _ _ _ (c.loop.invariant bytes e) _ (rw c.in-Ok-None.field-0-is at c.in-Ok-None.ensures)).1)
+returns-in-Ok-None-clause-over g c = λ world e m. inr (inr (ran_end world _ _ _ _ _ (c.loop.invariant world e m) _ (rw c.in-Ok-None.field-0-is at c.in-Ok-None.ensures)).1)
 
 pub returns-in-Err-clause-err : goal.returns-in-Err-clause-err
-returns-in-Err-clause-err g c = λ bytes e. explains_fault bytes _ _ _ _ (c.loop.invariant bytes e) c.in-Err.fault _ c.failure_of.ensures c.in-Err.ensures
+returns-in-Err-clause-err g c = λ world e m. explains_fault world _ _ _ _ _ (c.loop.invariant world e m) c.in-Err.fault _ c.failure_of.ensures c.in-Err.ensures
 
 pub returns-in_err-answer_message-clause-err : goal.returns-in_err-answer_message-clause-err
-returns-in_err-answer_message-clause-err g c = λ bytes e.
+returns-in_err-answer_message-clause-err g c = λ world e m.
     let p = err_from_is_err_and c.from_residual.result c.from_residual.ensures.1 in
     rw (p.1, p.2)
-    (explains_answer bytes _ _ _ _ (c.loop.invariant bytes e) c.in_err-answer_message.field-0.0 c.in-Ok-Some.body.items _ _ c.in_err-answer_message.ensures.kind (rw c.in-Ok-Some.field-0-is at c.in-Ok-Some.ensures) c.in_err-answer_message.ensures.err)
+    (explains_answer world _ _ _ _ _ (c.loop.invariant world e m) c.in_err-answer_message.field-0.0 c.in-Ok-Some.body.items _ _ c.in_err-answer_message.ensures.kind (rw c.in-Ok-Some.field-0-is at c.in-Ok-Some.ensures) c.in_err-answer_message.ensures.err)
 
 pub returns-then-matches-clause-ok : goal.returns-then-matches-clause-ok
-returns-then-matches-clause-ok g c = λ bytes e.
-    ran bytes _ _ _ _
-    (runs_on bytes _ _ _ _ (c.loop.invariant bytes e) _ c.in-Ok-Some.body.items _ _ (rw c.in-Ok-Some.field-0-is at c.in-Ok-Some.ensures) c.in_ok-answer_message.ensures.ok)
+returns-then-matches-clause-ok g c = λ world e m.
+    ran world _ _ _ _ _
+    (runs_on world _ _ _ _ _ (c.loop.invariant world e m) _ c.in-Ok-Some.body.items _ _ _ (rw c.in-Ok-Some.field-0-is at c.in-Ok-Some.ensures) c.in_ok-answer_message.ensures.ok)
 
 pub loop-preserved : goal.loop-preserved
-loop-preserved g c = λ bytes e.
-    runs_on bytes _ _ _ _ (c.loop.invariant bytes e) _ c.in-Ok-Some.body.items _ _ (rw c.in-Ok-Some.field-0-is at c.in-Ok-Some.ensures) c.in_ok-answer_message.ensures.ok
+loop-preserved g c = λ world e m.
+    runs_on world _ _ _ _ _ (c.loop.invariant world e m) _ c.in-Ok-Some.body.items _ _ _ (rw c.in-Ok-Some.field-0-is at c.in-Ok-Some.ensures) c.in_ok-answer_message.ensures.ok
 
 pub returns-clause-err : goal.returns-clause-err
-returns-clause-err g c = λ bytes e. cut bytes _ _ _ _ (c.loop.invariant bytes e)
+returns-clause-err g c = λ world e m. cut world _ _ _ _ _ (c.loop.invariant world e m)

@@ -39,10 +39,10 @@ returns-in-Completion-clause-reads c = rw c.in-Completion.is (rw c.as_str-in-Com
 pub returns-in-Edits-clause-tokens : goal.returns-in-Edits-clause-tokens
 returns-in-Edits-clause-tokens c =
     let Adds : List ℕ → Type 0 = λ text. OnOk c.put_document_edits.result
-    (c.put_document_edits.new.out.tokens ≡ c.args.out.now.tokens ++ json_tokens (outline (document_edits c.in-Edits.uri.now (edits_data text c.in-Edits.ranges.items)))) in
+    (c.put_document_edits.new.out.tokens ≡ c.args.out.now.tokens ++ json_tokens (outline (document_edits c.in-Edits.uri.now c.in-Edits.version (edits_data text c.in-Edits.ranges.items)))) in
     rw c.in-Edits.is (subst Adds c.as_str-in-Edits.ensures.value (rw c.deref.ensures.value at c.put_document_edits.ensures.tokens))
 
 pub returns-in-Edits-clause-reads : goal.returns-in-Edits-clause-reads
 returns-in-Edits-clause-reads c =
-    let Read : List ℕ → Type 0 = λ text. OnOk c.put_document_edits.result (Reads (document_edits c.in-Edits.uri.now (edits_data text c.in-Edits.ranges.items))) in
+    let Read : List ℕ → Type 0 = λ text. OnOk c.put_document_edits.result (Reads (document_edits c.in-Edits.uri.now c.in-Edits.version (edits_data text c.in-Edits.ranges.items))) in
     rw c.in-Edits.is (subst Read c.as_str-in-Edits.ensures.value (rw c.deref.ensures.value at c.put_document_edits.ensures.reads))

@@ -1,0 +1,3 @@
+pub mod FileUris
+pub mod Mendings
+pub mod Strings

@@ -1,0 +1,453 @@
+//! The files below an editor's folders, read from the machine's disk.
+
+use crate::disk::{Disk, File, View};
+use crate::documents::{Document, document_at};
+use isle_cli::folders::files_of;
+use isle_cli::program::Program;
+use isle_cli::sources::{SourceFault, read_file};
+use isle_lsp_escapes::uris::{path_of, uri_of};
+use isle_program_manifest::disk::{find, paths_of};
+use isle_program_manifest::manifest::{Manifest, ManifestFault, ProgramFiles, manifest_of};
+use isle_program_manifest::membership::has_file;
+use isle_program_manifest::patterns::covers;
+use std::alloc::{AllocError, Global};
+use std::fs::{Files, canonicalize};
+use std::io::ErrorKind;
+
+/// Whom `files_of` names in its messages, which nobody reads.
+const NOBODY: Program = Program {
+    name: "",
+    usage: "",
+    help: "",
+    version: "",
+};
+
+/// The words that may stand between `(decl` and the name that it declares.
+const DECLARATION_WORDS: [&str; 4] = ["pure", "multi", "partial", "rec"];
+
+/// The disk of the machine.
+#[derive(Clone, Copy)]
+pub struct Folders<'a, R> {
+    rt: &'a R,
+}
+
+impl<'a, R> Folders<'a, R> {
+    /// The disk of this machine.
+    pub fn new(rt: &'a R) -> Folders<'a, R> {
+        Folders { rt }
+    }
+}
+
+impl<R: Files + AllocGlobal + Clone + Drop> Disk for Folders<'_, R> {
+    fn look(
+        &mut self,
+        alloc: Global,
+        folders: &[String],
+        documents: &[Document],
+        uri: &str,
+    ) -> Result<View, AllocError> {
+        let mut view = View::nothing(alloc);
+        view.file = match document_at(documents, uri) {
+            Some(document) => String::from_str(alloc, document.file.as_str())?,
+            None => file_of(self.rt, uri)?,
+        };
+        let tops = real_folders(self.rt, folders)?;
+        for folder in &tops {
+            add_folder(self.rt, folder.as_str(), &tops, documents, &mut view)?;
+        }
+        add_asked(self.rt, documents, &mut view)?;
+        Ok(view)
+    }
+}
+
+/// Adds the file of the view, if it is no open document and in none of the folders.
+fn add_asked<R: Files + AllocGlobal + Clone + Drop>(
+    rt: &R,
+    documents: &[Document],
+    view: &mut View,
+) -> Result<(), AllocError> {
+    let path = view.file.as_str();
+    let is_open = documents
+        .iter()
+        .any(|document| document.file.as_str() == path);
+    let is_known = view.files.iter().any(|file| file.path.as_str() == path);
+    if is_open || is_known || !path.starts_with('/') {
+        return Ok(());
+    }
+    add_file(rt, path, &mut view.files)
+}
+
+/// The file that a URI names: its real path, or the URI itself if it names none.
+fn file_of<R: Files + AllocGlobal>(rt: &R, uri: &str) -> Result<String, AllocError> {
+    match path_of(rt.alloc(), uri)? {
+        Some(path) => real_path(rt, path.as_str()),
+        None => String::from_str(rt.alloc(), uri),
+    }
+}
+
+/// The path without links. Of a file that is not there, it is the path in the real one of the
+/// deepest folder that is.
+fn real_path<R: Files + AllocGlobal>(rt: &R, path: &str) -> Result<String, AllocError> {
+    let mut folder = path;
+    for _ in 0..=path.len() {
+        if let Some(mut real) = existing_path(rt, folder)? {
+            real.push_str(path.strip_prefix(folder).unwrap_or(""))?;
+            return Ok(real);
+        }
+        match folder.rsplit_once('/') {
+            Some((above, _)) => folder = above,
+            None => break,
+        }
+    }
+    String::from_str(rt.alloc(), path)
+}
+
+/// The real path of a file or a folder that exists.
+fn existing_path<R: Files + AllocGlobal>(rt: &R, path: &str) -> Result<Option<String>, AllocError> {
+    match canonicalize(rt, path) {
+        Ok(real) => Ok(Some(String::from_str(rt.alloc(), real.as_str())?)),
+        Err(error) if error.kind() == ErrorKind::OutOfMemory => Err(AllocError),
+        Err(_) => Ok(None),
+    }
+}
+
+/// The real paths of the folders with these URIs that exist.
+fn real_folders<R: Files + AllocGlobal>(
+    rt: &R,
+    folders: &[String],
+) -> Result<Vec<String>, AllocError> {
+    let mut tops = Vec::new(rt.alloc());
+    for uri in folders {
+        if let Some(path) = path_of(rt.alloc(), uri.as_str())? {
+            if let Some(folder) = existing_path(rt, path.as_str())? {
+                tops.push(folder)?;
+            }
+        }
+    }
+    Ok(tops)
+}
+
+/// Adds the files of one of the editor's folders, each once, and the programs that they make: those
+/// of the nearest `isle.toml` in the folder or above it. Without one, a folder below another one of
+/// the editor's has its files there.
+fn add_folder<R: Files + AllocGlobal + Clone + Drop>(
+    rt: &R,
+    folder: &str,
+    tops: &[String],
+    documents: &[Document],
+    view: &mut View,
+) -> Result<(), AllocError> {
+    if let Some(path) = find(rt, folder)? {
+        let top = folder_of(path.as_str());
+        let manifest = manifest_at(rt, path.as_str())?;
+        if let Some(manifest) = manifest {
+            if !top.is_empty() {
+                return add_manifest(rt, top, &manifest, documents, view);
+            }
+        }
+    }
+    if is_in_another(folder, tops) {
+        return Ok(());
+    }
+    add_all_files(rt, folder, documents, view)
+}
+
+/// Returns whether a folder is below one of these.
+fn is_in_another(folder: &str, tops: &[String]) -> bool {
+    for top in tops {
+        if top.as_str() != folder && is_above(top.as_str(), folder) {
+            return true;
+        }
+    }
+    false
+}
+
+/// Adds the programs of the manifest in a folder.
+fn add_manifest<R: Files + AllocGlobal + Clone + Drop>(
+    rt: &R,
+    top: &str,
+    manifest: &Manifest,
+    documents: &[Document],
+    view: &mut View,
+) -> Result<(), AllocError> {
+    for program in &manifest.programs {
+        add_program(rt, top, program, documents, view)?;
+    }
+    Ok(())
+}
+
+/// The manifest in a file, or `None` if it is none.
+fn manifest_at<R: Files + AllocGlobal + Clone + Drop>(
+    rt: &R,
+    path: &str,
+) -> Result<Option<Manifest>, AllocError> {
+    let text = match read_file(rt, path) {
+        Ok(text) => text,
+        Err(SourceFault::Memory) => return Err(AllocError),
+        Err(_) => return Ok(None),
+    };
+    match manifest_of(rt.alloc(), text.as_str()) {
+        Ok(manifest) => Ok(Some(manifest)),
+        Err(ManifestFault::Memory) => Err(AllocError),
+        Err(ManifestFault::Rejected { .. }) => Ok(None),
+    }
+}
+
+/// Adds a program of the manifest in a folder, and those of its files that are not there yet.
+fn add_program<R: Files + AllocGlobal + Clone + Drop>(
+    rt: &R,
+    top: &str,
+    program: &ProgramFiles,
+    documents: &[Document],
+    view: &mut View,
+) -> Result<(), AllocError> {
+    let mut paths = Vec::new(rt.alloc());
+    for path in paths_of(rt, top, program)?.paths {
+        if let Some(path) = existing_path(rt, path.as_str())? {
+            if !view.files.iter().any(|file| file.path == path) {
+                add_file(rt, path.as_str(), &mut view.files)?;
+            }
+            paths.push(path)?;
+        }
+    }
+    for document in documents {
+        let path = document.file.as_str();
+        if is_covered(top, program, path) && !has_file(&paths, path) {
+            paths.push(String::from_str(rt.alloc(), path)?)?;
+        }
+    }
+    view.programs.push(paths)?;
+    Ok(())
+}
+
+/// Returns whether a path is that of a file of the program of a manifest in a folder.
+fn is_covered(top: &str, program: &ProgramFiles, path: &str) -> bool {
+    match path.strip_prefix(top) {
+        Some(rest) if rest.starts_with('/') => {
+            let name = rest.trim_start_matches('/');
+            program
+                .files
+                .iter()
+                .any(|entry| is_entry_of(entry.as_str(), name))
+        }
+        _ => false,
+    }
+}
+
+/// Returns whether an entry of a manifest stands for a file, if it exists.
+fn is_entry_of(entry: &str, name: &str) -> bool {
+    let entry = entry.trim_start_matches("./").trim_end_matches('/');
+    entry.is_empty() || entry == "." || covers(entry, name)
+}
+
+/// Adds a file, unless it can't be read. Only a regular file is opened.
+fn add_file<R: Files + AllocGlobal + Clone + Drop>(
+    rt: &R,
+    path: &str,
+    files: &mut Vec<File>,
+) -> Result<(), AllocError> {
+    if !is_file(rt, path) {
+        return Ok(());
+    }
+    match read_file(rt, path) {
+        Ok(text) => {
+            let uri = uri_of(rt.alloc(), path)?;
+            let path = String::from_str(rt.alloc(), path)?;
+            files.push(File { path, uri, text })?;
+            Ok(())
+        }
+        Err(SourceFault::Memory) => Err(AllocError),
+        Err(_) => Ok(()),
+    }
+}
+
+fn is_file<R: Files>(rt: &R, path: &str) -> bool {
+    match rt.metadata(path) {
+        Ok(metadata) => metadata.is_file(),
+        Err(_) => false,
+    }
+}
+
+/// Adds all files below a folder, each once, and the programs that they make.
+fn add_all_files<R: Files + AllocGlobal + Clone + Drop>(
+    rt: &R,
+    folder: &str,
+    documents: &[Document],
+    view: &mut View,
+) -> Result<(), AllocError> {
+    let files = read_folder(rt, folder)?;
+    let texts = folder_texts(rt.alloc(), folder, &files, documents)?;
+    add_programs(rt.alloc(), &texts, &mut view.programs)?;
+    drop(texts);
+    let known = view.files.len();
+    for file in files {
+        let mut before = view.files.iter().take(known);
+        if !before.any(|other| other.path == file.path) {
+            view.files.push(file)?;
+        }
+    }
+    Ok(())
+}
+
+/// The ISLE files below a folder, sorted by path. Hidden folders, links and unreadable files are
+/// left out.
+fn read_folder<R: Files + AllocGlobal + Clone + Drop>(
+    rt: &R,
+    folder: &str,
+) -> Result<Vec<File>, AllocError> {
+    let mut files = Vec::new(rt.alloc());
+    let mut faults = String::new(rt.alloc());
+    for path in files_of(rt, &NOBODY, folder, &mut faults)? {
+        add_file(rt, path.as_str(), &mut files)?;
+    }
+    Ok(files)
+}
+
+/// A file of a folder as it is now: an open document, or a file on the disk.
+#[derive(Clone, Copy)]
+struct FolderText<'a> {
+    path: &'a str,
+    text: &'a str,
+}
+
+/// The files of a folder as they are now, without those in hidden folders. An open document need not
+/// be on the disk.
+fn folder_texts<'a>(
+    alloc: Global,
+    folder: &str,
+    files: &'a [File],
+    documents: &'a [Document],
+) -> Result<Vec<FolderText<'a>>, AllocError> {
+    let mut texts = Vec::new(alloc);
+    for document in documents {
+        let path = document.file.as_str();
+        if is_visible(folder, path) {
+            let text = document.text.as_str();
+            texts.push(FolderText { path, text })?;
+        }
+    }
+    for file in files {
+        let path = file.path.as_str();
+        if !documents
+            .iter()
+            .any(|document| document.file.as_str() == path)
+        {
+            let text = file.text.as_str();
+            texts.push(FolderText { path, text })?;
+        }
+    }
+    Ok(texts)
+}
+
+/// Adds the programs of a folder: one of all its files, unless they declare a term twice. Then the
+/// files of each folder below make one with those of the folders above it.
+fn add_programs(
+    alloc: Global,
+    texts: &[FolderText],
+    programs: &mut Vec<Vec<String>>,
+) -> Result<(), AllocError> {
+    if !declares_twice(alloc, texts)? {
+        programs.push(all_paths(alloc, texts)?)?;
+        return Ok(());
+    }
+    let mut folders = Vec::new(alloc);
+    for text in texts {
+        folders.push(folder_of(text.path))?;
+    }
+    folders.sort()?;
+    folders.dedup();
+    for folder in folders {
+        programs.push(paths_above(alloc, texts, folder)?)?;
+    }
+    Ok(())
+}
+
+/// The paths of the files that are in a folder or in one above it.
+fn paths_above(
+    alloc: Global,
+    texts: &[FolderText],
+    folder: &str,
+) -> Result<Vec<String>, AllocError> {
+    let mut paths = Vec::new(alloc);
+    for text in texts {
+        if is_above(folder_of(text.path), folder) {
+            paths.push(String::from_str(alloc, text.path)?)?;
+        }
+    }
+    Ok(paths)
+}
+
+/// The paths of all files.
+fn all_paths(alloc: Global, texts: &[FolderText]) -> Result<Vec<String>, AllocError> {
+    let mut paths = Vec::new(alloc);
+    for text in texts {
+        paths.push(String::from_str(alloc, text.path)?)?;
+    }
+    Ok(paths)
+}
+
+/// The folder of a path.
+fn folder_of(path: &str) -> &str {
+    match path.rsplit_once('/') {
+        Some((folder, _)) => folder,
+        None => "",
+    }
+}
+
+/// Returns whether a folder is another one, or above it.
+fn is_above(folder: &str, other: &str) -> bool {
+    match other.strip_prefix(folder) {
+        Some(rest) => rest.is_empty() || rest.starts_with('/'),
+        None => false,
+    }
+}
+
+/// Returns whether a path is below a folder, and in no hidden folder there.
+fn is_visible(folder: &str, path: &str) -> bool {
+    match path.strip_prefix(folder) {
+        Some(rest) => rest.starts_with('/') && !rest.contains("/."),
+        None => false,
+    }
+}
+
+/// A term that a file of a folder declares.
+#[derive(Clone, Copy)]
+struct Declared<'a> {
+    name: &'a str,
+    folder: &'a str,
+}
+
+/// Returns whether two files declare one term, neither of which is in a folder above the other's.
+/// Declarations are the lines that begin with `(decl `.
+fn declares_twice(alloc: Global, texts: &[FolderText]) -> Result<bool, AllocError> {
+    let mut all = Vec::new(alloc);
+    for text in texts {
+        let folder = folder_of(text.path);
+        for line in text.text.lines() {
+            if let Some(name) = declared_name(line) {
+                all.push(Declared { name, folder })?;
+            }
+        }
+    }
+    all.sort_by(|a, b| a.name.cmp(b.name).then(a.folder.cmp(b.folder)))?;
+    let mut last = Declared {
+        name: "",
+        folder: "",
+    };
+    for declared in &all {
+        if declared.name == last.name && !is_above(last.folder, declared.folder) {
+            return Ok(true);
+        }
+        last = *declared;
+    }
+    Ok(false)
+}
+
+/// The name that a line declares.
+fn declared_name(line: &str) -> Option<&str> {
+    let words = line.strip_prefix("(decl ")?;
+    let word = words
+        .split_whitespace()
+        .find(|word| !DECLARATION_WORDS.contains(word))?;
+    word.split(['(', ')', ';']).next()
+}

@@ -1,0 +1,128 @@
+//! The texts of a program: the open documents, and the files on the disk that are not open.
+
+ghost use Rattle.std.specs.Prelude.{◌≡◌, IfOk, filter, map};
+ghost use Rattle.isle_lsp_files.specs.Disks.{file_of, view_of};
+ghost use Rattle.isle_lsp_files.specs.Documents.{document_of};
+ghost use Rattle.isle_lsp_files.specs.Texts as wanted;
+ghost use Rattle.isle_lsp_features.specs.Programs.{text_of};
+
+use crate::disk::{File, View};
+use crate::documents::{Document, has_file};
+use isle_lsp_features::Text;
+use isle_program_manifest::membership;
+use isle_program_manifest::membership::union_with;
+use std::alloc::{AllocError, Global};
+
+/// The texts that a request is about: those of the programs that have the file that it names, or all
+/// if it names none.
+pub fn program_of<'a>(
+    alloc: Global,
+    documents: &'a [Document],
+    view: &'a View,
+    names_file: bool,
+) -> Result<Vec<Text<'a>>, AllocError>
+    ensures { IfOk result (λ program. map text_of program.items
+        ≡ wanted.program_of names_file (map document_of documents.now) (view_of view.now)) }
+{
+    let texts = all_texts(alloc, documents, view)?;
+    if names_file {
+        texts_beside(alloc, view, &texts)
+    } else {
+        Ok(texts)
+    }
+}
+
+/// All texts: the open documents, and the files that are not open.
+fn all_texts<'a>(
+    alloc: Global,
+    documents: &'a [Document],
+    view: &'a View,
+) -> Result<Vec<Text<'a>>, AllocError>
+    ensures { IfOk result (λ texts. map text_of texts.items
+        ≡ wanted.all_texts (map document_of documents.now) (view_of view.now)) }
+{
+    let mut texts = open_texts(alloc, documents, view)?;
+    for file in &view.files {
+        if !has_file(documents, file.path.as_str()) {
+            texts.push(closed_text(view, file))?;
+        }
+    }
+    Ok(texts)
+}
+
+/// The open documents, each file once.
+fn open_texts<'a>(
+    alloc: Global,
+    documents: &'a [Document],
+    view: &View,
+) -> Result<Vec<Text<'a>>, AllocError>
+    ensures { IfOk result (λ texts. map text_of texts.items
+        ≡ wanted.open_texts (view_of view.now) (map document_of documents.now)) }
+{
+    let mut texts = Vec::new(alloc);
+    let mut rest = documents;
+    while let [document, later @ ..] = rest {
+        if !has_file(later, document.file.as_str()) {
+            texts.push(open_text(view, document))?;
+        }
+        rest = later;
+    }
+    Ok(texts)
+}
+
+fn open_text<'a>(view: &View, document: &'a Document) -> Text<'a>
+    ensures { text_of result ≡ wanted.open_text (view_of view.now) (document_of document.now) }
+{
+    Text {
+        uri: document.uri.as_str(),
+        file: document.file.as_str(),
+        is_shared: is_shared(view, document.file.as_str()),
+        version: document.version,
+        text: document.text.as_str(),
+    }
+}
+
+fn closed_text<'a>(view: &View, file: &'a File) -> Text<'a>
+    ensures { text_of result ≡ wanted.closed_text (view_of view.now) (file_of file.now) }
+{
+    Text {
+        uri: file.uri.as_str(),
+        file: file.path.as_str(),
+        is_shared: is_shared(view, file.path.as_str()),
+        version: None,
+        text: file.text.as_str(),
+    }
+}
+
+/// Returns whether a program has this file and not the view's.
+fn is_shared(view: &View, file: &str) -> bool
+    ensures { result ≡ wanted.is_shared (view_of view.now) file.now }
+{
+    for program in &view.programs {
+        if membership::has_file(program, file)
+            && !membership::has_file(program, view.file.as_str())
+        {
+            return true;
+        }
+    }
+    false
+}
+
+/// The texts of the programs that have the view's file, and that file itself.
+fn texts_beside<'a>(
+    alloc: Global,
+    view: &View,
+    texts: &[Text<'a>],
+) -> Result<Vec<Text<'a>>, AllocError>
+    ensures { IfOk result (λ beside. map text_of beside.items
+        ≡ filter (wanted.is_beside (view_of view.now)) (map text_of texts.now)) }
+{
+    let paths = union_with(alloc, view.file.as_str(), &view.programs)?;
+    let mut beside = Vec::new(alloc);
+    for text in texts {
+        if text.file == view.file.as_str() || membership::has_file(&paths, text.file) {
+            beside.push(*text)?;
+        }
+    }
+    Ok(beside)
+}

@@ -1,0 +1,6 @@
+pub mod Paths
+pub mod Places
+pub mod Mistakes
+pub mod Manifest
+pub mod Patterns
+pub mod Membership

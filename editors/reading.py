@@ -1,0 +1,518 @@
+"""An independent reading of ISLE: the names of texts, where they are defined and used, and what renaming one makes of the texts."""
+
+import functools
+import re
+from typing import NamedTuple, Optional
+
+from client import Lines
+
+TYPE, TERM, CONSTANT, VARIABLE = "type", "term", "constant", "variable"
+RESERVED = {"_", "true", "false", "and", "let", "if", "rule", "pure", "multi", "partial", "rec"}
+SKIPPED = re.compile(r"(?:[ \t\r\n]+|;[^\r\n]*)*")
+COMMENT_END = re.compile(r"\(;|;\)")
+LITERAL = re.compile(r"-?(?:0[xXoObB])?[0-9A-Fa-f_]*")
+SYMBOL = re.compile(r"[^();@\f \t\r\n]+")
+# How definitions are read, by their words.
+DEFINITIONS = {it: it for it in "type decl rule extractor extern convert attr spec model form instantiate".split()}
+DEFINITIONS |= {"macro": "other", "state": "other"}
+RADIXES = {"x": 16, "o": 8, "b": 2}
+
+
+class Mark(NamedTuple):
+    """A place where a name is."""
+
+    kind: str
+    name: str  # in full, without the `$` of a constant; that of a variant has its type's name in front
+    start: int
+    end: int
+    defines: bool
+    binder: Optional[int] = None  # where a variable is bound, if it is
+    owner: Optional[str] = None  # the type of the variant that is defined here
+    whole: tuple = ()  # what is defined here, from where to where
+
+
+class Refused(Exception):
+    """A definition that does not parse."""
+
+
+class Token(NamedTuple):
+    kind: str  # `(`, `)`, `@`, `literal` or `symbol`
+    text: str
+    start: int
+    end: int
+
+
+def is_identifier(text):
+    """Whether a symbol is an identifier. Of characters outside ASCII letters and digits count."""
+    first, *rest = text
+    return (first.isalpha() or first in "_$") and all(it.isalpha() or it.isnumeric() or it in "_$." for it in rest)
+
+
+def literal_has_value(text):
+    """Whether a literal is a number of at most 128 bits."""
+    digits = text.removeprefix("-")
+    radix = RADIXES.get(digits[1:2].lower(), 10) if digits[:1] == "0" else 10
+    digits = (digits[2:] if radix != 10 else digits).replace("_", "")
+    try:
+        number = int(digits, radix)
+    except ValueError:
+        return False
+    return number < 1 << (127 if text.startswith("-") else 128)
+
+
+def comment_end(text, start):
+    """Where the block comment ends that begins here, or None."""
+    depth = 0
+    for found in COMMENT_END.finditer(text, start):
+        depth += 1 if found[0] == "(;" else -1
+        if depth == 0:
+            return found.end()
+    return None
+
+
+def tokens_of(text):
+    """The tokens of a text, and whether they stop at what is no token."""
+    tokens, at = [], 0
+    while True:
+        at = SKIPPED.match(text, at).end()
+        if at == len(text):
+            return tokens, False
+        first = text[at]
+        if text.startswith("(;", at):
+            at = comment_end(text, at)
+            if at is None:
+                return tokens, True
+            continue
+        if first in "()@":
+            kind, end = first, at + 1
+        elif first == "\f":
+            return tokens, True
+        elif first in "0123456789" or (first == "-" and SYMBOL.match(text, at + 1)):
+            kind, end = "literal", LITERAL.match(text, at).end()
+            if not literal_has_value(text[at:end]):
+                return tokens, True
+        else:
+            kind, end = "symbol", SYMBOL.match(text, at).end()
+        tokens.append(Token(kind, text[at:end], at, end))
+        at = end
+
+
+class Reader:
+    """Reads the definitions of a text, one after another, and marks its names."""
+
+    def __init__(self, tokens):
+        self.tokens, self.at, self.marks, self.bound, self.mute = tokens, 0, [], [], False
+
+    # ---- tokens
+
+    def peek(self):
+        return self.tokens[self.at] if self.at < len(self.tokens) else Token("end", "", 0, 0)
+
+    def next(self, kind=None):
+        token = self.peek()
+        if token.kind == "end" or (kind and token.kind != kind):
+            raise Refused
+        self.at += 1
+        return token
+
+    def eat(self, word):
+        """Whether this word is next, which is then read."""
+        found = self.peek().kind == "symbol" and self.peek().text == word
+        self.at += found
+        return found
+
+    def name(self):
+        token = self.next("symbol")
+        if not is_identifier(token.text):
+            raise Refused
+        return token
+
+    def until_closed(self, read):
+        """Reads until the list ends, and its `)`."""
+        found = []
+        while self.peek().kind != ")":
+            found.append(read())
+        return found, self.next(")")
+
+    def in_list(self, read):
+        """Reads what stands in parentheses."""
+        self.next("(")
+        found = read()
+        self.next(")")
+        return found
+
+    def skip_list(self):
+        """Passes over what is left of a list, and its `)`."""
+        depth = 1
+        while depth:
+            depth += {"(": 1, ")": -1}.get(self.next().kind, 0)
+
+    # ---- marks
+
+    def mark(self, kind, token, defines=False, **more):
+        if not self.mute:
+            name = token.text[1:] if kind == CONSTANT else token.text
+            self.marks.append(Mark(kind, more.pop("name", name), token.start, token.end, defines, **more))
+
+    def uses(self, kind):
+        token = self.name()
+        self.mark(kind, token)
+        return token
+
+    def binder(self, name):
+        """Where a variable is bound that is in scope: the last one of this name."""
+        return next((start for text, start in reversed(self.bound) if text == name), None)
+
+    def occurs(self, token):
+        """A variable in a pattern: the first one binds it."""
+        if self.mute:
+            return
+        binder = self.binder(token.text)
+        if binder is None:
+            binder = token.start
+            self.bound.append((token.text, binder))
+        self.mark(VARIABLE, token, binder == token.start, binder=binder)
+
+    # ---- patterns and expressions
+
+    def atom(self):
+        """A literal, a constant or a word; or the symbol of a variable."""
+        token = self.next()
+        if token.kind == "literal" or token.text in ("true", "false"):
+            return None
+        if token.kind != "symbol" or not is_identifier(token.text):
+            raise Refused
+        if token.text.startswith("$"):
+            self.mark(CONSTANT, token)
+            return None
+        return token
+
+    def pattern(self):
+        if self.peek().kind == "(":
+            self.next()
+            if not self.eat("and"):
+                self.uses(TERM)
+            self.until_closed(self.pattern)
+        elif not self.eat("_"):
+            token = self.atom()
+            if token:
+                self.occurs(token)
+                if self.peek().kind == "@":
+                    self.next()
+                    self.pattern()
+
+    def expression(self):
+        if self.peek().kind != "(":
+            token = self.atom()
+            if token:
+                binder = self.binder(token.text)
+                self.mark(VARIABLE, token, False, binder=binder)
+            return
+        self.next()
+        if not self.eat("let"):
+            self.uses(TERM)
+            self.until_closed(self.expression)
+            return
+        self.next("(")
+        defined, _ = self.until_closed(self.let)
+        self.expression()
+        self.next(")")
+        if not self.mute and defined:
+            del self.bound[-len(defined) :]
+
+    def let(self):
+        """A definition of a `let`: the variable is in scope behind its value."""
+        self.next("(")
+        token = self.name()
+        self.uses(TYPE)
+        self.expression()
+        self.next(")")
+        if not self.mute:
+            self.bound.append((token.text, token.start))
+            self.mark(VARIABLE, token, True, binder=token.start)
+
+    def condition(self):
+        """`(if-let P X)` or `(if X)`. The variables of P are bound behind X."""
+        self.next("(")
+        if self.eat("if"):
+            self.expression()
+        else:
+            self.next("symbol")
+            begin, self.mute = self.at, True
+            self.pattern()
+            self.mute = False
+            self.expression()
+            end, self.at = self.at, begin
+            self.pattern()
+            self.at = end
+        self.next(")")
+
+    def is_condition(self):
+        ahead = self.tokens[self.at : self.at + 2]
+        return len(ahead) == 2 and ahead[0].kind == "(" and ahead[1].text in ("if", "if-let")
+
+    # ---- definitions
+
+    def rule(self):
+        if self.peek().kind == "symbol":
+            self.name()
+        if self.peek().kind == "literal":
+            self.next()
+        self.pattern()
+        while self.is_condition():
+            self.condition()
+        self.expression()
+        self.next(")")
+
+    def extractor(self):
+        self.next("(")
+        self.uses(TERM)
+        self.until_closed(lambda: self.occurs(self.name()))
+        self.pattern()
+        self.next(")")
+
+    def decl(self):
+        for flag in ("pure", "multi", "partial", "rec"):
+            self.eat(flag)
+        start, token = self.begun, self.name()
+        place = len(self.marks)
+        self.next("(")
+        self.until_closed(lambda: self.uses(TYPE))
+        self.uses(TYPE)
+        end = self.next(")").end
+        self.marks.insert(place, Mark(TERM, token.text, token.start, token.end, True, whole=(start, end)))
+
+    def type(self):
+        start, token, place = self.begun, self.name(), len(self.marks)
+        while self.eat("extern") or self.eat("nodebug"):
+            pass
+        self.next("(")
+        if self.eat("primitive"):
+            self.name()
+            self.next(")")
+        elif self.eat("enum"):
+            self.until_closed(lambda: self.variant(token))
+        elif self.eat("struct"):
+            self.fields()
+        else:
+            raise Refused
+        end = self.next(")").end
+        self.marks.insert(place, Mark(TYPE, token.text, token.start, token.end, True, whole=(start, end)))
+
+    def variant(self, owner):
+        if self.peek().kind == "(":
+            start, token, place = self.next().start, self.name(), len(self.marks)
+            end = self.fields().end
+        else:
+            token, place = self.name(), len(self.marks)
+            start, end = token.start, token.end
+        name = f"{owner.text}.{token.text}"
+        self.marks.insert(place, Mark(TERM, name, token.start, token.end, True, owner=owner.text, whole=(start, end)))
+
+    def fields(self):
+        """The fields of a variant or a struct, all named or none, and the `)`."""
+        if self.peek().kind == "(":
+            return self.until_closed(lambda: self.in_list(lambda: (self.name(), self.uses(TYPE))))[1]
+        return self.until_closed(lambda: self.uses(TYPE))[1]
+
+    def extern(self):
+        start = self.begun
+        if self.eat("const"):
+            token, place = self.next("symbol"), len(self.marks)
+            if token.text[0] != "$" or not is_identifier(token.text):
+                raise Refused
+            self.uses(TYPE)
+            end = self.next(")").end
+            self.marks.insert(place, Mark(CONSTANT, token.text[1:], token.start, token.end, True, whole=(start, end)))
+            return
+        if self.eat("extractor"):
+            self.eat("infallible")
+        elif not self.eat("constructor"):
+            raise Refused
+        self.uses(TERM)
+        self.name()
+        self.next(")")
+
+    def convert(self):
+        self.uses(TYPE)
+        self.uses(TYPE)
+        self.uses(TERM)
+        self.next(")")
+
+    def attr(self):
+        if self.eat("rule"):
+            self.name()
+        else:
+            self.uses(TERM)
+        self.until_closed(self.attribute)
+
+    def attribute(self):
+        self.next("(")
+        if self.eat("tag"):
+            self.name()
+        elif not self.eat("veri") or not (self.eat("chain") or self.eat("priority")):
+            raise Refused
+        self.next(")")
+
+    def spec(self):
+        self.next("(")
+        self.uses(TERM)
+        self.until_closed(self.name)
+        self.skip_list()
+
+    def model(self):
+        """`(model I (type M))`, which names a type, or `(model I (const E))`."""
+        token = self.name()
+        self.next("(")
+        if self.eat("type"):
+            self.mark(TYPE, token)
+        elif not self.eat("const"):
+            raise Refused
+        self.skip_list()
+        self.next(")")
+
+    def form(self):
+        self.name()
+        self.until_closed(self.signature)
+
+    def instantiate(self):
+        self.uses(TERM)
+        if self.peek().kind == "(":
+            self.until_closed(self.signature)
+        else:
+            self.name()
+            self.skip_list()
+
+    def signature(self):
+        """`((args M..) (ret M))`: what else a list of it has is not read."""
+        self.next("(")
+        for word in ("args", "ret"):
+            self.next("(")
+            if not self.eat(word):
+                raise Refused
+            self.skip_list()
+        self.next(")")
+
+    def other(self):
+        self.skip_list()
+
+    def definition(self):
+        self.begun = self.next("(").start
+        word = self.next("symbol").text
+        if word not in DEFINITIONS:
+            raise Refused
+        self.bound = []
+        getattr(self, DEFINITIONS[word])()
+
+
+class Reading:
+    """What is known of a text: its names, up to the first definition that does not parse."""
+
+    def __init__(self, text):
+        self.text, self.lines = text, Lines(text)
+        tokens, is_faulty = tokens_of(text)
+        reader, self.is_broken = Reader(tokens), is_faulty
+        known, self.definitions = 0, []
+        while reader.at < len(tokens):
+            try:
+                reader.definition()
+            except Refused:
+                self.is_broken = True
+                break
+            if is_faulty and reader.at == len(tokens):
+                break  # nobody knows whether the definition before a lexical error ends there
+            known = len(reader.marks)
+            self.definitions.append((reader.begun, tokens[reader.at - 1].end))
+        # Definitions are told in the order of the text, and those of a type before its variants.
+        self.marks = reader.marks[:known]
+        self.symbols = [it for it in self.marks if it.defines and it.kind != VARIABLE]
+        self.marks.sort(key=lambda it: it.start)
+        self.declared = {it.name for it in self.symbols if it.kind == TERM and it.owner is None}
+
+    def at(self, offset):
+        """The name at a place, or right before it."""
+        return next((it for it in self.marks if it.start <= offset <= it.end), None)
+
+    def range(self, mark):
+        return self.lines.range(mark.start, mark.end)
+
+
+@functools.lru_cache(maxsize=512)
+def reading(text):
+    return Reading(text)
+
+
+class Renaming:
+    """What renaming makes of texts. The name is that of a mark in the text of a number; the texts are readings."""
+
+    def __init__(self, texts, number, mark, new):
+        self.texts, self.number, self.mark, self.new = texts, number, mark, new
+        self.name, self.kind = mark.name, mark.kind
+        self.all = [it for text in texts for it in text.marks] if self.kind != VARIABLE else texts[number].marks
+        self.variants = {it.name for it in self.all if it.owner == self.name} if self.kind == TYPE else set()
+
+    def is_same(self, mark):
+        if self.kind == VARIABLE:
+            return mark.kind == VARIABLE and mark.binder is not None and mark.binder == self.mark.binder
+        return mark.kind == self.kind and mark.name == self.name
+
+    def has(self, kind, name):
+        return any(it.kind == kind and it.name == name for it in self.all)
+
+    def refusal(self):
+        """Why the name can't be renamed, or None."""
+        if any(it.is_broken for it in self.texts):
+            return "a text is broken"
+        if not self.new or not is_identifier(self.new) or self.new.startswith("$") or self.new in RESERVED:
+            return "no name"
+        defined = [it for it in self.all if self.is_same(it) and it.defines]
+        if not defined:
+            return "undefined"
+        if any(it.owner for it in defined):
+            return "a variant"
+        if self.is_taken():
+            return "taken"
+        return "captured" if self.kind == VARIABLE and self.is_captured() else None
+
+    def is_taken(self):
+        if self.kind == VARIABLE:
+            return False
+        if self.has(self.kind, self.new):
+            return True
+        moved = {self.new + it.removeprefix(self.name) for it in self.variants}
+        shared = any(it.owner not in (None, self.name) and it.name in self.variants for it in self.all)
+        return shared or any(it.kind == TERM and it.name in moved for it in self.all)
+
+    def is_captured(self):
+        """Whether the variables of the text have other binders afterwards."""
+        before, after = (self.binders(it) for it in (self.texts[self.number], Reading(self.after(self.texts[self.number]))))
+        return before != after
+
+    @staticmethod
+    def binders(text):
+        """For each variable which one binds it, by number."""
+        variables = [it for it in text.marks if it.kind == VARIABLE]
+        numbers = {it.start: number for number, it in enumerate(variables)}
+        return [None if it.binder is None else numbers[it.binder] for it in variables]
+
+    def places(self, text):
+        """What is replaced in a text."""
+        sign = 1 if self.kind == CONSTANT else 0
+        for it in text.marks:
+            if self.is_same(it):
+                yield it.start + sign, it.end
+            elif self.kind == TYPE and it.kind == TERM and it.name in self.variants and it.owner is None:
+                yield it.start, it.start + len(self.name)
+
+    def after(self, text):
+        """The text after the renaming."""
+        made, done = [], 0
+        for start, end in self.places(text):
+            made += [text.text[done:start], self.new]
+            done = end
+        return "".join([*made, text.text[done:]])
+
+    def changed(self):
+        """By number the texts that change, after the renaming."""
+        numbers = [self.number] if self.kind == VARIABLE else range(len(self.texts))
+        return {it: self.after(self.texts[it]) for it in numbers if any(True for _ in self.places(self.texts[it]))}
