@@ -6,7 +6,7 @@ use Rattle.std.specs.List.{prefix_len, list_all}
 use Rattle.isle_base.specs.Skips.{begins_with, is_blank}
 use Rattle.isle_tidy_core.specs.Finds.{AreClean, FindsGap, part}
 use Rattle.isle_tidy_core.specs.Grammar.{gap_of}
-use Rattle.isle_tidy_core.proofs.Keeping.{part_joined, part_none}
+use Rattle.isle_tidy_core.proofs.Pending.{part_joined, part_none}
 use Rattle.isle_tidy_core.proofs.Keeps.{spaces_beside, spaces_blank, indentation_blank, indentation_gap, is_blank-10}
 use Rattle.isle_tidy_core.proofs.Standing.{split_at}
 use Rattle.isle_tidy_layout.specs.Writing.{gap_text}

@@ -7,7 +7,7 @@ use Rattle.isle_tidy_layout.specs.Entries.{Lexeme, opening, closing, at_sign, at
 use Rattle.isle_tidy_layout.specs.declared.entries.Gap.{Gap}
 use Rattle.isle_tidy_layout.specs.declared.entries.Gap.TheVariants.{Beside, Tabbed, Below}
 use Rattle.isle_tidy_core.specs.Fitting.{IsLexeme, AreEntries, follows, may_touch, fits, AreFit}
-use Rattle.isle_tidy_layout.specs.Placing.{before_trimmed, trimmed, tidied, kind_of, closings, some, widened, room, Here, placed_gap, reached, passed, placed_after, text_start, placed}
+use Rattle.isle_tidy_layout.specs.Placing.{before_trimmed, trimmed, tidied, kind_of, closings, some, result_width, room, Here, placed_gap, reached, passed, placed_after, text_start, placed}
 use Rattle.isle_tidy_layout.specs.declared.placing.Kind.{Kind}
 use Rattle.isle_tidy_layout.specs.declared.placing.Kind.TheVariants.{Start, Open, Close, At, Atom, LineComment, BlockComment}
 use Rattle.isle_tidy_layout.proofs.Again.{kind_tidied}
@@ -38,20 +38,20 @@ touching : (before kind : Kind) (width : ℕ) → may_touch before kind ≡ true
 touching before kind zero h k = h
 touching before kind (suc width) h k = k
 
-apart : (before kind : Kind) (width : ℕ) → follows before (Beside 1) ≡ true → fits before (Beside (widened some width)) kind ≡ true
+apart : (before kind : Kind) (width : ℕ) → follows before (Beside 1) ≡ true → fits before (Beside (result_width some width)) kind ≡ true
 apart before kind zero k = k
 apart before kind (suc width) k = k
 
-beside_fits : (before kind : Kind) (width : ℕ) → follows before (Beside width) ≡ true → fits before (Beside (widened (room before kind) width)) kind ≡ true
+beside_fits : (before kind : Kind) (width : ℕ) → follows before (Beside width) ≡ true → fits before (Beside (result_width (room before kind) width)) kind ≡ true
 beside_fits Start kind width h = cc
 beside_fits LineComment kind width h = cc
 beside_fits Open LineComment width h = apart Open LineComment width refl
-beside_fits Open kind width h = touching Open kind (widened (room Open kind) width) refl refl
-beside_fits Close kind width h = touching Close kind (widened (room Close kind) width) refl refl
-beside_fits At kind width h = touching At kind (widened (room At kind) width) refl refl
+beside_fits Open kind width h = touching Open kind (result_width (room Open kind) width) refl refl
+beside_fits Close kind width h = touching Close kind (result_width (room Close kind) width) refl refl
+beside_fits At kind width h = touching At kind (result_width (room At kind) width) refl refl
 beside_fits Atom Atom width h = apart Atom Atom width refl
-beside_fits Atom kind width h = touching Atom kind (widened (room Atom kind) width) refl refl
-beside_fits BlockComment kind width h = touching BlockComment kind (widened (room BlockComment kind) width) refl refl
+beside_fits Atom kind width h = touching Atom kind (result_width (room Atom kind) width) refl refl
+beside_fits BlockComment kind width h = touching BlockComment kind (result_width (room BlockComment kind) width) refl refl
 
 follows_alike : (before : Kind) (width : ℕ) → follows before (Tabbed width) ≡ true → follows before (Beside 1) ≡ true
 follows_alike Start width h = h

@@ -6,9 +6,9 @@ pub mod Comparing
 pub mod Existing
 pub mod Fitted
 pub mod GapLemmas
-pub mod Glances
+pub mod LexemeChecks
 pub mod Keeps
-pub mod Keeping
+pub mod Pending
 pub mod Listing
 pub mod Matching
 pub mod Moved

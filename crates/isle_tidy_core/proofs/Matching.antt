@@ -234,8 +234,8 @@ unclosed_within text taken p h some_open =
 pub unclosed_here : (text : List ℕ) (taken : List Lexeme) (p : Parentheses) (e : Error) → HasReadAll text taken p → (p.depth ≡ 0 → ⊥) → StandsAt p.outermost e → IsRefusedFor text e
 unclosed_here text taken p e h some_open s =
     let o = open_split text taken p h some_open in
-    let kept : none_closes 0 (map token_of o.2) ≡ true = ap (none_closes 0) (sym (append-nil (map token_of o.2))) ∙ o.6 [] in
-    unclosed o.0 o.2 o.1 (subst (λ xs. lexes text xs end) o.3 h.lexed) o.4 kept (subst (λ n. StandsAt n e) (sym o.5) s)
+    let pending : none_closes 0 (map token_of o.2) ≡ true = ap (none_closes 0) (sym (append-nil (map token_of o.2))) ∙ o.6 [] in
+    unclosed o.0 o.2 o.1 (subst (λ xs. lexes text xs end) o.3 h.lexed) o.4 pending (subst (λ n. StandsAt n e) (sym o.5) s)
 
 pub unmatched_within : (text : List ℕ) (offset : ℕ) → IsUnmatched text offset → offset ≤ length text
 unmatched_within text offset u =

@@ -189,18 +189,18 @@ placed_tidy here (e ∷ es) =
     let gap = placed_gap here e.gap kind (closings es) in
     (tidied_again e.lexeme, few_placed here e.gap kind (closings es), placed_tidy (passed (reached here kind e.gap gap) e.lexeme) es)
 
-module _ (holds : List ℕ → Bool) (kept : IsKept holds) where
+module _ (holds : List ℕ → Bool) (pending : IsKept holds) where
   atom_outside : (bs rest : List ℕ) → list_all in_symbol bs ≡ true → Outside holds rest → Outside holds (bs ++ rest)
   atom_outside [] rest all o = o
   atom_outside (b ∷ bs) rest all o =
       let parts = and_parts (in_symbol b) (list_all in_symbol bs) all in
       byte b refl (bytes.opens_not b (bs ++ rest) (bytes.symbol_ne_open b parts.0)) (bytes.symbol_ne_semicolon b parts.0)
-      (kept.plain b (bs ++ rest) (bytes.symbol_not_blank b parts.0)) (atom_outside bs rest parts.1 o)
+      (pending.plain b (bs ++ rest) (bytes.symbol_not_blank b parts.0)) (atom_outside bs rest parts.1 o)
 
   comment_holds : (b : ℕ) (after rest : List ℕ) → in_line b ≡ true → list_all in_line after ≡ true → (after ≡ [] → (eqb b 32 || eqb b 9) ≡ false) → holds (b ∷ (after ++ rest)) ≡ true
-  comment_holds b [] rest h all last = kept.comment_end b rest h (last refl)
+  comment_holds b [] rest h all last = pending.comment_end b rest h (last refl)
   comment_holds b (c ∷ cs) rest h all last =
-      kept.in_comment b c (cs ++ rest) h (and_parts (in_line c) (list_all in_line cs) all).0
+      pending.in_comment b c (cs ++ rest) h (and_parts (in_line c) (list_all in_line cs) all).0
 
   line_holds : (bs rest : List ℕ) → list_all in_line bs ≡ true → trimmed bs ≡ bs → HoldsInLine holds (59 ∷ bs) rest
   line_holds bs rest all t = λ before after b e.
@@ -212,17 +212,17 @@ module _ (holds : List ℕ → Bool) (kept : IsKept holds) where
   trimmed_bytes bs e = cc
 
   lexeme_outside : (x : Lexeme) (rest : List ℕ) → IsLexeme x → tidied x ≡ x → Stops (kind_of x) rest → Outside holds rest → Outside holds (spelling x ++ rest)
-  lexeme_outside opening rest s t stops o = byte 40 refl stops refl (kept.plain 40 rest is_blank-40) o
-  lexeme_outside closing rest s t stops o = byte 41 refl (bytes.opens_not 41 rest refl) refl (kept.plain 41 rest is_blank-41) o
-  lexeme_outside at_sign rest s t stops o = byte 64 refl (bytes.opens_not 64 rest refl) refl (kept.plain 64 rest is_blank-64) o
+  lexeme_outside opening rest s t stops o = byte 40 refl stops refl (pending.plain 40 rest is_blank-40) o
+  lexeme_outside closing rest s t stops o = byte 41 refl (bytes.opens_not 41 rest refl) refl (pending.plain 41 rest is_blank-41) o
+  lexeme_outside at_sign rest s t stops o = byte 64 refl (bytes.opens_not 64 rest refl) refl (pending.plain 64 rest is_blank-64) o
   lexeme_outside (atom bs) rest s t stops o = atom_outside bs rest (atom_in bs s) o
   lexeme_outside (line_comment bs) rest s t stops o =
       line_outside refl (record { split = refl; each = s; stops = stops }) (line_holds bs rest s (trimmed_bytes bs t)) o
   lexeme_outside (block_comment bs) rest s t stops o = comment_outside refl (block_comment_moves bs bs [] rest (sym (append-nil bs)) s) o
 
   space_holds : (n b : ℕ) (rest : List ℕ) → is_blank b ≡ false → holds (32 ∷ (replicate n 32 ++ b ∷ rest)) ≡ true
-  space_holds zero b rest h = kept.spaced b rest (not_feed b h) (not_return b h)
-  space_holds (suc n) b rest h = kept.spaced 32 (replicate n 32 ++ b ∷ rest) refl refl
+  space_holds zero b rest h = pending.spaced b rest (not_feed b h) (not_return b h)
+  space_holds (suc n) b rest h = pending.spaced 32 (replicate n 32 ++ b ∷ rest) refl refl
 
   spaces_outside : (n b : ℕ) (rest : List ℕ) → is_blank b ≡ false → Outside holds (b ∷ rest) → Outside holds (replicate n 32 ++ b ∷ rest)
   spaces_outside zero b rest h o = o
@@ -230,11 +230,11 @@ module _ (holds : List ℕ → Bool) (kept : IsKept holds) where
       byte 32 refl (bytes.opens_not 32 (replicate n 32 ++ b ∷ rest) refl) refl (space_holds n b rest h) (spaces_outside n b rest h o)
 
   feeds_outside : (n y : ℕ) (ys : List ℕ) → n ≤ 2 → eqb y 10 ≡ false → Outside holds (y ∷ ys) → Outside holds (10 ∷ (replicate n 10 ++ y ∷ ys))
-  feeds_outside zero y ys h k o = byte 10 refl (bytes.opens_not 10 (y ∷ ys) refl) refl (kept.one y ys k) o
+  feeds_outside zero y ys h k o = byte 10 refl (bytes.opens_not 10 (y ∷ ys) refl) refl (pending.one y ys k) o
   feeds_outside (suc zero) y ys h k o =
-      byte 10 refl (bytes.opens_not 10 (10 ∷ y ∷ ys) refl) refl (kept.two y ys k) (feeds_outside zero y ys (omega arith) k o)
+      byte 10 refl (bytes.opens_not 10 (10 ∷ y ∷ ys) refl) refl (pending.two y ys k) (feeds_outside zero y ys (omega arith) k o)
   feeds_outside (suc (suc zero)) y ys h k o =
-      byte 10 refl (bytes.opens_not 10 (10 ∷ 10 ∷ y ∷ ys) refl) refl (kept.three y ys k) (feeds_outside (suc zero) y ys (omega arith) k o)
+      byte 10 refl (bytes.opens_not 10 (10 ∷ 10 ∷ y ∷ ys) refl) refl (pending.three y ys k) (feeds_outside (suc zero) y ys (omega arith) k o)
   feeds_outside (suc (suc (suc n))) y ys h k o = absurd (omega arith)
 
   lines_outside : (empty column b : ℕ) (rest : List ℕ) → empty ≤ 2 → is_blank b ≡ false → Outside holds (b ∷ rest) → Outside holds (10 ∷ (replicate empty 10 ++ (replicate column 32 ++ b ∷ rest)))
@@ -261,7 +261,7 @@ module _ (holds : List ℕ → Bool) (kept : IsKept holds) where
   begun x rest s = begins_plain (spelling x ++ rest) x rest refl (no_blank x rest s) (λ none. spelt_some x rest s none)
 
   entries_outside : (before : Kind) (es : List Entry) → AreFit before es → AreTidy es → Outside holds (written_after es)
-  entries_outside before [] are t = byte 10 refl refl refl kept.last nothing
+  entries_outside before [] are t = byte 10 refl refl refl pending.last nothing
   entries_outside before (e ∷ es) are t =
       let more = written_after es in
       let o = lexeme_outside e.lexeme more are.0 t.0 (entries_stop (kind_of e.lexeme) es are.2) (entries_outside (kind_of e.lexeme) es are.2 t.2) in

@@ -69,5 +69,5 @@ module _ (size other_size : ℕ) where
 
 pub tidied_tokens : (text answer : List ℕ) → IsTidyTextOf text answer → HaveSameTokens text answer
 tidied_tokens text answer t =
-    let kept : IsDocument answer (placed_entries t.document) = subst (λ xs. IsDocument xs (placed_entries t.document)) (sym t.is_written) (placed_keeps text t.document t.is_document) in
-    both_entries (length text) (length answer) t.document (placed_entries t.document) (Below 0 0) (Below 0 0) text answer t.is_document.0 kept.0 (lexemes_stay t.document)
+    let pending : IsDocument answer (placed_entries t.document) = subst (λ xs. IsDocument xs (placed_entries t.document)) (sym t.is_written) (placed_keeps text t.document t.is_document) in
+    both_entries (length text) (length answer) t.document (placed_entries t.document) (Below 0 0) (Below 0 0) text answer t.is_document.0 pending.0 (lexemes_stay t.document)

@@ -10,8 +10,8 @@ use Rattle.isle_tidy_core.specs.declared.reader.Step.TheVariants.{More, End, Ref
 use Rattle.isle_tidy_layout.specs.Entries.{Lexeme, opening, closing, at_sign, atom, line_comment, block_comment, Entry}
 use Rattle.isle_tidy_layout.specs.EntriesView.{lexeme_of, entry_of}
 use Rattle.isle_tidy_core.specs.Finds.{FindsCleanGap, FindsEntry, FindsGap, part}
-use Rattle.isle_tidy_core.specs.Keeping.{AreKept, Puts}
-use Rattle.isle_tidy_core.specs.declared.kept.Kept.{Kept}
+use Rattle.isle_tidy_core.specs.Pending.{IsPending, Puts}
+use Rattle.isle_tidy_core.specs.declared.output.PendingRange.{PendingRange}
 use Rattle.isle_tidy_core.specs.declared.reader.Span.{Span}
 use Rattle.isle_tidy_core.specs.Grammar.{SpellsEntries}
 use Rattle.isle_tidy_layout.specs.Placing.{tidied, kind_of, closings, Here, placed_gap, reached, passed, placed_after, text_start, placed}
@@ -72,34 +72,34 @@ one_written text gap at count e span here placed_to old new so_far found ahead i
 abbrev on_text : (text out : List ℕ) (t : Tidying) → HasWritten text out t → HasWritten t.text.now out t
 on_text text out t h = subst (λ xs. HasWritten xs out t) (sym h.same_text) h
 
-pub has_begun : (t : Tidying) → HasDocument t.text.now → IsUtf8 t.text.now → IsAt t.placer text_start → t.gap ≡ Below 0 0 → t.at ≡ 0 → t.kept ≡ 0 → HasWritten t.text.now [] t
+pub has_begun : (t : Tidying) → HasDocument t.text.now → IsUtf8 t.text.now → IsAt t.placer text_start → t.gap ≡ Below 0 0 → t.at ≡ 0 → t.pending ≡ 0 → HasWritten t.text.now [] t
 has_begun t d utf8 at gap start none = record {
   same_text = refl;
   document = d;
   here = text_start;
   is_here = at;
-  so_far = subst (λ xs. IsWritten t.text.now t.gap t.at text_start xs) (sym (ap (λ n. part t.text.now t.kept n) start ∙ ap (λ n. part t.text.now n 0) none))
+  so_far = subst (λ xs. IsWritten t.text.now t.gap t.at text_start xs) (sym (ap (λ n. part t.text.now t.pending n) start ∙ ap (λ n. part t.text.now n 0) none))
       (subst (λ g. IsWritten t.text.now g t.at text_start []) (sym gap) (subst (λ n. IsWritten t.text.now (Below 0 0) n text_start []) (sym start) (nothing_written t.text.now)));
   to_come = (d.0, subst (λ g. SpellsEntries g d.0 (drop t.at t.text.now)) (sym gap) (subst (λ n. SpellsEntries (Below 0 0) d.0 (drop n t.text.now)) (sym start) d.1.0));
   within = omega (arith, start);
   utf8 = subst (λ n. IsUtf8 (drop n t.text.now)) (sym start) utf8;
   no_gap = ap size_of gap;
-  kept = omega (arith, start, none);
-  kept_utf8 = subst (λ n. IsUtf8 (drop n t.text.now)) (sym none) utf8;
+  pending = omega (arith, start, none);
+  pending_utf8 = subst (λ n. IsUtf8 (drop n t.text.now)) (sym none) utf8;
 }
 
--- what is kept back of a text behind what was written
-abbrev kept_of : Tidying → Kept
-kept_of t = record { from = t.kept; to = t.at }
+-- what is pending of a text behind what was written
+abbrev kept_of : Tidying → PendingRange
+kept_of t = record { from = t.pending; to = t.at }
 
-pub are_kept : (t : Tidying) (text out : List ℕ) → HasWritten text out t → AreKept t.text.now (kept_of t)
+pub are_kept : (t : Tidying) (text out : List ℕ) → HasWritten text out t → IsPending t.text.now (kept_of t)
 are_kept t text out has =
     let h = on_text text out t has in
-    record { order = h.kept; within = h.within; first = h.kept_utf8; last = h.utf8 }
+    record { order = h.pending; within = h.within; first = h.pending_utf8; last = h.utf8 }
 
--- what was kept back, and what is put, go on as what is kept back now
-regrouped : (out kept more put now : List ℕ) → put ++ now ≡ kept ++ more → (out ++ kept) ++ more ≡ (out ++ put) ++ now
-regrouped out kept more put now e = append_assoc out kept more ∙ ap (λ xs. out ++ xs) (sym e) ∙ sym (append_assoc out put now)
+-- what was pending, and what is put, go on as what is pending now
+regrouped : (out pending more put now : List ℕ) → put ++ now ≡ pending ++ more → (out ++ pending) ++ more ≡ (out ++ put) ++ now
+regrouped out pending more put now e = append_assoc out pending more ∙ ap (λ xs. out ++ xs) (sym e) ∙ sym (append_assoc out put now)
 
 pub puts_more : (t new : Tidying) (e : Written) (span : Span) (count : ℕ) (placed_to : Gap) (before after : List ℕ)
     → FindsEntry t.text.now t.gap t.at (More e span)
@@ -108,7 +108,7 @@ pub puts_more : (t new : Tidying) (e : Written) (span : Span) (count : ℕ) (pla
     → ((here : Here) → IsAt t.placer here
     → (placed_to ≡ placed_gap here e.gap (kind_of (lexeme_of e.lexeme)) count)
     × IsAt new.placer (passed (reached here (kind_of (lexeme_of e.lexeme)) e.gap placed_to) (lexeme_of e.lexeme)))
-    → Puts t.text.now (kept_of t) new.kept span.end before after (entry_text t.placer.before placed_to (tidied (lexeme_of e.lexeme)))
+    → Puts t.text.now (kept_of t) new.pending span.end before after (entry_text t.placer.before placed_to (tidied (lexeme_of e.lexeme)))
     → new.text.now ≡ t.text.now → new.gap ≡ Beside 0 → new.at ≡ span.end
     → PutsMore t new before after
 puts_more t new e span count placed_to before after found ahead goes puts same gap at = λ text out has.
@@ -116,48 +116,48 @@ puts_more t new e span count placed_to before after found ahead goes puts same g
     let x = lexeme_of e.lexeme in
     let there = passed (reached h.here (kind_of x) e.gap placed_to) x in
     let went = goes h.here h.is_here in
-    let kept = part t.text.now t.kept t.at in
+    let pending = part t.text.now t.pending t.at in
     let more = entry_text h.here.before placed_to (tidied x) in
     let more_is : entry_text t.placer.before placed_to (tidied x) ≡ more = ap (λ k. entry_text k placed_to (tidied x)) h.is_here.before in
-    let now : (out ++ kept) ++ more ≡ (out ++ puts.put) ++ part t.text.now new.kept new.at =
-    regrouped out kept more puts.put (part t.text.now new.kept span.end) (puts.same ∙ ap (λ xs. kept ++ xs) more_is) ∙ ap (λ n. (out ++ puts.put) ++ part t.text.now new.kept n) (sym at) in
-    let written_more : IsWritten t.text.now (Beside 0) span.end there ((out ++ kept) ++ more) =
-    one_written t.text.now t.gap t.at count e span h.here placed_to (out ++ kept) ((out ++ kept) ++ more) h.so_far found (ahead h.here) went.0 refl in
+    let now : (out ++ pending) ++ more ≡ (out ++ puts.put) ++ part t.text.now new.pending new.at =
+    regrouped out pending more puts.put (part t.text.now new.pending span.end) (puts.same ∙ ap (λ xs. pending ++ xs) more_is) ∙ ap (λ n. (out ++ puts.put) ++ part t.text.now new.pending n) (sym at) in
+    let written_more : IsWritten t.text.now (Beside 0) span.end there ((out ++ pending) ++ more) =
+    one_written t.text.now t.gap t.at count e span h.here placed_to (out ++ pending) ((out ++ pending) ++ more) h.so_far found (ahead h.here) went.0 refl in
     let others = goes_on t.text.now t.gap t.at e span found h.to_come.0 h.to_come.1 in
     let there_has : HasWritten t.text.now (out ++ puts.put) new = record {
       same_text = same;
       document = h.document;
       here = there;
       is_here = went.1;
-      so_far = subst (λ g. IsWritten t.text.now g new.at there ((out ++ puts.put) ++ part t.text.now new.kept new.at)) (sym gap)
-          (subst (λ n. IsWritten t.text.now (Beside 0) n there ((out ++ puts.put) ++ part t.text.now new.kept new.at)) (sym at)
+      so_far = subst (λ g. IsWritten t.text.now g new.at there ((out ++ puts.put) ++ part t.text.now new.pending new.at)) (sym gap)
+          (subst (λ n. IsWritten t.text.now (Beside 0) n there ((out ++ puts.put) ++ part t.text.now new.pending new.at)) (sym at)
           (subst (λ xs. IsWritten t.text.now (Beside 0) span.end there xs) now written_more));
       to_come = (others.0, subst (λ g. SpellsEntries g others.0 (drop new.at t.text.now)) (sym gap) (subst (λ n. SpellsEntries (Beside 0) others.0 (drop n t.text.now)) (sym at) others.1));
       within = subst (λ n. n ≤ length t.text.now) (sym at) found.1.2;
       utf8 = subst (λ n. IsUtf8 (drop n t.text.now)) (sym at) found.1.3;
       no_gap = ap size_of gap;
-      kept = subst (λ n. new.kept ≤ n) (sym at) puts.order;
-      kept_utf8 = puts.first;
+      pending = subst (λ n. new.pending ≤ n) (sym at) puts.order;
+      pending_utf8 = puts.first;
     } in
     (puts.put, puts.appended, subst (λ xs. HasWritten xs (out ++ puts.put) new) has.same_text there_has)
 
 pub puts_last : (t : Tidying) (before after : List ℕ) → FindsEntry t.text.now t.gap t.at End
-    → after ≡ before ++ (part t.text.now t.kept t.at ++ text_from t.placer.before []) → PutsLast t before after
+    → after ≡ before ++ (part t.text.now t.pending t.at ++ text_from t.placer.before []) → PutsLast t before after
 puts_last t before after found put = λ text out has.
     let h = on_text text out t has in
-    let kept = part t.text.now t.kept t.at in
+    let pending = part t.text.now t.pending t.at in
     let last = text_from h.here.before [] in
     let whole = h.so_far [] found in
     let d = h.document in
     let same : whole.0 ≡ d.0 = SpellsEntries-unique (Below 0 0) whole.0 d.0 t.text.now whole.1 d.1.0 in
-    let tidy : IsTidyTextOf t.text.now (out ++ (kept ++ last)) = record {
+    let tidy : IsTidyTextOf t.text.now (out ++ (pending ++ last)) = record {
       document = d.0;
       is_document = d.1;
-      is_written = sym (append_assoc out kept last) ∙ sym whole.2 ∙ ap (λ es. written (placed es)) same;
+      is_written = sym (append_assoc out pending last) ∙ sym whole.2 ∙ ap (λ es. written (placed es)) same;
     } in (
-      kept ++ last,
-      put ∙ ap (λ k. before ++ (kept ++ text_from k [])) h.is_here.before,
-      subst (λ xs. IsTidyTextOf xs (out ++ (kept ++ last))) has.same_text tidy,
+      pending ++ last,
+      put ∙ ap (λ k. before ++ (pending ++ text_from k [])) h.is_here.before,
+      subst (λ xs. IsTidyTextOf xs (out ++ (pending ++ last))) has.same_text tidy,
     )
 
 pub never_refused : (t : Tidying) (text out : List ℕ) → HasWritten text out t → FindsEntry t.text.now t.gap t.at Refused → ⊥
@@ -192,18 +192,18 @@ last_put t mid before now after first last = λ text out has.
 -- what is written so far begins the tidy text
 pub begins_tidy : (t : Tidying) (text out : List ℕ) → HasWritten text out t → (rest : List ℕ) × IsTidyTextOf text (out ++ rest)
 begins_tidy t text out has =
-    let kept = part text t.kept t.at in
+    let pending = part text t.pending t.at in
     let here = has.here in
     let es = has.to_come.0 in
     let last = text_from here.before (placed_after here es) in
     let whole = has.so_far es has.to_come.1 in
     let d = has.document in
     let same : whole.0 ≡ d.0 = SpellsEntries-unique (Below 0 0) whole.0 d.0 text whole.1 d.1.0 in (
-      kept ++ last,
+      pending ++ last,
       record {
         document = d.0;
         is_document = d.1;
-        is_written = sym (append_assoc out kept last) ∙ sym whole.2 ∙ ap (λ es. written (placed es)) same;
+        is_written = sym (append_assoc out pending last) ∙ sym whole.2 ∙ ap (λ es. written (placed es)) same;
       },
     )
 

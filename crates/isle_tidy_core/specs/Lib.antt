@@ -1,7 +1,7 @@
 pub mod Finds
 pub mod Fitting
 pub mod Grammar
-pub mod Keeping
+pub mod Pending
 pub mod Matched
 pub mod Outside
 pub mod Parentheses

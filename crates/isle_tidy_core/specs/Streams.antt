@@ -34,19 +34,19 @@ IsWritten text gap at here out =
     → (all : List Entry) × SpellsEntries (Below 0 0) all text × (written (placed all) ≡ out ++ text_from here.before (placed_after here es))
 
 -- The text has a document, its entries go on here, and so much of its tidy text is written, but for bytes that are
--- kept back: they are next in it as they are in the text.
+-- pending: they are next in it as they are in the text.
 pub record HasWritten (text out : List ℕ) (t : Tidying) : Type 0 where
   pub same_text : t.text.now ≡ text
   pub document : (d : List Entry) × IsDocument text d
   pub here : Here
   pub is_here : IsAt t.placer here
-  pub so_far : IsWritten text t.gap t.at here (out ++ part text t.kept t.at)
+  pub so_far : IsWritten text t.gap t.at here (out ++ part text t.pending t.at)
   pub to_come : (es : List Entry) × SpellsEntries t.gap es (drop t.at text)
   pub within : t.at ≤ length text
   pub utf8 : IsUtf8 (drop t.at text)
   pub no_gap : size_of t.gap ≡ 0
-  pub kept : t.kept ≤ t.at
-  pub kept_utf8 : IsUtf8 (drop t.kept text)
+  pub pending : t.pending ≤ t.at
+  pub pending_utf8 : IsUtf8 (drop t.pending text)
 
 -- more of the tidy text is appended to these bytes
 abbrev pub PutsMore : (old new : Tidying) → (before after : List ℕ) → Type 0

@@ -12,12 +12,12 @@ ghost use Rattle.isle_base.specs.declared.fault.Fault.TheVariants.{Failed};
 ghost use Rattle.isle_tidy_core.specs.Refused.{HasNoDocument, IsRefusedFor, IsWithin};
 ghost use Rattle.isle_tidy_core.specs.Tidied.{IsTidyTextOf, IsUntidy};
 
+mod check_lexemes;
 mod closings;
 mod gaps;
-mod glance;
-mod kept;
 pub mod laws;
 mod lexemes;
+mod output;
 mod parentheses;
 mod reader;
 pub mod tidying;

@@ -87,7 +87,7 @@ fn clean_blanks_at(bytes: &[u8], from: usize) -> Option<Blanks>
 /// Returns the number of spaces at an offset, if it is 0 or 1 and no other blank follows. It is so
 /// before most entries.
 #[inline(always)]
-pub fn near_width_at(bytes: &[u8], from: usize) -> Option<usize>
+pub fn common_width_at(bytes: &[u8], from: usize) -> Option<usize>
     requires { from ≤ length bytes.now }
     ensures { IfSome result (λ width. (from + width < length bytes.now)
         × FindsCleanGap bytes.now from (Beside width) (from + width)) }

@@ -10,12 +10,12 @@ ghost use Rattle.isle_tidy_core.specs.Streams.{HasWritten, PutsLast, PutsMore};
 ghost use Rattle.isle_tidy_core.specs.declared.reader.Step.TheVariants.{More};
 ghost use Rattle.isle_tidy_layout.specs.EntriesView.{lexeme_of};
 
+use crate::check_lexemes::has_document;
 use crate::closings::closings_after;
-use crate::glance::has_document;
-use crate::kept::{Kept, is_simple_at, put_end, put_entry};
 use crate::lexemes::lexeme_at;
+use crate::output::{PendingRange, is_simple_at, put_end, put_entry};
 use crate::parentheses::check_parentheses;
-use crate::reader::{Span, Step, near_width_at, step_at};
+use crate::reader::{Span, Step, common_width_at, step_at};
 use isle_base::lexer::Fault;
 use isle_tidy_layout::entries::{Entry, Gap, Lexeme};
 use isle_tidy_layout::placer::Placer;
@@ -31,7 +31,7 @@ pub struct Tidying<'src> {
     at: usize,
     /// The byte offset from which bytes are pending, up to `at`: they are next in the tidy text as
     /// they are, and are not appended yet.
-    kept: usize,
+    pending: usize,
     /// The gap before `at`: none, or the start of the text.
     gap: Gap,
     placer: Placer,
@@ -54,7 +54,7 @@ impl<'src> Tidying<'src> {
         Ok(Tidying {
             text,
             at: 0,
-            kept: 0,
+            pending: 0,
             gap: Gap::Below(0, 0),
             placer: Placer::new(alloc),
         })
@@ -75,7 +75,7 @@ impl<'src> Tidying<'src> {
         ensures last { result ≡ Ok false
             → PutsLast self.old (string_bytes out.old) (string_bytes out.new) }
     {
-        if self.put_near(out)? {
+        if self.put_common_entry(out)? {
             return Ok(true);
         }
         self.put_any(out)
@@ -86,7 +86,7 @@ impl<'src> Tidying<'src> {
     ///
     /// Each kind of lexeme has a call of its own, so that each is compiled by itself.
     #[inline(always)]
-    fn put_near(&mut self, out: &mut String) -> Result<bool, AllocError>
+    fn put_common_entry(&mut self, out: &mut String) -> Result<bool, AllocError>
         requires { (text before : List ℕ) × HasWritten text before self.old }
         ensures more { IfOk result (λ _.
             PutsMore self.old self.new (string_bytes out.old) (string_bytes out.new)) }
@@ -96,7 +96,7 @@ impl<'src> Tidying<'src> {
         let Gap::Beside(_) = self.gap else {
             return Ok(false);
         };
-        let Some(width) = near_width_at(self.text.as_bytes(), self.at) else {
+        let Some(width) = common_width_at(self.text.as_bytes(), self.at) else {
             return Ok(false);
         };
         match lexeme_at(self.text, self.at + width) {
@@ -156,11 +156,11 @@ impl<'src> Tidying<'src> {
                 Ok(true)
             }
             Step::End => {
-                let kept = Kept {
-                    from: self.kept,
+                let pending = PendingRange {
+                    from: self.pending,
                     to: self.at,
                 };
-                put_end(out, self.text, kept, self.placer.before)?;
+                put_end(out, self.text, pending, self.placer.before)?;
                 Ok(false)
             }
             Step::Refused => unreachable!(),
@@ -181,11 +181,11 @@ impl<'src> Tidying<'src> {
         let is_simple = is_simple_at(self.text, &entry.lexeme, span);
         let (gap, lexeme) = (entry.gap, &entry.lexeme);
         let placed = self.placer.place(gap, lexeme, closings, is_simple)?;
-        let kept = Kept {
-            from: self.kept,
+        let pending = PendingRange {
+            from: self.pending,
             to: self.at,
         };
-        self.kept = put_entry(out, self.text, kept, &entry, span, before, placed)?;
+        self.pending = put_entry(out, self.text, pending, &entry, span, before, placed)?;
         self.gap = Gap::Beside(0);
         self.at = span.end;
         Ok(())

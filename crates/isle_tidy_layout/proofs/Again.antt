@@ -9,7 +9,7 @@ use Rattle.isle_tidy_layout.specs.declared.entries.Gap.{Gap}
 use Rattle.isle_tidy_layout.specs.declared.entries.Gap.TheVariants.{Beside, Tabbed, Below}
 use Rattle.isle_tidy_layout.specs.declared.columns.Columns.{Columns}
 use Rattle.isle_tidy_layout.specs.Writing.{spelling}
-use Rattle.isle_tidy_layout.specs.Placing.{before_trimmed, trimmed, tidied, column_after, right_of, placed_as, OpenList, hanging, kept_columns, usual_column, first_line, line_column, line_of, is_beside, is_closing, closings, kind_of, Room, none, any, some, widened, room, Here, at_most_two, empty_lines, column_of, placed_gap, begun, reached, head_of, argument_more, item_in, item_more, outer, lists_after, passed, placed_after, text_start, placed}
+use Rattle.isle_tidy_layout.specs.Placing.{before_trimmed, trimmed, tidied, column_after, right_of, result_column, OpenList, hanging, kept_columns, usual_column, first_line, line_column, line_of, is_beside, is_closing, closings, kind_of, Room, none, any, some, result_width, room, Here, at_most_two, empty_lines, column_of, placed_gap, begun, reached, head_of, argument_more, item_in, item_more, outer, lists_after, passed, placed_after, text_start, placed}
 use Rattle.isle_tidy_layout.specs.declared.placing.Kind.{Kind}
 use Rattle.isle_tidy_layout.specs.declared.placing.Kind.TheVariants.{Start, Close}
 use Rattle.isle_tidy_layout.specs.declared.placing.Head.{Head}
@@ -64,12 +64,12 @@ same_here here = record here { line = same here.line; end = same here.end; lists
 -- Columns of lines: what is placed as a column is placed as itself.
 
 abbrev IsPlaced : ℕ → List Columns → Type 0
-IsPlaced column cs = placed_as column (map same cs) ≡ Some column
+IsPlaced column cs = result_column column (map same cs) ≡ Some column
 
 -- one column more
 more_columns : (column : ℕ) (c : Columns) (cs : List Columns) → IsPlaced column cs → IsPlaced column (c ∷ cs)
 more_columns column c cs e =
-    cond_both (eqb column c.result) (Some c.result) (placed_as column (map same cs)) (λ o. o ≡ Some column)
+    cond_both (eqb column c.result) (Some c.result) (result_column column (map same cs)) (λ o. o ≡ Some column)
     (λ is. ap Some (sym (eqb-true column c.result is))) (λ _. e)
 
 first_column : (column : ℕ) (c : Columns) (cs : List Columns) → c.result ≡ column → IsPlaced column (c ∷ cs)
@@ -79,10 +79,10 @@ after_columns : (column : ℕ) (cs ds : List Columns) → IsPlaced column ds →
 after_columns column [] ds e = e
 after_columns column (c ∷ cs) ds e = more_columns column c (cs ++ ds) (after_columns column cs ds e)
 
-placed_there : (column result : ℕ) (cs : List Columns) → placed_as column cs ≡ Some result → IsPlaced result cs
+placed_there : (column result : ℕ) (cs : List Columns) → result_column column cs ≡ Some result → IsPlaced result cs
 placed_there column result [] e = cc
 placed_there column result (c ∷ cs) e =
-    cond_both (eqb column c.source) (Some c.result) (placed_as column cs) (λ o. o ≡ Some result → IsPlaced result (c ∷ cs))
+    cond_both (eqb column c.source) (Some c.result) (result_column column cs) (λ o. o ≡ Some result → IsPlaced result (c ∷ cs))
     (λ _ is. first_column result c cs (cc))
     (λ _ is. more_columns result c cs (placed_there column result cs is)) e
 
@@ -112,16 +112,16 @@ kept_same l =
     ap (λ hung. map same l.arguments ++ (same (right_of 1 p) ∷ same (right_of 2 p) ∷ same (right_of 4 p) ∷ hung)) (hanging_same l.arguments l.line)
     ∙ sym (map-append same l.arguments (right_of 1 p ∷ right_of 2 p ∷ right_of 4 p ∷ hanging l.arguments l.line))
 
-result_placed : (column usual : ℕ) (cs : List Columns) (o : Option ℕ) → placed_as column cs ≡ o → IsPlaced usual cs → IsPlaced (unwrap_or o usual) cs
+result_placed : (column usual : ℕ) (cs : List Columns) (o : Option ℕ) → result_column column cs ≡ o → IsPlaced usual cs → IsPlaced (unwrap_or o usual) cs
 result_placed column usual cs None e is = is
 result_placed column usual cs (Some result) e is = placed_there column result cs e
 
 first_line_again : (l : OpenList) (column : ℕ) → first_line (same_list l) (first_line l column) ≡ first_line l column
 first_line_again l column =
     let usual = usual_column l.head l.parenthesis l.arguments in
-    let is = result_placed column usual (kept_columns l) (placed_as column (kept_columns l)) refl (usual_placed l.head l.parenthesis l.line l.arguments) in
+    let is = result_placed column usual (kept_columns l) (result_column column (kept_columns l)) refl (usual_placed l.head l.parenthesis l.line l.arguments) in
     let other = usual_column l.head (same l.parenthesis) (map same l.arguments) in
-    ap (λ cs. unwrap_or (placed_as (first_line l column) cs) other) (kept_same l) ∙ ap (λ o. unwrap_or o other) is
+    ap (λ cs. unwrap_or (result_column (first_line l column) cs) other) (kept_same l) ∙ ap (λ o. unwrap_or o other) is
 
 known_again : (l : OpenList) (column : ℕ) (o : Option ℕ) → unwrap_or o (first_line (same_list l) (unwrap_or o (first_line l column))) ≡ unwrap_or o (first_line l column)
 known_again l column None = first_line_again l column
@@ -142,7 +142,7 @@ column_again ls _ inner column = line_column_again ls column
 
 -- Gaps.
 
-widened_again : (r : Room) (width : ℕ) → widened r (widened r width) ≡ widened r width
+widened_again : (r : Room) (width : ℕ) → result_width r (result_width r width) ≡ result_width r width
 widened_again none width = refl
 widened_again any width = refl
 widened_again some zero = refl

@@ -9,7 +9,7 @@ use Rattle.isle_tidy_layout.specs.declared.placing.Head.TheVariants.{NoHead, Lis
 use Rattle.isle_tidy_layout.specs.declared.placing.Kind.{Kind}
 use Rattle.isle_tidy_layout.specs.declared.placing.Kind.TheVariants.{Open, Close, At, Atom}
 use Rattle.isle_tidy_layout.specs.Entries.{Lexeme, opening, closing, at_sign, atom, Entry}
-use Rattle.isle_tidy_layout.specs.Placing.{tidied, column_after, right_of, placed_as, OpenList, usual_column, first_line, line_column, line_of, closings, kind_of, widened, room, Here, column_of, begun, reached, head_of, argument_more, item_in, item_more, outer, passed, placed_after, text_start, placed, hanging, empty_lines}
+use Rattle.isle_tidy_layout.specs.Placing.{tidied, column_after, right_of, result_column, OpenList, usual_column, first_line, line_column, line_of, closings, kind_of, result_width, room, Here, column_of, begun, reached, head_of, argument_more, item_in, item_more, outer, passed, placed_after, text_start, placed, hanging, empty_lines}
 use Rattle.isle_tidy_layout.specs.Printed.{Flat, flat_atom, flat_binding, flat_row, Flats, flat_none, flat_more, entry, flat_first, flat_rest, flat_items, Print, whole, binding, broken, Prints, none, more, print_first, print_rest, print_lines, printed_after, printed, is_plain, is_plain_print, HasPlainHeads, HavePlainHeads, AllHavePlainHeads}
 
 abbrev pub IsEven : Columns → Type 0
@@ -67,7 +67,7 @@ record Went (there : Here) (rest : List Entry → List Entry) (first : Lexeme) (
   lists : Grown there.lists after.lists
   one : plain ≡ true → IsOneItem there.lists after.lists
 
-one_step : (here : Here) (width : ℕ) (x : Lexeme) (es : List Entry) → widened (room here.before (kind_of x)) width ≡ width → tidied x ≡ x
+one_step : (here : Here) (width : ℕ) (x : Lexeme) (es : List Entry) → result_width (room here.before (kind_of x)) width ≡ width → tidied x ≡ x
     → placed_after here (entry (Beside width) x ∷ es) ≡ entry (Beside width) x ∷ placed_after (passed (reached here (kind_of x) (Beside width) (Beside width)) x) es
 one_step here width x es wide same =
     ap (λ (w : ℕ). entry (Beside w) (tidied x) ∷ placed_after (passed (reached here (kind_of x) (Beside width) (Beside w)) x) es) wide
@@ -81,30 +81,30 @@ first_tidied (flat_row fs) = refl
 even_moved : (c : Columns) (width : ℕ) → IsEven c → c.source + width ≡ c.result + width
 even_moved c width e = ap (λ n. n + width) e
 
-close_room : (f : Flat) → widened (room Close (kind_of (flat_first f))) 1 ≡ 1
+close_room : (f : Flat) → result_width (room Close (kind_of (flat_first f))) 1 ≡ 1
 close_room (flat_atom text) = refl
 close_room (flat_binding name f) = refl
 close_room (flat_row fs) = refl
 
-atom_room : (f : Flat) → widened (room Atom (kind_of (flat_first f))) 1 ≡ 1
+atom_room : (f : Flat) → result_width (room Atom (kind_of (flat_first f))) 1 ≡ 1
 atom_room (flat_atom text) = refl
 atom_room (flat_binding name f) = refl
 atom_room (flat_row fs) = refl
 
-at_sign_room : (f : Flat) → widened (room At (kind_of (flat_first f))) 1 ≡ 1
+at_sign_room : (f : Flat) → result_width (room At (kind_of (flat_first f))) 1 ≡ 1
 at_sign_room (flat_atom text) = refl
 at_sign_room (flat_binding name f) = refl
 at_sign_room (flat_row fs) = refl
 
-open_room : (f : Flat) → widened (room Open (kind_of (flat_first f))) 0 ≡ 0
+open_room : (f : Flat) → result_width (room Open (kind_of (flat_first f))) 0 ≡ 0
 open_room (flat_atom text) = refl
 open_room (flat_binding name f) = refl
 open_room (flat_row fs) = refl
 
 -- one space stands before an item that is behind an item or `@`
-item_room : (before : Kind) (f : Flat) → IsBehind before → widened (room before (kind_of (flat_first f))) 1 ≡ 1
-item_room before f (inl e) = ap (λ k. widened (room k (kind_of (flat_first f))) 1) e ∙ close_room f
-item_room before f (inr e) = ap (λ k. widened (room k (kind_of (flat_first f))) 1) e ∙ atom_room f
+item_room : (before : Kind) (f : Flat) → IsBehind before → result_width (room before (kind_of (flat_first f))) 1 ≡ 1
+item_room before f (inl e) = ap (λ k. result_width (room k (kind_of (flat_first f))) 1) e ∙ close_room f
+item_room before f (inr e) = ap (λ k. result_width (room k (kind_of (flat_first f))) 1) e ∙ atom_room f
 
 mutual
   flat_went : (f : Flat) (there : Here) → IsEven there.end → Went there (flat_rest f) (flat_first f) (is_plain f)
@@ -203,12 +203,12 @@ mutual
 abbrev at_level : ℕ → Columns
 at_level level = record { source = 4 * level; result = 4 * level }
 
-more_even : (column : ℕ) (c : Columns) (cs : List Columns) → IsEven c → placed_as column cs ≡ Some column → placed_as column (c ∷ cs) ≡ Some column
+more_even : (column : ℕ) (c : Columns) (cs : List Columns) → IsEven c → result_column column cs ≡ Some column → result_column column (c ∷ cs) ≡ Some column
 more_even column c cs even e =
-    cond_both (eqb column c.source) (Some c.result) (placed_as column cs) (λ o. o ≡ Some column)
+    cond_both (eqb column c.source) (Some c.result) (result_column column cs) (λ o. o ≡ Some column)
     (λ is. ap Some (sym (eqb-true column c.source is ∙ even))) (λ _. e)
 
-first_even : (column : ℕ) (c : Columns) (cs : List Columns) → column ≡ c.source → c.result ≡ column → placed_as column (c ∷ cs) ≡ Some column
+first_even : (column : ℕ) (c : Columns) (cs : List Columns) → column ≡ c.source → c.result ≡ column → result_column column (c ∷ cs) ≡ Some column
 first_even column c cs e f = rw (eq-eqb column c.source e) (ap Some f)
 
 next_level : (level : ℕ) → 4 * (level + 1) ≡ 4 * level + 4
@@ -218,7 +218,7 @@ even_right : (n : ℕ) (c : Columns) → IsEven c → IsEven (right_of n c)
 even_right n c e = ap (λ m. m + n) e
 
 -- the lines of a list whose first item stands alone on its row
-first_ready : (level : ℕ) (p line : Columns) → IsEven p → line ≡ at_level level → placed_as (4 * (level + 1)) (right_of 1 p ∷ right_of 2 p ∷ right_of 4 p ∷ hanging [] line) ≡ Some (4 * (level + 1))
+first_ready : (level : ℕ) (p line : Columns) → IsEven p → line ≡ at_level level → result_column (4 * (level + 1)) (right_of 1 p ∷ right_of 2 p ∷ right_of 4 p ∷ hanging [] line) ≡ Some (4 * (level + 1))
 first_ready level p line even is =
     let c : ℕ = 4 * (level + 1) in
     let l : Columns = at_level level in
@@ -226,7 +226,7 @@ first_ready level p line even is =
     let lines = more_even c (right_of 2 l) (right_of 4 l ∷ []) refl last in
     let whole_row = more_even c (right_of 1 p) (right_of 2 p ∷ right_of 4 p ∷ hanging [] l) (even_right 1 p even)
     (more_even c (right_of 2 p) (right_of 4 p ∷ hanging [] l) (even_right 2 p even) (more_even c (right_of 4 p) (hanging [] l) (even_right 4 p even) lines)) in
-    subst (λ (x : Columns). placed_as c (right_of 1 p ∷ right_of 2 p ∷ right_of 4 p ∷ hanging [] x) ≡ Some c) (sym is) whole_row
+    subst (λ (x : Columns). result_column c (right_of 1 p ∷ right_of 2 p ∷ right_of 4 p ∷ hanging [] x) ≡ Some c) (sym is) whole_row
 
 -- a line of the innermost list begins at this column
 abbrev IsReady : OpenList → ℕ → Type 0
@@ -253,11 +253,11 @@ print_kind (whole f) = flat_kind f
 print_kind (binding name p) = inl refl
 print_kind (broken p ps) = inr refl
 
-at_sign_width : (p : Print) → widened (room At (kind_of (print_first p))) 1 ≡ 1
-at_sign_width p = ⊎_elim (λ e. ap (λ k. widened (room At k) 1) e) (λ e. ap (λ k. widened (room At k) 1) e) (print_kind p)
+at_sign_width : (p : Print) → result_width (room At (kind_of (print_first p))) 1 ≡ 1
+at_sign_width p = ⊎_elim (λ e. ap (λ k. result_width (room At k) 1) e) (λ e. ap (λ k. result_width (room At k) 1) e) (print_kind p)
 
-open_width : (p : Print) → widened (room Open (kind_of (print_first p))) 0 ≡ 0
-open_width p = ⊎_elim (λ e. ap (λ k. widened (room Open k) 0) e) (λ e. ap (λ k. widened (room Open k) 0) e) (print_kind p)
+open_width : (p : Print) → result_width (room Open (kind_of (print_first p))) 0 ≡ 0
+open_width p = ⊎_elim (λ e. ap (λ k. result_width (room Open k) 0) e) (λ e. ap (λ k. result_width (room Open k) 0) e) (print_kind p)
 
 record PrintWent (level : ℕ) (p : Print) (there : Here) : Type 0 where
   after : Here

@@ -6,38 +6,38 @@ use Rattle.isle_tidy_layout.specs.declared.columns.Columns.{Columns}
 use Rattle.isle_tidy_layout.specs.declared.placing.Head.{Head}
 use Rattle.isle_tidy_layout.specs.declared.placing.Head.TheVariants.{NoHead, ListHead, BodyHead, PlainHead}
 use Rattle.isle_tidy_layout.specs.declared.stack.Opened.{Opened}
-use Rattle.isle_tidy_layout.specs.Placing.{OpenList, placed_as, right_of, hanging, usual_column, first_line, line_column, line_of, argument_more, item_in, item_more}
+use Rattle.isle_tidy_layout.specs.Placing.{OpenList, result_column, right_of, hanging, usual_column, first_line, line_column, line_of, argument_more, item_in, item_more}
 use Rattle.isle_tidy_layout.specs.Stack.{IsStack, IsTop, list_of}
 
 some_none : (n : ℕ) → Some n ≡ None → ⊥
 some_none n e = cc
 
-pub placed_first : (column result : ℕ) (cs ds : List Columns) → placed_as column cs ≡ Some result → placed_as column (cs ++ ds) ≡ Some result
+pub placed_first : (column result : ℕ) (cs ds : List Columns) → result_column column cs ≡ Some result → result_column column (cs ++ ds) ≡ Some result
 placed_first column result [] ds e = cc
 placed_first column result (c ∷ cs) ds e =
-    cond_both (eqb column c.source) (Some c.result) (placed_as column cs) (λ o. o ≡ Some result → placed_as column ((c ∷ cs) ++ ds) ≡ Some result)
+    cond_both (eqb column c.source) (Some c.result) (result_column column cs) (λ o. o ≡ Some result → result_column column ((c ∷ cs) ++ ds) ≡ Some result)
     (λ is f. rw is f) (λ is f. rw is (placed_first column result cs ds f)) e
 
-pub placed_second : (column : ℕ) (cs ds : List Columns) → placed_as column cs ≡ None → placed_as column (cs ++ ds) ≡ placed_as column ds
+pub placed_second : (column : ℕ) (cs ds : List Columns) → result_column column cs ≡ None → result_column column (cs ++ ds) ≡ result_column column ds
 placed_second column [] ds e = refl
 placed_second column (c ∷ cs) ds e =
-    cond_both (eqb column c.source) (Some c.result) (placed_as column cs) (λ o. o ≡ None → placed_as column ((c ∷ cs) ++ ds) ≡ placed_as column ds)
+    cond_both (eqb column c.source) (Some c.result) (result_column column cs) (λ o. o ≡ None → result_column column ((c ∷ cs) ++ ds) ≡ result_column column ds)
     (λ is f. absurd (some_none c.result f)) (λ is f. rw is (placed_second column cs ds f)) e
 
 -- the parts of what is kept
 abbrev steps : Columns → List Columns
 steps p = right_of 1 p ∷ right_of 2 p ∷ right_of 4 p ∷ []
 
-pub on_argument : (o : Opened) (arguments : List Columns) (column result : ℕ) → placed_as column arguments ≡ Some result → first_line (list_of o arguments) column ≡ result
+pub on_argument : (o : Opened) (arguments : List Columns) (column result : ℕ) → result_column column arguments ≡ Some result → first_line (list_of o arguments) column ≡ result
 on_argument o arguments column result e =
     ap (λ r. unwrap_or r (usual_column o.head o.parenthesis arguments)) (placed_first column result arguments (steps o.parenthesis ++ hanging arguments o.line) e)
 
-pub on_step : (o : Opened) (arguments : List Columns) (column result : ℕ) → placed_as column arguments ≡ None → placed_as column (steps o.parenthesis) ≡ Some result → first_line (list_of o arguments) column ≡ result
+pub on_step : (o : Opened) (arguments : List Columns) (column result : ℕ) → result_column column arguments ≡ None → result_column column (steps o.parenthesis) ≡ Some result → first_line (list_of o arguments) column ≡ result
 on_step o arguments column result none e =
     ap (λ r. unwrap_or r (usual_column o.head o.parenthesis arguments))
     (placed_second column arguments (steps o.parenthesis ++ hanging arguments o.line) none ∙ placed_first column result (steps o.parenthesis) (hanging arguments o.line) e)
 
-pub on_else : (o : Opened) (arguments : List Columns) (column : ℕ) → placed_as column arguments ≡ None → placed_as column (steps o.parenthesis) ≡ None → first_line (list_of o arguments) column ≡ unwrap_or (placed_as column (hanging arguments o.line)) (usual_column o.head o.parenthesis arguments)
+pub on_else : (o : Opened) (arguments : List Columns) (column : ℕ) → result_column column arguments ≡ None → result_column column (steps o.parenthesis) ≡ None → first_line (list_of o arguments) column ≡ unwrap_or (result_column column (hanging arguments o.line)) (usual_column o.head o.parenthesis arguments)
 on_else o arguments column none no_step =
     ap (λ r. unwrap_or r (usual_column o.head o.parenthesis arguments))
     (placed_second column arguments (steps o.parenthesis ++ hanging arguments o.line) none ∙ placed_second column (steps o.parenthesis) (hanging arguments o.line) no_step)

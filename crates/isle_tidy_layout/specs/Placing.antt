@@ -40,9 +40,9 @@ abbrev pub right_of : ℕ → Columns → Columns
 right_of n c = record { source = c.source + n; result = c.result + n }
 
 -- the column that a column of the source has in the result, if it is one of these
-abbrev pub placed_as : ℕ → List Columns → Option ℕ
-placed_as column [] = None
-placed_as column (c ∷ cs) = if column == c.source then Some c.result else placed_as column cs
+abbrev pub result_column : ℕ → List Columns → Option ℕ
+result_column column [] = None
+result_column column (c ∷ cs) = if column == c.source then Some c.result else result_column column cs
 
 -- An open list: the line of its `(`, the columns of the `(` and of the line's first entry, its head,
 -- those of its arguments on that line, and the column of its own lines in the result, once one is known.
@@ -79,7 +79,7 @@ usual_column PlainHead p arguments = first_argument arguments (p.result + 2)
 
 -- the column of the first line of a list, which the author put at this one
 abbrev pub first_line : OpenList → ℕ → ℕ
-first_line l column = unwrap_or (placed_as column (kept_columns l)) (usual_column l.head l.parenthesis l.arguments)
+first_line l column = unwrap_or (result_column column (kept_columns l)) (usual_column l.head l.parenthesis l.arguments)
 
 -- the column of a line that begins in the innermost of these lists
 abbrev pub line_column : List OpenList → ℕ → ℕ
@@ -124,11 +124,11 @@ pub data Room : Type 0 where
   any : Room
   some : Room
 
-abbrev pub widened : Room → ℕ → ℕ
-widened none width = 0
-widened any width = width
-widened some zero = 1
-widened some (suc width) = suc width
+abbrev pub result_width : Room → ℕ → ℕ
+result_width none width = 0
+result_width any width = width
+result_width some zero = 1
+result_width some (suc width) = suc width
 
 abbrev pub room_after : Kind → Room
 room_after Start = some
@@ -177,8 +177,8 @@ column_of lists _ closings column = line_column lists column
 
 -- the gap in the result
 abbrev pub placed_gap : Here → Gap → Kind → (closings : ℕ) → Gap
-placed_gap here (Beside width) kind closings = Beside (widened (room here.before kind) width)
-placed_gap here (Tabbed width) kind closings = Beside (widened (room here.before kind) 1)
+placed_gap here (Beside width) kind closings = Beside (result_width (room here.before kind) width)
+placed_gap here (Tabbed width) kind closings = Beside (result_width (room here.before kind) 1)
 placed_gap here (Below empty column) kind closings = Below (empty_lines here.before empty) (column_of here.lists kind closings column)
 
 -- the innermost list knows the column of its lines, once one has begun in it

@@ -7,7 +7,7 @@ ghost use Rattle.std.specs.Simd.Lanes.{mask_l};
 ghost use Rattle.isle_base.specs.Bytes.{space, tab};
 ghost use Rattle.isle_tidy_layout.specs.Columns.{is_simple};
 ghost use Rattle.isle_tidy_layout.specs.Placing.{column_after as column_after_bytes};
-ghost use Rattle.isle_tidy_layout.specs.Placing.{placed_as as result_of};
+ghost use Rattle.isle_tidy_layout.specs.Placing.{result_column as result_of};
 
 use std::simd::prelude::*;
 
@@ -22,7 +22,7 @@ pub struct Columns {
 }
 
 /// Returns the column in the result of a column of the source, if `columns` has it.
-pub(crate) fn placed_as(column: usize, columns: &[Columns]) -> Option<usize>
+pub(crate) fn result_column(column: usize, columns: &[Columns]) -> Option<usize>
     ensures { result ≡ result_of column columns.now }
 {
     for one in columns {

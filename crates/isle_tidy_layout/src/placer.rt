@@ -22,7 +22,7 @@ ghost use Rattle.isle_tidy_layout.specs.declared.stack.Opened.{Opened};
 use crate::changes::{add_item, begin, close, open};
 use crate::columns::{Columns, column_after, is_space_or_tab};
 use crate::entries::{Gap, Lexeme};
-use crate::placing::{Kind, widened};
+use crate::placing::{Kind, result_width};
 use crate::stack::{Opened, line_column, line_of};
 use std::alloc::{AllocError, Global};
 
@@ -217,8 +217,8 @@ impl Placer {
             → result ≡ placed_gap here gap kind closings }
     {
         match gap {
-            Gap::Beside(width) => Gap::Beside(widened(self.before, kind, width)),
-            Gap::Tabbed(_) => Gap::Beside(widened(self.before, kind, 1)),
+            Gap::Beside(width) => Gap::Beside(result_width(self.before, kind, width)),
+            Gap::Tabbed(_) => Gap::Beside(result_width(self.before, kind, 1)),
             Gap::Below(empty, column) => {
                 let column = self.column_of(kind, closings, column);
                 Gap::Below(empty_lines(self.before, empty), column)

@@ -4,7 +4,7 @@ ghost use Rattle.std.specs.Prelude.{◌≡◌, ℕ};
 ghost use Rattle.isle_tidy_layout.specs.EntriesView.{lexeme_of};
 ghost use Rattle.isle_tidy_layout.specs.Heads.{is_body_head as is_body_head_in};
 ghost use Rattle.isle_tidy_layout.specs.Placing.{head_of as head_in, kind_of, room, some};
-ghost use Rattle.isle_tidy_layout.specs.Placing.{widened as widened_in};
+ghost use Rattle.isle_tidy_layout.specs.Placing.{result_width as width_in_result};
 
 use crate::entries::Lexeme;
 
@@ -82,15 +82,15 @@ fn is_body_head(text: &str) -> bool
 /// Returns the width, or 1 if it is 0.
 #[inline(always)]
 fn some_width(width: usize) -> usize
-    ensures { result ≡ widened_in some width }
+    ensures { result ≡ width_in_result some width }
 {
     if width == 0 { 1 } else { width }
 }
 
 /// Returns the width in the result of a gap on a line, between entries of these kinds.
 #[inline(always)]
-pub(crate) fn widened(before: Kind, kind: Kind, width: usize) -> usize
-    ensures { result ≡ widened_in (room before kind) width }
+pub(crate) fn result_width(before: Kind, kind: Kind, width: usize) -> usize
+    ensures { result ≡ width_in_result (room before kind) width }
 {
     match kind {
         Kind::Close => 0,

@@ -3,7 +3,7 @@
 ghost use Rattle.std.specs.Prelude.{◌≡◌, ◌+◌, ◌++◌, ◌∷◌, ◌<◌, ◌≤◌, ◌^◌, ℕ, List, [], None, Some};
 ghost use Rattle.std.specs.Prelude.{drop, length, unwrap_or};
 ghost use Rattle.isle_tidy_layout.specs.Placing.{OpenList, first_line as first_line_of};
-ghost use Rattle.isle_tidy_layout.specs.Placing.{hanging, placed_as as result_of};
+ghost use Rattle.isle_tidy_layout.specs.Placing.{hanging, result_column as result_of};
 ghost use Rattle.isle_tidy_layout.specs.Placing.{line_column as line_column_in};
 ghost use Rattle.isle_tidy_layout.specs.Placing.{line_of as line_of_lists};
 ghost use Rattle.isle_tidy_layout.specs.Placing.{right_of as right_of_column};
@@ -12,7 +12,7 @@ ghost use Rattle.isle_tidy_layout.specs.declared.columns.Columns.{Columns};
 ghost use Rattle.isle_tidy_layout.specs.declared.stack.Opened.{Opened};
 ghost use Rattle.isle_tidy_layout.specs.Stack.{IsSmall, IsStack, IsTop, list_of};
 
-use crate::columns::{Columns, placed_as};
+use crate::columns::{Columns, result_column};
 use crate::placing::{Head, Kind};
 
 /// An open list. All open lists keep their arguments in one vector, an inner list after an outer
@@ -51,7 +51,7 @@ fn by_parenthesis(list: &Opened, column: usize) -> Option<usize>
         ∷ right_of_column 2 list.now.parenthesis ∷ right_of_column 4 list.now.parenthesis ∷ []) }
 {
     let p = list.parenthesis;
-    placed_as(column, &[right_of(1, p), right_of(2, p), right_of(4, p)])
+    result_column(column, &[right_of(1, p), right_of(2, p), right_of(4, p)])
 }
 
 /// Returns the column in the result of one 2 or 4 to the right of the line, if the list has no
@@ -61,7 +61,7 @@ fn by_line(list: &Opened, arguments: &[Columns], column: usize) -> Option<usize>
     ensures { result ≡ result_of column (hanging arguments.now list.now.line) }
 {
     if arguments.is_empty() {
-        placed_as(column, &[right_of(2, list.line), right_of(4, list.line)])
+        result_column(column, &[right_of(2, list.line), right_of(4, list.line)])
     } else {
         None
     }
@@ -92,7 +92,7 @@ fn first_line(list: &Opened, arguments: &[Columns], column: usize) -> usize
     requires line { IsSmall list.now.line }
     ensures { result ≡ first_line_of (list_of list.now arguments.now) column }
 {
-    if let Some(result) = placed_as(column, arguments) {
+    if let Some(result) = result_column(column, arguments) {
         return result;
     }
     if let Some(result) = by_parenthesis(list, column) {

@@ -3,8 +3,8 @@ use Rattle.std.specs.List.{list_all}
 use Rattle.isle_tidy_layout.specs.Columns.{is_simple}
 use Rattle.isle_tidy_layout.specs.EntriesView.{lexeme_of}
 use Rattle.isle_tidy_layout.proofs.Simple.{run_simple}
-use Rattle.isle_tidy_core.proofs.Keeping.{stands_part}
-use Rattle.isle_tidy_core.proofs.kept.is_simple_at.Goals as goal
+use Rattle.isle_tidy_core.proofs.Pending.{stands_part}
+use Rattle.isle_tidy_core.proofs.output.is_simple_at.Goals as goal
 
 pub returns-in-Atom : goal.returns-in-Atom
 returns-in-Atom c = λ h.

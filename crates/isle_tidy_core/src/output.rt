@@ -1,10 +1,10 @@
-//! Output. Unchanged input is kept back as a byte range and copied in large chunks.
+//! Output. Input that stays as it is makes a pending range of bytes, copied in large chunks.
 
 ghost use Rattle.std.specs.Prelude.{◌≡◌, ◌≤◌, ◌++◌, [], IfOk, IsUtf8};
 ghost use Rattle.std.specs.Prelude.{OnOk, drop, length, string_bytes};
 ghost use Rattle.std.specs.Prelude.{true};
 ghost use Rattle.isle_tidy_core.specs.Finds.{AreClean, Stands, part as part_of};
-ghost use Rattle.isle_tidy_core.specs.Keeping.{AreKept, Puts};
+ghost use Rattle.isle_tidy_core.specs.Pending.{IsPending, Puts};
 ghost use Rattle.isle_tidy_core.specs.Streams.{entry_text, gap_text_from, text_from};
 ghost use Rattle.isle_tidy_layout.specs.Columns.{IsSimple};
 ghost use Rattle.isle_tidy_layout.specs.EntriesView.{lexeme_of};
@@ -24,7 +24,7 @@ const MOST: usize = 64 * 1024;
 
 /// A range of the text that is next in the tidy text as it is, but is not written yet.
 #[derive(Clone, Copy, Debug)]
-pub struct Kept {
+pub struct PendingRange {
     /// The byte offset of its first byte.
     pub from: usize,
     /// The byte offset after its last byte.
@@ -85,12 +85,12 @@ fn is_tidy(lexeme: &Lexeme) -> bool
 
 /// Writes the pending bytes.
 #[inline(never)]
-fn put_kept(out: &mut String, text: &str, kept: Kept) -> Result<(), AllocError>
-    requires { AreKept text.now kept }
-    ensures { OnOk result (Puts text.now kept kept.to kept.to
+fn put_pending(out: &mut String, text: &str, pending: PendingRange) -> Result<(), AllocError>
+    requires { IsPending text.now pending }
+    ensures { OnOk result (Puts text.now pending pending.to pending.to
         (string_bytes out.old) (string_bytes out.new) []) }
 {
-    out.push_str(part(text, kept.from, kept.to))
+    out.push_str(part(text, pending.from, pending.to))
 }
 
 /// Writes the pending bytes, and a gap in place of the one in the text.
@@ -98,18 +98,18 @@ fn put_kept(out: &mut String, text: &str, kept: Kept) -> Result<(), AllocError>
 fn put_other_gap(
     out: &mut String,
     text: &str,
-    kept: Kept,
+    pending: PendingRange,
     start: usize,
     before: Kind,
     placed: Gap,
 ) -> Result<(), AllocError>
-    requires kept { AreKept text.now kept }
+    requires pending { IsPending text.now pending }
     requires within { start ≤ length text.now }
     requires first { IsUtf8 (drop start text.now) }
-    ensures { OnOk result (Puts text.now kept start start
+    ensures { OnOk result (Puts text.now pending start start
         (string_bytes out.old) (string_bytes out.new) (gap_text_from before placed)) }
 {
-    put_kept(out, text, kept)?;
+    put_pending(out, text, pending)?;
     put_gap_after(out, before, placed)
 }
 
@@ -118,17 +118,17 @@ fn put_other_gap(
 fn put_other_lexeme(
     out: &mut String,
     text: &str,
-    kept: Kept,
+    pending: PendingRange,
     lexeme: &Lexeme,
     end: usize,
 ) -> Result<(), AllocError>
-    requires kept { AreKept text.now kept }
-    requires stands { Stands text.now (lexeme_of lexeme.now) kept.to end }
-    ensures { OnOk result (Puts text.now kept end end
+    requires pending { IsPending text.now pending }
+    requires stands { Stands text.now (lexeme_of lexeme.now) pending.to end }
+    ensures { OnOk result (Puts text.now pending end end
         (string_bytes out.old) (string_bytes out.new)
         (spelling (tidied (lexeme_of lexeme.now)))) }
 {
-    put_kept(out, text, kept)?;
+    put_pending(out, text, pending)?;
     put_lexeme(out, lexeme)
 }
 
@@ -138,24 +138,24 @@ fn put_other_lexeme(
 fn put_gap(
     out: &mut String,
     text: &str,
-    kept: Kept,
+    pending: PendingRange,
     entry: &Entry,
     span: Span,
     before: Kind,
     placed: Gap,
 ) -> Result<usize, AllocError>
-    requires kept { AreKept text.now kept }
-    requires clean { span.is_clean ≡ true → AreClean text.now kept.to span.start entry.now.gap }
-    requires order { kept.to ≤ span.start }
+    requires pending { IsPending text.now pending }
+    requires clean { span.is_clean ≡ true → AreClean text.now pending.to span.start entry.now.gap }
+    requires order { pending.to ≤ span.start }
     requires stands { Stands text.now (lexeme_of entry.now.lexeme) span.start span.end }
     requires first { IsUtf8 (drop span.start text.now) }
-    ensures { IfOk result (λ now. Puts text.now kept now span.start
+    ensures { IfOk result (λ now. Puts text.now pending now span.start
         (string_bytes out.old) (string_bytes out.new) (gap_text_from before placed)) }
 {
     if span.is_clean && stays(before, entry.gap, placed) {
-        return Ok(kept.from);
+        return Ok(pending.from);
     }
-    put_other_gap(out, text, kept, span.start, before, placed)?;
+    put_other_gap(out, text, pending, span.start, before, placed)?;
     Ok(span.start)
 }
 
@@ -165,37 +165,37 @@ fn put_gap(
 fn put_lexeme_at(
     out: &mut String,
     text: &str,
-    kept: Kept,
+    pending: PendingRange,
     lexeme: &Lexeme,
     end: usize,
 ) -> Result<usize, AllocError>
-    requires kept { AreKept text.now kept }
-    requires stands { Stands text.now (lexeme_of lexeme.now) kept.to end }
-    ensures { IfOk result (λ now. Puts text.now kept now end
+    requires pending { IsPending text.now pending }
+    requires stands { Stands text.now (lexeme_of lexeme.now) pending.to end }
+    ensures { IfOk result (λ now. Puts text.now pending now end
         (string_bytes out.old) (string_bytes out.new)
         (spelling (tidied (lexeme_of lexeme.now)))) }
 {
     if is_tidy(lexeme) {
-        return Ok(kept.from);
+        return Ok(pending.from);
     }
     // A copy, so that most lexemes stay in registers.
     let other = *lexeme;
-    put_other_lexeme(out, text, kept, &other, end)?;
+    put_other_lexeme(out, text, pending, &other, end)?;
     Ok(end)
 }
 
 /// Writes the pending bytes if they are many. Returns the offset from which bytes are pending now.
 #[inline(always)]
-fn put_much(out: &mut String, text: &str, kept: Kept) -> Result<usize, AllocError>
-    requires { AreKept text.now kept }
-    ensures { IfOk result (λ now. Puts text.now kept now kept.to
+fn put_much(out: &mut String, text: &str, pending: PendingRange) -> Result<usize, AllocError>
+    requires { IsPending text.now pending }
+    ensures { IfOk result (λ now. Puts text.now pending now pending.to
         (string_bytes out.old) (string_bytes out.new) []) }
 {
-    if kept.to - kept.from <= MOST {
-        return Ok(kept.from);
+    if pending.to - pending.from <= MOST {
+        return Ok(pending.from);
     }
-    put_kept(out, text, kept)?;
-    Ok(kept.to)
+    put_pending(out, text, pending)?;
+    Ok(pending.to)
 }
 
 /// Writes an entry after one of the kind `before`, or adds it to the pending bytes. Returns the
@@ -204,39 +204,45 @@ fn put_much(out: &mut String, text: &str, kept: Kept) -> Result<usize, AllocErro
 pub(crate) fn put_entry(
     out: &mut String,
     text: &str,
-    kept: Kept,
+    pending: PendingRange,
     entry: &Entry,
     span: Span,
     before: Kind,
     placed: Gap,
 ) -> Result<usize, AllocError>
-    requires kept { AreKept text.now kept }
-    requires clean { span.is_clean ≡ true → AreClean text.now kept.to span.start entry.now.gap }
-    requires order { kept.to ≤ span.start }
+    requires pending { IsPending text.now pending }
+    requires clean { span.is_clean ≡ true → AreClean text.now pending.to span.start entry.now.gap }
+    requires order { pending.to ≤ span.start }
     requires stands { Stands text.now (lexeme_of entry.now.lexeme) span.start span.end }
     requires first { IsUtf8 (drop span.start text.now) }
-    ensures { IfOk result (λ now. Puts text.now kept now span.end
+    ensures { IfOk result (λ now. Puts text.now pending now span.end
         (string_bytes out.old) (string_bytes out.new)
         (entry_text before placed (tidied (lexeme_of entry.now.lexeme)))) }
 {
-    let from = put_gap(out, text, kept, entry, span, before, placed)?;
+    let from = put_gap(out, text, pending, entry, span, before, placed)?;
     let to = span.start;
-    let from = put_lexeme_at(out, text, Kept { from, to }, &entry.lexeme, span.end)?;
+    let from = put_lexeme_at(
+        out,
+        text,
+        PendingRange { from, to },
+        &entry.lexeme,
+        span.end,
+    )?;
     let to = span.end;
-    put_much(out, text, Kept { from, to })
+    put_much(out, text, PendingRange { from, to })
 }
 
 /// Writes the pending bytes, and the end of a text whose last entry is of the kind `before`.
 pub(crate) fn put_end(
     out: &mut String,
     text: &str,
-    kept: Kept,
+    pending: PendingRange,
     before: Kind,
 ) -> Result<(), AllocError>
-    requires { AreKept text.now kept }
+    requires { IsPending text.now pending }
     ensures { OnOk result (string_bytes out.new
-        ≡ string_bytes out.old ++ (part_of text.now kept.from kept.to ++ text_from before [])) }
+        ≡ string_bytes out.old ++ (part_of text.now pending.from pending.to ++ text_from before [])) }
 {
-    put_kept(out, text, kept)?;
+    put_pending(out, text, pending)?;
     put_final(out, before)
 }

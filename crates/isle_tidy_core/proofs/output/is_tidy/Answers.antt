@@ -1,7 +1,7 @@
 use Rattle.std.proofs.Common.{sym, ap, ◌∙◌}
 use Rattle.isle_tidy_layout.specs.EntriesView.{lexeme_of}
-use Rattle.isle_tidy_core.proofs.Keeping.{tidy_comment}
-use Rattle.isle_tidy_core.proofs.kept.is_tidy.Goals as goal
+use Rattle.isle_tidy_core.proofs.Pending.{tidy_comment}
+use Rattle.isle_tidy_core.proofs.output.is_tidy.Goals as goal
 
 pub returns-else-is_empty : goal.returns-else-is_empty
 returns-else-is_empty c = λ h.

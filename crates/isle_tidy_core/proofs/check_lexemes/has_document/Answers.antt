@@ -2,9 +2,9 @@ use Rattle.std.proofs.Common.{arith}
 use Rattle.std.proofs.lemmas.Bool.{eqb-true}
 use Rattle.isle_tidy_layout.specs.EntriesView.{lexeme_of}
 use Rattle.isle_tidy_layout.specs.declared.entries.Gap.TheVariants.{Beside, Below}
-use Rattle.isle_tidy_core.proofs.Glances.{looked, more_end, all_end}
+use Rattle.isle_tidy_core.proofs.LexemeChecks.{looked, more_end, all_end}
 use Rattle.isle_tidy_core.proofs.Listing.{gap_utf8, not_blank}
-use Rattle.isle_tidy_core.proofs.glance.has_document.Goals as goal
+use Rattle.isle_tidy_core.proofs.check_lexemes.has_document.Goals as goal
 
 pub loop-at-init : goal.loop-at-init
 loop-at-init c = ((Below 0 0, λ es s m. (es, (s, m))), omega arith, c.utf8.text)

@@ -1,6 +1,6 @@
 use Rattle.std.proofs.Common.{arith}
 use Rattle.isle_tidy_core.proofs.CleanBlanks.{clean_none, clean_one}
-use Rattle.isle_tidy_core.proofs.reader.near_width_at.Goals as goal
+use Rattle.isle_tidy_core.proofs.reader.common_width_at.Goals as goal
 
 pub returns-then-bytes-from-gt32 : goal.returns-then-bytes-from-gt32
 returns-then-bytes-from-gt32 c = (omega arith, clean_none c.args.bytes.now c.args.from _ (omega arith) (omega arith) (omega arith))
