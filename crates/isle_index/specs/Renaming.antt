@@ -23,6 +23,7 @@ is_reserved text =
     bytes_eq text (codes "_") || bytes_eq text (codes "true") || bytes_eq text (codes "false") || bytes_eq text (codes "and")
     || bytes_eq text (codes "let") || bytes_eq text (codes "if") || bytes_eq text (codes "rule") || bytes_eq text (codes "pure")
     || bytes_eq text (codes "multi") || bytes_eq text (codes "partial") || bytes_eq text (codes "rec")
+    || bytes_eq text (codes "infallible")
 
 -- whether a text can be a new name: an identifier that does not begin with `$` and is no reserved word
 abbrev pub is_new_name : List ℕ → Bool

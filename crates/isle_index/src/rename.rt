@@ -87,6 +87,7 @@ fn is_reserved(text: &str) -> bool
             | "multi"
             | "partial"
             | "rec"
+            | "infallible"
     )
 }
 
