@@ -37,7 +37,7 @@ texts_stay : (old new : List (String Global)) → Extends old new → (e : Entry
 texts_stay old new more (entries.Defines kind s) has = text_stays old new more s has
 texts_stay old new more (entries.Uses kind s) has = text_stays old new more s has
 texts_stay old new more (entries.DefinesVariant o m) has = (text_stays old new more o has.0, text_stays old new more m has.1)
-texts_stay old new more (entries.Occurs s b) has = text_stays old new more s has
+texts_stay old new more (entries.Occurs role s b) has = text_stays old new more s has
 texts_stay old new more (entries.Binds s) has = text_stays old new more s has
 texts_stay old new more (entries.Reads s b) has = text_stays old new more s has
 texts_stay old new more entries.Closes has = tt
@@ -49,7 +49,7 @@ unpacked_stays old new more i (entries.Uses kind s) has = ap (λ w. record { eve
 unpacked_stays old new more i (entries.DefinesVariant o m) has =
     ap (λ w. record { event = defines_variant w (word_at new m); number = i; binder = None }) (word_stays old new more o has.0)
     ∙ ap (λ w. record { event = defines_variant (word_at old o) w; number = i; binder = None }) (word_stays old new more m has.1)
-unpacked_stays old new more i (entries.Occurs s b) has = ap (λ w. record { event = occurs w; number = i; binder = Some b }) (word_stays old new more s has)
+unpacked_stays old new more i (entries.Occurs role s b) has = ap (λ w. record { event = occurs role w; number = i; binder = Some b }) (word_stays old new more s has)
 unpacked_stays old new more i (entries.Binds s) has = ap (λ w. record { event = binds w; number = i; binder = Some i }) (word_stays old new more s has)
 unpacked_stays old new more i (entries.Reads s b) has = ap (λ w. record { event = reads w; number = i; binder = b }) (word_stays old new more s has)
 unpacked_stays old new more i entries.Closes has = refl

@@ -5,6 +5,7 @@ use Rattle.std.specs.List.{AllByRecursion, flat_map}
 use Rattle.isle_ast_names.specs.Tree.{Name}
 use Rattle.isle_ast.specs.Tree.{NamedField, IndexedField, FieldList, unit_fields, struct_fields, tuple_fields, EnumVariant, TypeContent, primitive_type, enum_type, struct_type, AttributeTarget, term_target, rule_target, ModelContent, type_model, const_model, ExternDefinition, extern_extractor, extern_constructor, extern_const, Definition, type_def, rule, extractor, decl, attr, spec, spec_macro, model, state, form, instantiation, external, converter}
 use Rattle.isle_resolve.specs.declared.event.Kind.TheVariants as kinds
+use Rattle.isle_resolve.specs.declared.event.Role.TheVariants as roles
 use Rattle.isle_resolve.specs.Event.{EventNode, defines, uses, defines_variant, occurs, binds, reads, closes, ends}
 use Rattle.isle_resolve.specs.Events.{pattern_events, expression_events, condition_events, field_events, variant_events, content_events, target_events, model_events, extern_events, definition_events, events}
 use Rattle.isle_index.specs.Scopes.{BoundNode, after, binder, seen, seen_from}
@@ -42,7 +43,7 @@ abbrev IsQuiet : EventNode → Type 0
 IsQuiet (defines _ _) = Unit {0}
 IsQuiet (uses _ _) = Unit {0}
 IsQuiet (defines_variant _ _) = Unit {0}
-IsQuiet (occurs _) = ⊥
+IsQuiet (occurs _ _) = ⊥
 IsQuiet (binds _) = ⊥
 IsQuiet (reads _) = Unit {0}
 IsQuiet closes = ⊥
@@ -53,7 +54,7 @@ quiet i bound [] are = refl
 quiet i bound (defines k n ∷ es) are = quiet (i + 1) bound es are.1
 quiet i bound (uses k n ∷ es) are = quiet (i + 1) bound es are.1
 quiet i bound (defines_variant o m ∷ es) are = quiet (i + 1) bound es are.1
-quiet i bound (occurs n ∷ es) are = absurd are.0
+quiet i bound (occurs role n ∷ es) are = absurd are.0
 quiet i bound (binds n ∷ es) are = absurd are.0
 quiet i bound (reads n ∷ es) are = quiet (i + 1) bound es are.1
 quiet i bound (closes ∷ es) are = absurd are.0
@@ -104,8 +105,8 @@ quiet_extern (extern_const name ty place) = (tt, (tt, tt))
 
 definition_ends : (i : ℕ) (d : Definition) → bound_after i [] (definition_events d) ≡ []
 definition_ends i (type_def t) = quiet i [] (definition_events (type_def t)) (tt, quiet_content t.name t.ty)
-definition_ends i (rule r) = ended i [] (pattern_events r.pattern ++ flat_map condition_events r.iflets ++ expression_events r.expr)
-definition_ends i (extractor e) = ended i [] (uses kinds.Term e.term ∷ [] ++ map occurs e.args ++ pattern_events e.template)
+definition_ends i (rule r) = ended i [] (pattern_events roles.Rule r.pattern ++ flat_map condition_events r.iflets ++ expression_events r.expr)
+definition_ends i (extractor e) = ended i [] (uses kinds.Term e.term ∷ [] ++ map (occurs roles.Parameter) e.args ++ pattern_events roles.Template e.template)
 definition_ends i (decl d) =
     quiet i [] (definition_events (decl d))
     (join (defines kinds.Term d.term ∷ [] ++ map (uses kinds.Type) d.arg_tys) (uses kinds.Type d.ret_ty ∷ []) (tt, quiet_types d.arg_tys) (tt, tt))

@@ -34,8 +34,8 @@ variable_over ms kind old new c x y i bound [] = refl
 variable_over ms kind old new c x y i bound (defines k n ∷ es) = ap (λ bs. false ∷ bs) (variable_over ms kind old new c x y (i + 1) bound es)
 variable_over ms kind old new c x y i bound (uses k n ∷ es) = ap (λ bs. false ∷ bs) (variable_over ms kind old new c x y (i + 1) bound es)
 variable_over ms kind old new c x y i bound (defines_variant o m ∷ es) = ap (λ bs. false ∷ bs) (variable_over ms kind old new c x y (i + 1) bound es)
-variable_over ms kind old new c x y i bound (occurs n ∷ es) =
-    ap (λ bs. is_number c (binder (occurs n) i bound) ∷ bs) (variable_over ms kind old new c x y (i + 1) (after (occurs n) i bound) es)
+variable_over ms kind old new c x y i bound (occurs role n ∷ es) =
+    ap (λ bs. is_number c (binder (occurs role n) i bound) ∷ bs) (variable_over ms kind old new c x y (i + 1) (after (occurs role n) i bound) es)
 variable_over ms kind old new c x y i bound (binds n ∷ es) =
     ap (λ bs. is_number c (binder (binds n) i bound) ∷ bs) (variable_over ms kind old new c x y (i + 1) (after (binds n) i bound) es)
 variable_over ms kind old new c x y i bound (reads n ∷ es) =
@@ -52,7 +52,7 @@ Stays ms kind old new k t (uses l n) =
 Stays ms kind old new k t (defines_variant o m) =
     same_kind k kinds.Term ≡ true →
     bytes_eq (joined (new_text ms kind old new kinds.Type o.text) m.text) (new_text ms kind old new k t) ≡ bytes_eq (joined o.text m.text) t
-Stays ms kind old new k t (occurs _) = Unit {0}
+Stays ms kind old new k t (occurs _ _) = Unit {0}
 Stays ms kind old new k t (binds _) = Unit {0}
 Stays ms kind old new k t (reads _) = Unit {0}
 Stays ms kind old new k t closes = Unit {0}
@@ -67,7 +67,7 @@ stays_gives : (ms : List (List ℕ)) (kind : Kind) (old new : List ℕ) (k : Kin
 stays_gives ms kind old new k t (defines l n) h = behind-test (same_kind k l) _ _ h
 stays_gives ms kind old new k t (uses l n) h = behind-test (same_kind k l) _ _ h
 stays_gives ms kind old new k t (defines_variant o m) h = behind-test (same_kind k kinds.Term) _ _ h
-stays_gives ms kind old new k t (occurs n) h = refl
+stays_gives ms kind old new k t (occurs role n) h = refl
 stays_gives ms kind old new k t (binds n) h = refl
 stays_gives ms kind old new k t (reads n) h = refl
 stays_gives ms kind old new k t closes h = refl
@@ -117,7 +117,7 @@ Joins ms kind old new (defines_variant o m) =
     joined (new_text ms kind old new kinds.Type o.text) m.text ≡ new_text ms kind old new kinds.Term (joined o.text m.text)
 Joins ms kind old new (defines _ _) = Unit {0}
 Joins ms kind old new (uses _ _) = Unit {0}
-Joins ms kind old new (occurs _) = Unit {0}
+Joins ms kind old new (occurs _ _) = Unit {0}
 Joins ms kind old new (binds _) = Unit {0}
 Joins ms kind old new (reads _) = Unit {0}
 Joins ms kind old new closes = Unit {0}
@@ -143,7 +143,7 @@ stays_by ms kind old new k t (defines_variant o m) h j = λ same.
     ap (λ y. bytes_eq y (new_text ms kind old new k t)) j
     ∙ ap (λ z. bytes_eq (new_text ms kind old new z (joined o.text m.text)) (new_text ms kind old new k t)) (sym (kinds-are k kinds.Term same))
     ∙ h (joined o.text m.text) (both-true (same_kind k kinds.Term) (bytes_eq (joined o.text m.text) (joined o.text m.text)) same (bytes-true (joined o.text m.text) (joined o.text m.text) refl))
-stays_by ms kind old new k t (occurs n) h j = tt
+stays_by ms kind old new k t (occurs role n) h j = tt
 stays_by ms kind old new k t (binds n) h j = tt
 stays_by ms kind old new k t (reads n) h j = tt
 stays_by ms kind old new k t closes h j = tt
@@ -198,7 +198,7 @@ abbrev pub IsCovered : List ℕ → List (List ℕ) → EventNode → Type 0
 IsCovered old ms (defines_variant o m) = bytes_eq o.text old ≡ true → is_member old ms (joined old m.text) ≡ true
 IsCovered old ms (defines _ _) = Unit {0}
 IsCovered old ms (uses _ _) = Unit {0}
-IsCovered old ms (occurs _) = Unit {0}
+IsCovered old ms (occurs _ _) = Unit {0}
 IsCovered old ms (binds _) = Unit {0}
 IsCovered old ms (reads _) = Unit {0}
 IsCovered old ms closes = Unit {0}
@@ -208,7 +208,7 @@ covered_more : (old x : List ℕ) (ms : List (List ℕ)) (e : EventNode) → IsC
 covered_more old x ms (defines_variant o m) h = λ own. or-right (bytes_eq (joined old x) (joined old m.text)) (is_member old ms (joined old m.text)) (h own)
 covered_more old x ms (defines k n) h = tt
 covered_more old x ms (uses k n) h = tt
-covered_more old x ms (occurs n) h = tt
+covered_more old x ms (occurs role n) h = tt
 covered_more old x ms (binds n) h = tt
 covered_more old x ms (reads n) h = tt
 covered_more old x ms closes h = tt
@@ -231,7 +231,7 @@ covers old [] = tt
 covers old (defines k n ∷ es) = (tt, covers old es)
 covers old (uses k n ∷ es) = (tt, covers old es)
 covers old (defines_variant o m ∷ es) = covers_variant old o m es (bytes_eq o.text old) refl (covers old es)
-covers old (occurs n ∷ es) = (tt, covers old es)
+covers old (occurs role n ∷ es) = (tt, covers old es)
 covers old (binds n ∷ es) = (tt, covers old es)
 covers old (reads n ∷ es) = (tt, covers old es)
 covers old (closes ∷ es) = (tt, covers old es)
@@ -257,7 +257,7 @@ event_joins : (ms : List (List ℕ)) (old new : List ℕ) (e : EventNode) → Is
 event_joins ms old new (defines_variant o m) c none = variant_joins ms old new o m (bytes_eq o.text old) refl c none
 event_joins ms old new (defines k n) c none = tt
 event_joins ms old new (uses k n) c none = tt
-event_joins ms old new (occurs n) c none = tt
+event_joins ms old new (occurs role n) c none = tt
 event_joins ms old new (binds n) c none = tt
 event_joins ms old new (reads n) c none = tt
 event_joins ms old new closes c none = tt
@@ -299,7 +299,7 @@ term_joins ms old new (defines_variant o m) none =
     sym (ap (λ b. cond b new (joined o.text m.text)) never)
 term_joins ms old new (defines k n) none = tt
 term_joins ms old new (uses k n) none = tt
-term_joins ms old new (occurs n) none = tt
+term_joins ms old new (occurs role n) none = tt
 term_joins ms old new (binds n) none = tt
 term_joins ms old new (reads n) none = tt
 term_joins ms old new closes none = tt
@@ -310,7 +310,7 @@ constant_joins ms old new [] = tt
 constant_joins ms old new (defines_variant o m ∷ es) = (refl, constant_joins ms old new es)
 constant_joins ms old new (defines k n ∷ es) = (tt, constant_joins ms old new es)
 constant_joins ms old new (uses k n ∷ es) = (tt, constant_joins ms old new es)
-constant_joins ms old new (occurs n ∷ es) = (tt, constant_joins ms old new es)
+constant_joins ms old new (occurs role n ∷ es) = (tt, constant_joins ms old new es)
 constant_joins ms old new (binds n ∷ es) = (tt, constant_joins ms old new es)
 constant_joins ms old new (reads n ∷ es) = (tt, constant_joins ms old new es)
 constant_joins ms old new (closes ∷ es) = (tt, constant_joins ms old new es)
@@ -321,7 +321,7 @@ with_gives : (new : List ℕ) (k : Kind) (t : List ℕ) (e : EventNode) → give
 with_gives new k t (defines l n) = refl
 with_gives new k t (uses l n) = refl
 with_gives new k t (defines_variant o m) = refl
-with_gives new k t (occurs n) = refl
+with_gives new k t (occurs role n) = refl
 with_gives new k t (binds n) = refl
 with_gives new k t (reads n) = refl
 with_gives new k t closes = refl

@@ -1,5 +1,5 @@
 -- Renaming keeps what names mean.
-use Rattle.std.proofs.Common.{◌≡◌, ℕ, ◌+◌, List, [], ◌∷◌, Bool, true, false, cond, not, ◌||◌, Option, None, Some, map, refl, sym, ap, ◌∙◌, subst}
+use Rattle.std.proofs.Common.{◌≡◌, ℕ, ◌+◌, List, [], ◌∷◌, Bool, true, false, cond, not, ◌&&◌, ◌||◌, Option, None, Some, map, refl, sym, ap, ◌∙◌, subst}
 use Rattle.std.specs.List.{AllByRecursion, list_any}
 use Rattle.isle_ast.specs.Tree.{Definition}
 use Rattle.isle_ast_names.specs.Tree.{Name}
@@ -11,7 +11,7 @@ use Rattle.isle_resolve.specs.Mapped.{map_definitions, map_event}
 use Rattle.isle_resolve.proofs.MappedLemmas.{events_follow}
 use Rattle.isle_index.specs.Scopes.{BoundNode, SeenNode, after, binder, seen, seen_from}
 use Rattle.isle_index.specs.Names.{NameNode, global, variable, gives, is_of}
-use Rattle.isle_index.specs.Renaming.{gives_variant, has, has_member, is_captured, is_new_name, is_taken, defines_it, members, refusal, renamed_variable, same_binders, shares}
+use Rattle.isle_index.specs.Renaming.{gives_variant, has, has_member, has_left, is_captured, is_fixed, can_be_renamed, is_new_name, is_taken, defines_it, members, refusal, renamed_variable, same_binders, shares}
 use Rattle.isle_index.specs.Renamed.{Renames, after_renaming, new_event, new_name}
 use Rattle.isle_index.proofs.Texts.{not-true, or-false}
 use Rattle.isle_index.proofs.Keeps.{IsCovered, IsFree, Joins, any_over, constant_joins, covers, each_by, free_members, keeps, members_over, term_joins, type_joins, variable_keeps}
@@ -33,6 +33,7 @@ cond-none false x o e = (refl, e)
 
 -- what is known of a name that can have a text
 pub record Fits (name : NameNode) (new : List ℕ) (ss : List SeenNode) : Type 0 where
+  pub defined : not (list_any (defines_it name) ss) ≡ false
   pub no_variant : list_any (gives_variant name) ss ≡ false
   pub not_taken : is_taken name new ss ≡ false
   pub not_captured : is_captured name new ss ≡ false
@@ -44,7 +45,7 @@ fits name new ss none =
     let third = cond-none (list_any (gives_variant name) ss) _ _ second.1 in
     let fourth = cond-none (is_taken name new ss) _ _ third.1 in
     let fifth = cond-none (is_captured name new ss) _ _ fourth.1 in
-    record { no_variant = third.0; not_taken = fourth.0; not_captured = fifth.0 }
+    record { defined = second.0; no_variant = third.0; not_taken = fourth.0; not_captured = fifth.0 }
 
 -- the events of definitions with the name's new text
 renamed_events : (f : Name → Name) (r : SeenNode → EventNode) (ds : List Definition) → AllByRecursion (λ s. map_event f s.event ≡ r s) (seen (events ds)) →
@@ -94,4 +95,27 @@ renaming_keeps ds (variable b old) new f none renames m there =
     let ss : List SeenNode = seen (events ds) in
     let known = fits (variable b old) new ss none in
     ap (λ es. map (is_of (new_name (members old ss) (variable b old) new m)) (seen es)) (renamed_events f (renamed_variable b old new) ds renames)
-    ∙ variable_keeps (members old ss) b old new m ss (not-true (same_binders (seen (map (renamed_variable b old new) ss)) ss) known.not_captured)
+    ∙ variable_keeps (members old ss) b old new m ss (not-true (same_binders (seen (map (renamed_variable b old new) ss)) ss)
+    (or-false (has_left new ss) _ (or-false (has_left old ss) _ known.not_captured).1).1)
+
+-- nothing fixes a name that can have a text
+free_of : (name : NameNode) (new : List ℕ) (ss : List SeenNode) → Fits name new ss → is_fixed name ss ≡ false
+free_of (global kinds.Term old) new ss known = refl
+free_of (global kinds.Constant old) new ss known = refl
+free_of (global kinds.Type old) new ss known =
+    let ms : List (List ℕ) = members old ss in
+    let first = or-false (has kinds.Type new ss) (has_member new ms ss || list_any (λ s. shares old ms s.event) ss) known.not_taken in
+    (or-false (has_member new ms ss) (list_any (λ s. shares old ms s.event) ss) first.1).1
+free_of (variable b old) new ss known =
+    (or-false (has_left old ss) (has_left new ss || not (same_binders (seen (map (renamed_variable b old new) ss)) ss)) known.not_captured).0
+
+all-hold : (a b c : Bool) → not a ≡ false → b ≡ false → c ≡ false → a && (not b && not c) ≡ true
+all-hold true false false p q r = refl
+all-hold false b c p q r = let never : true ≡ false = p in absurd (cc)
+all-hold true true c p q r = let never : true ≡ false = q in absurd (cc)
+all-hold true false true p q r = let never : true ≡ false = r in absurd (cc)
+
+pub accepted_can_be : (name : NameNode) (new : List ℕ) (ss : List SeenNode) → refusal name new ss ≡ None → can_be_renamed name ss ≡ true
+accepted_can_be name new ss none =
+    let known = fits name new ss none in
+    all-hold (list_any (defines_it name) ss) (list_any (gives_variant name) ss) (is_fixed name ss) known.defined known.no_variant (free_of name new ss known)

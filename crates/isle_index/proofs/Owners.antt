@@ -5,6 +5,8 @@ use Rattle.isle_ast_names.specs.Tree.{Name}
 use Rattle.isle_ast_rules.specs.Tree.{PatternNode, var_pattern, bind_pattern, bool_pattern, int_pattern, constant_pattern, term_pattern, wildcard_pattern, and_pattern, macro_arg_pattern, PatternList, no_pattern, more_pattern, Expression, term_expression, var_expression, bool_expression, int_expression, constant_expression, let_expression, ExpressionList, no_expression, more_expression, LetList, no_let, more_let, Condition, RuleDefinition, ExtractorDefinition}
 use Rattle.isle_ast.specs.Tree.{NamedField, IndexedField, FieldList, unit_fields, struct_fields, tuple_fields, EnumVariant, TypeContent, primitive_type, enum_type, struct_type, Declaration, AttributeTarget, term_target, rule_target, ModelContent, type_model, const_model, ExternDefinition, extern_extractor, extern_constructor, extern_const, Definition, type_def, rule, extractor, decl, attr, spec, spec_macro, model, state, form, instantiation, external, converter}
 use Rattle.isle_resolve.specs.declared.event.Kind.TheVariants as kinds
+use Rattle.isle_resolve.specs.declared.event.Role.{Role}
+use Rattle.isle_resolve.specs.declared.event.Role.TheVariants as roles
 use Rattle.isle_resolve.specs.Event.{EventNode, defines, uses, defines_variant, occurs, binds, reads, closes, ends}
 use Rattle.isle_resolve.specs.Events.{pattern_events, pattern_list_events, expression_events, expression_list_events, let_events, let_ends, condition_events, rule_events, extractor_events, field_events, variant_events, content_events, declaration_events, target_events, model_events, extern_events, definition_events, events}
 
@@ -15,7 +17,7 @@ TypeIs P (defines kinds.Term n) = Unit {0}
 TypeIs P (defines kinds.Constant n) = Unit {0}
 TypeIs P (uses _ _) = Unit {0}
 TypeIs P (defines_variant _ _) = Unit {0}
-TypeIs P (occurs _) = Unit {0}
+TypeIs P (occurs _ _) = Unit {0}
 TypeIs P (binds _) = Unit {0}
 TypeIs P (reads _) = Unit {0}
 TypeIs P closes = Unit {0}
@@ -25,7 +27,7 @@ abbrev pub OwnerIs : (Name → Type 0) → EventNode → Type 0
 OwnerIs P (defines_variant o m) = P o
 OwnerIs P (defines _ _) = Unit {0}
 OwnerIs P (uses _ _) = Unit {0}
-OwnerIs P (occurs _) = Unit {0}
+OwnerIs P (occurs _ _) = Unit {0}
 OwnerIs P (binds _) = Unit {0}
 OwnerIs P (reads _) = Unit {0}
 OwnerIs P closes = Unit {0}
@@ -40,20 +42,20 @@ split Q [] ys a = (tt, a)
 split Q (x ∷ xs) ys a = let rest = split Q xs ys a.1 in ((a.0, rest.0), rest.1)
 
 mutual
-  pattern_owns : (P : Name → Type 0) (p : PatternNode) → AllByRecursion (OwnerIs P) (pattern_events p)
-  pattern_owns P (var_pattern var place) = (tt, tt)
-  pattern_owns P (bind_pattern var subpat place) = (tt, pattern_owns P subpat)
-  pattern_owns P (bool_pattern val place) = tt
-  pattern_owns P (int_pattern val place) = tt
-  pattern_owns P (constant_pattern val place) = (tt, tt)
-  pattern_owns P (term_pattern sym args place) = (tt, patterns_own P args)
-  pattern_owns P (wildcard_pattern place) = tt
-  pattern_owns P (and_pattern subpats place) = patterns_own P subpats
-  pattern_owns P (macro_arg_pattern index place) = tt
+  pattern_owns : (P : Name → Type 0) (role : Role) (p : PatternNode) → AllByRecursion (OwnerIs P) (pattern_events role p)
+  pattern_owns P role (var_pattern var place) = (tt, tt)
+  pattern_owns P role (bind_pattern var subpat place) = (tt, pattern_owns P role subpat)
+  pattern_owns P role (bool_pattern val place) = tt
+  pattern_owns P role (int_pattern val place) = tt
+  pattern_owns P role (constant_pattern val place) = (tt, tt)
+  pattern_owns P role (term_pattern sym args place) = (tt, patterns_own P role args)
+  pattern_owns P role (wildcard_pattern place) = tt
+  pattern_owns P role (and_pattern subpats place) = patterns_own P role subpats
+  pattern_owns P role (macro_arg_pattern index place) = tt
 
-  patterns_own : (P : Name → Type 0) (ps : PatternList) → AllByRecursion (OwnerIs P) (pattern_list_events ps)
-  patterns_own P no_pattern = tt
-  patterns_own P (more_pattern p ps) = join (OwnerIs P) (pattern_events p) (pattern_list_events ps) (pattern_owns P p) (patterns_own P ps)
+  patterns_own : (P : Name → Type 0) (role : Role) (ps : PatternList) → AllByRecursion (OwnerIs P) (pattern_list_events role ps)
+  patterns_own P role no_pattern = tt
+  patterns_own P role (more_pattern p ps) = join (OwnerIs P) (pattern_events role p) (pattern_list_events role ps) (pattern_owns P role p) (patterns_own P role ps)
 
 ends_own : (P : Name → Type 0) (ds : LetList) → AllByRecursion (OwnerIs P) (let_ends ds)
 ends_own P no_let = tt
@@ -86,18 +88,18 @@ conditions_own : (P : Name → Type 0) (cs : List Condition) → AllByRecursion 
 conditions_own P [] = tt
 conditions_own P (c ∷ cs) =
     join (OwnerIs P) (condition_events c) (flat_map condition_events cs)
-    (join (OwnerIs P) (expression_events c.expr) (pattern_events c.pattern) (expression_owns P c.expr) (pattern_owns P c.pattern))
+    (join (OwnerIs P) (expression_events c.expr) (pattern_events roles.Rule c.pattern) (expression_owns P c.expr) (pattern_owns P roles.Rule c.pattern))
     (conditions_own P cs)
 
 rule_owns : (P : Name → Type 0) (r : RuleDefinition) → AllByRecursion (OwnerIs P) (rule_events r)
 rule_owns P r =
-    join (OwnerIs P) (pattern_events r.pattern ++ flat_map condition_events r.iflets ++ expression_events r.expr) (ends ∷ [])
-    (join (OwnerIs P) (pattern_events r.pattern ++ flat_map condition_events r.iflets) (expression_events r.expr)
-    (join (OwnerIs P) (pattern_events r.pattern) (flat_map condition_events r.iflets) (pattern_owns P r.pattern) (conditions_own P r.iflets))
+    join (OwnerIs P) (pattern_events roles.Rule r.pattern ++ flat_map condition_events r.iflets ++ expression_events r.expr) (ends ∷ [])
+    (join (OwnerIs P) (pattern_events roles.Rule r.pattern ++ flat_map condition_events r.iflets) (expression_events r.expr)
+    (join (OwnerIs P) (pattern_events roles.Rule r.pattern) (flat_map condition_events r.iflets) (pattern_owns P roles.Rule r.pattern) (conditions_own P r.iflets))
     (expression_owns P r.expr))
     (tt, tt)
 
-parameters_own : (P : Name → Type 0) (ns : List Name) → AllByRecursion (OwnerIs P) (map occurs ns)
+parameters_own : (P : Name → Type 0) (ns : List Name) → AllByRecursion (OwnerIs P) (map (occurs roles.Parameter) ns)
 parameters_own P [] = tt
 parameters_own P (n ∷ ns) = (tt, parameters_own P ns)
 
@@ -107,8 +109,8 @@ types_own P (n ∷ ns) = (tt, types_own P ns)
 
 extractor_owns : (P : Name → Type 0) (e : ExtractorDefinition) → AllByRecursion (OwnerIs P) (extractor_events e)
 extractor_owns P e =
-    join (OwnerIs P) (uses kinds.Term e.term ∷ [] ++ map occurs e.args ++ pattern_events e.template) (ends ∷ [])
-    (join (OwnerIs P) (uses kinds.Term e.term ∷ [] ++ map occurs e.args) (pattern_events e.template) (tt, parameters_own P e.args) (pattern_owns P e.template))
+    join (OwnerIs P) (uses kinds.Term e.term ∷ [] ++ map (occurs roles.Parameter) e.args ++ pattern_events roles.Template e.template) (ends ∷ [])
+    (join (OwnerIs P) (uses kinds.Term e.term ∷ [] ++ map (occurs roles.Parameter) e.args) (pattern_events roles.Template e.template) (tt, parameters_own P e.args) (pattern_owns P roles.Template e.template))
     (tt, tt)
 
 named_own : (P : Name → Type 0) (fs : List NamedField) → AllByRecursion (OwnerIs P) (map (λ f. uses kinds.Type f.ty) fs)

@@ -7,6 +7,7 @@ use Rattle.isle_ast.specs.Tree.{Definition}
 use Rattle.isle_ast_names.specs.Tree.{Name}
 use Rattle.isle_resolve.specs.declared.event.Kind.{Kind}
 use Rattle.isle_resolve.specs.declared.event.Kind.TheVariants as kinds
+use Rattle.isle_resolve.specs.declared.event.Role.{Role}
 use Rattle.isle_resolve.specs.Event.{EventNode, defines, uses, defines_variant, occurs, binds, reads, closes, ends}
 use Rattle.isle_resolve.specs.Events.{events}
 use Rattle.isle_resolve.specs.Mapped.{map_event}
@@ -74,10 +75,10 @@ variant-stays ms kinds.Term old o m none = sym (and-true (gives kinds.Term old (
 variant-stays ms kinds.Type old o m none = refl
 variant-stays ms kinds.Constant old o m none = refl
 
-occurs-stays : (ms : List (List ℕ)) (kind : Kind) (old : List ℕ) (n : Name) (i : ℕ) (b : Option ℕ) → changes ms (global kind old) (record { event = occurs n; number = i; binder = b }) ≡ false
-occurs-stays ms kinds.Term old n i b = refl
-occurs-stays ms kinds.Type old n i b = refl
-occurs-stays ms kinds.Constant old n i b = refl
+occurs-stays : (ms : List (List ℕ)) (kind : Kind) (old : List ℕ) (role : Role) (n : Name) (i : ℕ) (b : Option ℕ) → changes ms (global kind old) (record { event = occurs role n; number = i; binder = b }) ≡ false
+occurs-stays ms kinds.Term old role n i b = refl
+occurs-stays ms kinds.Type old role n i b = refl
+occurs-stays ms kinds.Constant old role n i b = refl
 
 binds-stays : (ms : List (List ℕ)) (kind : Kind) (old : List ℕ) (n : Name) (i : ℕ) (b : Option ℕ) → changes ms (global kind old) (record { event = binds n; number = i; binder = b }) ≡ false
 binds-stays ms kinds.Term old n i b = refl
@@ -137,10 +138,10 @@ globals-renamed places ms kind old new i bound (defines_variant o m ∷ es) stan
           (stays old new m (stands_at places m) (stands.0 m refl ∙ lone-is ms kind old (defines_variant o m) i None ∙ variant-stays ms kind old o m parts.0)),
       globals-renamed places ms kind old new (i + 1) bound es stands.1 owned.1 parts.1,
     )
-globals-renamed places ms kind old new i bound (occurs n ∷ es) stands owned none =
-    let parts = or-false (gives_variant (global kind old) (lone (occurs n))) (list_any (λ e. gives_variant (global kind old) (lone e)) es) none in (
-      ap occurs (stays old new n (stands_at places n) (stands.0 n refl ∙ occurs-stays ms kind old n i (binder (occurs n) i bound))),
-      globals-renamed places ms kind old new (i + 1) (after (occurs n) i bound) es stands.1 owned.1 parts.1,
+globals-renamed places ms kind old new i bound (occurs role n ∷ es) stands owned none =
+    let parts = or-false (gives_variant (global kind old) (lone (occurs role n))) (list_any (λ e. gives_variant (global kind old) (lone e)) es) none in (
+      ap (occurs role) (stays old new n (stands_at places n) (stands.0 n refl ∙ occurs-stays ms kind old role n i (binder (occurs role n) i bound))),
+      globals-renamed places ms kind old new (i + 1) (after (occurs role n) i bound) es stands.1 owned.1 parts.1,
     )
 globals-renamed places ms kind old new i bound (binds n ∷ es) stands owned none =
     let parts = or-false (gives_variant (global kind old) (lone (binds n))) (list_any (λ e. gives_variant (global kind old) (lone e)) es) none in (
@@ -172,9 +173,9 @@ variables-renamed places ms b old new i bound (defines_variant o m ∷ es) stand
       ∙ ap (defines_variant o) (stays old new m (stands_at places m) (stands.0 m refl)),
   variables-renamed places ms b old new (i + 1) bound es stands.1 owned.1,
 )
-variables-renamed places ms b old new i bound (occurs n ∷ es) stands owned = (
-  variable-by old new n occurs (stands_at places n) (is_number b (binder (occurs n) i bound)) (bytes_eq n.text old) (stands.0 n refl) refl,
-  variables-renamed places ms b old new (i + 1) (after (occurs n) i bound) es stands.1 owned.1,
+variables-renamed places ms b old new i bound (occurs role n ∷ es) stands owned = (
+  variable-by old new n (occurs role) (stands_at places n) (is_number b (binder (occurs role n) i bound)) (bytes_eq n.text old) (stands.0 n refl) refl,
+  variables-renamed places ms b old new (i + 1) (after (occurs role n) i bound) es stands.1 owned.1,
 )
 variables-renamed places ms b old new i bound (binds n ∷ es) stands owned = (
   variable-by old new n binds (stands_at places n) (is_number b (binder (binds n) i bound)) (bytes_eq n.text old) (stands.0 n refl) refl,
@@ -208,7 +209,7 @@ types-stand places ms name i bound (defines kinds.Term n ∷ es) stands = (tt, t
 types-stand places ms name i bound (defines kinds.Constant n ∷ es) stands = (tt, types-stand places ms name (i + 1) bound es stands.1)
 types-stand places ms name i bound (uses k n ∷ es) stands = (tt, types-stand places ms name (i + 1) bound es stands.1)
 types-stand places ms name i bound (defines_variant o m ∷ es) stands = (tt, types-stand places ms name (i + 1) bound es stands.1)
-types-stand places ms name i bound (occurs n ∷ es) stands = (tt, types-stand places ms name (i + 1) (after (occurs n) i bound) es stands.1)
+types-stand places ms name i bound (occurs role n ∷ es) stands = (tt, types-stand places ms name (i + 1) (after (occurs role n) i bound) es stands.1)
 types-stand places ms name i bound (binds n ∷ es) stands = (tt, types-stand places ms name (i + 1) (after (binds n) i bound) es stands.1)
 types-stand places ms name i bound (reads n ∷ es) stands = (tt, types-stand places ms name (i + 1) bound es stands.1)
 types-stand places ms name i bound (closes ∷ es) stands = (tt, types-stand places ms name (i + 1) (after closes i bound) es stands.1)

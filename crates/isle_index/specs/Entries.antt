@@ -36,7 +36,7 @@ unpacked texts number (entries.Defines kind spot) = with_binder (defines kind (w
 unpacked texts number (entries.Uses kind spot) = with_binder (uses kind (word_at texts spot)) number None
 unpacked texts number (entries.DefinesVariant owner member) =
     with_binder (defines_variant (word_at texts owner) (word_at texts member)) number None
-unpacked texts number (entries.Occurs spot binder) = with_binder (occurs (word_at texts spot)) number (Some binder)
+unpacked texts number (entries.Occurs role spot binder) = with_binder (occurs role (word_at texts spot)) number (Some binder)
 unpacked texts number (entries.Binds spot) = with_binder (binds (word_at texts spot)) number (Some number)
 unpacked texts number (entries.Reads spot binder) = with_binder (reads (word_at texts spot)) number binder
 unpacked texts number entries.Closes = with_binder closes number None

@@ -36,7 +36,7 @@ abbrev pub HasTexts : List (String Global) → Entry → Type 0
 HasTexts texts (entries.Defines _ spot) = HasText texts spot
 HasTexts texts (entries.Uses _ spot) = HasText texts spot
 HasTexts texts (entries.DefinesVariant owner member) = HasText texts owner × HasText texts member
-HasTexts texts (entries.Occurs spot _) = HasText texts spot
+HasTexts texts (entries.Occurs _ spot _) = HasText texts spot
 HasTexts texts (entries.Binds spot) = HasText texts spot
 HasTexts texts (entries.Reads spot _) = HasText texts spot
 HasTexts texts entries.Closes = Unit {0}

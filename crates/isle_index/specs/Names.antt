@@ -27,7 +27,7 @@ abbrev pub meaning : EventNode → Option ℕ → Option NameNode
 meaning (defines kind name) binder = Some (global kind name.text)
 meaning (uses kind name) binder = Some (global kind name.text)
 meaning (defines_variant owner member) binder = Some (global kinds.Term (joined owner.text member.text))
-meaning (occurs name) binder = option_map (λ b. variable b name.text) binder
+meaning (occurs _ name) binder = option_map (λ b. variable b name.text) binder
 meaning (binds name) binder = option_map (λ b. variable b name.text) binder
 meaning (reads name) binder = option_map (λ b. variable b name.text) binder
 meaning closes binder = None
@@ -44,7 +44,7 @@ abbrev pub gives : Kind → List ℕ → EventNode → Bool
 gives kind text (defines k name) = same_kind kind k && bytes_eq name.text text
 gives kind text (uses k name) = same_kind kind k && bytes_eq name.text text
 gives kind text (defines_variant owner member) = same_kind kind kinds.Term && bytes_eq (joined owner.text member.text) text
-gives kind text (occurs _) = false
+gives kind text (occurs _ _) = false
 gives kind text (binds _) = false
 gives kind text (reads _) = false
 gives kind text closes = false

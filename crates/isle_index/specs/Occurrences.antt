@@ -24,7 +24,7 @@ abbrev pub occurrence_of : EventNode → Bool → Option Occurrence
 occurrence_of (defines kind name) own = place name (written_len kind name) true
 occurrence_of (uses kind name) own = place name (written_len kind name) false
 occurrence_of (defines_variant owner member) own = place member (length member.text) true
-occurrence_of (occurs name) own = place name (length name.text) own
+occurrence_of (occurs _ name) own = place name (length name.text) own
 occurrence_of (binds name) own = place name (length name.text) own
 occurrence_of (reads name) own = place name (length name.text) own
 occurrence_of closes own = None

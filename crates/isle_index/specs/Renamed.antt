@@ -44,7 +44,7 @@ abbrev pub new_event : List (List ℕ) → Kind → List ℕ → List ℕ → Ev
 new_event ms kind old new (defines k name) = defines k (with_new_text ms kind old new k name)
 new_event ms kind old new (uses k name) = uses k (with_new_text ms kind old new k name)
 new_event ms kind old new (defines_variant owner member) = defines_variant (with_new_text ms kind old new kinds.Type owner) member
-new_event ms kind old new (occurs name) = occurs name
+new_event ms kind old new (occurs role name) = occurs role name
 new_event ms kind old new (binds name) = binds name
 new_event ms kind old new (reads name) = reads name
 new_event ms kind old new closes = closes

@@ -11,6 +11,8 @@ use Rattle.isle_ast_names.specs.Identifier.{is_identifier}
 use Rattle.isle_ast_names.specs.Words.{is_dollar}
 use Rattle.isle_resolve.specs.declared.event.Kind.{Kind}
 use Rattle.isle_resolve.specs.declared.event.Kind.TheVariants as kinds
+use Rattle.isle_resolve.specs.declared.event.Role.{Role}
+use Rattle.isle_resolve.specs.declared.event.Role.TheVariants as roles
 use Rattle.isle_resolve.specs.Event.{EventNode, defines, uses, defines_variant, occurs, binds, reads, closes, ends}
 use Rattle.isle_index.specs.Scopes.{SeenNode, seen}
 use Rattle.isle_index.specs.Names.{NameNode, global, variable, gives, is_of, is_number, joined, name_text, same_kind}
@@ -23,6 +25,7 @@ is_reserved text =
     bytes_eq text (codes "_") || bytes_eq text (codes "true") || bytes_eq text (codes "false") || bytes_eq text (codes "and")
     || bytes_eq text (codes "let") || bytes_eq text (codes "if") || bytes_eq text (codes "rule") || bytes_eq text (codes "pure")
     || bytes_eq text (codes "multi") || bytes_eq text (codes "partial") || bytes_eq text (codes "rec")
+    || bytes_eq text (codes "infallible")
 
 -- whether a text can be a new name: an identifier that does not begin with `$` and is no reserved word
 abbrev pub is_new_name : List ℕ → Bool
@@ -33,7 +36,7 @@ abbrev pub member_of : List ℕ → EventNode → Option (List ℕ)
 member_of owner (defines_variant o m) = if bytes_eq o.text owner then Some m.text else None
 member_of owner (defines _ _) = None
 member_of owner (uses _ _) = None
-member_of owner (occurs _) = None
+member_of owner (occurs _ _) = None
 member_of owner (binds _) = None
 member_of owner (reads _) = None
 member_of owner closes = None
@@ -52,7 +55,7 @@ abbrev pub writes_member : List ℕ → List (List ℕ) → EventNode → Bool
 writes_member owner ms (defines kind name) = same_kind kind kinds.Term && is_member owner ms name.text
 writes_member owner ms (uses kind name) = same_kind kind kinds.Term && is_member owner ms name.text
 writes_member owner ms (defines_variant _ _) = false
-writes_member owner ms (occurs _) = false
+writes_member owner ms (occurs _ _) = false
 writes_member owner ms (binds _) = false
 writes_member owner ms (reads _) = false
 writes_member owner ms closes = false
@@ -63,7 +66,7 @@ abbrev pub variable_text : EventNode → List ℕ
 variable_text (defines _ _) = []
 variable_text (uses _ _) = []
 variable_text (defines_variant _ _) = []
-variable_text (occurs name) = name.text
+variable_text (occurs _ name) = name.text
 variable_text (binds name) = name.text
 variable_text (reads name) = name.text
 variable_text closes = []
@@ -85,7 +88,7 @@ abbrev pub position : EventNode → Option Pos
 position (defines _ name) = Some name.pos
 position (uses _ name) = Some name.pos
 position (defines_variant _ member) = Some member.pos
-position (occurs name) = Some name.pos
+position (occurs _ name) = Some name.pos
 position (binds name) = Some name.pos
 position (reads name) = Some name.pos
 position closes = None
@@ -101,7 +104,7 @@ abbrev pub is_definition : EventNode → Bool → Bool
 is_definition (defines _ _) own = true
 is_definition (uses _ _) own = false
 is_definition (defines_variant _ _) own = true
-is_definition (occurs _) own = own
+is_definition (occurs _ _) own = own
 is_definition (binds _) own = own
 is_definition (reads _) own = own
 is_definition closes own = false
@@ -132,7 +135,7 @@ abbrev pub shares : List ℕ → List (List ℕ) → EventNode → Bool
 shares owner ms (defines_variant o m) = not (bytes_eq o.text owner) && is_member owner ms (joined o.text m.text)
 shares owner ms (defines _ _) = false
 shares owner ms (uses _ _) = false
-shares owner ms (occurs _) = false
+shares owner ms (occurs _ _) = false
 shares owner ms (binds _) = false
 shares owner ms (reads _) = false
 shares owner ms closes = false
@@ -150,7 +153,7 @@ is_taken (variable _ _) new ss = false
 
 -- an event with another text in its variable
 abbrev pub with_text : List ℕ → EventNode → EventNode
-with_text new (occurs name) = occurs (record { text = new; pos = name.pos })
+with_text new (occurs role name) = occurs role (record { text = new; pos = name.pos })
 with_text new (binds name) = binds (record { text = new; pos = name.pos })
 with_text new (reads name) = reads (record { text = new; pos = name.pos })
 with_text new e = e
@@ -171,10 +174,38 @@ same_binders [] (_ ∷ _) = false
 same_binders (_ ∷ _) [] = false
 same_binders (s ∷ ss) (t ∷ ts) = same_binder s.binder t.binder && same_binders ss ts
 
--- whether a variable gets another binder when the variable of this binder gets the new text
+-- whether a template leaves a variable of this role to the rules that use its extractor: one that is no parameter, or
+-- stands before an `@`. `own` says whether it binds itself
+abbrev pub is_left : Role → Bool → Bool
+is_left roles.Rule own = false
+is_left roles.Parameter own = false
+is_left roles.Template own = own
+is_left roles.Named own = true
+
+abbrev pub leaves_by : List ℕ → EventNode → Bool → Bool
+leaves_by text (occurs role name) own = is_left role own && bytes_eq name.text text
+leaves_by text (defines _ _) own = false
+leaves_by text (uses _ _) own = false
+leaves_by text (defines_variant _ _) own = false
+leaves_by text (binds _) own = false
+leaves_by text (reads _) own = false
+leaves_by text closes own = false
+leaves_by text ends own = false
+
+-- whether an event is a variable of this text that a template leaves to rules
+abbrev pub leaves : List ℕ → SeenNode → Bool
+leaves text s = leaves_by text s.event (is_number s.number s.binder)
+
+-- whether a template leaves a variable of this text to the rules that use its extractor
+abbrev pub has_left : List ℕ → List SeenNode → Bool
+has_left text ss = list_any (leaves text) ss
+
+-- whether a variable gets another binder when the variable of this binder gets the new text, or may get one in an
+-- expansion
 abbrev pub is_captured : NameNode → List ℕ → List SeenNode → Bool
 is_captured (global _ _) new ss = false
-is_captured (variable binder old) new ss = not (same_binders (seen (map (renamed_variable binder old new) ss)) ss)
+is_captured (variable binder old) new ss =
+    has_left old ss || (has_left new ss || not (same_binders (seen (map (renamed_variable binder old new) ss)) ss))
 
 -- the first reason that holds why a name cannot be renamed, if there is one
 abbrev pub refusal : NameNode → List ℕ → List SeenNode → Option Refusal
@@ -185,6 +216,18 @@ refusal name new ss =
     else if is_taken name new ss then Some refusals.Taken
     else if is_captured name new ss then Some refusals.Captured
     else None
+
+-- whether another type has a variant that is the same term as one of the type's own, or a template leaves a variable of
+-- this name to rules
+abbrev pub is_fixed : NameNode → List SeenNode → Bool
+is_fixed (global kinds.Type text) ss = list_any (λ s. shares text (members text ss) s.event) ss
+is_fixed (global kinds.Term text) ss = false
+is_fixed (global kinds.Constant text) ss = false
+is_fixed (variable _ text) ss = has_left text ss
+
+-- whether a name can be renamed at all: every other name is rejected, whatever its new text
+abbrev pub can_be_renamed : NameNode → List SeenNode → Bool
+can_be_renamed name ss = list_any (defines_it name) ss && (not (list_any (gives_variant name) ss) && not (is_fixed name ss))
 
 -- the name can be renamed, and these are the positions that change, in order
 pub record IsAccepted (name : NameNode) (new : List ℕ) (ss : List SeenNode) (places : List Pos) : Type 0 where

@@ -37,7 +37,7 @@ abbrev pub after : EventNode → ℕ → List BoundNode → List BoundNode
 after (defines _ _) number bound = bound
 after (uses _ _) number bound = bound
 after (defines_variant _ _) number bound = bound
-after (occurs name) number bound = if is_some (last_bound bound name.text) then bound else bound_more bound name number
+after (occurs _ name) number bound = if is_some (last_bound bound name.text) then bound else bound_more bound name number
 after (binds name) number bound = bound_more bound name number
 after (reads _) number bound = bound
 after closes number bound = take (length bound - 1) bound
@@ -48,7 +48,7 @@ abbrev pub binder : EventNode → ℕ → List BoundNode → Option ℕ
 binder (defines _ _) number bound = None
 binder (uses _ _) number bound = None
 binder (defines_variant _ _) number bound = None
-binder (occurs name) number bound = or_else (last_bound bound name.text) (Some number)
+binder (occurs _ name) number bound = or_else (last_bound bound name.text) (Some number)
 binder (binds name) number bound = Some number
 binder (reads name) number bound = last_bound bound name.text
 binder closes number bound = None

@@ -32,7 +32,7 @@ symbol (defines kind name) = Some (record { kind = kind_of kind; text = name.tex
 symbol (uses _ _) = None
 symbol (defines_variant owner member) =
     Some (record { kind = symbol_kinds.Variant; text = joined owner.text member.text; pos = member.pos; len = length member.text })
-symbol (occurs _) = None
+symbol (occurs _ _) = None
 symbol (binds _) = None
 symbol (reads _) = None
 symbol closes = None

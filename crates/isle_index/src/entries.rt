@@ -8,7 +8,7 @@ ghost use Rattle.isle_resolve.specs.EventView.{word_of};
 
 use crate::scopes::Seen;
 use isle_base::lexer::Pos;
-use isle_resolve::event::{Event, Kind, Word};
+use isle_resolve::event::{Event, Kind, Role, Word};
 
 /// A name as it occurs in the source, packed.
 #[derive(Clone, Copy, Debug)]
@@ -28,7 +28,7 @@ pub enum Entry {
     Defines(Kind, Spot),
     Uses(Kind, Spot),
     DefinesVariant { owner: Spot, member: Spot },
-    Occurs(Spot, u32),
+    Occurs(Role, Spot, u32),
     Binds(Spot),
     Reads(Spot, Option<u32>),
     Closes,
@@ -55,8 +55,9 @@ impl<'a> Entries<'a> {
                 let member = self.word_at(member);
                 (Event::DefinesVariant { owner, member }, None)
             }
-            Entry::Occurs(spot, binder) => {
-                (Event::Occurs(self.word_at(spot)), Some(*binder as usize))
+            Entry::Occurs(role, spot, binder) => {
+                let event = Event::Occurs(*role, self.word_at(spot));
+                (event, Some(*binder as usize))
             }
             Entry::Binds(spot) => (Event::Binds(self.word_at(spot)), Some(number)),
             Entry::Reads(spot, binder) => {

@@ -7,8 +7,8 @@ ghost use Rattle.isle_ast_names.specs.Tree.{Name};
 ghost use Rattle.isle_base_source.specs.declared.pos.Pos.{Pos};
 ghost use Rattle.isle_index.specs.Names.{NameNode, is_of, name_text};
 ghost use Rattle.isle_index.specs.Renamed.{Renames, after_renaming, are_apart, places_of, replaced};
-ghost use Rattle.isle_index.specs.Renaming.{IsAccepted, refusal};
-ghost use Rattle.isle_index.specs.Scopes.{seen};
+ghost use Rattle.isle_index.specs.Renaming.{IsAccepted, can_be_renamed, refusal};
+ghost use Rattle.isle_index.specs.Scopes.{SeenNode, seen};
 ghost use Rattle.isle_resolve.specs.Events.{events};
 ghost use Rattle.isle_resolve.specs.Mapped.{map_definitions};
 
@@ -34,4 +34,11 @@ pub fn renaming_keeps_what_names_mean()
         → map (is_of (after_renaming name new (seen (events ds)) m))
         (seen (events (map_definitions f ds)))
         ≡ map (is_of m) (seen (events ds)) }
+{}
+
+/// A law, which runs no code: what `Index::rename` accepts for some new text can be renamed, as
+/// `Index::can_be_renamed` says. So a name that can't be renamed is rejected for every new text.
+pub fn accepted_names_can_be_renamed()
+    ensures { (name : NameNode) (new : List ℕ) (ss : List SeenNode)
+        → refusal name new ss ≡ None → can_be_renamed name ss ≡ true }
 {}

@@ -4,8 +4,8 @@
 //! of a rule or an extractor. The first occurrence of a variable in a rule's patterns binds it, and
 //! every later one uses it. A condition's expression comes before its pattern. A definition of a
 //! `let` is in scope in the later ones and in the body. The parameters of an extractor and the
-//! variables of its template are local to the extractor. Names inside specs and models are not
-//! indexed.
+//! variables of its template are local to the extractor: extractors are not expanded. Names inside
+//! specs and models are not indexed.
 #![tactic(auto)]
 
 ghost use Rattle.std.specs.Prelude.{◌≡◌, ◌++◌, [], IfOk, List, OnOk, length, map, option_map};
@@ -18,7 +18,7 @@ ghost use Rattle.isle_index.specs.Entries.{all_of};
 ghost use Rattle.isle_index.specs.Held.{Adds, IsIndexOf, all_in};
 ghost use Rattle.isle_index.specs.Names.{named_of};
 ghost use Rattle.isle_index.specs.Occurrences.{definitions, name_at, occurrence_at, occurrences};
-ghost use Rattle.isle_index.specs.Renaming.{IsAnswer};
+ghost use Rattle.isle_index.specs.Renaming.{IsAnswer, can_be_renamed};
 ghost use Rattle.isle_index.specs.Scopes.{seen_from};
 ghost use Rattle.isle_index.specs.Symbols.{symbol_of, symbols};
 ghost use Rattle.isle_resolve.specs.EventView.{events_of};
@@ -47,7 +47,7 @@ use numbers::Texts;
 pub use occurrences::Occurrence;
 use occurrences::{event_at, occurrence_in};
 pub use rename::Refusal;
-use rename::{changed_places, refusal_for};
+use rename::{can_be_renamed, changed_places, refusal_for};
 use scopes::bind;
 use std::alloc::{AllocError, Global};
 use std::slice;
@@ -201,10 +201,21 @@ impl Index {
         Ok(found)
     }
 
+    /// Returns whether `name`, a name of this index, can be renamed at all. If not, `rename`
+    /// rejects it whatever the new text: nothing defines it, it is a variant, or renaming it would
+    /// change another definition's meaning. An `Err` means out of memory.
+    pub fn can_be_renamed(&self, alloc: Global, name: &Name) -> Result<bool, AllocError>
+        ensures { IfOk result
+            (λ can. can ≡ can_be_renamed (named_of name.now) (all_in self.now)) }
+    {
+        can_be_renamed(alloc, &self.entries(), name)
+    }
+
     /// The positions to edit to rename `name`, a name of this index, to `new`, in order, or why it
     /// cannot be renamed. Each edit replaces the old text by the new one; a constant's edit starts
     /// after its `$`. Renaming a type also edits the first part of its variants' names,
-    /// `TYPE.VARIANT`. An `Err` means out of memory.
+    /// `TYPE.VARIANT`. A variable is not renamed from or to the name of a variable that rules get
+    /// from a template. An `Err` means out of memory.
     pub fn rename(
         &self,
         alloc: Global,

@@ -64,7 +64,7 @@ pub fn meaning(alloc: Global, seen: &Seen) -> Result<Option<Name>, AllocError>
                 text,
             }))
         }
-        Event::Occurs(word) | Event::Binds(word) | Event::Reads(word) => {
+        Event::Occurs(_, word) | Event::Binds(word) | Event::Reads(word) => {
             variable_name(alloc, seen.binder, word)
         }
         Event::Closes | Event::Ends => Ok(None),
@@ -127,7 +127,7 @@ pub fn gives(event: &Event, kind: Kind, text: &str) -> bool
         Event::DefinesVariant { owner, member } => {
             same_kind(kind, Kind::Term) && is_full_name(text, owner.text, member.text)
         }
-        Event::Occurs(_) | Event::Binds(_) | Event::Reads(_) | Event::Closes | Event::Ends => {
+        Event::Occurs(..) | Event::Binds(_) | Event::Reads(_) | Event::Closes | Event::Ends => {
             false
         }
     }

@@ -52,10 +52,10 @@ impl Texts {
                 let member = self.spot_of(alloc, member)?;
                 Ok(Entry::DefinesVariant { owner, member })
             }
-            Event::Occurs(word) => {
+            Event::Occurs(role, word) => {
                 let binder = last_binder(bound, word.text).unwrap_or(number);
                 let binder = narrow(binder)?;
-                Ok(Entry::Occurs(self.spot_of(alloc, word)?, binder))
+                Ok(Entry::Occurs(*role, self.spot_of(alloc, word)?, binder))
             }
             Event::Binds(word) => Ok(Entry::Binds(self.spot_of(alloc, word)?)),
             Event::Reads(word) => {

@@ -76,7 +76,7 @@ pub fn occurrence_in(seen: &Seen) -> Option<Occurrence>
         Event::Defines(kind, word) => place(word, written_len(*kind, word), true),
         Event::Uses(kind, word) => place(word, written_len(*kind, word), false),
         Event::DefinesVariant { member, .. } => place(member, member.text.len(), true),
-        Event::Occurs(word) | Event::Binds(word) | Event::Reads(word) => {
+        Event::Occurs(_, word) | Event::Binds(word) | Event::Reads(word) => {
             place(word, word.text.len(), own)
         }
         Event::Closes | Event::Ends => None,

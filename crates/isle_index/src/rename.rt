@@ -4,7 +4,8 @@ ghost use Rattle.std.specs.Prelude.{◌≡◌, IfOk, map, option_map};
 ghost use Rattle.std.specs.List.{list_any};
 ghost use Rattle.isle_index.specs.Entries.{all_of};
 ghost use Rattle.isle_index.specs.Names.{is_number, named_of};
-ghost use Rattle.isle_index.specs.Renaming.{changed_places, changes, defines_it};
+ghost use Rattle.isle_index.specs.Renaming.{can_be_renamed, changed_places, changes, defines_it};
+ghost use Rattle.isle_index.specs.Renaming.{has_left, is_fixed, is_left, leaves};
 ghost use Rattle.isle_index.specs.Renaming.{gives_variant, has, has_member, is_captured};
 ghost use Rattle.isle_index.specs.Renaming.{is_definition, is_member, is_variable, shares};
 ghost use Rattle.isle_index.specs.Renaming.{type_is_taken, variable_text};
@@ -19,7 +20,7 @@ use crate::names::{Name, full_name, gives, is_full_name, is_number};
 use crate::scopes::{Seen, bind, binder};
 use isle_ast_names::identifier::is_identifier;
 use isle_base::lexer::Pos;
-use isle_resolve::event::{Event, Kind, Word};
+use isle_resolve::event::{Event, Kind, Role, Word};
 use std::alloc::{AllocError, Global};
 
 /// Why a name cannot be renamed.
@@ -33,7 +34,9 @@ pub enum Refusal {
     Variant,
     /// Another name of the same kind has the new text, or a variant would get another term's name.
     Taken,
-    /// A variable would be captured: it would be bound elsewhere than before.
+    /// A variable would be captured: it would be bound elsewhere than before, or may be in an
+    /// expansion, since a template leaves a variable with the old or the new text to the rules
+    /// that use its extractor.
     Captured,
 }
 
@@ -65,6 +68,37 @@ pub fn refusal_for(
     Ok(None)
 }
 
+/// Returns whether `name` can be renamed at all: every other name is rejected, whatever its new
+/// text.
+pub fn can_be_renamed(alloc: Global, entries: &Entries, name: &Name) -> Result<bool, AllocError>
+    ensures { IfOk result
+        (λ can. can ≡ can_be_renamed (named_of name.now) (all_of entries.now)) }
+{
+    if !is_defined(entries, name) || is_variant(entries, name) {
+        return Ok(false);
+    }
+    Ok(!is_fixed(alloc, entries, name)?)
+}
+
+/// Returns whether a name that is defined cannot be renamed: another type has a variant that is the
+/// same term as one of the type's own, or a template leaves a variable of this name to rules.
+fn is_fixed(alloc: Global, entries: &Entries, name: &Name) -> Result<bool, AllocError>
+    ensures { IfOk result
+        (λ fixed. fixed ≡ is_fixed (named_of name.now) (all_of entries.now)) }
+{
+    match name {
+        Name::Global {
+            kind: Kind::Type,
+            text,
+        } => {
+            let members = members(alloc, entries, text.as_str())?;
+            has_shared(alloc, entries, text.as_str(), &members)
+        }
+        Name::Global { .. } => Ok(false),
+        Name::Variable { text, .. } => Ok(has_left(entries, text.as_str())),
+    }
+}
+
 fn is_new_name(text: &str) -> bool
     ensures { result ≡ is_new_name text.now }
 {
@@ -87,6 +121,7 @@ fn is_reserved(text: &str) -> bool
             | "multi"
             | "partial"
             | "rec"
+            | "infallible"
     )
 }
 
@@ -109,7 +144,7 @@ fn is_definition(seen: &Seen) -> bool
 {
     match seen.event {
         Event::Defines(..) | Event::DefinesVariant { .. } => true,
-        Event::Occurs(_) | Event::Binds(_) | Event::Reads(_) => {
+        Event::Occurs(..) | Event::Binds(_) | Event::Reads(_) => {
             is_number(seen.number, seen.binder)
         }
         Event::Uses(..) | Event::Closes | Event::Ends => false,
@@ -329,7 +364,7 @@ fn position(event: &Event) -> Option<Pos>
         Event::Defines(_, word)
         | Event::Uses(_, word)
         | Event::DefinesVariant { member: word, .. }
-        | Event::Occurs(word)
+        | Event::Occurs(_, word)
         | Event::Binds(word)
         | Event::Reads(word) => Some(word.pos),
         Event::Closes | Event::Ends => None,
@@ -344,8 +379,48 @@ fn is_captured(alloc: Global, entries: &Entries, name: &Name, new: &str) -> Resu
     match name {
         Name::Global { .. } => Ok(false),
         Name::Variable { binder, text } => {
+            if has_left(entries, text.as_str()) || has_left(entries, new) {
+                return Ok(true);
+            }
             Ok(!keeps_binders(alloc, entries, *binder, text.as_str(), new)?)
         }
+    }
+}
+
+/// Returns whether a template leaves a variable of this text to the rules that use its extractor.
+fn has_left(entries: &Entries, text: &str) -> bool
+    ensures { result ≡ has_left text.now (all_of entries.now) }
+{
+    for (number, entry) in entries.items.iter().enumerate() {
+        let event = entries.unpack(number, entry);
+        if leaves(&event, text) {
+            return true;
+        }
+    }
+    false
+}
+
+/// Returns whether an event is a variable of this text that a template leaves to rules.
+fn leaves(seen: &Seen, text: &str) -> bool
+    ensures { result ≡ leaves text.now (seen_of seen.now) }
+{
+    match &seen.event {
+        Event::Occurs(role, word) => {
+            is_left(*role, is_number(seen.number, seen.binder)) && word.text == text
+        }
+        _ => false,
+    }
+}
+
+/// Returns whether a template leaves a variable of this role to rules: one that is no parameter, or
+/// stands before an `@`. `own` says whether it is the first one of its text.
+fn is_left(role: Role, own: bool) -> bool
+    ensures { result ≡ is_left role own }
+{
+    match role {
+        Role::Rule | Role::Parameter => false,
+        Role::Template => own,
+        Role::Named => true,
     }
 }
 
@@ -397,7 +472,7 @@ fn variable_text<'a>(event: &Event<'a>) -> &'a str
     ensures { result.now ≡ variable_text (event_of event.now) }
 {
     match event {
-        Event::Occurs(word) | Event::Binds(word) | Event::Reads(word) => word.text,
+        Event::Occurs(_, word) | Event::Binds(word) | Event::Reads(word) => word.text,
         _ => "",
     }
 }
@@ -407,10 +482,10 @@ fn with_text<'a>(event: &Event<'a>, new: &'a str) -> Event<'a>
     ensures { event_of result ≡ with_text new.now (event_of event.now) }
 {
     match event {
-        Event::Occurs(word) => Event::Occurs(Word {
-            text: new,
-            pos: word.pos,
-        }),
+        Event::Occurs(role, word) => {
+            let pos = word.pos;
+            Event::Occurs(*role, Word { text: new, pos })
+        }
         Event::Binds(word) => Event::Binds(Word {
             text: new,
             pos: word.pos,

@@ -30,7 +30,7 @@ pub fn binder(event: &Event, number: usize, bound: &[Bound]) -> Option<usize>
     ensures { result ≡ binder (event_of event.now) number (bounds_of bound.now) }
 {
     match event {
-        Event::Occurs(word) => Some(last_binder(bound, word.text).unwrap_or(number)),
+        Event::Occurs(_, word) => Some(last_binder(bound, word.text).unwrap_or(number)),
         Event::Binds(_) => Some(number),
         Event::Reads(word) => last_binder(bound, word.text),
         Event::Defines(..)
@@ -65,7 +65,7 @@ pub fn bind<'a>(
         ≡ after (event_of event.now) number (bounds_of bound.old.items)) }
 {
     match event {
-        Event::Occurs(word) => {
+        Event::Occurs(_, word) => {
             if last_binder(bound, word.text).is_none() {
                 bind_word(word, number, bound)?;
             }

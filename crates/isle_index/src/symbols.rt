@@ -60,7 +60,7 @@ pub fn defined_symbol(alloc: Global, event: &Event) -> Result<Option<Symbol>, Al
             }))
         }
         Event::Uses(..)
-        | Event::Occurs(_)
+        | Event::Occurs(..)
         | Event::Binds(_)
         | Event::Reads(_)
         | Event::Closes

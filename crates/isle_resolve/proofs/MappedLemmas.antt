@@ -6,8 +6,10 @@ use Rattle.isle_ast_names.specs.Tree.{Name}
 use Rattle.isle_ast_rules.specs.Tree.{PatternNode, var_pattern, bind_pattern, bool_pattern, int_pattern, constant_pattern, term_pattern, wildcard_pattern, and_pattern, macro_arg_pattern, PatternList, no_pattern, more_pattern, Expression, term_expression, var_expression, bool_expression, int_expression, constant_expression, let_expression, ExpressionList, no_expression, more_expression, LetList, no_let, more_let, Condition, RuleDefinition, ExtractorDefinition}
 use Rattle.isle_ast.specs.Tree.{FieldList, unit_fields, struct_fields, tuple_fields, EnumVariant, TypeContent, primitive_type, enum_type, struct_type, Declaration, AttributeTarget, term_target, rule_target, ModelContent, type_model, const_model, ExternDefinition, extern_extractor, extern_constructor, extern_const, Definition, type_def, rule, extractor, decl, attr, spec, spec_macro, model, state, form, instantiation, external, converter}
 use Rattle.isle_resolve.specs.declared.event.Kind.TheVariants as kinds
+use Rattle.isle_resolve.specs.declared.event.Role.{Role}
+use Rattle.isle_resolve.specs.declared.event.Role.TheVariants as roles
 use Rattle.isle_resolve.specs.Event.{EventNode, defines, uses, defines_variant, occurs, binds, closes, ends}
-use Rattle.isle_resolve.specs.Events.{pattern_events, pattern_list_events, expression_events, expression_list_events, let_events, let_ends, condition_events, rule_events, extractor_events, field_events, variant_events, content_events, declaration_events, target_events, model_events, extern_events, definition_events, events}
+use Rattle.isle_resolve.specs.Events.{named, pattern_events, pattern_list_events, expression_events, expression_list_events, let_events, let_ends, condition_events, rule_events, extractor_events, field_events, variant_events, content_events, declaration_events, target_events, model_events, extern_events, definition_events, events}
 use Rattle.isle_resolve.specs.Mapped.{map_pattern, map_pattern_list, map_expression, map_expression_list, map_lets, map_condition, map_rule, map_extractor, map_named_field, map_indexed_field, map_fields, map_variant, map_content, map_declaration, map_target, map_model_name, map_extern, map_definition, map_definitions, map_event}
 
 -- two parts in turn
@@ -15,21 +17,21 @@ joins : (f : Name → Name) (xs ys xs' ys' : List EventNode) → xs' ≡ map (ma
 joins f xs ys xs' ys' first second = ap (λ zs. zs ++ ys') first ∙ ap (λ zs. map (map_event f) xs ++ zs) second ∙ sym (map-append (map_event f) xs ys)
 
 mutual
-  pattern_follows : (f : Name → Name) (p : PatternNode) → pattern_events (map_pattern f p) ≡ map (map_event f) (pattern_events p)
-  pattern_follows f (var_pattern var place) = refl
-  pattern_follows f (bind_pattern var subpat place) = ap (λ zs. occurs (f var) ∷ zs) (pattern_follows f subpat)
-  pattern_follows f (bool_pattern val place) = refl
-  pattern_follows f (int_pattern val place) = refl
-  pattern_follows f (constant_pattern val place) = refl
-  pattern_follows f (term_pattern sym args place) = ap (λ zs. uses kinds.Term (f sym) ∷ zs) (pattern_list_follows f args)
-  pattern_follows f (wildcard_pattern place) = refl
-  pattern_follows f (and_pattern subpats place) = pattern_list_follows f subpats
-  pattern_follows f (macro_arg_pattern index place) = refl
+  pattern_follows : (f : Name → Name) (role : Role) (p : PatternNode) → pattern_events role (map_pattern f p) ≡ map (map_event f) (pattern_events role p)
+  pattern_follows f role (var_pattern var place) = refl
+  pattern_follows f role (bind_pattern var subpat place) = ap (λ zs. occurs (named role) (f var) ∷ zs) (pattern_follows f role subpat)
+  pattern_follows f role (bool_pattern val place) = refl
+  pattern_follows f role (int_pattern val place) = refl
+  pattern_follows f role (constant_pattern val place) = refl
+  pattern_follows f role (term_pattern sym args place) = ap (λ zs. uses kinds.Term (f sym) ∷ zs) (pattern_list_follows f role args)
+  pattern_follows f role (wildcard_pattern place) = refl
+  pattern_follows f role (and_pattern subpats place) = pattern_list_follows f role subpats
+  pattern_follows f role (macro_arg_pattern index place) = refl
 
-  pattern_list_follows : (f : Name → Name) (ps : PatternList) → pattern_list_events (map_pattern_list f ps) ≡ map (map_event f) (pattern_list_events ps)
-  pattern_list_follows f no_pattern = refl
-  pattern_list_follows f (more_pattern p ps) =
-      joins f (pattern_events p) (pattern_list_events ps) _ _ (pattern_follows f p) (pattern_list_follows f ps)
+  pattern_list_follows : (f : Name → Name) (role : Role) (ps : PatternList) → pattern_list_events role (map_pattern_list f ps) ≡ map (map_event f) (pattern_list_events role ps)
+  pattern_list_follows f role no_pattern = refl
+  pattern_list_follows f role (more_pattern p ps) =
+      joins f (pattern_events role p) (pattern_list_events role ps) _ _ (pattern_follows f role p) (pattern_list_follows f role ps)
 
 let_ends_follow : (f : Name → Name) (ds : LetList) → let_ends (map_lets f ds) ≡ map (map_event f) (let_ends ds)
 let_ends_follow f no_let = refl
@@ -72,22 +74,22 @@ names_follow f g part each [] = refl
 names_follow f g part each (x ∷ xs) = ap (λ y. y ∷ map part (map g xs)) (each x) ∙ ap (λ zs. map_event f (part x) ∷ zs) (names_follow f g part each xs)
 
 condition_follows : (f : Name → Name) (c : Condition) → condition_events (map_condition f c) ≡ map (map_event f) (condition_events c)
-condition_follows f c = joins f (expression_events c.expr) (pattern_events c.pattern) _ _ (expression_follows f c.expr) (pattern_follows f c.pattern)
+condition_follows f c = joins f (expression_events c.expr) (pattern_events roles.Rule c.pattern) _ _ (expression_follows f c.expr) (pattern_follows f roles.Rule c.pattern)
 
 rule_follows : (f : Name → Name) (r : RuleDefinition) → rule_events (map_rule f r) ≡ map (map_event f) (rule_events r)
 rule_follows f r =
-    joins f (pattern_events r.pattern ++ flat_map condition_events r.iflets ++ expression_events r.expr) (ends ∷ []) _ _
-    (joins f (pattern_events r.pattern ++ flat_map condition_events r.iflets) (expression_events r.expr) _ _
-    (joins f (pattern_events r.pattern) (flat_map condition_events r.iflets) _ _ (pattern_follows f r.pattern) (all_follow f (map_condition f) condition_events (condition_follows f) r.iflets))
+    joins f (pattern_events roles.Rule r.pattern ++ flat_map condition_events r.iflets ++ expression_events r.expr) (ends ∷ []) _ _
+    (joins f (pattern_events roles.Rule r.pattern ++ flat_map condition_events r.iflets) (expression_events r.expr) _ _
+    (joins f (pattern_events roles.Rule r.pattern) (flat_map condition_events r.iflets) _ _ (pattern_follows f roles.Rule r.pattern) (all_follow f (map_condition f) condition_events (condition_follows f) r.iflets))
     (expression_follows f r.expr))
     refl
 
 extractor_follows : (f : Name → Name) (e : ExtractorDefinition) → extractor_events (map_extractor f e) ≡ map (map_event f) (extractor_events e)
 extractor_follows f e =
-    joins f (uses kinds.Term e.term ∷ [] ++ map occurs e.args ++ pattern_events e.template) (ends ∷ []) _ _
-    (joins f (uses kinds.Term e.term ∷ [] ++ map occurs e.args) (pattern_events e.template) _ _
-    (ap (λ zs. uses kinds.Term (f e.term) ∷ zs) (names_follow f f occurs (λ n. refl) e.args))
-    (pattern_follows f e.template))
+    joins f (uses kinds.Term e.term ∷ [] ++ map (occurs roles.Parameter) e.args ++ pattern_events roles.Template e.template) (ends ∷ []) _ _
+    (joins f (uses kinds.Term e.term ∷ [] ++ map (occurs roles.Parameter) e.args) (pattern_events roles.Template e.template) _ _
+    (ap (λ zs. uses kinds.Term (f e.term) ∷ zs) (names_follow f f (occurs roles.Parameter) (λ n. refl) e.args))
+    (pattern_follows f roles.Template e.template))
     refl
 
 fields_follow : (f : Name → Name) (fs : FieldList) → field_events (map_fields f fs) ≡ map (map_event f) (field_events fs)

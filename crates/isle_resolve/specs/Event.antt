@@ -1,6 +1,7 @@
 -- Events: each says that a name is defined, used or bound, or that a scope ends.
 use Rattle.isle_ast_names.specs.Tree.{Name}
 use Rattle.isle_resolve.specs.declared.event.Kind.{Kind}
+use Rattle.isle_resolve.specs.declared.event.Role.{Role}
 
 pub data EventNode : Type 0 where
   -- a `decl`, a type or an outside constant gives a name of this kind
@@ -10,7 +11,7 @@ pub data EventNode : Type 0 where
   -- the type gives a variant, which is the term `OWNER.MEMBER`
   defines_variant : (owner member : Name) → EventNode
   -- a variable of a pattern, or a parameter: it binds where nothing has bound it, and else it uses
-  occurs : Name → EventNode
+  occurs : Role → Name → EventNode
   -- a `let` binds a variable
   binds : Name → EventNode
   -- an expression uses a variable

@@ -13,7 +13,7 @@ abbrev pub event_of : Event → EventNode
 event_of (events.Defines kind word) = defines kind (word_of word)
 event_of (events.Uses kind word) = uses kind (word_of word)
 event_of (events.DefinesVariant owner member) = defines_variant (word_of owner) (word_of member)
-event_of (events.Occurs word) = occurs (word_of word)
+event_of (events.Occurs role word) = occurs role (word_of word)
 event_of (events.Binds word) = binds (word_of word)
 event_of (events.Reads word) = reads (word_of word)
 event_of events.Closes = closes

@@ -7,23 +7,32 @@ use Rattle.isle_ast_names.specs.Tree.{Name}
 use Rattle.isle_ast_rules.specs.Tree.{PatternNode, var_pattern, bind_pattern, bool_pattern, int_pattern, constant_pattern, term_pattern, wildcard_pattern, and_pattern, macro_arg_pattern, PatternList, no_pattern, more_pattern, Expression, term_expression, var_expression, bool_expression, int_expression, constant_expression, let_expression, ExpressionList, no_expression, more_expression, LetList, no_let, more_let, Condition, RuleDefinition, ExtractorDefinition}
 use Rattle.isle_ast.specs.Tree.{FieldList, unit_fields, struct_fields, tuple_fields, EnumVariant, TypeContent, primitive_type, enum_type, struct_type, TypeDefinition, Declaration, AttributeTarget, term_target, rule_target, ModelContent, type_model, const_model, ExternDefinition, extern_extractor, extern_constructor, extern_const, Conversion, Definition, type_def, rule, extractor, decl, attr, spec, model, instantiation, external, converter}
 use Rattle.isle_resolve.specs.declared.event.Kind.TheVariants as kinds
+use Rattle.isle_resolve.specs.declared.event.Role.{Role}
+use Rattle.isle_resolve.specs.declared.event.Role.TheVariants as roles
 use Rattle.isle_resolve.specs.Event.{EventNode, defines, uses, defines_variant, occurs, binds, reads, closes, ends}
 
-abbrev mutual
-  pub pattern_events : PatternNode → List EventNode
-  pattern_events (var_pattern var _) = occurs var ∷ []
-  pattern_events (bind_pattern var subpat _) = occurs var ∷ [] ++ pattern_events subpat
-  pattern_events (bool_pattern _ _) = []
-  pattern_events (int_pattern _ _) = []
-  pattern_events (constant_pattern val _) = uses kinds.Constant val ∷ []
-  pattern_events (term_pattern sym args _) = uses kinds.Term sym ∷ [] ++ pattern_list_events args
-  pattern_events (wildcard_pattern _) = []
-  pattern_events (and_pattern subpats _) = pattern_list_events subpats
-  pattern_events (macro_arg_pattern _ _) = []
+-- the role of a variable before an `@`, where those that stand alone have this role
+abbrev pub named : Role → Role
+named roles.Rule = roles.Rule
+named roles.Parameter = roles.Parameter
+named roles.Template = roles.Named
+named roles.Named = roles.Named
 
-  pub pattern_list_events : PatternList → List EventNode
-  pattern_list_events no_pattern = []
-  pattern_list_events (more_pattern p ps) = pattern_events p ++ pattern_list_events ps
+abbrev mutual
+  pub pattern_events : Role → PatternNode → List EventNode
+  pattern_events role (var_pattern var _) = occurs role var ∷ []
+  pattern_events role (bind_pattern var subpat _) = occurs (named role) var ∷ [] ++ pattern_events role subpat
+  pattern_events role (bool_pattern _ _) = []
+  pattern_events role (int_pattern _ _) = []
+  pattern_events role (constant_pattern val _) = uses kinds.Constant val ∷ []
+  pattern_events role (term_pattern sym args _) = uses kinds.Term sym ∷ [] ++ pattern_list_events role args
+  pattern_events role (wildcard_pattern _) = []
+  pattern_events role (and_pattern subpats _) = pattern_list_events role subpats
+  pattern_events role (macro_arg_pattern _ _) = []
+
+  pub pattern_list_events : Role → PatternList → List EventNode
+  pattern_list_events role no_pattern = []
+  pattern_list_events role (more_pattern p ps) = pattern_events role p ++ pattern_list_events role ps
 
 abbrev mutual
   pub expression_events : Expression → List EventNode
@@ -49,13 +58,13 @@ abbrev mutual
   let_ends (more_let _ _ _ _ ds) = closes ∷ [] ++ let_ends ds
 
 abbrev pub condition_events : Condition → List EventNode
-condition_events c = expression_events c.expr ++ pattern_events c.pattern
+condition_events c = expression_events c.expr ++ pattern_events roles.Rule c.pattern
 
 abbrev pub rule_events : RuleDefinition → List EventNode
-rule_events r = pattern_events r.pattern ++ flat_map condition_events r.iflets ++ expression_events r.expr ++ ends ∷ []
+rule_events r = pattern_events roles.Rule r.pattern ++ flat_map condition_events r.iflets ++ expression_events r.expr ++ ends ∷ []
 
 abbrev pub extractor_events : ExtractorDefinition → List EventNode
-extractor_events e = uses kinds.Term e.term ∷ [] ++ map occurs e.args ++ pattern_events e.template ++ ends ∷ []
+extractor_events e = uses kinds.Term e.term ∷ [] ++ map (occurs roles.Parameter) e.args ++ pattern_events roles.Template e.template ++ ends ∷ []
 
 -- the types of fields
 abbrev pub field_events : FieldList → List EventNode

@@ -125,7 +125,7 @@ abbrev pub map_event : (Name → Name) → EventNode → EventNode
 map_event f (defines kind name) = defines kind (f name)
 map_event f (uses kind name) = uses kind (f name)
 map_event f (defines_variant owner member) = defines_variant (f owner) (f member)
-map_event f (occurs name) = occurs (f name)
+map_event f (occurs role name) = occurs role (f name)
 map_event f (binds name) = binds (f name)
 map_event f (reads name) = reads (f name)
 map_event f closes = closes

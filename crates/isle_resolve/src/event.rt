@@ -19,6 +19,21 @@ pub enum Kind {
     Constant,
 }
 
+/// What a variable in a pattern is, or the parameter of an extractor.
+#[derive(Clone, Copy, Debug, PartialEq, Eq)]
+pub enum Role {
+    /// A variable in a pattern of a rule.
+    Rule,
+    /// A parameter of an extractor.
+    Parameter,
+    /// A variable of a template that stands alone. If it is a parameter, an expansion has the
+    /// argument in its place; otherwise the expansion has the variable.
+    Template,
+    /// A variable before an `@` in a template. An expansion has it even if it is a parameter,
+    /// except before `@ _`.
+    Named,
+}
+
 /// A name as it occurs in the source.
 #[derive(Clone, Copy, Debug)]
 pub struct Word<'a> {
@@ -55,7 +70,7 @@ pub enum Event<'a> {
     },
     /// A variable in a pattern, or a parameter of an extractor. It binds the variable if nothing
     /// has bound it before, and uses it otherwise.
-    Occurs(Word<'a>),
+    Occurs(Role, Word<'a>),
     /// A `let` binds a variable.
     Binds(Word<'a>),
     /// An expression uses a variable.

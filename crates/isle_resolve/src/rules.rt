@@ -11,10 +11,11 @@ ghost use Rattle.isle_resolve.specs.Event.{occurs};
 ghost use Rattle.isle_resolve.specs.EventView.{events_of};
 ghost use Rattle.isle_resolve.specs.Events.{condition_events, expression_events};
 ghost use Rattle.isle_resolve.specs.Events.{expression_list_events, extractor_events};
-ghost use Rattle.isle_resolve.specs.Events.{let_ends, let_events, pattern_events};
+ghost use Rattle.isle_resolve.specs.Events.{let_ends, let_events, named, pattern_events};
 ghost use Rattle.isle_resolve.specs.Events.{pattern_list_events, rule_events};
+ghost use Rattle.isle_resolve.specs.declared.event.Role.TheVariants as roles;
 
-use crate::event::{Event, Kind, Word, add};
+use crate::event::{Event, Kind, Role, Word, add};
 use isle_ast::ast::{Expr, Extractor, Ident, IfLet, LetDef, Pattern, Rule};
 use std::alloc::AllocError;
 
@@ -22,7 +23,7 @@ pub fn add_rule<'a>(rule: &'a Rule, found: &mut Vec<Event<'a>>) -> Result<(), Al
     ensures { OnOk result (events_of found.new.items
         ≡ events_of found.old.items ++ rule_events (rule_of rule.now)) }
 {
-    add_pattern(&rule.pattern, found)?;
+    add_pattern(&rule.pattern, Role::Rule, found)?;
     add_conditions(&rule.iflets, found)?;
     add_expression(&rule.expr, found)?;
     add(Event::Ends, found)
@@ -35,7 +36,7 @@ fn add_conditions<'a>(conditions: &'a [IfLet], found: &mut Vec<Event<'a>>) -> Re
 {
     for condition in conditions {
         add_expression(&condition.expr, found)?;
-        add_pattern(&condition.pattern, found)?;
+        add_pattern(&condition.pattern, Role::Rule, found)?;
     }
     Ok(())
 }
@@ -49,37 +50,52 @@ pub fn add_extractor<'a>(
 {
     add(Event::Uses(Kind::Term, Word::new(&extractor.term)), found)?;
     add_parameters(&extractor.args, found)?;
-    add_pattern(&extractor.template, found)?;
+    add_pattern(&extractor.template, Role::Template, found)?;
     add(Event::Ends, found)
 }
 
 fn add_parameters<'a>(parameters: &'a [Ident], found: &mut Vec<Event<'a>>) -> Result<(), AllocError>
     ensures { OnOk result (events_of found.new.items
-        ≡ events_of found.old.items ++ map occurs (names_of parameters.now)) }
+        ≡ events_of found.old.items ++ map (occurs roles.Parameter) (names_of parameters.now)) }
 {
     for parameter in parameters {
-        add(Event::Occurs(Word::new(parameter)), found)?;
+        add(Event::Occurs(Role::Parameter, Word::new(parameter)), found)?;
     }
     Ok(())
 }
 
+/// The role of a variable before an `@`, where those that stand alone have the role `alone`.
+fn named(alone: Role) -> Role
+    ensures { result ≡ named alone }
+{
+    match alone {
+        Role::Template => Role::Named,
+        Role::Rule | Role::Parameter | Role::Named => alone,
+    }
+}
+
+/// Adds the events of a pattern, in which the variables that stand alone have this role.
 #[cycle(pattern_events)]
-fn add_pattern<'a>(pattern: &'a Pattern, found: &mut Vec<Event<'a>>) -> Result<(), AllocError>
+fn add_pattern<'a>(
+    pattern: &'a Pattern,
+    role: Role,
+    found: &mut Vec<Event<'a>>,
+) -> Result<(), AllocError>
     ensures { OnOk result (events_of found.new.items
-        ≡ events_of found.old.items ++ pattern_events (pattern_of pattern.now)) }
+        ≡ events_of found.old.items ++ pattern_events role (pattern_of pattern.now)) }
 {
     match pattern {
-        Pattern::Var { var, .. } => add(Event::Occurs(Word::new(var)), found),
+        Pattern::Var { var, .. } => add(Event::Occurs(role, Word::new(var)), found),
         Pattern::BindPattern { var, subpat, .. } => {
-            add(Event::Occurs(Word::new(var)), found)?;
-            add_pattern(subpat, found)
+            add(Event::Occurs(named(role), Word::new(var)), found)?;
+            add_pattern(subpat, role, found)
         }
         Pattern::ConstPrim { val, .. } => add(Event::Uses(Kind::Constant, Word::new(val)), found),
         Pattern::Term { sym, args, .. } => {
             add(Event::Uses(Kind::Term, Word::new(sym)), found)?;
-            add_patterns(args, found)
+            add_patterns(args, role, found)
         }
-        Pattern::And { subpats, .. } => add_patterns(subpats, found),
+        Pattern::And { subpats, .. } => add_patterns(subpats, role, found),
         Pattern::ConstBool { .. }
         | Pattern::ConstInt { .. }
         | Pattern::Wildcard { .. }
@@ -90,13 +106,14 @@ fn add_pattern<'a>(pattern: &'a Pattern, found: &mut Vec<Event<'a>>) -> Result<(
 #[cycle(pattern_events)]
 fn add_patterns<'a>(
     patterns: &'a Vec<Pattern>,
+    role: Role,
     found: &mut Vec<Event<'a>>,
 ) -> Result<(), AllocError>
     ensures { OnOk result (events_of found.new.items ≡ events_of found.old.items
-        ++ pattern_list_events (pattern_list_of (patterns_of patterns.now.items))) }
+        ++ pattern_list_events role (pattern_list_of (patterns_of patterns.now.items))) }
 {
     for pattern in patterns {
-        add_pattern(pattern, found)?;
+        add_pattern(pattern, role, found)?;
     }
     Ok(())
 }

@@ -68,9 +68,12 @@ pub fn answer(alloc: Global, case: &Case, program: &str) -> Result<String, Alloc
         "terms" => terms(alloc, case),
         "template" => template(alloc, case),
         "substitute" => substitute(alloc, case),
-        "index" | "index_at" | "index_symbols" | "index_candidates" | "index_rename" => {
-            request(alloc, case, program)
-        }
+        "index"
+        | "index_at"
+        | "index_symbols"
+        | "index_candidates"
+        | "index_rename"
+        | "index_can_rename" => request(alloc, case, program),
         _ => of_trees(alloc, case),
     }
 }

@@ -48,6 +48,7 @@
 //! | `index_at OFFSET` | the name there, and its occurrences, each definition with a `*` |
 //! | `index_symbols` | the program's definitions |
 //! | `index_candidates OFFSET FROM PREFIX` | the names that may be written there and begin with the prefix, with the variables from FROM on |
+//! | `index_can_rename OFFSET` | whether the name there can be renamed at all |
 //! | `index_rename OFFSET NAME` | the places that change when the name there is renamed, or why it can't be renamed |
 #![tactic(auto)]
 

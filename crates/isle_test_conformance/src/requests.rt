@@ -32,6 +32,7 @@ fn answer(alloc: Global, index: &Index, case: &Case) -> Result<String, AllocErro
         "index_at" => at(alloc, index, place),
         "index_symbols" => symbols(alloc, index),
         "index_candidates" => candidates(alloc, index, place, case),
+        "index_can_rename" => can_rename(alloc, index, place),
         "index_rename" => rename(alloc, index, place, case.text(0)),
         _ => {
             let count = index.symbols(alloc, 0)?.len();
@@ -89,6 +90,15 @@ fn candidates(alloc: Global, index: &Index, place: Pos, case: &Case) -> Result<S
         answer.push_str(part.as_str())?;
     }
     Ok(answer)
+}
+
+/// Whether the name at a place can be renamed at all.
+fn can_rename(alloc: Global, index: &Index, place: Pos) -> Result<String, AllocError> {
+    let Some(name) = index.name_at(alloc, place)? else {
+        return String::from_str(alloc, "nothing\n");
+    };
+    let can = index.can_be_renamed(alloc, &name)?;
+    format!(in alloc; "{can}\n")
 }
 
 /// The name at a place with the places that change when it is renamed, or why it can't be renamed.

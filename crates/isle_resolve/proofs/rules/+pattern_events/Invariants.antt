@@ -6,5 +6,5 @@ use Rattle.isle_resolve.proofs.rules.+pattern_events.Given as goal
 
 abbrev pub invariant-add_patterns-loop-pattern : goal.invariant-add_patterns-loop-pattern
 invariant-add_patterns-loop-pattern l =
-    events_of l.found.items ++ pattern_list_events (pattern_list_of (patterns_of (drop l.pattern-index l.pattern-items)))
-    ≡ events_of l.fn.found.items ++ pattern_list_events (pattern_list_of (patterns_of l.pattern-items))
+    events_of l.found.items ++ pattern_list_events l.role (pattern_list_of (patterns_of (drop l.pattern-index l.pattern-items)))
+    ≡ events_of l.fn.found.items ++ pattern_list_events l.role (pattern_list_of (patterns_of l.pattern-items))
