@@ -12,7 +12,7 @@ use Rattle.isle_ast.specs.Tree.{Definition}
 use Rattle.isle_ast.specs.Writable.{AreWritable, IsWritable}
 use Rattle.isle_expand_core.proofs.Writing.{expanded_writable}
 use Rattle.isle_expand.specs.Expansion.{IsExpansionOf}
-use Rattle.isle_program.specs.Reading.{AreOutcomes, IsOutcome, IsReading, Outcome, refusal, tree, tree_of}
+use Rattle.isle_program.specs.Reading.{AreOutcomes, IsOutcome, IsReading, Outcome, refusal, too_deep, tree, tree_of}
 
 each-append : {A : Type 0} (P : A → Type 0) (xs ys : List A) → Each P xs → Each P ys → Each P (xs ++ ys)
 each-append P [] ys front rest = rest
@@ -20,8 +20,9 @@ each-append P (x ∷ xs) ys front rest = (front.0, each-append P xs ys front.1 r
 
 -- what a text spells is writable
 outcome-writable : (file : ℕ) (text : List ℕ) (o : Outcome) → IsOutcome file text o → AreWritable (tree_of o)
-outcome-writable file text (tree ds) is = spelt_is_writable ds (placed (in_file file) is.spelt.0) is.spelt.2
+outcome-writable file text (tree ds) is = spelt_is_writable ds (placed (in_file file) is.1.spelt.0) is.1.spelt.2
 outcome-writable file text (refusal e) is = tt
+outcome-writable file text (too_deep e) is = tt
 
 outcomes-writable : (file : ℕ) (ss : List Source) (os : List Outcome) → AreOutcomes file ss os → AreWritable (flat_map tree_of os)
 outcomes-writable file [] [] each = tt
