@@ -3,7 +3,7 @@ use Rattle.isle_ast.specs.TreeView.{definitions_of}
 use Rattle.isle_ast.specs.Writable.{AreWritable}
 use Rattle.isle_cli.specs.Sources.{source_of}
 use Rattle.isle_expand.proofs.ExpansionLemmas.{expansion-writable}
-use Rattle.isle_expand.proofs.expansion.printed_expansion.Goals as goal
+use Rattle.isle_expand.proofs.expansion.printed_shallow_expansion.Goals as goal
 
 pub print_writable-print-requires : goal.print_writable-print-requires
 print_writable-print-requires c =
