@@ -1,18 +1,23 @@
 -- What is said of a program, put together from what its parts promise.
-use Rattle.std.proofs.Common.{◌≡◌, ℕ, ◌+◌, List, [], ◌∷◌, ◌++◌, Option, false, subst, sym}
+use Rattle.std.proofs.Common.{◌≡◌, ℕ, ◌+◌, List, [], ◌∷◌, ◌++◌, IfOk, None, Option, Result, Ok, Err, false, subst, sym}
 use Rattle.std.specs.List.{flat_map}
-use Rattle.isle_base.specs.Place.{in_file, placed}
+use Rattle.isle_base.specs.Place.{in_file, nowhere, placed}
 use Rattle.isle_base_source.specs.Source.{Source}
 use Rattle.isle_base_source.specs.declared.error.Error.{Error}
 use Rattle.isle_ast_names.specs.Writable.{Each}
 use Rattle.isle_ast.proofs.NoMacroArgs.{writable_trees_have_no_macro_arg}
 use Rattle.isle_ast.proofs.Writable.Spelt.{spelt_is_writable}
+use Rattle.isle_ast.specs.Erased.{erase}
+use Rattle.isle_ast.specs.Spelt.{IsSpelt}
+use Rattle.isle_cli.specs.declared.failure.Failure.{Failure}
+use Rattle.isle_printer.specs.Printed.{IsPrinted}
+use Rattle.isle_expand_core.specs.Depth.{IsFirstDeep}
 use Rattle.isle_ast.specs.MacroArgs.{definitions_have_macro_arg}
 use Rattle.isle_ast.specs.Tree.{Definition}
 use Rattle.isle_ast.specs.Writable.{AreWritable, IsWritable}
 use Rattle.isle_expand_core.proofs.Writing.{expanded_writable}
-use Rattle.isle_expand.specs.Expansion.{IsExpansionOf}
-use Rattle.isle_program.specs.Reading.{AreOutcomes, IsOutcome, IsReading, Outcome, refusal, tree, tree_of}
+use Rattle.isle_expand.specs.Expansion.{IsExpansionOf, IsPrintOfExpansion}
+use Rattle.isle_program.specs.Reading.{AreOutcomes, IsOutcome, IsReading, Outcome, refusal, too_deep, tree, tree_of}
 
 each-append : {A : Type 0} (P : A → Type 0) (xs ys : List A) → Each P xs → Each P ys → Each P (xs ++ ys)
 each-append P [] ys front rest = rest
@@ -20,8 +25,9 @@ each-append P (x ∷ xs) ys front rest = (front.0, each-append P xs ys front.1 r
 
 -- what a text spells is writable
 outcome-writable : (file : ℕ) (text : List ℕ) (o : Outcome) → IsOutcome file text o → AreWritable (tree_of o)
-outcome-writable file text (tree ds) is = spelt_is_writable ds (placed (in_file file) is.spelt.0) is.spelt.2
+outcome-writable file text (tree ds) is = spelt_is_writable ds (placed (in_file file) is.1.spelt.0) is.1.spelt.2
 outcome-writable file text (refusal e) is = tt
+outcome-writable file text (too_deep e) is = tt
 
 outcomes-writable : (file : ℕ) (ss : List Source) (os : List Outcome) → AreOutcomes file ss os → AreWritable (flat_map tree_of os)
 outcomes-writable file [] [] each = tt
@@ -42,3 +48,16 @@ pub expansion-writable : (sources : List Source) (expansion : List Definition) �
 expansion-writable sources expansion of =
     let read = of.of_texts.read in
     expanded_writable of.tree expansion of.expanded (reading-writable sources of.tree of.of_texts.refusals read)
+
+-- what is printed of the expansion of a program that does not nest too deeply
+pub printed-well : {A : Type 0} (bytes : A → List ℕ) (sources : List Source) (expansion given : List Definition) (width : ℕ) (r : Result A Failure) →
+    given ≡ expansion → (of : IsExpansionOf sources expansion) → IsFirstDeep of.tree None → IfOk r (λ a. IsPrinted width given (bytes a)) →
+    IfOk r (λ a. IsSpelt nowhere (bytes a) (erase given)) → IfOk r (λ a. IsPrintOfExpansion width sources (bytes a))
+printed-well bytes sources expansion given width (Ok a) same of shallow printed spelt = record {
+  expansion = expansion;
+  of_texts = of;
+  printed = subst (λ ds. IsPrinted width ds (bytes a)) same printed;
+  read_back = subst (λ ds. IsSpelt nowhere (bytes a) (erase ds)) same spelt;
+  shallow = shallow;
+}
+printed-well bytes sources expansion given width (Err f) same of shallow printed spelt = tt

@@ -1,6 +1,6 @@
 //! The expansion of a program, from its texts to the print.
 
-ghost use Rattle.std.specs.Prelude.{◌≡◌, IfErr, IfOk, codes, false, map, string_bytes};
+ghost use Rattle.std.specs.Prelude.{◌≡◌, IfErr, IfOk, None, codes, false, map, string_bytes};
 ghost use Rattle.isle_base.specs.Place.{nowhere};
 ghost use Rattle.isle_ast.specs.Erased.{erase};
 ghost use Rattle.isle_ast.specs.MacroArgs.{definitions_have_macro_arg};
@@ -10,16 +10,20 @@ ghost use Rattle.isle_ast.specs.Writable.{AreWritable};
 ghost use Rattle.isle_cli.specs.Sources.{source_of};
 ghost use Rattle.isle_cli.specs.declared.failure.Failure.TheVariants.{Memory};
 ghost use Rattle.isle_printer.specs.Printed.{IsPrinted};
+ghost use Rattle.isle_expand_core.specs.Depth.{IsFirstDeep};
 ghost use Rattle.isle_expand_core.specs.Views.{misuse_of};
 ghost use Rattle.isle_expand_core.specs.Misuses.{misuse_pos, misuse_text};
 ghost use Rattle.isle_expand_warnings.specs.Warnings.{warning_of, warnings_of};
 ghost use Rattle.isle_expand.specs.Expansion.{AreWarnings, IsExpandFailure, IsPrintOfExpansion};
-ghost use Rattle.isle_expand.specs.Expansion.{IsProgramOf, warning_line, warning_lines};
+ghost use Rattle.isle_expand.specs.Expansion.{IsProgramOf, deep_line, warning_line};
+ghost use Rattle.isle_expand.specs.Expansion.{warning_lines};
 ghost use Rattle.isle_program.specs.Messages.{line_at};
 ghost use Rattle.isle_program.specs.Reading.{IsReading};
 
+use isle_base::lexer::Pos;
 use isle_cli::failure::Failure;
 use isle_cli::sources::Source;
+use isle_expand_core::depth::first_deep;
 use isle_expand_core::{ExpandFault, Misuse, Warning, expand, warnings};
 use isle_parser::dropping::drop_definitions;
 use isle_program::messages::{line_at, refusal_lines};
@@ -39,7 +43,8 @@ pub struct Answer {
 
 /// The print of the expansion of a program, and its warnings.
 ///
-/// It fails with `Refused` if a text does not parse or an extractor is misused, and with `Memory`.
+/// It fails with `Refused` if a text is refused, an expansion would nest too deeply, or an extractor
+/// is misused, and with `Memory`.
 pub fn answer_to(alloc: Global, sources: &[Source], width: usize) -> Result<Answer, Failure>
     ensures print { IfOk result (λ answer. IsPrintOfExpansion width (map source_of sources.now)
         (string_bytes answer.print)) }
@@ -98,7 +103,11 @@ fn answer_to_program(
     Ok(Answer { print, warnings })
 }
 
-/// The print of the expansion of definitions. It fails with the first misuse of an extractor.
+/// What is wrong with a definition whose expansion would nest too deeply.
+const TOO_DEEP: &str = "more than 500 patterns in one another once extractors are expanded";
+
+/// The print of the expansion of definitions. It fails with the first definition whose expansion
+/// would nest too deeply, or else the first misuse of an extractor.
 fn printed_expansion(
     alloc: Global,
     sources: &[Source],
@@ -107,6 +116,27 @@ fn printed_expansion(
 ) -> Result<String, Failure>
     requires program { IsProgramOf (map source_of sources.now) (definitions_of defs.now) }
     requires plain { definitions_have_macro_arg (definitions_of defs.now) ≡ false }
+    ensures ok { IfOk result (λ print. IsPrintOfExpansion width (map source_of sources.now)
+        (string_bytes print)) }
+    ensures err { IfErr result
+        (λ failure. IsExpandFailure failure (map source_of sources.now)) }
+{
+    match first_deep(alloc, defs)? {
+        Some(pos) => Err(Failure::Refused(deep_line(alloc, sources, pos)?)),
+        None => printed_shallow_expansion(alloc, sources, defs, width),
+    }
+}
+
+/// The same of definitions whose expansion does not nest too deeply.
+fn printed_shallow_expansion(
+    alloc: Global,
+    sources: &[Source],
+    defs: &[Def],
+    width: usize,
+) -> Result<String, Failure>
+    requires program { IsProgramOf (map source_of sources.now) (definitions_of defs.now) }
+    requires plain { definitions_have_macro_arg (definitions_of defs.now) ≡ false }
+    requires shallow { IsFirstDeep (definitions_of defs.now) None }
     ensures ok { IfOk result (λ print. IsPrintOfExpansion width (map source_of sources.now)
         (string_bytes print)) }
     ensures err { IfErr result
@@ -123,6 +153,14 @@ fn printed_expansion(
         }
         Err(ExpandFault::Memory) => Err(Failure::Memory),
     }
+}
+
+/// The line of a definition whose expansion would nest too deeply.
+fn deep_line(alloc: Global, sources: &[Source], pos: Pos) -> Result<String, AllocError>
+    ensures { IfOk result
+        (λ line. string_bytes line ≡ deep_line (map source_of sources.now) pos) }
+{
+    line_at(alloc, sources, pos, "error", TOO_DEEP)
 }
 
 /// Prints writable definitions.

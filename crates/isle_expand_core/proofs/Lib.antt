@@ -10,6 +10,7 @@ pub mod Bounds
 pub mod Total
 pub mod Misused
 pub mod Orders
+pub mod Depths
 pub mod Expanding
 pub mod Writing
 pub mod Steps

@@ -5,6 +5,7 @@ pub mod Definitions
 pub mod Mentions
 pub mod Misuses
 pub mod Order
+pub mod Depth
 pub mod Search
 pub mod Collected
 pub mod Views

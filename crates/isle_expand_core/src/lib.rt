@@ -16,6 +16,7 @@ ghost use Rattle.isle_expand_core.specs.Views.{IfMisuse, misuse_of};
 
 mod declarations;
 mod definitions;
+pub mod depth;
 pub mod laws;
 mod macros;
 mod mentions;

@@ -1,5 +1,5 @@
 -- The tree of a text, and its refusal, from what lexer and parser promise; and readings, as they grow by one text.
-use Rattle.std.proofs.Common.{◌≡◌, ℕ, ◌+◌, ◌<◌, suc, length, get_or, take, List, [], ◌∷◌, ◌++◌, Option, Result, Ok, Err, IfOk, IfErr, map, refl, sym, ap, subst, ◌∙◌, arith}
+use Rattle.std.proofs.Common.{◌≡◌, ℕ, ◌+◌, ◌<◌, suc, length, get_or, take, List, [], ◌∷◌, ◌++◌, Option, None, inl, inr, Result, Ok, Err, IfOk, IfErr, map, refl, sym, ap, subst, ◌∙◌, arith}
 use Rattle.std.specs.Global.{Vec}
 use Rattle.std.specs.List.{flat_map}
 use Rattle.std.proofs.lemmas.Grind.{flat_map-append, take_at_read}
@@ -22,7 +22,8 @@ use Rattle.isle_ast.specs.TreeView.{definitions_of}
 use Rattle.isle_ast.specs.declared.ast.Def.{Def}
 use Rattle.isle_cli.specs.Sources.{source_of}
 use Rattle.isle_cli.specs.declared.sources.Source.{Source}
-use Rattle.isle_program.specs.Reading.{Adds, AreOutcomes, IsOutcome, IsReadAs, IsReading, IsTreeOf, Outcome, refusal, refusal_of, tree, tree_of}
+use Rattle.isle_program.specs.Reading.{Adds, AreOutcomes, IsOutcome, IsReadAs, IsReading, IsTreeOf, IsWellReadAs, Outcome, refusal, refusal_of, too_deep, tree, tree_of}
+use Rattle.isle_program.specs.Nesting.{FirstDeep}
 use Rattle.isle_program.specs.declared.trees.Reading.{Reading}
 
 -- what a lexer of the whole text has to give spells what the text spells
@@ -102,27 +103,42 @@ reading-push ss s ds es rs qs o reading last trees refused =
 none-more : (ds : List Definition) → ds ≡ ds ++ []
 none-more ds = sym (append-none ds)
 
+-- a text that is not parsed, since it nests too deeply, or is refused by the parser
+refused-more : (ss : List files.Source) (s : files.Source) (old new : Reading) (e : Error) →
+    IsReading ss (definitions_of old.defs.items) old.refusals.items → IsWellReadAs (length ss) s.text (Err (faults.Error e)) →
+    Adds old (Err (faults.Error e)) new → IsReading (ss ++ s ∷ []) (definitions_of new.defs.items) new.refusals.items
+refused-more ss s old new e reading (inl is) adds =
+    reading-push ss s _ _ _ _ (refusal e) reading is (adds.0 ∙ none-more (definitions_of old.defs.items)) adds.1
+refused-more ss s old new e reading (inr is) adds =
+    reading-push ss s _ _ _ _ (too_deep e) reading is (adds.0 ∙ none-more (definitions_of old.defs.items)) adds.1
+
 -- a reading that has one text more
 reading-more : (ss : List files.Source) (s : files.Source) (old new : Reading) (read : Result (Vec Def) Fault) →
-    IsReading ss (definitions_of old.defs.items) old.refusals.items → IsReadAs (length ss) s.text read → Adds old read new →
+    IsReading ss (definitions_of old.defs.items) old.refusals.items → IsWellReadAs (length ss) s.text read → Adds old read new →
     IsReading (ss ++ s ∷ []) (definitions_of new.defs.items) new.refusals.items
 reading-more ss s old new (Ok defs) reading is adds = reading-push ss s _ _ _ _ (tree (definitions_of defs.items)) reading is adds.0 adds.1
-reading-more ss s old new (Err (faults.Error e)) reading is adds =
-    reading-push ss s _ _ _ _ (refusal e) reading is (adds.0 ∙ none-more (definitions_of old.defs.items)) adds.1
+reading-more ss s old new (Err (faults.Error e)) reading is adds = refused-more ss s old new e reading is adds
 reading-more ss s old new (Err faults.Failed) reading is adds = absurd adds
 reading-more ss s old new (Err faults.Memory) reading is adds = absurd adds
 
 -- the same in a loop over the texts
 pub reading-step : (xs : List Source) (i : ℕ) (x : Source) (old new : Reading) (read : Result (Vec Def) Fault) →
     i < length xs → x ≡ get_or xs i x →
-    IsReading (map source_of (take i xs)) (definitions_of old.defs.items) old.refusals.items → IsReadAs i (source_of x).text read → Adds old read new →
+    IsReading (map source_of (take i xs)) (definitions_of old.defs.items) old.refusals.items → IsWellReadAs i (source_of x).text read → Adds old read new →
     IsReading (map source_of (take (i + 1) xs)) (definitions_of new.defs.items) new.refusals.items
 reading-step xs i x old new read within is reading reads adds =
     let count : i ≡ length (map source_of (take i xs)) = sym (length-map (take i xs) source_of ∙ length-take-le i xs (omega arith)) in
-    let At : ℕ → Type 0 = λ n. IsReadAs n (source_of x).text read in
+    let At : ℕ → Type 0 = λ n. IsWellReadAs n (source_of x).text read in
     let Of : List files.Source → Type 0 = λ ss. IsReading ss (definitions_of new.defs.items) new.refusals.items in
     let grown : map source_of (take i xs) ++ source_of x ∷ [] ≡ map source_of (take (i + 1) xs) =
     ap (λ y. map source_of (take i xs) ++ source_of y ∷ []) is
     ∙ sym (map-append source_of (take i xs) (get_or xs i x ∷ []))
     ∙ ap (λ ys. map source_of ys) (sym (take_at_read xs i x within).1) in
     subst Of grown (reading-more (map source_of (take i xs)) (source_of x) old new read reading (subst At count reads) adds)
+
+-- what a parser answers of a text that does not nest too deeply
+pub read-shallow : (file : ℕ) (text : List ℕ) (r : Result (Vec Def) Fault) → FirstDeep text None → IsReadAs file text r → IsWellReadAs file text r
+read-shallow file text (Ok defs) first is = (first, is)
+read-shallow file text (Err (faults.Error e)) first is = inl (first, is)
+read-shallow file text (Err faults.Failed) first is = tt
+read-shallow file text (Err faults.Memory) first is = tt

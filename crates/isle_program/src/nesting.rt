@@ -12,6 +12,9 @@ use std::alloc::{AllocError, Global};
 /// How many lists may be nested in one another, and how many `@` one definition may have.
 pub const MAX_DEPTH: usize = 500;
 
+/// What is wrong with a text that nests too deeply.
+pub const TOO_DEEP: &str = "more than 500 lists in one another, or '@' in one definition";
+
 /// What is open at a token of a text.
 #[derive(Clone, Copy, Debug)]
 pub struct Nest {

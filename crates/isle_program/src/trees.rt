@@ -1,14 +1,17 @@
 //! Parsing the texts of a program.
 
-ghost use Rattle.std.specs.Prelude.{◌≡◌, ◌++◌, ◌∷◌, [], IfErr, IfOk, map, string_bytes};
+ghost use Rattle.std.specs.Prelude.{◌≡◌, ◌++◌, ◌∷◌, [], IfErr, IfOk, length, map, min, string_bytes};
+ghost use Rattle.isle_base.specs.Place.{in_file};
 ghost use Rattle.isle_ast.specs.TreeView.{definitions_of};
 ghost use Rattle.isle_cli.specs.Sources.{source_of};
 ghost use Rattle.isle_cli.specs.declared.failure.Failure.TheVariants.{Memory};
-ghost use Rattle.isle_program.specs.Reading.{Adds, IsReadAs, IsReading, refused_count};
+ghost use Rattle.isle_program.specs.Reading.{Adds, IsReadAs, IsReading, IsTooDeep};
+ghost use Rattle.isle_program.specs.Reading.{IsWellReadAs, refused_count};
 
+use crate::nesting::{TOO_DEEP, deep_list};
 use isle_ast::ast::Def;
-use isle_base::lexer::{Fault, Lexer};
-use isle_base_source::error::Error;
+use isle_base::lexer::{Fault, Lexer, Pos};
+use isle_base_source::error::{Error, Span};
 use isle_cli::failure::Failure;
 use isle_cli::sources::Source;
 use isle_parser::dropping::drop_definitions;
@@ -18,13 +21,14 @@ use std::alloc::{AllocError, Global};
 /// A program that is parsed.
 #[derive(Drop)]
 pub struct Reading {
-    /// The definitions of the texts that parse, in order.
+    /// The definitions of the texts that are not refused, in order.
     pub defs: Vec<Def>,
-    /// For each text, why it does not parse, if it doesn't.
+    /// For each text, why it is refused, if it is: it nests too deeply, or does not parse.
     pub refusals: Vec<Option<Error>>,
 }
 
-/// Parses the texts of a program, each as the file with its index. The only failure is `Memory`.
+/// Parses the texts of a program, each as the file with its index. A text that nests too deeply is
+/// refused, as one that does not parse. The only failure is `Memory`.
 pub fn read_all(alloc: Global, sources: &[Source]) -> Result<Reading, Failure>
     ensures ok { IfOk result (λ reading. IsReading (map source_of sources.now)
         (definitions_of reading.defs.items) reading.refusals.items) }
@@ -35,7 +39,7 @@ pub fn read_all(alloc: Global, sources: &[Source]) -> Result<Reading, Failure>
         refusals: Vec::new(alloc),
     };
     for (file, source) in sources.iter().enumerate() {
-        let read = read_defs(alloc, file, source.text.as_str());
+        let read = read_shallow_defs(alloc, file, source.text.as_str());
         reading = with(reading, read)?;
     }
     Ok(reading)
@@ -56,7 +60,7 @@ fn with(reading: Reading, read: Result<Vec<Def>, Fault>) -> Result<Reading, Fail
     }
 }
 
-/// Adds the definitions of a text that parses.
+/// Adds the definitions of a text that is not refused.
 fn with_tree(mut reading: Reading, mut defs: Vec<Def>) -> Result<Reading, AllocError>
     ensures defs { IfOk result (λ more. definitions_of more.defs.items
         ≡ definitions_of reading.defs.items ++ definitions_of defs.items) }
@@ -74,7 +78,7 @@ fn with_tree(mut reading: Reading, mut defs: Vec<Def>) -> Result<Reading, AllocE
     }
 }
 
-/// Adds why a text does not parse, if it doesn't.
+/// Adds why a text is refused, if it is.
 fn with_refusal(mut reading: Reading, refusal: Option<Error>) -> Result<Reading, AllocError>
     ensures defs { IfOk result (λ more. more.defs.items ≡ reading.defs.items) }
     ensures refusals { IfOk result (λ more. more.refusals.items
@@ -94,7 +98,7 @@ pub fn drop_reading(reading: Reading) {
     drop_definitions(reading.defs);
 }
 
-/// The number of texts that do not parse.
+/// The number of texts that are refused.
 pub fn refused_count(refusals: &[Option<Error>]) -> usize
     ensures { result ≡ refused_count refusals.now }
 {
@@ -107,7 +111,30 @@ pub fn refused_count(refusals: &[Option<Error>]) -> usize
     count
 }
 
-/// Parses a text as the file with this number.
+/// Parses a text as the file with this number, unless it nests too deeply. Then the error is at the
+/// first token that does.
+pub fn read_shallow_defs(alloc: Global, file: usize, text: &str) -> Result<Vec<Def>, Fault>
+    ensures { IsWellReadAs file text.now result }
+{
+    match deep_list(alloc, text)? {
+        Some(offset) => Err(Fault::Error(too_deep(alloc, file, text, offset)?)),
+        None => read_defs(alloc, file, text),
+    }
+}
+
+/// The error of a text whose first token that nests too deeply is at this byte offset.
+fn too_deep(alloc: Global, file: usize, text: &str, offset: usize) -> Result<Error, AllocError>
+    ensures { IfOk result (IsTooDeep (in_file file (min offset (length text.now)))) }
+{
+    let pos = Pos::new(file, offset.min(text.len()));
+    Ok(Error::ParseError {
+        msg: String::from_str(alloc, TOO_DEEP)?,
+        span: Span::new_single(pos),
+    })
+}
+
+/// Parses a text as the file with this number. Stack is used for each list that is in another, so
+/// ask `deep_list` first.
 pub fn read_defs(alloc: Global, file: usize, text: &str) -> Result<Vec<Def>, Fault>
     ensures { IsReadAs file text.now result }
 {
