@@ -14,6 +14,7 @@ use crate::program::PROGRAM;
 use crate::server::{Server, handle};
 use isle_cli::failure::Failure;
 use isle_cli::program::report;
+use isle_lsp_features::Gathered;
 use isle_lsp_files::disk::{Disk, View};
 use isle_lsp_protocol::decoding::{decode, message_in};
 use isle_lsp_protocol::frames::{FrameFault, read_frame, write_frame};
@@ -79,13 +80,14 @@ fn main_loop<D: Disk, I: BufRead, W: Write>(
         (W.contents output.old) (W.contents output.new)) }
 {
     let mut server = Server::new(alloc);
+    let mut gathered = Gathered::new(alloc);
     for _ in 0..u64::MAX {
         let body = match read_frame(alloc, input) {
             Ok(Some(body)) => body,
             Ok(None) => return Ok(server.state),
             Err(fault) => return Err(failure_of(alloc, fault)),
         };
-        answer_message(alloc, disk, &mut server, body, output)?;
+        answer_message(alloc, disk, &mut server, &mut gathered, body, output)?;
         if matches!(server.state, State::Ended | State::Aborted) {
             return Ok(server.state);
         }
@@ -98,6 +100,7 @@ fn answer_message<D: Disk, W: Write>(
     alloc: Global,
     disk: &mut D,
     server: &mut Server,
+    gathered: &mut Gathered,
     body: Vec<u8>,
     output: &mut W,
 ) -> Result<(), Failure>
@@ -109,7 +112,7 @@ fn answer_message<D: Disk, W: Write>(
         (W.contents output.old) (W.contents output.new)) }
     ensures kind { IfErr result (λ failure. (failure ≡ Memory) ⊎ (failure ≡ Output)) }
 {
-    match handle_message(alloc, disk, server, body)? {
+    match handle_message(alloc, disk, server, gathered, body)? {
         Some(text) => write_frame(alloc, output, text.as_bytes()),
         None => Ok(()),
     }
@@ -120,6 +123,7 @@ fn handle_message<D: Disk>(
     alloc: Global,
     disk: &mut D,
     server: &mut Server,
+    gathered: &mut Gathered,
     body: Vec<u8>,
 ) -> Result<Option<String>, Failure>
     ensures ok { (moments : List Moment) → D.moments disk.old ≡ Some moments
@@ -132,7 +136,7 @@ fn handle_message<D: Disk>(
     let (state, action) = step(server.state, message_in(&message));
     let shown = view_for(alloc, disk, server, action, &message)?;
     server.state = state;
-    handle(alloc, server, action, &message, &shown)
+    handle(alloc, server, gathered, action, &message, &shown)
 }
 
 /// What the disk shows of what an action needs. It is not looked at if the action needs nothing.

@@ -20,7 +20,7 @@ ghost use Rattle.isle_lsp.specs.Serving.{documents_after_notification, folders_a
 use crate::formatting::formatting;
 use crate::published::publish_diagnostics;
 use isle_cli::failure::Failure;
-use isle_lsp_features::Question;
+use isle_lsp_features::{Gathered, Question};
 use isle_lsp_files::disk::View;
 use isle_lsp_files::documents::{Document, close, document_at, open, text_of};
 use isle_lsp_files::texts::program_of;
@@ -60,10 +60,11 @@ impl Server {
 }
 
 /// Performs an action on a message, with what the disk shows for it, and returns the text to send,
-/// if any. The only error is `Memory`.
+/// if any. Keeps the index that it makes. The only error is `Memory`.
 pub fn handle(
     alloc: Global,
     server: &mut Server,
+    gathered: &mut Gathered,
     action: Action,
     message: &Option<Value>,
     shown: &View,
@@ -91,7 +92,7 @@ pub fn handle(
             if matches!(request, Request::Initialize) {
                 initialize(alloc, server, message)?;
             }
-            Ok(Some(response(alloc, server, request, message, shown)?))
+            Ok(Some(response(alloc, server, gathered, request, message, shown)?))
         }
     }
 }
@@ -259,6 +260,7 @@ fn did_change(
 fn response(
     alloc: Global,
     server: &Server,
+    gathered: &mut Gathered,
     request: Request,
     message: &Option<Value>,
     shown: &View,
@@ -268,7 +270,7 @@ fn response(
     ensures err { IfErr result (λ failure. failure ≡ Memory) }
 {
     let id = reply_id(message)?;
-    let outcome = outcome_for(alloc, server, request, message, shown)?;
+    let outcome = outcome_for(alloc, server, gathered, request, message, shown)?;
     let text = replies::reply(alloc, id, outcome)?;
     Ok(text)
 }
@@ -277,6 +279,7 @@ fn response(
 fn outcome_for<'a>(
     alloc: Global,
     server: &'a Server,
+    gathered: &mut Gathered,
     request: Request,
     message: &Option<Value>,
     shown: &'a View,
@@ -286,7 +289,7 @@ fn outcome_for<'a>(
     ensures err { IfErr result (λ failure. failure ≡ Memory) }
 {
     match message {
-        Some(message) => outcome_in(alloc, server, request, message, shown),
+        Some(message) => outcome_in(alloc, server, gathered, request, message, shown),
         None => Ok(error_outcome(ErrorCode::InvalidParams)),
     }
 }
@@ -295,6 +298,7 @@ fn outcome_for<'a>(
 fn outcome_in<'a>(
     alloc: Global,
     server: &'a Server,
+    gathered: &mut Gathered,
     request: Request,
     message: &Value,
     shown: &'a View,
@@ -310,7 +314,7 @@ fn outcome_in<'a>(
             formatting_outcome(alloc, document_in(&server.documents, message))
         }
         Request::Unknown => Ok(error_outcome(ErrorCode::MethodNotFound)),
-        _ => name_outcome(alloc, server, request, message, shown),
+        _ => name_outcome(alloc, server, gathered, request, message, shown),
     }
 }
 
@@ -330,6 +334,7 @@ fn formatting_outcome<'a>(alloc: Global, text: Option<&str>) -> Result<Outcome<'
 fn name_outcome<'a>(
     alloc: Global,
     server: &'a Server,
+    gathered: &mut Gathered,
     request: Request,
     message: &Value,
     shown: &'a View,
@@ -345,7 +350,7 @@ fn name_outcome<'a>(
         file: shown.file.as_str(),
         takes_document_changes: server.takes_document_changes,
     };
-    isle_lsp_features::answer(alloc, &program, question)
+    isle_lsp_features::answer(alloc, gathered, &program, question)
 }
 
 /// The text of the document that a message names, if it is open.

@@ -1,5 +1,5 @@
 -- The index of a program, as it grows by one text.
-use Rattle.std.proofs.Common.{◌≡◌, ℕ, ◌+◌, ◌<◌, suc, length, get_or, take, List, [], ◌∷◌, ◌++◌, Bool, true, false, not, cond, map, refl, sym, ap, subst, ◌∙◌, arith, append_assoc, Err, inl, inr}
+use Rattle.std.proofs.Common.{◌≡◌, ℕ, ◌+◌, ◌<◌, suc, length, get_or, drop, take, List, [], ◌∷◌, ◌++◌, Bool, true, false, not, cond, map, refl, sym, ap, subst, ◌∙◌, arith, add-one, append_assoc, drop-cons, Err, inl, inr}
 use Rattle.std.specs.List.{flat_map}
 use Rattle.std.proofs.lemmas.Grind.{flat_map-append, take_at_read}
 use Rattle.std.proofs.lemmas.List.{append-nil, length-map, length-take-le, map-append}
@@ -8,7 +8,7 @@ use Rattle.isle_base_source.specs.declared.error.Error.{Error}
 use Rattle.isle_ast.specs.Grammar.{SpellsDefinition}
 use Rattle.isle_ast.specs.Tree.{Definition}
 use Rattle.isle_ast_names.specs.Words.{SpellsAll}
-use Rattle.isle_lsp_features.specs.Programs.{Text as Node, text_of}
+use Rattle.isle_lsp_features.specs.Programs.{Text as Node, bytes_of, text_of}
 use Rattle.isle_lsp_features.specs.declared.Text.{Text}
 use Rattle.isle_index.specs.Held.{IsIndexOf}
 use Rattle.isle_index.specs.declared.Index.{Index}
@@ -29,7 +29,7 @@ use Rattle.isle_base.specs.declared.fault.Fault.{Fault}
 use Rattle.isle_base.specs.declared.fault.Fault.TheVariants as faults
 use Rattle.isle_parser.specs.Parsed.{Parses, RefusesText, SpellsOnly}
 use Rattle.isle_program.proofs.ReadingLemmas.{read-tree, refused-start, refused-tree}
-use Rattle.isle_lsp_features.specs.Gathered.{AddsDefinitions, AddsText, AreParts, Grows, IsFront, IsGathered, IsPart, Part, all_known, deep, front, is_refused, known, refused_count, tree}
+use Rattle.isle_lsp_features.specs.Gathered.{AddsDefinitions, AddsText, AreParts, Grows, IsFront, IsGathered, IsOf, IsPart, Part, all_known, deep, front, is_refused, known, refused_count, tree}
 
 one-on : (file n : ℕ) → file + suc n ≡ (file + 1) + n
 one-on file n = omega arith
@@ -178,3 +178,32 @@ one-more spells n m spelt is = ap (λ b. refused-more b n) spelt ∙ sym is
 
 pub no-more : (spells : Bool) (n m : ℕ) → spells ≡ true → m ≡ n → refused-more spells n ≡ m
 no-more spells n m spelt is = ap (λ b. refused-more b n) spelt ∙ sym is
+
+-- ---- the same texts
+
+-- the same texts have the same known parts
+same-parts : (file : ℕ) (ss rs : List Node) (ps : List Part) → map bytes_of rs ≡ map bytes_of ss → AreParts file ss ps → AreParts file rs ps
+same-parts file [] [] ps is each = each
+same-parts file [] (r ∷ rs) ps is each = absurd (cc is)
+same-parts file (s ∷ ss) [] ps is each = absurd (cc is)
+same-parts file (s ∷ ss) (r ∷ rs) [] is each = absurd each
+same-parts file (s ∷ ss) (r ∷ rs) (p ∷ ps) is each =
+    let first : bytes_of s ≡ bytes_of r = cc is in
+    let later : map bytes_of rs ≡ map bytes_of ss = cc is in
+    (subst (λ text. IsPart file text p) first each.0, same-parts (file + 1) ss rs ps later each.1)
+
+-- an index is that of each program of the same texts
+pub is-of : (texts : List (List ℕ)) (program : List Node) (index : Index) (refused : ℕ) → texts ≡ map bytes_of program → IsGathered program index refused → IsOf texts index refused
+is-of texts program index refused is h = λ other same.
+    record { parts = h.parts; read = same-parts 0 program other h.parts (same ∙ is) h.read; holds = h.holds; count = h.count }
+
+pub of-none : (index : Index) (program : List Node) → IsIndexOf [] index → map bytes_of program ≡ [] → IsGathered program index 0
+of-none index [] h same = record { parts = []; read = tt; holds = h; count = refl }
+of-none index (s ∷ ss) h same = absurd (cc same)
+
+-- texts that begin with the same one are the same if the later ones are
+pub same-later : (xs : List Text) (i : ℕ) (d : Text) (others later : List (List ℕ)) → i < length xs → others ≡ (get_or xs i d).text.now ∷ later →
+    map bytes_of (map text_of (drop (i + 1) xs)) ≡ later → map bytes_of (map text_of (drop i xs)) ≡ others
+same-later xs i d others later within begins same =
+    let first : drop i xs ≡ get_or xs i d ∷ drop (i + 1) xs = rw (add-one, drop-cons xs i d) refl in
+    ap (λ ys. map bytes_of (map text_of ys)) first ∙ ap (λ ts. (get_or xs i d).text.now ∷ ts) same ∙ sym begins

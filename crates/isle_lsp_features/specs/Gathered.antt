@@ -1,5 +1,5 @@
 -- The index of a program.
-use Rattle.std.specs.Prelude.{◌≡◌, ℕ, ◌+◌, List, [], ◌∷◌, ◌++◌, ◌⊎◌, Bool, true, false, not, None, Some, Result, Ok, Err, count_by, take}
+use Rattle.std.specs.Prelude.{◌≡◌, ℕ, ◌+◌, List, [], ◌∷◌, ◌++◌, ◌⊎◌, Bool, true, false, not, None, Some, Result, Ok, Err, count_by, map, take}
 use Rattle.std.specs.List.{flat_map}
 use Rattle.std.specs.Str.{IsCharBoundary}
 use Rattle.isle_ast.specs.Grammar.{SpellsDefinition}
@@ -10,7 +10,7 @@ use Rattle.isle_base.specs.Place.{Placed, in_file, placed}
 use Rattle.isle_base.specs.Token.{Ending, Lexeme}
 use Rattle.isle_base.specs.declared.fault.Fault.{Fault}
 use Rattle.isle_base.specs.declared.fault.Fault.TheVariants as faults
-use Rattle.isle_lsp_features.specs.Programs.{Text}
+use Rattle.isle_lsp_features.specs.Programs.{Text, bytes_of}
 use Rattle.isle_base_source.specs.declared.error.Error.{Error}
 use Rattle.isle_index.specs.Held.{IsIndexOf}
 use Rattle.isle_index.specs.declared.Index.{Index}
@@ -75,6 +75,10 @@ pub record IsGathered (program : List Text) (index : Index) (refused : ℕ) : Ty
   pub read : AreParts 0 program parts
   pub holds : IsIndexOf (all_known parts) index
   pub count : refused ≡ refused_count parts
+
+-- the index is that of each program of these texts
+abbrev pub IsOf : List (List ℕ) → Index → (refused : ℕ) → Type 0
+IsOf texts index refused = (program : List Text) → map bytes_of program ≡ texts → IsGathered program index refused
 
 -- an index holds these definitions after those that it held
 abbrev pub Grows : List Definition → Index → Index → Type 0

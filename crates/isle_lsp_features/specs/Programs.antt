@@ -18,6 +18,9 @@ pub record Text : Type 0 where
 abbrev pub text_of : CodeText → Text
 text_of t = record { uri = t.uri.now; file = t.file.now; is_shared = t.is_shared; version = t.version; text = t.text.now }
 
+abbrev pub bytes_of : Text → List ℕ
+bytes_of t = t.text
+
 -- a request, its message, the file that this names, and whether the client takes edits with versions
 pub record Question : Type 0 where
   pub request : Request

@@ -10,6 +10,7 @@ ghost use Rattle.isle_lsp_features.specs.Programs.{question_of, text_of};
 ghost use Rattle.isle_cli.specs.declared.failure.Failure.TheVariants.{Memory};
 ghost use Rattle.isle_index.specs.Held.{all_in};
 ghost use Rattle.isle_lsp_features.specs.Answers.{IsAnswer, IsAnswerAt, IsAnswerOf, list_outcome};
+ghost use Rattle.isle_lsp_features.specs.Gathered.{IsGathered};
 ghost use Rattle.isle_lsp_features.specs.Places as wanted;
 ghost use Rattle.isle_lsp_protocol.specs.Replies.{outcome_of};
 
@@ -22,7 +23,7 @@ mod renaming;
 mod symbols;
 mod wholes;
 
-use gathered::{Gathered, gather};
+pub use gathered::Gathered;
 use isle_cli::failure::Failure;
 use isle_index::Index;
 use isle_lsp_protocol::items::{Item, Listing};
@@ -64,10 +65,11 @@ pub struct Question<'a> {
 /// Answers a request about the names of a program.
 ///
 /// A text that does not parse contributes the definitions before its error, without the last one if
-/// the error is lexical. While there is one, `rename` and `prepareRename` fail. The only `Err` is
-/// `Memory`.
+/// the error is lexical. While there is one, `rename` and `prepareRename` fail. The index is made
+/// anew unless the texts are those of the last request. The only `Err` is `Memory`.
 pub fn answer<'a>(
     alloc: Global,
+    gathered: &mut Gathered,
     program: &[Text<'a>],
     question: Question,
 ) -> Result<Outcome<'a>, Failure>
@@ -75,14 +77,30 @@ pub fn answer<'a>(
         (map text_of program.now) (outcome_of outcome)) }
     ensures err { IfErr result (λ failure. failure ≡ Memory) }
 {
-    let Gathered { index, refused } = gather(alloc, program)?;
+    gathered.answer(alloc, program, question)
+}
+
+/// Answers a request about the names of a program that has this index, and this many texts that do
+/// not parse or nest too deeply.
+fn answer_from<'a>(
+    alloc: Global,
+    program: &[Text<'a>],
+    index: &Index,
+    refused: usize,
+    question: Question,
+) -> Result<Outcome<'a>, Failure>
+    requires { IsGathered (map text_of program.now) index.now refused }
+    ensures ok { IfOk result (λ outcome. IsAnswer (question_of question.entry)
+        (map text_of program.now) (outcome_of outcome)) }
+    ensures err { IfErr result (λ failure. failure ≡ Memory) }
+{
     if refused > 0 && matches!(question.request, Request::Rename | Request::PrepareRename) {
         return Ok(Outcome::Failed(
             ErrorCode::RequestFailed,
             "cannot rename: a file of the workspace has a syntax error",
         ));
     }
-    Ok(answer_in(alloc, program, &index, question)?)
+    Ok(answer_in(alloc, program, index, question)?)
 }
 
 /// Answers a request about the names in an index.
