@@ -1,0 +1,4 @@
+pub mod Faults
+pub mod TypeFaults
+pub mod TermFaults
+pub mod Views

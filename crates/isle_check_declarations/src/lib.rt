@@ -1,0 +1,11 @@
+//! The errors of the declarations of a program. Upstream reports them in groups: those of a group
+//! only if no earlier group has any.
+#![tactic(auto)]
+
+mod fault;
+mod terms;
+mod types;
+
+pub use fault::{Fault, Kind};
+pub use terms::term_faults;
+pub use types::type_faults;

@@ -1,0 +1,5 @@
+pub mod Names
+pub mod Types
+pub mod Parts
+pub mod Terms
+pub mod Views

@@ -1,0 +1,8 @@
+//! What the definitions of a program declare: its types and terms by name, and its definitions by
+//! kind. Lookups take logarithmic time.
+#![tactic(auto)]
+
+pub mod names;
+pub mod parts;
+pub mod terms;
+pub mod types;
