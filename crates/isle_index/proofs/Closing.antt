@@ -105,7 +105,7 @@ quiet_extern (extern_const name ty place) = (tt, (tt, tt))
 
 definition_ends : (i : ℕ) (d : Definition) → bound_after i [] (definition_events d) ≡ []
 definition_ends i (type_def t) = quiet i [] (definition_events (type_def t)) (tt, quiet_content t.name t.ty)
-definition_ends i (rule r) = ended i [] (pattern_events roles.Rule r.pattern ++ flat_map condition_events r.iflets ++ expression_events r.expr)
+definition_ends i (rule r) = ended i [] (pattern_events roles.Plain r.pattern ++ flat_map condition_events r.iflets ++ expression_events r.expr)
 definition_ends i (extractor e) = ended i [] (uses kinds.Term e.term ∷ [] ++ map (occurs roles.Parameter) e.args ++ pattern_events roles.Template e.template)
 definition_ends i (decl d) =
     quiet i [] (definition_events (decl d))

@@ -88,14 +88,14 @@ conditions_own : (P : Name → Type 0) (cs : List Condition) → AllByRecursion 
 conditions_own P [] = tt
 conditions_own P (c ∷ cs) =
     join (OwnerIs P) (condition_events c) (flat_map condition_events cs)
-    (join (OwnerIs P) (expression_events c.expr) (pattern_events roles.Rule c.pattern) (expression_owns P c.expr) (pattern_owns P roles.Rule c.pattern))
+    (join (OwnerIs P) (expression_events c.expr) (pattern_events roles.Plain c.pattern) (expression_owns P c.expr) (pattern_owns P roles.Plain c.pattern))
     (conditions_own P cs)
 
 rule_owns : (P : Name → Type 0) (r : RuleDefinition) → AllByRecursion (OwnerIs P) (rule_events r)
 rule_owns P r =
-    join (OwnerIs P) (pattern_events roles.Rule r.pattern ++ flat_map condition_events r.iflets ++ expression_events r.expr) (ends ∷ [])
-    (join (OwnerIs P) (pattern_events roles.Rule r.pattern ++ flat_map condition_events r.iflets) (expression_events r.expr)
-    (join (OwnerIs P) (pattern_events roles.Rule r.pattern) (flat_map condition_events r.iflets) (pattern_owns P roles.Rule r.pattern) (conditions_own P r.iflets))
+    join (OwnerIs P) (pattern_events roles.Plain r.pattern ++ flat_map condition_events r.iflets ++ expression_events r.expr) (ends ∷ [])
+    (join (OwnerIs P) (pattern_events roles.Plain r.pattern ++ flat_map condition_events r.iflets) (expression_events r.expr)
+    (join (OwnerIs P) (pattern_events roles.Plain r.pattern) (flat_map condition_events r.iflets) (pattern_owns P roles.Plain r.pattern) (conditions_own P r.iflets))
     (expression_owns P r.expr))
     (tt, tt)
 

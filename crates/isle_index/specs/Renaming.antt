@@ -177,7 +177,7 @@ same_binders (s ∷ ss) (t ∷ ts) = same_binder s.binder t.binder && same_binde
 -- whether a template leaves a variable of this role to the rules that use its extractor: one that is no parameter, or
 -- stands before an `@`. `own` says whether it binds itself
 abbrev pub is_left : Role → Bool → Bool
-is_left roles.Rule own = false
+is_left roles.Plain own = false
 is_left roles.Parameter own = false
 is_left roles.Template own = own
 is_left roles.Named own = true

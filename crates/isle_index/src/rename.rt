@@ -418,7 +418,7 @@ fn is_left(role: Role, own: bool) -> bool
     ensures { result ≡ is_left role own }
 {
     match role {
-        Role::Rule | Role::Parameter => false,
+        Role::Plain | Role::Parameter => false,
         Role::Template => own,
         Role::Named => true,
     }

@@ -74,13 +74,13 @@ names_follow f g part each [] = refl
 names_follow f g part each (x ∷ xs) = ap (λ y. y ∷ map part (map g xs)) (each x) ∙ ap (λ zs. map_event f (part x) ∷ zs) (names_follow f g part each xs)
 
 condition_follows : (f : Name → Name) (c : Condition) → condition_events (map_condition f c) ≡ map (map_event f) (condition_events c)
-condition_follows f c = joins f (expression_events c.expr) (pattern_events roles.Rule c.pattern) _ _ (expression_follows f c.expr) (pattern_follows f roles.Rule c.pattern)
+condition_follows f c = joins f (expression_events c.expr) (pattern_events roles.Plain c.pattern) _ _ (expression_follows f c.expr) (pattern_follows f roles.Plain c.pattern)
 
 rule_follows : (f : Name → Name) (r : RuleDefinition) → rule_events (map_rule f r) ≡ map (map_event f) (rule_events r)
 rule_follows f r =
-    joins f (pattern_events roles.Rule r.pattern ++ flat_map condition_events r.iflets ++ expression_events r.expr) (ends ∷ []) _ _
-    (joins f (pattern_events roles.Rule r.pattern ++ flat_map condition_events r.iflets) (expression_events r.expr) _ _
-    (joins f (pattern_events roles.Rule r.pattern) (flat_map condition_events r.iflets) _ _ (pattern_follows f roles.Rule r.pattern) (all_follow f (map_condition f) condition_events (condition_follows f) r.iflets))
+    joins f (pattern_events roles.Plain r.pattern ++ flat_map condition_events r.iflets ++ expression_events r.expr) (ends ∷ []) _ _
+    (joins f (pattern_events roles.Plain r.pattern ++ flat_map condition_events r.iflets) (expression_events r.expr) _ _
+    (joins f (pattern_events roles.Plain r.pattern) (flat_map condition_events r.iflets) _ _ (pattern_follows f roles.Plain r.pattern) (all_follow f (map_condition f) condition_events (condition_follows f) r.iflets))
     (expression_follows f r.expr))
     refl
 

@@ -13,7 +13,7 @@ use Rattle.isle_resolve.specs.Event.{EventNode, defines, uses, defines_variant, 
 
 -- the role of a variable before an `@`, where those that stand alone have this role
 abbrev pub named : Role → Role
-named roles.Rule = roles.Rule
+named roles.Plain = roles.Plain
 named roles.Parameter = roles.Parameter
 named roles.Template = roles.Named
 named roles.Named = roles.Named
@@ -58,10 +58,10 @@ abbrev mutual
   let_ends (more_let _ _ _ _ ds) = closes ∷ [] ++ let_ends ds
 
 abbrev pub condition_events : Condition → List EventNode
-condition_events c = expression_events c.expr ++ pattern_events roles.Rule c.pattern
+condition_events c = expression_events c.expr ++ pattern_events roles.Plain c.pattern
 
 abbrev pub rule_events : RuleDefinition → List EventNode
-rule_events r = pattern_events roles.Rule r.pattern ++ flat_map condition_events r.iflets ++ expression_events r.expr ++ ends ∷ []
+rule_events r = pattern_events roles.Plain r.pattern ++ flat_map condition_events r.iflets ++ expression_events r.expr ++ ends ∷ []
 
 abbrev pub extractor_events : ExtractorDefinition → List EventNode
 extractor_events e = uses kinds.Term e.term ∷ [] ++ map (occurs roles.Parameter) e.args ++ pattern_events roles.Template e.template ++ ends ∷ []

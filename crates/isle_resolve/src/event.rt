@@ -23,7 +23,7 @@ pub enum Kind {
 #[derive(Clone, Copy, Debug, PartialEq, Eq)]
 pub enum Role {
     /// A variable in a pattern of a rule.
-    Rule,
+    Plain,
     /// A parameter of an extractor.
     Parameter,
     /// A variable of a template that stands alone. If it is a parameter, an expansion has the

@@ -23,7 +23,7 @@ pub fn add_rule<'a>(rule: &'a Rule, found: &mut Vec<Event<'a>>) -> Result<(), Al
     ensures { OnOk result (events_of found.new.items
         ≡ events_of found.old.items ++ rule_events (rule_of rule.now)) }
 {
-    add_pattern(&rule.pattern, Role::Rule, found)?;
+    add_pattern(&rule.pattern, Role::Plain, found)?;
     add_conditions(&rule.iflets, found)?;
     add_expression(&rule.expr, found)?;
     add(Event::Ends, found)
@@ -36,7 +36,7 @@ fn add_conditions<'a>(conditions: &'a [IfLet], found: &mut Vec<Event<'a>>) -> Re
 {
     for condition in conditions {
         add_expression(&condition.expr, found)?;
-        add_pattern(&condition.pattern, Role::Rule, found)?;
+        add_pattern(&condition.pattern, Role::Plain, found)?;
     }
     Ok(())
 }
@@ -70,7 +70,7 @@ fn named(alone: Role) -> Role
 {
     match alone {
         Role::Template => Role::Named,
-        Role::Rule | Role::Parameter | Role::Named => alone,
+        Role::Plain | Role::Parameter | Role::Named => alone,
     }
 }
 
