@@ -102,6 +102,8 @@ class Reader:
 
     def __init__(self, tokens):
         self.tokens, self.at, self.marks, self.bound, self.mute = tokens, 0, [], [], False
+        # whether a template is read, and the variables that templates leave to the rules that use their extractors
+        self.in_template, self.left = False, set()
 
     # ---- tokens
 
@@ -197,7 +199,10 @@ class Reader:
             token = self.atom()
             if token:
                 self.occurs(token)
-                if self.peek().kind == "@":
+                is_named = self.peek().kind == "@"
+                if self.in_template and (is_named or self.marks[-1].defines):
+                    self.left.add(token.text)
+                if is_named:
                     self.next()
                     self.pattern()
 
@@ -268,7 +273,9 @@ class Reader:
         self.next("(")
         self.uses(TERM)
         self.until_closed(lambda: self.occurs(self.name()))
+        self.in_template = True
         self.pattern()
+        self.in_template = False
         self.next(")")
 
     def decl(self):
@@ -424,7 +431,7 @@ class Reading:
             known = len(reader.marks)
             self.definitions.append((reader.begun, tokens[reader.at - 1].end))
         # Definitions are told in the order of the text, and those of a type before its variants.
-        self.marks = reader.marks[:known]
+        self.marks, self.left = reader.marks[:known], reader.left
         self.symbols = [it for it in self.marks if it.defines and it.kind != VARIABLE]
         self.marks.sort(key=lambda it: it.start)
         self.declared = {it.name for it in self.symbols if it.kind == TERM and it.owner is None}
@@ -484,7 +491,9 @@ class Renaming:
         return shared or any(it.kind == TERM and it.name in moved for it in self.all)
 
     def is_captured(self):
-        """Whether the variables of the text have other binders afterwards."""
+        """Whether the variables of the text have other binders afterwards, or may have them once extractors are expanded."""
+        if any({self.name, self.new} & it.left for it in self.texts):
+            return True
         before, after = (self.binders(it) for it in (self.texts[self.number], Reading(self.after(self.texts[self.number]))))
         return before != after
 
