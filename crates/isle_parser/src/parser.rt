@@ -35,15 +35,13 @@ use std::alloc::{AllocError, Global};
 
 /// Parse the top-level ISLE definitions and return their AST.
 ///
-/// The promise, out of memory aside: for every text and every width,
+/// For every text and every width, want of memory aside, `parse` and `parse_without_pos` accept
+/// exactly the texts that the grammar of ISLE spells and give the one tree so spelt; two accepted
+/// texts spell the same tree, positions erased, exactly if their prints at that width are equal
+/// bytes, and such a print is accepted and prints as itself.
 ///
-/// - `parse` and `parse_without_pos` accept exactly the texts that the grammar of ISLE spells, and
-///   return the one tree that is so spelt;
-/// - two accepted texts spell the same tree, positions erased, exactly if their prints at that
-///   width are equal bytes;
-/// - such a print is accepted, and prints as itself.
-///
-/// The first is in the clauses here, the others are in those of `isle_syntax`'s `format`.
+/// What is before the semicolon is in the clauses here, what follows it in those of `isle_syntax`'s
+/// `format`.
 ///
 /// Parsing starts at the lexer's current token, its lookahead. The grammar is that of the ISLE
 /// language reference, for the definitions `type`, `rule`, `extractor`, `decl`, `attr`, `spec`,
