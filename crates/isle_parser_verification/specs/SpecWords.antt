@@ -6,6 +6,7 @@ use Rattle.std.specs.Option.{is_some, option_or}
 use Rattle.std.specs.Str.{bytes_eq}
 use Rattle.std.specs.Str.Parse.{digits_value, without_leading_plus}
 use Rattle.isle_base_source.specs.declared.pos.Pos.{Pos}
+use Rattle.isle_base.specs.Token.{Tok, lparen, rparen, symbol, integer, at_sign}
 use Rattle.isle_ast_verification.specs.declared.spec.SpecOp.{SpecOp}
 use Rattle.isle_ast_names.specs.Identifier.{is_identifier}
 use Rattle.isle_ast_verification.specs.Operators.{operator_text, is_operator_text, operators}
@@ -93,6 +94,14 @@ keyword_head text =
 -- whether this text begins like a bit vector
 abbrev pub begins_bit_vector : List ℕ → Bool
 begins_bit_vector text = is_some (behind_mark (codes "#b") text) || is_some (behind_mark (codes "#x") text)
+
+-- whether a token is a symbol that does not begin like a bit vector
+abbrev pub can_be_head : Tok → Bool
+can_be_head lparen = false
+can_be_head rparen = false
+can_be_head (symbol text) = not (begins_bit_vector text)
+can_be_head (integer _) = false
+can_be_head at_sign = false
 
 -- the head of a text other than these words: the first that fits. A bit vector has none
 unfoldable pub other_head : List ℕ → Option SpecHead

@@ -5,12 +5,14 @@
 ghost use Rattle.std.specs.Prelude.{◌≡◌, ◌≤◌, ◌<◌, IfOk, None, Some, codes, option_map};
 ghost use Rattle.isle_ast_verification.specs.TreeView.{spec_of};
 ghost use Rattle.isle_parser_cursor.specs.Outcomes.{IsParserRefusal, IsPlace, PassesOrRefuses};
-ghost use Rattle.isle_parser_cursor.specs.Outcomes.{ReadsOff, source};
+ghost use Rattle.isle_parser_cursor.specs.Outcomes.{ReadsOff, left, source};
+ghost use Rattle.isle_parser_cursor.specs.Reading.{is_ahead};
 ghost use Rattle.isle_parser_verification.specs.SpecReaders.{spec_word};
 ghost use Rattle.isle_parser_verification.specs.SpecFormHeads.{GivesOrRefuses, head_view};
 ghost use Rattle.isle_parser_verification.specs.SpecWords.{are_identifiers, before_last};
 ghost use Rattle.isle_parser_verification.specs.SpecWords.{begins_bit_vector, behind_mark};
-ghost use Rattle.isle_parser_verification.specs.SpecWords.{bit_vector_of, head_of, head_word};
+ghost use Rattle.isle_parser_verification.specs.SpecWords.{bit_vector_of, can_be_head};
+ghost use Rattle.isle_parser_verification.specs.SpecWords.{head_of, head_word};
 ghost use Rattle.isle_parser_verification.specs.SpecWords.{hexadecimal_or_plain, operator_of};
 ghost use Rattle.isle_parser_verification.specs.SpecWords.{other_head, plain_word, spec_head};
 ghost use Rattle.isle_parser_verification.specs.SpecWords.{split_at_mark, variant_head, word_of};
@@ -19,6 +21,7 @@ use crate::operators::operator_of;
 use isle_ast_names::Ident;
 use isle_ast_verification::{SpecExpr, SpecOp};
 use isle_base::lexer::Pos;
+use isle_base::scanner::TokenRef;
 use isle_parser_cursor::cursor::{Cursor, Stop};
 use std::alloc::{AllocError, Global};
 
@@ -56,12 +59,23 @@ pub(super) fn parse_spec_head(cursor: &mut Cursor, alloc: Global, start: Pos) ->
     requires { IsPlace (source cursor.old) start }
     ensures { ReadsOff head_view spec_head cursor.old result cursor.new }
 {
-    if !cursor.is_sym() {
+    if !is_head_ahead(cursor) {
         return Err(unexpected_spec(cursor, alloc, start));
     }
     let place = cursor.place();
     let word = cursor.expect_word(alloc)?;
     spec_head(cursor, alloc, start, place, word)
+}
+
+/// Returns whether a symbol is ahead that is no bit vector. Nothing else is taken for a head, so
+/// a list without a head is rejected before the token after the one ahead is read.
+fn is_head_ahead(cursor: &Cursor) -> bool
+    ensures { result ≡ is_ahead can_be_head (left cursor.now) }
+{
+    match cursor.ahead() {
+        Some(TokenRef::Symbol(word)) => !begins_bit_vector(word),
+        _ => false,
+    }
 }
 
 /// The head that this word is. The word is at `place`, and the names of a variant are at the `(`.

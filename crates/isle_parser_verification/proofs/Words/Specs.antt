@@ -137,6 +137,18 @@ no_keyword {A} test text x e a b c d f g h =
     let clash : None ≡ Some x = sym none ∙ sym (ap test is) ∙ e in cc in
     keyword_none text (differs (codes "switch") a) (differs (codes "let") b) (differs (codes "with") c) (differs (codes "match") d) (differs (codes "struct") f) (differs (codes "macro") g) (differs (codes "as") h)
 
+-- what begins like a bit vector is no head
+pub bits_are_no_head : (text : List ℕ) → begins_bit_vector text ≡ true → head_of text ≡ None
+unfolding head_of head_word other_head identified
+bits_are_no_head text bits =
+    let differs : (word : List ℕ) → begins_bit_vector word ≡ false → text ≡ word → ⊥ = λ word no is.
+    let clash : true ≡ false = sym bits ∙ ap begins_bit_vector is ∙ no in cc in
+    rw (
+      keyword_none text (differs (codes "switch") refl) (differs (codes "let") refl) (differs (codes "with") refl) (differs (codes "match") refl) (differs (codes "struct") refl)
+        (differs (codes "macro") refl) (differs (codes "as") refl),
+      bits,
+    ) refl
+
 accepted : (head : SpecHead) → are_identifiers head ≡ true → identified (Some head) ≡ Some head
 unfolding identified
 accepted head e = rw e refl
