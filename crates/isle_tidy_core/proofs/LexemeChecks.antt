@@ -9,7 +9,7 @@ use Rattle.isle_tidy_layout.specs.declared.entries.Gap.TheVariants.{Beside}
 use Rattle.isle_tidy_core.specs.Finds.{FindsGap, Stands}
 use Rattle.isle_tidy_core.specs.Grammar.{SpellsEntries, gap_of, lexemes, matches}
 use Rattle.isle_tidy_core.specs.Refused.{HasDocument}
-use Rattle.isle_tidy_core.proofs.CleanBlanks.{past_space}
+use Rattle.isle_tidy_core.proofs.CanonicalBlanks.{past_space}
 use Rattle.isle_tidy_core.proofs.Listing.{ends_text}
 use Rattle.isle_tidy_core.proofs.Standing.{run_taken}
 

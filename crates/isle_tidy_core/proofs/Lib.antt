@@ -1,7 +1,7 @@
 pub mod Again
 pub mod Ahead
 pub mod Atoms
-pub mod CleanBlanks
+pub mod CanonicalBlanks
 pub mod Comparing
 pub mod Existing
 pub mod Fitted

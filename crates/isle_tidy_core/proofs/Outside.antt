@@ -18,7 +18,7 @@ use Rattle.isle_tidy_layout.specs.Placing.{before_trimmed, trimmed, tidied, kind
 use Rattle.isle_tidy_layout.specs.Writing.{spelling, indentation, gap_text, start_text, written_after, written}
 use Rattle.isle_tidy_layout.proofs.Again.{tidied_again}
 use Rattle.isle_tidy_core.specs.Fitting.{IsAtom, IsLexeme, AreFit, fits}
-use Rattle.isle_tidy_core.specs.Outside.{HoldsInLine, Outside, nothing, block_comment as comment_outside, line_comment as line_outside, byte, ends_line, ends_clean, has_few_lines}
+use Rattle.isle_tidy_core.specs.Outside.{HoldsInLine, Outside, nothing, block_comment as comment_outside, line_comment as line_outside, byte, ends_line, ends_without_blank, has_few_lines}
 use Rattle.isle_tidy_core.specs.Tidied.{IsTidyTextOf}
 use Rattle.isle_tidy_core.proofs.Fitted.{placed_document_fits}
 use Rattle.isle_tidy_core.proofs.Keeps.{Stops, entries_stop, no_blank, spelt_some}
@@ -304,7 +304,7 @@ not_first : (b ends : Bool) → b ≡ false → not (b && ends) ≡ true
 not_first false ends e = refl
 not_first true ends e = cc
 
-ends_kept : IsKept ends_clean
+ends_kept : IsKept ends_without_blank
 ends_kept = record {
   plain = λ b rest h. not_first (eqb b 32 || eqb b 9) (ends_line rest) (no_blank_first b h);
   spaced = λ b rest h k. no_end true (eqb b 10 || eqb b 13) (rw (h, k) refl);
@@ -346,8 +346,8 @@ lines_kept = record {
   comment_end = λ b rest h k. few_one b rest (in_line_feed b h);
 }
 
-pub tidy_ends_clean : (text answer : List ℕ) → IsTidyTextOf text answer → Outside ends_clean answer
-tidy_ends_clean text answer t = tidy_outside ends_clean ends_kept text answer t
+pub no_blank_at_an_end : (text answer : List ℕ) → IsTidyTextOf text answer → Outside ends_without_blank answer
+no_blank_at_an_end text answer t = tidy_outside ends_without_blank ends_kept text answer t
 
 pub tidy_has_few_lines : (text answer : List ℕ) → IsTidyTextOf text answer → Outside has_few_lines answer
 tidy_has_few_lines text answer t = tidy_outside has_few_lines lines_kept text answer t

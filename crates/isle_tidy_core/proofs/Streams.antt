@@ -9,7 +9,7 @@ use Rattle.isle_tidy_layout.specs.declared.placing.Kind.TheVariants.{Start}
 use Rattle.isle_tidy_core.specs.declared.reader.Step.TheVariants.{More, End, Refused}
 use Rattle.isle_tidy_layout.specs.Entries.{Lexeme, opening, closing, at_sign, atom, line_comment, block_comment, Entry}
 use Rattle.isle_tidy_layout.specs.EntriesView.{lexeme_of, entry_of}
-use Rattle.isle_tidy_core.specs.Finds.{FindsCleanGap, FindsEntry, FindsGap, part}
+use Rattle.isle_tidy_core.specs.Finds.{FindsCanonicalGap, FindsEntry, FindsGap, part}
 use Rattle.isle_tidy_core.specs.Pending.{IsPending, Puts}
 use Rattle.isle_tidy_core.specs.declared.output.PendingRange.{PendingRange}
 use Rattle.isle_tidy_core.specs.declared.reader.Span.{Span}
@@ -220,8 +220,8 @@ entry_utf8 t text out e span has found =
     let h = on_text text out t has in gap_utf8 t.text.now t.at span.start t.gap e.gap found.0 h.utf8
 
 -- a character begins behind one space or none
-pub near_utf8 : (t : Tidying) (text out bytes : List ℕ) (width : ℕ) → HasWritten text out t → bytes ≡ t.text.now → (t.at + width < length bytes) × FindsCleanGap bytes t.at (Beside width) (t.at + width) → IsUtf8 (drop (t.at + width) t.text.now)
+pub near_utf8 : (t : Tidying) (text out bytes : List ℕ) (width : ℕ) → HasWritten text out t → bytes ≡ t.text.now → (t.at + width < length bytes) × FindsCanonicalGap bytes t.at (Beside width) (t.at + width) → IsUtf8 (drop (t.at + width) t.text.now)
 near_utf8 t text out bytes width has same found =
     let h = on_text text out t has in
-    let clean : FindsCleanGap bytes t.at (Beside width) (t.at + width) = found.1 in
-    gap_utf8 t.text.now t.at (t.at + width) (Beside 0) (Beside width) (subst (λ xs. FindsGap xs (Beside 0) t.at (Beside width) (t.at + width)) same clean.0) h.utf8
+    let canonical : FindsCanonicalGap bytes t.at (Beside width) (t.at + width) = found.1 in
+    gap_utf8 t.text.now t.at (t.at + width) (Beside 0) (Beside width) (subst (λ xs. FindsGap xs (Beside 0) t.at (Beside width) (t.at + width)) same canonical.0) h.utf8

@@ -38,29 +38,29 @@ abbrev pub part : List ℕ → (from to : ℕ) → List ℕ
 part text from to = take (to - from) (drop from text)
 
 -- the bytes between two offsets are what is written of the gap
-abbrev pub AreClean : List ℕ → (from to : ℕ) → Gap → Type 0
-AreClean text from to gap = part text from to ≡ gap_text gap
+abbrev pub AreCanonical : List ℕ → (from to : ℕ) → Gap → Type 0
+AreCanonical text from to gap = part text from to ≡ gap_text gap
 
 -- the blanks at an offset, all that there are, which may be known to be what is written of their gap
 abbrev pub FindsBlanks : List ℕ → Gap → ℕ → Blanks → Type 0
-FindsBlanks text before from b = FindsGap text before from b.gap b.end × (b.are_clean ≡ true → AreClean text from b.end b.gap)
+FindsBlanks text before from b = FindsGap text before from b.gap b.end × (b.are_canonical ≡ true → AreCanonical text from b.end b.gap)
 
 -- the blanks between two offsets are what is written of a gap, behind an entry
-abbrev pub FindsCleanGap : List ℕ → ℕ → Gap → ℕ → Type 0
-FindsCleanGap text from gap to = FindsGap text (Beside 0) from gap to × AreClean text from to gap
+abbrev pub FindsCanonicalGap : List ℕ → ℕ → Gap → ℕ → Type 0
+FindsCanonicalGap text from gap to = FindsGap text (Beside 0) from gap to × AreCanonical text from to gap
 
-abbrev pub FindsCleanBlanks : List ℕ → ℕ → Blanks → Type 0
-FindsCleanBlanks text from b = FindsCleanGap text from b.gap b.end
+abbrev pub FindsCanonicalBlanks : List ℕ → ℕ → Blanks → Type 0
+FindsCanonicalBlanks text from b = FindsCanonicalGap text from b.gap b.end
 
 -- what stands behind the blanks at an offset: an entry, or only the end of the text, or nothing that a
 -- document can have
 abbrev pub FindsEntry : List ℕ → Gap → ℕ → Step → Type 0
 FindsEntry text gap from (More e s) =
-    FindsGap text gap from e.gap s.start × Stands text (lexeme_of e.lexeme) s.start s.end × (s.is_clean ≡ true → AreClean text from s.start e.gap)
+    FindsGap text gap from e.gap s.start × Stands text (lexeme_of e.lexeme) s.start s.end × (s.is_canonical ≡ true → AreCanonical text from s.start e.gap)
 FindsEntry text gap from End = list_all is_blank (drop from text) ≡ true
 FindsEntry text gap from Refused = (entries : List Entry) → SpellsEntries gap entries (drop from text) → ⊥
 
 -- behind an entry, so many spaces and then this lexeme, up to an offset
 abbrev pub FindsBeside : List ℕ → (before : Gap) → (from width : ℕ) → Lexeme → ℕ → Type 0
 FindsBeside text before from width x to =
-    (before ≡ Beside 0) × FindsCleanGap text from (Beside width) (from + width) × Stands text x (from + width) to
+    (before ≡ Beside 0) × FindsCanonicalGap text from (Beside width) (from + width) × Stands text x (from + width) to

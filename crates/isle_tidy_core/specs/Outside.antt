@@ -22,9 +22,9 @@ ends_line [] = true
 ends_line (b ∷ _) = b == line_feed || b == carriage_return
 
 -- no space and no tab is here before the end of a line
-abbrev pub ends_clean : List ℕ → Bool
-ends_clean [] = true
-ends_clean (b ∷ rest) = not ((b == space || b == tab) && ends_line rest)
+abbrev pub ends_without_blank : List ℕ → Bool
+ends_without_blank [] = true
+ends_without_blank (b ∷ rest) = not ((b == space || b == tab) && ends_line rest)
 
 -- no LF is here before three more: three empty lines
 abbrev pub has_few_lines : List ℕ → Bool

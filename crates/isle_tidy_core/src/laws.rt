@@ -6,7 +6,7 @@ ghost use Rattle.isle_base.specs.Token.{Lexeme, end};
 ghost use Rattle.isle_tidy_layout.specs.Entries.{Entry};
 ghost use Rattle.isle_tidy_core.specs.Grammar.{IsDocument, lexemes};
 ghost use Rattle.isle_tidy_core.specs.Matched.{tokens_match};
-ghost use Rattle.isle_tidy_core.specs.Outside.{Outside, ends_clean, has_few_lines};
+ghost use Rattle.isle_tidy_core.specs.Outside.{Outside, ends_without_blank, has_few_lines};
 ghost use Rattle.isle_tidy_layout.specs.Placing.{placed, tidied};
 ghost use Rattle.isle_tidy_core.specs.Tidied.{IsTidyTextOf, breaks, capped_breaks};
 ghost use Rattle.isle_tidy_core.specs.Tokens.{HaveSameTokens};
@@ -56,7 +56,8 @@ pub fn matched_texts_have_documents()
 /// A law, which runs no code: outside block comments, no line of a tidy text ends with a space or a
 /// tab.
 pub fn no_line_ends_with_a_blank()
-    ensures { (text answer : List ℕ) → IsTidyTextOf text answer → Outside ends_clean answer }
+    ensures { (text answer : List ℕ) → IsTidyTextOf text answer
+        → Outside ends_without_blank answer }
 {}
 
 /// A law, which runs no code: outside block comments, at most two empty lines stand in a row in a

@@ -3,10 +3,10 @@
 ghost use Rattle.std.specs.Prelude.{◌≡◌, ◌≤◌, ◌++◌, [], IfOk, IsUtf8};
 ghost use Rattle.std.specs.Prelude.{OnOk, drop, length, string_bytes};
 ghost use Rattle.std.specs.Prelude.{true};
-ghost use Rattle.isle_tidy_core.specs.Finds.{AreClean, Stands, part as part_of};
+ghost use Rattle.isle_tidy_core.specs.Finds.{AreCanonical, Stands, part as part_of};
 ghost use Rattle.isle_tidy_core.specs.Pending.{IsPending, Puts};
 ghost use Rattle.isle_tidy_core.specs.Streams.{entry_text, gap_text_from, text_from};
-ghost use Rattle.isle_tidy_layout.specs.Columns.{IsSimple};
+ghost use Rattle.isle_tidy_layout.specs.Columns.{IsPrintable};
 ghost use Rattle.isle_tidy_layout.specs.EntriesView.{lexeme_of};
 ghost use Rattle.isle_tidy_layout.specs.Placing.{tidied};
 ghost use Rattle.isle_tidy_layout.specs.Writing.{gap_text, spelling};
@@ -14,7 +14,7 @@ ghost use Rattle.isle_tidy_layout.specs.Writing.{gap_text, spelling};
 use crate::lexemes::part;
 use crate::reader::Span;
 use crate::writing::{put_final, put_gap_after, put_lexeme};
-use isle_tidy_layout::columns::{are_simple, is_space_or_tab};
+use isle_tidy_layout::columns::{are_printable, is_space_or_tab};
 use isle_tidy_layout::entries::{Entry, Gap, Lexeme};
 use isle_tidy_layout::placing::Kind;
 use std::alloc::AllocError;
@@ -33,13 +33,13 @@ pub struct PendingRange {
 
 /// Returns `true` only if all bytes of a lexeme are printable ASCII.
 #[inline(always)]
-pub(crate) fn is_simple_at(text: &str, lexeme: &Lexeme, span: Span) -> bool
+pub(crate) fn is_printable_at(text: &str, lexeme: &Lexeme, span: Span) -> bool
     requires { Stands text.now (lexeme_of lexeme.now) span.start span.end }
-    ensures { result ≡ true → IsSimple (lexeme_of lexeme.now) }
+    ensures { result ≡ true → IsPrintable (lexeme_of lexeme.now) }
 {
     match lexeme {
         Lexeme::Atom(_) | Lexeme::LineComment(_) => {
-            are_simple(text.as_bytes(), span.start, span.end)
+            are_printable(text.as_bytes(), span.start, span.end)
         }
         _ => false,
     }
@@ -145,14 +145,15 @@ fn put_gap(
     placed: Gap,
 ) -> Result<usize, AllocError>
     requires pending { IsPending text.now pending }
-    requires clean { span.is_clean ≡ true → AreClean text.now pending.to span.start entry.now.gap }
+    requires canonical { span.is_canonical ≡ true
+        → AreCanonical text.now pending.to span.start entry.now.gap }
     requires order { pending.to ≤ span.start }
     requires stands { Stands text.now (lexeme_of entry.now.lexeme) span.start span.end }
     requires first { IsUtf8 (drop span.start text.now) }
     ensures { IfOk result (λ now. Puts text.now pending now span.start
         (string_bytes out.old) (string_bytes out.new) (gap_text_from before placed)) }
 {
-    if span.is_clean && stays(before, entry.gap, placed) {
+    if span.is_canonical && stays(before, entry.gap, placed) {
         return Ok(pending.from);
     }
     put_other_gap(out, text, pending, span.start, before, placed)?;
@@ -211,7 +212,8 @@ pub(crate) fn put_entry(
     placed: Gap,
 ) -> Result<usize, AllocError>
     requires pending { IsPending text.now pending }
-    requires clean { span.is_clean ≡ true → AreClean text.now pending.to span.start entry.now.gap }
+    requires canonical { span.is_canonical ≡ true
+        → AreCanonical text.now pending.to span.start entry.now.gap }
     requires order { pending.to ≤ span.start }
     requires stands { Stands text.now (lexeme_of entry.now.lexeme) span.start span.end }
     requires first { IsUtf8 (drop span.start text.now) }

@@ -3,7 +3,7 @@
 ghost use Rattle.std.specs.Prelude.{◌≡◌, ◌==◌, ◌+◌, ◌<◌, ◌≤◌, ◌^◌, IfSome, IsUtf8, drop, length};
 ghost use Rattle.std.specs.List.{prefix_len};
 ghost use Rattle.isle_base.specs.Skips.{is_blank};
-ghost use Rattle.isle_tidy_core.specs.Finds.{FindsBlanks, FindsCleanBlanks, FindsCleanGap};
+ghost use Rattle.isle_tidy_core.specs.Finds.{FindsBlanks, FindsCanonicalBlanks, FindsCanonicalGap};
 ghost use Rattle.isle_tidy_core.specs.Finds.{FindsEntry};
 ghost use Rattle.isle_tidy_core.specs.Sizes.{size_of};
 ghost use Rattle.isle_tidy_layout.specs.declared.entries.Gap.TheVariants.{Beside};
@@ -22,7 +22,7 @@ pub struct Blanks {
     /// The byte offset after them.
     pub end: usize,
     /// Whether they are known to be canonical.
-    pub are_clean: bool,
+    pub are_canonical: bool,
 }
 
 /// The place of an entry.
@@ -33,7 +33,7 @@ pub struct Span {
     /// The byte offset after its lexeme.
     pub end: usize,
     /// Whether the blanks before it are known to be canonical.
-    pub is_clean: bool,
+    pub is_canonical: bool,
 }
 
 /// What `step_at` found.
@@ -63,9 +63,9 @@ fn run_end(bytes: &[u8], from: usize, byte: u8) -> usize
 
 /// Reads the blanks at an offset, if they are canonical: line ends, and then spaces.
 #[inline(always)]
-fn clean_blanks_at(bytes: &[u8], from: usize) -> Option<Blanks>
+fn canonical_blanks_at(bytes: &[u8], from: usize) -> Option<Blanks>
     requires { from ≤ length bytes.now }
-    ensures { IfSome result (FindsCleanBlanks bytes.now from) }
+    ensures { IfSome result (FindsCanonicalBlanks bytes.now from) }
 {
     let line = run_end(bytes, from, b'\n');
     let end = run_end(bytes, line, b' ');
@@ -80,7 +80,7 @@ fn clean_blanks_at(bytes: &[u8], from: usize) -> Option<Blanks>
     Some(Blanks {
         gap,
         end,
-        are_clean: true,
+        are_canonical: true,
     })
 }
 
@@ -90,7 +90,7 @@ fn clean_blanks_at(bytes: &[u8], from: usize) -> Option<Blanks>
 pub fn common_width_at(bytes: &[u8], from: usize) -> Option<usize>
     requires { from ≤ length bytes.now }
     ensures { IfSome result (λ width. (from + width < length bytes.now)
-        × FindsCleanGap bytes.now from (Beside width) (from + width)) }
+        × FindsCanonicalGap bytes.now from (Beside width) (from + width)) }
 {
     if from + 1 < bytes.len() {
         if bytes[from] > b' ' {
@@ -124,7 +124,7 @@ fn any_blanks_at(bytes: &[u8], gap: Gap, from: usize) -> Blanks
     Blanks {
         gap: gap_of(gap, &bytes[from..end]),
         end,
-        are_clean: false,
+        are_canonical: false,
     }
 }
 
@@ -137,7 +137,7 @@ fn blanks_at(bytes: &[u8], gap: Gap, from: usize) -> Blanks
     ensures { FindsBlanks bytes.now gap from result }
 {
     if let Gap::Beside(_) = gap {
-        if let Some(blanks) = clean_blanks_at(bytes, from) {
+        if let Some(blanks) = canonical_blanks_at(bytes, from) {
             return blanks;
         }
     }
@@ -162,7 +162,7 @@ pub fn step_at<'src>(text: &'src str, gap: Gap, from: usize) -> Step<'src>
             let span = Span {
                 start: blanks.end,
                 end,
-                is_clean: blanks.are_clean,
+                is_canonical: blanks.are_canonical,
             };
             Step::More(Entry { gap, lexeme }, span)
         }

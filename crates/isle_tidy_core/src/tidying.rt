@@ -13,7 +13,7 @@ ghost use Rattle.isle_tidy_layout.specs.EntriesView.{lexeme_of};
 use crate::check_lexemes::has_document;
 use crate::closings::closings_after;
 use crate::lexemes::lexeme_at;
-use crate::output::{PendingRange, is_simple_at, put_end, put_entry};
+use crate::output::{PendingRange, is_printable_at, put_end, put_entry};
 use crate::parentheses::check_parentheses;
 use crate::reader::{Span, Step, common_width_at, step_at};
 use isle_base::lexer::Fault;
@@ -134,7 +134,7 @@ impl<'src> Tidying<'src> {
         let span = Span {
             start: self.at + width,
             end,
-            is_clean: true,
+            is_canonical: true,
         };
         self.put(out, Entry { gap, lexeme }, span)?;
         Ok(true)
@@ -178,9 +178,9 @@ impl<'src> Tidying<'src> {
     {
         let before = self.placer.before;
         let closings = closings_after(self.text, &entry, span.end);
-        let is_simple = is_simple_at(self.text, &entry.lexeme, span);
+        let is_printable = is_printable_at(self.text, &entry.lexeme, span);
         let (gap, lexeme) = (entry.gap, &entry.lexeme);
-        let placed = self.placer.place(gap, lexeme, closings, is_simple)?;
+        let placed = self.placer.place(gap, lexeme, closings, is_printable)?;
         let pending = PendingRange {
             from: self.pending,
             to: self.at,

@@ -1,5 +1,5 @@
 pub mod Again
 pub mod Prints
-pub mod Simple
+pub mod Printable
 pub mod Stacks
 pub mod Trims

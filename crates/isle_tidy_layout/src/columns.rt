@@ -5,7 +5,7 @@ ghost use Rattle.std.specs.Prelude.{true};
 ghost use Rattle.std.specs.List.{prefix_len};
 ghost use Rattle.std.specs.Simd.Lanes.{mask_l};
 ghost use Rattle.isle_base.specs.Bytes.{space, tab};
-ghost use Rattle.isle_tidy_layout.specs.Columns.{is_simple};
+ghost use Rattle.isle_tidy_layout.specs.Columns.{is_printable};
 ghost use Rattle.isle_tidy_layout.specs.Placing.{column_after as column_after_bytes};
 ghost use Rattle.isle_tidy_layout.specs.Placing.{result_column as result_of};
 
@@ -60,7 +60,7 @@ pub fn is_space_or_tab(byte: u8) -> bool
 /// Returns a bit for each byte, set if the byte is not printable ASCII. The lowest is the first's.
 #[inline(always)]
 fn misses(bytes: u8x32) -> u64
-    ensures { result ≡ mask_l (map (λ byte. not (is_simple byte)) bytes) }
+    ensures { result ≡ mask_l (map (λ byte. not (is_printable byte)) bytes) }
 {
     let misses = bytes.simd_lt(u8x32::splat(b' ')) | bytes.simd_ge(u8x32::splat(127));
     misses.to_bitmask()
@@ -68,20 +68,20 @@ fn misses(bytes: u8x32) -> u64
 
 /// Returns whether a byte is printable ASCII, from the space to `~`.
 #[inline(always)]
-#[tactic(auto, unfolding(crate::specs::Columns::is_simple))]
-fn is_simple_byte(byte: u8) -> bool
-    ensures { result ≡ is_simple byte }
+#[tactic(auto, unfolding(crate::specs::Columns::is_printable))]
+fn is_printable_byte(byte: u8) -> bool
+    ensures { result ≡ is_printable byte }
 {
     b' ' <= byte && byte <= b'~'
 }
 
 /// Finds the first byte at or after `from` that is not printable ASCII, byte by byte.
-fn simple_end(bytes: &[u8], from: usize) -> usize
+fn printable_end(bytes: &[u8], from: usize) -> usize
     requires { from ≤ length bytes.now }
-    ensures { result ≡ from + prefix_len is_simple (drop from bytes.now) }
+    ensures { result ≡ from + prefix_len is_printable (drop from bytes.now) }
 {
     let mut at = from;
-    while at < bytes.len() && is_simple_byte(bytes[at]) {
+    while at < bytes.len() && is_printable_byte(bytes[at]) {
         at += 1;
     }
     at
@@ -89,15 +89,15 @@ fn simple_end(bytes: &[u8], from: usize) -> usize
 
 /// Returns `true` only if all bytes between two offsets are printable ASCII, one column each.
 #[inline(always)]
-pub fn are_simple(bytes: &[u8], from: usize, to: usize) -> bool
+pub fn are_printable(bytes: &[u8], from: usize, to: usize) -> bool
     requires order { from ≤ to }
     requires within { to ≤ length bytes.now }
-    ensures { result ≡ true → to ≤ from + prefix_len is_simple (drop from bytes.now) }
+    ensures { result ≡ true → to ≤ from + prefix_len is_printable (drop from bytes.now) }
 {
     let mut at = from;
     while at < to {
         if bytes.len() - at < LANES {
-            return to <= simple_end(bytes, at);
+            return to <= printable_end(bytes, at);
         }
         let misses = misses(u8x32::from_slice(&bytes[at..]));
         if misses != 0 {

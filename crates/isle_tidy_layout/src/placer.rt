@@ -2,7 +2,7 @@
 
 ghost use Rattle.std.specs.Prelude.{◌≡◌, ◌+◌, ◌<◌, ◌≤◌, ◌^◌, ◌∷◌, ◌++◌, ℕ, List, [], IfOk, Some};
 ghost use Rattle.std.specs.Prelude.{length, suc, true};
-ghost use Rattle.isle_tidy_layout.specs.Columns.{IsSimple};
+ghost use Rattle.isle_tidy_layout.specs.Columns.{IsPrintable};
 ghost use Rattle.isle_tidy_layout.specs.Entries.{Entry as EntryNode};
 ghost use Rattle.isle_tidy_layout.specs.EntriesView.{lexeme_of};
 ghost use Rattle.isle_tidy_layout.specs.Placing.{Here, OpenList, at_most_two as two_at_most};
@@ -135,12 +135,12 @@ pub fn trimmed(text: &str) -> &str
     ""
 }
 
-/// Returns the columns after a lexeme that begins at `at`. With `is_simple` its bytes are known
+/// Returns the columns after a lexeme that begins at `at`. With `is_printable` its bytes are known
 /// to be printable ASCII.
 #[inline(always)]
-fn after(at: Columns, lexeme: &Lexeme, is_simple: bool) -> Result<Columns, AllocError>
+fn after(at: Columns, lexeme: &Lexeme, is_printable: bool) -> Result<Columns, AllocError>
     requires small { IsSmall at }
-    requires simple { is_simple ≡ true → IsSimple (lexeme_of lexeme.now) }
+    requires printable { is_printable ≡ true → IsPrintable (lexeme_of lexeme.now) }
     ensures { IfOk result (λ r. IsSmall r × (r ≡ record {
       source = column_after_of at.source (spelling (lexeme_of lexeme.now));
       result = column_after_of at.result (spelling (tidied (lexeme_of lexeme.now)));
@@ -150,7 +150,7 @@ fn after(at: Columns, lexeme: &Lexeme, is_simple: bool) -> Result<Columns, Alloc
         Lexeme::Opening | Lexeme::Closing | Lexeme::At => moved(at, 1, 1),
         Lexeme::Atom(text) => {
             let bytes = text.as_bytes();
-            if is_simple {
+            if is_printable {
                 return moved(at, bytes.len(), bytes.len());
             }
             small(
@@ -160,7 +160,7 @@ fn after(at: Columns, lexeme: &Lexeme, is_simple: bool) -> Result<Columns, Alloc
         }
         Lexeme::LineComment(text) => {
             let kept = trimmed(text);
-            if is_simple {
+            if is_printable {
                 return moved(at, text.len() + 1, kept.len() + 1);
             }
             small(
@@ -250,9 +250,9 @@ impl Placer {
 
     /// Goes past a lexeme.
     #[inline(always)]
-    fn pass(&mut self, lexeme: &Lexeme, is_simple: bool) -> Result<(), AllocError>
+    fn pass(&mut self, lexeme: &Lexeme, is_printable: bool) -> Result<(), AllocError>
         requires here { (here : Here) × IsAt self.old here }
-        requires simple { is_simple ≡ true → IsSimple (lexeme_of lexeme.now) }
+        requires printable { is_printable ≡ true → IsPrintable (lexeme_of lexeme.now) }
         ensures { (here : Here) → IsAt self.old here
             → IfOk result (λ _. IsAt self.new (passed here (lexeme_of lexeme.now))) }
     {
@@ -285,14 +285,14 @@ impl Placer {
             }
             Lexeme::LineComment(_) | Lexeme::BlockComment(_) => {}
         }
-        self.end = after(self.end, lexeme, is_simple)?;
+        self.end = after(self.end, lexeme, is_printable)?;
         self.before = Kind::of(lexeme);
         Ok(())
     }
 
     /// Places the next entry, and returns its gap in the result.
     ///
-    /// `closings` is the number of `)` that follow the entry on its line. `is_simple` may be
+    /// `closings` is the number of `)` that follow the entry on its line. `is_printable` may be
     /// `true` only if all bytes of the entry are printable ASCII. That is faster.
     ///
     /// Fails if memory runs out, or if a line is 2^62 columns long. The placer is of no use then.
@@ -302,10 +302,10 @@ impl Placer {
         gap: Gap,
         lexeme: &Lexeme,
         closings: usize,
-        is_simple: bool,
+        is_printable: bool,
     ) -> Result<Gap, AllocError>
         requires here { (here : Here) × IsAt self.old here }
-        requires simple { is_simple ≡ true → IsSimple (lexeme_of lexeme.now) }
+        requires printable { is_printable ≡ true → IsPrintable (lexeme_of lexeme.now) }
         ensures { (here : Here) → IsAt self.old here → IfOk result (λ placed.
             let kind = kind_of (lexeme_of lexeme.now) in
             (placed ≡ placed_gap here gap kind closings)
@@ -314,7 +314,7 @@ impl Placer {
         let kind = Kind::of(lexeme);
         let placed = self.gap(gap, kind, closings);
         self.reach(kind, gap, placed)?;
-        self.pass(lexeme, is_simple)?;
+        self.pass(lexeme, is_printable)?;
         Ok(placed)
     }
 }

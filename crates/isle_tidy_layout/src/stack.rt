@@ -35,7 +35,7 @@ pub struct Opened {
 
 fn right_of(n: usize, columns: Columns) -> Columns
     requires small { IsSmall columns }
-    requires near { n ≤ 4 }
+    requires few { n ≤ 4 }
     ensures { result ≡ right_of_column n columns }
 {
     Columns {

@@ -6,4 +6,4 @@ use Rattle.isle_tidy_core.proofs.output.put_gap.Goals as goal
 pub returns-then-stays : goal.returns-then-stays
 returns-then-stays c =
     puts_nothing c.args.text.now c.args.pending c.args.span.start (string_bytes c.args.out.now) (gap_text_from c.args.before c.args.placed) c.requires.pending c.requires.order
-    (c.requires.clean c.if-span.true ∙ c.stays.ensures c.if-stays.true)
+    (c.requires.canonical c.if-span.true ∙ c.stays.ensures c.if-stays.true)

@@ -4,7 +4,7 @@ use Rattle.std.proofs.lemmas.Bool.{cond_both, eqb-true, ne_eqb}
 use Rattle.std.proofs.lemmas.List.{drop_all, drop_more}
 use Rattle.std.specs.List.{prefix_len, list_all}
 use Rattle.isle_base.specs.Skips.{begins_with, is_blank}
-use Rattle.isle_tidy_core.specs.Finds.{AreClean, FindsGap, part}
+use Rattle.isle_tidy_core.specs.Finds.{AreCanonical, FindsGap, part}
 use Rattle.isle_tidy_core.specs.Grammar.{gap_of}
 use Rattle.isle_tidy_core.proofs.Pending.{part_joined, part_none}
 use Rattle.isle_tidy_core.proofs.Keeps.{spaces_beside, spaces_blank, indentation_blank, indentation_gap, is_blank-10}
@@ -39,19 +39,19 @@ blanks_stop text at short h = ap (begins_with is_blank) (drop_more text at 0 sho
 pub text_stops : (text : List ℕ) (at : ℕ) → length text ≤ at → begins_with is_blank (drop at text) ≡ false
 text_stops text at h = ap (begins_with is_blank) (drop_all at text h)
 
-finds_clean : (text : List ℕ) (from to : ℕ) (gap : Gap) → from ≤ to → to ≤ length text → begins_with is_blank (drop to text) ≡ false → part text from to ≡ gap_text gap → list_all is_blank (gap_text gap) ≡ true → gap ≡ gap_of (Beside 0) (gap_text gap) → FindsGap text (Beside 0) from gap to × AreClean text from to gap
-finds_clean text from to gap order within stops e blank read =
+finds_canonical : (text : List ℕ) (from to : ℕ) (gap : Gap) → from ≤ to → to ≤ length text → begins_with is_blank (drop to text) ≡ false → part text from to ≡ gap_text gap → list_all is_blank (gap_text gap) ≡ true → gap ≡ gap_of (Beside 0) (gap_text gap) → FindsGap text (Beside 0) from gap to × AreCanonical text from to gap
+finds_canonical text from to gap order within stops e blank read =
     ((gap_text gap, record { split = split_at text from to order ∙ ap (λ xs. xs ++ drop to text) e; each = blank; stops = stops }, read, order, within), e)
 
 -- spaces alone
-pub clean_beside : (text : List ℕ) (from to : ℕ) → to ≤ length text → to ≡ from + prefix_len (λ x. eqb x 32) (drop from text) → begins_with is_blank (drop to text) ≡ false → FindsGap text (Beside 0) from (Beside (to - from)) to × AreClean text from to (Beside (to - from))
-clean_beside text from to within e stops =
+pub canonical_beside : (text : List ℕ) (from to : ℕ) → to ≤ length text → to ≡ from + prefix_len (λ x. eqb x 32) (drop from text) → begins_with is_blank (drop to text) ≡ false → FindsGap text (Beside 0) from (Beside (to - from)) to × AreCanonical text from to (Beside (to - from))
+canonical_beside text from to within e stops =
     let order : from ≤ to = omega (arith, e) in
-    finds_clean text from to (Beside (to - from)) order within stops (run_replicated text from to 32 e) (spaces_blank (to - from)) (sym (spaces_beside 0 (to - from) ∙ ap Beside (omega arith)))
+    finds_canonical text from to (Beside (to - from)) order within stops (run_replicated text from to 32 e) (spaces_blank (to - from)) (sym (spaces_beside 0 (to - from) ∙ ap Beside (omega arith)))
 
 -- line ends, and then spaces
-pub clean_below : (text : List ℕ) (from line to : ℕ) → to ≤ length text → line ≡ from + prefix_len (λ x. eqb x 10) (drop from text) → to ≡ line + prefix_len (λ x. eqb x 32) (drop line text) → from < line → begins_with is_blank (drop to text) ≡ false → FindsGap text (Beside 0) from (Below (line - from - 1) (to - line)) to × AreClean text from to (Below (line - from - 1) (to - line))
-clean_below text from line to within e f some stops =
+pub canonical_below : (text : List ℕ) (from line to : ℕ) → to ≤ length text → line ≡ from + prefix_len (λ x. eqb x 10) (drop from text) → to ≡ line + prefix_len (λ x. eqb x 32) (drop line text) → from < line → begins_with is_blank (drop to text) ≡ false → FindsGap text (Beside 0) from (Below (line - from - 1) (to - line)) to × AreCanonical text from to (Below (line - from - 1) (to - line))
+canonical_below text from line to within e f some stops =
     let empty = line - from - 1 in
     let column = to - line in
     let count : line - from ≡ suc empty = omega (arith, some) in
@@ -62,16 +62,16 @@ clean_below text from line to within e f some stops =
     ∙ ap (λ xs. replicate (suc empty) 10 ++ xs) (run_replicated text line to 32 f) in
     let blank : list_all is_blank (gap_text (Below empty column)) ≡ true = rw is_blank-10 (indentation_blank empty column) in
     let read : Below empty column ≡ gap_of (Beside 0) (gap_text (Below empty column)) = sym (indentation_gap 0 empty column ∙ ap (λ k. Below k column) (omega arith)) in
-    finds_clean text from to (Below empty column) (omega (arith, some, order)) within stops is blank read
+    finds_canonical text from to (Below empty column) (omega (arith, some, order)) within stops is blank read
 
 -- one space or none
-pub clean_none : (text : List ℕ) (from to : ℕ) → to ≡ from → from < length text → 32 < get_or text from 0 → FindsGap text (Beside 0) from (Beside 0) to × AreClean text from to (Beside 0)
-clean_none text from to is short h =
-    subst (λ n. FindsGap text (Beside 0) from (Beside 0) n × AreClean text from n (Beside 0)) (sym is)
-    (finds_clean text from from (Beside 0) (omega arith) (omega (arith, short)) (blanks_stop text from short h) (part_none text from) refl refl)
+pub canonical_none : (text : List ℕ) (from to : ℕ) → to ≡ from → from < length text → 32 < get_or text from 0 → FindsGap text (Beside 0) from (Beside 0) to × AreCanonical text from to (Beside 0)
+canonical_none text from to is short h =
+    subst (λ n. FindsGap text (Beside 0) from (Beside 0) n × AreCanonical text from n (Beside 0)) (sym is)
+    (finds_canonical text from from (Beside 0) (omega arith) (omega (arith, short)) (blanks_stop text from short h) (part_none text from) refl refl)
 
-pub clean_one : (text : List ℕ) (from : ℕ) → from + 1 < length text → get_or text from 0 ≡ 32 → 32 < get_or text (from + 1) 0 → FindsGap text (Beside 0) from (Beside 1) (from + 1) × AreClean text from (from + 1) (Beside 1)
-clean_one text from short is h =
+pub canonical_one : (text : List ℕ) (from : ℕ) → from + 1 < length text → get_or text from 0 ≡ 32 → 32 < get_or text (from + 1) 0 → FindsGap text (Beside 0) from (Beside 1) (from + 1) × AreCanonical text from (from + 1) (Beside 1)
+canonical_one text from short is h =
     let count : from + 1 - from ≡ 1 = omega arith in
     let space : part text from (from + 1) ≡ 32 ∷ [] = ap (λ n. take n (drop from text)) count ∙ ap (take 1) (drop_more text from 0 (omega arith)) ∙ ap (λ b. b ∷ []) is in
-    finds_clean text from (from + 1) (Beside 1) (omega arith) (omega (arith, short)) (blanks_stop text (from + 1) short h) space (spaces_blank 1) (sym (spaces_beside 0 1))
+    finds_canonical text from (from + 1) (Beside 1) (omega arith) (omega (arith, short)) (blanks_stop text (from + 1) short h) space (spaces_blank 1) (sym (spaces_beside 0 1))
