@@ -34,8 +34,10 @@ pub returns-then-has_exited-clause-over : goal.returns-then-has_exited-clause-ov
 returns-then-has_exited-clause-over g c = λ world e m. over _ _ (sym c.has_exited.ensures ∙ c.if-has_exited.true)
 
 pub loop-preserved : goal.loop-preserved
-loop-preserved g c = record { goes_on = sym c.has_exited.ensures ∙ c.if-has_exited.false; runs = λ world e m.
-    runs_on world _ _ _ _ _ (c.loop.invariant.runs world e m) c.loop.invariant.goes_on _ c.in-Ok-Some.body.items _ _ _ (rw c.in-Ok-Some.field-0-is at c.in-Ok-Some.ensures) c.in_ok-answer_message.ensures.ok;
+loop-preserved g c = record {
+  goes_on = sym c.has_exited.ensures ∙ c.if-has_exited.false;
+  runs = λ world e m.
+      runs_on world _ _ _ _ _ (c.loop.invariant.runs world e m) c.loop.invariant.goes_on _ c.in-Ok-Some.body.items _ _ _ (rw c.in-Ok-Some.field-0-is at c.in-Ok-Some.ensures) c.in_ok-answer_message.ensures.ok;
 }
 
 pub returns-clause-err : goal.returns-clause-err
