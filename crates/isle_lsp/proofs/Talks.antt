@@ -1,5 +1,5 @@
 -- One message more of a conversation.
-use Rattle.std.proofs.Common.{◌≡◌, ◌≢◌, ℕ, List, [], ◌∷◌, ◌++◌, length, Option, None, Some, Result, Ok, Err, IfOk, OnOk, String, option_map, option_to_list, string_bytes, refl, sym, ◌∙◌, ap, subst, inl, inr, ◌⊎◌, arith, append_assoc, append-nil}
+use Rattle.std.proofs.Common.{◌≡◌, ◌≢◌, ℕ, List, [], ◌∷◌, ◌++◌, length, true, false, Option, None, Some, Result, Ok, Err, IfOk, OnOk, String, option_map, option_to_list, string_bytes, refl, sym, ◌∙◌, ap, subst, inl, inr, ◌⊎◌, arith, append_assoc, append-nil}
 use Rattle.std.specs.Io.KnownBytes.{Appends}
 use Rattle.std.proofs.KnownBytes.{Appends-trans}
 use Rattle.std.proofs.lemmas.List.{take_all}
@@ -21,7 +21,7 @@ use Rattle.isle_lsp_protocol.specs.declared.machine.Action.{Action}
 use Rattle.isle_lsp_protocol.specs.Decoding.{Decodes, message_in}
 use Rattle.isle_lsp_files.specs.Disks.{Moment, View}
 use Rattle.isle_lsp.specs.Serving.{Held, Sends, Shows, asked, documents_after, folders_after, takes_after}
-use Rattle.isle_lsp.specs.Conversations.{Answers, AnswersAs, AnswersWithin, Conversation, Converses, EndsAs, Explains, FromFault, IsCut, IsEarly, IsOver, IsRefusal, IsShort, Ran, ShowsWithin, StopsAt, World, answered, begun, frames, nothing}
+use Rattle.isle_lsp.specs.Conversations.{Answers, AnswersAs, AnswersWithin, Conversation, Converses, EndsAs, Explains, FromFault, IsCut, IsEarly, IsOver, IsRefusal, IsShort, Ran, ShowsWithin, StopsAt, World, answered, begun, frames, has_exited, nothing}
 
 frames-append : (xs ys : List (List ℕ)) → frames (xs ++ ys) ≡ frames xs ++ frames ys
 frames-append [] ys = refl
@@ -57,6 +57,14 @@ answers_as old new moments left body text before after a w = (Some text, a, subs
 pub stops_at : (old new : Held) (moments : List Moment) (left : Option (List Moment)) (body text : List ℕ) (before after : Option (List ℕ)) → AnswersWithin old moments body new left (Some text) → AppendsBeginning before after (frame text) → StopsAt old moments body before after
 stops_at old new moments left body text before after a w = inr (new, a.0, Some text, a.2, subst (AppendsBeginning before after) (sym (append-nil (frame text))) w)
 
+-- after `exit` the conversation is over
+pub over : (state : State) (input : Option (List ℕ)) → has_exited state ≡ true → IsOver state input
+over Fresh input h = let never : false ≡ true = h in absurd (cc)
+over Running input h = let never : false ≡ true = h in absurd (cc)
+over ShutDown input h = let never : false ≡ true = h in absurd (cc)
+over Ended input h = inl refl
+over Aborted input h = inr (inl refl)
+
 -- how far the conversation has come
 pub record Runs (world : World) (held : Held) (input : Option (List ℕ)) (disk : Option (List Moment)) (before after : Option (List ℕ)) : Type 0 where
   pub rest : World
@@ -79,8 +87,8 @@ explained world before after Memory r s c = c
 explained world before after Output r s c = absurd r
 
 module _ (world : World) (old : Held) (input : Option (List ℕ)) (disk : Option (List Moment)) (before after : Option (List ℕ)) (so_far : Runs world old input disk before after) where
-  pub runs_on : (new : Held) (body : List ℕ) (input' : Option (List ℕ)) (disk' : Option (List Moment)) (after' : Option (List ℕ)) → ((rest : List ℕ) → input ≡ Some rest → (left : List ℕ) × (input' ≡ Some left) × (frame_at rest ≡ Ok (Some body, left))) → ((moments : List Moment) → disk ≡ Some moments → AnswersAs old moments body new disk' after after') → Runs world new input' disk' before after'
-  runs_on new body input' disk' after' read more =
+  pub runs_on : has_exited old.state ≡ false → (new : Held) (body : List ℕ) (input' : Option (List ℕ)) (disk' : Option (List Moment)) (after' : Option (List ℕ)) → ((rest : List ℕ) → input ≡ Some rest → (left : List ℕ) × (input' ≡ Some left) × (frame_at rest ≡ Ok (Some body, left))) → ((moments : List Moment) → disk ≡ Some moments → AnswersAs old moments body new disk' after after') → Runs world new input' disk' before after'
+  runs_on goes_on new body input' disk' after' read more =
       let r = read so_far.rest.bytes so_far.left in
       let m = more so_far.rest.moments so_far.shown in
       record {
@@ -88,7 +96,7 @@ module _ (world : World) (old : Held) (input : Option (List ℕ)) (disk : Option
         texts = so_far.texts ++ option_to_list m.0;
         left = r.1;
         shown = m.1.1;
-        conversation = answered so_far.conversation r.2 m.1.2;
+        conversation = answered so_far.conversation goes_on r.2 m.1.2;
         written = subst (Appends before after') (sym (frames-append so_far.texts (option_to_list m.0))) (Appends-trans before after after' _ _ so_far.written m.2);
       }
 
@@ -107,16 +115,16 @@ module _ (world : World) (old : Held) (input : Option (List ℕ)) (disk : Option
   pub cut : IsCut world before after
   cut = record { held = old; rest = so_far.rest; texts = so_far.texts; conversation = so_far.conversation; written = whole _ so_far.written }
 
-  pub cut_within : (body : List ℕ) (input' after' : Option (List ℕ)) → ((rest : List ℕ) → input ≡ Some rest → (left : List ℕ) × (input' ≡ Some left) × (frame_at rest ≡ Ok (Some body, left))) → StopsAt old so_far.rest.moments body after after' → IsCut world before after'
-  cut_within body input' after' read (inl none) =
+  pub cut_within : has_exited old.state ≡ false → (body : List ℕ) (input' after' : Option (List ℕ)) → ((rest : List ℕ) → input ≡ Some rest → (left : List ℕ) × (input' ≡ Some left) × (frame_at rest ≡ Ok (Some body, left))) → StopsAt old so_far.rest.moments body after after' → IsCut world before after'
+  cut_within goes_on body input' after' read (inl none) =
       record { held = old; rest = so_far.rest; texts = so_far.texts; conversation = so_far.conversation; written = subst (AppendsBeginning before after') (append-nil (frames so_far.texts)) (AppendsBeginning-behind before after after' (frames so_far.texts) [] so_far.written none) }
-  cut_within body input' after' read (inr part) =
+  cut_within goes_on body input' after' read (inr part) =
       let r = read so_far.rest.bytes so_far.left in
       record {
         held = part.0;
         rest = record { bytes = r.0; moments = part.1 };
         texts = so_far.texts ++ option_to_list part.2;
-        conversation = answered so_far.conversation r.2 part.3;
+        conversation = answered so_far.conversation goes_on r.2 part.3;
         written = subst (AppendsBeginning before after') (sym (frames-append so_far.texts (option_to_list part.2))) (AppendsBeginning-behind before after after' (frames so_far.texts) (frames (option_to_list part.2)) so_far.written part.4);
       }
 
@@ -130,11 +138,11 @@ module _ (world : World) (old : Held) (input : Option (List ℕ)) (disk : Option
   explains_fault faults.Unreadable failure f read = subst (λ x. Explains x world before after) (sym f) cut
   explains_fault faults.Memory failure f read = subst (λ x. Explains x world before after) (sym f) cut
 
-  pub explains_answer : (failure : Failure) (body : List ℕ) (input' after' : Option (List ℕ)) → (failure ≡ Memory) ⊎ (failure ≡ Output) → ((rest : List ℕ) → input ≡ Some rest → (left : List ℕ) × (input' ≡ Some left) × (frame_at rest ≡ Ok (Some body, left))) → ((moments : List Moment) → disk ≡ Some moments → StopsAt old moments body after after') → Explains failure world before after'
-  explains_answer failure body input' after' (inl m) read s =
-      subst (λ x. Explains x world before after') (sym m) (cut_within body input' after' read (s so_far.rest.moments so_far.shown))
-  explains_answer failure body input' after' (inr m) read s =
-      subst (λ x. Explains x world before after') (sym m) (cut_within body input' after' read (s so_far.rest.moments so_far.shown))
+  pub explains_answer : has_exited old.state ≡ false → (failure : Failure) (body : List ℕ) (input' after' : Option (List ℕ)) → (failure ≡ Memory) ⊎ (failure ≡ Output) → ((rest : List ℕ) → input ≡ Some rest → (left : List ℕ) × (input' ≡ Some left) × (frame_at rest ≡ Ok (Some body, left))) → ((moments : List Moment) → disk ≡ Some moments → StopsAt old moments body after after') → Explains failure world before after'
+  explains_answer goes_on failure body input' after' (inl m) read s =
+      subst (λ x. Explains x world before after') (sym m) (cut_within goes_on body input' after' read (s so_far.rest.moments so_far.shown))
+  explains_answer goes_on failure body input' after' (inr m) read s =
+      subst (λ x. Explains x world before after') (sym m) (cut_within goes_on body input' after' read (s so_far.rest.moments so_far.shown))
 
 -- ---- the status
 

@@ -1,5 +1,5 @@
 -- Whole conversations: which bytes are written for the bytes that are read and for what the disk shows.
-use Rattle.std.specs.Prelude.{◌≡◌, ◌≢◌, ◌⊎◌, ℕ, List, [], ◌∷◌, ◌++◌, false, Option, Some, Ok, Err, option_to_list}
+use Rattle.std.specs.Prelude.{◌≡◌, ◌≢◌, ◌⊎◌, ℕ, List, [], ◌∷◌, ◌++◌, Bool, true, false, Option, Some, Ok, Err, option_to_list}
 use Rattle.std.specs.Io.KnownBytes.{Appends}
 use Rattle.serde_json.specs.Data.{Data}
 use Rattle.isle_cli.specs.Failure.{status_of}
@@ -42,11 +42,19 @@ pub record World : Type 0 where
   pub bytes : List ℕ
   pub moments : List Moment
 
--- From this world, one message after another was answered, and these texts were sent; this is left of it.
+-- whether `exit` has come
+abbrev pub has_exited : State → Bool
+has_exited Fresh = false
+has_exited Running = false
+has_exited ShutDown = false
+has_exited Ended = true
+has_exited Aborted = true
+
+-- From this world, one message after another was answered, and these texts were sent; this is left of it. After `exit` no message is read.
 pub data Conversation (world : World) : Held → World → List (List ℕ) → Type 0 where
   begun : Conversation world nothing world []
   answered : {old : Held} {rest : World} {texts : List (List ℕ)} {body after : List ℕ} {new : Held} {later : List Moment} {sent : Option (List ℕ)} →
-      Conversation world old rest texts → frame_at rest.bytes ≡ Ok (Some body, after) → Answers old rest.moments body new later sent →
+      Conversation world old rest texts → has_exited old.state ≡ false → frame_at rest.bytes ≡ Ok (Some body, after) → Answers old rest.moments body new later sent →
       Conversation world new (record { bytes = after; moments = later }) (texts ++ option_to_list sent)
 
 -- The conversation ended in this state; everything sent was written in full, and nothing else.

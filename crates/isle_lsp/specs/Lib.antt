@@ -1,3 +1,4 @@
+pub mod CommandLine
 pub mod Conversations
 pub mod Diagnostics
 pub mod Formatted

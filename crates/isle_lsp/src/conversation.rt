@@ -6,7 +6,7 @@ ghost use Rattle.serde_json.specs.View.{view};
 ghost use Rattle.isle_cli.specs.declared.failure.Failure.TheVariants.{Memory, Output};
 ghost use Rattle.isle_lsp.specs.Conversations.{AnswersAs, AnswersWithin, Converses, EndsAs};
 ghost use Rattle.isle_lsp.specs.Conversations.{Explains, FromFault, IsOver, IsRefusal, Ran};
-ghost use Rattle.isle_lsp.specs.Conversations.{ShowsWithin, StopsAt, World};
+ghost use Rattle.isle_lsp.specs.Conversations.{ShowsWithin, StopsAt, World, has_exited};
 ghost use Rattle.isle_lsp_files.specs.Disks.{Moment, view_of};
 ghost use Rattle.isle_lsp.specs.Serving.{asked, held_of, named_uri};
 
@@ -88,11 +88,21 @@ fn main_loop<D: Disk, I: BufRead, W: Write>(
             Err(fault) => return Err(failure_of(alloc, fault)),
         };
         answer_message(alloc, disk, &mut server, &mut gathered, body, output)?;
-        if matches!(server.state, State::Ended | State::Aborted) {
+        if has_exited(server.state) {
             return Ok(server.state);
         }
     }
     Err(Failure::Input)
+}
+
+/// Returns whether `exit` has come.
+fn has_exited(state: State) -> bool
+    ensures { result ≡ has_exited state }
+{
+    match state {
+        State::Fresh | State::Running | State::ShutDown => false,
+        State::Ended | State::Aborted => true,
+    }
 }
 
 /// Handles a message, and writes the answer, if any.

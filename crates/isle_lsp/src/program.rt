@@ -1,6 +1,8 @@
 //! The command line of the program.
 
-ghost use Rattle.std.specs.Prelude.{◌≡◌, ◌≤◌, Some, length, true};
+ghost use Rattle.std.specs.Prelude.{◌≡◌, ◌≤◌, ◌⊎◌, Some, map, string_bytes, true};
+ghost use Rattle.isle_cli.specs.Streams.{AppendsBeginning};
+ghost use Rattle.isle_lsp.specs.CommandLine.{AreNone, AreWrong, asks_nothing, usage};
 ghost use Rattle.isle_lsp.specs.Conversations.{Converses, World};
 
 use crate::conversation::converse;
@@ -18,12 +20,6 @@ pub const PROGRAM: Program = Program {
     usage: "usage: isle-lsp [--stdio | --help | --version]\n",
     help: HELP,
     version: VERSION,
-};
-
-/// Its options.
-const OPTIONS: Options = Options {
-    flags: &[],
-    settings: &[],
 };
 
 /// The version.
@@ -50,6 +46,23 @@ Exit status:
   5  the output cannot be written
 ";
 
+/// This program, so that clauses can name it.
+fn this_program() -> Program
+    ensures { result.usage.now ≡ usage }
+{
+    PROGRAM
+}
+
+/// Its own options.
+fn own_options() -> Options
+    ensures { AreNone result }
+{
+    Options {
+        flags: &[],
+        settings: &[],
+    }
+}
+
 /// Serves an editor, and returns the exit status.
 ///
 /// | Status | When |
@@ -69,29 +82,31 @@ pub fn run<D: Disk, I: BufRead, W: Write, E: Write>(
     faults: &mut E,
 ) -> u8
     ensures statuses { result ≤ 5 }
-    ensures told { length words.now ≡ 0 → (world : World)
+    ensures told { asks_nothing (map string_bytes words.now) ≡ true → (world : World)
         → I.remaining input.old ≡ Some world.bytes → D.moments disk.old ≡ Some world.moments
         → Converses world result
         (I.remaining input.new) (W.contents output.old) (W.contents output.new) }
+    ensures wrong { AreWrong (map string_bytes words.now) → (result ≡ 4) ⊎ ((result ≡ 2)
+        × AppendsBeginning (E.contents faults.old) (E.contents faults.new) usage) }
 {
     if asks_nothing(words) {
         return converse(alloc, disk, input, output, faults);
     }
-    match requested(alloc, &OPTIONS, words) {
-        Ok(Request::Help) => tell(&PROGRAM, PROGRAM.help, output, faults),
-        Ok(Request::Version) => tell(&PROGRAM, PROGRAM.version, output, faults),
-        Ok(Request::Work(_)) => report(&PROGRAM, &Failure::Usage, faults),
-        Err(failure) => report(&PROGRAM, &failure, faults),
+    let (program, options) = (this_program(), own_options());
+    match requested(alloc, &options, words) {
+        Ok(Request::Help) => tell(&program, PROGRAM.help, output, faults),
+        Ok(Request::Version) => tell(&program, PROGRAM.version, output, faults),
+        Ok(Request::Work(_)) => report(&program, &Failure::Usage, faults),
+        Err(failure) => report(&program, &failure, faults),
     }
 }
 
 /// Returns whether the words ask to serve an editor.
 fn asks_nothing(words: &[String]) -> bool
-    ensures { length words.now ≡ 0 → result ≡ true }
+    ensures { result ≡ asks_nothing (map string_bytes words.now) }
 {
-    match words {
-        [] => true,
-        [word] => word.as_str() == "--stdio",
-        _ => false,
+    match words.split_first() {
+        Some((word, later)) => word.as_str() == "--stdio" && later.is_empty(),
+        None => true,
     }
 }

@@ -58,7 +58,7 @@ abbrev pub FindsAt : requests.Request → List Text → List SeenNode → Place 
 FindsAt AskDefinition program all p message d = IsDefinition program (name_at p.pos all) all d
 FindsAt References program all p message d = AreReferences program (wants_definitions message) (name_at p.pos all) all d
 FindsAt DocumentHighlight program all p message d = AreHighlights p.pos.file p.text (name_at p.pos all) all d
-FindsAt PrepareRename program all p message d = d ≡ renamed.prepared p.text (name_at p.pos all) (occurrence_at p.pos all)
+FindsAt PrepareRename program all p message d = d ≡ renamed.prepared p.text (renamed.renamable (name_at p.pos all) all) (occurrence_at p.pos all)
 FindsAt Hover program all p message d = IsHover program p.text (name_at p.pos all) (occurrence_at p.pos all) all d
 FindsAt Completion program all p message d = AreCompletions p.pos p.text all d
 FindsAt _ program all p message d = Unit {0}

@@ -6,6 +6,8 @@ use Rattle.serde_json.specs.View.{items_of}
 use Rattle.isle_lsp_features.specs.Programs.{Text}
 use Rattle.isle_base_source.specs.declared.pos.Pos.{Pos}
 use Rattle.isle_index.specs.Names.{NameNode, global, variable, name_text}
+use Rattle.isle_index.specs.Renaming.{can_be_renamed}
+use Rattle.isle_index.specs.Scopes.{SeenNode}
 use Rattle.isle_index.specs.declared.occurrences.Occurrence.{Occurrence}
 use Rattle.isle_index.specs.declared.rename.Refusal.{Refusal}
 use Rattle.isle_index.specs.declared.rename.Refusal.TheVariants.{NotAName, Undefined, Variant, Taken, Captured}
@@ -84,6 +86,11 @@ plain_changes program name new places = plain_edit (with_changes 0 program name 
 abbrev pub changes : (takes_document_changes : Bool) → List Text → NameNode → List ℕ → List Pos → Data
 changes true program name new places = document_changes program name new places
 changes false program name new places = plain_changes program name new places
+
+-- a name, if it can be renamed at all
+abbrev pub renamable : Option NameNode → List SeenNode → Option NameNode
+renamable None all = None
+renamable (Some name) all = if can_be_renamed name all then Some name else None
 
 -- the range of the name at a place; null if there is none
 abbrev pub prepared : List ℕ → Option NameNode → Option Occurrence → Data

@@ -34,15 +34,33 @@ use std::alloc::{AllocError, Global};
 /// The message where a rename would edit a text that other programs share.
 const SHARED: &str = "the name is used in a file that other programs share: rename it there";
 
-/// The range of the name at a place, or null if there is none.
+/// The range of the name at a place, or null if there is none that can be renamed.
 pub fn prepare(alloc: Global, index: &Index, place: Place) -> Result<Value, AllocError>
     ensures { let all = all_in index.now in IfOk result (λ value. view value
-        ≡ wanted.prepared place.entry.text.now (name_at place.entry.pos all)
+        ≡ wanted.prepared place.entry.text.now
+        (wanted.renamable (name_at place.entry.pos all) all)
         (occurrence_at place.entry.pos all)) }
 {
-    match index.name_at(alloc, place.pos)? {
+    match renamable_at(alloc, index, place.pos)? {
         Some(name) => name_range(alloc, place.text, &name, index.occurrence_at(place.pos)),
         None => Ok(Value::Null),
+    }
+}
+
+/// The name at a position, if it can be renamed at all.
+fn renamable_at(alloc: Global, index: &Index, pos: Pos) -> Result<Option<Name>, AllocError>
+    ensures { let all = all_in index.now in IfOk result (λ name. option_map named_of name
+        ≡ wanted.renamable (name_at pos all) all) }
+{
+    match index.name_at(alloc, pos)? {
+        Some(name) => {
+            if index.can_be_renamed(alloc, &name)? {
+                Ok(Some(name))
+            } else {
+                Ok(None)
+            }
+        }
+        None => Ok(None),
     }
 }
 

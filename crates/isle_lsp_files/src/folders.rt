@@ -11,6 +11,7 @@ use isle_program_manifest::manifest::{Manifest, ManifestFault, ProgramFiles, man
 use isle_program_manifest::membership::has_file;
 use isle_program_manifest::patterns::covers;
 use std::alloc::{AllocError, Global};
+use std::collections::HashMap;
 use std::fs::{Files, canonicalize};
 use std::io::ErrorKind;
 
@@ -410,37 +411,38 @@ fn is_visible(folder: &str, path: &str) -> bool {
     }
 }
 
-/// A term that a file of a folder declares.
-#[derive(Clone, Copy)]
-struct Declared<'a> {
-    name: &'a str,
-    folder: &'a str,
-}
-
 /// Returns whether two files declare one term, neither of which is in a folder above the other's.
 /// Declarations are the lines that begin with `(decl `.
 fn declares_twice(alloc: Global, texts: &[FolderText]) -> Result<bool, AllocError> {
-    let mut all = Vec::new(alloc);
+    let mut folders = HashMap::new(alloc);
     for text in texts {
         let folder = folder_of(text.path);
         for line in text.text.lines() {
             if let Some(name) = declared_name(line) {
-                all.push(Declared { name, folder })?;
+                if !is_declared_in(&mut folders, name, folder)? {
+                    return Ok(true);
+                }
             }
         }
     }
-    all.sort_by(|a, b| a.name.cmp(b.name).then(a.folder.cmp(b.folder)))?;
-    let mut last = Declared {
-        name: "",
-        folder: "",
-    };
-    for declared in &all {
-        if declared.name == last.name && !is_above(last.folder, declared.folder) {
-            return Ok(true);
-        }
-        last = *declared;
-    }
     Ok(false)
+}
+
+/// Notes that a file of a folder declares a term. Of each term the deepest such folder so far is
+/// held. Returns whether that is the same folder as this one, or above it, or below it.
+fn is_declared_in<'a>(
+    folders: &mut HashMap<&'a str, &'a str>,
+    name: &'a str,
+    folder: &'a str,
+) -> Result<bool, AllocError> {
+    match folders.get(name).copied() {
+        Some(deepest) if is_above(folder, deepest) => Ok(true),
+        Some(deepest) if !is_above(deepest, folder) => Ok(false),
+        _ => {
+            folders.insert(name, folder)?;
+            Ok(true)
+        }
+    }
 }
 
 /// The name that a line declares.
