@@ -1,5 +1,5 @@
 -- What the program does, to streams whose bytes are known or not, before and after.
-use Rattle.std.specs.Prelude.{◌≡◌, ◌≢◌, ◌⊎◌, ℕ, List, [], Option, map, string_bytes}
+use Rattle.std.specs.Prelude.{◌≡◌, ◌≢◌, ◌≤◌, ◌⊎◌, ℕ, List, [], Option, map, string_bytes}
 use Rattle.std.specs.Io.KnownBytes.{Appends, Keeps}
 use Rattle.isle_base_source.specs.Source.{Source}
 use Rattle.isle_cli.specs.Arguments.{Asked, Given, help_asked, name_list, stdin_name, version_asked, work_asked}
@@ -120,3 +120,24 @@ abbrev pub CutsAsked : Program → Asked → (input input' output output' : Opti
 CutsAsked program help_asked input input' output output' = Keeps input input' × AppendsBeginning output output' HELP.now
 CutsAsked program version_asked input input' output output' = Keeps input input' × AppendsBeginning output output' VERSION.now
 CutsAsked program (work_asked given) input input' output output' = Cuts program given input input' output output'
+
+-- Of some texts, those of a program of a manifest, the output got the print of the expansion.
+abbrev pub ExpandsTexts : List Given → (output output' : Option (List ℕ)) → Type 0
+ExpandsTexts given output output' = (sources : List Source) × GivesWidth given × Writes output output' (IsPrintOfExpansion (given_width given) sources)
+
+-- the output got a beginning of it
+abbrev pub CutsTexts : List Given → (output output' : Option (List ℕ)) → Type 0
+CutsTexts given output output' = (sources : List Source) × GivesWidth given × WritesBeginning output output' (IsPrintOfExpansion (given_width given) sources)
+
+-- nothing is printed, since there is no manifest, it has a mistake, or a file can't be read; or the texts are expanded
+abbrev pub EndsTexts : List Given → ℕ → (output output' : Option (List ℕ)) → Type 0
+EndsTexts given status output output' =
+    ((2 ≤ status) × (status ≤ 3) × Keeps output output') ⊎ ((status ≡ 0) × ExpandsTexts given output output')
+
+-- what a failure says of the output
+abbrev pub ExplainsTexts : Failure → List Given → (output output' : Option (List ℕ)) → Type 0
+ExplainsTexts (failures.Refused shown) given output output' = Keeps output output'
+ExplainsTexts failures.Usage given output output' = Keeps output output'
+ExplainsTexts failures.Input given output output' = ⊥
+ExplainsTexts failures.Memory given output output' = Keeps output output'
+ExplainsTexts failures.Output given output output' = CutsTexts given output output'

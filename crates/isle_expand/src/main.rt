@@ -1,14 +1,17 @@
-//! `isle-expand [--width N] [--stdin-name NAME] [FILE ..]`: inlines the extractors of an ISLE
-//! program.
+//! `isle-expand [OPTION ..] [FILE ..]`: inlines the extractors of an ISLE program.
 #![tactic(auto)]
 
 mod expansion;
+mod manifests;
 mod options;
 mod program;
 
 use isle_cli::program::report;
 use isle_cli::streams::Streams;
 use isle_cli::words::taken_words;
+use isle_program_manifest::asking::asked_programs;
+use manifests::OPTIONS;
+pub use manifests::run_program;
 use options::PROGRAM;
 pub use program::run;
 use std::process::ExitCode;
@@ -16,7 +19,10 @@ use std::process::ExitCode;
 fn main(rt: HostRuntime) -> ExitCode {
     let mut streams = Streams::new(rt.stdin(), rt.stdout(), rt.stderr());
     let status = match taken_words(&rt) {
-        Ok(words) => run(&rt, &words, &mut streams),
+        Ok(words) => match asked_programs(rt.alloc(), &OPTIONS, &words) {
+            Some(arguments) => run_program(&rt, &arguments, &mut streams),
+            None => run(&rt, &words, &mut streams),
+        },
         Err(failure) => report(&PROGRAM, &failure, &mut streams.faults),
     };
     ExitCode::from(status)

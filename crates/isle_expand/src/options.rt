@@ -14,7 +14,7 @@ use isle_cli::words::{DEFAULT_WIDTH, parsed_width};
 /// This program.
 pub const PROGRAM: Program = Program {
     name: "isle-expand",
-    usage: "usage: isle-expand [--width N] [--stdin-name NAME] [FILE ..]\n",
+    usage: "usage: isle-expand [--width N] [--stdin-name NAME] [--program NAME] [FILE ..]\n",
     help: HELP,
     version: VERSION,
 };
@@ -24,7 +24,7 @@ pub const VERSION: &str = version!("isle-expand");
 
 /// The help.
 pub const HELP: &str = "\
-usage: isle-expand [--width N] [--stdin-name NAME] [FILE ..]
+usage: isle-expand [--width N] [--stdin-name NAME] [--program NAME] [FILE ..]
 
 Inlines every extractor of a complete ISLE program, and prints the result. Extractors, declarations
 that only they define, and comments are dropped. The result compiles to the same code, except in
@@ -33,9 +33,13 @@ three cases, and each of those prints a warning.
 The files are one program. A folder stands for every .isle file below it, and - for standard input.
 With no FILE, standard input is expanded.
 
+With --program, a program of the nearest isle.toml is expanded. It is looked for in the current
+folder and above it, or in the one folder that is given.
+
 Options:
   --width N          break lines that are wider than N bytes (78 by default)
   --stdin-name NAME  use NAME for standard input in messages
+  --program NAME     expand the program NAME of isle.toml
   --                 treat all later arguments as files
   --help             print this help
   --version          print the version
@@ -43,8 +47,8 @@ Options:
 Exit status:
   0  success
   1  an input does not parse, or an extractor cannot be inlined
-  2  usage error
-  3  an input cannot be read, or is not UTF-8
+  2  usage error, or a mistake in isle.toml
+  3  an input cannot be read, or is not UTF-8, or there is no isle.toml
   4  out of memory
   5  the output cannot be written
 ";

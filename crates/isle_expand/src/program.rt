@@ -159,7 +159,7 @@ fn read_program<R: Files + AllocGlobal + Clone + Drop, I: Read>(
 }
 
 /// Prints the expansion, if all texts could be read, and returns the exit status, 0 or 3.
-fn put_program<W: Write, E: Write>(
+pub fn put_program<W: Write, E: Write>(
     alloc: Global,
     read: Taken,
     output: &mut W,

@@ -1,14 +1,10 @@
 -- What the program tells.
 use Rattle.std.specs.Prelude.{◌≡◌, ◌⊎◌, ℕ, ◌==◌, List, [], ◌∷◌, ◌++◌, Bool, true, false, ◌&&◌, if◌then◌else◌, Option, None, Some, codes, length, map}
 use Rattle.std.specs.Io.KnownBytes.{Appends, Keeps}
-use Rattle.std.specs.List.Sorted.{IsPermutation, IsSortedByKey}
-use Rattle.isle_base_source.specs.PositionOrder.{position_cmp}
 use Rattle.isle_base_source.specs.Source.{Source}
 use Rattle.isle_base_source.specs.declared.error.Error.{Error}
 use Rattle.isle_ast.specs.Tree.{Definition}
-use Rattle.isle_lint_core.specs.Finding.{finding_of}
-use Rattle.isle_lint_core.specs.Findings.{findings_in}
-use Rattle.isle_lint_core.specs.declared.finding.Finding.{Finding}
+use Rattle.isle_lint_core.specs.Finding.{Found}
 use Rattle.isle_lint_core.specs.declared.lint.Lint.{Lint}
 use Rattle.isle_cli.specs.Arguments.{Asked, Given, asked, help_asked, name_list, stdin_name, version_asked, work_asked}
 use Rattle.isle_cli.specs.Failure.{IsDiagnostic}
@@ -22,7 +18,7 @@ use Rattle.isle_cli.specs.declared.arguments.Options.{Options}
 use Rattle.isle_cli.specs.declared.program.Program.{Program}
 use Rattle.isle_lint.specs.declared.options.TheConstants.{HELP, VERSION}
 use Rattle.isle_lint.specs.Programs.{IsProgramsReport, Part}
-use Rattle.isle_lint.specs.Report.{count_text, is_program, sources_text, told, usable}
+use Rattle.isle_lint.specs.Report.{AreToldIn, count_text, sources_text}
 
 -- What is shown is what these lints find in the trees of the texts, each finding once, in order of place, but for what
 -- comments turn off; and which texts spell no tree; and how many there are of both.
@@ -30,11 +26,9 @@ pub record IsReport (lints : List Lint) (is_whole : Bool) (sources : List Source
   pub definitions : List Definition
   pub refusals : List (Option Error)
   pub read : IsReading sources definitions refusals
-  pub found : List Finding
-  pub exact : IsPermutation (findings_in (usable (is_program is_whole refusals) lints) definitions) (map finding_of found)
-  pub in_order : IsSortedByKey (λ f. f.pos) position_cmp found
-  pub is : shown ≡ sources_text 0 sources refusals (told 0 sources (map finding_of found))
-      ++ count_text (refused_count refusals) (length (told 0 sources (map finding_of found)))
+  pub told : List Found
+  pub are_told : AreToldIn lints is_whole sources definitions refusals told
+  pub is : shown ≡ sources_text 0 sources refusals told ++ count_text (refused_count refusals) (length told)
 
 abbrev pub is_empty : List ℕ → Bool
 is_empty text = length text == 0

@@ -9,13 +9,12 @@ use Rattle.isle_base_source.specs.declared.error.Error.{Error}
 use Rattle.isle_ast.specs.Tree.{Definition}
 use Rattle.isle_cli.specs.Messages.{message_line}
 use Rattle.isle_lint_core.specs.Finding.{Found, finding_cmp, finding_of}
-use Rattle.isle_lint_core.specs.Findings.{findings_in}
 use Rattle.isle_lint_core.specs.Lint.{name}
 use Rattle.isle_lint_core.specs.declared.finding.Finding.{Finding}
 use Rattle.isle_lint_core.specs.declared.lint.Lint.{Lint}
 use Rattle.isle_program.specs.Messages.{refusal_text, shown_offset}
 use Rattle.isle_program.specs.Reading.{IsReading, refused_count}
-use Rattle.isle_lint.specs.Report.{count_text, is_program, message_text, told, usable}
+use Rattle.isle_lint.specs.Report.{AreToldIn, count_text, message_text}
 use Rattle.isle_lint.specs.declared.programs.Told.{Told}
 use Rattle.isle_lint.specs.declared.programs.Linted as linted_code
 use Rattle.isle_lint.specs.declared.programs.Part as part_code
@@ -52,15 +51,12 @@ own has number [] = []
 own has number (source ∷ sources) =
     record { name = source.name; text = if is_own has number then source.text else [] } ∷ own has (number + 1) sources
 
--- These are the findings that are told of one program: what these lints find in the trees of its texts, but for what
--- comments turn off.
+-- these are the findings that are told of one program
 pub record IsToldIn (lints : List Lint) (sources : List Source) (is_whole : Bool) (all : List Found) : Type 0 where
   pub definitions : List Definition
   pub refusals : List (Option Error)
   pub read : IsReading sources definitions refusals
-  pub found : List Finding
-  pub exact : IsPermutation (findings_in (usable (is_program is_whole refusals) lints) definitions) (map finding_of found)
-  pub is : all ≡ told 0 sources (map finding_of found)
+  pub are : AreToldIn lints is_whole sources definitions refusals all
 
 -- each program is linted by itself
 abbrev pub AreLinted : List Lint → List Source → List Part → List Linted → Type 0

@@ -1,14 +1,19 @@
 -- What is told of a program: a line for each text that spells no tree, and for each finding.
-use Rattle.std.specs.Prelude.{ℕ, ◌+◌, ◌==◌, List, [], ◌∷◌, ◌++◌, Bool, true, false, not, ◌&&◌, ◌||◌, if◌then◌else◌, Option, codes, filter, length, slice_get}
+use Rattle.std.specs.Prelude.{◌≡◌, ℕ, ◌+◌, ◌==◌, List, [], ◌∷◌, ◌++◌, Bool, true, false, not, ◌&&◌, ◌||◌, if◌then◌else◌, Option, codes, filter, length, map, slice_get}
 use Rattle.std.specs.Fmt.{decimal}
 use Rattle.std.specs.List.{flat_map}
+use Rattle.std.specs.List.Sorted.{IsPermutation, IsSortedByKey}
+use Rattle.isle_base_source.specs.PositionOrder.{position_cmp}
 use Rattle.isle_base_source.specs.Source.{Source}
 use Rattle.isle_base_source.specs.declared.error.Error.{Error}
+use Rattle.isle_ast.specs.Tree.{Definition}
 use Rattle.isle_cli.specs.Messages.{message_line}
-use Rattle.isle_lint_core.specs.Finding.{Found}
+use Rattle.isle_lint_core.specs.Finding.{Found, finding_of}
+use Rattle.isle_lint_core.specs.Findings.{findings_in}
+use Rattle.isle_lint_core.specs.declared.finding.Finding.{Finding}
 use Rattle.isle_lint_core.specs.Lint.{message, name, needs_whole_program}
 use Rattle.isle_lint_core.specs.declared.lint.Lint.{Lint}
-use Rattle.isle_program.specs.Allowances.{is_allowed}
+use Rattle.isle_program.specs.Allowances.{Allowance, AreAllowances, is_allowed}
 use Rattle.isle_program.specs.Messages.{refusal_text, shown_offset}
 use Rattle.isle_program.specs.Reading.{refused_count}
 
@@ -21,20 +26,30 @@ abbrev pub is_program : Bool → List (Option Error) → Bool
 is_program is_whole refusals = is_whole && (refused_count refusals == 0)
 
 -- a finding is in the file of this number, and no comment turns it off
-abbrev pub is_told : ℕ → Source → Found → Bool
-is_told file source f = (f.pos.file == file) && not (is_allowed source.text f)
+abbrev pub is_told : ℕ → List Allowance → Found → Bool
+is_told file allowances f = (f.pos.file == file) && not (is_allowed allowances f)
 
-abbrev pub told_in : ℕ → Source → List Found → List Found
-told_in file source found = filter (is_told file source) found
+abbrev pub told_in : ℕ → List Allowance → List Found → List Found
+told_in file allowances found = filter (is_told file allowances) found
 
 -- a finding, where it counts
 abbrev pub kept_if : Bool → Found → List Found
 kept_if counts f = if counts then f ∷ [] else []
 
--- those in the files from this number on
-abbrev pub told : ℕ → List Source → List Found → List Found
-told file [] found = []
-told file (source ∷ sources) found = told_in file source found ++ told (file + 1) sources found
+-- these are told of the findings in the files from this number on: those that no comment turns off
+abbrev pub AreTold : ℕ → List Source → (found told : List Found) → Type 0
+AreTold file [] found told = told ≡ []
+AreTold file (source ∷ sources) found told =
+    (allowances : List Allowance) × (more : List Found) × AreAllowances source.text allowances × AreTold (file + 1) sources found more
+    × (told ≡ told_in file allowances found ++ more)
+
+-- These are told of texts with these definitions and refusals: what the lints find in the definitions, each finding once, in
+-- order of place, but for what comments turn off.
+pub record AreToldIn (lints : List Lint) (is_whole : Bool) (sources : List Source) (ds : List Definition) (refusals : List (Option Error)) (told : List Found) : Type 0 where
+  pub found : List Finding
+  pub exact : IsPermutation (findings_in (usable (is_program is_whole refusals) lints) ds) (map finding_of found)
+  pub in_order : IsSortedByKey (λ f. f.pos) position_cmp found
+  pub are : AreTold 0 sources (map finding_of found) told
 
 abbrev pub message_text : Found → List ℕ
 message_text f = message f.lint ++ codes " '" ++ f.name ++ codes "' [" ++ name f.lint ++ codes "]"

@@ -10,7 +10,8 @@ mod report;
 use isle_cli::program::report as report_failure;
 use isle_cli::streams::Streams;
 use isle_cli::words::taken_words;
-use manifests::asked_programs;
+use isle_program_manifest::asking::asked_programs;
+use manifests::OPTIONS;
 pub use manifests::run_programs;
 use program::PROGRAM;
 pub use program::run;
@@ -19,7 +20,7 @@ use std::process::ExitCode;
 fn main(rt: HostRuntime) -> ExitCode {
     let mut streams = Streams::new(rt.stdin(), rt.stdout(), rt.stderr());
     let status = match taken_words(&rt) {
-        Ok(words) => match asked_programs(rt.alloc(), &words) {
+        Ok(words) => match asked_programs(rt.alloc(), &OPTIONS, &words) {
             Some(arguments) => run_programs(&rt, &arguments, &mut streams),
             None => run(&rt, &words, &mut streams),
         },

@@ -40,7 +40,7 @@ Options:
   --help             print this help
   --version          print the version
 
-The comment `; isle-lint: allow NAME` on the line above a definition disables a lint for it.
+The comment `; isle-lint: allow NAME` above a definition disables a lint for it.
 
 Lints that are enabled by default:
   unused-let               a variable of a let is never used

@@ -12,13 +12,13 @@ ghost use Rattle.isle_lint.specs.Programs.{AreLinted, IsProgramsReport, IsShown,
 ghost use Rattle.isle_lint.specs.Programs.{found_of, linted_of, part_of};
 ghost use Rattle.isle_program.specs.Reading.{IsReading};
 
-use crate::report::{count_line, is_program, message_of, told, usable};
+use crate::report::{count_line, message_of, told_in_reading};
 use isle_base::lexer::Pos;
 use isle_base_source::error::Error;
 use isle_base_source::files::LineMap;
 use isle_cli::failure::Failure;
 use isle_cli::sources::Source;
-use isle_lint_core::{Finding, Lint, findings};
+use isle_lint_core::{Finding, Lint};
 use isle_program::messages::{place_line, refusal_line};
 use isle_program::trees::{Reading, drop_reading, read_all, refused_count};
 use std::alloc::{AllocError, Global};
@@ -142,12 +142,13 @@ fn told_of(
     ensures err { IfErr result (λ failure. failure ≡ Memory) }
 {
     let reading = read_all(alloc, own)?;
-    let told = told_in_reading(alloc, own, lints, is_whole, &reading);
+    let told = copied_from(alloc, own, lints, is_whole, &reading);
     drop_reading(reading);
     Ok(told?)
 }
 
-fn told_in_reading(
+/// Copies of the findings in a program that is parsed.
+fn copied_from(
     alloc: Global,
     own: &[Source],
     lints: &[Lint],
@@ -159,10 +160,7 @@ fn told_in_reading(
     ensures { IfOk result (λ all. IsToldIn lints.now (map source_of own.now) is_whole
         (map found_of all.items)) }
 {
-    let is_program = is_program(is_whole, &reading.refusals);
-    let usable = usable(alloc, lints, is_program)?;
-    let found = findings(alloc, &reading.defs, &usable)?;
-    let told = told(alloc, own, &found)?;
+    let told = told_in_reading(alloc, own, lints, is_whole, reading)?;
     copied(alloc, &told)
 }
 

@@ -2,19 +2,16 @@
 
 ghost use Rattle.std.specs.Prelude.{◌≡◌, ◌++◌, [], IfErr, IfOk, OnOk, length, map};
 ghost use Rattle.std.specs.Prelude.{string_bytes};
-ghost use Rattle.std.specs.Str.Lines as Lines;
 ghost use Rattle.isle_base_source.specs.Lines.{line_ends};
-ghost use Rattle.isle_base_source.specs.Source as texts;
 ghost use Rattle.isle_ast.specs.TreeView.{definitions_of};
 ghost use Rattle.isle_cli.specs.Sources.{source_of};
 ghost use Rattle.isle_cli.specs.declared.failure.Failure.TheVariants.{Memory};
 ghost use Rattle.isle_lint_core.specs.Finding.{finding_of};
 ghost use Rattle.isle_lint.specs.Doing.{IsReport};
 ghost use Rattle.isle_lint.specs.Report.{count_text, counted, finding_line, is_program};
-ghost use Rattle.isle_lint.specs.Report.{is_told, kept_if};
+ghost use Rattle.isle_lint.specs.Report.{AreTold, AreToldIn, is_told, kept_if};
 ghost use Rattle.isle_lint.specs.Report.{message_text};
-ghost use Rattle.isle_lint.specs.Report.{source_text, sources_text, told, told_in, usable};
-ghost use Rattle.isle_program.specs.Allowances.{lines_above};
+ghost use Rattle.isle_lint.specs.Report.{source_text, sources_text, told_in, usable};
 ghost use Rattle.isle_program.specs.Reading.{IsReading, refused_count};
 
 use isle_base_source::error::Error;
@@ -22,7 +19,7 @@ use isle_base_source::files::LineMap;
 use isle_cli::failure::Failure;
 use isle_cli::sources::Source;
 use isle_lint_core::{Finding, Lint, findings};
-use isle_program::allowances::{is_allowed, lines_above};
+use isle_program::allowances::Allowances;
 use isle_program::messages::{place_line, refusal_line};
 use isle_program::trees::{Reading, drop_reading, read_all, refused_count};
 use std::alloc::{AllocError, Global};
@@ -62,11 +59,28 @@ fn report_on_reading(
     ensures { IfOk result (λ report. IsReport lints.now is_whole (map source_of sources.now)
         (string_bytes report)) }
 {
+    let told = told_in_reading(alloc, sources, lints, is_whole, reading)?;
+    whole_report(alloc, sources, &reading.refusals, &told)
+}
+
+/// The findings of these lints in a program that is parsed, but for what comments disable, in order
+/// of file and position.
+pub fn told_in_reading<'a>(
+    alloc: Global,
+    sources: &[Source],
+    lints: &[Lint],
+    is_whole: bool,
+    reading: &'a Reading,
+) -> Result<Vec<Finding<'a>>, AllocError>
+    ensures { IfOk result (λ all. AreToldIn lints.now is_whole (map source_of sources.now)
+        (definitions_of reading.now.defs.items) reading.now.refusals.items
+        (map finding_of all.items)) }
+{
     let is_program = is_program(is_whole, &reading.refusals);
     let usable = usable(alloc, lints, is_program)?;
     let found = findings(alloc, &reading.defs, &usable)?;
     let told = told(alloc, sources, &found)?;
-    whole_report(alloc, sources, &reading.refusals, &told)
+    Ok(told)
 }
 
 /// The report of these parse errors and findings.
@@ -107,37 +121,34 @@ pub fn is_program(is_whole: bool, refusals: &[Option<Error>]) -> bool
 }
 
 /// The findings that no comment disables, in order.
-pub fn told<'a>(
+fn told<'a>(
     alloc: Global,
     sources: &[Source],
     found: &[Finding<'a>],
 ) -> Result<Vec<Finding<'a>>, AllocError>
-    ensures { IfOk result (λ all. map finding_of all.items
-        ≡ told 0 (map source_of sources.now) (map finding_of found.now)) }
+    ensures { IfOk result (λ all. AreTold 0 (map source_of sources.now) (map finding_of found.now)
+        (map finding_of all.items)) }
 {
     let mut told = Vec::new(alloc);
     for (file, source) in sources.iter().enumerate() {
-        add_told(alloc, file, source, found, &mut told)?;
+        let allowances = Allowances::of(alloc, source.text.as_str())?;
+        add_told(file, &allowances, found, &mut told)?;
     }
     Ok(told)
 }
 
 /// Adds the findings in the file with this number that no comment disables.
 fn add_told<'a>(
-    alloc: Global,
     file: usize,
-    source: &Source,
+    allowances: &Allowances,
     found: &[Finding<'a>],
     told: &mut Vec<Finding<'a>>,
 ) -> Result<(), AllocError>
     ensures { OnOk result (map finding_of told.new.items ≡ map finding_of told.old.items
-        ++ told_in file (source_of source.now) (map finding_of found.now)) }
+        ++ told_in file allowances.now (map finding_of found.now)) }
 {
-    let text = source.text.as_str();
-    let lines = LineMap::from_str(alloc, text)?;
-    let above = lines_above(alloc, text)?;
     for finding in found {
-        let is_told = is_told(file, &lines, &above, finding);
+        let is_told = is_told(file, allowances, finding);
         push_if(is_told, finding, told)?;
     }
     Ok(())
@@ -159,12 +170,10 @@ fn push_if<'a>(
 }
 
 /// Returns whether a finding is in the file with this number, and no comment disables it.
-fn is_told(file: usize, lines: &LineMap, above: &[&[u8]], finding: &Finding) -> bool
-    ensures { (source : texts.Source) → lines.now ≡ line_ends source.text
-        → map (λ line. line.now) above.now ≡ lines_above [] [] (Lines.lines source.text)
-        → result ≡ is_told file source (finding_of finding.now) }
+fn is_told(file: usize, allowances: &Allowances, finding: &Finding) -> bool
+    ensures { result ≡ is_told file allowances.now (finding_of finding.now) }
 {
-    finding.pos.file == file && !is_allowed(lines, above, finding)
+    finding.pos.file == file && !allowances.allow(finding)
 }
 
 /// The lines of the parse errors and of the findings.

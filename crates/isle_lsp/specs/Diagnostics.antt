@@ -10,7 +10,7 @@ use Rattle.isle_lint_core.specs.Findings.{findings_in}
 use Rattle.isle_lint_core.specs.Lint.{all_lints, is_default, message}
 use Rattle.isle_lint_core.specs.declared.finding.Finding.{Finding}
 use Rattle.isle_lint_core.specs.declared.lint.Lint.{Lint}
-use Rattle.isle_program.specs.Allowances.{is_allowed}
+use Rattle.isle_program.specs.Allowances.{Allowance, AreAllowances, is_allowed}
 use Rattle.isle_program.specs.Nesting.{FirstDeep}
 use Rattle.isle_program.specs.Reading.{IsRefusedWith, IsTreeOf}
 use Rattle.isle_lsp.specs.declared.diagnostics.Diagnostic.{Diagnostic}
@@ -42,15 +42,17 @@ error_mark text (ParseError msg span) =
 error_mark text _ = []
 
 -- the findings that no comment allows
-abbrev pub shown : List ℕ → List Found → List Found
-shown text fs = filter (λ f. not (is_allowed text f)) fs
+abbrev pub shown : List Allowance → List Found → List Found
+shown allowances fs = filter (λ f. not (is_allowed allowances f)) fs
 
 -- The marks are those of the findings of the default lints in the definitions, in order of position, except those that comments allow.
 pub record AreMarksOf (text : List ℕ) (ds : List Definition) (told : List Mark) : Type 0 where
   pub found : List Finding
   pub exact : IsPermutation (findings_in (filter is_default all_lints) ds) (map finding_of found)
   pub in_order : IsSortedByKey (λ f. f.pos) position_cmp found
-  pub marks : told ≡ map (found_mark text) (shown text (map finding_of found))
+  pub allowances : List Allowance
+  pub allowing : AreAllowances text allowances
+  pub marks : told ≡ map (found_mark text) (shown allowances (map finding_of found))
 
 -- the marks of a text: of its tree, or why it has none
 abbrev pub AreShallowMarks : List ℕ → List Mark → Type 0

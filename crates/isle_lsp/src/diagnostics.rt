@@ -17,11 +17,10 @@ ghost use Rattle.isle_lsp.specs.Diagnostics.{mark_of, shown};
 use isle_ast::ast::Def;
 use isle_base::lexer::Fault;
 use isle_base_source::error::Error;
-use isle_base_source::files::LineMap;
 use isle_cli::failure::Failure;
 use isle_lint_core::{Finding, Lint, findings};
 use isle_parser::dropping::drop_definitions;
-use isle_program::allowances::{is_allowed, lines_above};
+use isle_program::allowances::Allowances;
 use isle_program::nesting::deep_list;
 use isle_program::trees::read_defs;
 use std::alloc::{AllocError, Global};
@@ -112,7 +111,9 @@ fn lint_diagnostics(alloc: Global, text: &str, defs: &[Def]) -> Result<Vec<Diagn
 {
     let lints = default_lints(alloc)?;
     let found = findings(alloc, defs, &lints)?;
-    finding_diagnostics(alloc, text, &found)
+    let allowances = Allowances::of(alloc, text)?;
+    let diagnostics = finding_diagnostics(alloc, text, &allowances, &found)?;
+    Ok(diagnostics)
 }
 
 /// The lints that are on by default.
@@ -139,16 +140,15 @@ fn defaults_among(alloc: Global, lints: &[Lint]) -> Result<Vec<Lint>, AllocError
 fn finding_diagnostics(
     alloc: Global,
     text: &str,
+    allowances: &Allowances,
     found: &[Finding],
 ) -> Result<Vec<Diagnostic>, AllocError>
     ensures { IfOk result (λ diagnostics. map mark_of diagnostics.items
-        ≡ map (found_mark text.now) (shown text.now (map finding_of found.now))) }
+        ≡ map (found_mark text.now) (shown allowances.now (map finding_of found.now))) }
 {
-    let lines = LineMap::from_str(alloc, text)?;
-    let above = lines_above(alloc, text)?;
     let mut diagnostics = Vec::new(alloc);
     for finding in found {
-        if !is_allowed(&lines, &above, finding) {
+        if !allowances.allow(finding) {
             let diagnostic = diagnostic_of(alloc, text, finding)?;
             diagnostics.push(diagnostic)?;
         }

@@ -1,2 +1,5 @@
 pub mod AllowanceLemmas
+pub mod CommentLemmas
+pub mod OffLemmas
+pub mod OpeningLemmas
 pub mod ReadingLemmas

@@ -1,4 +1,5 @@
 pub mod Allowances
 pub mod Messages
 pub mod Nesting
+pub mod Openings
 pub mod Reading

@@ -5,4 +5,5 @@
 pub mod allowances;
 pub mod messages;
 pub mod nesting;
+pub mod openings;
 pub mod trees;

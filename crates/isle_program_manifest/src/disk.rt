@@ -8,8 +8,8 @@ use isle_cli::program::Program;
 use std::alloc::AllocError;
 use std::fs::Files;
 
-/// Whom `files_of` names in its messages, which nobody reads.
-const NOBODY: Program = Program {
+/// Whom `files_of` names in messages that nobody reads.
+pub const NOBODY: Program = Program {
     name: "",
     usage: "",
     help: "",
@@ -65,7 +65,8 @@ pub fn paths_of<R: Files + AllocGlobal + Clone + Drop>(
     Ok(Listed { paths, missing })
 }
 
-fn is_file<R: Files>(rt: &R, path: &str) -> bool {
+/// Returns whether a path leads to a file; `false` if it can't be told.
+pub fn is_file<R: Files>(rt: &R, path: &str) -> bool {
     match rt.metadata(path) {
         Ok(metadata) => metadata.is_file(),
         Err(_) => false,

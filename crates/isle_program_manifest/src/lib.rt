@@ -20,11 +20,13 @@
 //! | know which of several programs have a file | `membership::programs_with` |
 //! | list the files of all programs that have a file | `membership::union_with` |
 //! | choose programs by name, for a command line | `choice::choose` |
+//! | choose those that a command line asks for, and read them | `asking::chosen_programs` |
 //!
-//! All but `disk` and `choice` are functions of texts, whose contracts say exactly what they return. No contract
-//! can say what is on the disk. Nothing here prints.
+//! All but `disk`, `choice` and `asking` are functions of texts, whose contracts say exactly what
+//! they return. No contract can say what is on the disk. Only `asking::tell_choice` prints.
 #![tactic(auto)]
 
+pub mod asking;
 pub mod choice;
 pub mod disk;
 pub mod manifest;

@@ -1,12 +1,12 @@
 -- What comes of files, one after another.
-use Rattle.std.proofs.Common.{◌≡◌, ◌≢◌, ◌≤◌, ◌⊎◌, ⊎_elim, ◌++◌, [], ◌∷◌, ℕ, max, List, Option, Bool, true, false, refl, sym, ap, ap₂, ◌∙◌, subst, arith}
+use Rattle.std.proofs.Common.{◌≡◌, ◌≢◌, ◌≤◌, ◌⊎◌, inl, inr, ⊎_elim, ◌++◌, [], ◌∷◌, ℕ, max, List, Option, Bool, true, false, refl, sym, ap, ap₂, ◌∙◌, subst, arith}
 use Rattle.std.proofs.KnownBytes.{Keeps-refl, Keeps-trans}
 use Rattle.std.proofs.Math.Nat.{max-le}
 use Rattle.std.specs.Io.KnownBytes.{Keeps}
 use Rattle.isle_cli.specs.Failure.{status_of}
 use Rattle.isle_cli.specs.declared.failure.Failure.{Failure}
 use Rattle.isle_cli.specs.declared.failure.Failure.TheVariants as failures
-use Rattle.isle_tidy.specs.Doing.{EndsFile, EndFiles, IsFileFailure, RunsOnFiles, greatest}
+use Rattle.isle_tidy.specs.Doing.{EndsFile, EndFiles, EndsPrograms, IsFileFailure, RunsOnFiles, greatest}
 
 module _ (check : Bool) where
   pub runs-none : (output faults : Option (List ℕ)) → RunsOnFiles check 0 output output faults faults
@@ -99,3 +99,27 @@ module _ (check : Bool) where
     quiet = λ zero. ends-quiet runs.0 a b p q runs.2 (sym runs.1 ∙ zero);
     in_place = λ off. ends-in-place runs.0 a b p q runs.2 off;
   }
+
+  -- what comes of the files of programs, too
+  pub programs-known : (status : ℕ) (a b : Option (List ℕ)) → EndsPrograms check status a b → status ≤ 5
+  programs-known status a b (inl (low, high, kept)) = omega (arith, high)
+  programs-known status a b (inr (p, q, runs)) = (runs-end status a b p q runs).known
+
+  pub programs-unwritten : (status : ℕ) (a b : Option (List ℕ)) → EndsPrograms check status a b → status ≡ 0 → Keeps a b
+  programs-unwritten status a b (inl (low, high, kept)) zero = kept
+  programs-unwritten status a b (inr (p, q, runs)) zero = (runs-end status a b p q runs).unwritten zero
+
+  pub programs-in_place : (status : ℕ) (a b : Option (List ℕ)) → EndsPrograms check status a b → check ≡ false → Keeps a b
+  programs-in_place status a b (inl (low, high, kept)) off = kept
+  programs-in_place status a b (inr (p, q, runs)) off = (runs-end status a b p q runs).in_place off
+
+  pub programs-none : (status : ℕ) (a b : Option (List ℕ)) → (status ≡ 2) ⊎ (status ≡ 3) → Keeps a b → EndsPrograms check status a b
+  programs-none status a b (inl two) kept = inl (omega (arith, two), omega (arith, two), kept)
+  programs-none status a b (inr three) kept = inl (omega (arith, three), omega (arith, three), kept)
+
+  pub programs-fail : (failure : Failure) (status : ℕ) (a b : Option (List ℕ)) → (failure ≡ failures.Memory) ⊎ (failure ≡ failures.Usage) → status ≡ status_of failure → Keeps a b → EndsPrograms check status a b
+  programs-fail failure status a b (inl memory) is kept = let four : status ≡ 4 = is ∙ ap status_of memory in inl (omega (arith, four), omega (arith, four), kept)
+  programs-fail failure status a b (inr usage) is kept = let two : status ≡ 2 = is ∙ ap status_of usage in inl (omega (arith, two), omega (arith, two), kept)
+
+  pub programs-run : (own : Bool) (status : ℕ) (a b p q : Option (List ℕ)) → own ≡ check → RunsOnFiles own status a b p q → EndsPrograms check status a b
+  programs-run own status a b p q is runs = inr (p, q, subst (λ k. RunsOnFiles k status a b p q) is runs)

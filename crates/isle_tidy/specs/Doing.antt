@@ -173,3 +173,10 @@ LeavesOutput help_asked output output' = Unit {0}
 LeavesOutput version_asked output output' = Unit {0}
 LeavesOutput (work_asked list) output output' =
     name_list list ≢ [] → names_input list ≡ false → checks list ≡ false → Keeps output output'
+
+-- What comes of the files of programs: nothing is done, since there is no manifest, it has a mistake, or the command line
+-- or memory doesn't allow it; or what comes of files.
+abbrev pub EndsPrograms : Bool → (status : ℕ) → (output output' : Option (List ℕ)) → Type 0
+EndsPrograms check status output output' =
+    ((2 ≤ status) × (status ≤ 4) × Keeps output output')
+    ⊎ ((faults : Option (List ℕ)) × (faults' : Option (List ℕ)) × RunsOnFiles check status output output' faults faults')

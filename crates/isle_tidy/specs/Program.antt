@@ -9,7 +9,7 @@ use Rattle.isle_tidy.specs.Doing.{HasNames}
 -- the name of this program, and its usage
 pub record IsThis (program : Program) : Type 0 where
   pub name : program.name.now ≡ codes "isle-tidy"
-  pub usage : program.usage.now ≡ codes "usage: isle-tidy [--check] [--stdin-name NAME] [FILE ..]\n"
+  pub usage : program.usage.now ≡ codes "usage: isle-tidy [--check] [--stdin-name NAME] [--program NAME] [--all-programs] [FILE ..]\n"
 
 -- its own options: `--check` alone
 pub record AreOwn (options : Options) : Type 0 where

@@ -34,7 +34,8 @@ use std::io::{Read, Write};
 /// This program.
 pub const PROGRAM: Program = Program {
     name: "isle-tidy",
-    usage: "usage: isle-tidy [--check] [--stdin-name NAME] [FILE ..]\n",
+    usage: "usage: isle-tidy [--check] [--stdin-name NAME] [--program NAME] [--all-programs] \
+            [FILE ..]\n",
     help: HELP,
     version: VERSION,
 };
@@ -44,7 +45,7 @@ pub const VERSION: &str = version!("isle-tidy");
 
 /// Its help.
 pub const HELP: &str = "\
-usage: isle-tidy [--check] [--stdin-name NAME] [FILE ..]
+usage: isle-tidy [--check] [--stdin-name NAME] [--program NAME] [--all-programs] [FILE ..]
 
 Fixes the indentation and spacing of ISLE source to match Cranelift's style. All comments and line
 breaks are kept.
@@ -52,9 +53,14 @@ breaks are kept.
 Each FILE is rewritten in place. A folder stands for every .isle file below it, and - for standard
 input, which goes to standard output. With no FILE, standard input is tidied.
 
+With --program or --all-programs, the files of programs of the nearest isle.toml are rewritten. It
+is looked for in the current folder and above it, or in the one folder that is given.
+
 Options:
   --check            list the files that would change, and change nothing
   --stdin-name NAME  use NAME for standard input in messages
+  --program NAME     tidy the files of the program NAME of isle.toml; may be repeated
+  --all-programs     tidy the files of each program of isle.toml
   --                 treat all later arguments as files
   --help             print this help
   --version          print the version
@@ -62,14 +68,14 @@ Options:
 Exit status (with several files, the greatest of theirs):
   0  success; with --check, nothing would change
   1  an input cannot be tidied; with --check, or an input would change
-  2  usage error
-  3  an input cannot be read, or is not UTF-8
+  2  usage error, or a mistake in isle.toml
+  3  an input cannot be read, or is not UTF-8, or there is no isle.toml
   4  out of memory
   5  an output cannot be written
 ";
 
 /// `PROGRAM`, with a contract, since no clause can name a constant that holds references.
-fn this_program() -> Program
+pub fn this_program() -> Program
     ensures { IsThis result }
 {
     PROGRAM
@@ -426,7 +432,7 @@ fn run_on_name<R: Files + AllocGlobal + Clone + Drop, I: Read, W: Write, E: Writ
 }
 
 /// Tidies files, and the files below folders.
-fn run_on_paths<R: Files + AllocGlobal + Clone + Drop, W: Write, E: Write>(
+pub fn run_on_paths<R: Files + AllocGlobal + Clone + Drop, W: Write, E: Write>(
     rt: &R,
     task: &Task<'_>,
     names: &[String],

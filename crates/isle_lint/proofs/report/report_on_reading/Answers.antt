@@ -1,10 +1,9 @@
-use Rattle.std.proofs.Common.{List, ap, map, string_bytes, ◌∙◌}
+use Rattle.std.proofs.Common.{ap, map, string_bytes}
 use Rattle.std.proofs.lemmas.Result.{IfOk-weaker}
 use Rattle.isle_ast.specs.TreeView.{definitions_of}
 use Rattle.isle_cli.specs.Sources.{source_of}
 use Rattle.isle_lint_core.specs.Finding.{finding_of}
-use Rattle.isle_lint.specs.Report.{is_program, told, usable}
-use Rattle.isle_lint.proofs.ReportLemmas.{found-as, shown-as}
+use Rattle.isle_lint.proofs.ReportLemmas.{shown-as}
 use Rattle.isle_lint.proofs.report.report_on_reading.Goals as goal
 
 pub returns : goal.returns
@@ -14,14 +13,8 @@ returns c =
       definitions = definitions_of c.args.reading.now.defs.items;
       refusals = c.args.reading.now.refusals.items;
       read = c.requires;
-      found = c.in_ok-found.found.items;
-      exact = found-as _ _ _ _ _
-          (c.deref-3.ensures.value ∙ c.in_ok-usable.ensures
-          ∙ ap (λ b. usable b c.args.lints.now) (c.is_program-is_program.ensures ∙ ap (is_program c.args.is_whole) c.deref.ensures.value))
-          c.deref-2.ensures.value c.in_ok-found.ensures.exact;
-      in_order = c.in_ok-found.ensures.in_order;
-      is = shown-as (map source_of c.args.sources.now) _ _ _ _ (string_bytes report) c.deref-5.ensures.value
-          (ap (map finding_of) c.deref-6.ensures.value ∙ c.in_ok-told.ensures ∙ ap (λ fs. told 0 (map source_of c.args.sources.now) (map finding_of fs)) c.deref-4.ensures.value)
-          shown;
+      told = map finding_of c.in_ok-told.told.items;
+      are_told = c.in_ok-told.ensures;
+      is = shown-as (map source_of c.args.sources.now) _ _ _ _ (string_bytes report) c.deref.ensures.value (ap (map finding_of) c.deref-2.ensures.value) shown;
     })
     c.whole_report.ensures

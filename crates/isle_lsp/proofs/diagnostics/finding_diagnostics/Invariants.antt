@@ -5,5 +5,5 @@ use Rattle.isle_lsp.proofs.diagnostics.finding_diagnostics.Given as goal
 
 abbrev pub invariant-loop-finding : goal.invariant-loop-finding
 invariant-loop-finding l =
-    map mark_of l.diagnostics.items ++ map (found_mark l.text) (shown l.text (map finding_of (drop l.finding-index l.found)))
-    ≡ map (found_mark l.text) (shown l.text (map finding_of l.found))
+    map mark_of l.diagnostics.items ++ map (found_mark l.text) (shown l.allowances (map finding_of (drop l.finding-index l.found)))
+    ≡ map (found_mark l.text) (shown l.allowances (map finding_of l.found))
