@@ -145,7 +145,7 @@ bits_are_no_head text bits =
     let clash : true ≡ false = sym bits ∙ ap begins_bit_vector is ∙ no in cc in
     rw (
       keyword_none text (differs (codes "switch") refl) (differs (codes "let") refl) (differs (codes "with") refl) (differs (codes "match") refl) (differs (codes "struct") refl)
-        (differs (codes "macro") refl) (differs (codes "as") refl),
+          (differs (codes "macro") refl) (differs (codes "as") refl),
       bits,
     ) refl
 
