@@ -1,5 +1,5 @@
 -- An extractor whose term is known.
-use Rattle.std.proofs.Common.{◌≡◌, ℕ, List, [], ◌∷◌, ◌++◌, Bool, false, cond, ap, ◌∙◌, append_assoc}
+use Rattle.std.proofs.Common.{◌≡◌, ℕ, List, [], ◌∷◌, ◌++◌, false, cond, ap, ◌∙◌, append_assoc}
 use Rattle.isle_ast_names.specs.Tree.{Name}
 use Rattle.isle_ast_rules.specs.TermHeads.{heads}
 use Rattle.isle_ast_rules.specs.Tree.{ExtractorDefinition}
