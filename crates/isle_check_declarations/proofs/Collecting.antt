@@ -1,7 +1,8 @@
 -- The errors of a group, as its parts are collected.
 use Rattle.std.proofs.Common.{◌≡◌, ℕ, List, [], ◌∷◌, ◌++◌, Bool, ap, ◌∙◌, append_assoc}
-use Rattle.isle_ast.specs.Tree.{TypeDefinition, Declaration}
-use Rattle.isle_check_environment.specs.Parts.{ConstantNode}
+use Rattle.isle_ast.specs.Tree.{TypeDefinition, Declaration, Definition}
+use Rattle.isle_check_environment.specs.Parts.{ConstantNode, decls_in, type_names, types_in}
+use Rattle.isle_check_environment.specs.Types.{is_type}
 use Rattle.isle_check_declarations.specs.declared.fault.Fault.{Fault}
 use Rattle.isle_check_declarations.specs.TypeFaults.{doubled_types, type_faults_of, wrong_constants, wrong_types}
 use Rattle.isle_check_declarations.specs.TermFaults.{declared, taken_variants, term_faults_of, wrong_decls}
@@ -25,11 +26,17 @@ type_faults-collected f0 f1 f2 f3 known types ts cs none doubled wrong constants
     ∙ append_assoc (doubled_types [] ts) (wrong_types known ts) (wrong_constants known cs)
     ∙ ap (λ k. type_faults_of k ts cs) same
 
-pub term_faults-collected : (f0 f1 f2 : List Fault) (known types : List ℕ → Bool) (ds : List Declaration) (ts : List TypeDefinition) →
+pub term_faults-collected : (f0 f1 f2 : List Fault) (known : List ℕ → Bool) (ds : List Declaration) (ts : List TypeDefinition) →
     f0 ≡ [] → faults_of f1 ≡ faults_of f0 ++ wrong_decls known [] ds →
-    faults_of f2 ≡ faults_of f1 ++ taken_variants (declared known ds) ts → known ≡ types → faults_of f2 ≡ term_faults_of types ds ts
-term_faults-collected f0 f1 f2 known types ds ts none wrong taken same =
+    faults_of f2 ≡ faults_of f1 ++ taken_variants (declared known ds) ts → faults_of f2 ≡ term_faults_of known ds ts
+term_faults-collected f0 f1 f2 known ds ts none wrong taken =
     taken
     ∙ ap (λ fs. fs ++ taken_variants (declared known ds) ts) wrong
     ∙ ap (λ fs. (faults_of fs ++ wrong_decls known [] ds) ++ taken_variants (declared known ds) ts) none
-    ∙ ap (λ k. term_faults_of k ds ts) same
+
+-- what is told of the types and the declarations that were found is told of the program
+pub of-program : {Y : Type 0} (f : (List ℕ → Bool) → List Declaration → List TypeDefinition → Y) (known : List ℕ → Bool) (ds : List Declaration) (ts : List TypeDefinition) (defs : List Definition) →
+    known ≡ is_type (type_names ts) → ds ≡ decls_in defs → ts ≡ types_in defs →
+    f known ds ts ≡ f (is_type (type_names (types_in defs))) (decls_in defs) (types_in defs)
+of-program f known ds ts defs same decls types =
+    ap (λ k. f k ds ts) same ∙ ap (λ es. f (is_type (type_names ts)) es ts) decls ∙ ap (λ us. f (is_type (type_names us)) (decls_in defs) us) types

@@ -1,5 +1,5 @@
 -- The terms and the errors of declarations and of variants, one step on.
-use Rattle.std.proofs.Common.{◌≡◌, ℕ, List, [], ◌∷◌, ◌++◌, Bool, true, false, cond, ◌<◌, ◌+◌, length, get_or, drop, map, refl, sym, ap, ◌∙◌, append_assoc}
+use Rattle.std.proofs.Common.{◌≡◌, ℕ, List, [], ◌∷◌, ◌++◌, Bool, true, false, cond, ◌<◌, ◌+◌, length, get_or, drop, map, sym, ap, ◌∙◌, append_assoc}
 use Rattle.std.specs.Borrow.{Bor}
 use Rattle.std.proofs.lemmas.List.{at_drop_more, append-nil}
 use Rattle.isle_ast_names.specs.Tree.{Name}
@@ -13,7 +13,7 @@ use Rattle.isle_ast.specs.declared.ast.Variant.{Variant}
 use Rattle.isle_check_environment.specs.Names.{has}
 use Rattle.isle_check_environment.specs.Views.{decls_at, types_at}
 use Rattle.isle_check_declarations.specs.Faults.{FaultNode, fault, variant_taken}
-use Rattle.isle_check_declarations.specs.TermFaults.{counted, declared, free_variants, taken_variant, taken_variants, variants_of, wrong_decl, wrong_decls}
+use Rattle.isle_check_declarations.specs.TermFaults.{counted, declared, free_variants, taken_variant, taken_variants, variants_of, with_variants, wrong_decl, wrong_decls}
 
 decls-next : {Y : Type 0} (f : List Declaration → Y) (xs : List (Bor Decl)) (i : ℕ) (x : Bor Decl) → i < length xs → x ≡ get_or xs i x →
     f (decls_at (drop i xs)) ≡ f (declaration_of x.now ∷ decls_at (drop (i + 1) xs))
@@ -60,6 +60,13 @@ taken_variants-step now before after xs i x vs within is its adds =
     ∙ append_assoc before (taken_variant t now vs) (taken_variants (now ++ free_variants t.name now vs) rest)
     ∙ ap (λ us. before ++ (taken_variant t now us ++ taken_variants (now ++ free_variants t.name now us) rest)) its
     ∙ sym (types-next (λ ts. before ++ taken_variants now ts) xs i x within is)
+
+pub with_variants-step : (now : List Name) (xs : List (Bor TypeDef)) (i : ℕ) (x : Bor TypeDef) (vs : List EnumVariant) →
+    i < length xs → x ≡ get_or xs i x → vs ≡ variants_of (type_definition_of x.now).ty →
+    with_variants (now ++ free_variants (type_definition_of x.now).name now vs) (types_at (drop (i + 1) xs)) ≡ with_variants now (types_at (drop i xs))
+with_variants-step now xs i x vs within is its =
+    ap (λ us. with_variants (now ++ free_variants (type_definition_of x.now).name now us) (types_at (drop (i + 1) xs))) its
+    ∙ sym (types-next (λ ts. with_variants now ts) xs i x within is)
 
 -- a variant whose name is free
 pub free-step : (enum : Name) (now : List Name) (xs : List Variant) (i : ℕ) (x : Variant) (name : Name) →

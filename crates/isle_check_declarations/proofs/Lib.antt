@@ -1,2 +1,3 @@
 pub mod Collecting
+pub mod DeclaredLemmas
 pub mod Declaring

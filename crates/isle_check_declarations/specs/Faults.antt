@@ -19,6 +19,29 @@ pub data KindNode : Type 0 where
   argument_type_unknown : Name → KindNode
   result_type_unknown : Name → KindNode
   variant_taken : (ty variant : Name) → KindNode
+  root_no_term : KindNode
+  root_unknown : Name → KindNode
+  root_variant : Name → KindNode
+  extractor_unknown : Name → KindNode
+  template_unknown : (term extractor : Name) → KindNode
+  extractor_variant : Name → KindNode
+  extractor_multi : Name → KindNode
+  extractor_again : Name → KindNode
+  extractor_before : Name → KindNode
+  inner_type_unknown : Name → KindNode
+  outer_type_unknown : Name → KindNode
+  converter_unknown : Name → KindNode
+  converter_again : (inner outer : Name) → KindNode
+  constructor_unknown : Name → KindNode
+  constructor_variant : Name → KindNode
+  constructor_ruled : Name → KindNode
+  constructor_again : Name → KindNode
+  external_unknown : Name → KindNode
+  external_variant : Name → KindNode
+  external_internal : Name → KindNode
+  internal_before : Name → KindNode
+  external_again : Name → KindNode
+  external_before : Name → KindNode
 
 pub record FaultNode : Type 0 where
   pub kind : KindNode

@@ -1,4 +1,5 @@
 pub mod Faults
 pub mod TypeFaults
 pub mod TermFaults
+pub mod Terms
 pub mod Views

@@ -73,6 +73,15 @@ taken_variants terms [] = []
 taken_variants terms (t ∷ ts) =
     taken_variant t terms (variants_of t.ty) ++ taken_variants (terms ++ free_variants t.name terms (variants_of t.ty)) ts
 
+-- the terms once the variants of types are added, of each type those up to the first that is taken
+abbrev pub with_variants : (terms : List Name) → List TypeDefinition → List Name
+with_variants terms [] = terms
+with_variants terms (t ∷ ts) = with_variants (terms ++ free_variants t.name terms (variants_of t.ty)) ts
+
+-- the names of the terms: those that are declared, and then variants
+abbrev pub term_names : (List ℕ → Bool) → List Declaration → List TypeDefinition → List Name
+term_names known ds ts = with_variants (declared known ds) ts
+
 abbrev pub term_faults_of : (List ℕ → Bool) → List Declaration → List TypeDefinition → List FaultNode
 term_faults_of known ds ts = wrong_decls known [] ds ++ taken_variants (declared known ds) ts
 

@@ -3,9 +3,10 @@
 #![tactic(auto)]
 
 mod fault;
+pub mod lookup;
 mod terms;
 mod types;
 
-pub use fault::{Fault, Kind};
+pub use fault::{Fault, Kind, add_fault};
 pub use terms::term_faults;
 pub use types::type_faults;

@@ -7,14 +7,14 @@ ghost use Rattle.isle_ast.specs.TreeView.{variant_of};
 ghost use Rattle.isle_ast_names.specs.Tree.{Name};
 ghost use Rattle.isle_ast_names.specs.TreeView.{names_of};
 ghost use Rattle.isle_check_environment.specs.Names.{Knows};
-ghost use Rattle.isle_check_environment.specs.Parts.{type_names};
-ghost use Rattle.isle_check_environment.specs.Types.{is_type, is_type_in};
+ghost use Rattle.isle_check_environment.specs.Types.{is_type_in};
 ghost use Rattle.isle_check_environment.specs.Views.{decls_at, types_at};
 ghost use Rattle.isle_check_declarations.specs.TermFaults.{arguments_fault, counted, declared};
 ghost use Rattle.isle_check_declarations.specs.TermFaults.{doubled_decl, free_variants};
 ghost use Rattle.isle_check_declarations.specs.TermFaults.{signature_fault, taken_variant};
 ghost use Rattle.isle_check_declarations.specs.TermFaults.{taken_variants, term_faults};
-ghost use Rattle.isle_check_declarations.specs.TermFaults.{term_faults_of, variants_of, wrong_decl};
+ghost use Rattle.isle_check_declarations.specs.TermFaults.{term_faults_of, term_names};
+ghost use Rattle.isle_check_declarations.specs.TermFaults.{variants_of, with_variants, wrong_decl};
 ghost use Rattle.isle_check_declarations.specs.TermFaults.{wrong_decls, wrong_flags};
 ghost use Rattle.isle_check_declarations.specs.Views.{fault_of, faults_of};
 
@@ -35,23 +35,28 @@ pub fn term_faults(alloc: Global, defs: &[Def]) -> Result<Vec<Fault<'_>>, AllocE
 {
     let types = types_in(alloc, defs)?;
     let decls = decls_in(alloc, defs)?;
-    collect_faults(alloc, &types, &decls)
+    let known = type_names(alloc, &types)?;
+    let mut terms = no_names(alloc);
+    declare(alloc, &known, &types, &decls, &mut terms)
 }
 
-fn collect_faults<'a>(
+/// Adds the terms that are declared, and then the variants. Returns their errors.
+pub fn declare<'a>(
     alloc: Global,
+    known: &Names,
     types: &[&'a TypeDef],
     decls: &[&'a Decl],
+    terms: &mut Names,
 ) -> Result<Vec<Fault<'a>>, AllocError>
-    ensures { IfOk result (λ found. faults_of found.items
-        ≡ term_faults_of (is_type (type_names (types_at types.now))) (decls_at decls.now)
-        (types_at types.now)) }
+    ensures { IfOk result (λ found. Knows terms.old []
+        → Knows terms.new (term_names (is_type_in known.now) (decls_at decls.now)
+        (types_at types.now))
+        × (faults_of found.items ≡ term_faults_of (is_type_in known.now) (decls_at decls.now)
+        (types_at types.now))) }
 {
-    let known = type_names(alloc, types)?;
-    let mut terms = no_names(alloc);
     let mut found = Vec::new(alloc);
-    add_wrong_decls(&known, decls, &mut terms, &mut found)?;
-    add_taken_variants(alloc, types, &mut terms, &mut found)?;
+    add_wrong_decls(known, decls, terms, &mut found)?;
+    add_taken_variants(alloc, types, terms, &mut found)?;
     Ok(found)
 }
 
@@ -128,7 +133,7 @@ fn add_wrong_flags<'a>(decl: &'a Decl, found: &mut Vec<Fault<'a>>) -> Result<(),
 }
 
 /// Returns the first type of a declaration that is not known.
-fn signature_fault<'a>(known: &Names, decl: &'a Decl) -> Option<Fault<'a>>
+pub fn signature_fault<'a>(known: &Names, decl: &'a Decl) -> Option<Fault<'a>>
     ensures { option_map fault_of result
         ≡ signature_fault (is_type_in known.now) (declaration_of decl.now) }
 {
@@ -170,8 +175,9 @@ fn add_taken_variants<'a>(
     found: &mut Vec<Fault<'a>>,
 ) -> Result<(), AllocError>
     ensures { OnOk result ((earlier : List Name) → Knows terms.old earlier
-        → faults_of found.new.items
-        ≡ faults_of found.old.items ++ taken_variants earlier (types_at types.now)) }
+        → Knows terms.new (with_variants earlier (types_at types.now))
+        × (faults_of found.new.items
+        ≡ faults_of found.old.items ++ taken_variants earlier (types_at types.now))) }
 {
     for ty in types {
         add_taken_variant(alloc, ty, variants_of(ty), terms, found)?;

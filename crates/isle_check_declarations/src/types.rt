@@ -16,7 +16,8 @@ ghost use Rattle.isle_check_declarations.specs.TypeFaults.{indexed_fields_fault}
 ghost use Rattle.isle_check_declarations.specs.TypeFaults.{named_fields_fault, primitive_fault};
 ghost use Rattle.isle_check_declarations.specs.TypeFaults.{type_faults, type_faults_of};
 ghost use Rattle.isle_check_declarations.specs.TypeFaults.{variants_fault};
-ghost use Rattle.isle_check_declarations.specs.TypeFaults.{wrong_constants, wrong_types};
+ghost use Rattle.isle_check_declarations.specs.TypeFaults.{wrong_constants, wrong_type};
+ghost use Rattle.isle_check_declarations.specs.TypeFaults.{wrong_types};
 ghost use Rattle.isle_check_declarations.specs.Views.{fault_of, faults_of};
 
 use crate::fault::{Fault, Kind};
@@ -110,9 +111,24 @@ fn add_wrong_types<'a>(
         ≡ faults_of found.old.items ++ wrong_types (is_type_in known.now) (types_at types.now)) }
 {
     for ty in types {
-        if let Some(fault) = type_fault(alloc, known, ty)? {
-            found.push(fault)?;
-        }
+        add_wrong_type(alloc, known, ty, found)?;
+    }
+    Ok(())
+}
+
+fn add_wrong_type<'a>(
+    alloc: Global,
+    known: &Names,
+    ty: &'a TypeDef,
+    found: &mut Vec<Fault<'a>>,
+) -> Result<(), AllocError>
+    ensures { OnOk result (faults_of found.new.items
+        ≡ faults_of found.old.items
+        ++ wrong_type (is_type_in known.now) (type_definition_of ty.now)) }
+{
+    match type_fault(alloc, known, ty)? {
+        Some(fault) => found.push(fault)?,
+        None => {}
     }
     Ok(())
 }
@@ -201,9 +217,8 @@ fn variants_fault<'a>(
                 pos: variant.pos,
             }));
         }
-        let fault = fields_fault(alloc, known, name, &variant.fields)?;
-        if fault.is_some() {
-            return Ok(fault);
+        if let Some(fault) = fields_fault(alloc, known, name, &variant.fields)? {
+            return Ok(Some(fault));
         }
         add_name(&mut earlier, name)?;
     }

@@ -12,7 +12,7 @@ use Rattle.isle_ast_names.specs.Tree.{Name}
 use Rattle.isle_check_environment.specs.Names.{Knows, place_of, or_else}
 use Rattle.isle_check_environment.specs.Types.{is_built_in, is_type, is_type_in}
 
-first-or_else : (b : Bool) (p : Pos) (x hit : Option Pos) → cond b (Some p) (or_else x hit) ≡ or_else (cond b (Some p) x) hit
+pub first-or_else : {A : Type 0} (b : Bool) (p : A) (x hit : Option A) → cond b (Some p) (or_else x hit) ≡ or_else (cond b (Some p) x) hit
 first-or_else true p x hit = refl
 first-or_else false p x hit = refl
 

@@ -8,9 +8,9 @@ use Rattle.isle_base_source.specs.declared.pos.Pos.{Pos}
 use Rattle.isle_ast_names.specs.Tree.{Name}
 
 -- the first one if there is one, and otherwise the second
-abbrev pub or_else : Option Pos → Option Pos → Option Pos
+abbrev pub or_else : {A : Type 0} → Option A → Option A → Option A
 or_else None second = second
-or_else (Some place) second = Some place
+or_else (Some first) second = Some first
 
 -- the position of the last name that has this text
 abbrev pub place_of : List Name → List ℕ → Option Pos

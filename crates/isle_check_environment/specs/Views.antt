@@ -2,6 +2,10 @@
 use Rattle.std.specs.Prelude.{List, map}
 use Rattle.std.specs.Borrow.{Bor}
 use Rattle.std.specs.BTreeMap.{get_by_text}
+use Rattle.isle_ast_rules.specs.declared.Rule.{Rule}
+use Rattle.isle_ast_rules.specs.declared.Extractor.{Extractor}
+use Rattle.isle_ast_rules.specs.Tree.{RuleDefinition, ExtractorDefinition}
+use Rattle.isle_ast_rules.specs.TreeView.{rule_of, extractor_of}
 use Rattle.isle_ast.specs.declared.ast.TypeDef.{TypeDef}
 use Rattle.isle_ast.specs.declared.ast.Decl.{Decl}
 use Rattle.isle_ast.specs.declared.ast.Converter.{Converter}
@@ -19,6 +23,12 @@ types_at ts = map (λ t. type_definition_of t.now) ts
 
 abbrev pub decls_at : List (Bor Decl) → List Declaration
 decls_at ds = map (λ d. declaration_of d.now) ds
+
+abbrev pub rules_at : List (Bor Rule) → List RuleDefinition
+rules_at rs = map (λ r. rule_of r.now) rs
+
+abbrev pub extractors_at : List (Bor Extractor) → List ExtractorDefinition
+extractors_at xs = map (λ x. extractor_of x.now) xs
 
 abbrev pub converters_at : List (Bor Converter) → List Conversion
 converters_at cs = map (λ c. conversion_of c.now) cs

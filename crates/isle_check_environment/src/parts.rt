@@ -3,11 +3,11 @@
 ghost use Rattle.std.specs.Prelude.{◌≡◌, IfOk};
 ghost use Rattle.isle_ast.specs.TreeView.{definitions_of};
 ghost use Rattle.isle_check_environment.specs.Parts.{constants_in, converters_in, decls_in};
-ghost use Rattle.isle_check_environment.specs.Parts.{types_in};
+ghost use Rattle.isle_check_environment.specs.Parts.{extractors_in, rules_in, types_in};
 ghost use Rattle.isle_check_environment.specs.Views.{constants_at, converters_at, decls_at};
-ghost use Rattle.isle_check_environment.specs.Views.{types_at};
+ghost use Rattle.isle_check_environment.specs.Views.{extractors_at, rules_at, types_at};
 
-use isle_ast::ast::{Converter, Decl, Def, Extern, Ident, TypeDef};
+use isle_ast::ast::{Converter, Decl, Def, Extern, Extractor, Ident, Rule, TypeDef};
 use isle_base::lexer::Pos;
 use std::alloc::{AllocError, Global};
 
@@ -43,6 +43,33 @@ pub fn decls_in(alloc: Global, defs: &[Def]) -> Result<Vec<&Decl>, AllocError>
     for def in defs {
         if let Def::Decl(decl) = def {
             found.push(decl)?;
+        }
+    }
+    Ok(found)
+}
+
+/// Returns the rules, in order. An `Err` means out of memory.
+pub fn rules_in(alloc: Global, defs: &[Def]) -> Result<Vec<&Rule>, AllocError>
+    ensures { IfOk result (λ found. rules_at found.items ≡ rules_in (definitions_of defs.now)) }
+{
+    let mut found = Vec::new(alloc);
+    for def in defs {
+        if let Def::Rule(rule) = def {
+            found.push(rule)?;
+        }
+    }
+    Ok(found)
+}
+
+/// Returns the internal extractors, in order. An `Err` means out of memory.
+pub fn extractors_in(alloc: Global, defs: &[Def]) -> Result<Vec<&Extractor>, AllocError>
+    ensures { IfOk result
+        (λ found. extractors_at found.items ≡ extractors_in (definitions_of defs.now)) }
+{
+    let mut found = Vec::new(alloc);
+    for def in defs {
+        if let Def::Extractor(extractor) = def {
+            found.push(extractor)?;
         }
     }
     Ok(found)

@@ -80,7 +80,8 @@ fn add_declared(def: &Def, names: &mut Names) -> Result<(), AllocError>
     }
 }
 
-fn ruled_terms(alloc: Global, defs: &[Def]) -> Result<Names, AllocError>
+/// Returns the terms of rules, each at the left side. An `Err` means out of memory.
+pub fn ruled_terms(alloc: Global, defs: &[Def]) -> Result<Names, AllocError>
     ensures { IfOk result
         (λ names. Knows names (flat_map ruled_name (definitions_of defs.now))) }
 {

@@ -3,7 +3,6 @@ use Rattle.isle_ast.specs.TreeView.{type_definition_of, variant_of}
 use Rattle.isle_ast_names.specs.Tree.{Name}
 use Rattle.isle_check_environment.specs.Names.{Knows}
 use Rattle.isle_check_declarations.specs.TermFaults.{free_variants, taken_variant}
-use Rattle.isle_check_declarations.specs.Views.{faults_of}
 use Rattle.isle_check_declarations.proofs.terms.add_taken_variant.Given as goal
 
 abbrev pub invariant-loop-variant : goal.invariant-loop-variant

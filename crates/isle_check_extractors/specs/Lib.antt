@@ -1,0 +1,5 @@
+pub mod Roots
+pub mod Extractors
+pub mod Converters
+pub mod Externs
+pub mod Views
