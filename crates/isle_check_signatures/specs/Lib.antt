@@ -1,0 +1,4 @@
+pub mod Entries
+pub mod Signatures
+pub mod Environment
+pub mod Views

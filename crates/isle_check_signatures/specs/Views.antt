@@ -1,0 +1,38 @@
+-- The terms and the environment of code, as pure values.
+use Rattle.std.specs.Prelude.{ℕ, List, ◌||◌, is_some, map, option_map, string_bytes}
+use Rattle.std.specs.BTreeMap.{get_by_text}
+use Rattle.isle_ast_rules.specs.TreeView.{pattern_of}
+use Rattle.isle_check_environment.specs.Types.{is_integer_type, is_type_in}
+use Rattle.isle_check_environment.specs.Views.{converters_at}
+use Rattle.isle_check_signatures.specs.declared.environment.Environment.{Environment}
+use Rattle.isle_check_signatures.specs.declared.terms.Term.{Term}
+use Rattle.isle_check_signatures.specs.Environment.{EnvironmentNode, converting}
+use Rattle.isle_check_signatures.specs.Signatures.{TermNode}
+
+abbrev pub term_of : Term → TermNode
+term_of t =
+    record {
+      args = map string_bytes t.args.items;
+      ret = string_bytes t.ret;
+      pure = t.pure;
+      multi = t.multi;
+      partial = t.partial;
+      is_variant = t.is_variant;
+    }
+
+abbrev pub environment_of : Environment → EnvironmentNode
+environment_of e =
+    record {
+      is_type = is_type_in e.types;
+      is_number = λ text. is_integer_type text || is_some (get_by_text e.primitives text);
+      constants = λ text. option_map string_bytes (get_by_text e.constants text);
+      terms = λ text. option_map term_of (get_by_text e.terms text);
+      templates = λ text. option_map pattern_of (get_by_text e.templates text);
+      converters = converting (converters_at e.converters.items);
+      has_constructor = λ text.
+          is_some (get_by_text e.sorts.variants text)
+          || (is_some (get_by_text e.sorts.ruled text) || is_some (get_by_text e.constructors text));
+      has_extractor = λ text.
+          is_some (get_by_text e.sorts.variants text)
+          || (is_some (get_by_text e.sorts.templates text) || is_some (get_by_text e.extractors text));
+    }

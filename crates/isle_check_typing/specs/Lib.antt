@@ -1,0 +1,6 @@
+pub mod Faults
+pub mod Typed
+pub mod Progress
+pub mod TypedView
+pub mod Views
+pub mod PatternTypes

@@ -1,0 +1,53 @@
+-- Errors, variables and answers of code, as pure values.
+use Rattle.std.specs.Prelude.{◌≡◌, List, Option, None, Some, Result, Ok, Err, map, string_bytes}
+use Rattle.isle_check_typing.specs.declared.fault.Fault.{Fault}
+use Rattle.isle_check_typing.specs.declared.fault.Kind.{Kind}
+use Rattle.isle_check_typing.specs.declared.fault.Kind.TheVariants as kinds
+use Rattle.isle_check_typing.specs.declared.progress.Found.{Found}
+use Rattle.isle_check_typing.specs.declared.progress.Progress.{Progress}
+use Rattle.isle_check_typing.specs.declared.progress.Variable.{Variable}
+use Rattle.isle_check_typing.specs.declared.refusal.Refusal.{Refusal}
+use Rattle.isle_check_typing.specs.declared.refusal.Refusal.TheVariants as refusals
+use Rattle.isle_check_typing.specs.Faults.{KindNode, FaultNode, integer_type, bool_type, constant_unknown, constant_type, variable_bound, variable_type, term_unknown, term_type, argument_count, no_extractor, parameter_without_argument, macro_argument}
+use Rattle.isle_check_typing.specs.Progress.{FoundNode, ProgressNode, VariableNode}
+
+abbrev pub kind_of : Kind → KindNode
+kind_of (kinds.IntegerType val ty) = integer_type val (string_bytes ty)
+kind_of (kinds.BoolType val ty) = bool_type val (string_bytes ty)
+kind_of (kinds.ConstantUnknown name) = constant_unknown (string_bytes name)
+kind_of (kinds.ConstantType expected found) = constant_type (string_bytes expected) (string_bytes found)
+kind_of (kinds.VariableBound name) = variable_bound (string_bytes name)
+kind_of (kinds.VariableType name expected found) = variable_type (string_bytes name) (string_bytes expected) (string_bytes found)
+kind_of (kinds.TermUnknown term) = term_unknown (string_bytes term)
+kind_of (kinds.TermType expected found) = term_type (string_bytes expected) (string_bytes found)
+kind_of (kinds.ArgumentCount term given expected) = argument_count (string_bytes term) given expected
+kind_of (kinds.NoExtractor term) = no_extractor (string_bytes term)
+kind_of (kinds.ParameterWithoutArgument term) = parameter_without_argument (string_bytes term)
+kind_of kinds.MacroArgument = macro_argument
+
+abbrev pub fault_of : Fault → FaultNode
+fault_of f = record { kind = kind_of f.kind; pos = f.pos }
+
+abbrev pub faults_of : List Fault → List FaultNode
+faults_of fs = map fault_of fs
+
+abbrev pub variable_of : Variable → VariableNode
+variable_of v = record { name = string_bytes v.name; ty = string_bytes v.ty }
+
+abbrev pub variables_of : List Variable → List VariableNode
+variables_of vs = map variable_of vs
+
+abbrev pub progress_of : Progress → ProgressNode
+progress_of p = record { bound = variables_of p.bound.items; faults = faults_of p.faults.items }
+
+abbrev pub found_of : Found → FoundNode
+found_of f = record { number = f.number; ty = string_bytes f.ty.now }
+
+abbrev pub Refuses : {Y : Type 0} → Refusal → Option Y → Type 0
+Refuses refusals.TooDeep made = made ≡ None
+Refuses refusals.Memory made = Unit {0}
+
+-- the answer, seen by view, is this one, and none if the depth is used up; want of memory aside
+abbrev pub Gives : {X Y : Type 0} → (X → Y) → Result X Refusal → Option Y → Type 0
+Gives view (Ok x) made = made ≡ Some (view x)
+Gives view (Err r) made = Refuses r made

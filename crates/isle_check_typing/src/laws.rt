@@ -1,0 +1,14 @@
+//! Laws of typing, which run no code.
+
+ghost use Rattle.std.specs.Prelude.{◌≡◌, ℕ, List, Some, suc};
+ghost use Rattle.isle_ast_rules.specs.Tree.{PatternNode};
+ghost use Rattle.isle_check_signatures.specs.Environment.{EnvironmentNode};
+ghost use Rattle.isle_check_typing.specs.PatternTypes.{Typing, type_at};
+ghost use Rattle.isle_check_typing.specs.Progress.{ProgressNode};
+
+/// A law, which runs no code: once the depth is enough, more depth changes nothing.
+pub fn more_depth_changes_nothing()
+    ensures { (env : EnvironmentNode) (depth : ℕ) (p : PatternNode) (ty : List ℕ)
+        (s : ProgressNode) (made : Typing) → type_at depth env p ty s ≡ Some made
+        → type_at (suc depth) env p ty s ≡ Some made }
+{}

@@ -1,0 +1,16 @@
+//! The types of patterns: the typed pattern of a pattern, the variables that it binds and its
+//! errors, as upstream reports them.
+#![tactic(auto)]
+
+mod fault;
+pub mod laws;
+mod patterns;
+mod progress;
+mod refusal;
+mod typed;
+
+pub use fault::{Fault, Kind};
+pub use patterns::{type_arguments, type_pattern};
+pub use progress::{Progress, Variable, no_progress};
+pub use refusal::Refusal;
+pub use typed::TypedPattern;

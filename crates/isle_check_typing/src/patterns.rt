@@ -1,0 +1,606 @@
+//! The types of patterns.
+
+ghost use Rattle.std.specs.Prelude.{◌≡◌, ◌==◌, [], IfOk, OnOk, Some, length, map, option_map};
+ghost use Rattle.std.specs.Prelude.{string_bytes};
+ghost use Rattle.isle_ast_names.specs.TreeView.{name_of};
+ghost use Rattle.isle_ast_rules.specs.Templates.{plug};
+ghost use Rattle.isle_ast_rules.specs.TreeView.{pattern_list_of, pattern_of, patterns_of};
+ghost use Rattle.isle_check_signatures.specs.Views.{environment_of, term_of};
+ghost use Rattle.isle_check_typing.specs.Faults.{argument_count};
+ghost use Rattle.isle_check_typing.specs.PatternTypes.{arguments_by, bind_to};
+ghost use Rattle.isle_check_typing.specs.PatternTypes.{converting, count_patterns, each_by};
+ghost use Rattle.isle_check_typing.specs.PatternTypes.{extracted_by, filled_by, found_by};
+ghost use Rattle.isle_check_typing.specs.PatternTypes.{list_list, own_by, put_by, step};
+ghost use Rattle.isle_check_typing.specs.PatternTypes.{term_by, type_and, type_at};
+ghost use Rattle.isle_check_typing.specs.PatternTypes.{type_bool, type_constant, type_integer};
+ghost use Rattle.isle_check_typing.specs.PatternTypes.{type_variable};
+ghost use Rattle.isle_check_typing.specs.Progress.{unless};
+ghost use Rattle.isle_check_typing.specs.TypedView.{all_typed_of, typed_of};
+ghost use Rattle.isle_check_typing.specs.Views.{Gives, progress_of};
+
+use crate::fault::Kind;
+use crate::progress::{Progress, bind, find, tell};
+use crate::refusal::Refusal;
+use crate::typed::TypedPattern;
+use isle_ast_names::Ident;
+use isle_ast_rules::Pattern;
+use isle_base::lexer::Pos;
+use isle_check_signatures::{Environment, Term};
+use std::alloc::{AllocError, Global};
+
+/// Types a pattern that matches values of the type `ty`. Binds its variables and tells its errors
+/// in `progress`. Returns its typed pattern, if it has one.
+///
+/// `TooDeep` means that more than `depth` patterns lie in one another once templates are filled and
+/// conversions are written out. `Memory` means out of memory. After both nothing is known of
+/// `progress`.
+#[cycle(pattern)]
+pub fn type_pattern(
+    alloc: Global,
+    depth: usize,
+    env: &Environment,
+    pattern: &Pattern,
+    ty: &String,
+    progress: &mut Progress,
+) -> Result<Option<TypedPattern>, Refusal>
+    ensures { Gives (λ made. record {
+      typed = option_map typed_of made;
+      after = progress_of progress.new;
+    }) result
+        (type_at depth (environment_of env.now) (pattern_of pattern.now) (string_bytes ty.now)
+        (progress_of progress.old)) }
+{
+    if depth == 0 {
+        return Err(Refusal::TooDeep);
+    }
+    type_step(alloc, depth - 1, env, pattern, ty, progress)
+}
+
+#[cycle(pattern)]
+fn type_step(
+    alloc: Global,
+    depth: usize,
+    env: &Environment,
+    pattern: &Pattern,
+    ty: &String,
+    progress: &mut Progress,
+) -> Result<Option<TypedPattern>, Refusal>
+    ensures { Gives (λ made. record {
+      typed = option_map typed_of made;
+      after = progress_of progress.new;
+    }) result
+        (step (type_at depth (environment_of env.now)) (environment_of env.now)
+        (pattern_of pattern.now) (string_bytes ty.now) (progress_of progress.old)) }
+{
+    match pattern {
+        Pattern::Var { var, pos } => Ok(Some(type_variable(alloc, var, *pos, ty, progress)?)),
+        Pattern::BindPattern { var, subpat, pos } => {
+            match type_pattern(alloc, depth, env, subpat, ty, progress)? {
+                None => Ok(None),
+                Some(inner) => Ok(Some(bind_to(alloc, inner, var, *pos, progress)?)),
+            }
+        }
+        Pattern::ConstBool { val, pos } => Ok(Some(type_bool(alloc, *val, *pos, ty, progress)?)),
+        Pattern::ConstInt { val, pos } => Ok(Some(type_integer(env, *val, *pos, ty, progress)?)),
+        Pattern::ConstPrim { val, pos } => Ok(type_constant(env, val, *pos, ty, progress)?),
+        Pattern::Term { sym, args, pos } => {
+            type_term(alloc, depth, env, pattern, sym, args, *pos, ty, progress)
+        }
+        Pattern::Wildcard { .. } => Ok(Some(TypedPattern::Wildcard { ty: ty.clone()? })),
+        Pattern::And { subpats, .. } => type_and(alloc, depth, env, subpats, ty, progress),
+        Pattern::MacroArg { pos, .. } => {
+            tell(progress, Kind::MacroArgument, *pos)?;
+            Ok(None)
+        }
+    }
+}
+
+#[cycle(pattern)]
+fn type_and(
+    alloc: Global,
+    depth: usize,
+    env: &Environment,
+    subpats: &Vec<Pattern>,
+    ty: &String,
+    progress: &mut Progress,
+) -> Result<Option<TypedPattern>, Refusal>
+    ensures { Gives (λ made. record {
+      typed = option_map typed_of made;
+      after = progress_of progress.new;
+    }) result
+        (type_and (type_at depth (environment_of env.now))
+        (pattern_list_of (patterns_of subpats.now.items)) (string_bytes ty.now)
+        (progress_of progress.old)) }
+{
+    let subpats = type_each(alloc, depth, env, subpats, ty, progress)?;
+    Ok(Some(TypedPattern::And {
+        ty: ty.clone()?,
+        subpats,
+    }))
+}
+
+/// Types a term with arguments.
+#[cycle(pattern)]
+fn type_term(
+    alloc: Global,
+    depth: usize,
+    env: &Environment,
+    pattern: &Pattern,
+    sym: &Ident,
+    args: &Vec<Pattern>,
+    pos: Pos,
+    ty: &String,
+    progress: &mut Progress,
+) -> Result<Option<TypedPattern>, Refusal>
+    ensures { Gives (λ made. record {
+      typed = option_map typed_of made;
+      after = progress_of progress.new;
+    }) result
+        (term_by (type_at depth (environment_of env.now)) (environment_of env.now)
+        ((environment_of env.now).terms (name_of sym.now).text) (pattern_of pattern.now)
+        (name_of sym.now).text (pattern_list_of (patterns_of args.now.items)) pos
+        (string_bytes ty.now) (progress_of progress.old)) }
+{
+    match env.term(sym.0.as_str()) {
+        None => {
+            tell(progress, Kind::TermUnknown(sym.0.clone()?), pos)?;
+            Ok(None)
+        }
+        Some(term) => {
+            type_found(
+                alloc, depth, env, pattern, term, &sym.0, args, pos, ty, progress,
+            )
+        }
+    }
+}
+
+/// Types a term that is known.
+#[cycle(pattern)]
+fn type_found(
+    alloc: Global,
+    depth: usize,
+    env: &Environment,
+    pattern: &Pattern,
+    term: &Term,
+    sym: &String,
+    args: &Vec<Pattern>,
+    pos: Pos,
+    ty: &String,
+    progress: &mut Progress,
+) -> Result<Option<TypedPattern>, Refusal>
+    ensures { Gives (λ made. record {
+      typed = option_map typed_of made;
+      after = progress_of progress.new;
+    }) result
+        (found_by (type_at depth (environment_of env.now)) (environment_of env.now)
+        (pattern_of pattern.now) (term_of term.now) (string_bytes sym.now)
+        (pattern_list_of (patterns_of args.now.items)) pos (string_bytes ty.now)
+        (progress_of progress.old)) }
+{
+    if term.ret.as_str() == ty.as_str() {
+        return type_own(alloc, depth, env, term, sym, args, pos, ty, progress);
+    }
+    match converting(env, term.ret.as_str(), ty.as_str()) {
+        Some(converter) => type_put(alloc, depth, env, converter, pattern, pos, ty, progress),
+        None => {
+            let kind = Kind::TermType {
+                expected: ty.clone()?,
+                found: term.ret.clone()?,
+            };
+            tell(progress, kind, pos)?;
+            type_own(alloc, depth, env, term, sym, args, pos, ty, progress)
+        }
+    }
+}
+
+/// Types a pattern that is put into a converter.
+#[cycle(pattern)]
+fn type_put(
+    alloc: Global,
+    depth: usize,
+    env: &Environment,
+    converter: &String,
+    pattern: &Pattern,
+    pos: Pos,
+    ty: &String,
+    progress: &mut Progress,
+) -> Result<Option<TypedPattern>, Refusal>
+    ensures { Gives (λ made. record {
+      typed = option_map typed_of made;
+      after = progress_of progress.new;
+    }) result
+        (put_by (type_at depth (environment_of env.now)) (string_bytes converter.now)
+        (pattern_of pattern.now) pos (string_bytes ty.now) (progress_of progress.old)) }
+{
+    let mut args = Vec::new(alloc);
+    args.push(pattern.clone()?)?;
+    let put = Pattern::Term {
+        sym: Ident(converter.clone()?, pos),
+        args,
+        pos,
+    };
+    type_pattern(alloc, depth, env, &put, ty, progress)
+}
+
+/// Types a term that isn't converted.
+#[cycle(pattern)]
+fn type_own(
+    alloc: Global,
+    depth: usize,
+    env: &Environment,
+    term: &Term,
+    sym: &String,
+    args: &Vec<Pattern>,
+    pos: Pos,
+    ty: &String,
+    progress: &mut Progress,
+) -> Result<Option<TypedPattern>, Refusal>
+    ensures { Gives (λ made. record {
+      typed = option_map typed_of made;
+      after = progress_of progress.new;
+    }) result
+        (own_by (type_at depth (environment_of env.now)) (environment_of env.now)
+        (term_of term.now) (string_bytes sym.now) (pattern_list_of (patterns_of args.now.items))
+        pos (string_bytes ty.now) (progress_of progress.old)) }
+{
+    let given = count_patterns(args);
+    let counts = tell_count(term, sym, given, pos, progress)?;
+    match env.template(sym.as_str()) {
+        None => type_extracted(alloc, depth, env, term, sym, args, pos, progress),
+        Some(template) => {
+            type_filled(
+                alloc, depth, env, template, args, counts, sym, pos, ty, progress,
+            )
+        }
+    }
+}
+
+/// Types what a template stands for with these arguments.
+#[cycle(pattern)]
+fn type_filled(
+    alloc: Global,
+    depth: usize,
+    env: &Environment,
+    template: &Pattern,
+    args: &Vec<Pattern>,
+    counts: bool,
+    sym: &String,
+    pos: Pos,
+    ty: &String,
+    progress: &mut Progress,
+) -> Result<Option<TypedPattern>, Refusal>
+    ensures { Gives (λ made. record {
+      typed = option_map typed_of made;
+      after = progress_of progress.new;
+    }) result
+        (filled_by (type_at depth (environment_of env.now)) (plug (pattern_of template.now)
+        (list_list (pattern_list_of (patterns_of args.now.items)))) counts
+        (string_bytes sym.now) pos (string_bytes ty.now) (progress_of progress.old)) }
+{
+    match filled(alloc, template, args)? {
+        None => {
+            if counts {
+                tell(progress, Kind::ParameterWithoutArgument(sym.clone()?), pos)?;
+            }
+            Ok(None)
+        }
+        Some(made) => type_pattern(alloc, depth, env, &made, ty, progress),
+    }
+}
+
+/// Types a term that has no template.
+#[cycle(pattern)]
+fn type_extracted(
+    alloc: Global,
+    depth: usize,
+    env: &Environment,
+    term: &Term,
+    sym: &String,
+    args: &Vec<Pattern>,
+    pos: Pos,
+    progress: &mut Progress,
+) -> Result<Option<TypedPattern>, Refusal>
+    ensures { Gives (λ made. record {
+      typed = option_map typed_of made;
+      after = progress_of progress.new;
+    }) result
+        (extracted_by (type_at depth (environment_of env.now)) (environment_of env.now)
+        (term_of term.now) (string_bytes sym.now) (pattern_list_of (patterns_of args.now.items))
+        pos (progress_of progress.old)) }
+{
+    if !env.has_extractor(sym.as_str()) {
+        tell(progress, Kind::NoExtractor(sym.clone()?), pos)?;
+    }
+    let args = type_arguments(alloc, depth, env, args, &term.args, progress)?;
+    Ok(Some(TypedPattern::Term {
+        term: sym.clone()?,
+        ty: term.ret.clone()?,
+        args,
+    }))
+}
+
+/// Types patterns that match one value.
+#[cycle(pattern)]
+fn type_each(
+    alloc: Global,
+    depth: usize,
+    env: &Environment,
+    patterns: &Vec<Pattern>,
+    ty: &String,
+    progress: &mut Progress,
+) -> Result<Vec<TypedPattern>, Refusal>
+    ensures { Gives (λ made. record {
+      typed = all_typed_of made.items;
+      after = progress_of progress.new;
+    }) result
+        (each_by (type_at depth (environment_of env.now))
+        (pattern_list_of (patterns_of patterns.now.items)) (string_bytes ty.now) []
+        (progress_of progress.old)) }
+{
+    let mut typed = Vec::new(alloc);
+    for pattern in patterns {
+        if let Some(made) = type_pattern(alloc, depth, env, pattern, ty, progress)? {
+            typed.push(made)?;
+        }
+    }
+    Ok(typed)
+}
+
+/// Types patterns, each for a value of its type, as many as there are types. Returns the typed
+/// patterns of those that have one, in order. Errors are those of `type_pattern`.
+#[cycle(pattern)]
+pub fn type_arguments(
+    alloc: Global,
+    depth: usize,
+    env: &Environment,
+    patterns: &Vec<Pattern>,
+    types: &Vec<String>,
+    progress: &mut Progress,
+) -> Result<Vec<TypedPattern>, Refusal>
+    ensures { Gives (λ made. record {
+      typed = all_typed_of made.items;
+      after = progress_of progress.new;
+    }) result
+        (arguments_by (type_at depth (environment_of env.now))
+        (pattern_list_of (patterns_of patterns.now.items)) (map string_bytes types.now.items) []
+        (progress_of progress.old)) }
+{
+    let mut typed = Vec::new(alloc);
+    for (number, pattern) in patterns.iter().enumerate() {
+        if number >= types.len() {
+            return Ok(typed);
+        }
+        let ty = &types[number];
+        if let Some(made) = type_pattern(alloc, depth, env, pattern, ty, progress)? {
+            typed.push(made)?;
+        }
+    }
+    Ok(typed)
+}
+
+/// Tells if a term has another number of arguments than are declared. Returns whether it has not.
+fn tell_count(
+    term: &Term,
+    sym: &String,
+    given: usize,
+    pos: Pos,
+    progress: &mut Progress,
+) -> Result<bool, AllocError>
+    ensures counts { IfOk result (λ counts. counts ≡ (length (term_of term.now).args == given)) }
+    ensures told { OnOk result (progress_of progress.new
+        ≡ unless (length (term_of term.now).args == given)
+        (argument_count (string_bytes sym.now) given (length (term_of term.now).args)) pos
+        (progress_of progress.old)) }
+{
+    let expected = term.args.len();
+    if expected == given {
+        return Ok(true);
+    }
+    let kind = Kind::ArgumentCount {
+        term: sym.clone()?,
+        given,
+        expected,
+    };
+    tell(progress, kind, pos)?;
+    Ok(false)
+}
+
+/// Puts arguments into a template.
+fn filled(
+    alloc: Global,
+    template: &Pattern,
+    args: &Vec<Pattern>,
+) -> Result<Option<Pattern>, AllocError>
+    ensures { IfOk result (λ made. option_map pattern_of made
+        ≡ plug (pattern_of template.now)
+        (list_list (pattern_list_of (patterns_of args.now.items)))) }
+{
+    template.subst_macro_args(alloc, args)
+}
+
+/// Counts patterns.
+#[tactic(auto, using(crate::proofs::Counts::count_of))]
+fn count_patterns(patterns: &Vec<Pattern>) -> usize
+    ensures { result ≡ count_patterns (pattern_list_of (patterns_of patterns.now.items)) }
+{
+    patterns.len()
+}
+
+/// Returns the term that converts in patterns, if there is one.
+fn converting<'a>(env: &'a Environment, inner: &str, outer: &str) -> Option<&'a String>
+    ensures { option_map (λ c. string_bytes c.now) result
+        ≡ converting (environment_of env.now) inner.now outer.now }
+{
+    match env.converter(inner, outer) {
+        Some(converter) => {
+            if env.has_extractor(converter.as_str()) {
+                Some(converter)
+            } else {
+                None
+            }
+        }
+        None => None,
+    }
+}
+
+/// Types a variable: the first of its name is bound, a later one is compared.
+fn type_variable(
+    alloc: Global,
+    var: &Ident,
+    pos: Pos,
+    ty: &String,
+    progress: &mut Progress,
+) -> Result<TypedPattern, AllocError>
+    ensures { IfOk result (λ made. record {
+      typed = Some (typed_of made);
+      after = progress_of progress.new;
+    }
+        ≡ type_variable (name_of var.now) pos (string_bytes ty.now) (progress_of progress.old)) }
+{
+    match find(&progress.bound, var.0.as_str()) {
+        None => {
+            let variable = progress.bound.len();
+            let subpat = TypedPattern::Wildcard { ty: ty.clone()? };
+            bind(progress, var.0.clone()?, ty.clone()?)?;
+            Ok(TypedPattern::Bind {
+                variable,
+                ty: ty.clone()?,
+                subpat: Box::new(alloc, subpat)?,
+            })
+        }
+        Some(found) => {
+            let variable = found.number;
+            let known = found.ty.clone()?;
+            if known.as_str() != ty.as_str() {
+                let kind = Kind::VariableType {
+                    name: var.0.clone()?,
+                    expected: ty.clone()?,
+                    found: known.clone()?,
+                };
+                tell(progress, kind, pos)?;
+            }
+            Ok(TypedPattern::Var {
+                variable,
+                ty: known,
+            })
+        }
+    }
+}
+
+/// Binds a variable to the value that a typed pattern matches. It isn't bound before.
+fn bind_to(
+    alloc: Global,
+    inner: TypedPattern,
+    var: &Ident,
+    pos: Pos,
+    progress: &mut Progress,
+) -> Result<TypedPattern, AllocError>
+    ensures { IfOk result (λ made. record {
+      typed = Some (typed_of made);
+      after = progress_of progress.new;
+    }
+        ≡ bind_to (typed_of inner) (name_of var.now) pos (progress_of progress.old)) }
+{
+    let ty = inner.ty()?;
+    let variable = progress.bound.len();
+    if find(&progress.bound, var.0.as_str()).is_some() {
+        tell(progress, Kind::VariableBound(var.0.clone()?), pos)?;
+    }
+    bind(progress, var.0.clone()?, ty.clone()?)?;
+    Ok(TypedPattern::Bind {
+        variable,
+        ty,
+        subpat: Box::new(alloc, inner)?,
+    })
+}
+
+/// Types `true` or `false`.
+fn type_bool(
+    alloc: Global,
+    val: bool,
+    pos: Pos,
+    ty: &String,
+    progress: &mut Progress,
+) -> Result<TypedPattern, AllocError>
+    ensures { IfOk result (λ made. record {
+      typed = Some (typed_of made);
+      after = progress_of progress.new;
+    }
+        ≡ type_bool val pos (string_bytes ty.now) (progress_of progress.old)) }
+{
+    if ty.as_str() != "bool" {
+        let kind = Kind::BoolType {
+            val,
+            ty: ty.clone()?,
+        };
+        tell(progress, kind, pos)?;
+    }
+    Ok(TypedPattern::Bool {
+        val,
+        ty: String::from_str(alloc, "bool")?,
+    })
+}
+
+/// Types an integer.
+fn type_integer(
+    env: &Environment,
+    val: i128,
+    pos: Pos,
+    ty: &String,
+    progress: &mut Progress,
+) -> Result<TypedPattern, AllocError>
+    ensures { IfOk result (λ made. record {
+      typed = Some (typed_of made);
+      after = progress_of progress.new;
+    }
+        ≡ type_integer (environment_of env.now) val pos (string_bytes ty.now)
+        (progress_of progress.old)) }
+{
+    if !env.is_number(ty.as_str()) {
+        let kind = Kind::IntegerType {
+            val,
+            ty: ty.clone()?,
+        };
+        tell(progress, kind, pos)?;
+    }
+    Ok(TypedPattern::Int {
+        val,
+        ty: ty.clone()?,
+    })
+}
+
+/// Types a constant.
+fn type_constant(
+    env: &Environment,
+    name: &Ident,
+    pos: Pos,
+    ty: &String,
+    progress: &mut Progress,
+) -> Result<Option<TypedPattern>, AllocError>
+    ensures { IfOk result (λ made. record {
+      typed = option_map typed_of made;
+      after = progress_of progress.new;
+    }
+        ≡ type_constant (environment_of env.now) (name_of name.now) pos (string_bytes ty.now)
+        (progress_of progress.old)) }
+{
+    match env.constant(name.0.as_str()) {
+        None => {
+            tell(progress, Kind::ConstantUnknown(name.0.clone()?), pos)?;
+            Ok(None)
+        }
+        Some(known) => {
+            if known.as_str() != ty.as_str() {
+                let kind = Kind::ConstantType {
+                    expected: ty.clone()?,
+                    found: known.clone()?,
+                };
+                tell(progress, kind, pos)?;
+            }
+            Ok(Some(TypedPattern::Const {
+                name: name.0.clone()?,
+                ty: known.clone()?,
+            }))
+        }
+    }
+}

@@ -1,0 +1,81 @@
+//! What is known after a part of a rule.
+
+ghost use Rattle.std.specs.Prelude.{◌≡◌, ◌++◌, ◌∷◌, [], OnOk, option_map, string_bytes};
+ghost use Rattle.isle_check_typing.specs.Progress.{ProgressNode, bind, find, tell};
+ghost use Rattle.isle_check_typing.specs.Views.{found_of, kind_of, progress_of, variables_of};
+
+use crate::fault::{Fault, Kind};
+use isle_base::lexer::Pos;
+use std::alloc::{AllocError, Global};
+
+/// A variable that is bound.
+#[derive(Debug, Drop)]
+pub struct Variable {
+    /// Its name.
+    pub name: String,
+    /// Its type.
+    pub ty: String,
+}
+
+/// What is known after a part of a rule.
+#[derive(Debug, Drop)]
+pub struct Progress {
+    /// The variables that are bound, in order. A variable's number is its index.
+    pub bound: Vec<Variable>,
+    /// The errors, in order.
+    pub faults: Vec<Fault>,
+}
+
+/// A variable that was found.
+#[derive(Clone, Copy)]
+pub struct Found<'a> {
+    /// Its number.
+    pub number: usize,
+    /// Its type.
+    pub ty: &'a String,
+}
+
+/// Returns the progress before a rule: nothing is bound.
+pub fn no_progress(alloc: Global) -> Progress
+    ensures { progress_of result ≡ record { bound = []; faults = [] } }
+{
+    Progress {
+        bound: Vec::new(alloc),
+        faults: Vec::new(alloc),
+    }
+}
+
+/// Adds an error. An `Err` means out of memory.
+pub fn tell(progress: &mut Progress, kind: Kind, pos: Pos) -> Result<(), AllocError>
+    ensures { OnOk result
+        (progress_of progress.new ≡ tell (kind_of kind) pos (progress_of progress.old)) }
+{
+    progress.faults.push(Fault { kind, pos })?;
+    Ok(())
+}
+
+/// Binds a variable. An `Err` means out of memory.
+pub fn bind(progress: &mut Progress, name: String, ty: String) -> Result<(), AllocError>
+    ensures { OnOk result
+        (progress_of progress.new
+        ≡ bind (string_bytes name) (string_bytes ty) (progress_of progress.old)) }
+{
+    progress.bound.push(Variable { name, ty })?;
+    Ok(())
+}
+
+/// Returns the last variable of this name.
+pub fn find<'a>(bound: &'a [Variable], name: &str) -> Option<Found<'a>>
+    ensures { option_map found_of result ≡ find (variables_of bound.now) name.now }
+{
+    let mut found = None;
+    for (number, variable) in bound.iter().enumerate() {
+        if variable.name.as_str() == name {
+            found = Some(Found {
+                number,
+                ty: &variable.ty,
+            });
+        }
+    }
+    found
+}
