@@ -44,8 +44,8 @@ pub struct Environment<'a> {
 }
 
 impl<'a> Environment<'a> {
-    /// Returns the environment of a program. Doubled definitions are errors of other calls: here the
-    /// last of them counts, and the first converter of two types. No template may hold a macro
+    /// Returns the environment of a program. Doubled definitions are errors of other calls: here
+    /// the last of them counts, and the first converter of two types. No template may hold a macro
     /// argument, `Pattern::MacroArg`, which the parser never makes. An `Err` means out of memory.
     pub fn new(alloc: Global, defs: &'a [Def]) -> Result<Environment<'a>, AllocError>
         requires { definitions_have_macro_arg (definitions_of defs.now) ≡ false }
