@@ -10,46 +10,64 @@
 //! greatest. All must succeed if the text is accepted, and otherwise fail at a place in the text;
 //! if not, the answer is `wrong`.
 //!
-//! | Case | The answer |
-//! |---|---|
-//! | `tokens FILE READ TEXT` | each answer of `next`, after the lexer's state before the call |
-//! | `parse FILE READ TEXT`, `parse_without_pos FILE READ TEXT` | the tree, or the fault |
-//! | `next_def FILE COUNT TEXT` | a word for each of the first COUNT answers of `next_def` |
-//! | `format WIDTH.. TEXT` | the text formatted at the first width, that formatted at the next one, and so on |
-//! | `tidy TEXT` | the tidy text |
-//! | `lines WIDTH TIMES TEXT` | the numbers of lines, of bytes in the longest line, and of bytes, of the text repeated and formatted |
-//! | `refusal TEXT` | the error as Display shows it, or `accepted` |
-//! | `beginnings TEXT` | the number of beginnings of the text, those that are accepted, and a hash of the answers of `refusal` for the others |
-//! | `damaged PIECE TEXT` | the same for the texts with the piece in place of one character |
-//! | `parse_errors OFFSET.. NAME TEXT` | parse errors at these places of a file, as Display shows them |
-//! | `overlap_error OFFSET.. NAME TEXT` | an overlap of rules at these places, as Display shows it |
-//! | `shadowed_error MASK OFFSET.. NAME TEXT` | rules at these places that another one shadows, as Display shows them |
-//! | `line_map OFFSET.. TEXT` | the line of each place, and the line map |
-//! | `fits ROOM TEXT` | whether the S-expression of each definition fits the room |
-//! | `writable TEXT` | whether the tree is writable |
-//! | `built KIND NUMBER.. WORD..` | whether the tree of this kind (see `isle_test_trees`) is writable; an error if its print parses as the tree and it isn't, or the other way round, at any of four widths |
-//! | `built_alone KIND NUMBER.. WORD..` | whether each of its definitions is writable, without printing |
-//! | `built_print KIND NUMBER.. WORD..` | whether it is writable, and its print at width 78 |
-//! | `nodes FILE TEXT` | each definition and each of its parts, printed by itself, with the positions of patterns and expressions |
-//! | `terms TEXT` | the position and the symbol of each term in rules and extractors |
-//! | `template PATTERN NAMES` | whether the template of the pattern holds arguments of a macro, and the template |
-//! | `substitute PATTERN NAMES PATTERN..` | the text of the template with the patterns after the names put in |
-//! | `by_hand NAME` | what `isle_test_trees` asks of trees by hand under this name |
-//! | `is_identifier TEXT` | whether the text is an identifier |
-//! | `begins_identifier TEXT`, `continues_identifier TEXT` | whether its first character begins an identifier, or continues one |
-//! | `name_order OFFSET NAME OTHER` | how a name without a position compares with another one at an offset |
-//! | `full_name OFFSET TYPE VARIANT` | the full name of a variant at an offset of file 2 |
-//! | `apart TEXT` | whether each definition is equal to its copy, and to no other definition |
-//! | `apart_specs TEXT` | the same of the spec expressions of each spec, and of their lists |
-//! | `apart_places FILE TEXT` | whether the definitions without positions differ from those in a file |
-//! | `holds_argument TEXT` | whether a definition holds the argument of a macro |
-//! | `walk FILE TEXT SYMBOL OTHER` | the position of the last term of the one rule's pattern, and whether its expression has terms of these symbols |
-//! | `index PROGRAM` | how many symbols the program defines. The cases below ask the index of the last such program, file 0 |
-//! | `index_at OFFSET` | the name there, and its occurrences, each definition with a `*` |
-//! | `index_symbols` | the program's definitions |
-//! | `index_candidates OFFSET FROM PREFIX` | the names that may be written there and begin with the prefix, with the variables from FROM on |
-//! | `index_can_rename OFFSET` | whether the name there can be renamed at all |
-//! | `index_rename OFFSET NAME` | the places that change when the name there is renamed, or why it can't be renamed |
+//! The cases, and their answers:
+//!
+//! - `tokens FILE READ TEXT`: each answer of `next`, after the lexer's state before the call
+//! - `parse FILE READ TEXT`, `parse_without_pos FILE READ TEXT`: the tree, or the fault
+//! - `next_def FILE COUNT TEXT`: a word for each of the first COUNT answers of `next_def`
+//! - `format WIDTH.. TEXT`: the text formatted at the first width, that formatted at the next one,
+//!   and so on
+//! - `tidy TEXT`: the tidy text
+//! - `lines WIDTH TIMES TEXT`: the numbers of lines, of bytes in the longest line, and of bytes,
+//!   of the text repeated and formatted
+//! - `refusal TEXT`: the error as Display shows it, or `accepted`
+//! - `beginnings TEXT`: the number of beginnings of the text, those that are accepted, and a hash
+//!   of the answers of `refusal` for the others
+//! - `damaged PIECE TEXT`: the same for the texts with the piece in place of one character
+//! - `parse_errors OFFSET.. NAME TEXT`: parse errors at these places of a file, as Display shows
+//!   them
+//! - `overlap_error OFFSET.. NAME TEXT`: an overlap of rules at these places, as Display shows it
+//! - `shadowed_error MASK OFFSET.. NAME TEXT`: rules at these places that another one shadows, as
+//!   Display shows them
+//! - `line_map OFFSET.. TEXT`: the line of each place, and the line map
+//! - `fits ROOM TEXT`: whether the S-expression of each definition fits the room
+//! - `writable TEXT`: whether the tree is writable
+//! - `built KIND NUMBER.. WORD..`: whether the tree of this kind (see `isle_test_trees`) is
+//!   writable; an error if its print parses as the tree and it isn't, or the other way round, at
+//!   any of four widths
+//! - `built_alone KIND NUMBER.. WORD..`: whether each of its definitions is writable, without
+//!   printing
+//! - `built_print KIND NUMBER.. WORD..`: whether it is writable, and its print at width 78
+//! - `nodes FILE TEXT`: each definition and each of its parts, printed by itself, with the
+//!   positions of patterns and expressions
+//! - `terms TEXT`: the position and the symbol of each term in rules and extractors
+//! - `template PATTERN NAMES`: whether the template of the pattern holds arguments of a macro, and
+//!   the template
+//! - `substitute PATTERN NAMES PATTERN..`: the text of the template with the patterns after the
+//!   names put in
+//! - `by_hand NAME`: what `isle_test_trees` asks of trees by hand under this name
+//! - `is_identifier TEXT`: whether the text is an identifier
+//! - `begins_identifier TEXT`, `continues_identifier TEXT`: whether its first character begins an
+//!   identifier, or continues one
+//! - `name_order OFFSET NAME OTHER`: how a name without a position compares with another one at an
+//!   offset
+//! - `full_name OFFSET TYPE VARIANT`: the full name of a variant at an offset of file 2
+//! - `apart TEXT`: whether each definition is equal to its copy, and to no other definition
+//! - `apart_specs TEXT`: the same of the spec expressions of each spec, and of their lists
+//! - `apart_places FILE TEXT`: whether the definitions without positions differ from those in a
+//!   file
+//! - `holds_argument TEXT`: whether a definition holds the argument of a macro
+//! - `walk FILE TEXT SYMBOL OTHER`: the position of the last term of the one rule's pattern, and
+//!   whether its expression has terms of these symbols
+//! - `index PROGRAM`: how many symbols the program defines. The cases below ask the index of the
+//!   last such program, file 0
+//! - `index_at OFFSET`: the name there, and its occurrences, each definition with a `*`
+//! - `index_symbols`: the program's definitions
+//! - `index_candidates OFFSET FROM PREFIX`: the names that may be written there and begin with the
+//!   prefix, with the variables from FROM on
+//! - `index_can_rename OFFSET`: whether the name there can be renamed at all
+//! - `index_rename OFFSET NAME`: the places that change when the name there is renamed, or why it
+//!   can't be renamed
 #![tactic(auto)]
 
 mod answers;

@@ -243,7 +243,8 @@ pub(crate) fn put_end(
 ) -> Result<(), AllocError>
     requires { IsPending text.now pending }
     ensures { OnOk result (string_bytes out.new
-        ≡ string_bytes out.old ++ (part_of text.now pending.from pending.to ++ text_from before [])) }
+        ≡ string_bytes out.old
+        ++ (part_of text.now pending.from pending.to ++ text_from before [])) }
 {
     put_pending(out, text, pending)?;
     put_final(out, before)
