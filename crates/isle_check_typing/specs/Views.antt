@@ -8,7 +8,7 @@ use Rattle.isle_check_typing.specs.declared.progress.Progress.{Progress}
 use Rattle.isle_check_typing.specs.declared.progress.Variable.{Variable}
 use Rattle.isle_check_typing.specs.declared.refusal.Refusal.{Refusal}
 use Rattle.isle_check_typing.specs.declared.refusal.Refusal.TheVariants as refusals
-use Rattle.isle_check_typing.specs.Faults.{KindNode, FaultNode, integer_type, bool_type, constant_unknown, constant_type, variable_bound, variable_type, term_unknown, term_type, argument_count, no_extractor, parameter_without_argument, macro_argument}
+use Rattle.isle_check_typing.specs.Faults.{KindNode, FaultNode, integer_type, bool_type, constant_unknown, constant_type, variable_bound, variable_type, term_unknown, term_type, argument_count, no_extractor, parameter_without_argument, macro_argument, integer_without_type, expression_constant_type, variable_unknown, expression_variable_type, let_type_unknown, expression_term_unknown, expression_term_type, impure_term, multi_term, partial_term, priority_in_multi, term_undefined, no_constructor}
 use Rattle.isle_check_typing.specs.Progress.{FoundNode, ProgressNode, VariableNode}
 
 abbrev pub kind_of : Kind → KindNode
@@ -24,6 +24,19 @@ kind_of (kinds.ArgumentCount term given expected) = argument_count (string_bytes
 kind_of (kinds.NoExtractor term) = no_extractor (string_bytes term)
 kind_of (kinds.ParameterWithoutArgument term) = parameter_without_argument (string_bytes term)
 kind_of kinds.MacroArgument = macro_argument
+kind_of kinds.IntegerWithoutType = integer_without_type
+kind_of (kinds.ExpressionConstantType name expected found) = expression_constant_type (string_bytes name) (string_bytes expected) (string_bytes found)
+kind_of (kinds.VariableUnknown name) = variable_unknown (string_bytes name)
+kind_of (kinds.ExpressionVariableType name expected found) = expression_variable_type (string_bytes name) (string_bytes expected) (string_bytes found)
+kind_of (kinds.LetTypeUnknown name ty) = let_type_unknown (string_bytes name) (string_bytes ty)
+kind_of (kinds.ExpressionTermUnknown term is_variable) = expression_term_unknown (string_bytes term) is_variable
+kind_of (kinds.ExpressionTermType expected found) = expression_term_type (string_bytes expected) (string_bytes found)
+kind_of (kinds.ImpureTerm term) = impure_term (string_bytes term)
+kind_of (kinds.MultiTerm term) = multi_term (string_bytes term)
+kind_of (kinds.PartialTerm term is_multi) = partial_term (string_bytes term) is_multi
+kind_of kinds.PriorityInMulti = priority_in_multi
+kind_of (kinds.TermUndefined term) = term_undefined (string_bytes term)
+kind_of (kinds.NoConstructor term) = no_constructor (string_bytes term)
 
 abbrev pub fault_of : Fault → FaultNode
 fault_of f = record { kind = kind_of f.kind; pos = f.pos }
@@ -32,7 +45,7 @@ abbrev pub faults_of : List Fault → List FaultNode
 faults_of fs = map fault_of fs
 
 abbrev pub variable_of : Variable → VariableNode
-variable_of v = record { name = string_bytes v.name; ty = string_bytes v.ty }
+variable_of v = record { name = string_bytes v.name; ty = string_bytes v.ty; is_visible = v.is_visible }
 
 abbrev pub variables_of : List Variable → List VariableNode
 variables_of vs = map variable_of vs
