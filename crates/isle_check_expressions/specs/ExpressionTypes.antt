@@ -15,7 +15,7 @@ use Rattle.isle_check_expressions.specs.declared.flags.Flags.{Flags}
 use Rattle.isle_check_expressions.specs.TypedExpressions.{TypedExpressionNode, typed_var_expression, typed_bool_expression, typed_int_expression, typed_const_expression, typed_term_expression, typed_let_expression, TypedLetNode, type_of_expression, typed_expression_list, typed_let_list}
 
 -- how expressions are typed in an expression
-abbrev pub Below : Type 1
+abbrev pub Below : Type 0
 Below = Expression → (wanted : Option (List ℕ)) → ProgressNode → Option (Typing TypedExpressionNode)
 
 -- the type that is wanted, if it is another

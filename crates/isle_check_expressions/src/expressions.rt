@@ -27,11 +27,11 @@ use std::alloc::Global;
 
 /// What the parts of an expression are typed with.
 #[derive(Clone, Copy)]
-pub struct Typer<'a> {
+pub struct Typer<'e, 'a> {
     alloc: Global,
     /// As many expressions may lie in one another in each part.
     depth: usize,
-    env: &'a Environment<'a>,
+    env: &'e Environment<'a>,
     flags: Flags,
 }
 
@@ -53,7 +53,7 @@ pub fn type_expression(
 ) -> Result<Option<TypedExpression>, Refusal>
     ensures { GivesTyping typed_expression_of result progress.new
         (expression_at depth (environment_of env.now) flags (expression_of expr.now)
-        (type_text wanted) (progress_of progress.old)) }
+        (type_text wanted.entry) (progress_of progress.old)) }
 {
     if depth == 0 {
         return Err(Refusal::TooDeep);
@@ -75,8 +75,8 @@ fn type_step(
     progress: &mut Progress,
 ) -> Result<Option<TypedExpression>, Refusal>
     ensures { GivesTyping typed_expression_of result progress.new
-        (step (parts_by typer) (environment_of typer.env.now) typer.flags
-        (expression_of expr.now) (type_text wanted) (progress_of progress.old)) }
+        (step (parts_by typer.entry) (environment_of typer.entry.env.now) typer.entry.flags
+        (expression_of expr.now) (type_text wanted.entry) (progress_of progress.old)) }
 {
     match expr {
         Expr::Term { sym, args, pos } => {
@@ -101,7 +101,8 @@ fn type_part(
     progress: &mut Progress,
 ) -> Result<Option<TypedExpression>, Refusal>
     ensures { GivesTyping typed_expression_of result progress.new
-        (parts_by typer (expression_of expr.now) (type_text wanted) (progress_of progress.old)) }
+        (parts_by typer.entry (expression_of expr.now) (type_text wanted.entry)
+        (progress_of progress.old)) }
 {
     type_expression(
         typer.alloc,
@@ -125,7 +126,7 @@ fn type_put(
     progress: &mut Progress,
 ) -> Result<Option<TypedExpression>, Refusal>
     ensures { GivesTyping typed_expression_of result progress.new
-        (put_by (parts_by typer) (string_bytes converter.now) (expression_of expr.now) pos
+        (put_by (parts_by typer.entry) (string_bytes converter.now) (expression_of expr.now) pos
         (string_bytes ty.now) (progress_of progress.old)) }
 {
     let mut args = Vec::new(typer.alloc);
@@ -149,9 +150,9 @@ fn type_variable(
     progress: &mut Progress,
 ) -> Result<Option<TypedExpression>, Refusal>
     ensures { GivesTyping typed_expression_of result progress.new
-        (variable_by (parts_by typer) (environment_of typer.env.now)
+        (variable_by (parts_by typer.entry) (environment_of typer.entry.env.now)
         (find (progress_of progress.old).bound (name_of name.now).text) (expression_of expr.now)
-        (name_of name.now).text pos (type_text wanted) (progress_of progress.old)) }
+        (name_of name.now).text pos (type_text wanted.entry) (progress_of progress.old)) }
 {
     let Some(found) = find(&progress.bound, name.0.as_str()) else {
         tell(progress, Kind::VariableUnknown(name.0.clone()?), pos)?;
@@ -188,10 +189,10 @@ fn type_term(
     progress: &mut Progress,
 ) -> Result<Option<TypedExpression>, Refusal>
     ensures { GivesTyping typed_expression_of result progress.new
-        (term_by (parts_by typer) (environment_of typer.env.now) typer.flags
-        ((environment_of typer.env.now).terms (name_of sym.now).text) (expression_of expr.now)
+        (term_by (parts_by typer.entry) (environment_of typer.entry.env.now) typer.entry.flags
+        ((environment_of typer.entry.env.now).terms (name_of sym.now).text) (expression_of expr.now)
         (name_of sym.now).text (expression_list_of (expressions_of args.now.items)) pos
-        (type_text wanted) (progress_of progress.old)) }
+        (type_text wanted.entry) (progress_of progress.old)) }
 {
     let Some(term) = typer.env.term(sym.0.as_str()) else {
         let is_variable = find(&progress.bound, sym.0.as_str()).is_some();
@@ -219,8 +220,8 @@ fn type_term_as(
     progress: &mut Progress,
 ) -> Result<Option<TypedExpression>, Refusal>
     ensures { GivesTyping typed_expression_of result progress.new
-        (term_as (parts_by typer) (environment_of typer.env.now) typer.flags (term_of term.now)
-        (type_text other) (expression_of expr.now) (string_bytes sym.now)
+        (term_as (parts_by typer.entry) (environment_of typer.entry.env.now) typer.entry.flags
+        (term_of term.now) (type_text other.entry) (expression_of expr.now) (string_bytes sym.now)
         (expression_list_of (expressions_of args.now.items)) pos (progress_of progress.old)) }
 {
     if let Some(ty) = other {
@@ -247,7 +248,7 @@ fn type_own(
     progress: &mut Progress,
 ) -> Result<Option<TypedExpression>, Refusal>
     ensures { GivesTyping typed_expression_of result progress.new
-        (own_by (parts_by typer) typer.flags (term_of term.now) (string_bytes sym.now)
+        (own_by (parts_by typer.entry) typer.entry.flags (term_of term.now) (string_bytes sym.now)
         (expression_list_of (expressions_of args.now.items)) pos (progress_of progress.old)) }
 {
     use_term(typer.flags, term, sym, pos, progress)?;
@@ -269,7 +270,7 @@ fn type_arguments(
     progress: &mut Progress,
 ) -> Result<Vec<TypedExpression>, Refusal>
     ensures { GivesTypings typed_expression_of result progress.new
-        (arguments_by (parts_by typer) (expression_list_of (expressions_of exprs.now.items))
+        (arguments_by (parts_by typer.entry) (expression_list_of (expressions_of exprs.now.items))
         (map string_bytes types.now.items) [] (progress_of progress.old)) }
 {
     let mut typed = Vec::new(typer.alloc);
@@ -295,9 +296,9 @@ fn type_let(
     progress: &mut Progress,
 ) -> Result<Option<TypedExpression>, Refusal>
     ensures { GivesTyping typed_expression_of result progress.new
-        (type_let (parts_by typer) (environment_of typer.env.now)
+        (type_let (parts_by typer.entry) (environment_of typer.entry.env.now)
         (let_list_of (single_lets_of defs.now.items)) (expression_of body.now) pos
-        (type_text wanted) (progress_of progress.old)) }
+        (type_text wanted.entry) (progress_of progress.old)) }
 {
     let count = progress.bound.len();
     let defs = type_lets(typer, defs, pos, progress)?;
@@ -322,7 +323,7 @@ fn type_lets(
     progress: &mut Progress,
 ) -> Result<Vec<TypedLet>, Refusal>
     ensures { GivesTypings typed_let_of result progress.new
-        (lets_by (parts_by typer) (environment_of typer.env.now) pos
+        (lets_by (parts_by typer.entry) (environment_of typer.entry.env.now) pos
         (let_list_of (single_lets_of defs.now.items)) [] (progress_of progress.old)) }
 {
     let mut typed = Vec::new(typer.alloc);
@@ -343,8 +344,9 @@ fn type_let_def(
     progress: &mut Progress,
 ) -> Result<Option<TypedLet>, Refusal>
     ensures { GivesTyping typed_let_of result progress.new
-        (let_by (parts_by typer) (environment_of typer.env.now) pos (name_of def.now.var).text
-        (name_of def.now.ty).text (expression_of def.now.val) (progress_of progress.old)) }
+        (let_by (parts_by typer.entry) (environment_of typer.entry.env.now) pos
+        (name_of def.now.var).text (name_of def.now.ty).text (expression_of def.now.val.value)
+        (progress_of progress.old)) }
 {
     let name = &def.var.0;
     let ty = &def.ty.0;

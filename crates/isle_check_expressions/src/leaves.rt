@@ -18,7 +18,7 @@ use std::alloc::{AllocError, Global};
 
 /// Returns the type that is wanted, if it is another one than what is found.
 pub fn other_than<'a>(found: &str, wanted: Option<&'a String>) -> Option<&'a String>
-    ensures { type_text result ≡ other_than found.now (type_text wanted) }
+    ensures { type_text result ≡ other_than found.now (type_text wanted.entry) }
 {
     match wanted {
         None => None,
@@ -38,7 +38,7 @@ pub fn type_bool(
       typed = Some (typed_expression_of made);
       after = progress_of progress.new;
     }
-        ≡ type_bool val pos (type_text wanted) (progress_of progress.old)) }
+        ≡ type_bool val pos (type_text wanted.entry) (progress_of progress.old)) }
 {
     if let Some(ty) = other_than("bool", wanted) {
         let kind = Kind::BoolType {
@@ -65,7 +65,7 @@ pub fn type_integer(
       typed = option_map typed_expression_of made;
       after = progress_of progress.new;
     }
-        ≡ type_integer (environment_of env.now) val pos (type_text wanted)
+        ≡ type_integer (environment_of env.now) val pos (type_text wanted.entry)
         (progress_of progress.old)) }
 {
     match wanted {
@@ -101,8 +101,8 @@ pub fn type_constant(
       typed = option_map typed_expression_of made;
       after = progress_of progress.new;
     }
-        ≡ type_constant (environment_of env.now) (name_of name.now).text pos (type_text wanted)
-        (progress_of progress.old)) }
+        ≡ type_constant (environment_of env.now) (name_of name.now).text pos
+        (type_text wanted.entry) (progress_of progress.old)) }
 {
     match env.constant(name.0.as_str()) {
         None => {

@@ -1,8 +1,8 @@
 //! Typed expressions.
 
 ghost use Rattle.std.specs.Prelude.{◌≡◌, IfOk, string_bytes};
-ghost use Rattle.isle_check_expressions.specs.Typed.{type_of};
-ghost use Rattle.isle_check_expressions.specs.TypedView.{typed_of};
+ghost use Rattle.isle_check_expressions.specs.TypedExpressions.{type_of_expression};
+ghost use Rattle.isle_check_expressions.specs.TypedView.{typed_expression_of};
 
 use std::alloc::AllocError;
 
@@ -58,7 +58,8 @@ pub struct TypedLet {
 impl TypedExpression {
     /// Returns the type of a typed expression. An `Err` means out of memory.
     pub fn ty(&self) -> Result<String, AllocError>
-        ensures { IfOk result (λ ty. string_bytes ty ≡ type_of (typed_of self.now)) }
+        ensures { IfOk result
+            (λ ty. string_bytes ty ≡ type_of_expression (typed_expression_of self.now)) }
     {
         match self {
             TypedExpression::Var { ty, .. } => ty.clone(),

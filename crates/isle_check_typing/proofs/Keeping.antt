@@ -13,16 +13,16 @@ use Rattle.isle_check_typing.specs.Typed.{TypedNode, typed_and, typed_term}
 use Rattle.isle_check_typing.specs.TypedView.{typed_list_of}
 use Rattle.isle_check_typing.specs.Typings.{Typing, Typings, and_then, gives, with_typed}
 
-map-keeps : {X Y : Type 0} (m n : Option X) (f : X → Y) (y : Y) → ((x : X) → m ≡ Some x → n ≡ Some x) → option_map f m ≡ Some y → option_map f n ≡ Some y
+pub map-keeps : {X Y : Type 0} (m n : Option X) (f : X → Y) (y : Y) → ((x : X) → m ≡ Some x → n ≡ Some x) → option_map f m ≡ Some y → option_map f n ≡ Some y
 map-keeps None n f y keeps h = cc
 map-keeps (Some x) n f y keeps h = ap (option_map f) (keeps x refl) ∙ h
 
-then-keeps : {X Y : Type 0} (m n : Option X) (f g : X → Option Y) (y : Y) → ((x : X) → m ≡ Some x → n ≡ Some x) →
+pub then-keeps : {X Y : Type 0} (m n : Option X) (f g : X → Option Y) (y : Y) → ((x : X) → m ≡ Some x → n ≡ Some x) →
     ((x : X) → f x ≡ Some y → g x ≡ Some y) → and_then m f ≡ Some y → and_then n g ≡ Some y
 then-keeps None n f g y keeps next h = cc
 then-keeps (Some x) n f g y keeps next h = ap (λ o. and_then o g) (keeps x refl) ∙ next x h
 
-choose-keeps : {X : Type 0} (b : Bool) (x y z w r : X) → (x ≡ r → z ≡ r) → (y ≡ r → w ≡ r) → (if b then x else y) ≡ r → (if b then z else w) ≡ r
+pub choose-keeps : {X : Type 0} (b : Bool) (x y z w r : X) → (x ≡ r → z ≡ r) → (y ≡ r → w ≡ r) → (if b then x else y) ≡ r → (if b then z else w) ≡ r
 choose-keeps true x y z w r one two h = one h
 choose-keeps false x y z w r one two h = two h
 

@@ -15,7 +15,7 @@ use Rattle.isle_check_typing.specs.TypedView.{typed_list_of}
 use Rattle.isle_check_typing.specs.Typings.{Typing, Typings, and_then, gives, gives_none, with_typed}
 
 -- how patterns are typed in a pattern
-abbrev pub Below : Type 1
+abbrev pub Below : Type 0
 Below = PatternNode → (ty : List ℕ) → ProgressNode → Option (Typing TypedNode)
 
 -- an integer stands for a value of an integer type or a primitive type
