@@ -4,6 +4,7 @@
 mod constructors;
 mod extractors;
 mod faults;
+pub mod laws;
 mod refusal;
 mod rules;
 mod typed;

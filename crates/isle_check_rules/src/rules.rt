@@ -114,7 +114,7 @@ fn type_sides(
 }
 
 /// Counts patterns.
-#[tactic(auto, using(crate::proofs::Counts::count_of))]
+#[tactic(auto, using(isle_check_typing::proofs::Counts::count_of))]
 fn count_patterns(patterns: &Vec<Pattern>) -> usize
     ensures { result ≡ count_patterns (pattern_list_of (patterns_of patterns.now.items)) }
 {
