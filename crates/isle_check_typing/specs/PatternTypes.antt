@@ -1,6 +1,6 @@
 -- The typed pattern of a pattern, and the progress behind it: variables and errors. An error ends
 -- nothing: what follows is typed as if the error were not there.
-use Rattle.std.specs.Prelude.{ℕ, ℤ, zero, suc, ◌+◌, ◌==◌, List, [], ◌∷◌, ◌++◌, length, Bool, Option, None, Some, is_none, option_map, codes, if◌then◌else◌}
+use Rattle.std.specs.Prelude.{ℕ, ℤ, zero, suc, ◌+◌, ◌==◌, List, [], ◌∷◌, length, Bool, Option, None, Some, is_none, option_map, codes, if◌then◌else◌}
 use Rattle.std.specs.Str.{bytes_eq}
 use Rattle.isle_base_source.specs.declared.pos.Pos.{Pos}
 use Rattle.isle_ast_names.specs.Tree.{Name}
