@@ -15,6 +15,19 @@ pub data KindNode : Type 0 where
   no_extractor : (term : List ℕ) → KindNode
   parameter_without_argument : (term : List ℕ) → KindNode
   macro_argument : KindNode
+  integer_without_type : KindNode
+  expression_constant_type : (name expected found : List ℕ) → KindNode
+  variable_unknown : (name : List ℕ) → KindNode
+  expression_variable_type : (name expected found : List ℕ) → KindNode
+  let_type_unknown : (name ty : List ℕ) → KindNode
+  expression_term_unknown : (term : List ℕ) → (is_variable : Bool) → KindNode
+  expression_term_type : (expected found : List ℕ) → KindNode
+  impure_term : (term : List ℕ) → KindNode
+  multi_term : (term : List ℕ) → KindNode
+  partial_term : (term : List ℕ) → (is_multi : Bool) → KindNode
+  priority_in_multi : KindNode
+  term_undefined : (term : List ℕ) → KindNode
+  no_constructor : (term : List ℕ) → KindNode
 
 pub record FaultNode : Type 0 where
   pub kind : KindNode

@@ -30,7 +30,7 @@ pub enum Kind {
     },
     /// A constant is not known.
     ConstantUnknown(String),
-    /// A constant stands for a value of another type.
+    /// A constant stands in a pattern for a value of another type.
     ConstantType {
         /// The type that is wanted.
         expected: String,
@@ -39,7 +39,7 @@ pub enum Kind {
     },
     /// The variable of `x @ ..` is bound already.
     VariableBound(String),
-    /// A variable that is bound already stands for a value of another type.
+    /// A variable that is bound already stands in a pattern for a value of another type.
     VariableType {
         /// The variable.
         name: String,
@@ -48,9 +48,10 @@ pub enum Kind {
         /// The type of the variable.
         found: String,
     },
-    /// A term is not known.
+    /// A term in a pattern is not known.
     TermUnknown(String),
-    /// A term stands for a value of another type, and no converter of the two types can be used.
+    /// A term stands in a pattern for a value of another type, and no converter of the two types
+    /// can be used.
     TermType {
         /// The type that is wanted.
         expected: String,
@@ -72,4 +73,66 @@ pub enum Kind {
     ParameterWithoutArgument(String),
     /// A macro argument stands outside a template. No text has one.
     MacroArgument,
+    /// An integer stands in an expression for a value of any type.
+    IntegerWithoutType,
+    /// A constant stands in an expression for a value of another type.
+    ExpressionConstantType {
+        /// The constant.
+        name: String,
+        /// The type that is wanted.
+        expected: String,
+        /// The type of the constant.
+        found: String,
+    },
+    /// A variable is not known.
+    VariableUnknown(String),
+    /// A variable stands in an expression for a value of another type, and no converter of the two
+    /// types can be used.
+    ExpressionVariableType {
+        /// The variable.
+        name: String,
+        /// The type that is wanted.
+        expected: String,
+        /// The type of the variable.
+        found: String,
+    },
+    /// The type of a variable of a `let` is not known.
+    LetTypeUnknown {
+        /// The variable.
+        name: String,
+        /// The type.
+        ty: String,
+    },
+    /// A term in an expression is not known.
+    ExpressionTermUnknown {
+        /// The term.
+        term: String,
+        /// Whether a variable of its name is known.
+        is_variable: bool,
+    },
+    /// A term stands in an expression for a value of another type, and no converter of the two
+    /// types can be used.
+    ExpressionTermType {
+        /// The type that is wanted.
+        expected: String,
+        /// The type of the term's result.
+        found: String,
+    },
+    /// A term that is not pure stands in an expression that must be pure.
+    ImpureTerm(String),
+    /// A multi term stands in an expression of a rule whose term is not multi.
+    MultiTerm(String),
+    /// A partial term stands in an expression that must not be partial.
+    PartialTerm {
+        /// The term.
+        term: String,
+        /// Whether the rule's term is multi.
+        is_multi: bool,
+    },
+    /// A rule of a multi term has a priority.
+    PriorityInMulti,
+    /// A term is declared, but has no rules, no extractor and no external definition.
+    TermUndefined(String),
+    /// A term in an expression has no constructor.
+    NoConstructor(String),
 }

@@ -11,6 +11,6 @@ mod typed;
 
 pub use fault::{Fault, Kind};
 pub use patterns::{type_arguments, type_pattern};
-pub use progress::{Progress, Variable, no_progress};
+pub use progress::{Found, Progress, Variable, bind, find, hide_since, no_progress, tell};
 pub use refusal::Refusal;
 pub use typed::TypedPattern;

@@ -15,8 +15,8 @@ ghost use Rattle.isle_check_typing.specs.PatternTypes.{term_by, type_and, type_a
 ghost use Rattle.isle_check_typing.specs.PatternTypes.{type_bool, type_constant, type_integer};
 ghost use Rattle.isle_check_typing.specs.PatternTypes.{type_variable};
 ghost use Rattle.isle_check_typing.specs.Progress.{unless};
-ghost use Rattle.isle_check_typing.specs.TypedView.{all_typed_of, typed_of};
-ghost use Rattle.isle_check_typing.specs.Views.{Gives, progress_of};
+ghost use Rattle.isle_check_typing.specs.TypedView.{typed_of};
+ghost use Rattle.isle_check_typing.specs.Views.{GivesTyping, GivesTypings, progress_of};
 
 use crate::fault::Kind;
 use crate::progress::{Progress, bind, find, tell};
@@ -43,10 +43,7 @@ pub fn type_pattern(
     ty: &String,
     progress: &mut Progress,
 ) -> Result<Option<TypedPattern>, Refusal>
-    ensures { Gives (λ made. record {
-      typed = option_map typed_of made;
-      after = progress_of progress.new;
-    }) result
+    ensures { GivesTyping typed_of result progress.new
         (type_at depth (environment_of env.now) (pattern_of pattern.now) (string_bytes ty.now)
         (progress_of progress.old)) }
 {
@@ -65,10 +62,7 @@ fn type_step(
     ty: &String,
     progress: &mut Progress,
 ) -> Result<Option<TypedPattern>, Refusal>
-    ensures { Gives (λ made. record {
-      typed = option_map typed_of made;
-      after = progress_of progress.new;
-    }) result
+    ensures { GivesTyping typed_of result progress.new
         (step (type_at depth (environment_of env.now)) (environment_of env.now)
         (pattern_of pattern.now) (string_bytes ty.now) (progress_of progress.old)) }
 {
@@ -104,10 +98,7 @@ fn type_and(
     ty: &String,
     progress: &mut Progress,
 ) -> Result<Option<TypedPattern>, Refusal>
-    ensures { Gives (λ made. record {
-      typed = option_map typed_of made;
-      after = progress_of progress.new;
-    }) result
+    ensures { GivesTyping typed_of result progress.new
         (type_and (type_at depth (environment_of env.now))
         (pattern_list_of (patterns_of subpats.now.items)) (string_bytes ty.now)
         (progress_of progress.old)) }
@@ -132,10 +123,7 @@ fn type_term(
     ty: &String,
     progress: &mut Progress,
 ) -> Result<Option<TypedPattern>, Refusal>
-    ensures { Gives (λ made. record {
-      typed = option_map typed_of made;
-      after = progress_of progress.new;
-    }) result
+    ensures { GivesTyping typed_of result progress.new
         (term_by (type_at depth (environment_of env.now)) (environment_of env.now)
         ((environment_of env.now).terms (name_of sym.now).text) (pattern_of pattern.now)
         (name_of sym.now).text (pattern_list_of (patterns_of args.now.items)) pos
@@ -168,10 +156,7 @@ fn type_found(
     ty: &String,
     progress: &mut Progress,
 ) -> Result<Option<TypedPattern>, Refusal>
-    ensures { Gives (λ made. record {
-      typed = option_map typed_of made;
-      after = progress_of progress.new;
-    }) result
+    ensures { GivesTyping typed_of result progress.new
         (found_by (type_at depth (environment_of env.now)) (environment_of env.now)
         (pattern_of pattern.now) (term_of term.now) (string_bytes sym.now)
         (pattern_list_of (patterns_of args.now.items)) pos (string_bytes ty.now)
@@ -205,10 +190,7 @@ fn type_put(
     ty: &String,
     progress: &mut Progress,
 ) -> Result<Option<TypedPattern>, Refusal>
-    ensures { Gives (λ made. record {
-      typed = option_map typed_of made;
-      after = progress_of progress.new;
-    }) result
+    ensures { GivesTyping typed_of result progress.new
         (put_by (type_at depth (environment_of env.now)) (string_bytes converter.now)
         (pattern_of pattern.now) pos (string_bytes ty.now) (progress_of progress.old)) }
 {
@@ -235,10 +217,7 @@ fn type_own(
     ty: &String,
     progress: &mut Progress,
 ) -> Result<Option<TypedPattern>, Refusal>
-    ensures { Gives (λ made. record {
-      typed = option_map typed_of made;
-      after = progress_of progress.new;
-    }) result
+    ensures { GivesTyping typed_of result progress.new
         (own_by (type_at depth (environment_of env.now)) (environment_of env.now)
         (term_of term.now) (string_bytes sym.now) (pattern_list_of (patterns_of args.now.items))
         pos (string_bytes ty.now) (progress_of progress.old)) }
@@ -269,10 +248,7 @@ fn type_filled(
     ty: &String,
     progress: &mut Progress,
 ) -> Result<Option<TypedPattern>, Refusal>
-    ensures { Gives (λ made. record {
-      typed = option_map typed_of made;
-      after = progress_of progress.new;
-    }) result
+    ensures { GivesTyping typed_of result progress.new
         (filled_by (type_at depth (environment_of env.now)) (plug (pattern_of template.now)
         (list_list (pattern_list_of (patterns_of args.now.items)))) counts
         (string_bytes sym.now) pos (string_bytes ty.now) (progress_of progress.old)) }
@@ -300,10 +276,7 @@ fn type_extracted(
     pos: Pos,
     progress: &mut Progress,
 ) -> Result<Option<TypedPattern>, Refusal>
-    ensures { Gives (λ made. record {
-      typed = option_map typed_of made;
-      after = progress_of progress.new;
-    }) result
+    ensures { GivesTyping typed_of result progress.new
         (extracted_by (type_at depth (environment_of env.now)) (environment_of env.now)
         (term_of term.now) (string_bytes sym.now) (pattern_list_of (patterns_of args.now.items))
         pos (progress_of progress.old)) }
@@ -329,10 +302,7 @@ fn type_each(
     ty: &String,
     progress: &mut Progress,
 ) -> Result<Vec<TypedPattern>, Refusal>
-    ensures { Gives (λ made. record {
-      typed = all_typed_of made.items;
-      after = progress_of progress.new;
-    }) result
+    ensures { GivesTypings typed_of result progress.new
         (each_by (type_at depth (environment_of env.now))
         (pattern_list_of (patterns_of patterns.now.items)) (string_bytes ty.now) []
         (progress_of progress.old)) }
@@ -357,10 +327,7 @@ pub fn type_arguments(
     types: &Vec<String>,
     progress: &mut Progress,
 ) -> Result<Vec<TypedPattern>, Refusal>
-    ensures { Gives (λ made. record {
-      typed = all_typed_of made.items;
-      after = progress_of progress.new;
-    }) result
+    ensures { GivesTypings typed_of result progress.new
         (arguments_by (type_at depth (environment_of env.now))
         (pattern_list_of (patterns_of patterns.now.items)) (map string_bytes types.now.items) []
         (progress_of progress.old)) }

@@ -1,26 +1,28 @@
 //! What is known after a part of a rule.
 
 ghost use Rattle.std.specs.Prelude.{◌≡◌, ◌++◌, ◌∷◌, [], OnOk, option_map, string_bytes};
-ghost use Rattle.isle_check_typing.specs.Progress.{ProgressNode, bind, find, tell};
+ghost use Rattle.isle_check_typing.specs.Progress.{ProgressNode, bind, find, hide_since, tell};
 ghost use Rattle.isle_check_typing.specs.Views.{found_of, kind_of, progress_of, variables_of};
 
 use crate::fault::{Fault, Kind};
 use isle_base::lexer::Pos;
 use std::alloc::{AllocError, Global};
 
-/// A variable that is bound.
+/// A variable that was bound.
 #[derive(Debug, Drop)]
 pub struct Variable {
     /// Its name.
     pub name: String,
     /// Its type.
     pub ty: String,
+    /// Whether it may be named: it is no variable of a `let` that has ended.
+    pub is_visible: bool,
 }
 
 /// What is known after a part of a rule.
 #[derive(Debug, Drop)]
 pub struct Progress {
-    /// The variables that are bound, in order. A variable's number is its index.
+    /// The variables that were bound, in order. A variable's number is its index.
     pub bound: Vec<Variable>,
     /// The errors, in order.
     pub faults: Vec<Fault>,
@@ -60,17 +62,30 @@ pub fn bind(progress: &mut Progress, name: String, ty: String) -> Result<(), All
         (progress_of progress.new
         ≡ bind (string_bytes name) (string_bytes ty) (progress_of progress.old)) }
 {
-    progress.bound.push(Variable { name, ty })?;
+    progress.bound.push(Variable {
+        name,
+        ty,
+        is_visible: true,
+    })?;
     Ok(())
 }
 
-/// Returns the last variable of this name.
+/// Hides the variables that were bound since there were `count`.
+pub fn hide_since(progress: &mut Progress, count: usize)
+    ensures { progress_of progress.new ≡ hide_since count (progress_of progress.old) }
+{
+    for number in count..progress.bound.len() {
+        progress.bound[number].is_visible = false;
+    }
+}
+
+/// Returns the last variable of this name that is visible.
 pub fn find<'a>(bound: &'a [Variable], name: &str) -> Option<Found<'a>>
     ensures { option_map found_of result ≡ find (variables_of bound.now) name.now }
 {
     let mut found = None;
     for (number, variable) in bound.iter().enumerate() {
-        if variable.name.as_str() == name {
+        if variable.is_visible && variable.name.as_str() == name {
             found = Some(Found {
                 number,
                 ty: &variable.ty,

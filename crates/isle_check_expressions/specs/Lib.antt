@@ -1,0 +1,4 @@
+pub mod TypedExpressions
+pub mod TypedView
+pub mod ExpressionTypes
+pub mod Views

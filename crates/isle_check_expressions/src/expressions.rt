@@ -1,0 +1,370 @@
+//! The types of expressions.
+
+ghost use Rattle.std.specs.Prelude.{[], map, string_bytes};
+ghost use Rattle.isle_ast_names.specs.TreeView.{name_of};
+ghost use Rattle.isle_ast_rules.specs.TreeView.{expression_list_of, expression_of};
+ghost use Rattle.isle_ast_rules.specs.TreeView.{expressions_of, let_list_of, single_lets_of};
+ghost use Rattle.isle_check_signatures.specs.Views.{environment_of, term_of};
+ghost use Rattle.isle_check_typing.specs.Progress.{find};
+ghost use Rattle.isle_check_typing.specs.Views.{GivesTyping, GivesTypings, progress_of};
+ghost use Rattle.isle_check_expressions.specs.ExpressionTypes.{arguments_by, expression_at};
+ghost use Rattle.isle_check_expressions.specs.ExpressionTypes.{let_by, lets_by, own_by, put_by};
+ghost use Rattle.isle_check_expressions.specs.ExpressionTypes.{step, term_as, term_by, type_let};
+ghost use Rattle.isle_check_expressions.specs.ExpressionTypes.{other_than, variable_by};
+ghost use Rattle.isle_check_expressions.specs.TypedView.{typed_expression_of, typed_let_of};
+ghost use Rattle.isle_check_expressions.specs.Views.{parts_by, type_text};
+
+use crate::flags::Flags;
+use crate::leaves::{other_than, type_bool, type_constant, type_integer};
+use crate::typed::{TypedExpression, TypedLet};
+use crate::uses::{converting, count_arguments, count_expressions, use_term};
+use isle_ast_names::Ident;
+use isle_ast_rules::{Expr, LetDef};
+use isle_base::lexer::Pos;
+use isle_check_signatures::{Environment, Term};
+use isle_check_typing::{Kind, Progress, Refusal, bind, find, hide_since, tell};
+use std::alloc::Global;
+
+/// What the parts of an expression are typed with.
+#[derive(Clone, Copy)]
+pub struct Typer<'e, 'a> {
+    alloc: Global,
+    /// As many expressions may lie in one another in each part.
+    depth: usize,
+    env: &'e Environment<'a>,
+    flags: Flags,
+}
+
+/// Types an expression of the type `wanted`, or of any type if that is `None`. Tells its errors in
+/// `progress`, and binds the variables of each `let`, which are hidden where it ends. Returns its
+/// typed expression, if it has one.
+///
+/// `TooDeep` means that more than `depth` expressions lie in one another once conversions are
+/// written out. `Memory` means out of memory. After both nothing is known of `progress`.
+#[cycle(expression)]
+pub fn type_expression(
+    alloc: Global,
+    depth: usize,
+    env: &Environment,
+    flags: Flags,
+    expr: &Expr,
+    wanted: Option<&String>,
+    progress: &mut Progress,
+) -> Result<Option<TypedExpression>, Refusal>
+    ensures { GivesTyping typed_expression_of result progress.new
+        (expression_at depth (environment_of env.now) flags (expression_of expr.now)
+        (type_text wanted.entry) (progress_of progress.old)) }
+{
+    if depth == 0 {
+        return Err(Refusal::TooDeep);
+    }
+    let typer = Typer {
+        alloc,
+        depth: depth - 1,
+        env,
+        flags,
+    };
+    type_step(typer, expr, wanted, progress)
+}
+
+#[cycle(expression)]
+fn type_step(
+    typer: Typer,
+    expr: &Expr,
+    wanted: Option<&String>,
+    progress: &mut Progress,
+) -> Result<Option<TypedExpression>, Refusal>
+    ensures { GivesTyping typed_expression_of result progress.new
+        (step (parts_by typer.entry) (environment_of typer.entry.env.now) typer.entry.flags
+        (expression_of expr.now) (type_text wanted.entry) (progress_of progress.old)) }
+{
+    match expr {
+        Expr::Term { sym, args, pos } => {
+            type_term(typer, expr, sym, args, *pos, wanted, progress)
+        }
+        Expr::Var { name, pos } => type_variable(typer, expr, name, *pos, wanted, progress),
+        Expr::ConstBool { val, pos } => {
+            Ok(Some(type_bool(typer.alloc, *val, *pos, wanted, progress)?))
+        }
+        Expr::ConstInt { val, pos } => Ok(type_integer(typer.env, *val, *pos, wanted, progress)?),
+        Expr::ConstPrim { val, pos } => Ok(type_constant(typer.env, val, *pos, wanted, progress)?),
+        Expr::Let { defs, body, pos } => type_let(typer, defs, body, *pos, wanted, progress),
+    }
+}
+
+/// Types a part of an expression.
+#[cycle(expression)]
+fn type_part(
+    typer: Typer,
+    expr: &Expr,
+    wanted: Option<&String>,
+    progress: &mut Progress,
+) -> Result<Option<TypedExpression>, Refusal>
+    ensures { GivesTyping typed_expression_of result progress.new
+        (parts_by typer.entry (expression_of expr.now) (type_text wanted.entry)
+        (progress_of progress.old)) }
+{
+    type_expression(
+        typer.alloc,
+        typer.depth,
+        typer.env,
+        typer.flags,
+        expr,
+        wanted,
+        progress,
+    )
+}
+
+/// Types an expression that is put into a converter.
+#[cycle(expression)]
+fn type_put(
+    typer: Typer,
+    converter: &String,
+    expr: &Expr,
+    pos: Pos,
+    ty: &String,
+    progress: &mut Progress,
+) -> Result<Option<TypedExpression>, Refusal>
+    ensures { GivesTyping typed_expression_of result progress.new
+        (put_by (parts_by typer.entry) (string_bytes converter.now) (expression_of expr.now) pos
+        (string_bytes ty.now) (progress_of progress.old)) }
+{
+    let mut args = Vec::new(typer.alloc);
+    args.push(expr.clone()?)?;
+    let put = Expr::Term {
+        sym: Ident(converter.clone()?, pos),
+        args,
+        pos,
+    };
+    type_part(typer, &put, Some(ty), progress)
+}
+
+/// Types a variable.
+#[cycle(expression)]
+fn type_variable(
+    typer: Typer,
+    expr: &Expr,
+    name: &Ident,
+    pos: Pos,
+    wanted: Option<&String>,
+    progress: &mut Progress,
+) -> Result<Option<TypedExpression>, Refusal>
+    ensures { GivesTyping typed_expression_of result progress.new
+        (variable_by (parts_by typer.entry) (environment_of typer.entry.env.now)
+        (find (progress_of progress.old).bound (name_of name.now).text) (expression_of expr.now)
+        (name_of name.now).text pos (type_text wanted.entry) (progress_of progress.old)) }
+{
+    let Some(found) = find(&progress.bound, name.0.as_str()) else {
+        tell(progress, Kind::VariableUnknown(name.0.clone()?), pos)?;
+        return Ok(None);
+    };
+    let variable = found.number;
+    let known = found.ty.clone()?;
+    if let Some(ty) = other_than(known.as_str(), wanted) {
+        if let Some(converter) = converting(typer.env, known.as_str(), ty.as_str()) {
+            return type_put(typer, converter, expr, pos, ty, progress);
+        }
+        let kind = Kind::ExpressionVariableType {
+            name: name.0.clone()?,
+            expected: ty.clone()?,
+            found: known.clone()?,
+        };
+        tell(progress, kind, pos)?;
+    }
+    Ok(Some(TypedExpression::Var {
+        variable,
+        ty: known,
+    }))
+}
+
+/// Types a term with arguments.
+#[cycle(expression)]
+fn type_term(
+    typer: Typer,
+    expr: &Expr,
+    sym: &Ident,
+    args: &Vec<Expr>,
+    pos: Pos,
+    wanted: Option<&String>,
+    progress: &mut Progress,
+) -> Result<Option<TypedExpression>, Refusal>
+    ensures { GivesTyping typed_expression_of result progress.new
+        (term_by (parts_by typer.entry) (environment_of typer.entry.env.now) typer.entry.flags
+        ((environment_of typer.entry.env.now).terms (name_of sym.now).text) (expression_of expr.now)
+        (name_of sym.now).text (expression_list_of (expressions_of args.now.items)) pos
+        (type_text wanted.entry) (progress_of progress.old)) }
+{
+    let Some(term) = typer.env.term(sym.0.as_str()) else {
+        let is_variable = find(&progress.bound, sym.0.as_str()).is_some();
+        let kind = Kind::ExpressionTermUnknown {
+            term: sym.0.clone()?,
+            is_variable,
+        };
+        tell(progress, kind, pos)?;
+        return Ok(None);
+    };
+    let other = other_than(term.ret.as_str(), wanted);
+    type_term_as(typer, expr, term, &sym.0, args, pos, other, progress)
+}
+
+/// Types a term that is known. `other` is the type that is wanted, if the term has another one.
+#[cycle(expression)]
+fn type_term_as(
+    typer: Typer,
+    expr: &Expr,
+    term: &Term,
+    sym: &String,
+    args: &Vec<Expr>,
+    pos: Pos,
+    other: Option<&String>,
+    progress: &mut Progress,
+) -> Result<Option<TypedExpression>, Refusal>
+    ensures { GivesTyping typed_expression_of result progress.new
+        (term_as (parts_by typer.entry) (environment_of typer.entry.env.now) typer.entry.flags
+        (term_of term.now) (type_text other.entry) (expression_of expr.now) (string_bytes sym.now)
+        (expression_list_of (expressions_of args.now.items)) pos (progress_of progress.old)) }
+{
+    if let Some(ty) = other {
+        if let Some(converter) = converting(typer.env, term.ret.as_str(), ty.as_str()) {
+            return type_put(typer, converter, expr, pos, ty, progress);
+        }
+        let kind = Kind::ExpressionTermType {
+            expected: ty.clone()?,
+            found: term.ret.clone()?,
+        };
+        tell(progress, kind, pos)?;
+    }
+    type_own(typer, term, sym, args, pos, progress)
+}
+
+/// Types a term that isn't converted.
+#[cycle(expression)]
+fn type_own(
+    typer: Typer,
+    term: &Term,
+    sym: &String,
+    args: &Vec<Expr>,
+    pos: Pos,
+    progress: &mut Progress,
+) -> Result<Option<TypedExpression>, Refusal>
+    ensures { GivesTyping typed_expression_of result progress.new
+        (own_by (parts_by typer.entry) typer.entry.flags (term_of term.now) (string_bytes sym.now)
+        (expression_list_of (expressions_of args.now.items)) pos (progress_of progress.old)) }
+{
+    use_term(typer.flags, term, sym, pos, progress)?;
+    count_arguments(term, sym, count_expressions(args), pos, progress)?;
+    let args = type_arguments(typer, args, &term.args, progress)?;
+    Ok(Some(TypedExpression::Term {
+        term: sym.clone()?,
+        ty: term.ret.clone()?,
+        args,
+    }))
+}
+
+/// Types expressions, each of its type, as many as there are types.
+#[cycle(expression)]
+fn type_arguments(
+    typer: Typer,
+    exprs: &Vec<Expr>,
+    types: &Vec<String>,
+    progress: &mut Progress,
+) -> Result<Vec<TypedExpression>, Refusal>
+    ensures { GivesTypings typed_expression_of result progress.new
+        (arguments_by (parts_by typer.entry) (expression_list_of (expressions_of exprs.now.items))
+        (map string_bytes types.now.items) [] (progress_of progress.old)) }
+{
+    let mut typed = Vec::new(typer.alloc);
+    for (number, expr) in exprs.iter().enumerate() {
+        if number >= types.len() {
+            return Ok(typed);
+        }
+        if let Some(made) = type_part(typer, expr, Some(&types[number]), progress)? {
+            typed.push(made)?;
+        }
+    }
+    Ok(typed)
+}
+
+/// Types a `let`.
+#[cycle(expression)]
+fn type_let(
+    typer: Typer,
+    defs: &Vec<LetDef>,
+    body: &Expr,
+    pos: Pos,
+    wanted: Option<&String>,
+    progress: &mut Progress,
+) -> Result<Option<TypedExpression>, Refusal>
+    ensures { GivesTyping typed_expression_of result progress.new
+        (type_let (parts_by typer.entry) (environment_of typer.entry.env.now)
+        (let_list_of (single_lets_of defs.now.items)) (expression_of body.now) pos
+        (type_text wanted.entry) (progress_of progress.old)) }
+{
+    let count = progress.bound.len();
+    let defs = type_lets(typer, defs, pos, progress)?;
+    let body = type_part(typer, body, wanted, progress)?;
+    hide_since(progress, count);
+    match body {
+        None => Ok(None),
+        Some(body) => Ok(Some(TypedExpression::Let {
+            ty: body.ty()?,
+            defs,
+            body: Box::new(typer.alloc, body)?,
+        })),
+    }
+}
+
+/// Types the values of the variables of a `let` at this position, and binds the variables.
+#[cycle(expression)]
+fn type_lets(
+    typer: Typer,
+    defs: &Vec<LetDef>,
+    pos: Pos,
+    progress: &mut Progress,
+) -> Result<Vec<TypedLet>, Refusal>
+    ensures { GivesTypings typed_let_of result progress.new
+        (lets_by (parts_by typer.entry) (environment_of typer.entry.env.now) pos
+        (let_list_of (single_lets_of defs.now.items)) [] (progress_of progress.old)) }
+{
+    let mut typed = Vec::new(typer.alloc);
+    for def in defs {
+        if let Some(made) = type_let_def(typer, def, pos, progress)? {
+            typed.push(made)?;
+        }
+    }
+    Ok(typed)
+}
+
+/// Types the value of a variable of a `let` at this position, and binds the variable.
+#[cycle(expression)]
+fn type_let_def(
+    typer: Typer,
+    def: &LetDef,
+    pos: Pos,
+    progress: &mut Progress,
+) -> Result<Option<TypedLet>, Refusal>
+    ensures { GivesTyping typed_let_of result progress.new
+        (let_by (parts_by typer.entry) (environment_of typer.entry.env.now) pos
+        (name_of def.now.var).text (name_of def.now.ty).text (expression_of def.now.val.value)
+        (progress_of progress.old)) }
+{
+    let name = &def.var.0;
+    let ty = &def.ty.0;
+    if !typer.env.is_type(ty.as_str()) {
+        let kind = Kind::LetTypeUnknown {
+            name: name.clone()?,
+            ty: ty.clone()?,
+        };
+        tell(progress, kind, pos)?;
+        return Ok(None);
+    }
+    let Some(val) = type_part(typer, &def.val, Some(ty), progress)? else {
+        return Ok(None);
+    };
+    let variable = progress.bound.len();
+    bind(progress, name.clone()?, ty.clone()?)?;
+    Ok(Some(TypedLet {
+        variable,
+        val: Box::new(typer.alloc, val)?,
+    }))
+}

@@ -1,0 +1,128 @@
+//! The types of literals and constants.
+
+ghost use Rattle.std.specs.Prelude.{◌≡◌, IfOk, Some, option_map, string_bytes};
+ghost use Rattle.isle_ast_names.specs.TreeView.{name_of};
+ghost use Rattle.isle_check_signatures.specs.Views.{environment_of};
+ghost use Rattle.isle_check_typing.specs.Views.{progress_of};
+ghost use Rattle.isle_check_expressions.specs.ExpressionTypes.{other_than, type_bool};
+ghost use Rattle.isle_check_expressions.specs.ExpressionTypes.{type_constant, type_integer};
+ghost use Rattle.isle_check_expressions.specs.TypedView.{typed_expression_of};
+ghost use Rattle.isle_check_expressions.specs.Views.{type_text};
+
+use crate::typed::TypedExpression;
+use isle_ast_names::Ident;
+use isle_base::lexer::Pos;
+use isle_check_signatures::Environment;
+use isle_check_typing::{Kind, Progress, tell};
+use std::alloc::{AllocError, Global};
+
+/// Returns the type that is wanted, if it is another one than what is found.
+pub fn other_than<'a>(found: &str, wanted: Option<&'a String>) -> Option<&'a String>
+    ensures { type_text result ≡ other_than found.now (type_text wanted.entry) }
+{
+    match wanted {
+        None => None,
+        Some(ty) => { if found == ty.as_str() { None } else { Some(ty) } }
+    }
+}
+
+/// Types `true` or `false`.
+pub fn type_bool(
+    alloc: Global,
+    val: bool,
+    pos: Pos,
+    wanted: Option<&String>,
+    progress: &mut Progress,
+) -> Result<TypedExpression, AllocError>
+    ensures { IfOk result (λ made. record {
+      typed = Some (typed_expression_of made);
+      after = progress_of progress.new;
+    }
+        ≡ type_bool val pos (type_text wanted.entry) (progress_of progress.old)) }
+{
+    if let Some(ty) = other_than("bool", wanted) {
+        let kind = Kind::BoolType {
+            val,
+            ty: ty.clone()?,
+        };
+        tell(progress, kind, pos)?;
+    }
+    Ok(TypedExpression::Bool {
+        val,
+        ty: String::from_str(alloc, "bool")?,
+    })
+}
+
+/// Types an integer.
+pub fn type_integer(
+    env: &Environment,
+    val: i128,
+    pos: Pos,
+    wanted: Option<&String>,
+    progress: &mut Progress,
+) -> Result<Option<TypedExpression>, AllocError>
+    ensures { IfOk result (λ made. record {
+      typed = option_map typed_expression_of made;
+      after = progress_of progress.new;
+    }
+        ≡ type_integer (environment_of env.now) val pos (type_text wanted.entry)
+        (progress_of progress.old)) }
+{
+    match wanted {
+        None => {
+            tell(progress, Kind::IntegerWithoutType, pos)?;
+            Ok(None)
+        }
+        Some(ty) => {
+            if !env.is_number(ty.as_str()) {
+                let kind = Kind::IntegerType {
+                    val,
+                    ty: ty.clone()?,
+                };
+                tell(progress, kind, pos)?;
+            }
+            Ok(Some(TypedExpression::Int {
+                val,
+                ty: ty.clone()?,
+            }))
+        }
+    }
+}
+
+/// Types a constant.
+pub fn type_constant(
+    env: &Environment,
+    name: &Ident,
+    pos: Pos,
+    wanted: Option<&String>,
+    progress: &mut Progress,
+) -> Result<Option<TypedExpression>, AllocError>
+    ensures { IfOk result (λ made. record {
+      typed = option_map typed_expression_of made;
+      after = progress_of progress.new;
+    }
+        ≡ type_constant (environment_of env.now) (name_of name.now).text pos
+        (type_text wanted.entry) (progress_of progress.old)) }
+{
+    match env.constant(name.0.as_str()) {
+        None => {
+            tell(progress, Kind::ConstantUnknown(name.0.clone()?), pos)?;
+            Ok(None)
+        }
+        Some(known) => match other_than(known.as_str(), wanted) {
+            None => Ok(Some(TypedExpression::Const {
+                name: name.0.clone()?,
+                ty: known.clone()?,
+            })),
+            Some(ty) => {
+                let kind = Kind::ExpressionConstantType {
+                    name: name.0.clone()?,
+                    expected: ty.clone()?,
+                    found: known.clone()?,
+                };
+                tell(progress, kind, pos)?;
+                Ok(None)
+            }
+        },
+    }
+}

@@ -1,0 +1,14 @@
+//! The types of expressions: the typed expression of an expression, the numbers of its variables
+//! and its errors, as upstream reports them.
+#![tactic(auto)]
+
+mod expressions;
+mod flags;
+pub mod laws;
+mod leaves;
+mod typed;
+mod uses;
+
+pub use expressions::type_expression;
+pub use flags::Flags;
+pub use typed::{TypedExpression, TypedLet};

@@ -1,0 +1,92 @@
+//! How a term is used: its flags, its arguments and its converters.
+
+ghost use Rattle.std.specs.Prelude.{◌≡◌, OnOk, option_map, string_bytes};
+ghost use Rattle.isle_ast_rules.specs.TreeView.{expression_list_of, expressions_of};
+ghost use Rattle.isle_check_signatures.specs.Views.{environment_of, term_of};
+ghost use Rattle.isle_check_typing.specs.Views.{progress_of};
+ghost use Rattle.isle_check_expressions.specs.ExpressionTypes.{converting, count_arguments};
+ghost use Rattle.isle_check_expressions.specs.ExpressionTypes.{count_expressions, use_term};
+
+use crate::flags::Flags;
+use isle_ast_rules::Expr;
+use isle_base::lexer::Pos;
+use isle_check_signatures::{Environment, Term};
+use isle_check_typing::{Kind, Progress, tell};
+use std::alloc::AllocError;
+
+/// Tells if a term is used where its flags don't allow it.
+pub fn use_term(
+    flags: Flags,
+    term: &Term,
+    sym: &String,
+    pos: Pos,
+    progress: &mut Progress,
+) -> Result<(), AllocError>
+    ensures { OnOk result (progress_of progress.new
+        ≡ use_term flags (term_of term.now) (string_bytes sym.now) pos
+        (progress_of progress.old)) }
+{
+    if flags.pure && !term.pure && !term.is_variant {
+        tell(progress, Kind::ImpureTerm(sym.clone()?), pos)?;
+    }
+    if term.multi && !flags.multi {
+        tell(progress, Kind::MultiTerm(sym.clone()?), pos)?;
+    }
+    if term.partial && !flags.partial {
+        let kind = Kind::PartialTerm {
+            term: sym.clone()?,
+            is_multi: flags.multi,
+        };
+        tell(progress, kind, pos)?;
+    }
+    Ok(())
+}
+
+/// Tells if a term has another number of arguments than are declared.
+pub fn count_arguments(
+    term: &Term,
+    sym: &String,
+    given: usize,
+    pos: Pos,
+    progress: &mut Progress,
+) -> Result<(), AllocError>
+    ensures { OnOk result (progress_of progress.new
+        ≡ count_arguments (term_of term.now) (string_bytes sym.now) given pos
+        (progress_of progress.old)) }
+{
+    let expected = term.args.len();
+    if expected != given {
+        let kind = Kind::ArgumentCount {
+            term: sym.clone()?,
+            given,
+            expected,
+        };
+        tell(progress, kind, pos)?;
+    }
+    Ok(())
+}
+
+/// Counts expressions.
+#[tactic(auto, using(crate::proofs::Counts::count_of))]
+pub fn count_expressions(exprs: &Vec<Expr>) -> usize
+    ensures { result ≡ count_expressions (expression_list_of (expressions_of exprs.now.items)) }
+{
+    exprs.len()
+}
+
+/// Returns the term that converts in expressions, if there is one.
+pub fn converting<'a>(env: &'a Environment, inner: &str, outer: &str) -> Option<&'a String>
+    ensures { option_map (λ c. string_bytes c.now) result
+        ≡ converting (environment_of env.now) inner.now outer.now }
+{
+    match env.converter(inner, outer) {
+        Some(converter) => {
+            if env.has_constructor(converter.as_str()) {
+                Some(converter)
+            } else {
+                None
+            }
+        }
+        None => None,
+    }
+}

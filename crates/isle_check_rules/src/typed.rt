@@ -1,0 +1,50 @@
+//! Typed rules.
+
+use isle_base::lexer::Pos;
+use isle_check_expressions::TypedExpression;
+use isle_check_typing::{Fault, TypedPattern};
+
+/// A rule whose patterns and expressions are typed. Its variables are numbered in the order in
+/// which they are bound, from 0.
+#[derive(Debug, Drop)]
+pub struct TypedRule {
+    /// The term of its left side.
+    pub term: String,
+    /// The typed patterns of the term's arguments, in order, without those that have none.
+    pub args: Vec<TypedPattern>,
+    /// The conditions, in order, without those that have no typed pattern or expression.
+    pub iflets: Vec<TypedIfLet>,
+    /// The typed expression of the right side.
+    pub expr: TypedExpression,
+    /// The priority: 0 if the rule has none.
+    pub prio: i64,
+    /// The position of the rule.
+    pub pos: Pos,
+}
+
+/// A condition of a rule: the expression's value matches the pattern.
+#[derive(Debug, Drop)]
+pub struct TypedIfLet {
+    /// The typed pattern.
+    pub pattern: TypedPattern,
+    /// The typed expression.
+    pub expr: TypedExpression,
+}
+
+/// A rule's typed rule and its errors.
+#[derive(Debug, Drop)]
+pub struct RuleTyping {
+    /// The typed rule, if the root of the left side is a known term and the right side is typed.
+    pub typed: Option<TypedRule>,
+    /// The errors, in order.
+    pub faults: Vec<Fault>,
+}
+
+/// The typed rules of rules and their errors.
+#[derive(Debug, Drop)]
+pub struct RulesTyping {
+    /// The typed rules, in order, without those that have none.
+    pub typed: Vec<TypedRule>,
+    /// The errors, in order.
+    pub faults: Vec<Fault>,
+}
