@@ -1,5 +1,5 @@
 -- The terms of expressions that have no constructor.
-use Rattle.std.specs.Prelude.{ℕ, List, Bool, ◌&&◌, not, is_some}
+use Rattle.std.specs.Prelude.{List, Bool, ◌&&◌, not, is_some}
 use Rattle.std.specs.List.{filter}
 use Rattle.isle_base_source.specs.declared.pos.Pos.{Pos}
 use Rattle.isle_ast_names.specs.Tree.{Name}

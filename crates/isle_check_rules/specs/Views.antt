@@ -1,5 +1,5 @@
 -- Typed rules, warnings and answers of code, as pure values.
-use Rattle.std.specs.Prelude.{◌≡◌, ℕ, List, Option, Result, Ok, Err, map, option_map, string_bytes}
+use Rattle.std.specs.Prelude.{◌≡◌, ℕ, List, Result, Ok, Err, map, option_map, string_bytes}
 use Rattle.std.specs.Borrow.{Bor}
 use Rattle.std.specs.declared.alloc.Global.{Global}
 use Rattle.std.specs.declared.string.String.{String}

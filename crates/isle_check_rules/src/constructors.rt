@@ -9,7 +9,7 @@ ghost use Rattle.isle_ast_rules.specs.TreeView.{expression_list_of, expression_o
 ghost use Rattle.isle_ast_rules.specs.TreeView.{expressions_of, let_list_of, single_let_of};
 ghost use Rattle.isle_ast_rules.specs.TreeView.{single_lets_of};
 ghost use Rattle.isle_check_signatures.specs.Views.{environment_of};
-ghost use Rattle.isle_check_rules.specs.Constructors.{lacks_constructor, without_constructor};
+ghost use Rattle.isle_check_rules.specs.Constructors.{lacks_constructor};
 ghost use Rattle.isle_check_rules.specs.Views.{heads_at};
 
 use isle_ast_names::Ident;

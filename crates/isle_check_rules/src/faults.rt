@@ -1,8 +1,8 @@
 //! The errors of a program's rules.
 
-ghost use Rattle.std.specs.Prelude.{◌≡◌, ◌++◌, [], IfOk, OnOk, map};
+ghost use Rattle.std.specs.Prelude.{◌≡◌, ◌++◌, [], OnOk, map};
 ghost use Rattle.isle_ast.specs.TreeView.{declaration_of, definitions_of};
-ghost use Rattle.isle_ast_rules.specs.TreeView.{expression_of, rule_of};
+ghost use Rattle.isle_ast_rules.specs.TreeView.{expression_of};
 ghost use Rattle.isle_check_environment.specs.Views.{decls_at, rules_at};
 ghost use Rattle.isle_check_signatures.specs.Views.{environment_of};
 ghost use Rattle.isle_check_typing.specs.Views.{faults_of};

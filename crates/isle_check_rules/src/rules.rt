@@ -8,7 +8,7 @@ ghost use Rattle.isle_check_signatures.specs.Views.{environment_of, term_of};
 ghost use Rattle.isle_check_typing.specs.Faults.{argument_count, priority_in_multi};
 ghost use Rattle.isle_check_typing.specs.PatternTypes.{count_patterns};
 ghost use Rattle.isle_check_typing.specs.Progress.{unless};
-ghost use Rattle.isle_check_typing.specs.TypedView.{all_typed_of, typed_of};
+ghost use Rattle.isle_check_typing.specs.TypedView.{all_typed_of};
 ghost use Rattle.isle_check_typing.specs.Views.{Gives, GivesTyping, GivesTypings, progress_of};
 ghost use Rattle.isle_check_expressions.specs.TypedView.{typed_expression_of};
 ghost use Rattle.isle_check_rules.specs.RuleTypes.{condition_flags, pattern_by, right_by};
@@ -19,7 +19,6 @@ ghost use Rattle.isle_check_rules.specs.Views.{rule_typing_of, typed_condition_o
 ghost use Rattle.isle_check_rules.specs.Views.{typed_conditions_of, typed_rule_of};
 
 use crate::typed::{RuleTyping, TypedIfLet, TypedRule};
-use isle_ast_names::Ident;
 use isle_ast_rules::{IfLet, Pattern, Rule};
 use isle_base::lexer::Pos;
 use isle_check_expressions::{Flags, TypedExpression, type_expression};
