@@ -1,6 +1,7 @@
 -- Reports of code as pure values.
-use Rattle.std.specs.Prelude.{List, map, string_bytes}
+use Rattle.std.specs.Prelude.{Bool, List, map, string_bytes}
 use Rattle.isle_check.specs.Report.{LineNode, ReportNode}
+use Rattle.isle_check.specs.declared.programs.Part.{Part}
 use Rattle.isle_check.specs.declared.report.Line.{Line}
 use Rattle.isle_check.specs.declared.report.Report.{Report}
 
@@ -12,3 +13,7 @@ lines_at ls = map line_at ls
 
 abbrev pub report_of : Report → ReportNode
 report_of r = record { text = string_bytes r.text; errors = r.errors }
+
+-- which texts are a program's
+abbrev pub has_of : Part → List Bool
+has_of p = p.has.items

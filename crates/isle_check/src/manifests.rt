@@ -90,11 +90,7 @@ fn check_programs<R: Files + Env + AllocGlobal + Clone + Drop, I, W: Write, E: W
 }
 
 /// Returns the programs, each by which of the texts are its own.
-fn parts_of(
-    alloc: Global,
-    programs: &[Chosen],
-    texts: &[Source],
-) -> Result<Vec<Part>, AllocError> {
+fn parts_of(alloc: Global, programs: &[Chosen], texts: &[Source]) -> Result<Vec<Part>, AllocError> {
     let mut parts = Vec::new(alloc);
     for program in programs {
         let paths = &program.listed.paths;

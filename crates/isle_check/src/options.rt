@@ -66,11 +66,11 @@ Errors of converters:
   unknown-converter     the term is not known
   duplicate-converter   two types have two converters
 Errors of external definitions:
-  constructor-for-unknown-term         an external constructor is that of a term that is not declared
+  constructor-for-unknown-term         the term of an external constructor is not declared
   constructor-for-variant              an external constructor is that of a variant
   constructor-with-rules               a term has rules and an external constructor
   duplicate-constructor                a term has two external constructors
-  external-extractor-for-unknown-term  an external extractor is that of a term that is not declared
+  external-extractor-for-unknown-term  the term of an external extractor is not declared
   external-extractor-for-variant       an external extractor is that of a variant
   two-extractors                       a term has an external extractor and an internal one
   duplicate-external-extractor         a term has two external extractors

@@ -67,6 +67,19 @@ fn report_on_reading(
 ) -> Result<Report, AllocError>
     requires { IsReading (map source_of sources.now) (definitions_of reading.now.defs.items)
         reading.now.refusals.items }
+    ensures { IfOk result (λ report. IsReport (map given_of arguments.now)
+        (map source_of sources.now) (report_of report)) }
+{
+    report_in(alloc, sources, arguments, reading)
+}
+
+fn report_in(
+    alloc: Global,
+    sources: &[Source],
+    arguments: &[Argument],
+    reading: &Reading,
+) -> Result<Report, AllocError>
+    requires { definitions_have_macro_arg (definitions_of reading.now.defs.items) ≡ false }
     ensures { IfOk result (λ report. report_of report
         ≡ report_in (map given_of arguments.now) (map source_of sources.now)
         (definitions_of reading.now.defs.items) reading.now.refusals.items) }

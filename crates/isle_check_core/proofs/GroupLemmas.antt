@@ -2,10 +2,10 @@
 use Rattle.std.proofs.Common.{◌≡◌, ℕ, ◌<◌, List, [], ◌∷◌, length, refl, ap, arith}
 use Rattle.isle_check_core.specs.Findings.{FindingNode, or_next}
 
-pub group-told : (group later : List FindingNode) → 0 < length group → or_next group later ≡ group
-group-told [] later some = absurd (omega (arith, some))
-group-told (f ∷ fs) later some = refl
+pub group_told : (group later : List FindingNode) → 0 < length group → or_next group later ≡ group
+group_told [] later some = absurd (omega (arith, some))
+group_told (f ∷ fs) later some = refl
 
-pub group-passed : (group later : List FindingNode) → length group ≡ 0 → or_next group later ≡ later
-group-passed [] later none = refl
-group-passed (f ∷ fs) later none = absurd (omega (arith, none))
+pub group_passed : (group later : List FindingNode) → length group ≡ 0 → or_next group later ≡ later
+group_passed [] later none = refl
+group_passed (f ∷ fs) later none = absurd (omega (arith, none))

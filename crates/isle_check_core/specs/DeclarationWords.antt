@@ -22,17 +22,21 @@ field_words (field_type_unknown ty field variant) = Some (words (codes "unknown-
 field_words (index_type_unknown ty index variant) = Some (words (codes "unknown-field-type") (codes "Unknown type '" ++ ty.text ++ codes "' for field '" ++ decimal index ++ codes "' in variant '" ++ variant.text ++ codes "'"))
 field_words _ = None
 
--- the words of errors of declared terms, and of the left sides of rules
+-- the words of errors of declared terms
 abbrev pub term_words : KindNode → Option WordsNode
 term_words (term_again name) = Some (words (codes "duplicate-declaration") (codes "Duplicate decl for '" ++ name.text ++ codes "'"))
 term_words (multi_and_partial name) = Some (words (codes "multi-partial") (codes "Term '" ++ name.text ++ codes "' can't be both multi and partial"))
 term_words (argument_type_unknown name) = Some (words (codes "unknown-argument-type") (codes "Unknown arg type: '" ++ name.text ++ codes "'"))
 term_words (result_type_unknown name) = Some (words (codes "unknown-result-type") (codes "Unknown return type: '" ++ name.text ++ codes "'"))
 term_words (variant_taken ty variant) = Some (words (codes "duplicate-variant-term") (codes "Duplicate enum variant constructor: '" ++ ty.text ++ codes "." ++ variant.text ++ codes "'"))
-term_words root_no_term = Some (words (codes "rule-without-term") (codes "Rule does not have a term at the LHS root"))
-term_words (root_unknown _) = Some (words (codes "rule-for-unknown-term") (codes "Rule LHS root term is not defined"))
-term_words (root_variant _) = Some (words (codes "rule-for-variant") (codes "Rule LHS root term is incorrect kind; cannot be enum variant"))
 term_words _ = None
+
+-- the words of errors of the left sides of rules
+abbrev pub root_words : KindNode → Option WordsNode
+root_words root_no_term = Some (words (codes "rule-without-term") (codes "Rule does not have a term at the LHS root"))
+root_words (root_unknown _) = Some (words (codes "rule-for-unknown-term") (codes "Rule LHS root term is not defined"))
+root_words (root_variant _) = Some (words (codes "rule-for-variant") (codes "Rule LHS root term is incorrect kind; cannot be enum variant"))
+root_words _ = None
 
 -- the words of errors of internal extractors
 abbrev pub extractor_words : KindNode → Option WordsNode
@@ -55,8 +59,8 @@ converter_words _ = None
 -- the words of errors of external constructors
 abbrev pub constructor_words : KindNode → Option WordsNode
 constructor_words (constructor_unknown name) = Some (words (codes "constructor-for-unknown-term") (codes "Constructor declared on undefined term '" ++ name.text ++ codes "'"))
-constructor_words (constructor_variant name) = Some (words (codes "constructor-for-variant") (codes "External constructor cannot be defined on enum variant: " ++ name.text))
-constructor_words (constructor_ruled name) = Some (words (codes "constructor-with-rules") (codes "External constructor declared on term that already has rules: " ++ name.text))
+constructor_words (constructor_variant name) = Some (words (codes "constructor-for-variant") (codes "External constructor cannot be defined on enum variant: " ++ name.text ++ codes ""))
+constructor_words (constructor_ruled name) = Some (words (codes "constructor-with-rules") (codes "External constructor declared on term that already has rules: " ++ name.text ++ codes ""))
 constructor_words (constructor_again _) = Some (words (codes "duplicate-constructor") (codes "Duplicate external constructor definition"))
 constructor_words _ = None
 
@@ -73,5 +77,5 @@ external_words _ = None
 -- the words of an error of a declaration
 abbrev pub declaration_words : KindNode → WordsNode
 declaration_words kind =
-    first_of (type_words kind) (first_of (field_words kind) (first_of (term_words kind) (first_of (extractor_words kind)
-    (first_of (converter_words kind) (first_of (constructor_words kind) (first_of (external_words kind) no_words))))))
+    first_of (type_words kind) (first_of (field_words kind) (first_of (term_words kind) (first_of (root_words kind) (first_of (extractor_words kind)
+    (first_of (converter_words kind) (first_of (constructor_words kind) (first_of (external_words kind) no_words)))))))

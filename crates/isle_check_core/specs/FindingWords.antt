@@ -22,7 +22,7 @@ first_name (n ∷ ns) = n.text
 abbrev pub kind_words : KindNode → WordsNode
 kind_words (declaration kind) = declaration_words kind
 kind_words (recursive_extractor path) =
-    words (codes "recursive-extractor") (codes "`" ++ first_name path ++ codes "` extractor definition is recursive: " ++ path_after [] path)
+    words (codes "recursive-extractor") (codes "`" ++ first_name path ++ codes "` extractor definition is recursive: " ++ path_after [] path ++ [])
 kind_words (constant_again name) =
     words (codes "duplicate-constant") (codes "Constant '$" ++ name.text ++ codes "' declared more than once: its last type counts")
 kind_words (parameter_count extractor parameters arguments) =

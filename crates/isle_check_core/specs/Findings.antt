@@ -73,7 +73,11 @@ warnings ds = doubled_constants [] (constants_in ds) ++ wrong_counts (environmen
 
 -- the errors of the first group that has any: types, terms, rules' roots and extractors, converters, external definitions.
 -- Warnings where no group has any
+abbrev pub later_findings : List Definition → List FindingNode
+later_findings ds = or_next (of_faults (converter_faults ds)) (or_next (of_faults (extern_faults ds)) (warnings ds))
+
+abbrev pub root_findings : List Definition → List FindingNode
+root_findings ds = or_next (root_errors ds) (later_findings ds)
+
 abbrev pub findings : List Definition → List FindingNode
-findings ds =
-    or_next (of_faults (type_faults ds)) (or_next (of_faults (term_faults ds)) (or_next (root_errors ds)
-    (or_next (of_faults (converter_faults ds)) (or_next (of_faults (extern_faults ds)) (warnings ds)))))
+findings ds = or_next (of_faults (type_faults ds)) (or_next (of_faults (term_faults ds)) (root_findings ds))

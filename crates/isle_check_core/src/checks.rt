@@ -3,19 +3,17 @@
 ghost use Rattle.std.specs.Prelude.{◌≡◌, ◌++◌, IfOk, OnOk, false, map};
 ghost use Rattle.isle_ast.specs.MacroArgs.{definitions_have_macro_arg};
 ghost use Rattle.isle_ast.specs.TreeView.{definitions_of};
-ghost use Rattle.isle_check_core.specs.Findings.{findings, of_faults, of_recursion, or_next};
-ghost use Rattle.isle_check_core.specs.Findings.{root_errors, warnings};
+ghost use Rattle.isle_check_core.specs.Findings.{findings, later_findings, of_faults};
+ghost use Rattle.isle_check_core.specs.Findings.{of_recursion, root_errors, root_findings};
 ghost use Rattle.isle_check_core.specs.Views.{findings_of};
 ghost use Rattle.isle_check_declarations.specs.Views.{faults_of};
-ghost use Rattle.isle_check_extractors.specs.Converters as Converters;
-ghost use Rattle.isle_check_extractors.specs.Externs as Externs;
-ghost use Rattle.isle_check_recursion.specs.Views.{recursions_at};
+ghost use Rattle.isle_check_recursion.specs.Views.{names_at, recursions_at};
 ghost use Rattle.isle_check_signatures.specs.Environment.{environment};
 ghost use Rattle.isle_check_signatures.specs.Views.{environment_of};
 
 use crate::finding::{Finding, Kind};
 use crate::warnings::warnings;
-use isle_ast::ast::Def;
+use isle_ast::ast::{Def, Ident};
 use isle_check_declarations::{Fault, term_faults, type_faults};
 use isle_check_extractors::{converter_faults, extern_faults, extractor_faults, root_faults};
 use isle_check_recursion::{Recursion, recursions};
@@ -29,43 +27,66 @@ use std::alloc::{AllocError, Global};
 ///
 /// No template may hold a macro argument, `Pattern::MacroArg`, which the parser never makes. An
 /// `Err` means out of memory.
+#[tactic(auto, using(crate::proofs::GroupLemmas::group_told, crate::proofs::GroupLemmas::group_passed))]
 pub fn check(alloc: Global, defs: &[Def]) -> Result<Vec<Finding<'_>>, AllocError>
     requires { definitions_have_macro_arg (definitions_of defs.now) ≡ false }
     ensures { IfOk result
         (λ found. findings_of found.items ≡ findings (definitions_of defs.now)) }
 {
-    let found = of_faults(alloc, type_faults(alloc, defs)?)?;
+    let found = of_faults(alloc, &type_faults(alloc, defs)?)?;
     if !found.is_empty() {
         return Ok(found);
     }
-    let found = of_faults(alloc, term_faults(alloc, defs)?)?;
+    let found = of_faults(alloc, &term_faults(alloc, defs)?)?;
     if !found.is_empty() {
         return Ok(found);
     }
-    let env = Environment::new(alloc, defs)?;
-    let found = root_errors(alloc, &env, defs)?;
-    if !found.is_empty() {
-        return Ok(found);
-    }
-    later_findings(alloc, &env, defs)
+    root_findings(alloc, defs)
 }
 
+/// Returns the errors of the left sides of rules and of internal extractors, or else what is found
+/// after them.
+fn root_findings(alloc: Global, defs: &[Def]) -> Result<Vec<Finding<'_>>, AllocError>
+    requires { definitions_have_macro_arg (definitions_of defs.now) ≡ false }
+    ensures { IfOk result
+        (λ found. findings_of found.items ≡ root_findings (definitions_of defs.now)) }
+{
+    let env = Environment::new(alloc, defs)?;
+    findings_in(alloc, &env, defs)
+}
+
+#[tactic(auto, using(crate::proofs::GroupLemmas::group_told, crate::proofs::GroupLemmas::group_passed))]
+fn findings_in<'a>(
+    alloc: Global,
+    env: &Environment,
+    defs: &'a [Def],
+) -> Result<Vec<Finding<'a>>, AllocError>
+    requires { environment_of env.now ≡ environment (definitions_of defs.now) }
+    ensures { IfOk result
+        (λ found. findings_of found.items ≡ root_findings (definitions_of defs.now)) }
+{
+    let found = root_errors(alloc, env, defs)?;
+    if !found.is_empty() {
+        return Ok(found);
+    }
+    later_findings(alloc, env, defs)
+}
+
+#[tactic(auto, using(crate::proofs::GroupLemmas::group_told, crate::proofs::GroupLemmas::group_passed))]
 fn later_findings<'a>(
     alloc: Global,
     env: &Environment,
     defs: &'a [Def],
 ) -> Result<Vec<Finding<'a>>, AllocError>
     requires { environment_of env.now ≡ environment (definitions_of defs.now) }
-    ensures { IfOk result (λ found. findings_of found.items
-        ≡ or_next (of_faults (Converters.converter_faults (definitions_of defs.now)))
-        (or_next (of_faults (Externs.extern_faults (definitions_of defs.now)))
-        (warnings (definitions_of defs.now)))) }
+    ensures { IfOk result
+        (λ found. findings_of found.items ≡ later_findings (definitions_of defs.now)) }
 {
-    let found = of_faults(alloc, converter_faults(alloc, defs)?)?;
+    let found = of_faults(alloc, &converter_faults(alloc, defs)?)?;
     if !found.is_empty() {
         return Ok(found);
     }
-    let found = of_faults(alloc, extern_faults(alloc, defs)?)?;
+    let found = of_faults(alloc, &extern_faults(alloc, defs)?)?;
     if !found.is_empty() {
         return Ok(found);
     }
@@ -82,26 +103,26 @@ fn root_errors<'a>(
     ensures { IfOk result
         (λ found. findings_of found.items ≡ root_errors (definitions_of defs.now)) }
 {
-    let mut found = of_faults(alloc, root_faults(alloc, defs)?)?;
-    add_faults(extractor_faults(alloc, defs)?, &mut found)?;
-    add_recursions(recursions(alloc, env, defs)?, &mut found)?;
+    let mut found = of_faults(alloc, &root_faults(alloc, defs)?)?;
+    add_faults(&extractor_faults(alloc, defs)?, &mut found)?;
+    add_recursions(alloc, &recursions(alloc, env, defs)?, &mut found)?;
     Ok(found)
 }
 
-fn of_faults<'a>(alloc: Global, faults: Vec<Fault<'a>>) -> Result<Vec<Finding<'a>>, AllocError>
+fn of_faults<'a>(alloc: Global, faults: &[Fault<'a>]) -> Result<Vec<Finding<'a>>, AllocError>
     ensures { IfOk result
-        (λ found. findings_of found.items ≡ of_faults (faults_of faults.items)) }
+        (λ found. findings_of found.items ≡ of_faults (faults_of faults.now)) }
 {
     let mut found = Vec::new(alloc);
     add_faults(faults, &mut found)?;
     Ok(found)
 }
 
-fn add_faults<'a>(faults: Vec<Fault<'a>>, found: &mut Vec<Finding<'a>>) -> Result<(), AllocError>
+fn add_faults<'a>(faults: &[Fault<'a>], found: &mut Vec<Finding<'a>>) -> Result<(), AllocError>
     ensures { OnOk result (findings_of found.new.items
-        ≡ findings_of found.old.items ++ of_faults (faults_of faults.items)) }
+        ≡ findings_of found.old.items ++ of_faults (faults_of faults.now)) }
 {
-    for fault in &faults {
+    for fault in faults {
         found.push(Finding {
             kind: Kind::Declaration(fault.kind),
             pos: fault.pos,
@@ -111,17 +132,29 @@ fn add_faults<'a>(faults: Vec<Fault<'a>>, found: &mut Vec<Finding<'a>>) -> Resul
 }
 
 fn add_recursions<'a>(
-    recursions: Vec<Recursion<'a>>,
+    alloc: Global,
+    recursions: &[Recursion<'a>],
     found: &mut Vec<Finding<'a>>,
 ) -> Result<(), AllocError>
     ensures { OnOk result (findings_of found.new.items
-        ≡ findings_of found.old.items ++ map of_recursion (recursions_at recursions.items)) }
+        ≡ findings_of found.old.items ++ map of_recursion (recursions_at recursions.now)) }
 {
-    for recursion in &recursions {
+    for recursion in recursions {
+        let path = copied(alloc, &recursion.path)?;
         found.push(Finding {
-            kind: Kind::RecursiveExtractor(recursion.path.clone()?),
+            kind: Kind::RecursiveExtractor(path),
             pos: recursion.pos,
         })?;
     }
     Ok(())
+}
+
+fn copied<'a>(alloc: Global, path: &[&'a Ident]) -> Result<Vec<&'a Ident>, AllocError>
+    ensures { IfOk result (λ made. names_at made.items ≡ names_at path.now) }
+{
+    let mut made = Vec::new(alloc);
+    for name in path {
+        made.push(*name)?;
+    }
+    Ok(made)
 }

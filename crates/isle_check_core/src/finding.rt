@@ -1,15 +1,17 @@
 //! Findings.
 
-ghost use Rattle.std.specs.Prelude.{◌≡◌, ◌++◌, [], IfOk, OnOk};
+ghost use Rattle.std.specs.Prelude.{◌≡◌, [], IfOk, OnOk, string_bytes};
 ghost use Rattle.isle_ast_names.specs.TreeView.{name_of};
 ghost use Rattle.isle_check_core.specs.FindingWords.{first_name, is_error, kind_words, path_after};
 ghost use Rattle.isle_check_core.specs.FindingWords.{with_step};
+ghost use Rattle.isle_check_core.specs.Findings.{constant_again, parameter_count};
+ghost use Rattle.isle_check_core.specs.Findings.{recursive_extractor};
 ghost use Rattle.isle_check_core.specs.Views.{node_of};
 ghost use Rattle.isle_check_core.specs.Words.{words_of};
 ghost use Rattle.isle_check_recursion.specs.Views.{names_at};
 
 use crate::declarations::declaration_words;
-use crate::words::{Words, named};
+use crate::words::{Words, about, about_three, about_two};
 use isle_ast::ast::Ident;
 use isle_base::lexer::Pos;
 use std::alloc::{AllocError, Global};
@@ -78,9 +80,15 @@ fn recursion_words(alloc: Global, path: &[&Ident]) -> Result<Words, AllocError>
         (λ made. words_of made ≡ kind_words (recursive_extractor (names_at path.now))) }
 {
     let shown = path_text(alloc, path)?;
-    let first = first_name(path);
-    let message = format!(in alloc; "`{first}` extractor definition is recursive: {shown}")?;
-    Ok(named("recursive-extractor", message))
+    about_two(
+        alloc,
+        "recursive-extractor",
+        "`",
+        first_name(path),
+        "` extractor definition is recursive: ",
+        shown.as_str(),
+        "",
+    )
 }
 
 fn first_name<'a>(path: &[&'a Ident]) -> &'a str
@@ -117,10 +125,13 @@ fn constant_words(alloc: Global, name: &Ident) -> Result<Words, AllocError>
     ensures { IfOk result
         (λ made. words_of made ≡ kind_words (constant_again (name_of name.now))) }
 {
-    let name = name.0.as_str();
-    let message =
-        format!(in alloc; "Constant '${name}' declared more than once: its last type counts")?;
-    Ok(named("duplicate-constant", message))
+    about(
+        alloc,
+        "duplicate-constant",
+        "Constant '$",
+        name.0.as_str(),
+        "' declared more than once: its last type counts",
+    )
 }
 
 fn count_words(
@@ -132,10 +143,17 @@ fn count_words(
     ensures { IfOk result (λ made. words_of made
         ≡ kind_words (parameter_count (name_of extractor.now) parameters arguments)) }
 {
-    let term = extractor.0.as_str();
-    let message = format!(
-        in alloc;
-        "Extractor of '{term}' has {parameters} parameters, but the term {arguments} arguments"
-    )?;
-    Ok(named("extractor-parameters", message))
+    let parameters = format!(in alloc; "{parameters}")?;
+    let arguments = format!(in alloc; "{arguments}")?;
+    about_three(
+        alloc,
+        "extractor-parameters",
+        "Extractor of '",
+        extractor.0.as_str(),
+        "' has ",
+        parameters.as_str(),
+        " parameters, but the term ",
+        arguments.as_str(),
+        " arguments",
+    )
 }

@@ -10,5 +10,5 @@ mod words;
 
 pub use checks::check;
 pub use finding::{Finding, Kind};
-pub use kinds::{ALL_KINDS, is_kind};
+pub use kinds::is_kind;
 pub use words::Words;

@@ -1,6 +1,6 @@
 //! The words of findings.
 
-ghost use Rattle.std.specs.Prelude.{◌≡◌, IfOk, string_bytes};
+ghost use Rattle.std.specs.Prelude.{◌≡◌, ◌++◌, IfOk, string_bytes};
 ghost use Rattle.isle_check_core.specs.Words as Node;
 ghost use Rattle.isle_check_core.specs.Words.{words_of};
 
@@ -15,21 +15,80 @@ pub struct Words {
     pub message: String,
 }
 
-pub fn named(name: &'static str, message: String) -> Words
-    ensures { words_of result ≡ Node.words name.now (string_bytes message) }
-{
-    Words { name, message }
-}
-
 /// Returns words whose message is fixed.
 pub fn plain(alloc: Global, name: &'static str, message: &str) -> Result<Words, AllocError>
     ensures { IfOk result (λ made. words_of made ≡ Node.words name.now message.now) }
 {
-    Ok(named(name, String::from_str(alloc, message)?))
+    let message = String::from_str(alloc, message)?;
+    Ok(Words { name, message })
+}
+
+/// Returns words whose message is `first` between two texts.
+pub fn about(
+    alloc: Global,
+    name: &'static str,
+    before: &str,
+    first: &str,
+    after: &str,
+) -> Result<Words, AllocError>
+    ensures { IfOk result (λ made. words_of made
+        ≡ Node.words name.now (before.now ++ first.now ++ after.now)) }
+{
+    let mut message = String::from_str(alloc, before)?;
+    message.push_str(first)?;
+    message.push_str(after)?;
+    Ok(Words { name, message })
+}
+
+/// Returns words whose message is `first` and `second`, each between two texts.
+pub fn about_two(
+    alloc: Global,
+    name: &'static str,
+    before: &str,
+    first: &str,
+    between: &str,
+    second: &str,
+    after: &str,
+) -> Result<Words, AllocError>
+    ensures { IfOk result (λ made. words_of made ≡ Node.words name.now
+        (before.now ++ first.now ++ between.now ++ second.now ++ after.now)) }
+{
+    let mut message = String::from_str(alloc, before)?;
+    message.push_str(first)?;
+    message.push_str(between)?;
+    message.push_str(second)?;
+    message.push_str(after)?;
+    Ok(Words { name, message })
+}
+
+/// Returns words whose message is `first`, `second` and `third`, each between two texts.
+pub fn about_three(
+    alloc: Global,
+    name: &'static str,
+    before: &str,
+    first: &str,
+    between: &str,
+    second: &str,
+    later: &str,
+    third: &str,
+    after: &str,
+) -> Result<Words, AllocError>
+    ensures { IfOk result (λ made. words_of made ≡ Node.words name.now
+        (before.now ++ first.now ++ between.now ++ second.now ++ later.now ++ third.now
+        ++ after.now)) }
+{
+    let front = about_two(alloc, name, before, first, between, second, later)?;
+    let mut message = front.message;
+    message.push_str(third)?;
+    message.push_str(after)?;
+    Ok(Words { name, message })
 }
 
 pub fn no_words(alloc: Global) -> Words
     ensures { words_of result ≡ Node.no_words }
 {
-    named("", String::new(alloc))
+    Words {
+        name: "",
+        message: String::new(alloc),
+    }
 }

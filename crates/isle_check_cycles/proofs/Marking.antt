@@ -121,7 +121,7 @@ sound_mark next flags p sound within ready =
     record {
       count = length-set flags p true ∙ sound.count;
       each = λ q is. subst (λ n. ends_within n next q ≡ true) (sym (ended_set flags p inside unset))
-        (sound_at next flags p q sound within ends (q == p) refl (get_set flags p q inside (q == p) refl is));
+          (sound_at next flags p q sound within ends (q == p) refl (get_set flags p q inside (q == p) refl is));
     }
 
 below_other : (p q : ℕ) → (q == p) ≡ false → q < p + 1 → q < p

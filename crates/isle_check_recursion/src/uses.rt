@@ -94,11 +94,7 @@ fn uses(
 }
 
 #[cycle(uses)]
-fn add_uses(
-    numbers: &Numbers,
-    pattern: &Pattern,
-    found: &mut Vec<usize>,
-) -> Result<(), AllocError>
+fn add_uses(numbers: &Numbers, pattern: &Pattern, found: &mut Vec<usize>) -> Result<(), AllocError>
     ensures { OnOk result (found.new.items ≡ found.old.items
         ++ flat_map (used_at (number_in numbers.now)) (heads (pattern_of pattern.now))) }
 {

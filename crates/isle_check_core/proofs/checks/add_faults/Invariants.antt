@@ -6,4 +6,4 @@ use Rattle.isle_check_core.proofs.checks.add_faults.Given as goal
 
 abbrev pub invariant-loop-fault : goal.invariant-loop-fault
 invariant-loop-fault l =
-    findings_of l.found.items ++ of_faults (faults_of (drop l.fault-index l.fault-items)) ≡ findings_of l.fn.found.items ++ of_faults (faults_of l.fault-items)
+    findings_of l.found.items ++ of_faults (faults_of (drop l.fault-index l.faults)) ≡ findings_of l.fn.found.items ++ of_faults (faults_of l.faults)

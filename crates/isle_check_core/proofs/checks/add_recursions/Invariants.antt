@@ -6,5 +6,5 @@ use Rattle.isle_check_core.proofs.checks.add_recursions.Given as goal
 
 abbrev pub invariant-loop-recursion : goal.invariant-loop-recursion
 invariant-loop-recursion l =
-    findings_of l.found.items ++ map of_recursion (recursions_at (drop l.recursion-index l.recursion-items))
-    ≡ findings_of l.fn.found.items ++ map of_recursion (recursions_at l.recursion-items)
+    findings_of l.found.items ++ map of_recursion (recursions_at (drop l.recursion-index l.recursions))
+    ≡ findings_of l.fn.found.items ++ map of_recursion (recursions_at l.recursions)
