@@ -1,5 +1,5 @@
 -- What the program does.
-use Rattle.std.specs.Prelude.{◌≡◌, ◌⊎◌, ℕ, ◌==◌, List, [], ◌∷◌, ◌++◌, Bool, true, false, if◌then◌else◌, Option, None, Some, codes, length, map}
+use Rattle.std.specs.Prelude.{◌≡◌, ◌⊎◌, ◌<◌, ℕ, ◌==◌, List, [], ◌∷◌, ◌++◌, Bool, true, false, if◌then◌else◌, Option, None, Some, codes, length, map}
 use Rattle.std.specs.Io.KnownBytes.{Appends, Keeps}
 use Rattle.isle_base_source.specs.Source.{Source}
 use Rattle.isle_cli.specs.Arguments.{Asked, Given, asked, help_asked, name_list, stdin_name, version_asked, work_asked}
@@ -46,11 +46,11 @@ pub record Reads (given : List Given) (input input' : Option (List ℕ)) (Holds 
   pub read : IsReadFrom (name_list given) (stdin_name given) program input input' sources faults
   pub holds : Holds faults sources
 
--- where some text can't be read, nothing is told; else the report is, and this is the status
+-- some text can't be read, and nothing is told; or the report is told, and this is its status
 abbrev pub Told : List Given → ℕ → (output output' : Option (List ℕ)) → List ℕ → List Source → Type 0
-Told given status output output' (f ∷ faults) sources = (status ≡ 3) × Keeps output output'
-Told given status output output' [] sources =
-    (report : ReportNode) × IsReport given sources report × (status ≡ told_status report.errors) × Appends output output' report.text
+Told given status output output' faults sources =
+    ((0 < length faults) × (status ≡ 3) × Keeps output output')
+    ⊎ ((length faults ≡ 0) × (report : ReportNode) × IsReport given sources report × (status ≡ told_status report.errors) × Appends output output' report.text)
 
 abbrev pub Tells : List Given → ℕ → (input input' output output' : Option (List ℕ)) → Type 0
 Tells given status input input' output output' = Reads given input input' (Told given status output output')
@@ -58,7 +58,7 @@ Tells given status input input' output output' = Reads given input input' (Told 
 -- the output got a beginning of the report
 abbrev pub IsCut : List Given → (output output' : Option (List ℕ)) → List ℕ → List Source → Type 0
 IsCut given output output' faults sources =
-    (faults ≡ []) × (report : ReportNode) × IsReport given sources report × AppendsBeginning output output' report.text
+    (length faults ≡ 0) × (report : ReportNode) × IsReport given sources report × AppendsBeginning output output' report.text
 
 abbrev pub Cuts : List Given → (input input' output output' : Option (List ℕ)) → Type 0
 Cuts given input input' output output' = Reads given input input' (IsCut given output output')
