@@ -1,0 +1,121 @@
+-- What the program does.
+use Rattle.std.specs.Prelude.{◌≡◌, ◌⊎◌, ◌<◌, ℕ, ◌==◌, List, [], ◌∷◌, ◌++◌, Bool, true, false, if◌then◌else◌, Option, None, Some, codes, length, map}
+use Rattle.std.specs.Io.KnownBytes.{Appends, Keeps}
+use Rattle.isle_base_source.specs.Source.{Source}
+use Rattle.isle_cli.specs.Arguments.{Asked, Given, asked, help_asked, name_list, stdin_name, version_asked, work_asked}
+use Rattle.isle_cli.specs.Failure.{IsDiagnostic}
+use Rattle.isle_cli.specs.Sources.{IsReadFrom}
+use Rattle.isle_cli.specs.Streams.{AppendsBeginning}
+use Rattle.isle_cli.specs.declared.failure.Failure.{Failure}
+use Rattle.isle_cli.specs.declared.failure.Failure.TheVariants as failures
+use Rattle.isle_cli.specs.declared.arguments.Options.{Options}
+use Rattle.isle_cli.specs.declared.program.Program.{Program}
+use Rattle.isle_check.specs.declared.options.TheConstants.{HELP, VERSION}
+use Rattle.isle_check.specs.Options.{are_usable}
+use Rattle.isle_check.specs.Programs.{IsProgramsReport}
+use Rattle.isle_check.specs.Report.{IsReport, ReportNode}
+
+-- the status of a report with this many errors
+abbrev pub told_status : ℕ → ℕ
+told_status errors = if errors == 0 then 0 else 1
+
+-- this program, and its options
+abbrev pub IsProgram : Program → Type 0
+IsProgram program =
+    (program.name.now ≡ codes "isle-check")
+    × (program.usage.now ≡ codes "usage: isle-check [--allow KIND] [--stdin-name NAME] [--program NAME] [--all-programs] [FILE ..]\n")
+
+abbrev pub AreOptions : Options → Type 0
+AreOptions options = (map (λ flag. flag.now) options.flags.now ≡ []) × (map (λ setting. setting.now) options.settings.now ≡ codes "--allow" ∷ [])
+
+-- the words ask this of the program
+abbrev pub Ask : List (List ℕ) → Option Asked → Type 0
+Ask words what = (options : Options) × AreOptions options × (asked options words ≡ what)
+
+-- the text that goes with a status past 1
+abbrev pub IsFailureText : ℕ → List ℕ → Type 0
+IsFailureText status text = (program : Program) × IsProgram program × IsDiagnostic program status text
+
+-- What was read of what the arguments name; Holds is said of the faults of reading, and of the texts.
+pub record Reads (given : List Given) (input input' : Option (List ℕ)) (Holds : List ℕ → List Source → Type 0) : Type 0 where
+  pub usable : are_usable given ≡ true
+  pub program : Program
+  pub is_program : IsProgram program
+  pub sources : List Source
+  pub faults : List ℕ
+  pub read : IsReadFrom (name_list given) (stdin_name given) program input input' sources faults
+  pub holds : Holds faults sources
+
+-- some text can't be read, and nothing is told; or the report is told, and this is its status
+abbrev pub Told : List Given → ℕ → (output output' : Option (List ℕ)) → List ℕ → List Source → Type 0
+Told given status output output' faults sources =
+    ((0 < length faults) × (status ≡ 3) × Keeps output output')
+    ⊎ ((length faults ≡ 0) × (report : ReportNode) × IsReport given sources report × (status ≡ told_status report.errors) × Appends output output' report.text)
+
+abbrev pub Tells : List Given → ℕ → (input input' output output' : Option (List ℕ)) → Type 0
+Tells given status input input' output output' = Reads given input input' (Told given status output output')
+
+-- the output got a beginning of the report
+abbrev pub IsCut : List Given → (output output' : Option (List ℕ)) → List ℕ → List Source → Type 0
+IsCut given output output' faults sources =
+    (length faults ≡ 0) × (report : ReportNode) × IsReport given sources report × AppendsBeginning output output' report.text
+
+abbrev pub Cuts : List Given → (input input' output output' : Option (List ℕ)) → Type 0
+Cuts given input input' output output' = Reads given input input' (IsCut given output output')
+
+-- what a failure says of the input and the output
+abbrev pub Explains : Failure → List Given → (input input' output output' : Option (List ℕ)) → Type 0
+Explains (failures.Refused text) given input input' output output' = ⊥
+Explains failures.Usage given input input' output output' = (are_usable given ≡ false) × Keeps input input' × Keeps output output'
+Explains failures.Input given input input' output output' = ⊥
+Explains failures.Memory given input input' output output' = Keeps output output'
+Explains failures.Output given input input' output output' = Cuts given input input' output output'
+
+-- the words are none of the usage, or allow a kind that there is none of
+abbrev pub IsMisuse : List (List ℕ) → Type 0
+IsMisuse words = Ask words None ⊎ ((given : List Given) × Ask words (Some (work_asked given)) × (are_usable given ≡ false))
+
+-- the words ask something of the program, and P holds of it
+abbrev pub AsAsked : List (List ℕ) → (Asked → Type 0) → Type 0
+AsAsked words P = (what : Asked) × Ask words (Some what) × P what
+
+-- what is asked for is done, with this status
+abbrev pub Does : Asked → ℕ → (input input' output output' : Option (List ℕ)) → Type 0
+Does help_asked status input input' output output' = (status ≡ 0) × Keeps input input' × Appends output output' HELP.now
+Does version_asked status input input' output output' = (status ≡ 0) × Keeps input input' × Appends output output' VERSION.now
+Does (work_asked given) status input input' output output' = Tells given status input input' output output'
+
+-- the output got a beginning of what is asked for
+abbrev pub CutsAsked : Asked → (input input' output output' : Option (List ℕ)) → Type 0
+CutsAsked help_asked input input' output output' = Keeps input input' × AppendsBeginning output output' HELP.now
+CutsAsked version_asked input input' output output' = Keeps input input' × AppendsBeginning output output' VERSION.now
+CutsAsked (work_asked given) input input' output output' = Cuts given input input' output output'
+
+-- Of some programs, with their texts, this is told, and this is the status.
+pub record TellsPrograms (given : List Given) (status : ℕ) (output output' : Option (List ℕ)) : Type 0 where
+  pub sources : List Source
+  pub parts : List (List Bool)
+  pub report : ReportNode
+  pub is_report : IsProgramsReport given sources parts report
+  pub ends : status ≡ told_status report.errors
+  pub written : Appends output output' report.text
+
+-- the output got a beginning of it
+pub record CutsPrograms (given : List Given) (output output' : Option (List ℕ)) : Type 0 where
+  pub sources : List Source
+  pub parts : List (List Bool)
+  pub report : ReportNode
+  pub is_report : IsProgramsReport given sources parts report
+  pub begun : AppendsBeginning output output' report.text
+
+-- nothing is told of programs, since there is no manifest, it has a mistake, or a file can't be read; or what is in them is told
+abbrev pub Ends : List Given → ℕ → (output output' : Option (List ℕ)) → Type 0
+Ends given status output output' = ((status ≡ 2 ⊎ status ≡ 3) × Keeps output output') ⊎ TellsPrograms given status output output'
+
+-- what a failure says of the output
+abbrev pub ExplainsEnd : Failure → List Given → (output output' : Option (List ℕ)) → Type 0
+ExplainsEnd (failures.Refused text) given output output' = ⊥
+ExplainsEnd failures.Usage given output output' = Keeps output output'
+ExplainsEnd failures.Input given output output' = ⊥
+ExplainsEnd failures.Memory given output output' = Keeps output output'
+ExplainsEnd failures.Output given output output' = CutsPrograms given output output'

@@ -1,0 +1,104 @@
+//! The programs of a manifest, for any files and writers.
+
+ghost use Rattle.std.specs.Prelude.{◌≡◌, ◌≤◌, ◌⊎◌, IfErr, IfOk, map};
+ghost use Rattle.std.specs.Io.KnownBytes.{Keeps};
+ghost use Rattle.isle_cli.specs.Arguments.{given_of};
+ghost use Rattle.isle_check.specs.Doing.{CutsPrograms, Ends, ExplainsEnd, TellsPrograms};
+
+use crate::options::are_usable;
+use crate::program::{PROGRAM, status_of};
+use crate::programs::{Part, report_on_programs};
+use isle_cli::arguments::{Argument, Options};
+use isle_cli::failure::Failure;
+use isle_cli::program::{put, report};
+use isle_cli::sources::Source;
+use isle_cli::streams::{Streams, write_whole};
+use isle_program_manifest::asking::{
+    ALL_OPTION, NAME_OPTION, chosen_programs, read_texts, tell_choice,
+};
+use isle_program_manifest::choice::{Chosen, missing_notes};
+use isle_program_manifest::membership::has_file;
+use std::alloc::{AllocError, Global};
+use std::env::Env;
+use std::fs::Files;
+use std::io::Write;
+
+/// The options with those that ask for programs of a manifest.
+pub const OPTIONS: Options = Options {
+    flags: &[ALL_OPTION],
+    settings: &["--allow", NAME_OPTION],
+};
+
+/// Checks programs of the nearest manifest, each by itself, writes the findings to the output, and
+/// returns the exit status, which is that of `run`; it is 2 for a manifest with a mistake, and 3
+/// without a manifest.
+///
+/// Standard error also gets a line for each entry without a file. No contract can say which files
+/// there are. For those that are read it says what is written.
+pub fn run_programs<R: Files + Env + AllocGlobal + Clone + Drop, I, W: Write, E: Write>(
+    rt: &R,
+    arguments: &[Argument],
+    streams: &mut Streams<I, W, E>,
+) -> u8
+    ensures statuses { result ≤ 5 }
+    ensures done { result ≤ 1 → TellsPrograms (map given_of arguments.now) result
+        (W.contents streams.old.output) (W.contents streams.new.output) }
+    ensures unwritten { result ≡ 2 ⊎ result ≡ 3 ⊎ result ≡ 4
+        → Keeps (W.contents streams.old.output) (W.contents streams.new.output) }
+    ensures cut { result ≡ 5 → CutsPrograms (map given_of arguments.now)
+        (W.contents streams.old.output) (W.contents streams.new.output) }
+{
+    match check_programs(rt, arguments, streams) {
+        Ok(status) => status,
+        Err(failure) => report(&PROGRAM, &failure, &mut streams.faults),
+    }
+}
+
+fn check_programs<R: Files + Env + AllocGlobal + Clone + Drop, I, W: Write, E: Write>(
+    rt: &R,
+    arguments: &[Argument],
+    streams: &mut Streams<I, W, E>,
+) -> Result<u8, Failure>
+    ensures ok { IfOk result (λ status. Ends (map given_of arguments.now) status
+        (W.contents streams.old.output) (W.contents streams.new.output)) }
+    ensures err { IfErr result (λ failure. ExplainsEnd failure (map given_of arguments.now)
+        (W.contents streams.old.output) (W.contents streams.new.output)) }
+{
+    if !are_usable(arguments) {
+        return Err(Failure::Usage);
+    }
+    let programs = match chosen_programs(rt, &PROGRAM, arguments)? {
+        Ok(programs) => programs,
+        Err(fault) => {
+            let status = tell_choice(fault, &mut streams.faults)?;
+            return Ok(status);
+        }
+    };
+    let notes = missing_notes(rt, &PROGRAM, &programs)?;
+    let texts = read_texts(rt, &PROGRAM, &programs)?;
+    let _ = write_whole(&mut streams.faults, notes.as_bytes());
+    if !texts.faults.is_empty() {
+        let _ = write_whole(&mut streams.faults, texts.faults.as_bytes());
+        return Ok(3);
+    }
+    let parts = parts_of(rt.alloc(), &programs, &texts.list)?;
+    let told = report_on_programs(rt.alloc(), &texts.list, &parts, arguments)?;
+    match put(&mut streams.output, told.text.as_str()) {
+        Ok(()) => Ok(status_of(told.errors)),
+        Err(_) => Err(Failure::Output),
+    }
+}
+
+/// Returns the programs, each by which of the texts are its own.
+fn parts_of(alloc: Global, programs: &[Chosen], texts: &[Source]) -> Result<Vec<Part>, AllocError> {
+    let mut parts = Vec::new(alloc);
+    for program in programs {
+        let paths = &program.listed.paths;
+        let mut has = Vec::new(alloc);
+        for text in texts {
+            has.push(has_file(paths, text.name.as_str()))?;
+        }
+        parts.push(Part { has })?;
+    }
+    Ok(parts)
+}

@@ -1,0 +1,134 @@
+//! The command line: the help, and the kinds of findings that are allowed.
+
+ghost use Rattle.std.specs.Prelude.{◌≡◌, codes, map};
+ghost use Rattle.isle_cli.specs.Arguments.{given_of};
+ghost use Rattle.isle_check.specs.Options.{are_usable, is_allowed, is_allowing, is_usable};
+
+use isle_check_core::is_kind;
+use isle_cli::arguments::Argument;
+use isle_cli::version;
+
+/// The version.
+pub const VERSION: &str = version!("isle-check");
+
+/// The help.
+pub const HELP: &str = "\
+usage: isle-check [--allow KIND] [--stdin-name NAME] [--program NAME] [--all-programs] [FILE ..]
+
+Checks the declarations of a complete ISLE program, as the compiler does before it makes code. All
+files are one program. A folder stands for every .isle file below it, and - for standard input. With
+no FILE, standard input is checked. What rules say below their roots is not checked.
+
+The errors come in groups. Those of a group are told only if no earlier group has any, and warnings
+only if there is no error.
+
+With --program or --all-programs, programs of the nearest isle.toml are checked, each by itself. It
+is looked for in the current folder and above it, or in the one folder that is given.
+
+Options:
+  --allow KIND       do not tell findings of this kind; may be repeated
+  --stdin-name NAME  use NAME for standard input in messages
+  --program NAME     check this program of isle.toml; may be repeated
+  --all-programs     check all programs of isle.toml
+  --                 treat all later arguments as files
+  --help             print this help
+  --version          print the version
+
+Errors of types and constants:
+  duplicate-type           a type has the name of an earlier one, or of a built-in type
+  built-in-type            a type has the name of a built-in type
+  nodebug-primitive        a primitive type is marked nodebug
+  extern-primitive         a primitive type is marked extern
+  extern-nodebug           a type is marked both extern and nodebug
+  duplicate-variant        a type has two variants of one name
+  duplicate-field          a variant has two fields of one name
+  unknown-field-type       the type of a field is not known
+  unknown-constant-type    the type of a constant is not known
+Errors of declared terms:
+  duplicate-declaration    a term is declared twice
+  multi-partial            a term is declared both multi and partial
+  unknown-argument-type    the type of an argument is not known
+  unknown-result-type      the type of a result is not known
+  duplicate-variant-term   a variant has the full name of a declared term, or of another variant
+Errors of the roots of rules, and of extractors:
+  rule-without-term           the left side of a rule is not a term
+  rule-for-unknown-term       a rule defines a term that is not declared
+  rule-for-variant            a rule defines a variant
+  extractor-for-unknown-term  an extractor is that of a term that is not declared
+  unknown-term-in-extractor   an extractor uses a term that is not known
+  extractor-for-variant       an extractor is that of a variant
+  extractor-for-multi-term    an extractor is that of a multi term
+  duplicate-extractor         a term has two extractors
+  recursive-extractor         an extractor uses itself, or one that does
+Errors of converters:
+  unknown-inner-type    the inner type is not known
+  unknown-outer-type    the outer type is not known
+  unknown-converter     the term is not known
+  duplicate-converter   two types have two converters
+Errors of external definitions:
+  constructor-for-unknown-term         the term of an external constructor is not declared
+  constructor-for-variant              an external constructor is that of a variant
+  constructor-with-rules               a term has rules and an external constructor
+  duplicate-constructor                a term has two external constructors
+  external-extractor-for-unknown-term  the term of an external extractor is not declared
+  external-extractor-for-variant       an external extractor is that of a variant
+  two-extractors                       a term has an external extractor and an internal one
+  duplicate-external-extractor         a term has two external extractors
+Warnings:
+  duplicate-constant    a constant is declared twice, and its last type counts
+  extractor-parameters  an extractor has other than as many parameters as its term has arguments
+
+Exit status:
+  0  no error was found
+  1  an error was found, or an input does not parse
+  2  usage error, or a mistake in isle.toml
+  3  an input cannot be read, or is not UTF-8
+  4  out of memory
+  5  the output cannot be written
+";
+
+/// Returns whether each `--allow` names a kind of finding.
+pub fn are_usable(arguments: &[Argument]) -> bool
+    ensures { result ≡ are_usable (map given_of arguments.now) }
+{
+    for argument in arguments {
+        if !is_usable(argument) {
+            return false;
+        }
+    }
+    true
+}
+
+fn is_usable(argument: &Argument) -> bool
+    ensures { result ≡ is_usable (given_of argument.now) }
+{
+    match argument {
+        Argument::Setting(option, value) => {
+            option.as_str() != "--allow" || is_kind(value.as_str())
+        }
+        Argument::Flag(_) | Argument::Name(_) => true,
+    }
+}
+
+/// Returns whether `--allow` names this kind of finding.
+pub fn is_allowed(arguments: &[Argument], kind: &str) -> bool
+    ensures { result ≡ is_allowed (map given_of arguments.now) kind.now }
+{
+    for argument in arguments {
+        if is_allowing(argument, kind) {
+            return true;
+        }
+    }
+    false
+}
+
+fn is_allowing(argument: &Argument, kind: &str) -> bool
+    ensures { result ≡ is_allowing kind.now (given_of argument.now) }
+{
+    match argument {
+        Argument::Setting(option, value) => {
+            option.as_str() == "--allow" && value.as_str() == kind
+        }
+        Argument::Flag(_) | Argument::Name(_) => false,
+    }
+}

@@ -1,0 +1,170 @@
+//! The program, for any files, reader and writers.
+
+ghost use Rattle.std.specs.Prelude.{◌≡◌, ◌≢◌, ◌≤◌, ◌⊎◌, IfErr, IfOk, MatchResult, false, map};
+ghost use Rattle.std.specs.Prelude.{string_bytes};
+ghost use Rattle.std.specs.Io.KnownBytes.{Keeps};
+ghost use Rattle.isle_cli.specs.Arguments.{given_of};
+ghost use Rattle.isle_cli.specs.Streams.{WritesBeginning};
+ghost use Rattle.isle_check.specs.Doing.{AsAsked, Cuts, CutsAsked, Does, Explains};
+ghost use Rattle.isle_check.specs.Doing.{IsFailureText, IsMisuse, Tells, told_status};
+ghost use Rattle.isle_check.specs.Options.{are_usable};
+
+use crate::options::{HELP, VERSION, are_usable};
+use crate::report::report_on;
+use isle_cli::arguments::{Argument, Options, Request, names_of, requested, stdin_name_of};
+use isle_cli::failure::Failure;
+use isle_cli::program::{Program, put, report, tell};
+use isle_cli::sources::read_sources;
+use isle_cli::streams::{Streams, write_whole};
+use std::fs::Files;
+use std::io::{Read, Write};
+
+/// This program.
+pub const PROGRAM: Program = Program {
+    name: "isle-check",
+    usage: "usage: isle-check [--allow KIND] [--stdin-name NAME] \
+            [--program NAME] [--all-programs] [FILE ..]\n",
+    help: HELP,
+    version: VERSION,
+};
+
+/// Its options.
+pub const OPTIONS: Options = Options {
+    flags: &[],
+    settings: &["--allow"],
+};
+
+/// | Status | When |
+/// |---|---|
+/// | 0 | no error is found, or the help or the version is printed |
+/// | 1 | an error is found, or a text does not parse |
+/// | 2 | usage error; standard error gets the usage |
+/// | 3 | an input can't be read or isn't UTF-8; standard error gets a line for each |
+/// | 4 | `isle-check: out of memory` |
+/// | 5 | `isle-check: output failed` |
+///
+/// With status 0 and 1 the output gets a line for each text that does not parse, or else a line for
+/// each finding, and a line that counts them; with status 5 a beginning of that. With status 2, 3
+/// and 4 it gets nothing.
+///
+/// Errors of standard error do not change the status.
+pub fn run<R: Files + AllocGlobal + Clone + Drop, I: Read, W: Write, E: Write>(
+    rt: &R,
+    words: &[String],
+    streams: &mut Streams<I, W, E>,
+) -> u8
+    // Status 2 is a usage error, and then nothing is read.
+    ensures usage { result ≡ 2 → IsMisuse (map string_bytes words.now) }
+    ensures unread { result ≡ 2
+        → Keeps (I.remaining streams.old.input) (I.remaining streams.new.input) }
+
+    // With status 0, 1 or 3 the request is done, as far as texts can be read.
+    ensures done { result ≢ 2 → result ≢ 4 → result ≢ 5 → AsAsked (map string_bytes words.now)
+        (λ what. Does what result (I.remaining streams.old.input) (I.remaining streams.new.input)
+        (W.contents streams.old.output) (W.contents streams.new.output)) }
+
+    // The output is left alone, or has a beginning.
+    ensures unwritten { result ≡ 2 ⊎ result ≡ 4
+        → Keeps (W.contents streams.old.output) (W.contents streams.new.output) }
+    ensures cut { result ≡ 5 → AsAsked (map string_bytes words.now) (λ what. CutsAsked what
+        (I.remaining streams.old.input) (I.remaining streams.new.input)
+        (W.contents streams.old.output) (W.contents streams.new.output)) }
+
+    // Standard error gets nothing, a line for each text that can't be read, or the message of the
+    // status.
+    ensures quiet { result ≤ 1
+        → Keeps (E.contents streams.old.faults) (E.contents streams.new.faults) }
+    ensures told { 2 ≤ result → result ≢ 3 → WritesBeginning (E.contents streams.old.faults)
+        (E.contents streams.new.faults) (IsFailureText result) }
+    ensures statuses { result ≤ 5 }
+{
+    match requested(rt.alloc(), &OPTIONS, words) {
+        Ok(Request::Help) => {
+            tell(
+                &PROGRAM,
+                PROGRAM.help,
+                &mut streams.output,
+                &mut streams.faults,
+            )
+        }
+        Ok(Request::Version) => {
+            tell(
+                &PROGRAM,
+                PROGRAM.version,
+                &mut streams.output,
+                &mut streams.faults,
+            )
+        }
+        Ok(Request::Work(arguments)) => work(rt, &arguments, streams),
+        Err(failure) => report(&PROGRAM, &failure, &mut streams.faults),
+    }
+}
+
+/// Does what the arguments ask for, and returns the exit status.
+fn work<R: Files + AllocGlobal + Clone + Drop, I: Read, W: Write, E: Write>(
+    rt: &R,
+    arguments: &[Argument],
+    streams: &mut Streams<I, W, E>,
+) -> u8
+    ensures statuses { result ≤ 5 }
+    ensures usage { result ≡ 2 → (are_usable (map given_of arguments.now) ≡ false)
+        × Keeps (I.remaining streams.old.input) (I.remaining streams.new.input) }
+    ensures done { result ≢ 2 → result ≢ 4 → result ≢ 5 → Tells (map given_of arguments.now) result
+        (I.remaining streams.old.input) (I.remaining streams.new.input)
+        (W.contents streams.old.output) (W.contents streams.new.output) }
+    ensures unwritten { result ≡ 2 ⊎ result ≡ 4
+        → Keeps (W.contents streams.old.output) (W.contents streams.new.output) }
+    ensures cut { result ≡ 5 → Cuts (map given_of arguments.now)
+        (I.remaining streams.old.input) (I.remaining streams.new.input)
+        (W.contents streams.old.output) (W.contents streams.new.output) }
+    ensures quiet { result ≤ 1
+        → Keeps (E.contents streams.old.faults) (E.contents streams.new.faults) }
+    ensures told { 2 ≤ result → result ≢ 3 → WritesBeginning (E.contents streams.old.faults)
+        (E.contents streams.new.faults) (IsFailureText result) }
+{
+    match check_files(rt, arguments, streams) {
+        Ok(status) => status,
+        Err(failure) => report(&PROGRAM, &failure, &mut streams.faults),
+    }
+}
+
+/// Checks the files that the arguments name, and returns the exit status.
+fn check_files<R: Files + AllocGlobal + Clone + Drop, I: Read, W: Write, E: Write>(
+    rt: &R,
+    arguments: &[Argument],
+    streams: &mut Streams<I, W, E>,
+) -> Result<u8, Failure>
+    ensures ok { IfOk result (λ status. Tells (map given_of arguments.now) status
+        (I.remaining streams.old.input) (I.remaining streams.new.input)
+        (W.contents streams.old.output) (W.contents streams.new.output)) }
+    ensures err { IfErr result (λ failure. Explains failure (map given_of arguments.now)
+        (I.remaining streams.old.input) (I.remaining streams.new.input)
+        (W.contents streams.old.output) (W.contents streams.new.output)) }
+    ensures quiet { MatchResult result
+        (λ status. (status ≤ 3) × (status ≢ 2)
+        × (status ≤ 1 → Keeps (E.contents streams.old.faults) (E.contents streams.new.faults)))
+        (λ _. Keeps (E.contents streams.old.faults) (E.contents streams.new.faults)) }
+{
+    if !are_usable(arguments) {
+        return Err(Failure::Usage);
+    }
+    let names = names_of(rt.alloc(), arguments)?;
+    let stdin_name = stdin_name_of(arguments);
+    let sources = read_sources(rt, &PROGRAM, &names, stdin_name, &mut streams.input)?;
+    if !sources.faults.is_empty() {
+        let _ = write_whole(&mut streams.faults, sources.faults.as_bytes());
+        return Ok(3);
+    }
+    let report = report_on(rt.alloc(), &sources.list, arguments)?;
+    match put(&mut streams.output, report.text.as_str()) {
+        Ok(()) => Ok(status_of(report.errors)),
+        Err(_) => Err(Failure::Output),
+    }
+}
+
+/// Returns the exit status of a report with this many errors.
+pub fn status_of(errors: usize) -> u8
+    ensures { result ≡ told_status errors }
+{
+    if errors == 0 { 0 } else { 1 }
+}

@@ -1,0 +1,228 @@
+//! The report on a program.
+
+ghost use Rattle.std.specs.Prelude.{◌≡◌, ◌++◌, IfErr, IfOk, OnOk, false, map, string_bytes};
+ghost use Rattle.isle_ast.specs.MacroArgs.{definitions_have_macro_arg};
+ghost use Rattle.isle_ast.specs.TreeView.{definitions_of};
+ghost use Rattle.isle_cli.specs.Arguments.{given_of};
+ghost use Rattle.isle_cli.specs.Sources.{source_of};
+ghost use Rattle.isle_cli.specs.declared.failure.Failure.TheVariants.{Memory};
+ghost use Rattle.isle_check_core.specs.Views.{finding_of, findings_of};
+ghost use Rattle.isle_check.specs.Report.{IsReport, count_of, count_text, counted, finding_lines};
+ghost use Rattle.isle_check.specs.Report.{joined, line_for, lines_of, refused, rendered, report_in};
+ghost use Rattle.isle_check.specs.ReportView.{lines_at, report_of};
+ghost use Rattle.isle_program.specs.Reading.{IsReading};
+
+use crate::options::is_allowed;
+use isle_ast::ast::Def;
+use isle_base_source::error::Error;
+use isle_check_core::{Finding, check};
+use isle_cli::arguments::Argument;
+use isle_cli::failure::Failure;
+use isle_cli::sources::Source;
+use isle_program::messages::{line_at, refusal_lines};
+use isle_program::trees::{Reading, drop_reading, read_all, refused_count};
+use std::alloc::{AllocError, Global};
+
+/// A line of a report.
+#[derive(Debug, Drop)]
+pub struct Line {
+    /// Whether it tells an error, and not a warning.
+    pub is_error: bool,
+    /// The line, with its newline.
+    pub text: String,
+}
+
+/// A report.
+#[derive(Debug, Drop)]
+pub struct Report {
+    /// The lines, and one that counts them. It is empty if there are none.
+    pub text: String,
+    /// How many lines tell errors.
+    pub errors: usize,
+}
+
+/// Returns the report on a program: a line for each text that does not parse, or else one for each
+/// finding, in order, without the kinds that `--allow` names. The only failure is `Memory`.
+pub fn report_on(
+    alloc: Global,
+    sources: &[Source],
+    arguments: &[Argument],
+) -> Result<Report, Failure>
+    ensures ok { IfOk result (λ report. IsReport (map given_of arguments.now)
+        (map source_of sources.now) (report_of report)) }
+    ensures err { IfErr result (λ failure. failure ≡ Memory) }
+{
+    let reading = read_all(alloc, sources)?;
+    let report = report_on_reading(alloc, sources, arguments, &reading);
+    drop_reading(reading);
+    Ok(report?)
+}
+
+/// Returns the report on a program that is parsed.
+fn report_on_reading(
+    alloc: Global,
+    sources: &[Source],
+    arguments: &[Argument],
+    reading: &Reading,
+) -> Result<Report, AllocError>
+    requires { IsReading (map source_of sources.now) (definitions_of reading.now.defs.items)
+        reading.now.refusals.items }
+    ensures { IfOk result (λ report. IsReport (map given_of arguments.now)
+        (map source_of sources.now) (report_of report)) }
+{
+    report_in(alloc, sources, arguments, reading)
+}
+
+fn report_in(
+    alloc: Global,
+    sources: &[Source],
+    arguments: &[Argument],
+    reading: &Reading,
+) -> Result<Report, AllocError>
+    requires { definitions_have_macro_arg (definitions_of reading.now.defs.items) ≡ false }
+    ensures { IfOk result (λ report. report_of report
+        ≡ report_in (map given_of arguments.now) (map source_of sources.now)
+        (definitions_of reading.now.defs.items) reading.now.refusals.items) }
+{
+    if refused_count(&reading.refusals) != 0 {
+        return refused_report(alloc, sources, &reading.refusals);
+    }
+    let lines = lines_of(alloc, sources, arguments, &reading.defs)?;
+    rendered(alloc, &lines)
+}
+
+/// Returns the report on texts some of which do not parse.
+pub fn refused_report(
+    alloc: Global,
+    sources: &[Source],
+    refusals: &[Option<Error>],
+) -> Result<Report, AllocError>
+    ensures { IfOk result
+        (λ report. report_of report ≡ refused (map source_of sources.now) refusals.now) }
+{
+    let errors = refused_count(refusals);
+    let mut text = refusal_lines(alloc, sources, refusals)?;
+    let count = count_line(alloc, errors, 0)?;
+    text.push_str(count.as_str())?;
+    Ok(Report { text, errors })
+}
+
+/// Returns the lines of the findings in these definitions.
+pub fn lines_of(
+    alloc: Global,
+    sources: &[Source],
+    arguments: &[Argument],
+    defs: &[Def],
+) -> Result<Vec<Line>, AllocError>
+    requires { definitions_have_macro_arg (definitions_of defs.now) ≡ false }
+    ensures { IfOk result (λ lines. lines_at lines.items
+        ≡ lines_of (map given_of arguments.now) (map source_of sources.now)
+        (definitions_of defs.now)) }
+{
+    let found = check(alloc, defs)?;
+    finding_lines(alloc, sources, arguments, &found)
+}
+
+/// Returns the lines of findings, in order, without the kinds that `--allow` names.
+fn finding_lines(
+    alloc: Global,
+    sources: &[Source],
+    arguments: &[Argument],
+    found: &[Finding],
+) -> Result<Vec<Line>, AllocError>
+    ensures { IfOk result (λ lines. lines_at lines.items
+        ≡ finding_lines (map given_of arguments.now) (map source_of sources.now)
+        (findings_of found.now)) }
+{
+    let mut lines = Vec::new(alloc);
+    for finding in found {
+        add_line(alloc, sources, arguments, finding, &mut lines)?;
+    }
+    Ok(lines)
+}
+
+fn add_line(
+    alloc: Global,
+    sources: &[Source],
+    arguments: &[Argument],
+    finding: &Finding,
+    lines: &mut Vec<Line>,
+) -> Result<(), AllocError>
+    ensures { OnOk result (lines_at lines.new.items ≡ lines_at lines.old.items
+        ++ line_for (map given_of arguments.now) (map source_of sources.now)
+        (finding_of finding.now)) }
+{
+    let words = finding.kind.words(alloc)?;
+    if is_allowed(arguments, words.name) {
+        return Ok(());
+    }
+    let is_error = finding.kind.is_error();
+    let severity = if is_error { "error" } else { "warning" };
+    let message = format!(in alloc; "{} [{}]", words.message, words.name)?;
+    let text = line_at(alloc, sources, finding.pos, severity, message.as_str())?;
+    lines.push(Line { is_error, text })?;
+    Ok(())
+}
+
+/// Returns the report of these lines.
+pub fn rendered(alloc: Global, lines: &[Line]) -> Result<Report, AllocError>
+    ensures { IfOk result (λ report. report_of report ≡ rendered (lines_at lines.now)) }
+{
+    let errors = count_of(lines, true);
+    let mut text = joined(alloc, lines)?;
+    let count = count_line(alloc, errors, count_of(lines, false))?;
+    text.push_str(count.as_str())?;
+    Ok(Report { text, errors })
+}
+
+fn joined(alloc: Global, lines: &[Line]) -> Result<String, AllocError>
+    ensures { IfOk result (λ text. string_bytes text ≡ joined (lines_at lines.now)) }
+{
+    let mut text = String::new(alloc);
+    for line in lines {
+        text.push_str(line.text.as_str())?;
+    }
+    Ok(text)
+}
+
+/// Returns how many lines tell errors, or how many tell warnings.
+fn count_of(lines: &[Line], is_error: bool) -> usize
+    ensures { result ≡ count_of is_error (lines_at lines.now) }
+{
+    let mut count = 0;
+    for line in lines {
+        if line.is_error == is_error {
+            count += 1;
+        }
+    }
+    count
+}
+
+/// Returns the line that counts errors and warnings; empty if there are none.
+fn count_line(alloc: Global, errors: usize, warnings: usize) -> Result<String, AllocError>
+    ensures { IfOk result (λ line. string_bytes line ≡ count_text errors warnings) }
+{
+    if errors == 0 {
+        if warnings == 0 {
+            return Ok(String::new(alloc));
+        }
+        let warned = counted(alloc, warnings, "warning")?;
+        return format!(in alloc; "found {warned}\n");
+    }
+    let refused = counted(alloc, errors, "error")?;
+    if warnings == 0 {
+        return format!(in alloc; "found {refused}\n");
+    }
+    let warned = counted(alloc, warnings, "warning")?;
+    format!(in alloc; "found {refused} and {warned}\n")
+}
+
+/// Returns a number and a noun, in the plural unless the number is 1.
+fn counted(alloc: Global, number: usize, noun: &str) -> Result<String, AllocError>
+    ensures { IfOk result (λ text. string_bytes text ≡ counted number noun.now) }
+{
+    if number == 1 {
+        return format!(in alloc; "{number} {noun}");
+    }
+    format!(in alloc; "{number} {noun}s")
+}

@@ -1,0 +1,160 @@
+//! The groups of errors.
+
+ghost use Rattle.std.specs.Prelude.{◌≡◌, ◌++◌, IfOk, OnOk, false, map};
+ghost use Rattle.isle_ast.specs.MacroArgs.{definitions_have_macro_arg};
+ghost use Rattle.isle_ast.specs.TreeView.{definitions_of};
+ghost use Rattle.isle_check_core.specs.Findings.{findings, later_findings, of_faults};
+ghost use Rattle.isle_check_core.specs.Findings.{of_recursion, root_errors, root_findings};
+ghost use Rattle.isle_check_core.specs.Views.{findings_of};
+ghost use Rattle.isle_check_declarations.specs.Views.{faults_of};
+ghost use Rattle.isle_check_recursion.specs.Views.{names_at, recursions_at};
+ghost use Rattle.isle_check_signatures.specs.Environment.{environment};
+ghost use Rattle.isle_check_signatures.specs.Views.{environment_of};
+
+use crate::finding::{Finding, Kind};
+use crate::warnings::warnings;
+use isle_ast::ast::{Def, Ident};
+use isle_check_declarations::{Fault, term_faults, type_faults};
+use isle_check_extractors::{converter_faults, extern_faults, extractor_faults, root_faults};
+use isle_check_recursion::{Recursion, recursions};
+use isle_check_signatures::Environment;
+use std::alloc::{AllocError, Global};
+
+/// Returns the errors of the declarations of a program: those of the first group that has any, in
+/// the order in which upstream reports them. The groups are types and constants; declared terms;
+/// the left sides of rules, and internal extractors; converters; external definitions. Without an
+/// error it returns the warnings.
+///
+/// No template may hold a macro argument, `Pattern::MacroArg`, which the parser never makes. An
+/// `Err` means out of memory.
+#[tactic(auto, using(crate::proofs::GroupLemmas::group_told, crate::proofs::GroupLemmas::group_passed))]
+pub fn check(alloc: Global, defs: &[Def]) -> Result<Vec<Finding<'_>>, AllocError>
+    requires { definitions_have_macro_arg (definitions_of defs.now) ≡ false }
+    ensures { IfOk result
+        (λ found. findings_of found.items ≡ findings (definitions_of defs.now)) }
+{
+    let found = of_faults(alloc, &type_faults(alloc, defs)?)?;
+    if !found.is_empty() {
+        return Ok(found);
+    }
+    let found = of_faults(alloc, &term_faults(alloc, defs)?)?;
+    if !found.is_empty() {
+        return Ok(found);
+    }
+    root_findings(alloc, defs)
+}
+
+/// Returns the errors of the left sides of rules and of internal extractors, or else what is found
+/// after them.
+fn root_findings(alloc: Global, defs: &[Def]) -> Result<Vec<Finding<'_>>, AllocError>
+    requires { definitions_have_macro_arg (definitions_of defs.now) ≡ false }
+    ensures { IfOk result
+        (λ found. findings_of found.items ≡ root_findings (definitions_of defs.now)) }
+{
+    let env = Environment::new(alloc, defs)?;
+    findings_in(alloc, &env, defs)
+}
+
+#[tactic(auto, using(crate::proofs::GroupLemmas::group_told, crate::proofs::GroupLemmas::group_passed))]
+fn findings_in<'a>(
+    alloc: Global,
+    env: &Environment,
+    defs: &'a [Def],
+) -> Result<Vec<Finding<'a>>, AllocError>
+    requires { environment_of env.now ≡ environment (definitions_of defs.now) }
+    ensures { IfOk result
+        (λ found. findings_of found.items ≡ root_findings (definitions_of defs.now)) }
+{
+    let found = root_errors(alloc, env, defs)?;
+    if !found.is_empty() {
+        return Ok(found);
+    }
+    later_findings(alloc, env, defs)
+}
+
+#[tactic(auto, using(crate::proofs::GroupLemmas::group_told, crate::proofs::GroupLemmas::group_passed))]
+fn later_findings<'a>(
+    alloc: Global,
+    env: &Environment,
+    defs: &'a [Def],
+) -> Result<Vec<Finding<'a>>, AllocError>
+    requires { environment_of env.now ≡ environment (definitions_of defs.now) }
+    ensures { IfOk result
+        (λ found. findings_of found.items ≡ later_findings (definitions_of defs.now)) }
+{
+    let found = of_faults(alloc, &converter_faults(alloc, defs)?)?;
+    if !found.is_empty() {
+        return Ok(found);
+    }
+    let found = of_faults(alloc, &extern_faults(alloc, defs)?)?;
+    if !found.is_empty() {
+        return Ok(found);
+    }
+    warnings(alloc, env, defs)
+}
+
+/// Returns the errors of the left sides of rules and of internal extractors.
+fn root_errors<'a>(
+    alloc: Global,
+    env: &Environment,
+    defs: &'a [Def],
+) -> Result<Vec<Finding<'a>>, AllocError>
+    requires { environment_of env.now ≡ environment (definitions_of defs.now) }
+    ensures { IfOk result
+        (λ found. findings_of found.items ≡ root_errors (definitions_of defs.now)) }
+{
+    let mut found = of_faults(alloc, &root_faults(alloc, defs)?)?;
+    add_faults(&extractor_faults(alloc, defs)?, &mut found)?;
+    add_recursions(alloc, &recursions(alloc, env, defs)?, &mut found)?;
+    Ok(found)
+}
+
+fn of_faults<'a>(alloc: Global, faults: &[Fault<'a>]) -> Result<Vec<Finding<'a>>, AllocError>
+    ensures { IfOk result
+        (λ found. findings_of found.items ≡ of_faults (faults_of faults.now)) }
+{
+    let mut found = Vec::new(alloc);
+    add_faults(faults, &mut found)?;
+    Ok(found)
+}
+
+fn add_faults<'a>(faults: &[Fault<'a>], found: &mut Vec<Finding<'a>>) -> Result<(), AllocError>
+    ensures { OnOk result (findings_of found.new.items
+        ≡ findings_of found.old.items ++ of_faults (faults_of faults.now)) }
+{
+    for fault in faults {
+        found.push(Finding {
+            kind: Kind::Declaration(fault.kind),
+            pos: fault.pos,
+        })?;
+    }
+    Ok(())
+}
+
+fn add_recursions<'a>(
+    alloc: Global,
+    recursions: &[Recursion<'a>],
+    found: &mut Vec<Finding<'a>>,
+) -> Result<(), AllocError>
+    ensures { OnOk result (findings_of found.new.items
+        ≡ findings_of found.old.items ++ map of_recursion (recursions_at recursions.now)) }
+{
+    for recursion in recursions {
+        let path = copied(alloc, &recursion.path)?;
+        found.push(Finding {
+            kind: Kind::RecursiveExtractor(path),
+            pos: recursion.pos,
+        })?;
+    }
+    Ok(())
+}
+
+fn copied<'a>(alloc: Global, path: &[&'a Ident]) -> Result<Vec<&'a Ident>, AllocError>
+    ensures { IfOk result (λ made. names_at made.items ≡ names_at path.now) }
+{
+    let mut made = Vec::new(alloc);
+    for name in path {
+        made.push(*name)?;
+    }
+    Ok(made)
+}
