@@ -1,5 +1,5 @@
 -- Entries get other numbers.
-use Rattle.std.proofs.Common.{◌≡◌, ℕ, ◌+◌, ◌-◌, List, [], ◌∷◌, ◌++◌, Option, None, Some, length, map, option_map, refl, sym, ap, subst, ◌∙◌, suc, arith, bytes_eq, cond, Bool, true, false, is_some, take, drop}
+use Rattle.std.proofs.Common.{◌≡◌, ℕ, ◌+◌, ◌-◌, List, [], ◌∷◌, Option, None, Some, length, map, option_map, refl, sym, ap, subst, ◌∙◌, arith, bytes_eq, cond, Bool, true, false, is_some, take}
 use Rattle.std.specs.List.{AllByRecursion}
 use Rattle.std.proofs.lemmas.List.{length-map, map-append, take-map}
 use Rattle.std.specs.declared.alloc.Global.{Global}
@@ -8,7 +8,6 @@ use Rattle.isle_ast_names.specs.Tree.{Name}
 use Rattle.isle_resolve.specs.Event.{EventNode, defines, uses, defines_variant, occurs, binds, reads, closes, ends}
 use Rattle.isle_index.specs.declared.entries.Entry.{Entry}
 use Rattle.isle_index.specs.declared.entries.Entry.TheVariants as entries
-use Rattle.isle_index.specs.declared.entries.Spot.{Spot}
 use Rattle.isle_index.specs.Entries.{moved, moved_number, unpacked, unpacked_from, with_binder, word_at}
 use Rattle.isle_index.specs.Held.{HasTexts}
 use Rattle.isle_index.specs.Scopes.{BoundNode, after, binder, bound_more, last_bound, or_else, seen_from}
