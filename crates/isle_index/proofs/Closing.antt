@@ -11,11 +11,11 @@ use Rattle.isle_resolve.specs.Events.{pattern_events, expression_events, conditi
 use Rattle.isle_index.specs.Scopes.{BoundNode, after, binder, seen, seen_from}
 
 -- the variables that are bound after events
-abbrev bound_after : ℕ → List BoundNode → List EventNode → List BoundNode
+abbrev pub bound_after : ℕ → List BoundNode → List EventNode → List BoundNode
 bound_after i bound [] = bound
 bound_after i bound (e ∷ es) = bound_after (i + 1) (after e i bound) es
 
-seen-append : (i : ℕ) (bound : List BoundNode) (xs ys : List EventNode) → seen_from i bound (xs ++ ys) ≡ seen_from i bound xs ++ seen_from (i + length xs) (bound_after i bound xs) ys
+pub seen-append : (i : ℕ) (bound : List BoundNode) (xs ys : List EventNode) → seen_from i bound (xs ++ ys) ≡ seen_from i bound xs ++ seen_from (i + length xs) (bound_after i bound xs) ys
 seen-append i bound [] ys = let at : i ≡ i + 0 = omega arith in ap (λ j. seen_from j bound ys) at
 seen-append i bound (x ∷ xs) ys =
     let at : i + 1 + length xs ≡ i + length (x ∷ xs) = omega arith in
@@ -120,7 +120,7 @@ definition_ends i (instantiation t) = refl
 definition_ends i (external e) = quiet i [] (extern_events e) (quiet_extern e)
 definition_ends i (converter c) = refl
 
-definitions_end : (i : ℕ) (ds : List Definition) → bound_after i [] (events ds) ≡ []
+pub definitions_end : (i : ℕ) (ds : List Definition) → bound_after i [] (events ds) ≡ []
 definitions_end i [] = refl
 definitions_end i (d ∷ ds) =
     bound-append i [] (definition_events d) (events ds)

@@ -8,3 +8,5 @@ pub mod Replaced
 pub mod Adding
 pub mod Closing
 pub mod Growing
+pub mod Shifting
+pub mod Replacing

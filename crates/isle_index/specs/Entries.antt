@@ -1,6 +1,6 @@
 -- How an index stores its events: an entry has the numbers of its texts among the texts of the index. Its own number
 -- is its place among the entries.
-use Rattle.std.specs.Prelude.{ℕ, ◌+◌, List, [], ◌∷◌, Option, None, Some, option_map, string_bytes}
+use Rattle.std.specs.Prelude.{ℕ, ◌+◌, ◌-◌, List, [], ◌∷◌, Option, None, Some, option_map, string_bytes}
 use Rattle.std.specs.List.{slice_get}
 use Rattle.std.specs.declared.alloc.Global.{Global}
 use Rattle.std.specs.declared.string.String.{String}
@@ -49,3 +49,18 @@ unpacked_from texts number (e ∷ es) = unpacked texts number e ∷ unpacked_fro
 
 abbrev pub all_of : Entries → List SeenNode
 all_of e = unpacked_from e.texts.now 0 e.items.now
+
+-- the number of an event, where the number `from` becomes `to`
+abbrev pub moved_number : (from to : ℕ) → ℕ → ℕ
+moved_number from to number = (number - from) + to
+
+-- an entry, where the number `from` becomes `to`
+abbrev pub moved : (from to : ℕ) → Entry → Entry
+moved from to (entries.Defines kind spot) = entries.Defines kind spot
+moved from to (entries.Uses kind spot) = entries.Uses kind spot
+moved from to (entries.DefinesVariant owner member) = entries.DefinesVariant owner member
+moved from to (entries.Occurs role spot binder) = entries.Occurs role spot (moved_number from to binder)
+moved from to (entries.Binds spot) = entries.Binds spot
+moved from to (entries.Reads spot binder) = entries.Reads spot (option_map (moved_number from to) binder)
+moved from to entries.Closes = entries.Closes
+moved from to entries.Ends = entries.Ends

@@ -1,5 +1,5 @@
 -- What an index holds, and what is added to it.
-use Rattle.std.specs.Prelude.{◌≡◌, ℕ, List, ◌++◌, Some}
+use Rattle.std.specs.Prelude.{◌≡◌, ℕ, List, ◌++◌, Some, length}
 use Rattle.std.specs.List.{AllByRecursion}
 use Rattle.std.specs.declared.alloc.Global.{Global}
 use Rattle.std.specs.declared.string.String.{String}
@@ -59,3 +59,7 @@ Adds more old new = IsWhole old → IsWhole new × (all_in new ≡ all_in old ++
 pub record IsIndexOf (ds : List Definition) (index : Index) : Type 0 where
   pub whole : IsWhole index
   pub is : all_in index ≡ seen (events ds)
+
+-- how many events definitions have
+abbrev pub event_count : List Definition → ℕ
+event_count ds = length (events ds)

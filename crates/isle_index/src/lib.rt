@@ -15,7 +15,7 @@ ghost use Rattle.isle_ast.specs.TreeView.{definitions_of};
 ghost use Rattle.isle_base_source.specs.PositionOrder.{position_cmp};
 ghost use Rattle.isle_index.specs.Candidates.{candidate_of, candidates};
 ghost use Rattle.isle_index.specs.Entries.{all_of};
-ghost use Rattle.isle_index.specs.Held.{Adds, IsIndexOf, all_in};
+ghost use Rattle.isle_index.specs.Held.{Adds, IsIndexOf, all_in, event_count};
 ghost use Rattle.isle_index.specs.Names.{named_of};
 ghost use Rattle.isle_index.specs.Occurrences.{definitions, name_at, occurrence_at, occurrences};
 ghost use Rattle.isle_index.specs.Renaming.{IsAnswer, can_be_renamed};
@@ -26,6 +26,7 @@ ghost use Rattle.isle_resolve.specs.EventView.{events_of};
 mod candidates;
 mod entries;
 pub mod laws;
+mod moving;
 mod names;
 mod numbers;
 mod occurrences;
@@ -41,6 +42,7 @@ use isle_base::lexer::Pos;
 use isle_resolve::event::Event;
 pub use isle_resolve::event::Kind;
 use isle_resolve::events;
+use moving::{add_moved, split};
 pub use names::Name;
 use names::meaning;
 use numbers::Texts;
@@ -99,6 +101,37 @@ impl Index {
             self.entries.push(entry)?;
             bind(event, number, &mut bound)?;
         }
+        Ok(())
+    }
+
+    /// The number of events that the definitions in the index have.
+    pub fn event_count(&self) -> usize
+        ensures { (ds : List Definition) → IsIndexOf ds self.now → result ≡ event_count ds }
+    {
+        self.entries.len()
+    }
+
+    /// Moves the definitions at the end of the index, those of the events from number `end` on, to
+    /// where those of the events `start..stop` are, which are dropped. Texts of names stay. An
+    /// `Err` means out of memory: drop the index then.
+    pub fn replace(
+        &mut self,
+        alloc: Global,
+        start: usize,
+        stop: usize,
+        end: usize,
+    ) -> Result<(), AllocError>
+        ensures { OnOk result ((before old after new : List Definition)
+            → IsIndexOf (before ++ old ++ after ++ new) self.old
+            → start ≡ event_count before → stop ≡ event_count (before ++ old)
+            → end ≡ event_count (before ++ old ++ after)
+            → IsIndexOf (before ++ new ++ after) self.new) }
+    {
+        let new = split(alloc, &mut self.entries, end)?;
+        let after = split(alloc, &mut self.entries, stop)?;
+        self.entries.truncate(start);
+        add_moved(&mut self.entries, &new, end)?;
+        add_moved(&mut self.entries, &after, stop)?;
         Ok(())
     }
 

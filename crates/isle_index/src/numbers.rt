@@ -113,7 +113,7 @@ impl Texts {
 }
 
 /// Converts a number to `u32`. A larger one counts as out of memory.
-fn narrow(number: usize) -> Result<u32, AllocError>
+pub fn narrow(number: usize) -> Result<u32, AllocError>
     ensures { IfOk result (λ same. same ≡ number) }
 {
     u32::try_from(number).map_err(|_| AllocError)
