@@ -3,3 +3,4 @@ pub mod Completing
 pub mod Gathering
 pub mod Letters
 pub mod Lists
+pub mod Renewing

@@ -1,6 +1,6 @@
 -- The index of a program.
-use Rattle.std.specs.Prelude.{◌≡◌, ℕ, ◌+◌, List, [], ◌∷◌, ◌++◌, ◌⊎◌, Bool, true, false, not, None, Some, Result, Ok, Err, count_by, map, take}
-use Rattle.std.specs.List.{flat_map}
+use Rattle.std.specs.Prelude.{◌≡◌, ℕ, ◌+◌, List, [], ◌∷◌, ◌++◌, ◌⊎◌, Bool, true, false, not, None, Some, Result, Ok, Err, count_by, drop, map, string_bytes, take}
+use Rattle.std.specs.List.{flat_map, sum_by}
 use Rattle.std.specs.Str.{IsCharBoundary}
 use Rattle.isle_ast.specs.Grammar.{SpellsDefinition}
 use Rattle.isle_ast.specs.Tree.{Definition}
@@ -10,9 +10,10 @@ use Rattle.isle_base.specs.Place.{Placed, in_file, placed}
 use Rattle.isle_base.specs.Token.{Ending, Lexeme}
 use Rattle.isle_base.specs.declared.fault.Fault.{Fault}
 use Rattle.isle_base.specs.declared.fault.Fault.TheVariants as faults
-use Rattle.isle_lsp_features.specs.Programs.{Text, bytes_of}
+use Rattle.isle_lsp_features.specs.Programs.{Text}
+use Rattle.isle_lsp_features.specs.declared.known.Known.{Known}
 use Rattle.isle_base_source.specs.declared.error.Error.{Error}
-use Rattle.isle_index.specs.Held.{IsIndexOf}
+use Rattle.isle_index.specs.Held.{IsIndexOf, event_count}
 use Rattle.isle_index.specs.declared.Index.{Index}
 use Rattle.isle_parser.specs.NextDefinition.{LeavesNone}
 use Rattle.isle_program.specs.Nesting.{FirstDeep}
@@ -76,9 +77,46 @@ pub record IsGathered (program : List Text) (index : Index) (refused : ℕ) : Ty
   pub holds : IsIndexOf (all_known parts) index
   pub count : refused ≡ refused_count parts
 
--- the index is that of each program of these texts
-abbrev pub IsOf : List (List ℕ) → Index → (refused : ℕ) → Type 0
-IsOf texts index refused = (program : List Text) → map bytes_of program ≡ texts → IsGathered program index refused
+-- a text whose known definitions an index has: its bytes, how many events these have, and whether it spells no tree, or nests too deeply
+pub record Kept : Type 0 where
+  pub bytes : List ℕ
+  pub events : ℕ
+  pub is_refused : Bool
+
+abbrev pub kept_of : Known → Kept
+kept_of k = record { bytes = string_bytes k.text; events = k.events; is_refused = k.is_refused }
+
+abbrev pub bytes_in : List Kept → List (List ℕ)
+bytes_in ks = map (λ k. k.bytes) ks
+
+abbrev pub events_in : List Kept → ℕ
+events_in ks = sum_by (λ k. k.events) ks
+
+abbrev pub refused_in : List Kept → ℕ
+refused_in ks = count_by (λ k. k.is_refused) ks
+
+-- this is the known part of a text
+abbrev pub IsKept : ℕ → Kept → Part → Type 0
+IsKept file k p = IsPart file k.bytes p × (k.events ≡ event_count (known p)) × (k.is_refused ≡ is_refused p)
+
+-- the known parts of texts that are numbered from this number on
+abbrev pub AreKept : ℕ → List Kept → List Part → Type 0
+AreKept file [] [] = Unit {0}
+AreKept file [] (p ∷ ps) = ⊥
+AreKept file (k ∷ ks) [] = ⊥
+AreKept file (k ∷ ks) (p ∷ ps) = IsKept file k p × AreKept (file + 1) ks ps
+
+-- the index holds the known parts of these texts
+pub record IsOf (ks : List Kept) (index : Index) : Type 0 where
+  pub parts : List Part
+  pub read : AreKept 0 ks parts
+  pub holds : IsIndexOf (all_known parts) index
+
+-- a text stands where another one did, or at the end
+pub record Renews (file : ℕ) (text : List ℕ) (old new : List Kept) : Type 0 where
+  pub kept : Kept
+  pub is : kept.bytes ≡ text
+  pub at_place : new ≡ take file old ++ kept ∷ drop (file + 1) old
 
 -- an index holds these definitions after those that it held
 abbrev pub Grows : List Definition → Index → Index → Type 0

@@ -1,14 +1,15 @@
 //! The index of a program.
 
-ghost use Rattle.std.specs.Prelude.{◌≡◌, ◌∷◌, IfErr, IfOk, IfSome, None, Some, map, true};
-ghost use Rattle.std.specs.Prelude.{string_bytes};
+ghost use Rattle.std.specs.Prelude.{◌≡◌, ◌≤◌, [], IfErr, IfOk, None, OnOk, Some, length, map};
 ghost use Rattle.isle_lsp_features.specs.Programs.{bytes_of, question_of, text_of};
 ghost use Rattle.isle_cli.specs.declared.failure.Failure.TheVariants.{Memory};
 ghost use Rattle.isle_lsp_features.specs.Answers.{IsAnswer};
-ghost use Rattle.isle_lsp_features.specs.Gathered.{AddsDefinitions, AddsText, IsGathered};
+ghost use Rattle.isle_lsp_features.specs.Gathered.{AddsDefinitions, AddsText, IsOf};
+ghost use Rattle.isle_lsp_features.specs.Gathered.{Renews, kept_of};
 ghost use Rattle.isle_lsp_protocol.specs.Replies.{outcome_of};
 ghost use Rattle.isle_program.specs.Nesting.{FirstDeep};
 
+use crate::known::{Known, events_before, is_text, put, refused_in};
 use crate::{Question, Text, answer_from};
 use isle_base::lexer::{Fault, Lexer};
 use isle_cli::failure::Failure;
@@ -17,39 +18,44 @@ use isle_lsp_protocol::replies::Outcome;
 use isle_parser::dropping::drop_definition;
 use isle_parser::parser::Parser;
 use isle_program::nesting::deep_list;
-use std::alloc::{AllocError, Global};
+use std::alloc::Global;
 use std::marker::Model;
-use std::slice;
+use std::{mem, slice};
+
+/// How many texts change before the index is made anew: it keeps the texts of names that are gone.
+const MOST_CHANGES: usize = 1000;
 
 /// The index of the program that was asked about last, with the texts that it is of.
 #[derive(Drop)]
 pub struct Gathered {
     /// The texts.
-    texts: Vec<String>,
+    texts: Vec<Known>,
     /// The index of the definitions that are known.
     index: Index,
-    /// The number of texts that do not parse, or nest too deeply.
-    refused: usize,
+    /// How many texts have changed since it was made.
+    changes: usize,
 }
 
 impl Model for Gathered {
-    ghost use Rattle.std.specs.Prelude.{ℕ, map, string_bytes};
-    ghost use Rattle.isle_lsp_features.specs.Gathered.{IsOf};
+    ghost use Rattle.std.specs.Prelude.{ℕ, List, map};
+    ghost use Rattle.isle_lsp_features.specs.Gathered.{IsOf, bytes_in, kept_of};
 
-    ghost Value = { ℕ };
+    ghost Value = { List (List ℕ) };
 
-    ghost view = { λ g. g.refused };
+    ghost view = { λ g. bytes_in (map kept_of g.texts.items) };
 
-    ghost invariant = { λ g. IsOf (map string_bytes g.texts.items) g.index g.refused };
+    ghost invariant = { λ g. IsOf (map kept_of g.texts.items) g.index };
 }
 
 impl Gathered {
     /// The index of a program that has no text.
-    pub fn new(alloc: Global) -> Gathered {
+    pub fn new(alloc: Global) -> Gathered
+        ensures { result ≡ [] }
+    {
         Gathered {
             texts: Vec::new(alloc),
             index: Index::new(alloc),
-            refused: 0,
+            changes: 0,
         }
     }
 
@@ -64,78 +70,85 @@ impl Gathered {
             (map text_of program.now) (outcome_of outcome)) }
         ensures err { IfErr result (λ failure. failure ≡ Memory) }
     {
-        if are_texts(program, &self.texts) {
-            return answer_from(alloc, program, &self.index, self.refused, question);
-        }
-        *self = Gathered::new(alloc);
-        let (index, refused) = gather(alloc, program)?;
-        let texts = copies(alloc, program)?;
-        let answered = answer_from(alloc, program, &index, refused, question)?;
-        *self = Gathered {
-            texts,
-            index,
-            refused,
-        };
+        let last = mem::replace(self, Gathered::new(alloc));
+        let last = last_or_new(alloc, last, program.len());
+        let gathered = gathered_from(alloc, program, last)?;
+        let refused = refused_in(&gathered.texts);
+        let answered = answer_from(alloc, program, &gathered.index, refused, question)?;
+        *self = gathered;
         Ok(answered)
     }
 }
 
-/// Returns whether these are the texts of a program.
-fn are_texts(program: &[Text], texts: &[String]) -> bool
-    ensures { result ≡ true
-        → map bytes_of (map text_of program.now) ≡ map string_bytes texts.now }
+/// The last index, unless it is of more texts than these or many have changed: then one of no text.
+fn last_or_new(alloc: Global, last: Gathered, len: usize) -> Gathered
+    ensures { length result ≤ len }
 {
-    let mut rest = texts;
-    for text in program {
-        match later_texts(rest, text.text) {
-            Some(later) => rest = later,
-            None => return false,
-        }
-    }
-    rest.is_empty()
-}
-
-/// The texts after the first, if that is this one.
-fn later_texts<'a>(texts: &'a [String], text: &str) -> Option<&'a [String]>
-    ensures { IfSome result (λ later.
-        map string_bytes texts.now ≡ text.now ∷ map string_bytes later.now) }
-{
-    let (first, later) = texts.split_first()?;
-    if first.as_str() == text {
-        Some(later)
+    if last.texts.len() > len || last.changes > MOST_CHANGES {
+        Gathered::new(alloc)
     } else {
-        None
+        last
     }
 }
 
-/// Copies of the texts of a program.
-fn copies(alloc: Global, program: &[Text]) -> Result<Vec<String>, AllocError>
-    ensures { IfOk result (λ texts. map string_bytes texts.items
-        ≡ map bytes_of (map text_of program.now)) }
-{
-    let mut texts = Vec::new(alloc);
-    for text in program {
-        texts.push(String::from_str(alloc, text.text)?)?;
-    }
-    Ok(texts)
-}
-
-/// Indexes a program, and counts its texts with errors. A text that does not parse contributes the
-/// definitions before its error, without the last one if the error is lexical. One that nests too
-/// deeply contributes those before the definition that does. Only one definition is in memory at a
-/// time. The only `Err` is `Memory`.
-fn gather(alloc: Global, program: &[Text]) -> Result<(Index, usize), Failure>
-    ensures ok { IfOk result (λ all. IsGathered (map text_of program.now) all.0 all.1) }
+/// The index of a program, from that of a program that has no more texts. A text that is the same
+/// at the same place is not parsed. A text that does not parse contributes the definitions before
+/// its error, without the last one if the error is lexical. One that nests too deeply contributes
+/// those before the definition that does. Only one definition is in memory at a time. The only
+/// `Err` is `Memory`.
+fn gathered_from(alloc: Global, program: &[Text], last: Gathered) -> Result<Gathered, Failure>
+    requires { length last ≤ length program.now }
+    ensures ok { IfOk result
+        (λ gathered. gathered ≡ map bytes_of (map text_of program.now)) }
     ensures err { IfErr result (λ failure. failure ≡ Memory) }
 {
-    let mut index = Index::new(alloc);
-    let mut refused = 0;
+    let Gathered {
+        mut texts,
+        mut index,
+        mut changes,
+    } = last;
     for (file, source) in program.iter().enumerate() {
-        if !add_text(alloc, file, source.text, &mut index)? {
-            refused += 1;
+        if !is_text(&texts, file, source.text) {
+            renew(alloc, file, source.text, &mut texts, &mut index)?;
+            changes = changes.saturating_add(1);
         }
     }
-    Ok((index, refused))
+    Ok(Gathered {
+        texts,
+        index,
+        changes,
+    })
+}
+
+/// Puts a text into a program, and its known definitions into the index, instead of the text of
+/// that number and its definitions, or at the end.
+fn renew(
+    alloc: Global,
+    file: usize,
+    text: &str,
+    texts: &mut Vec<Known>,
+    index: &mut Index,
+) -> Result<(), Failure>
+    requires place { file ≤ length texts.old.items }
+    requires last { IsOf (map kept_of texts.old.items) index.old }
+    ensures ok { OnOk result (IsOf (map kept_of texts.new.items) index.new) }
+    ensures texts { OnOk result (Renews file text.now (map kept_of texts.old.items)
+        (map kept_of texts.new.items)) }
+    ensures err { IfErr result (λ failure. failure ≡ Memory) }
+{
+    let start = events_before(texts, file)?;
+    let stop = events_before(texts, file + 1)?;
+    let end = index.event_count();
+    let is_tree = add_text(alloc, file, text, index)?;
+    let events = index.event_count().saturating_sub(end);
+    index.replace(alloc, start, stop, end)?;
+    let known = Known {
+        text: String::from_str(alloc, text)?,
+        events,
+        is_refused: !is_tree,
+    };
+    put(texts, file, known)?;
+    Ok(())
 }
 
 /// Adds the definitions of a text, and returns whether it parses. One that nests too deeply counts

@@ -17,6 +17,7 @@ ghost use Rattle.isle_lsp_protocol.specs.Replies.{outcome_of};
 mod completion;
 mod gathered;
 mod hover;
+mod known;
 mod locations;
 pub mod places;
 mod renaming;
@@ -65,8 +66,8 @@ pub struct Question<'a> {
 /// Answers a request about the names of a program.
 ///
 /// A text that does not parse contributes the definitions before its error, without the last one if
-/// the error is lexical. While there is one, `rename` and `prepareRename` fail. The index is made
-/// anew unless the texts are those of the last request. The only `Err` is `Memory`.
+/// the error is lexical. While there is one, `rename` and `prepareRename` fail. Only texts that
+/// differ from those of the last request are parsed. The only `Err` is `Memory`.
 pub fn answer<'a>(
     alloc: Global,
     gathered: &mut Gathered,

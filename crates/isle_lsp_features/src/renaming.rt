@@ -108,7 +108,8 @@ pub fn rename<'a>(
     question: Question,
 ) -> Result<Outcome<'a>, AllocError>
     ensures { let all = all_in index.now in IfOk result (λ outcome. IsRenamingOf
-        question.entry.takes_document_changes (map text_of program.now) all (name_at place.entry.pos all)
+        question.entry.takes_document_changes (map text_of program.now) all
+        (name_at place.entry.pos all)
         (parameters.new_name_of (view question.entry.message.now)) (outcome_of outcome)) }
 {
     let Some(new) = new_name_of(question.message) else {

@@ -1,10 +1,13 @@
-use Rattle.std.proofs.Common.{map}
-use Rattle.std.specs.Prelude.{string_bytes}
+use Rattle.std.proofs.Common.{ℕ, ap, map, subst, sym, ◌∙◌}
 use Rattle.isle_lsp_features.specs.Programs.{text_of}
-use Rattle.isle_lsp_features.proofs.Gathering.{is-of}
+use Rattle.isle_lsp_features.specs.Gathered.{IsGathered, bytes_in, kept_of, refused_in}
+use Rattle.isle_lsp_features.proofs.Renewing.{gathered-of}
 use Rattle.isle_lsp_features.proofs.gathered.Gathered.answer.Goals as goal
 
-pub invariant_of-self-2 : goal.invariant_of-self-2
-invariant_of-self-2 c =
-    is-of (map string_bytes c.in_ok-texts.texts.items) (map text_of c.args.program.now) c.in_ok-index.index c.in_ok-index.refused
-    c.in_ok-texts.ensures c.in_ok-index.ensures.ok
+pub answer_from-requires : goal.answer_from-requires
+answer_from-requires c =
+    let inside = c.gathered.inside in
+    let Of : ℕ → Type 0 = λ n. IsGathered (map text_of c.args.program.now) inside.index n in
+    let count = c.refused_in-refused.ensures ∙ ap (λ xs. refused_in (map kept_of xs)) c.deref.ensures.value in
+    subst Of (sym count)
+    (gathered-of (map text_of c.args.program.now) (map kept_of inside.texts.items) inside.index (sym c.in_ok-gathered.ensures.ok ∙ sym c.gathered.view_is) c.gathered.invariant)

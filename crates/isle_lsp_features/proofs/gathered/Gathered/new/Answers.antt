@@ -1,7 +1,7 @@
-use Rattle.std.proofs.Common.{map, ap, ◌∙◌}
-use Rattle.std.specs.Prelude.{string_bytes}
-use Rattle.isle_lsp_features.proofs.Gathering.{of-none}
+use Rattle.std.proofs.Common.{ap, map}
+use Rattle.isle_lsp_features.specs.Gathered.{kept_of}
+use Rattle.isle_lsp_features.proofs.Renewing.{of-none}
 use Rattle.isle_lsp_features.proofs.gathered.Gathered.new.Goals as goal
 
 pub invariant_of-result : goal.invariant_of-result
-invariant_of-result c = λ program same. of-none c.new-2.result program c.new-2.ensures (same ∙ ap (map string_bytes) c.new.ensures.items)
+invariant_of-result c = of-none c.new-2.result (map kept_of c.new.result.items) (ap (map kept_of) c.new.ensures.items) c.new-2.ensures
