@@ -1,15 +1,10 @@
 -- The index of a program, as it grows by one text.
-use Rattle.std.proofs.Common.{◌≡◌, ℕ, ◌+◌, ◌<◌, suc, length, get_or, drop, take, List, [], ◌∷◌, ◌++◌, Bool, true, false, not, cond, map, refl, sym, ap, subst, ◌∙◌, arith, add-one, append_assoc, drop-cons, Err, inl, inr}
-use Rattle.std.specs.List.{flat_map}
-use Rattle.std.proofs.lemmas.Grind.{flat_map-append, take_at_read}
-use Rattle.std.proofs.lemmas.List.{append-nil, length-map, length-take-le, map-append}
-use Rattle.std.proofs.lemmas.List.Sums.{sum_by-append}
+use Rattle.std.proofs.Common.{◌≡◌, ℕ, length, List, [], ◌∷◌, ◌++◌, Bool, false, refl, sym, subst, arith, append_assoc, Err, inl, inr}
+use Rattle.std.proofs.lemmas.List.{append-nil}
 use Rattle.isle_base_source.specs.declared.error.Error.{Error}
 use Rattle.isle_ast.specs.Grammar.{SpellsDefinition}
 use Rattle.isle_ast.specs.Tree.{Definition}
 use Rattle.isle_ast_names.specs.Words.{SpellsAll}
-use Rattle.isle_lsp_features.specs.Programs.{Text as Node, bytes_of, text_of}
-use Rattle.isle_lsp_features.specs.declared.Text.{Text}
 use Rattle.isle_index.specs.Held.{IsIndexOf}
 use Rattle.isle_index.specs.declared.Index.{Index}
 use Rattle.isle_program.specs.Reading.{IsReadAs, IsTreeOf}
@@ -29,7 +24,7 @@ use Rattle.isle_base.specs.declared.fault.Fault.{Fault}
 use Rattle.isle_base.specs.declared.fault.Fault.TheVariants as faults
 use Rattle.isle_parser.specs.Parsed.{Parses, RefusesText, SpellsOnly}
 use Rattle.isle_program.proofs.ReadingLemmas.{read-tree, refused-start, refused-tree}
-use Rattle.isle_lsp_features.specs.Gathered.{AddsDefinitions, AddsText, AreParts, Grows, IsFront, IsGathered, IsOf, IsPart, Part, all_known, deep, front, is_refused, known, refused_count, tree}
+use Rattle.isle_lsp_features.specs.Gathered.{AddsDefinitions, Grows, IsFront}
 
 -- definitions that are spelt one after another, and one more
 pub spelt-on : (ds : List Definition) (d : Definition) (all mid rest : List Placed) → SpellsAll SpellsDefinition ds all mid → SpellsDefinition d mid rest → SpellsAll SpellsDefinition (ds ++ d ∷ []) all rest

@@ -1,4 +1,4 @@
-use Rattle.std.proofs.Common.{◌+◌, arith, ap, drop, length, map, not, refl, subst, sym, take, ◌∙◌}
+use Rattle.std.proofs.Common.{◌+◌, arith, ap, map, not, refl, subst, sym, take, ◌∙◌}
 use Rattle.std.proofs.lemmas.List.{length-map}
 use Rattle.isle_lsp_features.specs.declared.known.Known.{Known}
 use Rattle.isle_lsp_features.specs.Gathered.{IsOf, events_in, kept_of}
