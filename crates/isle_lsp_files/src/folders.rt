@@ -4,8 +4,7 @@ use crate::disk::{Disk, File, View};
 use crate::documents::{Document, document_at};
 use isle_cli::folders::files_of;
 use isle_cli::program::Program;
-use isle_cli::sources::read_file;
-use isle_cli::streams::ReadFault;
+use isle_cli::sources::{SourceFault, read_file};
 use isle_lsp_escapes::uris::{path_of, uri_of};
 use isle_program_manifest::disk::{find, paths_of};
 use isle_program_manifest::manifest::{Manifest, ManifestFault, ProgramFiles, manifest_of};
@@ -185,7 +184,7 @@ fn manifest_at<R: Files + AllocGlobal + Clone + Drop>(
 ) -> Result<Option<Manifest>, AllocError> {
     let text = match read_file(rt, path) {
         Ok(text) => text,
-        Err(ReadFault::Memory) => return Err(AllocError),
+        Err(SourceFault::Memory) => return Err(AllocError),
         Err(_) => return Ok(None),
     };
     match manifest_of(rt.alloc(), text.as_str()) {
@@ -258,7 +257,7 @@ fn add_file<R: Files + AllocGlobal + Clone + Drop>(
             files.push(File { path, uri, text })?;
             Ok(())
         }
-        Err(ReadFault::Memory) => Err(AllocError),
+        Err(SourceFault::Memory) => Err(AllocError),
         Err(_) => Ok(()),
     }
 }

@@ -264,7 +264,7 @@ fn read_made(rt: HostRuntime) -> Option<String> {
 #[test]
 fn folders_are_opened(rt: HostRuntime) {
     let want = "tree/a.isle has a\ntree/b/z.isle has z\ntree/c.isle has c\n\
-        isle-test: tree/b/y.isle: not UTF-8 at byte 0\n\
+        isle-test: tree/b/y.isle: unreadable or not UTF-8\n\
         tree/a.txt has no\n<stdin> has input\ntree/l.isle has a\n\
         isle-test: none: no such file or folder\n<stdin> has input\n";
     assert!(rt; is_text(&read_made(rt), want));
