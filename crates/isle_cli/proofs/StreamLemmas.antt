@@ -1,16 +1,11 @@
 -- Several reads and several writes, taken together.
-use Rattle.std.proofs.Common.{◌≡◌, ◌++◌, ℕ, ◌+◌, ◌-◌, min, List, length, take, drop, Option, Result, Ok, Err, IfErr, IsUtf8, inl, inr, refl, ap, subst, sym, ◌∙◌, arith, length-drop}
+use Rattle.std.proofs.Common.{◌≡◌, ◌++◌, ℕ, ◌+◌, ◌-◌, min, List, length, take, drop, Option, subst, sym, ◌∙◌, arith, length-drop}
 use Rattle.std.proofs.KnownBytes.{Appends-trans, Consumes-trans, starts_with_rest}
 use Rattle.std.proofs.Math.Seq.{take-add, take-append-add}
 use Rattle.std.proofs.lemmas.List.{take-append-le, take_all, take_min}
-use Rattle.std.proofs.lemmas.Result.{err_from_is_err_and}
 use Rattle.std.specs.Io.{StartsWith, appended_bytes}
-use Rattle.std.specs.Io.KnownBytes.{Appends, Consumes, IsAtEnd}
-use Rattle.std.specs.Result.{IsErrAnd}
-use Rattle.std.specs.Str.Lossy.{utf8_valid_len}
-use Rattle.isle_cli.specs.Streams.{AppendsBeginning, IsBroken, IsStreamFault, ReadsText}
-use Rattle.isle_cli.specs.declared.streams.ReadFault.{ReadFault}
-use Rattle.isle_cli.specs.declared.streams.ReadFault.TheVariants.{NotUtf8}
+use Rattle.std.specs.Io.KnownBytes.{Appends, Consumes}
+use Rattle.isle_cli.specs.Streams.{AppendsBeginning, ReadsText}
 
 -- the bytes so far were consumed, and then those by which they grew
 pub Consumes-grown : (a b c : Option (List ℕ)) (old new : List ℕ) → StartsWith new old
@@ -41,16 +36,3 @@ AppendsBeginning-behind a b c xs ys front rest =
 pub ReadsText-weaker : (old new : Option (List ℕ)) (P Q : List ℕ → Type 0) → ((text : List ℕ) → P text → Q text) → ReadsText old new P → ReadsText old new Q
 ReadsText-weaker old new P Q follows read =
     record { text = read.text; consumed = read.consumed; ended = read.ended; utf8 = read.utf8; holds = follows read.text read.holds }
-
--- an error of one read is an error of the stream
-pub broken_stream : {X : Type 0} (old new : Option (List ℕ)) (r : Result X ReadFault) (e : ReadFault) → IsErrAnd r (λ f. f ≡ e) → IsBroken e → IfErr r (IsStreamFault old new)
-broken_stream old new r e is broken =
-    let p = err_from_is_err_and r is in
-    subst (λ q. IfErr q (IsStreamFault old new)) (sym (p.1 ∙ ap Err p.2)) (inl broken)
-
--- bytes that aren't UTF-8 are no text
-pub no_text : {X : Type 0} (old new : Option (List ℕ)) (bytes : List ℕ) (r : Result X ReadFault) → Consumes old new bytes → IsAtEnd new → IfErr r (λ _. ¬ (IsUtf8 bytes))
-    → IfErr r (λ f. f ≡ NotUtf8 (utf8_valid_len bytes)) → IfErr r (IsStreamFault old new)
-no_text old new bytes (Ok x) consumed ended not_utf8 is = tt
-no_text old new bytes (Err e) consumed ended not_utf8 is =
-    inr (utf8_valid_len bytes, is, record { bytes = bytes; consumed = consumed; ended = ended; not_utf8 = not_utf8; valid = refl })

@@ -32,9 +32,6 @@ pub record IsDiagnostic (program : Program) (status : ℕ) (text : List ℕ) : T
 
 -- what a fault of reading is to a program
 abbrev pub read_failure : ReadFault → Failure
-read_failure read_faults.Missing = failures.Input
-read_failure read_faults.Denied = failures.Input
-read_failure (read_faults.NotUtf8 _) = failures.Input
 read_failure read_faults.Unreadable = failures.Input
 read_failure read_faults.Memory = failures.Memory
 

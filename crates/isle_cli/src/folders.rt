@@ -1,8 +1,7 @@
 //! The files below a folder.
 
 use crate::program::Program;
-use crate::sources::{fault_line, fault_of};
-use crate::streams::ReadFault;
+use crate::sources::{SourceFault, fault_line, fault_of};
 use std::alloc::AllocError;
 use std::fs::{DirEntry, Files, read_dir};
 use std::io;
@@ -99,7 +98,7 @@ fn push_fault<R: Files + AllocGlobal>(
     faults: &mut String,
 ) -> Result<(), AllocError> {
     match fault_of(error) {
-        ReadFault::Memory => Err(AllocError),
+        SourceFault::Memory => Err(AllocError),
         fault => {
             let line = fault_line(rt.alloc(), program, name, fault)?;
             faults.push_str(line.as_str())?;

@@ -31,6 +31,17 @@ pub struct Sources {
     pub faults: String,
 }
 
+/// Why a file can't be read.
+#[derive(Clone, Copy, Debug)]
+pub enum SourceFault {
+    /// There is no such file or folder.
+    Missing,
+    /// It can't be read to its end, or isn't UTF-8.
+    Unreadable,
+    /// Out of memory.
+    Memory,
+}
+
 /// Reads the texts that the names of a command line stand for: standard input for `-`, the files
 /// that `files_of` finds below a folder, or a file. Without names it reads standard input.
 ///
@@ -91,7 +102,7 @@ impl Sources {
         alloc: Global,
         program: &Program,
         name: &str,
-        fault: ReadFault,
+        fault: SourceFault,
     ) -> Result<(), AllocError>
         ensures list { map source_of self.new.list.items ≡ map source_of self.old.list.items }
         ensures faults { OnOk result (string_bytes self.new.faults
@@ -118,8 +129,10 @@ fn read_input<I: Read>(
 {
     match read_text(alloc, input) {
         Ok(text) => read.push(alloc, stdin_name, text),
+        Err(ReadFault::Unreadable) => {
+            read.push_fault(alloc, program, stdin_name, SourceFault::Unreadable)
+        }
         Err(ReadFault::Memory) => Err(AllocError),
-        Err(fault) => read.push_fault(alloc, program, stdin_name, fault),
     }
 }
 
@@ -133,7 +146,7 @@ fn read_path<R: Files + AllocGlobal + Clone + Drop>(
     for file in files_of(rt, program, name, &mut read.faults)? {
         match read_file(rt, file.as_str()) {
             Ok(text) => read.push(rt.alloc(), file.as_str(), text)?,
-            Err(ReadFault::Memory) => return Err(AllocError),
+            Err(SourceFault::Memory) => return Err(AllocError),
             Err(fault) => read.push_fault(rt.alloc(), program, file.as_str(), fault)?,
         }
     }
@@ -141,21 +154,24 @@ fn read_path<R: Files + AllocGlobal + Clone + Drop>(
 }
 
 /// Reads a file in UTF-8.
-pub fn read_file<R: Files + AllocGlobal>(rt: &R, name: &str) -> Result<String, ReadFault> {
+pub fn read_file<R: Files + AllocGlobal>(rt: &R, name: &str) -> Result<String, SourceFault> {
     let mut file = OpenOptions::new()
         .read(true)
         .open(rt, name)
         .map_err(fault_of)?;
-    read_text(rt.alloc(), &mut file)
+    match read_text(rt.alloc(), &mut file) {
+        Ok(text) => Ok(text),
+        Err(ReadFault::Unreadable) => Err(SourceFault::Unreadable),
+        Err(ReadFault::Memory) => Err(SourceFault::Memory),
+    }
 }
 
 /// Why a file can't be read, from the error of the system.
-pub fn fault_of(error: io::Error) -> ReadFault {
+pub fn fault_of(error: io::Error) -> SourceFault {
     match error.kind() {
-        ErrorKind::NotFound => ReadFault::Missing,
-        ErrorKind::PermissionDenied => ReadFault::Denied,
-        ErrorKind::OutOfMemory => ReadFault::Memory,
-        _ => ReadFault::Unreadable,
+        ErrorKind::NotFound => SourceFault::Missing,
+        ErrorKind::OutOfMemory => SourceFault::Memory,
+        _ => SourceFault::Unreadable,
     }
 }
 
@@ -164,23 +180,20 @@ pub fn fault_line(
     alloc: Global,
     program: &Program,
     name: &str,
-    fault: ReadFault,
+    fault: SourceFault,
 ) -> Result<String, AllocError>
     ensures { IfOk result (λ line. string_bytes line ≡ fault_line program.now name.now fault) }
 {
-    let reason = reason_of(alloc, fault)?;
-    format!(in alloc; "{}: {name}: {reason}\n", program.name)
+    format!(in alloc; "{}: {name}: {}\n", program.name, reason_of(fault))
 }
 
 /// The reason in words.
-fn reason_of(alloc: Global, fault: ReadFault) -> Result<String, AllocError>
-    ensures { IfOk result (λ reason. string_bytes reason ≡ reason_of fault) }
+fn reason_of(fault: SourceFault) -> &'static str
+    ensures { result.now ≡ reason_of fault }
 {
     match fault {
-        ReadFault::Missing => String::from_str(alloc, "no such file or folder"),
-        ReadFault::Denied => String::from_str(alloc, "permission denied"),
-        ReadFault::NotUtf8(offset) => format!(in alloc; "not UTF-8 at byte {offset}"),
-        ReadFault::Unreadable => String::from_str(alloc, "unreadable"),
-        ReadFault::Memory => String::from_str(alloc, "out of memory"),
+        SourceFault::Missing => "no such file or folder",
+        SourceFault::Unreadable => "unreadable or not UTF-8",
+        SourceFault::Memory => "out of memory",
     }
 }

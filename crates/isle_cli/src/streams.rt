@@ -1,12 +1,10 @@
 //! Reading to the end and writing whole texts, for any reader and any writer.
 
-ghost use Rattle.std.specs.Prelude.{◌≡◌, ◌<◌, length, string_bytes, IfErr, IfOk, IsUtf8, Ok, OnOk};
-ghost use Rattle.std.specs.Prelude.{false};
+ghost use Rattle.std.specs.Prelude.{◌≡◌, ◌<◌, length, string_bytes, IfOk, Ok, OnOk, false};
 ghost use Rattle.std.specs.Io.{StartsWith, appended_bytes};
 ghost use Rattle.std.specs.Io.KnownBytes.{Appends, Consumes, IsAtEnd};
-ghost use Rattle.std.specs.Str.Lossy.{utf8_valid_len};
-ghost use Rattle.isle_cli.specs.Streams.{AppendsBeginning, IsBroken, IsStreamFault};
-ghost use Rattle.isle_cli.specs.declared.streams.ReadFault.TheVariants.{Memory, NotUtf8};
+ghost use Rattle.isle_cli.specs.Streams.{AppendsBeginning};
+ghost use Rattle.isle_cli.specs.declared.streams.ReadFault.TheVariants.{Memory};
 
 use std::alloc::{AllocError, AllocFailed, Global};
 use std::io;
@@ -41,15 +39,9 @@ impl<I, W, E> Streams<I, W, E> {
 }
 
 /// Why no text was read.
-#[derive(Clone, Copy, Debug)]
+#[derive(Debug, Drop)]
 pub enum ReadFault {
-    /// There is no such file or folder.
-    Missing,
-    /// It may not be opened.
-    Denied,
-    /// It isn't UTF-8. The bytes before this offset are.
-    NotUtf8(usize),
-    /// It can't be opened, or can't be read to its end.
+    /// The input can't be read to its end, or isn't UTF-8.
     Unreadable,
     /// Out of memory.
     Memory,
@@ -73,35 +65,20 @@ impl<T: Drop> From<AllocFailed<T>> for ReadFault {
 
 /// Reads a text in UTF-8 to its end.
 ///
-/// An interrupted read is repeated. It fails with `NotUtf8`, `Unreadable` or `Memory`, and then the
-/// bytes read so far are lost.
+/// An interrupted read is repeated. After an error the bytes read so far are lost.
 pub fn read_text<R: Read>(alloc: Global, input: &mut R) -> Result<String, ReadFault>
     ensures consumed { IfOk result (λ text.
         Consumes (R.remaining input.old) (R.remaining input.new) (string_bytes text)) }
     ensures ended { OnOk result (IsAtEnd (R.remaining input.new)) }
-    ensures fault { IfErr result (λ fault.
-        IsStreamFault (R.remaining input.old) (R.remaining input.new) fault) }
 {
     let mut bytes = Vec::new(alloc);
     let mut buffer = [0; READ_LEN];
     for _ in 0..u64::MAX {
         if !read_more(input, &mut buffer, &mut bytes)? {
-            return text_of(bytes);
+            return String::from_utf8(bytes).map_err(|_| ReadFault::Unreadable);
         }
     }
     Err(ReadFault::Unreadable)
-}
-
-/// The text of these bytes.
-fn text_of(bytes: Vec<u8>) -> Result<String, ReadFault>
-    ensures ok { IfOk result (λ text. string_bytes text ≡ bytes.items) }
-    ensures err { IfErr result (λ fault. fault ≡ NotUtf8 (utf8_valid_len bytes.items)) }
-    ensures not_utf8 { IfErr result (λ _. ¬ (IsUtf8 bytes.items)) }
-{
-    match String::from_utf8(bytes) {
-        Ok(text) => Ok(text),
-        Err(error) => Err(ReadFault::NotUtf8(error.utf8_error().valid_up_to())),
-    }
 }
 
 /// Reads once, and returns whether there may be more. An interrupted read adds no bytes.
@@ -115,7 +92,6 @@ fn read_more<R: Read>(
     ensures consumed { OnOk result (Consumes (R.remaining input.old) (R.remaining input.new)
         (appended_bytes bytes.old.items bytes.new.items)) }
     ensures ended { result ≡ Ok false → IsAtEnd (R.remaining input.new) }
-    ensures fault { IfErr result IsBroken }
 {
     match input.read(buffer) {
         Ok(n) => {
