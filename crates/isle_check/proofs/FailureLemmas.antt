@@ -10,7 +10,7 @@ use Rattle.isle_cli.specs.declared.program.Program.{Program}
 use Rattle.isle_cli.specs.Arguments.{Asked, asked, given_of}
 use Rattle.isle_cli.specs.declared.arguments.Argument.{Argument}
 use Rattle.isle_cli.specs.declared.arguments.Options.{Options}
-use Rattle.isle_check.specs.Doing.{AreOptions, Ask, Cuts, IsFailureText, IsProgram, Tells}
+use Rattle.isle_check.specs.Doing.{AreOptions, Ask, Cuts, IsFailureText, Tells}
 
 -- nothing is changed
 pub kept-same : (a : Option (List ℕ)) → Keeps a a

@@ -1,5 +1,5 @@
 -- What is read of texts.
-use Rattle.std.proofs.Common.{◌≡◌, ℕ, ◌+◌, List, [], ◌∷◌, ◌++◌, None, Option, false, subst, sym}
+use Rattle.std.proofs.Common.{◌≡◌, ℕ, ◌+◌, List, [], ◌∷◌, ◌++◌, Option, false, subst, sym}
 use Rattle.std.specs.List.{flat_map}
 use Rattle.isle_base.specs.Place.{in_file, placed}
 use Rattle.isle_base_source.specs.Source.{Source}

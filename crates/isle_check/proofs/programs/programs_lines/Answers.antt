@@ -1,4 +1,4 @@
-use Rattle.std.proofs.Common.{◌+◌, ◌∷◌, List, Bool, ap, drop, map, subst, sym, ◌∙◌}
+use Rattle.std.proofs.Common.{◌+◌, ◌∷◌, List, ap, drop, map, subst, sym, ◌∙◌}
 use Rattle.std.proofs.lemmas.List.{drop_more}
 use Rattle.isle_base_source.specs.Source.{Source}
 use Rattle.isle_cli.specs.Arguments.{given_of}

@@ -1,4 +1,4 @@
-use Rattle.std.proofs.Common.{◌==◌, ap, map, subst}
+use Rattle.std.proofs.Common.{◌==◌, map, subst}
 use Rattle.std.proofs.lemmas.Result.{IfOk-weaker}
 use Rattle.isle_ast.specs.TreeView.{definitions_of}
 use Rattle.isle_cli.specs.Arguments.{given_of}
