@@ -15,9 +15,9 @@ pub const VERSION: &str = version!("isle-check");
 pub const HELP: &str = "\
 usage: isle-check [--allow KIND] [--stdin-name NAME] [--program NAME] [--all-programs] [FILE ..]
 
-Checks the declarations of a complete ISLE program, as the compiler does before it makes code. All
-files are one program. A folder stands for every .isle file below it, and - for standard input. With
-no FILE, standard input is checked. What rules say below their roots is not checked.
+Checks a complete ISLE program, as the compiler does before it makes code. All files are one
+program. A folder stands for every .isle file below it, and - for standard input. With no FILE,
+standard input is checked. Whether rules overlap is not checked.
 
 The errors come in groups. Those of a group are told only if no earlier group has any, and warnings
 only if there is no error.
@@ -74,9 +74,34 @@ Errors of external definitions:
   external-extractor-for-variant       an external extractor is that of a variant
   two-extractors                       a term has an external extractor and an internal one
   duplicate-external-extractor         a term has two external extractors
+Errors of rules:
+  integer-type           an integer stands for a value of a type that has no integers
+  integer-without-type   an integer stands where no type is known
+  boolean-type           true or false stands for a value of another type
+  unknown-constant       a constant is not known
+  constant-type          a constant stands for a value of another type
+  rebound-variable       the variable of a @ is bound already
+  variable-type          a variable stands for a value of another type
+  unknown-variable       a variable is not known
+  unknown-variable-type  the type of a variable of a let is not known
+  unknown-term           a term is not known
+  term-type              a term stands for a value of another type
+  argument-count         a term has another number of arguments than is declared
+  no-extractor           a term in a pattern has no extractor
+  no-constructor         a term in an expression has no constructor
+  undefined-term         a declared term has no rules, no extractor and no external definition
+  impure-term            a term that is not pure stands where only pure ones may
+  multi-term             a multi term stands in a rule of a term that is not multi
+  partial-term           a partial term stands where none may
+  multi-priority         a rule of a multi term has a priority
+  macro-argument         a macro argument stands in a rule
+  deep-rule              a rule nests too deeply to be checked
 Warnings:
-  duplicate-constant    a constant is declared twice, and its last type counts
-  extractor-parameters  an extractor has other than as many parameters as its term has arguments
+  duplicate-constant             a constant is declared twice, and its last type counts
+  extractor-parameters           an extractor has more or fewer parameters than its term arguments
+  dropped-pattern                a pattern's extractor has a parameter without an argument
+  condition-without-constructor  a term in a condition has no constructor
+  multi-extractor                a multi extractor is used in a rule of a term that is not multi
 
 Exit status:
   0  no error was found

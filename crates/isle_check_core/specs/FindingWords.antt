@@ -1,9 +1,11 @@
--- The words of each kind of finding, and which kinds are errors.
-use Rattle.std.specs.Prelude.{ℕ, List, [], ◌∷◌, ◌++◌, Bool, true, false, codes}
+-- The words of each kind of finding.
+use Rattle.std.specs.Prelude.{ℕ, List, [], ◌∷◌, ◌++◌, codes}
 use Rattle.std.specs.Fmt.{decimal}
 use Rattle.isle_ast_names.specs.Tree.{Name}
 use Rattle.isle_check_core.specs.DeclarationWords.{declaration_words}
-use Rattle.isle_check_core.specs.Findings.{KindNode, declaration, recursive_extractor, constant_again, parameter_count}
+use Rattle.isle_check_rules.specs.Warnings as warned
+use Rattle.isle_check_core.specs.Findings.{KindNode, declaration, recursive_extractor, rule, deep_rule, constant_again, parameter_count, rule_warning}
+use Rattle.isle_check_core.specs.RuleWords.{rule_words}
 use Rattle.isle_check_core.specs.Words.{WordsNode, words}
 
 -- one name more of a path
@@ -19,18 +21,23 @@ abbrev pub first_name : List Name → List ℕ
 first_name [] = []
 first_name (n ∷ ns) = n.text
 
+-- the words of warnings of rules
+abbrev pub warning_words : warned.WarningKindNode → WordsNode
+warning_words (warned.no_constructor term) =
+    words (codes "condition-without-constructor") (codes "term `" ++ term ++ codes "` cannot be used in an expression because it does not have a constructor")
+warning_words (warned.multi_extractor term) =
+    words (codes "multi-extractor") (codes "Multi-extractor '" ++ term ++ codes "' is used, but this rule is not in a multi-term")
+
 abbrev pub kind_words : KindNode → WordsNode
 kind_words (declaration kind) = declaration_words kind
 kind_words (recursive_extractor path) =
     words (codes "recursive-extractor") (codes "`" ++ first_name path ++ codes "` extractor definition is recursive: " ++ path_after [] path ++ [])
+kind_words (rule kind) = rule_words kind
+kind_words deep_rule =
+    words (codes "deep-rule") (codes "This rule nests too deeply once extractors are expanded and conversions are written out: no rule is checked")
 kind_words (constant_again name) =
     words (codes "duplicate-constant") (codes "Constant '$" ++ name.text ++ codes "' declared more than once: its last type counts")
 kind_words (parameter_count extractor parameters arguments) =
     words (codes "extractor-parameters")
     (codes "Extractor of '" ++ extractor.text ++ codes "' has " ++ decimal parameters ++ codes " parameters, but the term " ++ decimal arguments ++ codes " arguments")
-
-abbrev pub is_error : KindNode → Bool
-is_error (declaration _) = true
-is_error (recursive_extractor _) = true
-is_error (constant_again _) = false
-is_error (parameter_count _ _ _) = false
+kind_words (rule_warning kind) = warning_words kind

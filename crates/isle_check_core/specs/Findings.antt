@@ -1,12 +1,12 @@
--- What is found in a program: the errors of its declarations, or else warnings.
-use Rattle.std.specs.Prelude.{ℕ, ◌==◌, List, [], ◌∷◌, ◌++◌, Option, None, Some, if◌then◌else◌, length, map}
-use Rattle.std.specs.List.{flat_map}
+-- What is found in a program: its errors, or else warnings.
+use Rattle.std.specs.Prelude.{ℕ, ◌==◌, List, [], ◌∷◌, ◌++◌, Bool, true, false, Option, None, Some, Result, Ok, Err, if◌then◌else◌, length, map}
+use Rattle.std.specs.List.{flat_map, list_any}
 use Rattle.isle_base_source.specs.declared.pos.Pos.{Pos}
 use Rattle.isle_ast_names.specs.Tree.{Name}
 use Rattle.isle_ast_rules.specs.Tree.{ExtractorDefinition}
 use Rattle.isle_ast.specs.Tree.{Definition}
 use Rattle.isle_check_environment.specs.Names.{has}
-use Rattle.isle_check_environment.specs.Parts.{ConstantNode, constants_in, extractors_in}
+use Rattle.isle_check_environment.specs.Parts.{ConstantNode, constants_in, extractors_in, rules_in}
 use Rattle.isle_check_declarations.specs.Faults as declarations
 use Rattle.isle_check_declarations.specs.TypeFaults.{type_faults}
 use Rattle.isle_check_declarations.specs.TermFaults.{term_faults}
@@ -17,14 +17,36 @@ use Rattle.isle_check_extractors.specs.Roots.{root_faults}
 use Rattle.isle_check_recursion.specs.Recursion.{RecursionNode, recursions}
 use Rattle.isle_check_signatures.specs.Environment.{EnvironmentNode, environment}
 use Rattle.isle_check_signatures.specs.Signatures.{TermNode}
+use Rattle.isle_check_typing.specs.Faults as typing
+use Rattle.isle_check_rules.specs.RuleFaults.{rule_faults}
+use Rattle.isle_check_rules.specs.RuleTypes.{RulesTyping}
+use Rattle.isle_check_rules.specs.TypedRules.{TypedRuleNode}
+use Rattle.isle_check_rules.specs.Warnings as warned
 
--- an error of a declaration, or that an extractor uses itself; or a warning: a constant is declared again, or an extractor
--- has another number of parameters than its term has arguments
+-- an error of a declaration, that an extractor uses itself, an error of a rule, or that a rule is too deep to be checked; or a
+-- warning: a constant is declared again, an extractor has another number of parameters than its term has arguments, or one of rules
 pub data KindNode : Type 0 where
   declaration : declarations.KindNode → KindNode
   recursive_extractor : (path : List Name) → KindNode
+  rule : typing.KindNode → KindNode
+  deep_rule : KindNode
   constant_again : Name → KindNode
   parameter_count : (extractor : Name) → (parameters arguments : ℕ) → KindNode
+  rule_warning : warned.WarningKindNode → KindNode
+
+-- upstream leaves out a pattern whose extractor has a parameter without an argument, and tells no error
+abbrev pub is_rule_error : typing.KindNode → Bool
+is_rule_error (typing.parameter_without_argument _) = false
+is_rule_error _ = true
+
+abbrev pub is_error : KindNode → Bool
+is_error (declaration _) = true
+is_error (recursive_extractor _) = true
+is_error (rule kind) = is_rule_error kind
+is_error deep_rule = true
+is_error (constant_again _) = false
+is_error (parameter_count _ _ _) = false
+is_error (rule_warning _) = false
 
 pub record FindingNode : Type 0 where
   pub kind : KindNode
@@ -41,6 +63,12 @@ of_faults fs = map of_fault fs
 
 abbrev pub of_recursion : RecursionNode → FindingNode
 of_recursion r = finding (recursive_extractor r.path) r.pos
+
+abbrev pub of_rule_fault : typing.FaultNode → FindingNode
+of_rule_fault f = finding (rule f.kind) f.pos
+
+abbrev pub of_warning : warned.WarningNode → FindingNode
+of_warning w = finding (rule_warning w.kind) w.pos
 
 -- those of a group, if there are any, and otherwise those of the groups after it
 abbrev pub or_next : (group later : List FindingNode) → List FindingNode
@@ -68,13 +96,38 @@ wrong_count (Some t) x =
 abbrev pub wrong_counts : EnvironmentNode → List ExtractorDefinition → List FindingNode
 wrong_counts env xs = flat_map (λ x. wrong_count (env.terms x.term.text) x) xs
 
-abbrev pub warnings : List Definition → List FindingNode
-warnings ds = doubled_constants [] (constants_in ds) ++ wrong_counts (environment ds) (extractors_in ds)
+abbrev pub warnings : EnvironmentNode → List TypedRuleNode → List Definition → List FindingNode
+warnings env rules ds =
+    doubled_constants [] (constants_in ds)
+    ++ (wrong_counts env (extractors_in ds)
+    ++ (map of_warning (warned.conditions_without_constructor env (rules_in ds))
+    ++ map of_warning (warned.multi_extractors env rules)))
 
--- the errors of the first group that has any: types, terms, rules' roots and extractors, converters, external definitions.
--- Warnings where no group has any
+abbrev pub has_error : List FindingNode → Bool
+has_error fs = list_any (λ f. is_error f.kind) fs
+
+-- what is found, and the warnings behind it if none of it is an error
+abbrev pub with_warnings : (found later : List FindingNode) → List FindingNode
+with_warnings found later = if has_error found then found else found ++ later
+
+-- how many patterns or expressions of a rule may lie in one another once templates are filled and conversions are written out
+abbrev pub rule_depth : ℕ
+rule_depth = 500
+
+abbrev pub of_rules : EnvironmentNode → List Definition → Result RulesTyping Pos → List FindingNode
+of_rules env ds (Ok made) = with_warnings (map of_rule_fault made.faults) (warnings env made.typed ds)
+of_rules env ds (Err place) = finding deep_rule place ∷ []
+
+-- the errors of rules, or the first rule that is too deep; and warnings where there is no error
+abbrev pub rule_findings_by : EnvironmentNode → List Definition → List FindingNode
+rule_findings_by env ds = of_rules env ds (rule_faults rule_depth env ds)
+
+abbrev pub rule_findings : List Definition → List FindingNode
+rule_findings ds = rule_findings_by (environment ds) ds
+
+-- the errors of the first group that has any: types, terms, rules' roots and extractors, converters, external definitions, rules
 abbrev pub later_findings : List Definition → List FindingNode
-later_findings ds = or_next (of_faults (converter_faults ds)) (or_next (of_faults (extern_faults ds)) (warnings ds))
+later_findings ds = or_next (of_faults (converter_faults ds)) (or_next (of_faults (extern_faults ds)) (rule_findings ds))
 
 abbrev pub root_findings : List Definition → List FindingNode
 root_findings ds = or_next (root_errors ds) (later_findings ds)

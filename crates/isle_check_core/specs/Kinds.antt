@@ -34,10 +34,30 @@ is_constructor_kind text = bytes_eq text (codes "constructor-for-unknown-term") 
 abbrev pub is_external_kind : List ℕ → Bool
 is_external_kind text = bytes_eq text (codes "external-extractor-for-unknown-term") || (bytes_eq text (codes "external-extractor-for-variant") || (bytes_eq text (codes "two-extractors") || bytes_eq text (codes "duplicate-external-extractor")))
 
+-- the kinds of integers, booleans and constants in rules
+abbrev pub is_value_kind : List ℕ → Bool
+is_value_kind text = bytes_eq text (codes "integer-type") || (bytes_eq text (codes "integer-without-type") || (bytes_eq text (codes "boolean-type") || (bytes_eq text (codes "unknown-constant") || bytes_eq text (codes "constant-type"))))
+
+-- the kinds of variables in rules
+abbrev pub is_variable_kind : List ℕ → Bool
+is_variable_kind text = bytes_eq text (codes "rebound-variable") || (bytes_eq text (codes "variable-type") || (bytes_eq text (codes "unknown-variable") || bytes_eq text (codes "unknown-variable-type")))
+
+-- the kinds of terms in rules
+abbrev pub is_used_term_kind : List ℕ → Bool
+is_used_term_kind text = bytes_eq text (codes "unknown-term") || (bytes_eq text (codes "term-type") || (bytes_eq text (codes "argument-count") || (bytes_eq text (codes "no-extractor") || (bytes_eq text (codes "no-constructor") || bytes_eq text (codes "undefined-term")))))
+
+-- the kinds of what a rule may not do
+abbrev pub is_use_kind : List ℕ → Bool
+is_use_kind text = bytes_eq text (codes "impure-term") || (bytes_eq text (codes "multi-term") || (bytes_eq text (codes "partial-term") || (bytes_eq text (codes "multi-priority") || (bytes_eq text (codes "macro-argument") || bytes_eq text (codes "deep-rule")))))
+
+-- the kinds of rules
+abbrev pub is_rule_kind : List ℕ → Bool
+is_rule_kind text = is_value_kind text || (is_variable_kind text || (is_used_term_kind text || is_use_kind text))
+
 -- the kinds of warnings
 abbrev pub is_warning_kind : List ℕ → Bool
-is_warning_kind text = bytes_eq text (codes "duplicate-constant") || bytes_eq text (codes "extractor-parameters")
+is_warning_kind text = bytes_eq text (codes "duplicate-constant") || (bytes_eq text (codes "extractor-parameters") || (bytes_eq text (codes "dropped-pattern") || (bytes_eq text (codes "condition-without-constructor") || bytes_eq text (codes "multi-extractor"))))
 
 -- a text is the name of a kind
 abbrev pub is_kind : List ℕ → Bool
-is_kind text = is_type_kind text || (is_field_kind text || (is_term_kind text || (is_root_kind text || (is_extractor_kind text || (is_converter_kind text || (is_constructor_kind text || (is_external_kind text || is_warning_kind text)))))))
+is_kind text = is_type_kind text || (is_field_kind text || (is_term_kind text || (is_root_kind text || (is_extractor_kind text || (is_converter_kind text || (is_constructor_kind text || (is_external_kind text || (is_rule_kind text || is_warning_kind text))))))))

@@ -1,29 +1,39 @@
 //! The groups of errors.
 
-ghost use Rattle.std.specs.Prelude.{◌≡◌, ◌++◌, IfOk, OnOk, false, map};
+ghost use Rattle.std.specs.Prelude.{◌≡◌, ◌++◌, ◌∷◌, [], IfOk, Ok, OnOk, false, map};
 ghost use Rattle.isle_ast.specs.MacroArgs.{definitions_have_macro_arg};
 ghost use Rattle.isle_ast.specs.TreeView.{definitions_of};
-ghost use Rattle.isle_check_core.specs.Findings.{findings, later_findings, of_faults};
-ghost use Rattle.isle_check_core.specs.Findings.{of_recursion, root_errors, root_findings};
+ghost use Rattle.isle_check_core.specs.Findings.{deep_rule, finding, findings, has_error};
+ghost use Rattle.isle_check_core.specs.Findings.{later_findings, of_faults, of_recursion};
+ghost use Rattle.isle_check_core.specs.Findings.{of_rule_fault, of_rules, root_errors};
+ghost use Rattle.isle_check_core.specs.Findings.{root_findings, rule_findings, rule_findings_by};
 ghost use Rattle.isle_check_core.specs.Views.{findings_of};
 ghost use Rattle.isle_check_declarations.specs.Views.{faults_of};
 ghost use Rattle.isle_check_recursion.specs.Views.{names_at, recursions_at};
+ghost use Rattle.isle_check_rules.specs.Views.{rules_typing_of};
 ghost use Rattle.isle_check_signatures.specs.Environment.{environment};
 ghost use Rattle.isle_check_signatures.specs.Views.{environment_of};
+ghost use Rattle.isle_check_typing.specs.Views as typing;
 
 use crate::finding::{Finding, Kind};
-use crate::warnings::warnings;
+use crate::warnings::add_warnings;
 use isle_ast::ast::{Def, Ident};
+use isle_base::lexer::Pos;
 use isle_check_declarations::{Fault, term_faults, type_faults};
 use isle_check_extractors::{converter_faults, extern_faults, extractor_faults, root_faults};
 use isle_check_recursion::{Recursion, recursions};
+use isle_check_rules::{RuleRefusal, RulesTyping, rule_faults};
 use isle_check_signatures::Environment;
 use std::alloc::{AllocError, Global};
 
-/// Returns the errors of the declarations of a program: those of the first group that has any, in
-/// the order in which upstream reports them. The groups are types and constants; declared terms;
-/// the left sides of rules, and internal extractors; converters; external definitions. Without an
-/// error it returns the warnings.
+/// How many patterns or expressions of a rule may lie in one another once templates are filled and
+/// conversions are written out.
+const RULE_DEPTH: usize = 500;
+
+/// Returns the errors of a program: those of the first group that has any, in the order in which
+/// upstream reports them. The groups are types and constants; declared terms; the left sides of
+/// rules, and internal extractors; converters; external definitions; rules. Whether rules overlap
+/// is not checked. Without an error it returns the warnings.
 ///
 /// No template may hold a macro argument, `Pattern::MacroArg`, which the parser never makes. An
 /// `Err` means out of memory.
@@ -90,7 +100,88 @@ fn later_findings<'a>(
     if !found.is_empty() {
         return Ok(found);
     }
-    warnings(alloc, env, defs)
+    rule_findings(alloc, env, defs)
+}
+
+/// Returns the errors of rules, or the first rule that is too deep, or the warnings.
+fn rule_findings<'a>(
+    alloc: Global,
+    env: &Environment,
+    defs: &'a [Def],
+) -> Result<Vec<Finding<'a>>, AllocError>
+    requires { environment_of env.now ≡ environment (definitions_of defs.now) }
+    ensures { IfOk result
+        (λ found. findings_of found.items ≡ rule_findings (definitions_of defs.now)) }
+{
+    rule_findings_by(alloc, env, defs)
+}
+
+fn rule_findings_by<'a>(
+    alloc: Global,
+    env: &Environment,
+    defs: &'a [Def],
+) -> Result<Vec<Finding<'a>>, AllocError>
+    ensures { IfOk result (λ found. findings_of found.items
+        ≡ rule_findings_by (environment_of env.now) (definitions_of defs.now)) }
+{
+    match rule_faults(alloc, RULE_DEPTH, env, defs) {
+        Ok(made) => of_typing(alloc, env, made, defs),
+        Err(RuleRefusal::TooDeep(pos)) => deep_rule(alloc, pos),
+        Err(RuleRefusal::Memory) => Err(AllocError),
+    }
+}
+
+fn of_typing<'a>(
+    alloc: Global,
+    env: &Environment,
+    made: RulesTyping,
+    defs: &'a [Def],
+) -> Result<Vec<Finding<'a>>, AllocError>
+    ensures { IfOk result (λ found. findings_of found.items
+        ≡ of_rules (environment_of env.now) (definitions_of defs.now)
+        (Ok (rules_typing_of made))) }
+{
+    let RulesTyping { typed, faults } = made;
+    let mut found = of_rule_faults(alloc, faults)?;
+    if !has_error(&found) {
+        add_warnings(alloc, env, &typed, defs, &mut found)?;
+    }
+    Ok(found)
+}
+
+fn of_rule_faults<'a>(
+    alloc: Global,
+    faults: Vec<isle_check_typing::Fault>,
+) -> Result<Vec<Finding<'a>>, AllocError>
+    ensures { IfOk result (λ found. findings_of found.items
+        ≡ map of_rule_fault (typing.faults_of faults.items)) }
+{
+    let mut found = Vec::new(alloc);
+    for fault in faults {
+        found.push(Finding {
+            kind: Kind::Rule(fault.kind),
+            pos: fault.pos,
+        })?;
+    }
+    Ok(found)
+}
+
+fn has_error(found: &[Finding]) -> bool
+    ensures { result ≡ has_error (findings_of found.now) }
+{
+    found.iter().any(|finding| finding.kind.is_error())
+}
+
+fn deep_rule<'a>(alloc: Global, pos: Pos) -> Result<Vec<Finding<'a>>, AllocError>
+    ensures { IfOk result
+        (λ found. findings_of found.items ≡ finding deep_rule pos ∷ []) }
+{
+    let mut found = Vec::new(alloc);
+    found.push(Finding {
+        kind: Kind::DeepRule,
+        pos,
+    })?;
+    Ok(found)
 }
 
 /// Returns the errors of the left sides of rules and of internal extractors.

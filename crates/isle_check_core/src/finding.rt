@@ -2,18 +2,22 @@
 
 ghost use Rattle.std.specs.Prelude.{◌≡◌, [], IfOk, OnOk, string_bytes};
 ghost use Rattle.isle_ast_names.specs.TreeView.{name_of};
-ghost use Rattle.isle_check_core.specs.FindingWords.{first_name, is_error, kind_words, path_after};
-ghost use Rattle.isle_check_core.specs.FindingWords.{with_step};
-ghost use Rattle.isle_check_core.specs.Findings.{constant_again, parameter_count};
-ghost use Rattle.isle_check_core.specs.Findings.{recursive_extractor};
+ghost use Rattle.isle_check_core.specs.FindingWords.{first_name, kind_words, path_after};
+ghost use Rattle.isle_check_core.specs.FindingWords.{warning_words, with_step};
+ghost use Rattle.isle_check_core.specs.Findings.{constant_again, is_error, is_rule_error};
+ghost use Rattle.isle_check_core.specs.Findings.{parameter_count, recursive_extractor};
 ghost use Rattle.isle_check_core.specs.Views.{node_of};
 ghost use Rattle.isle_check_core.specs.Words.{words_of};
 ghost use Rattle.isle_check_recursion.specs.Views.{names_at};
+ghost use Rattle.isle_check_rules.specs.Views.{warning_kind_of};
+ghost use Rattle.isle_check_typing.specs.Views.{kind_of};
 
 use crate::declarations::declaration_words;
-use crate::words::{Words, about, about_three, about_two};
+use crate::rules::rule_words;
+use crate::words::{Words, about, about_three, about_two, plain};
 use isle_ast::ast::Ident;
 use isle_base::lexer::Pos;
+use isle_check_rules::WarningKind;
 use std::alloc::{AllocError, Global};
 
 /// An error or a warning.
@@ -33,6 +37,13 @@ pub enum Kind<'a> {
     /// An error: the expansion of an internal extractor does not come to an end. Each of the terms
     /// uses the next one. The position is that of the last one's template.
     RecursiveExtractor(Vec<&'a Ident>),
+    /// An error of a rule, except for `ParameterWithoutArgument`, which is a warning: upstream
+    /// leaves the pattern out and reports nothing.
+    Rule(isle_check_typing::Kind),
+    /// An error: more than 500 patterns or expressions of a rule lie in one another once templates
+    /// are filled and conversions are written out. It is the first such rule, and no rule is
+    /// checked.
+    DeepRule,
     /// A warning: a constant is already declared.
     ConstantAgain(&'a Ident),
     /// A warning: an internal extractor has another number of parameters than its term has
@@ -45,6 +56,8 @@ pub enum Kind<'a> {
         /// The number of arguments that are declared.
         arguments: usize,
     },
+    /// A warning of a rule.
+    RuleWarning(WarningKind),
 }
 
 impl<'a> Kind<'a> {
@@ -53,8 +66,9 @@ impl<'a> Kind<'a> {
         ensures { result ≡ is_error (node_of self.now) }
     {
         match self {
-            Kind::Declaration(_) | Kind::RecursiveExtractor(_) => true,
-            Kind::ConstantAgain(_) | Kind::ParameterCount { .. } => false,
+            Kind::Declaration(_) | Kind::RecursiveExtractor(_) | Kind::DeepRule => true,
+            Kind::Rule(kind) => is_rule_error(kind),
+            Kind::ConstantAgain(_) | Kind::ParameterCount { .. } | Kind::RuleWarning(_) => false,
         }
     }
 
@@ -65,14 +79,29 @@ impl<'a> Kind<'a> {
         match self {
             Kind::Declaration(kind) => declaration_words(alloc, kind),
             Kind::RecursiveExtractor(path) => recursion_words(alloc, path),
+            Kind::Rule(kind) => rule_words(alloc, kind),
+            Kind::DeepRule => plain(
+                alloc,
+                "deep-rule",
+                "This rule nests too deeply once extractors are expanded and conversions are \
+                 written out: no rule is checked",
+            ),
             Kind::ConstantAgain(name) => constant_words(alloc, name),
             Kind::ParameterCount {
                 extractor,
                 parameters,
                 arguments,
             } => count_words(alloc, extractor, *parameters, *arguments),
+            Kind::RuleWarning(kind) => warning_words(alloc, kind),
         }
     }
+}
+
+/// Returns whether upstream reports it.
+fn is_rule_error(kind: &isle_check_typing::Kind) -> bool
+    ensures { result ≡ is_rule_error (kind_of kind.now) }
+{
+    !matches!(kind, isle_check_typing::Kind::ParameterWithoutArgument(_))
 }
 
 fn recursion_words(alloc: Global, path: &[&Ident]) -> Result<Words, AllocError>
@@ -156,4 +185,25 @@ fn count_words(
         arguments.as_str(),
         " arguments",
     )
+}
+
+fn warning_words(alloc: Global, kind: &WarningKind) -> Result<Words, AllocError>
+    ensures { IfOk result (λ made. words_of made ≡ warning_words (warning_kind_of kind.now)) }
+{
+    match kind {
+        WarningKind::NoConstructor(term) => about(
+            alloc,
+            "condition-without-constructor",
+            "term `",
+            term.as_str(),
+            "` cannot be used in an expression because it does not have a constructor",
+        ),
+        WarningKind::MultiExtractor(term) => about(
+            alloc,
+            "multi-extractor",
+            "Multi-extractor '",
+            term.as_str(),
+            "' is used, but this rule is not in a multi-term",
+        ),
+    }
 }

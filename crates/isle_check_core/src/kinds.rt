@@ -15,6 +15,7 @@ pub fn is_kind(text: &str) -> bool
         || is_converter_kind(text)
         || is_constructor_kind(text)
         || is_external_kind(text)
+        || is_rule_kind(text)
         || is_warning_kind(text)
 }
 
@@ -90,8 +91,62 @@ fn is_external_kind(text: &str) -> bool
         || text == "duplicate-external-extractor"
 }
 
+fn is_rule_kind(text: &str) -> bool
+    ensures { result ≡ Kinds.is_rule_kind text.now }
+{
+    is_value_kind(text)
+        || is_variable_kind(text)
+        || is_used_term_kind(text)
+        || is_use_kind(text)
+}
+
+fn is_value_kind(text: &str) -> bool
+    ensures { result ≡ Kinds.is_value_kind text.now }
+{
+    text == "integer-type"
+        || text == "integer-without-type"
+        || text == "boolean-type"
+        || text == "unknown-constant"
+        || text == "constant-type"
+}
+
+fn is_variable_kind(text: &str) -> bool
+    ensures { result ≡ Kinds.is_variable_kind text.now }
+{
+    text == "rebound-variable"
+        || text == "variable-type"
+        || text == "unknown-variable"
+        || text == "unknown-variable-type"
+}
+
+fn is_used_term_kind(text: &str) -> bool
+    ensures { result ≡ Kinds.is_used_term_kind text.now }
+{
+    text == "unknown-term"
+        || text == "term-type"
+        || text == "argument-count"
+        || text == "no-extractor"
+        || text == "no-constructor"
+        || text == "undefined-term"
+}
+
+fn is_use_kind(text: &str) -> bool
+    ensures { result ≡ Kinds.is_use_kind text.now }
+{
+    text == "impure-term"
+        || text == "multi-term"
+        || text == "partial-term"
+        || text == "multi-priority"
+        || text == "macro-argument"
+        || text == "deep-rule"
+}
+
 fn is_warning_kind(text: &str) -> bool
     ensures { result ≡ Kinds.is_warning_kind text.now }
 {
-    text == "duplicate-constant" || text == "extractor-parameters"
+    text == "duplicate-constant"
+        || text == "extractor-parameters"
+        || text == "dropped-pattern"
+        || text == "condition-without-constructor"
+        || text == "multi-extractor"
 }

@@ -1,40 +1,60 @@
 //! Warnings.
 
-ghost use Rattle.std.specs.Prelude.{◌≡◌, ◌++◌, [], IfOk, List, OnOk, option_map};
+ghost use Rattle.std.specs.Prelude.{◌≡◌, ◌++◌, [], List, OnOk, map, option_map};
 ghost use Rattle.isle_ast.specs.TreeView.{definitions_of};
 ghost use Rattle.isle_ast_names.specs.Tree.{Name};
 ghost use Rattle.isle_ast_rules.specs.TreeView.{extractor_of};
-ghost use Rattle.isle_check_core.specs.Findings.{doubled_constant, doubled_constants, warnings};
-ghost use Rattle.isle_check_core.specs.Findings.{wrong_count, wrong_counts};
+ghost use Rattle.isle_check_core.specs.Findings.{doubled_constant, doubled_constants, of_warning};
+ghost use Rattle.isle_check_core.specs.Findings.{warnings, wrong_count, wrong_counts};
 ghost use Rattle.isle_check_core.specs.Views.{findings_of};
 ghost use Rattle.isle_check_environment.specs.Names.{Knows};
 ghost use Rattle.isle_check_environment.specs.Views.{constant_of, constants_at, extractors_at};
-ghost use Rattle.isle_check_signatures.specs.Environment.{environment};
+ghost use Rattle.isle_check_rules.specs.Views.{typed_rules_of, warnings_of};
 ghost use Rattle.isle_check_signatures.specs.Views.{environment_of, term_of};
 
 use crate::finding::{Finding, Kind};
 use isle_ast::ast::{Def, Extractor};
 use isle_check_environment::names::{Names, add_name, has, no_names};
 use isle_check_environment::parts::{Constant, constants_in, extractors_in};
+use isle_check_rules::{TypedRule, Warning, conditions_without_constructor, multi_extractors};
 use isle_check_signatures::{Environment, Term};
 use std::alloc::{AllocError, Global};
 
-/// Returns the warnings of a program whose declarations have no error. `env` is its environment.
-/// An `Err` means out of memory.
-pub fn warnings<'a>(
+/// Adds the warnings of a program without an error to `found`. `env` is the environment of the
+/// program, and `rules` are its typed rules. An `Err` means out of memory.
+pub fn add_warnings<'a>(
     alloc: Global,
     env: &Environment,
+    rules: &[TypedRule],
     defs: &'a [Def],
-) -> Result<Vec<Finding<'a>>, AllocError>
-    requires { environment_of env.now ≡ environment (definitions_of defs.now) }
-    ensures { IfOk result (λ found. findings_of found.items ≡ warnings (definitions_of defs.now)) }
+    found: &mut Vec<Finding<'a>>,
+) -> Result<(), AllocError>
+    ensures { OnOk result (findings_of found.new.items ≡ findings_of found.old.items
+        ++ warnings (environment_of env.now) (typed_rules_of rules.now)
+        (definitions_of defs.now)) }
 {
     let constants = constants_in(alloc, defs)?;
-    let mut found = Vec::new(alloc);
-    add_doubled_constants(alloc, &constants, &mut found)?;
+    add_doubled_constants(alloc, &constants, found)?;
     let extractors = extractors_in(alloc, defs)?;
-    add_wrong_counts(env, &extractors, &mut found)?;
-    Ok(found)
+    add_wrong_counts(env, &extractors, found)?;
+    add_rule_warnings(conditions_without_constructor(alloc, env, defs)?, found)?;
+    add_rule_warnings(multi_extractors(alloc, env, rules)?, found)
+}
+
+fn add_rule_warnings(
+    warnings: Vec<Warning>,
+    found: &mut Vec<Finding>,
+) -> Result<(), AllocError>
+    ensures { OnOk result (findings_of found.new.items
+        ≡ findings_of found.old.items ++ map of_warning (warnings_of warnings.items)) }
+{
+    for warning in warnings {
+        found.push(Finding {
+            kind: Kind::RuleWarning(warning.kind),
+            pos: warning.pos,
+        })?;
+    }
+    Ok(())
 }
 
 fn add_doubled_constants<'a>(
