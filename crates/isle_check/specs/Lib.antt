@@ -1,3 +1,4 @@
+pub mod Listing
 pub mod Options
 pub mod Report
 pub mod ReportView

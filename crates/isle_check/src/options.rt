@@ -30,6 +30,7 @@ Options:
   --stdin-name NAME  use NAME for standard input in messages
   --program NAME     check this program of isle.toml; may be repeated
   --all-programs     check all programs of isle.toml
+  --print-programs   check nothing, but print each program of isle.toml with its files
   --                 treat all later arguments as files
   --help             print this help
   --version          print the version

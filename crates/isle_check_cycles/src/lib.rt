@@ -1,41 +1,112 @@
 //! Which walks through a graph come to an end.
 #![tactic(auto)]
 
-ghost use Rattle.std.specs.Prelude.{◌≡◌, ◌&&◌, ◌<◌, ◌≤◌, IfOk, [], false, get_or, length, map};
-ghost use Rattle.std.specs.Prelude.{not, suc, true};
+ghost use Rattle.std.specs.Prelude.{◌≡◌, ◌&&◌, ◌+◌, ◌<◌, ◌≤◌, IfOk, OnOk, [], false, get_or, length};
+ghost use Rattle.std.specs.Prelude.{map, not, suc, true};
 ghost use Rattle.isle_check_cycles.specs.Walks.{AreEnds, IsClosed, IsSound, all_end, unended};
 
 use std::alloc::{AllocError, Global};
 
 /// Returns, for each place, whether every walk from it comes to an end. A walk goes from a place
 /// to one of those that `next` has for it. A place beyond `next` has no end.
+///
+/// A place is looked at once, and once more for each of its next places that is marked.
 pub fn ends(alloc: Global, next: &[Vec<usize>]) -> Result<Vec<bool>, AllocError>
     ensures { IfOk result (λ ends. AreEnds (map (λ v. v.items) next.now) ends.items) }
 {
+    let before = places_before(alloc, next)?;
     let mut ends = vec![in alloc; false; next.len()]?;
     loop {
-        if !add_ended(next, &mut ends) {
+        if !add_ended(alloc, next, &before, &mut ends)? {
             return Ok(ends);
         }
     }
 }
 
+/// Returns, for each place, the places that go on to it.
+fn places_before(alloc: Global, next: &[Vec<usize>]) -> Result<Vec<Vec<usize>>, AllocError> {
+    let mut before = Vec::new(alloc);
+    for _ in next {
+        before.push(Vec::new(alloc))?;
+    }
+    for (place, steps) in next.iter().enumerate() {
+        for step in steps {
+            if *step < before.len() {
+                before[*step].push(place)?;
+            }
+        }
+    }
+    Ok(before)
+}
+
 /// Marks the places whose next ones are all marked. Returns whether there were any.
-fn add_ended(next: &[Vec<usize>], ends: &mut Vec<bool>) -> bool
+fn add_ended(
+    alloc: Global,
+    next: &[Vec<usize>],
+    before: &[Vec<usize>],
+    ends: &mut Vec<bool>,
+) -> Result<bool, AllocError>
     requires { IsSound (map (λ v. v.items) next.now) ends.old.items }
-    ensures sound { IsSound (map (λ v. v.items) next.now) ends.new.items }
-    ensures closed { result ≡ false
-        → IsClosed (map (λ v. v.items) next.now) ends.new.items (length next.now) }
-    ensures fewer { result ≡ true → unended ends.new.items < unended ends.old.items }
+    ensures sound { IfOk result
+        (λ _. IsSound (map (λ v. v.items) next.now) ends.new.items) }
+    ensures closed { IfOk result (λ more. more ≡ false
+        → IsClosed (map (λ v. v.items) next.now) ends.new.items (length next.now)) }
+    ensures fewer { IfOk result (λ more. more ≡ true
+        → unended ends.new.items < unended ends.old.items) }
 {
     let mut more = false;
     for place in 0..next.len() {
         if is_ended(next, ends, place) {
             mark(next, ends, place);
+            mark_before(alloc, next, before, place, ends)?;
             more = true;
         }
     }
-    more
+    Ok(more)
+}
+
+/// Marks the places that go on to a marked one if their next ones are all marked, then those that
+/// go on to these, and so on.
+fn mark_before(
+    alloc: Global,
+    next: &[Vec<usize>],
+    before: &[Vec<usize>],
+    place: usize,
+    ends: &mut Vec<bool>,
+) -> Result<(), AllocError>
+    requires { IsSound (map (λ v. v.items) next.now) ends.old.items }
+    ensures sound { OnOk result (IsSound (map (λ v. v.items) next.now) ends.new.items) }
+    ensures no_more { OnOk result (unended ends.new.items ≤ unended ends.old.items) }
+{
+    let mut marked = Vec::new(alloc);
+    marked.push(place)?;
+    while let Some(place) = marked.pop() {
+        if place < before.len() {
+            mark_ended(next, &before[place], ends, &mut marked)?;
+        }
+    }
+    Ok(())
+}
+
+/// Marks those of these places whose next ones are all marked, and adds them to `marked`.
+fn mark_ended(
+    next: &[Vec<usize>],
+    places: &[usize],
+    ends: &mut Vec<bool>,
+    marked: &mut Vec<usize>,
+) -> Result<(), AllocError>
+    requires { IsSound (map (λ v. v.items) next.now) ends.old.items }
+    ensures sound { OnOk result (IsSound (map (λ v. v.items) next.now) ends.new.items) }
+    ensures count { OnOk result (unended ends.new.items + length marked.new.items
+        ≡ unended ends.old.items + length marked.old.items) }
+{
+    for place in places {
+        if *place < next.len() && is_ended(next, ends, *place) {
+            mark(next, ends, *place);
+            marked.push(*place)?;
+        }
+    }
+    Ok(())
 }
 
 /// Returns whether a place is not marked, but all its next ones are.
