@@ -1,5 +1,5 @@
 -- Walks through a graph. `next` has the places that a walk can go on to from each place.
-use Rattle.std.specs.Prelude.{◌≡◌, ℕ, zero, suc, ◌+◌, ◌<◌, ◌≤◌, List, [], ◌∷◌, Bool, true, false, ◌&&◌, nat_lt, length, get_or}
+use Rattle.std.specs.Prelude.{◌≡◌, ℕ, zero, suc, ◌<◌, List, [], ◌∷◌, Bool, true, false, ◌&&◌, nat_lt, length, get_or}
 use Rattle.std.specs.List.{list_all}
 
 -- each walk from a place has fewer steps than this

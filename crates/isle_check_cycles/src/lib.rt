@@ -10,14 +10,15 @@ use std::alloc::{AllocError, Global};
 /// Returns, for each place, whether every walk from it comes to an end. A walk goes from a place
 /// to one of those that `next` has for it. A place beyond `next` has no end.
 ///
-/// A place is looked at once, and once more for each of its next places that is marked.
+/// Each place is looked at twice, and once more for each place that it goes on to.
 pub fn ends(alloc: Global, next: &[Vec<usize>]) -> Result<Vec<bool>, AllocError>
     ensures { IfOk result (λ ends. AreEnds (map (λ v. v.items) next.now) ends.items) }
 {
     let before = places_before(alloc, next)?;
     let mut ends = vec![in alloc; false; next.len()]?;
     loop {
-        if !add_ended(alloc, next, &before, &mut ends)? {
+        let more = add_ended(alloc, next, &before, &mut ends)?;
+        if !more {
             return Ok(ends);
         }
     }
@@ -97,6 +98,7 @@ fn mark_ended(
 ) -> Result<(), AllocError>
     requires { IsSound (map (λ v. v.items) next.now) ends.old.items }
     ensures sound { OnOk result (IsSound (map (λ v. v.items) next.now) ends.new.items) }
+    ensures no_more { OnOk result (unended ends.new.items ≤ unended ends.old.items) }
     ensures count { OnOk result (unended ends.new.items + length marked.new.items
         ≡ unended ends.old.items + length marked.old.items) }
 {
