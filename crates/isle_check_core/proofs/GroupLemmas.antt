@@ -1,5 +1,5 @@
 -- Groups of errors, of which the first that has any is told.
-use Rattle.std.proofs.Common.{◌≡◌, ℕ, ◌<◌, List, [], ◌∷◌, length, refl, ap, arith}
+use Rattle.std.proofs.Common.{◌≡◌, ◌<◌, List, [], ◌∷◌, length, refl, arith}
 use Rattle.isle_check_core.specs.Findings.{FindingNode, or_next}
 
 pub group_told : (group later : List FindingNode) → 0 < length group → or_next group later ≡ group

@@ -1,5 +1,5 @@
 -- The words of a finding.
-use Rattle.std.specs.Prelude.{ℕ, List, [], Option, None, Some, codes, string_bytes, String}
+use Rattle.std.specs.Prelude.{ℕ, List, [], Option, None, Some, string_bytes}
 use Rattle.isle_check_core.specs.declared.words.Words.{Words}
 
 -- the name of a kind of finding, and the message of a finding

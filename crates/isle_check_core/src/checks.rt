@@ -169,7 +169,12 @@ fn of_rule_faults<'a>(
 fn has_error(found: &[Finding]) -> bool
     ensures { result ≡ has_error (findings_of found.now) }
 {
-    found.iter().any(|finding| finding.kind.is_error())
+    for finding in found {
+        if finding.kind.is_error() {
+            return true;
+        }
+    }
+    false
 }
 
 fn deep_rule<'a>(alloc: Global, pos: Pos) -> Result<Vec<Finding<'a>>, AllocError>

@@ -94,10 +94,7 @@ fn is_external_kind(text: &str) -> bool
 fn is_rule_kind(text: &str) -> bool
     ensures { result ≡ Kinds.is_rule_kind text.now }
 {
-    is_value_kind(text)
-        || is_variable_kind(text)
-        || is_used_term_kind(text)
-        || is_use_kind(text)
+    is_value_kind(text) || is_variable_kind(text) || is_used_term_kind(text) || is_use_kind(text)
 }
 
 fn is_value_kind(text: &str) -> bool

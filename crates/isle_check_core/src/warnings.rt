@@ -41,10 +41,7 @@ pub fn add_warnings<'a>(
     add_rule_warnings(multi_extractors(alloc, env, rules)?, found)
 }
 
-fn add_rule_warnings(
-    warnings: Vec<Warning>,
-    found: &mut Vec<Finding>,
-) -> Result<(), AllocError>
+fn add_rule_warnings(warnings: Vec<Warning>, found: &mut Vec<Finding>) -> Result<(), AllocError>
     ensures { OnOk result (findings_of found.new.items
         ≡ findings_of found.old.items ++ map of_warning (warnings_of warnings.items)) }
 {

@@ -1,5 +1,4 @@
 use Rattle.std.proofs.Common.{◌≡◌, ◌++◌, [], drop, map, take}
-use Rattle.isle_ast_names.specs.Tree.{Name}
 use Rattle.isle_check_core.specs.Findings.{doubled_constants}
 use Rattle.isle_check_core.specs.Views.{findings_of}
 use Rattle.isle_check_environment.specs.Names.{Knows}
