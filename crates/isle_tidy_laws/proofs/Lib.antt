@@ -1,4 +1,5 @@
 pub mod Balanced
+pub mod Indented
 pub mod PlainShapes
 pub mod PrintDocuments
 pub mod PrintTexts

@@ -1,14 +1,17 @@
 //! Laws of texts that parse, and of printed texts, which run no code.
 
-ghost use Rattle.std.specs.Prelude.{◌↔◌, ℕ, List};
+ghost use Rattle.std.specs.Prelude.{◌↔◌, [], ℕ, List};
 ghost use Rattle.isle_base.specs.Place.{nowhere};
 ghost use Rattle.isle_base_source.specs.declared.pos.Pos.{Pos};
 ghost use Rattle.isle_ast.specs.Spelt.{IsSpelt};
 ghost use Rattle.isle_ast.specs.Tree.{Definition};
 ghost use Rattle.isle_ast.specs.Writable.{AreWritable};
+ghost use Rattle.isle_tidy_core.specs.Grammar.{IsDocument};
 ghost use Rattle.isle_tidy_core.specs.Refused.{HasDocument};
 ghost use Rattle.isle_tidy_core.specs.Tidied.{IsTidyTextOf};
+ghost use Rattle.isle_tidy_laws.specs.Indentation.{LinesFit};
 ghost use Rattle.isle_tidy_laws.specs.Prints.{AllHaveAtoms, AllHavePlainHeads, print_of};
+ghost use Rattle.isle_tidy_layout.specs.Entries.{Entry};
 ghost use Rattle.isle_printer.specs.Printed.{IsPrinted};
 ghost use Rattle.isle_printer_layout.specs.Sexp.{Sexp};
 
@@ -38,4 +41,11 @@ pub fn spelt_texts_have_documents()
 pub fn tidying_keeps_trees()
     ensures { (text answer : List ℕ) (ds : List Definition)
         → IsTidyTextOf text answer → IsSpelt nowhere text ds ↔ IsSpelt nowhere answer ds }
+{}
+
+/// A law, which runs no code: in a tidy text, lines that begin in the same list begin in the same
+/// column, except for those that begin with `)`. Lines outside of lists begin in column 0.
+pub fn lines_of_a_list_have_one_column()
+    ensures { (text answer : List ℕ) → IsTidyTextOf text answer
+        → (document : List Entry) × IsDocument answer document × LinesFit [] document }
 {}
