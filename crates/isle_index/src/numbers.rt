@@ -11,13 +11,14 @@ use crate::scopes::{Bound, last_binder};
 use isle_resolve::event::{Event, Word};
 use std::alloc::{AllocError, Global};
 use std::collections::HashMap;
+use std::hash::{DefaultHasher, Hasher};
 
 #[derive(Drop)]
 pub struct Texts {
     /// The text of each number.
     pub items: Vec<String>,
-    /// The number of each text.
-    numbers: HashMap<String, u32>,
+    /// The number of the last text with each hash, so that no text is stored twice.
+    numbers: HashMap<u64, u32>,
 }
 
 impl Texts {
@@ -93,7 +94,7 @@ impl Texts {
     fn find(&self, text: &str) -> Option<u32>
         ensures { IfSome result (λ number. text_in self.now.items.items number ≡ Some text.now) }
     {
-        let number = self.numbers.get(text)?;
+        let number = self.numbers.get(&hash_of(text))?;
         match self.items.get(*number as usize) {
             Some(held) if held.as_str() == text => Some(*number),
             _ => None,
@@ -107,9 +108,16 @@ impl Texts {
     {
         let number = narrow(self.items.len())?;
         self.items.push(String::from_str(alloc, text)?)?;
-        self.numbers.insert(String::from_str(alloc, text)?, number)?;
+        self.numbers.insert(hash_of(text), number)?;
         Ok(number)
     }
+}
+
+/// The hash of a text. A text whose hash another one has taken since is stored again.
+fn hash_of(text: &str) -> u64 {
+    let mut hasher = DefaultHasher::new();
+    hasher.write(text.as_bytes());
+    hasher.finish()
 }
 
 /// Converts a number to `u32`. A larger one counts as out of memory.
