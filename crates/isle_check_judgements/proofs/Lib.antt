@@ -1,0 +1,5 @@
+pub mod Telling
+pub mod PatternTypes
+pub mod PatternSoundness
+pub mod PatternCompleteness
+pub mod PatternLaws

@@ -1,0 +1,2 @@
+pub mod HasType
+pub mod Untold

@@ -1,0 +1,32 @@
+-- Typing at some depth that adds no error.
+use Rattle.std.specs.Prelude.{◌≡◌, ℕ, List, [], length, Option, None, Some}
+use Rattle.isle_ast_rules.specs.Tree.{PatternNode, var_pattern, bind_pattern, bool_pattern, int_pattern, constant_pattern, term_pattern, wildcard_pattern, and_pattern, macro_arg_pattern, PatternList, Expression, ExpressionList, RuleDefinition}
+use Rattle.isle_check_signatures.specs.Environment.{EnvironmentNode}
+use Rattle.isle_check_signatures.specs.Signatures.{TermNode}
+use Rattle.isle_check_typing.specs.Faults.{FaultNode}
+use Rattle.isle_check_typing.specs.PatternTypes.{count_patterns, type_at}
+use Rattle.isle_check_typing.specs.PatternTypes as patterns
+use Rattle.isle_check_typing.specs.Progress.{ProgressNode, VariableNode}
+use Rattle.isle_check_typing.specs.Typed.{TypedNode}
+use Rattle.isle_check_typing.specs.Typings.{Typing, Typings, gives}
+
+abbrev pub progress : List VariableNode → List FaultNode → ProgressNode
+progress bound faults = record { bound = bound; faults = faults }
+
+abbrev pub gives_all : {T : Type 0} → List T → ProgressNode → Typings T
+gives_all xs s = record { typed = xs; after = s }
+
+-- a typing has a typed part, for which this holds with the variables behind it
+abbrev pub HasPart : {T : Type 0} → (T → (after : List VariableNode) → Type 0) → Typing T → Type 0
+HasPart {T = T} Holds r = (x : T) × ((r.typed ≡ Some x) × Holds x r.after.bound)
+
+-- at some depth, a pattern is typed so
+abbrev pub IsTypedAs : EnvironmentNode → PatternNode → (ty : List ℕ) → ProgressNode → TypedNode → (after : List VariableNode) → Type 0
+IsTypedAs env p ty s typed after = (depth : ℕ) × (type_at depth env p ty s ≡ Some (gives typed (progress after s.faults)))
+
+-- at some depth, patterns are typed so, and are as many as there are types
+abbrev pub AreTypedAs : EnvironmentNode → PatternList → (types : List (List ℕ)) → ProgressNode → List TypedNode → (after : List VariableNode) → Type 0
+AreTypedAs env ps types s typed after =
+    (length types ≡ count_patterns ps)
+    × ((depth : ℕ) × (patterns.arguments_by (type_at depth env) ps types [] s ≡ Some (gives_all typed (progress after s.faults))))
+
