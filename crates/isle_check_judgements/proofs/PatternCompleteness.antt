@@ -1,15 +1,13 @@
 -- What has a type by the rules is typed so, without a new error, where enough depth is given.
-use Rattle.std.proofs.Common.{◌≡◌, ◌≢◌, ℕ, zero, suc, ◌+◌, ◌==◌, ◌≤◌, List, [], ◌∷◌, ◌++◌, length, Bool, true, false, Option, None, Some, is_none, option_map, codes, refl, ap, sym, ◌∙◌, append-nil, append_assoc, arith, bytes_eq, eq-eqb, if◌then◌else◌}
-use Rattle.std.proofs.lemmas.Option.{same_Some}
+use Rattle.std.proofs.Common.{◌≡◌, ◌≢◌, ℕ, zero, suc, ◌+◌, ◌==◌, ◌≤◌, List, [], ◌∷◌, ◌++◌, length, true, Option, None, Some, is_none, option_map, codes, refl, ap, sym, ◌∙◌, append-nil, append_assoc, arith, eq-eqb, if◌then◌else◌}
 use Rattle.isle_base_source.specs.declared.pos.Pos.{Pos}
 use Rattle.isle_ast_names.specs.Tree.{Name}
-use Rattle.isle_ast_rules.specs.Templates.{plug}
 use Rattle.isle_ast_rules.specs.Tree.{PatternNode, var_pattern, bind_pattern, bool_pattern, int_pattern, constant_pattern, term_pattern, wildcard_pattern, and_pattern, PatternList, no_pattern, more_pattern}
 use Rattle.isle_check_signatures.specs.Environment.{EnvironmentNode}
 use Rattle.isle_check_signatures.specs.Signatures.{TermNode}
 use Rattle.isle_check_typing.specs.Faults.{FaultNode, integer_type, bool_type, constant_type, variable_bound, variable_type, argument_count, no_extractor}
-use Rattle.isle_check_typing.specs.PatternTypes.{Below, arguments_by, constant_by, converted_by, converting, count_patterns, each_by, filled_by, found_by, if_extracts, list_list, own_by, step, term_by, type_at, type_bind, use_by, variable_by}
-use Rattle.isle_check_typing.specs.Progress.{FoundNode, ProgressNode, VariableNode, bind, unless}
+use Rattle.isle_check_typing.specs.PatternTypes.{Below, arguments_by, constant_by, converted_by, converting, count_patterns, each_by, filled_by, if_extracts, own_by, step, term_by, type_at, type_bind, use_by, variable_by}
+use Rattle.isle_check_typing.specs.Progress.{ProgressNode, VariableNode, bind, unless}
 use Rattle.isle_check_typing.specs.Typed.{TypedNode, typed_bind, typed_var, typed_bool, typed_int, typed_const, typed_term, typed_wildcard, typed_and, type_of}
 use Rattle.isle_check_typing.specs.TypedView.{typed_list_of}
 use Rattle.isle_check_typing.specs.Typings.{Typing, Typings, and_then, gives, with_typed}

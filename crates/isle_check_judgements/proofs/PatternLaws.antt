@@ -1,12 +1,11 @@
 -- Typing of patterns, and the rules of their types.
-use Rattle.std.proofs.Common.{◌≡◌, ◌↔◌, ℕ, ◌+◌, List, [], length, Option, Some, refl, ap, sym, ◌∙◌, subst, le_refl, arith}
+use Rattle.std.proofs.Common.{◌≡◌, ◌↔◌, ℕ, ◌+◌, List, [], refl, ap, sym, ◌∙◌, subst, le_refl, arith}
 use Rattle.std.proofs.lemmas.Option.{same_Some}
 use Rattle.isle_ast_rules.specs.Tree.{PatternNode, PatternList}
 use Rattle.isle_check_signatures.specs.Environment.{EnvironmentNode}
-use Rattle.isle_check_typing.specs.PatternTypes.{type_at, arguments_by}
 use Rattle.isle_check_typing.specs.Progress.{ProgressNode, VariableNode}
 use Rattle.isle_check_typing.specs.Typed.{TypedNode}
-use Rattle.isle_check_typing.specs.Typings.{Typing, Typings, gives}
+use Rattle.isle_check_typing.specs.Typings.{Typing, gives}
 use Rattle.isle_check_judgements.specs.HasType.{HasType, HaveTypes}
 use Rattle.isle_check_judgements.specs.Untold.{IsTypedAs, AreTypedAs, progress, gives_all}
 use Rattle.isle_check_judgements.proofs.PatternCompleteness.{complete, complete_arguments}

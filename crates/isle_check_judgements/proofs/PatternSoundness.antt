@@ -1,5 +1,5 @@
 -- What is typed without a new error has a type by the rules.
-use Rattle.std.proofs.Common.{◌≡◌, ◌≢◌, ℕ, zero, suc, ◌+◌, ◌==◌, ◌≤◌, List, [], ◌∷◌, ◌++◌, length, le_refl, Bool, true, false, Option, None, Some, IfSome, is_none, option_map, codes, refl, ap, sym, ◌∙◌, subst, append-nil, arith, bytes_eq, eqb-true, if◌then◌else◌}
+use Rattle.std.proofs.Common.{◌≡◌, ◌≢◌, ℕ, zero, suc, ◌==◌, List, [], ◌∷◌, length, le_refl, Bool, true, false, Option, None, Some, IfSome, is_none, option_map, codes, refl, ap, sym, subst, append-nil, arith, bytes_eq, eqb-true, if◌then◌else◌}
 use Rattle.std.proofs.lemmas.Bool.Decides.{Decides-eqb, not_from_Decides}
 use Rattle.std.proofs.lemmas.Option.{none-some, same_Some}
 use Rattle.isle_base_source.specs.declared.pos.Pos.{Pos}
@@ -9,8 +9,8 @@ use Rattle.isle_ast_rules.specs.Tree.{PatternNode, var_pattern, bind_pattern, bo
 use Rattle.isle_check_signatures.specs.Environment.{EnvironmentNode}
 use Rattle.isle_check_signatures.specs.Signatures.{TermNode}
 use Rattle.isle_check_typing.specs.Faults.{integer_type, bool_type, constant_unknown, constant_type, variable_bound, variable_type, term_unknown, term_type, argument_count, no_extractor, parameter_without_argument, macro_argument}
-use Rattle.isle_check_typing.specs.PatternTypes.{Below, arguments_by, bound_by, constant_by, converted_by, converting, count_patterns, each_by, filled_by, found_by, if_extracts, list_list, own_by, step, term_by, type_and, type_at, type_bind, use_by, variable_by}
-use Rattle.isle_check_typing.specs.Progress.{FoundNode, ProgressNode, VariableNode, bind, find, tell, unless}
+use Rattle.isle_check_typing.specs.PatternTypes.{Below, arguments_by, bound_by, constant_by, converted_by, converting, count_patterns, each_by, filled_by, if_extracts, list_list, own_by, step, term_by, type_and, type_at, type_bind, use_by, variable_by}
+use Rattle.isle_check_typing.specs.Progress.{FoundNode, ProgressNode, bind, find, tell, unless}
 use Rattle.isle_check_typing.specs.Typed.{TypedNode, typed_bind, typed_var, typed_bool, typed_int, typed_const, typed_term, typed_wildcard, typed_and, type_of}
 use Rattle.isle_check_typing.specs.TypedView.{typed_list_of}
 use Rattle.isle_check_typing.specs.Typings.{Typing, Typings, gives, with_typed}

@@ -1,6 +1,6 @@
 -- The type of a typed pattern.
 use Rattle.std.proofs.Common.{◌≡◌, ℕ, List, refl}
-use Rattle.isle_ast_rules.specs.Tree.{PatternNode, PatternList, term_pattern, no_pattern, more_pattern}
+use Rattle.isle_ast_rules.specs.Tree.{PatternNode, term_pattern, no_pattern, more_pattern}
 use Rattle.isle_check_signatures.specs.Environment.{EnvironmentNode}
 use Rattle.isle_check_typing.specs.Progress.{VariableNode}
 use Rattle.isle_check_typing.specs.Typed.{TypedNode, type_of}

@@ -5,7 +5,7 @@ use Rattle.std.specs.Prelude.{◌≢◌}
 use Rattle.isle_base_source.specs.declared.pos.Pos.{Pos}
 use Rattle.isle_check_typing.specs.Faults.{KindNode}
 use Rattle.isle_check_typing.specs.Progress.{ProgressNode, VariableNode, tell, unless}
-use Rattle.isle_check_typing.specs.Typings.{Typing, Typings, and_then, gives, with_typed}
+use Rattle.isle_check_typing.specs.Typings.{Typings, and_then, gives, with_typed}
 use Rattle.isle_check_judgements.specs.Untold.{HasPart}
 
 -- errors are only added between two points, and P holds where none is

@@ -9,6 +9,12 @@ use Rattle.isle_check_typing.specs.PatternTypes as patterns
 use Rattle.isle_check_typing.specs.Progress.{ProgressNode, VariableNode}
 use Rattle.isle_check_typing.specs.Typed.{TypedNode}
 use Rattle.isle_check_typing.specs.Typings.{Typing, Typings, gives}
+use Rattle.isle_check_expressions.specs.declared.flags.Flags.{Flags}
+use Rattle.isle_check_expressions.specs.ExpressionTypes.{count_expressions, expression_at}
+use Rattle.isle_check_expressions.specs.ExpressionTypes as expressions
+use Rattle.isle_check_expressions.specs.TypedExpressions.{TypedExpressionNode}
+use Rattle.isle_check_rules.specs.RuleTypes.{RuleTyping, type_rule}
+use Rattle.isle_check_rules.specs.TypedRules.{TypedRuleNode}
 
 abbrev pub progress : List VariableNode → List FaultNode → ProgressNode
 progress bound faults = record { bound = bound; faults = faults }
@@ -30,3 +36,32 @@ AreTypedAs env ps types s typed after =
     (length types ≡ count_patterns ps)
     × ((depth : ℕ) × (patterns.arguments_by (type_at depth env) ps types [] s ≡ Some (gives_all typed (progress after s.faults))))
 
+-- at some depth, an expression is typed so
+abbrev pub IsExpressionTypedAs : EnvironmentNode → Flags → Expression → (wanted : Option (List ℕ)) → ProgressNode → TypedExpressionNode → (after : List VariableNode) → Type 0
+IsExpressionTypedAs env flags e wanted s typed after =
+    (depth : ℕ) × (expression_at depth env flags e wanted s ≡ Some (gives typed (progress after s.faults)))
+
+-- at some depth, expressions are typed so, and are as many as there are types
+abbrev pub AreExpressionsTypedAs : EnvironmentNode → Flags → ExpressionList → (types : List (List ℕ)) → ProgressNode → List TypedExpressionNode → (after : List VariableNode) → Type 0
+AreExpressionsTypedAs env flags es types s typed after =
+    (length types ≡ count_expressions es)
+    × ((depth : ℕ) × (expressions.arguments_by (expression_at depth env flags) es types [] s ≡ Some (gives_all typed (progress after s.faults))))
+
+abbrev pub faultless : TypedRuleNode → RuleTyping
+faultless typed = record { typed = Some typed; faults = [] }
+
+-- at some depth, a rule is typed so
+abbrev pub IsRuleTypedAs : EnvironmentNode → RuleDefinition → TypedRuleNode → Type 0
+IsRuleTypedAs env r typed = (depth : ℕ) × (type_rule depth env r ≡ Some (faultless typed))
+
+-- the term of a rule's left side, if it is known
+abbrev pub root_term : EnvironmentNode → PatternNode → Option TermNode
+root_term env (term_pattern name args place) = env.terms name.text
+root_term env (var_pattern _ _) = None
+root_term env (bind_pattern _ _ _) = None
+root_term env (bool_pattern _ _) = None
+root_term env (int_pattern _ _) = None
+root_term env (constant_pattern _ _) = None
+root_term env (wildcard_pattern _) = None
+root_term env (and_pattern _ _) = None
+root_term env (macro_arg_pattern _ _) = None
