@@ -1,0 +1,14 @@
+pub mod Telling
+pub mod PatternTypes
+pub mod PatternSoundness
+pub mod PatternCompleteness
+pub mod PatternLaws
+pub mod Wanted
+pub mod ExpressionTypes
+pub mod ExpressionSoundness
+pub mod ExpressionCompleteness
+pub mod ExpressionLaws
+pub mod RuleSoundness
+pub mod RuleCompleteness
+pub mod RuleLaws
+pub mod ProgramLaws
