@@ -1,0 +1,4 @@
+pub mod KeptNames
+pub mod KeptTrees
+pub mod NewNames
+pub mod Renamings

@@ -1,0 +1,38 @@
+//! Laws of renaming and of writable trees, which run no code.
+
+ghost use Rattle.std.specs.Prelude.{◌≡◌, ℕ, List, None, true};
+ghost use Rattle.isle_ast.specs.Tree.{Definition};
+ghost use Rattle.isle_ast.specs.Writable.{AreWritable};
+ghost use Rattle.isle_ast_names.specs.Tree.{Name};
+ghost use Rattle.isle_base_source.specs.declared.pos.Pos.{Pos};
+ghost use Rattle.isle_index.specs.Names.{NameNode, name_text};
+ghost use Rattle.isle_index.specs.Renamed.{Renames, are_apart, places_of, replaced};
+ghost use Rattle.isle_index.specs.Renaming.{IsAccepted, refusal};
+ghost use Rattle.isle_index.specs.Scopes.{seen};
+ghost use Rattle.isle_index_laws.specs.Kept.{AreKept};
+ghost use Rattle.isle_resolve.specs.Events.{events};
+ghost use Rattle.isle_resolve.specs.Mapped.{map_definitions};
+
+/// A law, which runs no code: definitions stay writable if each of their names that changes gets a
+/// text that can replace its own.
+pub fn replaced_names_keep_definitions_writable()
+    ensures { (ds : List Definition) (f : Name → Name) → AreWritable ds → AreKept f (events ds)
+        → AreWritable (map_definitions f ds) }
+{}
+
+/// A law, which runs no code: renaming keeps definitions writable. If `Index::rename` returns
+/// positions, and writable definitions get the new text there, they are writable still.
+pub fn renamed_definitions_are_writable()
+    ensures { (ds : List Definition) (name : NameNode) (new : List ℕ) (f : Name → Name)
+        → AreWritable ds → refusal name new (seen (events ds)) ≡ None
+        → Renames f name new (seen (events ds)) → AreWritable (map_definitions f ds) }
+{}
+
+/// A law, which runs no code: the same of the positions that `Index::rename` returns, if no two
+/// names of the definitions are at one position.
+pub fn replacing_keeps_definitions_writable()
+    ensures { (ds : List Definition) (name : NameNode) (new : List ℕ) (places : List Pos)
+        → AreWritable ds → are_apart (places_of (seen (events ds))) ≡ true
+        → IsAccepted name new (seen (events ds)) places
+        → AreWritable (map_definitions (replaced places (name_text name) new) ds) }
+{}
