@@ -1,4 +1,9 @@
+pub mod FollowedDefinitions
+pub mod FollowedRules
+pub mod Follows
 pub mod KeptNames
 pub mod KeptTrees
+pub mod Marks
 pub mod NewNames
+pub mod RenamedTokens
 pub mod Renamings

@@ -140,7 +140,7 @@ record IsFresh (new : List ℕ) : Type 0 where
   no_dollar : begins_with is_dollar new ≡ false
   no_word : is_reserved new ≡ false
 
-not-false : (b : Bool) → not b ≡ true → b ≡ false
+pub not-false : (b : Bool) → not b ≡ true → b ≡ false
 not-false true h = let never : false ≡ true = h in absurd (cc)
 not-false false h = refl
 

@@ -99,14 +99,22 @@ accepted-by false x o h = absurd (cc)
 accepted : (name : NameNode) (new : List ℕ) (ss : List SeenNode) → refusal name new ss ≡ None → is_new_name new ≡ true
 accepted name new ss none = accepted-by (is_new_name new) _ _ none
 
-pub renaming_writable : (ds : List Definition) (name : NameNode) (new : List ℕ) (f : Name → Name) → AreWritable ds → refusal name new (seen (events ds)) ≡ None →
-    Renames f name new (seen (events ds)) → AreWritable (map_definitions f ds)
-renaming_writable ds name new f w none renames =
+-- an accepted renaming keeps each name
+renaming_kept : (ds : List Definition) (name : NameNode) (new : List ℕ) (f : Name → Name) → refusal name new (seen (events ds)) ≡ None → Renames f name new (seen (events ds)) → AreKept f (events ds)
+renaming_kept ds name new f none renames =
     let ss : List SeenNode = seen (events ds) in
     let h : is_new_name new ≡ true = accepted name new ss none in
-    definitions_kept ds f w (all_kept f (renamed name new ss) (λ s is. event_kept f (members (name_text name) ss) name new s h is) 0 [] (events ds) renames)
+    all_kept f (renamed name new ss) (λ s is. event_kept f (members (name_text name) ss) name new s h is) 0 [] (events ds) renames
+
+pub replacing_kept : (ds : List Definition) (name : NameNode) (new : List ℕ) (places : List Pos) → are_apart (places_of (seen (events ds))) ≡ true →
+    IsAccepted name new (seen (events ds)) places → AreKept (replaced places (name_text name) new) (events ds)
+replacing_kept ds name new places apart ok =
+    renaming_kept ds name new (replaced places (name_text name) new) ok.accepted (replacing_renames ds name new places apart ok)
+
+pub renaming_writable : (ds : List Definition) (name : NameNode) (new : List ℕ) (f : Name → Name) → AreWritable ds → refusal name new (seen (events ds)) ≡ None →
+    Renames f name new (seen (events ds)) → AreWritable (map_definitions f ds)
+renaming_writable ds name new f w none renames = definitions_kept ds f w (renaming_kept ds name new f none renames)
 
 pub replacing_writable : (ds : List Definition) (name : NameNode) (new : List ℕ) (places : List Pos) → AreWritable ds → are_apart (places_of (seen (events ds))) ≡ true →
     IsAccepted name new (seen (events ds)) places → AreWritable (map_definitions (replaced places (name_text name) new) ds)
-replacing_writable ds name new places w apart ok =
-    renaming_writable ds name new (replaced places (name_text name) new) w ok.accepted (replacing_renames ds name new places apart ok)
+replacing_writable ds name new places w apart ok = definitions_kept ds (replaced places (name_text name) new) w (replacing_kept ds name new places apart ok)

@@ -1,15 +1,18 @@
 //! Laws of renaming and of writable trees, which run no code.
 
 ghost use Rattle.std.specs.Prelude.{◌≡◌, ℕ, List, None, true};
+ghost use Rattle.isle_ast.specs.Grammar.{SpellsDefinitions};
 ghost use Rattle.isle_ast.specs.Tree.{Definition};
 ghost use Rattle.isle_ast.specs.Writable.{AreWritable};
 ghost use Rattle.isle_ast_names.specs.Tree.{Name};
+ghost use Rattle.isle_base.specs.Place.{Placed};
 ghost use Rattle.isle_base_source.specs.declared.pos.Pos.{Pos};
 ghost use Rattle.isle_index.specs.Names.{NameNode, name_text};
 ghost use Rattle.isle_index.specs.Renamed.{Renames, are_apart, places_of, replaced};
 ghost use Rattle.isle_index.specs.Renaming.{IsAccepted, refusal};
 ghost use Rattle.isle_index.specs.Scopes.{seen};
 ghost use Rattle.isle_index_laws.specs.Kept.{AreKept};
+ghost use Rattle.isle_index_laws.specs.RenamedTokens.{positions, renamed_tokens};
 ghost use Rattle.isle_resolve.specs.Events.{events};
 ghost use Rattle.isle_resolve.specs.Mapped.{map_definitions};
 
@@ -35,4 +38,20 @@ pub fn replacing_keeps_definitions_writable()
         → AreWritable ds → are_apart (places_of (seen (events ds))) ≡ true
         → IsAccepted name new (seen (events ds)) places
         → AreWritable (map_definitions (replaced places (name_text name) new) ds) }
+{}
+
+/// A law, which runs no code: no two names of a text are at one position, if no two tokens are.
+pub fn names_of_tokens_are_apart()
+    ensures { (ds : List Definition) (ts : List Placed) → SpellsDefinitions ds ts
+        → are_apart (positions ts) ≡ true → are_apart (places_of (seen (events ds))) ≡ true }
+{}
+
+/// A law, which runs no code: where tokens spell definitions, the tokens with the new text at the
+/// positions that `Index::rename` returns spell the definitions with the new text there.
+pub fn renamed_tokens_spell_renamed_definitions()
+    ensures { (ds : List Definition) (ts : List Placed) (name : NameNode) (new : List ℕ)
+        (places : List Pos) → SpellsDefinitions ds ts → are_apart (positions ts) ≡ true
+        → IsAccepted name new (seen (events ds)) places
+        → SpellsDefinitions (map_definitions (replaced places (name_text name) new) ds)
+        (renamed_tokens places name new ts) }
 {}
