@@ -1,3 +1,4 @@
+pub mod Apart
 pub mod FollowedDefinitions
 pub mod FollowedRules
 pub mod Follows

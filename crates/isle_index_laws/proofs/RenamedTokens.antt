@@ -34,7 +34,7 @@ use Rattle.isle_index_laws.proofs.Renamings.{replacing_kept}
 
 -- how many of some positions are this one
 
-abbrev places_at : Pos → List Pos → ℕ
+abbrev pub places_at : Pos → List Pos → ℕ
 places_at p [] = 0
 places_at p (q ∷ qs) = one_if (same_place p q) + places_at p qs
 
@@ -75,13 +75,13 @@ most p q qs true is far h =
     omega arith
 most p q qs false is far h = omega arith
 
-once : (qs : List Pos) → are_apart qs ≡ true → (p : Pos) → places_at p qs ≤ 1
+pub once : (qs : List Pos) → are_apart qs ≡ true → (p : Pos) → places_at p qs ≤ 1
 once [] h p = omega arith
 once (q ∷ qs) h p =
     let both = and_parts (not (list_any (same_place q) qs)) (are_apart qs) h in
     most p q qs (same_place p q) refl (not-false (list_any (same_place q) qs) both.0) (once qs both.1 p)
 
-apart : (qs : List Pos) → ((p : Pos) → places_at p qs ≤ 1) → are_apart qs ≡ true
+pub apart : (qs : List Pos) → ((p : Pos) → places_at p qs ≤ 1) → are_apart qs ≡ true
 apart [] h = refl
 apart (q ∷ qs) h =
     let own : one_if (same_place q q) ≡ 1 = ap one_if (self q) in
@@ -107,7 +107,7 @@ one_of_both : (p q : Pos) (b : Bool) → hit false p (Some (b, q)) + hit true p 
 one_of_both p q true = omega arith
 one_of_both p q false = omega arith
 
-each_event : (p : Pos) (i : ℕ) (bound : List BoundNode) (es : List EventNode) → events_at false p es + events_at true p es ≡ places_at p (places_of (seen_from i bound es))
+pub each_event : (p : Pos) (i : ℕ) (bound : List BoundNode) (es : List EventNode) → events_at false p es + events_at true p es ≡ places_at p (places_of (seen_from i bound es))
 each_event p i bound [] = refl
 each_event p i bound (defines k n ∷ es) =
     let more = each_event p (i + 1) (after (defines k n) i bound) es in
@@ -146,15 +146,23 @@ marks_once ts ms h is p =
     let number = each_token p ms in
     omega arith
 
+-- at each place are at most as many names as tokens
+pub names_at_most : (ds : List Definition) (ts : List Placed) → SpellsDefinitions ds ts → (p : Pos) → events_at false p (events ds) + events_at true p (events ds) ≤ places_at p (positions ts)
+names_at_most ds ts h p =
+    let one : Follow (λ n. n) (SpellsAll SpellsDefinition (map_definitions (λ n. n) ds)) (events ds) ts [] = definitions_follow (λ n. n) (λ n. refl) ds ts [] (unchanged (events ds)) h in
+    let names = one.marked false p in
+    let constants = one.marked true p in
+    let number = each_token p one.marks in
+    let all : places_at p (positions ts) ≡ places_at p (positions (tokens_of one.marks)) = ap (λ us. places_at p (positions us)) (one.is ∙ append-nil (tokens_of one.marks)) in
+    omega arith
+
 -- the names of a text stand apart, as its tokens do
 pub names_apart : (ds : List Definition) (ts : List Placed) → SpellsDefinitions ds ts → are_apart (positions ts) ≡ true → are_apart (places_of (seen (events ds))) ≡ true
 names_apart ds ts h away =
-    let one : Follow (λ n. n) (SpellsAll SpellsDefinition (map_definitions (λ n. n) ds)) (events ds) ts [] = definitions_follow (λ n. n) (λ n. refl) ds ts [] (unchanged (events ds)) h in
     apart (places_of (seen (events ds)))
     (λ p.
-        let least = marks_once ts one.marks away one.is p in
-        let names = one.marked false p in
-        let constants = one.marked true p in
+        let most = names_at_most ds ts h p in
+        let single = once (positions ts) away p in
         let number = each_event p 0 [] (events ds) in
         omega arith)
 

@@ -13,6 +13,7 @@ ghost use Rattle.isle_index.specs.Renaming.{IsAccepted, refusal};
 ghost use Rattle.isle_index.specs.Scopes.{seen};
 ghost use Rattle.isle_index_laws.specs.Kept.{AreKept};
 ghost use Rattle.isle_index_laws.specs.RenamedTokens.{positions, renamed_tokens};
+ghost use Rattle.isle_index_laws.specs.SpeltTexts.{AreSpelt, SpeltText, definitions_of};
 ghost use Rattle.isle_resolve.specs.Events.{events};
 ghost use Rattle.isle_resolve.specs.Mapped.{map_definitions};
 
@@ -44,6 +45,13 @@ pub fn replacing_keeps_definitions_writable()
 pub fn names_of_tokens_are_apart()
     ensures { (ds : List Definition) (ts : List Placed) → SpellsDefinitions ds ts
         → are_apart (positions ts) ≡ true → are_apart (places_of (seen (events ds))) ≡ true }
+{}
+
+/// A law, which runs no code: no two names of a program are at one position. Its texts are those of
+/// files with numbers of their own.
+pub fn names_of_a_program_are_apart()
+    ensures { (file : ℕ) (ts : List SpeltText) → AreSpelt file ts
+        → are_apart (places_of (seen (events (definitions_of ts)))) ≡ true }
 {}
 
 /// A law, which runs no code: where tokens spell definitions, the tokens with the new text at the
