@@ -51,7 +51,7 @@ tokens_apart file size text (x ∷ xs) l fits =
     (tokens_apart file size l.1 xs l.6 (omega arith))
 
 -- in another file there is no token of this one
-none_elsewhere : (p : Pos) (file : ℕ) (xs : List Lexeme) → (p.file ≡ file → ⊥) → places_at p (positions (placed (in_file file) xs)) ≡ 0
+pub none_elsewhere : (p : Pos) (file : ℕ) (xs : List Lexeme) → (p.file ≡ file → ⊥) → places_at p (positions (placed (in_file file) xs)) ≡ 0
 none_elsewhere p file [] h = refl
 none_elsewhere p file (x ∷ xs) h =
     let first : one_if (same_place p (in_file file x.offset)) ≡ 0 = ap one_if (other_file p file x.offset h) in
@@ -59,10 +59,10 @@ none_elsewhere p file (x ∷ xs) h =
     omega arith
 
 -- how many names stand at a place
-abbrev names_at : Pos → List EventNode → ℕ
+abbrev pub names_at : Pos → List EventNode → ℕ
 names_at p es = events_at false p es + events_at true p es
 
-events_of_both : (ds es : List Definition) → events (ds ++ es) ≡ events ds ++ events es
+pub events_of_both : (ds es : List Definition) → events (ds ++ es) ≡ events ds ++ events es
 events_of_both [] es = refl
 events_of_both (d ∷ ds) es =
     ap (λ xs. definition_events d ++ xs) (events_of_both ds es) ∙ sym (append_assoc (definition_events d) (events ds) (events es))
@@ -74,7 +74,7 @@ names_of_both p ds es =
     ap (names_at p) (events_of_both ds es) ∙ (omega arith)
 
 -- at most one name at a place of these texts, and none in a file before them
-abbrev Bounded : Pos → ℕ → ℕ → Type 0
+abbrev pub Bounded : Pos → ℕ → ℕ → Type 0
 Bounded p file n = (n ≤ 1) × (p.file < file → n ≡ 0)
 
 bounded : (p : Pos) (file n m : ℕ) → n ≤ 1 → ((p.file ≡ file → ⊥) → n ≡ 0) → Bounded p (file + 1) m → Bounded p file (n + m)
@@ -87,7 +87,7 @@ bounded p file n m one none later =
     (cases_lt p.file (file + 1)))
     (cases_lt p.file file)
 
-text_names : (p : Pos) (file : ℕ) (ts : List SpeltText) → AreSpelt file ts → Bounded p file (names_at p (events (definitions_of ts)))
+pub text_names : (p : Pos) (file : ℕ) (ts : List SpeltText) → AreSpelt file ts → Bounded p file (names_at p (events (definitions_of ts)))
 text_names p file [] spelt = (omega arith, λ less. refl)
 text_names p file (t ∷ ts) spelt =
     let tokens = spelt.0.0 in

@@ -6,5 +6,6 @@ pub mod KeptNames
 pub mod KeptTrees
 pub mod Marks
 pub mod NewNames
+pub mod Programs
 pub mod RenamedTokens
 pub mod Renamings

@@ -255,9 +255,13 @@ place_hit ms given p i bound (e ∷ es) h =
 
 -- marks and the tokens after the renaming
 
--- at a place that changes stands a mark of this kind
+-- how many marks are at a place
+abbrev all_at : Pos → List Mark → ℕ
+all_at p ms = plain_at p ms + (marks_at false p ms + marks_at true p ms)
+
+-- where a mark stands at a place that changes, one of this kind does
 abbrev Stand : Bool → List Pos → List Mark → Type 0
-Stand c places ms = (p : Pos) → list_any (same_place p) places ≡ true → 1 ≤ marks_at c p ms
+Stand c places ms = (p : Pos) → 1 ≤ all_at p ms → list_any (same_place p) places ≡ true → 1 ≤ marks_at c p ms
 
 -- these marks are among all
 abbrev Among : List Mark → List Mark → Type 0
@@ -272,17 +276,17 @@ plain_free true places t ms all alone stand among =
     not-here (list_any (same_place t.pos) places)
     (λ h.
         let own : one_if (same_place t.pos t.pos) ≡ 1 = ap one_if (self t.pos) in
-        let there = stand t.pos h in
         let least = alone t.pos in
         let more = (among t.pos).0 in
+        let there = stand t.pos (omega arith) h in
         omega arith)
 plain_free false places t ms all alone stand among =
     not-here (list_any (same_place t.pos) places)
     (λ h.
         let own : one_if (same_place t.pos t.pos) ≡ 1 = ap one_if (self t.pos) in
-        let there = stand t.pos h in
         let least = alone t.pos in
         let more = (among t.pos).0 in
+        let there = stand t.pos (omega arith) h in
         omega arith)
 
 name_free : (places : List Pos) (n : Name) (ms all : List Mark) → Once all → Stand true places all → Among (name n ∷ ms) all → list_any (same_place n.pos) places ≡ false
@@ -290,9 +294,9 @@ name_free places n ms all alone stand among =
     not-here (list_any (same_place n.pos) places)
     (λ h.
         let own : hit false n.pos (marked (name n)) ≡ 1 = ap one_if (self n.pos) in
-        let there = stand n.pos h in
         let least = alone n.pos in
         let more = (among n.pos).1 in
+        let there = stand n.pos (omega arith) h in
         omega arith)
 
 constant_free : (places : List Pos) (n : Name) (ms all : List Mark) → Once all → Stand false places all → Among (constant n ∷ ms) all → list_any (same_place n.pos) places ≡ false
@@ -300,9 +304,9 @@ constant_free places n ms all alone stand among =
     not-here (list_any (same_place n.pos) places)
     (λ h.
         let own : hit true n.pos (marked (constant n)) ≡ 1 = ap one_if (self n.pos) in
-        let there = stand n.pos h in
         let least = alone n.pos in
         let more = (among n.pos).2 in
+        let there = stand n.pos (omega arith) h in
         omega arith)
 
 abbrev front : List ℕ → List ℕ → Name → Name
@@ -355,20 +359,35 @@ place_stays places old new n false = refl
 keeps_places : (places : List Pos) (old new : List ℕ) → KeepsPlaces (replaced places old new)
 keeps_places places old new n = place_stays places old new n (stands_at places n)
 
-pub renamed_tokens_spell : (ds : List Definition) (ts : List Placed) (given : NameNode) (new : List ℕ) (places : List Pos) → SpellsDefinitions ds ts → are_apart (positions ts) ≡ true →
-    IsAccepted given new (seen (events ds)) places → SpellsDefinitions (map_definitions (replaced places (name_text given) new) ds) (renamed_tokens places given new ts)
-renamed_tokens_spell ds ts given new places h away ok =
+-- the tokens of definitions whose names are kept
+pub tokens_spell : (ds : List Definition) (ts : List Placed) (given : NameNode) (new : List ℕ) (places : List Pos) → SpellsDefinitions ds ts → are_apart (positions ts) ≡ true →
+    AreKept (replaced places (name_text given) new) (events ds) →
+    ((p : Pos) → 1 ≤ places_at p (positions ts) → list_any (same_place p) places ≡ true → 1 ≤ events_at (is_constant given) p (events ds)) →
+    SpellsDefinitions (map_definitions (replaced places (name_text given) new) ds) (renamed_tokens places given new ts)
+tokens_spell ds ts given new places h away kept hits =
     let f : Name → Name = replaced places (name_text given) new in
-    let one : Follow f (SpellsAll SpellsDefinition (map_definitions f ds)) (events ds) ts [] =
-        definitions_follow f (keeps_places places (name_text given) new) ds ts [] (replacing_kept ds given new places (names_apart ds ts h away) ok) h in
+    let one : Follow f (SpellsAll SpellsDefinition (map_definitions f ds)) (events ds) ts [] = definitions_follow f (keeps_places places (name_text given) new) ds ts [] kept h in
+    let all : ts ≡ tokens_of one.marks = one.is ∙ append-nil (tokens_of one.marks) in
     let least : Once one.marks = marks_once ts one.marks away one.is in
-    let stand : Stand (is_constant given) places one.marks = λ p there.
-        let hits = place_hit (members (name_text given) (seen (events ds))) given p 0 [] (events ds)
-            (list_any-IsPermutation (same_place p) (changed_places given (seen (events ds))) places ok.exact ∙ there) in
-        let number = one.marked (is_constant given) p in
+    let stand : Stand (is_constant given) places one.marks = λ p here there.
+        let number = each_token p one.marks in
+        let same_number : places_at p (positions ts) ≡ places_at p (positions (tokens_of one.marks)) = ap (λ us. places_at p (positions us)) all in
+        let hit_there = hits p (omega arith) there in
+        let marks_there = one.marked (is_constant given) p in
         omega arith in
     let moved = tokens_move (is_constant given) places (name_text given) new one.marks one.marks least stand (λ p. (omega arith, omega arith, omega arith)) in
-    let all : ts ≡ tokens_of one.marks = one.is ∙ append-nil (tokens_of one.marks) in
     subst (SpellsDefinitions (map_definitions f ds))
     (append-nil (tokens f one.marks) ∙ moved ∙ sym (ap (renamed_tokens places given new) all))
     (one.spelt [])
+
+-- at each place that changes stands a name of the kind that is renamed
+pub changed_names : (ds : List Definition) (given : NameNode) (new : List ℕ) (places : List Pos) → IsAccepted given new (seen (events ds)) places → (p : Pos) →
+    list_any (same_place p) places ≡ true → 1 ≤ events_at (is_constant given) p (events ds)
+changed_names ds given new places ok p there =
+    place_hit (members (name_text given) (seen (events ds))) given p 0 [] (events ds)
+    (list_any-IsPermutation (same_place p) (changed_places given (seen (events ds))) places ok.exact ∙ there)
+
+pub renamed_tokens_spell : (ds : List Definition) (ts : List Placed) (given : NameNode) (new : List ℕ) (places : List Pos) → SpellsDefinitions ds ts → are_apart (positions ts) ≡ true →
+    IsAccepted given new (seen (events ds)) places → SpellsDefinitions (map_definitions (replaced places (name_text given) new) ds) (renamed_tokens places given new ts)
+renamed_tokens_spell ds ts given new places h away ok =
+    tokens_spell ds ts given new places h away (replacing_kept ds given new places (names_apart ds ts h away) ok) (λ p _ there. changed_names ds given new places ok p there)

@@ -13,7 +13,8 @@ ghost use Rattle.isle_index.specs.Renaming.{IsAccepted, refusal};
 ghost use Rattle.isle_index.specs.Scopes.{seen};
 ghost use Rattle.isle_index_laws.specs.Kept.{AreKept};
 ghost use Rattle.isle_index_laws.specs.RenamedTokens.{positions, renamed_tokens};
-ghost use Rattle.isle_index_laws.specs.SpeltTexts.{AreSpelt, SpeltText, definitions_of};
+ghost use Rattle.isle_index_laws.specs.SpeltTexts.{AreSpelt, AreSpeltWith, SpeltText};
+ghost use Rattle.isle_index_laws.specs.SpeltTexts.{definitions_of};
 ghost use Rattle.isle_resolve.specs.Events.{events};
 ghost use Rattle.isle_resolve.specs.Mapped.{map_definitions};
 
@@ -62,4 +63,14 @@ pub fn renamed_tokens_spell_renamed_definitions()
         → IsAccepted name new (seen (events ds)) places
         → SpellsDefinitions (map_definitions (replaced places (name_text name) new) ds)
         (renamed_tokens places name new ts) }
+{}
+
+/// A law, which runs no code: the same of a program. With the new text at the positions that
+/// `Index::rename` returns, the tokens of each text spell its definitions with the new text there.
+pub fn renamed_tokens_spell_renamed_programs()
+    ensures { (file : ℕ) (ts : List SpeltText) (name : NameNode) (new : List ℕ)
+        (places : List Pos) → AreSpelt file ts
+        → IsAccepted name new (seen (events (definitions_of ts))) places
+        → AreSpeltWith (replaced places (name_text name) new) (renamed_tokens places name new)
+        file ts }
 {}
