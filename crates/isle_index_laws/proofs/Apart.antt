@@ -1,13 +1,12 @@
 -- The names of texts stand apart.
 use Rattle.std.proofs.Common.{◌≡◌, ℕ, ◌+◌, ◌-◌, ◌<◌, ◌≤◌, List, [], ◌∷◌, ◌++◌, Bool, true, false, not, ◌&&◌, ◌||◌, ◌==◌, refl, sym, ap, ◌∙◌, ⊎_elim, length, append_assoc, arith}
 use Rattle.std.proofs.lemmas.Bool.{and_from, cases_lt, ne_eqb}
-use Rattle.std.specs.List.{flat_map, list_any}
+use Rattle.std.specs.List.{list_any}
 use Rattle.isle_base.specs.Lexing.{Lexes}
-use Rattle.isle_base.specs.Place.{Placed, in_file, placed}
+use Rattle.isle_base.specs.Place.{in_file, placed}
 use Rattle.isle_base.specs.Token.{Lexeme, end}
 use Rattle.isle_base.proofs.Complete.{Skip-le, Spelling-shorter}
 use Rattle.isle_base_source.specs.declared.pos.Pos.{Pos}
-use Rattle.isle_ast.specs.Grammar.{SpellsDefinitions}
 use Rattle.isle_ast.specs.Tree.{Definition}
 use Rattle.isle_resolve.specs.Event.{EventNode}
 use Rattle.isle_resolve.specs.Events.{definition_events, events}
@@ -95,8 +94,8 @@ text_names p file (t ∷ ts) spelt =
     let single = once (positions (placed (in_file file) tokens)) (tokens_apart file (length t.text) t.text tokens spelt.0.1 (omega arith)) p in
     let both = names_of_both p t.definitions (definitions_of ts) in
     let all = bounded p file (names_at p (events t.definitions)) (names_at p (events (definitions_of ts))) (omega arith)
-        (λ away. let none = none_elsewhere p file tokens away in omega arith)
-        (text_names p (file + 1) ts spelt.1) in
+    (λ away. let none = none_elsewhere p file tokens away in omega arith)
+    (text_names p (file + 1) ts spelt.1) in
     (omega arith, λ less. both ∙ all.1 less)
 
 pub program_apart : (file : ℕ) (ts : List SpeltText) → AreSpelt file ts → are_apart (places_of (seen (events (definitions_of ts)))) ≡ true

@@ -1,8 +1,7 @@
 -- Tokens with other names spell the definitions with these names.
-use Rattle.std.proofs.Common.{[], ◌≡◌, ℕ, ◌+◌, List, ◌∷◌, ◌++◌, map, Bool, true, false, Option, None, Some, codes, refl, sym, ap, subst, ◌∙◌, ◌⊎◌, inl, inr}
+use Rattle.std.proofs.Common.{[], ◌≡◌, ℕ, ◌+◌, List, ◌∷◌, ◌++◌, map, Bool, true, false, Option, None, Some, codes, refl, sym, ap, ◌∙◌, ◌⊎◌, inl, inr}
 use Rattle.std.specs.List.{flat_map}
 use Rattle.isle_base.specs.Place.{Placed}
-use Rattle.isle_base_source.specs.declared.pos.Pos.{Pos}
 use Rattle.isle_ast_names.specs.Erased.{erase_name, erase_optional}
 use Rattle.isle_ast_names.specs.Tree.{Name}
 use Rattle.isle_ast_names.specs.Words.{BeginsAt, BehindWord, InForm, InParentheses, IsNonEmpty, SpellsAll, SpellsConstant, SpellsFlag, SpellsName, SpellsOptional, SpellsWord}
@@ -11,14 +10,14 @@ use Rattle.isle_ast_names.proofs.LawfulWords.{optional_name_lawful}
 use Rattle.isle_ast_verification.specs.Erased.{erase_spec}
 use Rattle.isle_ast_verification.specs.SpecDefinitionGrammar.{SpecClause, SpellsClause, SpellsSpecDefinition, match_clause, modifies_clause, provide_clause, require_clause}
 use Rattle.isle_ast_verification.specs.SpecGrammar.{SpellsHeaded, SpellsSpec}
-use Rattle.isle_ast_verification.specs.Tree.{SpecDefinition, SpecNode}
+use Rattle.isle_ast_verification.specs.Tree.{SpecDefinition}
 use Rattle.isle_ast_verification.proofs.Lawful.Specs.{spec_lawful}
 use Rattle.isle_ast.specs.Erased.{erase_signature}
-use Rattle.isle_ast.specs.Grammar.{SpellsDefinition, SpellsDefinitions}
+use Rattle.isle_ast.specs.Grammar.{SpellsDefinition}
 use Rattle.isle_ast.specs.ModelGrammar.{SpellsInstances, SpellsInstantiation, SpellsModel, SpellsModelContent, SpellsSignature, SpellsTag}
 use Rattle.isle_ast.specs.TermGrammar.{SpellsAttribute, SpellsAttributeKind, SpellsAttributeTarget, SpellsConversion, SpellsDeclaration, SpellsExtern, SpellsPair}
 use Rattle.isle_ast.specs.TypeGrammar.{SpellsFields, SpellsIndexedFields, SpellsModifiers, SpellsNamedField, SpellsTypeContent, SpellsTypeDefinition, SpellsVariant}
-use Rattle.isle_ast.specs.Tree.{NamedField, IndexedField, FieldList, unit_fields, struct_fields, tuple_fields, EnumVariant, TypeContent, primitive_type, enum_type, struct_type, TypeDefinition, Declaration, Attribute, AttributeTarget, term_target, rule_target, AttributeKind, chain_kind, priority_kind, tag_kind, TermSignature, TermInstantiation, ModelContent, type_model, const_model, ModelDefinition, ExternDefinition, extern_extractor, extern_constructor, extern_const, Conversion, Definition, type_def, rule, extractor, decl, attr, spec, spec_macro, model, state, form, instantiation, external, converter}
+use Rattle.isle_ast.specs.Tree.{NamedField, IndexedField, FieldList, unit_fields, struct_fields, tuple_fields, EnumVariant, TypeContent, primitive_type, enum_type, struct_type, TypeDefinition, Declaration, Attribute, AttributeTarget, term_target, rule_target, AttributeKind, chain_kind, priority_kind, tag_kind, TermSignature, TermInstantiation, ModelContent, type_model, const_model, ExternDefinition, extern_extractor, extern_constructor, extern_const, Conversion, Definition, type_def, rule, extractor, decl, attr, spec, spec_macro, model, state, form, instantiation, external, converter}
 use Rattle.isle_ast.proofs.Lawful.Definitions.{definition_lawful}
 use Rattle.isle_ast.proofs.Lawful.Forms.{signature_lawful}
 use Rattle.isle_ast.proofs.Lawful.ModelContents.{model_content_lawful, model_definition_lawful}

@@ -1,5 +1,5 @@
 -- Tokens with other names spell the patterns, expressions and rules with these names.
-use Rattle.std.proofs.Common.{[], ◌≡◌, ℕ, ℤ, List, ◌∷◌, ◌++◌, map, Bool, true, false, not, ◌&&◌, ◌||◌, Option, None, Some, bytes_eq, codes, refl, sym, ap, ◌∙◌, ◌⊎◌, inl, inr, ⊎_elim, ◌+◌, arith}
+use Rattle.std.proofs.Common.{[], ◌≡◌, ℕ, ℤ, List, ◌∷◌, ◌++◌, map, Bool, true, false, not, ◌&&◌, ◌||◌, Option, None, Some, bytes_eq, codes, refl, sym, ap, ◌∙◌, inl, inr, ⊎_elim, arith}
 use Rattle.std.proofs.lemmas.Bool.{and_from, and_parts}
 use Rattle.std.specs.List.{flat_map}
 use Rattle.isle_base.specs.Place.{Placed}
@@ -20,7 +20,7 @@ use Rattle.isle_ast_rules.proofs.Lawful.Expressions.{expression_begins, expressi
 use Rattle.isle_resolve.specs.declared.event.Kind.TheVariants as kinds
 use Rattle.isle_resolve.specs.declared.event.Role.{Role}
 use Rattle.isle_resolve.specs.declared.event.Role.TheVariants as roles
-use Rattle.isle_resolve.specs.Event.{EventNode, binds, closes, ends, occurs, reads, uses}
+use Rattle.isle_resolve.specs.Event.{EventNode, binds, ends, occurs, reads, uses}
 use Rattle.isle_resolve.specs.Events.{condition_events, expression_events, expression_list_events, extractor_events, let_ends, let_events, named, pattern_events, pattern_list_events, rule_events}
 use Rattle.isle_resolve.specs.Mapped.{map_condition, map_expression, map_expression_list, map_extractor, map_lets, map_pattern, map_pattern_list, map_rule}
 use Rattle.isle_index.specs.Renaming.{is_reserved}

@@ -4,13 +4,13 @@ use Rattle.std.proofs.lemmas.List.{map-append}
 use Rattle.std.specs.List.{flat_map}
 use Rattle.isle_base.specs.Bytes.{dollar}
 use Rattle.isle_base.specs.Place.{Placed}
-use Rattle.isle_base.specs.Token.{Tok, lparen, rparen, symbol}
+use Rattle.isle_base.specs.Token.{lparen, rparen, symbol}
 use Rattle.isle_base_source.specs.declared.pos.Pos.{Pos}
 use Rattle.isle_ast_names.specs.Tree.{Name}
 use Rattle.isle_ast_names.specs.Words.{BeginsAt, BehindWord, InParentheses, SpellsAll, SpellsConstant, SpellsToken, SpellsWord}
 use Rattle.isle_ast_names.proofs.Lawful.{Begins, Cuts, SpellsTested, Then, token_plain, word_plain}
 use Rattle.isle_resolve.specs.Event.{EventNode}
-use Rattle.isle_index_laws.specs.Kept.{AreKept, CanReplace, IsKept, IsKeptName}
+use Rattle.isle_index_laws.specs.Kept.{AreKept, IsKept, IsKeptName}
 use Rattle.isle_index_laws.proofs.Marks.{AreMarked, Mark, SameEvents, alone, constant, events_in_turn, hit, marks_in_turn, name, plain, plain_marks, token, tokens, tokens_of, wanted}
 
 -- a function that changes texts alone

@@ -1,5 +1,5 @@
 -- Tokens, with marks at those that names of the tree are read from.
-use Rattle.std.proofs.Common.{◌≡◌, ◌∷◌, ◌++◌, ℕ, ◌+◌, List, [], Bool, true, false, ◌&&◌, not, Option, None, Some, map, refl, ap, ◌∙◌, arith}
+use Rattle.std.proofs.Common.{◌≡◌, ◌∷◌, ◌++◌, ℕ, ◌+◌, List, [], Bool, true, false, ◌&&◌, not, Option, None, Some, map, refl, arith}
 use Rattle.isle_base.specs.Bytes.{dollar}
 use Rattle.isle_base.specs.Place.{Placed}
 use Rattle.isle_base.specs.Token.{symbol}

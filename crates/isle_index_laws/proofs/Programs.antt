@@ -9,7 +9,7 @@ use Rattle.isle_ast_names.specs.Tree.{Name}
 use Rattle.isle_resolve.specs.Event.{EventNode}
 use Rattle.isle_resolve.specs.Events.{events}
 use Rattle.isle_index.specs.Names.{NameNode, name_text}
-use Rattle.isle_index.specs.Renamed.{are_apart, replaced, same_place}
+use Rattle.isle_index.specs.Renamed.{replaced, same_place}
 use Rattle.isle_index.specs.Renaming.{IsAccepted}
 use Rattle.isle_index.specs.Scopes.{seen}
 use Rattle.isle_index_laws.specs.Kept.{AreKept}
@@ -53,24 +53,23 @@ texts_spell given new places file (t ∷ ts) spelt kept hits =
     let both = split f (events t.definitions) (events others) (subst (AreKept f) (events_of_both t.definitions others) kept) in
     let away = tokens_apart file (length t.text) t.text tokens spelt.0.1 (omega arith) in
     let hits_of : (p : Pos) → file ≤ p.file → list_any (same_place p) places ≡ true → 1 ≤ events_at c p (events t.definitions) + events_at c p (events others) = λ p past there.
-        let all = hits p past there in
-        let number = events_in_turn c p (events t.definitions) (events others) in
-        let same : events_at c p (events (definitions_of (t ∷ ts))) ≡ events_at c p (events t.definitions ++ events others) = ap (events_at c p) (events_of_both t.definitions others) in
-        omega arith in
-    (
+    let all = hits p past there in
+    let number = events_in_turn c p (events t.definitions) (events others) in
+    let same : events_at c p (events (definitions_of (t ∷ ts))) ≡ events_at c p (events t.definitions ++ events others) = ap (events_at c p) (events_of_both t.definitions others) in
+    omega arith in (
       (
         tokens,
         spelt.0.1,
         tokens_spell t.definitions (placed (in_file file) tokens) given new places spelt.0.2 away both.0
             (λ p here there.
-                let inside : p.file ≡ file = in_this p file tokens here in
-                let later = (text_names p (file + 1) ts spelt.1).1 (omega arith) in
-                let among = among_names c p (events others) in
-                let all = hits_of p (omega arith) there in
-                omega arith),
+            let inside : p.file ≡ file = in_this p file tokens here in
+            let later = (text_names p (file + 1) ts spelt.1).1 (omega arith) in
+            let among = among_names c p (events others) in
+            let all = hits_of p (omega arith) there in
+            omega arith),
       ),
       texts_spell given new places (file + 1) ts spelt.1 both.1
-      (λ p past there.
+          (λ p past there.
           let none = none_elsewhere p file tokens (λ e. omega arith) in
           let most = names_at_most t.definitions (placed (in_file file) tokens) spelt.0.2 p in
           let among = among_names c p (events t.definitions) in

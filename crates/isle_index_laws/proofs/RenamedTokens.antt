@@ -23,11 +23,11 @@ use Rattle.isle_index.specs.Renaming.{IsAccepted, changed_places, changes, membe
 use Rattle.isle_index.specs.Scopes.{BoundNode, SeenNode, after, binder, seen, seen_from}
 use Rattle.isle_index.proofs.Places.{chosen, is_at}
 use Rattle.isle_index.proofs.Texts.{or-false}
-use Rattle.isle_index_laws.specs.Kept.{AreKept, IsKept}
+use Rattle.isle_index_laws.specs.Kept.{AreKept}
 use Rattle.isle_index_laws.specs.RenamedTokens.{as_written, is_constant, positions, renamed_token, renamed_tokens, with_new_front}
 use Rattle.isle_index_laws.proofs.FollowedDefinitions.{definitions_follow}
 use Rattle.isle_index_laws.proofs.Follows.{Follow, KeepsPlaces}
-use Rattle.isle_index_laws.proofs.Marks.{AreMarked, Mark, alike, constant, events_at, hit, is_constant_kind, marked, marks_at, name, one_if, plain, token, tokens, tokens_of, wanted}
+use Rattle.isle_index_laws.proofs.Marks.{Mark, constant, events_at, hit, is_constant_kind, marked, marks_at, name, one_if, plain, token, tokens, tokens_of, wanted}
 use Rattle.isle_index_laws.proofs.KeptNames.{clash}
 use Rattle.isle_index_laws.proofs.NewNames.{not-false, same_text}
 use Rattle.isle_index_laws.proofs.Renamings.{replacing_kept}
@@ -161,10 +161,10 @@ pub names_apart : (ds : List Definition) (ts : List Placed) → SpellsDefinition
 names_apart ds ts h away =
     apart (places_of (seen (events ds)))
     (λ p.
-        let most = names_at_most ds ts h p in
-        let single = once (positions ts) away p in
-        let number = each_event p 0 [] (events ds) in
-        omega arith)
+    let most = names_at_most ds ts h p in
+    let single = once (positions ts) away p in
+    let number = each_event p 0 [] (events ds) in
+    omega arith)
 
 -- the events whose places change
 
@@ -248,9 +248,9 @@ place_hit ms given p i bound (e ∷ es) h =
     or-cases (changes ms given s && is_at p (position e)) (list_any (same_place p) (chosen (changes ms given) ss))
     (sym (choose (changes ms given) p s ss (changes ms given s)) ∙ h)
     (λ here.
-        let both = and_parts (changes ms given s) (is_at p (position e)) here in
-        let one = changed_hit ms given i bound e p both.0 both.1 in
-        omega arith)
+    let both = and_parts (changes ms given s) (is_at p (position e)) here in
+    let one = changed_hit ms given i bound e p both.0 both.1 in
+    omega arith)
     (λ later. let more = place_hit ms given p (i + 1) (after e i bound) es later in omega arith)
 
 -- marks and the tokens after the renaming
@@ -275,39 +275,39 @@ plain_free : (c : Bool) (places : List Pos) (t : Placed) (ms all : List Mark) �
 plain_free true places t ms all alone stand among =
     not-here (list_any (same_place t.pos) places)
     (λ h.
-        let own : one_if (same_place t.pos t.pos) ≡ 1 = ap one_if (self t.pos) in
-        let least = alone t.pos in
-        let more = (among t.pos).0 in
-        let there = stand t.pos (omega arith) h in
-        omega arith)
+    let own : one_if (same_place t.pos t.pos) ≡ 1 = ap one_if (self t.pos) in
+    let least = alone t.pos in
+    let more = (among t.pos).0 in
+    let there = stand t.pos (omega arith) h in
+    omega arith)
 plain_free false places t ms all alone stand among =
     not-here (list_any (same_place t.pos) places)
     (λ h.
-        let own : one_if (same_place t.pos t.pos) ≡ 1 = ap one_if (self t.pos) in
-        let least = alone t.pos in
-        let more = (among t.pos).0 in
-        let there = stand t.pos (omega arith) h in
-        omega arith)
+    let own : one_if (same_place t.pos t.pos) ≡ 1 = ap one_if (self t.pos) in
+    let least = alone t.pos in
+    let more = (among t.pos).0 in
+    let there = stand t.pos (omega arith) h in
+    omega arith)
 
 name_free : (places : List Pos) (n : Name) (ms all : List Mark) → Once all → Stand true places all → Among (name n ∷ ms) all → list_any (same_place n.pos) places ≡ false
 name_free places n ms all alone stand among =
     not-here (list_any (same_place n.pos) places)
     (λ h.
-        let own : hit false n.pos (marked (name n)) ≡ 1 = ap one_if (self n.pos) in
-        let least = alone n.pos in
-        let more = (among n.pos).1 in
-        let there = stand n.pos (omega arith) h in
-        omega arith)
+    let own : hit false n.pos (marked (name n)) ≡ 1 = ap one_if (self n.pos) in
+    let least = alone n.pos in
+    let more = (among n.pos).1 in
+    let there = stand n.pos (omega arith) h in
+    omega arith)
 
 constant_free : (places : List Pos) (n : Name) (ms all : List Mark) → Once all → Stand false places all → Among (constant n ∷ ms) all → list_any (same_place n.pos) places ≡ false
 constant_free places n ms all alone stand among =
     not-here (list_any (same_place n.pos) places)
     (λ h.
-        let own : hit true n.pos (marked (constant n)) ≡ 1 = ap one_if (self n.pos) in
-        let least = alone n.pos in
-        let more = (among n.pos).2 in
-        let there = stand n.pos (omega arith) h in
-        omega arith)
+    let own : hit true n.pos (marked (constant n)) ≡ 1 = ap one_if (self n.pos) in
+    let least = alone n.pos in
+    let more = (among n.pos).2 in
+    let there = stand n.pos (omega arith) h in
+    omega arith)
 
 abbrev front : List ℕ → List ℕ → Name → Name
 front old new n = record { text = with_front old new n.text; pos = n.pos }
@@ -370,11 +370,11 @@ tokens_spell ds ts given new places h away kept hits =
     let all : ts ≡ tokens_of one.marks = one.is ∙ append-nil (tokens_of one.marks) in
     let least : Once one.marks = marks_once ts one.marks away one.is in
     let stand : Stand (is_constant given) places one.marks = λ p here there.
-        let number = each_token p one.marks in
-        let same_number : places_at p (positions ts) ≡ places_at p (positions (tokens_of one.marks)) = ap (λ us. places_at p (positions us)) all in
-        let hit_there = hits p (omega arith) there in
-        let marks_there = one.marked (is_constant given) p in
-        omega arith in
+    let number = each_token p one.marks in
+    let same_number : places_at p (positions ts) ≡ places_at p (positions (tokens_of one.marks)) = ap (λ us. places_at p (positions us)) all in
+    let hit_there = hits p (omega arith) there in
+    let marks_there = one.marked (is_constant given) p in
+    omega arith in
     let moved = tokens_move (is_constant given) places (name_text given) new one.marks one.marks least stand (λ p. (omega arith, omega arith, omega arith)) in
     subst (SpellsDefinitions (map_definitions f ds))
     (append-nil (tokens f one.marks) ∙ moved ∙ sym (ap (renamed_tokens places given new) all))

@@ -1,4 +1,4 @@
-//! Laws of renaming and of writable trees, which run no code.
+//! Laws of renaming, of writable trees and of the tokens that spell them, which run no code.
 
 ghost use Rattle.std.specs.Prelude.{◌≡◌, ℕ, List, None, true};
 ghost use Rattle.isle_ast.specs.Grammar.{SpellsDefinitions};
