@@ -1,0 +1,11 @@
+pub mod Apart
+pub mod FollowedDefinitions
+pub mod FollowedRules
+pub mod Follows
+pub mod KeptNames
+pub mod KeptTrees
+pub mod Marks
+pub mod NewNames
+pub mod Programs
+pub mod RenamedTokens
+pub mod Renamings
