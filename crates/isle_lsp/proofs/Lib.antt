@@ -4,3 +4,4 @@ pub mod Sent
 pub mod Talks
 pub mod Tokens
 pub mod Values
+pub mod Words

@@ -8,10 +8,10 @@ use Rattle.isle_cli.specs.Streams.{AppendsBeginning}
 use Rattle.isle_cli.specs.declared.failure.Failure.{Failure}
 use Rattle.isle_cli.specs.declared.failure.Failure.TheVariants.{Refused, Usage, Input, Memory, Output}
 use Rattle.isle_cli.proofs.StreamLemmas.{AppendsBeginning-behind}
-use Rattle.isle_lsp_protocol.specs.Frames.{frame, frame_at, Fails}
-use Rattle.isle_lsp_protocol.specs.declared.frames.FrameFault.{FrameFault}
-use Rattle.isle_lsp_protocol.specs.declared.frames.FrameFault.TheVariants as faults
-use Rattle.isle_lsp_protocol.proofs.Whole.{none_at_end}
+use Rattle.isle_lsp_frames.specs.Frames.{frame, frame_at, Fails}
+use Rattle.isle_lsp_frames.specs.declared.frames.FrameFault.{FrameFault}
+use Rattle.isle_lsp_frames.specs.declared.frames.FrameFault.TheVariants as faults
+use Rattle.isle_lsp_frames.proofs.Whole.{none_at_end}
 use Rattle.isle_lsp_protocol.specs.declared.machine.State.{State}
 use Rattle.isle_lsp_protocol.specs.declared.machine.State.TheVariants.{Fresh, Running, ShutDown, Ended, Aborted}
 use Rattle.serde_json.specs.Data.{Data}

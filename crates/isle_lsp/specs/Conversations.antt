@@ -4,9 +4,9 @@ use Rattle.std.specs.Io.KnownBytes.{Appends}
 use Rattle.serde_json.specs.Data.{Data}
 use Rattle.isle_cli.specs.Failure.{status_of}
 use Rattle.isle_cli.specs.Streams.{AppendsBeginning}
-use Rattle.isle_lsp_protocol.specs.Frames.{frame, frame_at}
-use Rattle.isle_lsp_protocol.specs.declared.frames.FrameFault.{FrameFault}
-use Rattle.isle_lsp_protocol.specs.declared.frames.FrameFault.TheVariants as faults
+use Rattle.isle_lsp_frames.specs.Frames.{frame, frame_at}
+use Rattle.isle_lsp_frames.specs.declared.frames.FrameFault.{FrameFault}
+use Rattle.isle_lsp_frames.specs.declared.frames.FrameFault.TheVariants as faults
 use Rattle.isle_cli.specs.declared.failure.Failure.{Failure}
 use Rattle.isle_cli.specs.declared.failure.Failure.TheVariants.{Refused, Usage, Input, Memory, Output}
 use Rattle.isle_lsp_protocol.specs.Machine.{next_state, action_of}

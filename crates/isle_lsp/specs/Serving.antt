@@ -15,8 +15,7 @@ use Rattle.isle_lsp_protocol.specs.declared.machine.Action.TheVariants.{Ignore, 
 use Rattle.isle_lsp_protocol.specs.Parameters as parameters
 use Rattle.isle_lsp_protocol.specs.Replies as replies
 use Rattle.isle_lsp_protocol.specs.Replies.{IsTextOf, Outcome, done, error_outcome, reason_of, reply, reply_id}
-use Rattle.isle_lsp_protocol.specs.declared.results.TheConstants.{CAPABILITIES}
-use Rattle.serde_json.specs.Read.{read}
+use Rattle.isle_lsp_protocol.specs.Capabilities.{initialize_result}
 use Rattle.isle_lsp_features.specs.Answers as names
 use Rattle.isle_lsp_features.specs.Programs.{Question}
 use Rattle.isle_lsp.specs.Formatted.{IsFormatting}
@@ -85,7 +84,7 @@ IsNamed request d held view o = names.IsAnswer (question request d held view) (p
 
 -- the outcome of a request with these parameters, in this state
 abbrev pub IsResult : requests.Request → Data → Held → View → Outcome → Type 0
-IsResult Initialize d held view o = (value : Data) × (read CAPABILITIES.now ≡ Some value) × (o ≡ done value)
+IsResult Initialize d held view o = o ≡ done initialize_result
 IsResult Shutdown d held view o = o ≡ done null
 IsResult Formatting d held view o = IsFormattingOf (document_in d held.documents) o
 IsResult Unknown d held view o = o ≡ error_outcome MethodNotFound

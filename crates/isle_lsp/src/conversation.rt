@@ -1,12 +1,15 @@
 //! The main loop of a session with an editor, over any reader and any two writers.
 
-ghost use Rattle.std.specs.Prelude.{◌≡◌, ◌⊎◌, ◌≤◌, ℕ, IfErr, IfOk, List, OnErr, OnOk, Some};
+ghost use Rattle.std.specs.Prelude.{◌≡◌, ◌≢◌, ◌⊎◌, ◌≤◌, ℕ, IfErr, IfOk, List, OnErr, OnOk, Some};
 ghost use Rattle.std.specs.Prelude.{option_map, string_bytes};
+ghost use Rattle.std.specs.Io.KnownBytes.{Keeps};
 ghost use Rattle.serde_json.specs.View.{view};
-ghost use Rattle.isle_cli.specs.declared.failure.Failure.TheVariants.{Memory, Output};
+ghost use Rattle.isle_cli.specs.declared.failure.Failure.TheVariants.{Memory, Output, Usage};
+ghost use Rattle.isle_cli.specs.Streams.{WritesBeginning};
+ghost use Rattle.isle_lsp.specs.CommandLine.{IsFailureText};
 ghost use Rattle.isle_lsp.specs.Conversations.{AnswersAs, AnswersWithin, Converses, EndsAs};
-ghost use Rattle.isle_lsp.specs.Conversations.{Explains, FromFault, IsOver, IsRefusal, Ran};
-ghost use Rattle.isle_lsp.specs.Conversations.{ShowsWithin, StopsAt, World, has_exited};
+ghost use Rattle.isle_lsp.specs.Conversations.{Explains, FromFault, IsEarly, IsOver, IsRefusal};
+ghost use Rattle.isle_lsp.specs.Conversations.{Ran, ShowsWithin, StopsAt, World, has_exited};
 ghost use Rattle.isle_lsp_files.specs.Disks.{Moment, view_of};
 ghost use Rattle.isle_lsp.specs.Serving.{asked, held_of, named_uri};
 
@@ -16,15 +19,16 @@ use isle_cli::failure::Failure;
 use isle_cli::program::report;
 use isle_lsp_features::Gathered;
 use isle_lsp_files::disk::{Disk, View};
+use isle_lsp_frames::{FrameFault, read_frame, write_frame};
 use isle_lsp_protocol::decoding::{decode, message_in};
-use isle_lsp_protocol::frames::{FrameFault, read_frame, write_frame};
 use isle_lsp_protocol::machine::{Action, Notification, Request, State, step};
 use isle_lsp_protocol::parameters::uri_of;
 use serde_json::Value;
 use std::alloc::{AllocError, Global};
 use std::io::{BufRead, Write};
 
-/// Runs the session until `exit` or the end of the input, and returns the exit status.
+/// Runs the session until `exit` or the end of the input, and returns the exit status: 0, 1, 3, 4
+/// or 5. Standard error gets the message of the status, if any.
 pub fn converse<D: Disk, I: BufRead, W: Write, E: Write>(
     alloc: Global,
     disk: &mut D,
@@ -33,9 +37,13 @@ pub fn converse<D: Disk, I: BufRead, W: Write, E: Write>(
     faults: &mut E,
 ) -> u8
     ensures statuses { result ≤ 5 }
+    ensures no_usage { result ≢ 2 }
     ensures told { (world : World) → I.remaining input.old ≡ Some world.bytes
         → D.moments disk.old ≡ Some world.moments → Converses world result
         (I.remaining input.new) (W.contents output.old) (W.contents output.new) }
+    ensures quiet { result ≡ 0 → Keeps (E.contents faults.old) (E.contents faults.new) }
+    ensures reason { 2 ≤ result → WritesBeginning (E.contents faults.old)
+        (E.contents faults.new) (IsFailureText result) }
 {
     match main_loop(alloc, disk, input, output) {
         Ok(state) => end_status(alloc, state, faults),
@@ -46,19 +54,33 @@ pub fn converse<D: Disk, I: BufRead, W: Write, E: Write>(
 /// The exit status of a session that ended in this state.
 fn end_status<E: Write>(alloc: Global, state: State, faults: &mut E) -> u8
     ensures statuses { result ≤ 5 }
+    ensures no_usage { result ≢ 2 }
     ensures state { EndsAs state result }
+    ensures quiet { result ≡ 0 → Keeps (E.contents faults.old) (E.contents faults.new) }
+    ensures reason { 2 ≤ result → WritesBeginning (E.contents faults.old)
+        (E.contents faults.new) (IsFailureText result) }
 {
     match state {
         State::Ended => 0,
         State::Aborted => 1,
-        State::Fresh | State::Running | State::ShutDown => {
-            report(
-                &PROGRAM,
-                &refusal(alloc, "the input ends before `exit`"),
-                faults,
-            )
-        }
+        State::Fresh | State::Running | State::ShutDown => report_end(alloc, faults),
     }
+}
+
+/// Reports that the input ends before `exit`, and returns the exit status.
+fn report_end<E: Write>(alloc: Global, faults: &mut E) -> u8
+    ensures statuses { result ≤ 5 }
+    ensures no_usage { result ≢ 2 }
+    ensures early { IsEarly result }
+    ensures quiet { result ≡ 0 → Keeps (E.contents faults.old) (E.contents faults.new) }
+    ensures reason { 2 ≤ result → WritesBeginning (E.contents faults.old)
+        (E.contents faults.new) (IsFailureText result) }
+{
+    report(
+        &PROGRAM,
+        &refusal(alloc, "the input ends before `exit`"),
+        faults,
+    )
 }
 
 /// Answers one message after another, until `exit` or the end of the input.
@@ -78,6 +100,7 @@ fn main_loop<D: Disk, I: BufRead, W: Write>(
         → D.moments disk.old ≡ Some world.moments
         → IfErr result (λ failure. Explains failure world
         (W.contents output.old) (W.contents output.new)) }
+    ensures kind { IfErr result (λ failure. failure ≢ Usage) }
 {
     let mut server = Server::new(alloc);
     let mut gathered = Gathered::new(alloc);

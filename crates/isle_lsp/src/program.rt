@@ -1,8 +1,10 @@
 //! The command line of the program.
 
-ghost use Rattle.std.specs.Prelude.{◌≡◌, ◌≤◌, ◌⊎◌, Some, map, string_bytes, true};
-ghost use Rattle.isle_cli.specs.Streams.{AppendsBeginning};
-ghost use Rattle.isle_lsp.specs.CommandLine.{AreNone, AreWrong, asks_nothing, usage};
+ghost use Rattle.std.specs.Prelude.{◌≡◌, ◌≤◌, ◌⊎◌, Some, false, map, string_bytes, true};
+ghost use Rattle.std.specs.Io.KnownBytes.{Keeps};
+ghost use Rattle.isle_cli.specs.Streams.{AppendsBeginning, WritesBeginning};
+ghost use Rattle.isle_lsp.specs.CommandLine.{AreWrong, AskFor, IsFailureText, Prints};
+ghost use Rattle.isle_lsp.specs.CommandLine.{asks_nothing, is_no_help, usage};
 ghost use Rattle.isle_lsp.specs.Conversations.{Converses, World};
 
 use crate::conversation::converse;
@@ -46,22 +48,11 @@ Exit status:
   5  the output cannot be written
 ";
 
-/// This program, so that clauses can name it.
-fn this_program() -> Program
-    ensures { result.usage.now ≡ usage }
-{
-    PROGRAM
-}
-
-/// Its own options.
-fn own_options() -> Options
-    ensures { AreNone result }
-{
-    Options {
-        flags: &[],
-        settings: &[],
-    }
-}
+/// It has no options of its own.
+const OPTIONS: Options = Options {
+    flags: &[],
+    settings: &[],
+};
 
 /// Serves an editor, and returns the exit status.
 ///
@@ -82,22 +73,55 @@ pub fn run<D: Disk, I: BufRead, W: Write, E: Write>(
     faults: &mut E,
 ) -> u8
     ensures statuses { result ≤ 5 }
+
+    // No words, or `--stdio` alone, begin a session.
     ensures told { asks_nothing (map string_bytes words.now) ≡ true → (world : World)
         → I.remaining input.old ≡ Some world.bytes → D.moments disk.old ≡ Some world.moments
         → Converses world result
         (I.remaining input.new) (W.contents output.old) (W.contents output.new) }
+
+    // Other words print the help or the version, or are wrong. Then nothing is read.
+    ensures prints { asks_nothing (map string_bytes words.now) ≡ false → Prints
+        (map string_bytes words.now) result (W.contents output.old) (W.contents output.new) }
+    ensures unread { asks_nothing (map string_bytes words.now) ≡ false
+        → (D.moments disk.new ≡ D.moments disk.old)
+        × (I.remaining input.new ≡ I.remaining input.old) }
+
+    // Status 2 is a usage error.
+    ensures usage { result ≡ 2 → AreWrong (map string_bytes words.now) }
     ensures wrong { AreWrong (map string_bytes words.now) → (result ≡ 4) ⊎ ((result ≡ 2)
         × AppendsBeginning (E.contents faults.old) (E.contents faults.new) usage) }
+
+    // With status 0 standard error gets nothing, and past 1 the text of the status.
+    ensures quiet { result ≡ 0 → Keeps (E.contents faults.old) (E.contents faults.new) }
+    ensures reason { 2 ≤ result → WritesBeginning (E.contents faults.old)
+        (E.contents faults.new) (IsFailureText result) }
 {
     if asks_nothing(words) {
         return converse(alloc, disk, input, output, faults);
     }
-    let (program, options) = (this_program(), own_options());
-    match requested(alloc, &options, words) {
-        Ok(Request::Help) => tell(&program, PROGRAM.help, output, faults),
-        Ok(Request::Version) => tell(&program, PROGRAM.version, output, faults),
-        Ok(Request::Work(_)) => report(&program, &Failure::Usage, faults),
-        Err(failure) => report(&program, &failure, faults),
+    inform(alloc, words, output, faults)
+}
+
+/// Prints the help or the version, if the words ask for it, and returns the exit status.
+fn inform<W: Write, E: Write>(alloc: Global, words: &[String], output: &mut W, faults: &mut E) -> u8
+    ensures statuses { result ≤ 5 }
+    ensures prints { Prints (map string_bytes words.now) result
+        (W.contents output.old) (W.contents output.new) }
+    ensures usage { result ≡ 2
+        → AskFor (map string_bytes words.now) (λ what. is_no_help what ≡ true) }
+    ensures wrong { AskFor (map string_bytes words.now) (λ what. is_no_help what ≡ true)
+        → (result ≡ 4) ⊎ ((result ≡ 2)
+        × AppendsBeginning (E.contents faults.old) (E.contents faults.new) usage) }
+    ensures quiet { result ≡ 0 → Keeps (E.contents faults.old) (E.contents faults.new) }
+    ensures reason { 2 ≤ result → WritesBeginning (E.contents faults.old)
+        (E.contents faults.new) (IsFailureText result) }
+{
+    match requested(alloc, &OPTIONS, words) {
+        Ok(Request::Help) => tell(&PROGRAM, PROGRAM.help, output, faults),
+        Ok(Request::Version) => tell(&PROGRAM, PROGRAM.version, output, faults),
+        Ok(Request::Work(_)) => report(&PROGRAM, &Failure::Usage, faults),
+        Err(failure) => report(&PROGRAM, &failure, faults),
     }
 }
 

@@ -24,10 +24,10 @@ use isle_lsp_features::{Gathered, Question};
 use isle_lsp_files::disk::View;
 use isle_lsp_files::documents::{Document, close, document_at, open, text_of};
 use isle_lsp_files::texts::program_of;
+use isle_lsp_protocol::capabilities::initialize_result;
 use isle_lsp_protocol::machine::{Action, ErrorCode, Notification, Request, State};
 use isle_lsp_protocol::parameters::{takes_document_changes, text_after, uri_of, version_of};
 use isle_lsp_protocol::replies::{Outcome, error_outcome, reason_of, reply_id};
-use isle_lsp_protocol::results::capabilities;
 use isle_lsp_protocol::{parameters, replies};
 use serde_json::Value;
 use std::alloc::{AllocError, Global};
@@ -308,7 +308,7 @@ fn outcome_in<'a>(
     ensures err { IfErr result (λ failure. failure ≡ Memory) }
 {
     match request {
-        Request::Initialize => Ok(Outcome::Done(capabilities(alloc)?)),
+        Request::Initialize => Ok(Outcome::Done(initialize_result(alloc)?)),
         Request::Shutdown => Ok(Outcome::Done(Value::Null)),
         Request::Formatting => {
             formatting_outcome(alloc, document_in(&server.documents, message))

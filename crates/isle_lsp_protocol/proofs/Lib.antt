@@ -1,11 +1,6 @@
 pub mod Changes
 pub mod Folders
-pub mod Heads
 pub mod Ids
-pub mod Laws
-pub mod Lines
 pub mod Listings
-pub mod Numbers
 pub mod Readings
 pub mod Tokens
-pub mod Whole

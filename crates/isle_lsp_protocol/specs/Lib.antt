@@ -1,5 +1,5 @@
+pub mod Capabilities
 pub mod Decoding
-pub mod Frames
 pub mod Items
 pub mod Machine
 pub mod Parameters

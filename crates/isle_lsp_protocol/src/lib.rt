@@ -1,9 +1,8 @@
-//! The Language Server Protocol: the frames of messages, the messages as JSON, and the life of a
-//! session.
+//! The messages of the Language Server Protocol as JSON, and the life of a session.
 #![tactic(auto)]
 
+pub mod capabilities;
 pub mod decoding;
-pub mod frames;
 pub mod items;
 pub mod machine;
 pub mod parameters;

@@ -1,39 +1,12 @@
 //! The results of requests, and their parts.
 
-ghost use Rattle.std.specs.Prelude.{◌≡◌, IfErr, IfOk, Some};
-ghost use Rattle.serde_json.specs.Read.{read};
+ghost use Rattle.std.specs.Prelude.{◌≡◌, IfOk};
 ghost use Rattle.serde_json.specs.View.{view};
-ghost use Rattle.isle_cli.specs.declared.failure.Failure.TheVariants.{Memory};
 ghost use Rattle.isle_lsp_protocol.specs.Results as wanted;
 
-use isle_cli::failure::Failure;
 use isle_lsp_text::positions::{Position, Range};
 use serde_json::{Value, json, put};
 use std::alloc::{AllocError, Global};
-
-/// The result of `initialize`: the capabilities of the server.
-pub const CAPABILITIES: &str = "\
-    {\"capabilities\":{\"completionProvider\":\
-    {\"resolveProvider\":true,\"triggerCharacters\":[\".\",\"$\"]},\
-    \"definitionProvider\":true,\
-    \"documentFormattingProvider\":true,\"documentHighlightProvider\":true,\
-    \"documentSymbolProvider\":true,\"hoverProvider\":true,\"positionEncoding\":\"utf-16\",\
-    \"referencesProvider\":true,\"renameProvider\":{\"prepareProvider\":true},\
-    \"textDocumentSync\":{\"change\":2,\"openClose\":true},\
-    \"workspace\":{\"workspaceFolders\":{\"changeNotifications\":true,\"supported\":true}},\
-    \"workspaceSymbolProvider\":true},\
-    \"serverInfo\":{\"name\":\"isle-lsp\",\"version\":\"0.137.1\"}}";
-
-/// The result of `initialize`. The only error is `Memory`.
-pub fn capabilities(alloc: Global) -> Result<Value, Failure>
-    ensures ok { IfOk result (λ value. read CAPABILITIES.now ≡ Some (view value)) }
-    ensures err { IfErr result (λ failure. failure ≡ Memory) }
-{
-    match Value::from_str(alloc, CAPABILITIES) {
-        Ok(value) => Ok(value),
-        Err(_) => Err(Failure::Memory),
-    }
-}
 
 fn position_value(alloc: Global, position: Position) -> Result<Value, AllocError>
     ensures { IfOk result (λ value. view value ≡ wanted.position_data position) }

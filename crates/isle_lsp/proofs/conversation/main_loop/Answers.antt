@@ -2,6 +2,7 @@ use Rattle.std.proofs.Common.{inr, ap, sym, ◌∙◌}
 use Rattle.std.proofs.lemmas.Result.{err_from_is_err_and}
 use Rattle.isle_lsp.specs.Conversations.{has_exited}
 use Rattle.isle_lsp.proofs.Talks.{over, runs_start, runs_on, ran, ran_end, cut, explains_fault, explains_answer}
+use Rattle.isle_lsp.proofs.Words.{answer_not_usage, fault_not_usage}
 use Rattle.isle_lsp.proofs.conversation.main_loop.Goals as goal
 
 pub loop-init : goal.loop-init
@@ -42,3 +43,11 @@ loop-preserved g c = record {
 
 pub returns-clause-err : goal.returns-clause-err
 returns-clause-err g c = λ world e m. cut world _ _ _ _ _ (c.loop.invariant.runs world e m)
+
+pub returns-in-Err-clause-kind : goal.returns-in-Err-clause-kind
+returns-in-Err-clause-kind g c = fault_not_usage c.in-Err.fault _ c.failure_of.ensures
+
+pub returns-in_err-answer_message-clause-kind : goal.returns-in_err-answer_message-clause-kind
+returns-in_err-answer_message-clause-kind g c =
+    let p = err_from_is_err_and c.from_residual.result c.from_residual.ensures.1 in
+    rw (p.1, p.2) (answer_not_usage c.in_err-answer_message.field-0.0 c.in_err-answer_message.ensures.kind)

@@ -1,0 +1,45 @@
+-- What the server tells the client when a session begins.
+use Rattle.std.specs.Prelude.{codes, true}
+use Rattle.serde_json.specs.Data.{Data, array, boolean, item, member, no_items, no_members, number, object, string, unsigned}
+
+-- names are completed, also at `.` and `$`, and the chosen ones are described
+abbrev pub completion : Data
+completion =
+    object (member (codes "resolveProvider") (boolean true)
+    (member (codes "triggerCharacters") (array (item (string (codes ".")) (item (string (codes "$")) no_items))) no_members))
+
+-- before a rename its range is told
+abbrev pub rename : Data
+rename = object (member (codes "prepareProvider") (boolean true) no_members)
+
+-- documents are opened and closed; a change, by its kind 2, is that of a range
+abbrev pub text_document_sync : Data
+text_document_sync = object (member (codes "change") (number (unsigned 2)) (member (codes "openClose") (boolean true) no_members))
+
+-- there may be several folders, and their changes are followed
+abbrev pub workspace_folders : Data
+workspace_folders = object (member (codes "changeNotifications") (boolean true) (member (codes "supported") (boolean true) no_members))
+
+-- what the server can do; positions count units of UTF-16
+abbrev pub capabilities : Data
+capabilities =
+    object (member (codes "completionProvider") completion
+    (member (codes "definitionProvider") (boolean true)
+    (member (codes "documentFormattingProvider") (boolean true)
+    (member (codes "documentHighlightProvider") (boolean true)
+    (member (codes "documentSymbolProvider") (boolean true)
+    (member (codes "hoverProvider") (boolean true)
+    (member (codes "positionEncoding") (string (codes "utf-16"))
+    (member (codes "referencesProvider") (boolean true)
+    (member (codes "renameProvider") rename
+    (member (codes "textDocumentSync") text_document_sync
+    (member (codes "workspace") (object (member (codes "workspaceFolders") workspace_folders no_members))
+    (member (codes "workspaceSymbolProvider") (boolean true) no_members))))))))))))
+
+-- its name, and the version of the language
+abbrev pub server_info : Data
+server_info = object (member (codes "name") (string (codes "isle-lsp")) (member (codes "version") (string (codes "0.137.1")) no_members))
+
+-- the result of `initialize`
+abbrev pub initialize_result : Data
+initialize_result = object (member (codes "capabilities") capabilities (member (codes "serverInfo") server_info no_members))
