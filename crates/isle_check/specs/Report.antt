@@ -1,7 +1,8 @@
 -- What is told of a program: a line for each text that spells no tree, or else for each finding.
-use Rattle.std.specs.Prelude.{◌≡◌, ℕ, ◌==◌, List, [], ◌∷◌, ◌++◌, Bool, true, false, Option, if◌then◌else◌, codes, count_by}
+use Rattle.std.specs.Prelude.{◌≡◌, ℕ, ◌==◌, List, [], ◌∷◌, ◌++◌, Bool, true, false, Option, if◌then◌else◌, codes, count_by, map}
 use Rattle.std.specs.Fmt.{decimal}
 use Rattle.std.specs.List.{flat_map}
+use Rattle.isle_base_source.specs.Lines.{line_ends}
 use Rattle.isle_base_source.specs.Source.{Source}
 use Rattle.isle_base_source.specs.declared.error.Error.{Error}
 use Rattle.isle_ast.specs.Tree.{Definition}
@@ -36,6 +37,10 @@ finding_line sources f =
       is_error = is_error f.kind;
       text = line_at sources f.pos (severity (is_error f.kind)) (message_text (kind_words f.kind));
     }
+
+-- where the lines of each text end
+abbrev pub line_maps : List Source → List (List ℕ)
+line_maps sources = map (λ s. line_ends s.text) sources
 
 -- the line of a finding whose kind isn't allowed
 abbrev pub line_for : List Given → List Source → FindingNode → List LineNode

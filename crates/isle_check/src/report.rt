@@ -8,18 +8,22 @@ ghost use Rattle.isle_cli.specs.Sources.{source_of};
 ghost use Rattle.isle_cli.specs.declared.failure.Failure.TheVariants.{Memory};
 ghost use Rattle.isle_check_core.specs.Views.{finding_of, findings_of};
 ghost use Rattle.isle_check.specs.Report.{IsReport, count_of, count_text, counted, finding_lines};
-ghost use Rattle.isle_check.specs.Report.{joined, line_for, lines_of, refused, rendered, report_in};
+ghost use Rattle.isle_check.specs.Report.{joined, line_for, line_maps, lines_of, refused, rendered};
+ghost use Rattle.isle_check.specs.Report.{report_in};
 ghost use Rattle.isle_check.specs.ReportView.{lines_at, report_of};
+ghost use Rattle.isle_program.specs.Messages.{line_at};
 ghost use Rattle.isle_program.specs.Reading.{IsReading};
 
 use crate::options::is_allowed;
 use isle_ast::ast::Def;
+use isle_base::lexer::Pos;
 use isle_base_source::error::Error;
+use isle_base_source::files::LineMap;
 use isle_check_core::{Finding, check};
 use isle_cli::arguments::Argument;
 use isle_cli::failure::Failure;
 use isle_cli::sources::Source;
-use isle_program::messages::{line_at, refusal_lines};
+use isle_program::messages::{place_line, refusal_lines};
 use isle_program::trees::{Reading, drop_reading, read_all, refused_count};
 use std::alloc::{AllocError, Global};
 
@@ -120,23 +124,38 @@ pub fn lines_of(
         (definitions_of defs.now)) }
 {
     let found = check(alloc, defs)?;
-    finding_lines(alloc, sources, arguments, &found)
+    let maps = line_maps(alloc, sources)?;
+    finding_lines(alloc, sources, &maps, arguments, &found)
 }
 
-/// Returns the lines of findings, in order, without the kinds that `--allow` names.
+/// Returns the line map of each text.
+fn line_maps(alloc: Global, sources: &[Source]) -> Result<Vec<LineMap>, AllocError>
+    ensures { IfOk result (λ maps. maps.items ≡ line_maps (map source_of sources.now)) }
+{
+    let mut maps = Vec::new(alloc);
+    for source in sources {
+        maps.push(LineMap::from_str(alloc, source.text.as_str())?)?;
+    }
+    Ok(maps)
+}
+
+/// Returns the lines of findings, in order, without the kinds that `--allow` names. `maps` are the
+/// line maps of the texts.
 fn finding_lines(
     alloc: Global,
     sources: &[Source],
+    maps: &[LineMap],
     arguments: &[Argument],
     found: &[Finding],
 ) -> Result<Vec<Line>, AllocError>
+    requires { maps.now ≡ line_maps (map source_of sources.now) }
     ensures { IfOk result (λ lines. lines_at lines.items
         ≡ finding_lines (map given_of arguments.now) (map source_of sources.now)
         (findings_of found.now)) }
 {
     let mut lines = Vec::new(alloc);
     for finding in found {
-        add_line(alloc, sources, arguments, finding, &mut lines)?;
+        add_line(alloc, sources, maps, arguments, finding, &mut lines)?;
     }
     Ok(lines)
 }
@@ -144,10 +163,12 @@ fn finding_lines(
 fn add_line(
     alloc: Global,
     sources: &[Source],
+    maps: &[LineMap],
     arguments: &[Argument],
     finding: &Finding,
     lines: &mut Vec<Line>,
 ) -> Result<(), AllocError>
+    requires { maps.now ≡ line_maps (map source_of sources.now) }
     ensures { OnOk result (lines_at lines.new.items ≡ lines_at lines.old.items
         ++ line_for (map given_of arguments.now) (map source_of sources.now)
         (finding_of finding.now)) }
@@ -159,9 +180,38 @@ fn add_line(
     let is_error = finding.kind.is_error();
     let severity = if is_error { "error" } else { "warning" };
     let message = format!(in alloc; "{} [{}]", words.message, words.name)?;
-    let text = line_at(alloc, sources, finding.pos, severity, message.as_str())?;
+    let text = line_at(
+        alloc,
+        sources,
+        maps,
+        finding.pos,
+        severity,
+        message.as_str(),
+    )?;
     lines.push(Line { is_error, text })?;
     Ok(())
+}
+
+/// Returns the line of a message about a position; empty if no text has the number of its file.
+/// `maps` are the line maps of the texts.
+fn line_at(
+    alloc: Global,
+    sources: &[Source],
+    maps: &[LineMap],
+    pos: Pos,
+    severity: &str,
+    message: &str,
+) -> Result<String, AllocError>
+    requires { maps.now ≡ line_maps (map source_of sources.now) }
+    ensures { IfOk result (λ line. string_bytes line
+        ≡ line_at (map source_of sources.now) pos severity.now message.now) }
+{
+    if pos.file >= sources.len() {
+        return Ok(String::new(alloc));
+    }
+    let source = &sources[pos.file];
+    let lines = &maps[pos.file];
+    place_line(alloc, source, lines, pos.offset, severity, message)
 }
 
 /// Returns the report of these lines.
