@@ -1,8 +1,8 @@
 -- The texts of a program.
-use Rattle.std.specs.Prelude.{ℕ, List, ◌++◌, Bool, true, false, not, ◌&&◌, ◌||◌, None, bytes_eq, filter, map}
+use Rattle.std.specs.Prelude.{ℕ, List, [], ◌∷◌, ◌++◌, Bool, true, false, not, ◌&&◌, ◌||◌, Option, None, Some, bytes_eq, filter, map, if◌then◌else◌}
 use Rattle.std.specs.List.{list_any}
 use Rattle.isle_lsp_files.specs.Disks.{File, View}
-use Rattle.isle_lsp_files.specs.Documents.{Document, has_file, latest}
+use Rattle.isle_lsp_files.specs.Documents.{Document, latest}
 use Rattle.isle_lsp_features.specs.Programs.{Text}
 use Rattle.isle_program_manifest.specs.Membership as membership
 
@@ -18,15 +18,33 @@ open_text view d = record { uri = d.uri; file = d.file; is_shared = is_shared vi
 abbrev pub closed_text : View → File → Text
 closed_text view f = record { uri = f.uri; file = f.path; is_shared = is_shared view f.path; version = None; text = f.text }
 
-abbrev pub is_closed : List Document → File → Bool
-is_closed docs f = not (has_file f.path docs)
-
+-- the open documents as texts, each file once
 abbrev pub open_texts : View → List Document → List Text
 open_texts view docs = map (open_text view) (latest docs)
 
--- the open documents, and of the files on the disk those that are not open
+-- the text of this file
+abbrev pub text_at : List ℕ → List Text → Option Text
+text_at file [] = None
+text_at file (t ∷ ts) = if bytes_eq t.file file then Some t else text_at file ts
+
+abbrev pub open_or_closed : Option Text → Text → Text
+open_or_closed None closed = closed
+open_or_closed (Some text) closed = text
+
+-- a file as it is open, or else as it is on the disk
+abbrev pub file_text : View → (opened : List Text) → File → Text
+file_text view opened f = open_or_closed (text_at f.path opened) (closed_text view f)
+
+abbrev pub file_texts : View → (opened : List Text) → List Text
+file_texts view opened = map (file_text view opened) view.files
+
+-- whether a view shows this file
+abbrev pub shows : View → List ℕ → Bool
+shows view file = list_any (λ f. bytes_eq f.path file) view.files
+
+-- the files on the disk, as they are open or there, and then the open documents that are none of these
 abbrev pub all_texts : List Document → View → List Text
-all_texts docs view = open_texts view docs ++ map (closed_text view) (filter (is_closed docs) view.files)
+all_texts docs view = file_texts view (open_texts view docs) ++ filter (λ t. not (shows view t.file)) (open_texts view docs)
 
 -- whether a text is the file that is asked about, or in a program with it
 abbrev pub is_beside : View → Text → Bool

@@ -1,6 +1,7 @@
-//! The texts of a program: the open documents, and the files on the disk that are not open.
+//! The texts of a program: the files on the disk, each as it is open or as it is there, and the
+//! open documents that are none of these.
 
-ghost use Rattle.std.specs.Prelude.{◌≡◌, IfOk, filter, map};
+ghost use Rattle.std.specs.Prelude.{◌≡◌, ◌++◌, IfOk, OnOk, filter, map, not, option_map};
 ghost use Rattle.isle_lsp_files.specs.Disks.{file_of, view_of};
 ghost use Rattle.isle_lsp_files.specs.Documents.{document_of};
 ghost use Rattle.isle_lsp_files.specs.Texts as wanted;
@@ -32,7 +33,8 @@ pub fn program_of<'a>(
     }
 }
 
-/// All texts: the open documents, and the files that are not open.
+/// All texts: the files of the view, as they are open or on the disk, and then the other open
+/// documents. So a text keeps its place when its document is opened, changed or closed.
 fn all_texts<'a>(
     alloc: Global,
     documents: &'a [Document],
@@ -41,13 +43,77 @@ fn all_texts<'a>(
     ensures { IfOk result (λ texts. map text_of texts.items
         ≡ wanted.all_texts (map document_of documents.now) (view_of view.now)) }
 {
-    let mut texts = open_texts(alloc, documents, view)?;
-    for file in &view.files {
-        if !has_file(documents, file.path.as_str()) {
-            texts.push(closed_text(view, file))?;
+    let opened = open_texts(alloc, documents, view)?;
+    let mut texts = file_texts(alloc, view, &opened)?;
+    add_others(view, &opened, &mut texts)?;
+    Ok(texts)
+}
+
+/// Adds the open documents that are none of the view's files.
+fn add_others<'a>(
+    view: &View,
+    opened: &[Text<'a>],
+    texts: &mut Vec<Text<'a>>,
+) -> Result<(), AllocError>
+    ensures { OnOk result (map text_of texts.new.items ≡ map text_of texts.old.items
+        ++ filter (λ t. not (wanted.shows (view_of view.now) t.file)) (map text_of opened.now)) }
+{
+    for text in opened {
+        if !shows(view, text.file) {
+            texts.push(*text)?;
         }
     }
+    Ok(())
+}
+
+/// Returns whether a view shows this file.
+fn shows(view: &View, file: &str) -> bool
+    ensures { result ≡ wanted.shows (view_of view.now) file.now }
+{
+    for shown in &view.files {
+        if shown.path.as_str() == file {
+            return true;
+        }
+    }
+    false
+}
+
+/// The files of a view, each as it is open, or else as it is on the disk.
+fn file_texts<'a>(
+    alloc: Global,
+    view: &'a View,
+    opened: &[Text<'a>],
+) -> Result<Vec<Text<'a>>, AllocError>
+    ensures { IfOk result (λ texts. map text_of texts.items
+        ≡ wanted.file_texts (view_of view.now) (map text_of opened.now)) }
+{
+    let mut texts = Vec::new(alloc);
+    for file in &view.files {
+        texts.push(file_text(view, opened, file))?;
+    }
     Ok(texts)
+}
+
+fn file_text<'a>(view: &'a View, opened: &[Text<'a>], file: &'a File) -> Text<'a>
+    ensures { text_of result
+        ≡ wanted.file_text (view_of view.now) (map text_of opened.now) (file_of file.now) }
+{
+    match text_at(opened, file.path.as_str()) {
+        Some(text) => text,
+        None => closed_text(view, file),
+    }
+}
+
+/// The first text of a file, if there is one.
+fn text_at<'a>(texts: &[Text<'a>], file: &str) -> Option<Text<'a>>
+    ensures { option_map text_of result ≡ wanted.text_at file.now (map text_of texts.now) }
+{
+    for text in texts {
+        if text.file == file {
+            return Some(*text);
+        }
+    }
+    None
 }
 
 /// The open documents, each file once.
