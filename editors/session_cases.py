@@ -361,6 +361,30 @@ def spelt(name, file, open_as, ask_as, closed_as):
     ]
 
 
+# `foo` and `$foo` stand right behind a number.
+NUMBER = "(type T (primitive T))\n(decl f (T T) T)\n"
+GLUED = NUMBER + "(rule (f 1foo) foo)\n"
+GLUED_CONSTANT = NUMBER + "(extern const $foo T)\n(rule (f 1$foo) $foo)\n"
+
+NUMBERS = [
+    Case(
+        "numbers: a name right behind one is not renamed, until a space stands between them",
+        {"a.isle": GLUED},
+        [
+            ("refused", "a.isle", "foo", "bar"),
+            ("refused", "a.isle", "foo", "zoo"),
+            ("open", "a.isle"),
+            ("whole", "a.isle", GLUED.replace("1foo", "1 foo")),
+            ("rename", "a.isle", "foo#2", "bar", {"a.isle": GLUED.replace("1foo", "1 foo").replace("foo", "bar")}),
+        ],
+    ),
+    Case(
+        "numbers: a constant right behind one is renamed behind its dollar",
+        {"a.isle": GLUED_CONSTANT},
+        [("rename", "a.isle", "$foo", "bar", {"a.isle": GLUED_CONSTANT.replace("foo", "bar")})],
+    ),
+]
+
 SPELT = [
     *spelt("signs escaped", SIGNS, SIGNS_ESCAPED, "file://{root}/" + SIGNS, "file://{root}/" + SIGNS),
     *spelt("signs bare", SIGNS, "file://{root}/" + SIGNS, SIGNS_ESCAPED, "file://{root}/" + SIGNS),
@@ -692,4 +716,4 @@ SURROGATES = [
     ),
 ]
 
-CASES = [*CLOSED, *CHANGED, *SPELT, *LINKED, *ROOTS, *VERSIONS, *SURROGATES]
+CASES = [*CLOSED, *CHANGED, *NUMBERS, *SPELT, *LINKED, *ROOTS, *VERSIONS, *SURROGATES]

@@ -63,10 +63,13 @@ FindsAt Hover program all p message d = IsHover program p.text (name_at p.pos al
 FindsAt Completion program all p message d = AreCompletions p.pos p.text all d
 FindsAt _ program all p message d = Unit {0}
 
--- The outcome of renaming, from the index's answer. A text that other programs share is not edited: they would miss the new name.
+-- The outcome of renaming, from the index's answer. A text that other programs share is not edited: they would miss the new name. Nor is a name
+-- edited that stands right behind a number: the new one could become a part of it.
 abbrev pub IsRenamingBy : (takes : Bool) → List Text → NameNode → List ℕ → Result (Vec Pos) Refusal → Outcome → Type 0
 IsRenamingBy takes program name new (Ok places) a =
-    a ≡ (if renamed.are_shared program places.items then refused renamed.shared_reason else done (renamed.changes takes program name new places.items))
+    a ≡ (if renamed.are_shared program places.items then refused renamed.shared_reason
+    else if renamed.are_glued program name places.items then refused renamed.glued_reason
+    else done (renamed.changes takes program name new places.items))
 IsRenamingBy takes program name new (Err why) a = a ≡ refused (renamed.reason_of why)
 
 abbrev pub IsRenaming : (takes : Bool) → List Text → List SeenNode → NameNode → List ℕ → Outcome → Type 0

@@ -132,7 +132,7 @@ fn documentation_at(
 }
 
 /// The text with this number.
-fn source_at<'a>(program: &'a [Text<'a>], file: usize) -> Option<&'a Text<'a>>
+pub fn source_at<'a>(program: &'a [Text<'a>], file: usize) -> Option<&'a Text<'a>>
     ensures { option_map (λ s. text_of s.now) result
         ≡ slice_get (map text_of program.now) file }
 {

@@ -18,6 +18,7 @@ ghost use Rattle.isle_lsp_protocol.specs.Replies.{outcome_of};
 ghost use Rattle.isle_lsp_protocol.specs.Results.{workspace_edit};
 ghost use Rattle.isle_lsp_text.specs.Positions.{IsPlace};
 
+use crate::hover::source_at;
 use crate::places::{Place, range_at, range_near};
 use crate::{Question, Text};
 use isle_base::lexer::Pos;
@@ -33,6 +34,9 @@ use std::alloc::{AllocError, Global};
 
 /// The message where a rename would edit a text that other programs share.
 const SHARED: &str = "the name is used in a file that other programs share: rename it there";
+
+/// The message where a rename would edit a name that stands right behind a number.
+const GLUED: &str = "the name stands right behind a number in a text: put a space between them";
 
 /// The range of the name at a place, or null if there is none that can be renamed.
 pub fn prepare(alloc: Global, index: &Index, place: Place) -> Result<Value, AllocError>
@@ -140,6 +144,9 @@ fn rename_name<'a>(
         Ok(places) if are_shared(program, &places) => {
             Ok(Outcome::Failed(ErrorCode::RequestFailed, SHARED))
         }
+        Ok(places) if are_glued(program, name, &places) => {
+            Ok(Outcome::Failed(ErrorCode::RequestFailed, GLUED))
+        }
         Ok(places) => {
             let changes = changes(alloc, program, name, new, &places)?;
             Ok(Outcome::Listed(listing_of(takes_document_changes, changes)))
@@ -168,6 +175,64 @@ fn is_shared_at(program: &[Text], pos: Pos) -> bool
         Some(text) => text.is_shared,
         None => false,
     }
+}
+
+/// Returns whether the text of a name stands right behind a number at one of the positions.
+fn are_glued(program: &[Text], name: &Name, places: &[Pos]) -> bool
+    ensures { result
+        ≡ wanted.are_glued (map text_of program.now) (named_of name.now) places.now }
+{
+    for pos in places {
+        if is_glued_at(program, name, *pos) {
+            return true;
+        }
+    }
+    false
+}
+
+/// Returns whether the text of a name stands right behind a number at a position.
+fn is_glued_at(program: &[Text], name: &Name, pos: Pos) -> bool
+    ensures { result ≡ wanted.is_glued_at (map text_of program.now) (named_of name.now) pos }
+{
+    is_glued_text(source_at(program, pos.file), name, pos.offset)
+}
+
+/// Returns whether the text of a name that is at an offset of a text stands right behind a number.
+fn is_glued_text(source: Option<&Text>, name: &Name, offset: usize) -> bool
+    ensures { result ≡ wanted.is_glued_text (option_map (λ s. text_of s.now) source.entry)
+        (named_of name.now) offset }
+{
+    match source {
+        Some(source) => is_glued_in(source.text, name, offset),
+        None => false,
+    }
+}
+
+/// Returns whether the text of a name that is at an offset stands right behind a number.
+fn is_glued_in(text: &str, name: &Name, offset: usize) -> bool
+    ensures { result ≡ wanted.is_glued_in text.now (named_of name.now) offset }
+{
+    is_behind_number(text, offset.min(text.len()) + prefix_len(name))
+}
+
+/// Returns whether a byte with which a number can end stands right before an offset.
+fn is_behind_number(text: &str, offset: usize) -> bool
+    ensures { result ≡ wanted.is_behind_number text.now offset }
+{
+    if offset == 0 {
+        return false;
+    }
+    match text.as_bytes().get(offset - 1) {
+        Some(byte) => ends_number(*byte),
+        None => false,
+    }
+}
+
+/// Returns whether a number can end with a byte.
+fn ends_number(byte: u8) -> bool
+    ensures { result ≡ wanted.ends_number byte }
+{
+    byte.is_ascii_alphanumeric() || byte == b'_'
 }
 
 /// Changes as the client takes them.
