@@ -1,3 +1,4 @@
+pub mod ReadTexts
 pub mod Readings
 pub mod Results
 pub mod Sent

@@ -1,13 +1,12 @@
 -- Tokens that were written for diagnostics are read back as these.
-use Rattle.std.proofs.Common.{◌≡◌, ℕ, ◌^◌, ◌<◌, min, List, [], ◌∷◌, Option, Some, None, length, map, refl, subst, arith}
+use Rattle.std.proofs.Common.{◌≡◌, ℕ, ◌^◌, ◌<◌, min, List, [], ◌∷◌, Some, length, map, refl, subst, arith}
 use Rattle.serde_json.proofs.Numbers.{number_of-decimal}
 use Rattle.serde_json.specs.Read.{of_items}
 use Rattle.serde_json.specs.View.{items_of}
 use Rattle.serde_json.specs.Written.{items_outline}
 use Rattle.isle_lint_core.specs.Lint.{name}
-use Rattle.isle_lint_core.specs.declared.lint.Lint.{Lint}
-use Rattle.isle_lsp.specs.Diagnostics.{Mark}
-use Rattle.isle_lsp_protocol.proofs.Readings.{error_reads, position_reads, range_reads, warning_reads}
+use Rattle.isle_lsp.specs.Marks.{Finder, Mark, check, lint, parser}
+use Rattle.isle_lsp_protocol.proofs.Readings.{checked_reads, error_reads, position_reads, range_reads, warning_reads}
 use Rattle.isle_lsp_protocol.specs.Replies.{publishing}
 use Rattle.isle_lsp_protocol.specs.Results.{position_data, range_data}
 use Rattle.isle_lsp_protocol.specs.Written.{Reads}
@@ -17,9 +16,10 @@ use Rattle.isle_lsp_text.specs.declared.positions.Range.{Range}
 use Rattle.isle_lsp.specs.Formatted.{range_of}
 use Rattle.isle_lsp.specs.Published.{diagnostics_data, mark_data, diagnostic_data_at}
 
-told_reads : (r : Range) (lint : Option Lint) (message : List ℕ) → Reads (range_data r) → Reads (diagnostic_data_at r lint message)
-told_reads r None message h = error_reads r message h
-told_reads r (Some lint) message h = warning_reads r (name lint) message h
+told_reads : (r : Range) (finder : Finder) (message : List ℕ) → Reads (range_data r) → Reads (diagnostic_data_at r finder message)
+told_reads r parser message h = error_reads r message h
+told_reads r (lint it) message h = warning_reads r (name it) message h
+told_reads r (check is_error kind) message h = checked_reads r is_error kind message h
 
 -- the lines and units before an offset are fewer than twice the text's bytes
 place_reads : (text : List ℕ) (offset : ℕ) → length text < 2 ^ 63 → Reads (position_data (position_at offset text))
@@ -30,7 +30,7 @@ place_reads text offset small =
     subst (λ p. Reads (position_data p)) (clamped text offset) (position_reads (position_at last text) (number_of-decimal _ unit) (number_of-decimal _ line))
 
 mark_reads : (text : List ℕ) → length text < 2 ^ 63 → (m : Mark) → Reads (mark_data text m)
-mark_reads text small m = told_reads _ m.lint m.message (range_reads (range_of text m.start m.end) (place_reads text m.start small) (place_reads text m.end small))
+mark_reads text small m = told_reads _ m.finder m.message (range_reads (range_of text m.start m.end) (place_reads text m.start small) (place_reads text m.end small))
 
 items_read : (text : List ℕ) → length text < 2 ^ 63 → (ms : List Mark) → of_items (items_outline (items_of (map (mark_data text) ms))) ≡ Some (items_of (map (mark_data text) ms))
 items_read text small [] = refl

@@ -20,7 +20,7 @@ use Rattle.isle_lsp_protocol.specs.Machine.{next_state, action_of}
 use Rattle.isle_lsp_protocol.specs.declared.machine.Action.{Action}
 use Rattle.isle_lsp_protocol.specs.Decoding.{Decodes, message_in}
 use Rattle.isle_lsp_files.specs.Disks.{Moment, View}
-use Rattle.isle_lsp.specs.Serving.{Held, Sends, Shows, asked, documents_after, folders_after, takes_after}
+use Rattle.isle_lsp.specs.Serving.{Held, Sends, Shows, asked, asked_first, documents_after, folders_after, takes_after}
 use Rattle.isle_lsp.specs.Conversations.{Answers, AnswersAs, AnswersWithin, Conversation, Converses, EndsAs, Explains, FromFault, IsCut, IsEarly, IsOver, IsRefusal, IsShort, Ran, ShowsWithin, StopsAt, World, answered, begun, frames, has_exited, nothing}
 
 frames-append : (xs ys : List (List ℕ)) → frames (xs ++ ys) ≡ frames xs ++ frames ys
@@ -32,23 +32,27 @@ appends_none None = tt
 appends_none (Some x) = sym (append-nil x)
 
 -- what is done with a message
-pub prepared : {E : Type 0} (old new : Held) (body : List ℕ) (json : Option Data) (state : State) (action : Action) (view : View) (moments : List Moment) (left : Option (List Moment)) (r : Result (Option (String Global)) E) → Decodes body json → state ≡ next_state old.state (message_in json) → action ≡ action_of old.state (message_in json) → ShowsWithin (asked action json old) moments left view → new.state ≡ state → OnOk r (new.documents ≡ documents_after action json view old.documents) → OnOk r (new.folders ≡ folders_after action json old.folders) → OnOk r (new.takes_document_changes ≡ takes_after action json old.takes_document_changes) → IfOk r (λ sent. Sends action json new view (option_map string_bytes sent)) → IfOk r (λ sent. AnswersWithin old moments body new left (option_map string_bytes sent))
-prepared old new body json state action view moments left (Ok sent) d s t shows n docs folders takes sends = (
-  shows.0,
-  shows.1,
-  record {
-    json = json;
-    view = view;
-    decodes = d;
-    shows = subst (λ u. Shows (asked u json old) moments shows.0 view) t shows.2;
-    state = n ∙ s;
-    documents = docs ∙ ap (λ u. documents_after u json view old.documents) t;
-    folders = folders ∙ ap (λ u. folders_after u json old.folders) t;
-    takes = takes ∙ ap (λ u. takes_after u json old.takes_document_changes) t;
-    sends = subst (λ u. Sends u json new view (option_map string_bytes sent)) t sends;
-  },
-)
-prepared old new body json state action view moments left (Err e) d s t shows n docs folders takes sends = tt
+pub prepared : {E : Type 0} (old new : Held) (body : List ℕ) (json : Option Data) (state : State) (action : Action) (opened view : View) (moments : List Moment) (middle left : Option (List Moment)) (r : Result (Option (String Global)) E) → Decodes body json → state ≡ next_state old.state (message_in json) → action ≡ action_of old.state (message_in json) → ShowsWithin (asked_first action json) moments middle opened → new.state ≡ state → new.documents ≡ documents_after action json opened old.documents → new.folders ≡ folders_after action json old.folders → new.takes_document_changes ≡ takes_after action json old.takes_document_changes → ((between : List Moment) → middle ≡ Some between → ShowsWithin (asked action json new) between left view) → IfOk r (λ sent. Sends action json new view (option_map string_bytes sent)) → IfOk r (λ sent. AnswersWithin old moments body new left (option_map string_bytes sent))
+prepared old new body json state action opened view moments middle left (Ok sent) d s t opens n docs folders takes shows sends =
+    let last = shows opens.0 opens.1 in (
+      last.0,
+      last.1,
+      record {
+        json = json;
+        between = opens.0;
+        opened = opened;
+        view = view;
+        decodes = d;
+        opens = subst (λ u. Shows (asked_first u json) moments opens.0 opened) t opens.2;
+        state = n ∙ s;
+        documents = docs ∙ ap (λ u. documents_after u json opened old.documents) t;
+        folders = folders ∙ ap (λ u. folders_after u json old.folders) t;
+        takes = takes ∙ ap (λ u. takes_after u json old.takes_document_changes) t;
+        shows = subst (λ u. Shows (asked u json new) opens.0 last.0 view) t last.2;
+        sends = subst (λ u. Sends u json new view (option_map string_bytes sent)) t sends;
+      },
+    )
+prepared old new body json state action opened view moments middle left (Err e) d s t opens n docs folders takes shows sends = tt
 
 -- the answer is written, or a beginning of it
 pub answers_as : (old new : Held) (moments : List Moment) (left : Option (List Moment)) (body text : List ℕ) (before after : Option (List ℕ)) → AnswersWithin old moments body new left (Some text) → Appends before after (frame text) → AnswersAs old moments body new left before after

@@ -5,7 +5,7 @@ use Rattle.json.specs.Token.{Token}
 use Rattle.json.specs.Tree.{items_tokens, json_tokens}
 use Rattle.serde_json.specs.View.{items_of}
 use Rattle.serde_json.specs.Written.{items_outline, outline}
-use Rattle.isle_lsp.specs.Diagnostics.{mark_of}
+use Rattle.isle_lsp.specs.Marks.{mark_of}
 use Rattle.isle_lsp.specs.Published.{mark_data}
 use Rattle.isle_lsp.specs.declared.diagnostics.Diagnostic.{Diagnostic}
 

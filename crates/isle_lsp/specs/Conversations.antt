@@ -14,19 +14,22 @@ use Rattle.isle_lsp_protocol.specs.declared.machine.State.{State}
 use Rattle.isle_lsp_protocol.specs.declared.machine.State.TheVariants.{Fresh, Running, ShutDown, Ended, Aborted}
 use Rattle.isle_lsp_protocol.specs.Decoding.{Decodes, message_in}
 use Rattle.isle_lsp_files.specs.Disks.{Asked, Moment, View}
-use Rattle.isle_lsp.specs.Serving.{Held, Sends, Shows, asked, documents_after, folders_after, takes_after}
+use Rattle.isle_lsp.specs.Serving.{Held, Sends, Shows, asked, asked_first, documents_after, folders_after, takes_after}
 
--- The message changes the server's state from old to new, and this is sent, if anything. What it needs of the disk, the disk shows at the
--- next moment.
+-- The message changes the server's state from old to new, and this is sent, if anything. What each of both needs of the disk, the disk shows at
+-- the next moment.
 pub record Answers (old : Held) (moments : List Moment) (body : List ℕ) (new : Held) (later : List Moment) (sent : Option (List ℕ)) : Type 0 where
   pub json : Option Data
+  pub between : List Moment
+  pub opened : View
   pub view : View
   pub decodes : Decodes body json
-  pub shows : Shows (asked (action_of old.state (message_in json)) json old) moments later view
+  pub opens : Shows (asked_first (action_of old.state (message_in json)) json) moments between opened
   pub state : new.state ≡ next_state old.state (message_in json)
-  pub documents : new.documents ≡ documents_after (action_of old.state (message_in json)) json view old.documents
+  pub documents : new.documents ≡ documents_after (action_of old.state (message_in json)) json opened old.documents
   pub folders : new.folders ≡ folders_after (action_of old.state (message_in json)) json old.folders
   pub takes : new.takes_document_changes ≡ takes_after (action_of old.state (message_in json)) json old.takes_document_changes
+  pub shows : Shows (asked (action_of old.state (message_in json)) json new) between later view
   pub sends : Sends (action_of old.state (message_in json)) json new view sent
 
 abbrev pub frames : List (List ℕ) → List ℕ

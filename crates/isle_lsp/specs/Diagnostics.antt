@@ -1,4 +1,4 @@
--- The diagnostics of a text.
+-- The diagnostics of a text, on its own and in its programs.
 use Rattle.std.specs.Prelude.{◌≡◌, ℕ, ◌+◌, ◌-◌, ◌⊎◌, List, [], ◌∷◌, ◌++◌, Option, None, Some, filter, length, map, min, not, codes, string_bytes}
 use Rattle.std.specs.List.Sorted.{IsPermutation, IsSortedByKey}
 use Rattle.isle_ast.specs.Tree.{Definition}
@@ -9,21 +9,12 @@ use Rattle.isle_lint_core.specs.Finding.{Found, finding_of}
 use Rattle.isle_lint_core.specs.Findings.{findings_in}
 use Rattle.isle_lint_core.specs.Lint.{all_lints, is_default, message}
 use Rattle.isle_lint_core.specs.declared.finding.Finding.{Finding}
-use Rattle.isle_lint_core.specs.declared.lint.Lint.{Lint}
 use Rattle.isle_program.specs.Allowances.{Allowance, AreAllowances, is_allowed}
 use Rattle.isle_program.specs.Nesting.{FirstDeep}
 use Rattle.isle_program.specs.Reading.{IsRefusedWith, IsTreeOf}
-use Rattle.isle_lsp.specs.declared.diagnostics.Diagnostic.{Diagnostic}
-
--- a diagnostic of a part of a text
-pub record Mark : Type 0 where
-  pub start : ℕ
-  pub end : ℕ
-  pub lint : Option Lint
-  pub message : List ℕ
-
-abbrev pub mark_of : Diagnostic → Mark
-mark_of d = record { start = d.start; end = d.end; lint = d.lint; message = string_bytes d.message }
+use Rattle.isle_lsp_features.specs.Programs.{Text}
+use Rattle.isle_lsp.specs.Checked.{AreChecked}
+use Rattle.isle_lsp.specs.Marks.{Mark, lint, parser}
 
 -- the message of a finding
 abbrev pub found_text : Found → List ℕ
@@ -33,12 +24,12 @@ found_text f = message f.lint ++ (codes " '" ++ (f.name ++ codes "'"))
 abbrev pub found_mark : List ℕ → Found → Mark
 found_mark text f =
     let start : ℕ = min f.pos.offset (length text) in
-    record { start = start; end = start + min (length f.name) (length text - start); lint = Some f.lint; message = found_text f }
+    record { start = start; end = start + min (length f.name) (length text - start); finder = lint f.lint; message = found_text f }
 
 -- the diagnostic of a text that spells no tree
 abbrev pub error_mark : List ℕ → errors.Error → List Mark
 error_mark text (ParseError msg span) =
-    record { start = min span.from.offset (length text); end = min span.to.offset (length text); lint = None; message = string_bytes msg } ∷ []
+    record { start = min span.from.offset (length text); end = min span.to.offset (length text); finder = parser; message = string_bytes msg } ∷ []
 error_mark text _ = []
 
 -- the findings that no comment allows
@@ -54,10 +45,18 @@ pub record AreMarksOf (text : List ℕ) (ds : List Definition) (told : List Mark
   pub allowing : AreAllowances text allowances
   pub marks : told ≡ map (found_mark text) (shown allowances (map finding_of found))
 
+-- the marks of a text that spells this tree: of what the check of the programs that have it finds in it, and then of lints
+pub record AreTreeMarks (programs : List (List Text)) (file text : List ℕ) (ds : List Definition) (marks : List Mark) : Type 0 where
+  pub checks : List Mark
+  pub lints : List Mark
+  pub checked : AreChecked programs file text [] checks
+  pub linted : AreMarksOf text ds lints
+  pub are : marks ≡ checks ++ lints
+
 -- the marks of a text: of its tree, or why it has none
-abbrev pub AreShallowMarks : List ℕ → List Mark → Type 0
-AreShallowMarks text marks =
-    ((ds : List Definition) × IsTreeOf 0 text ds × AreMarksOf text ds marks)
+abbrev pub AreShallowMarks : (programs : List (List Text)) → (file text : List ℕ) → List Mark → Type 0
+AreShallowMarks programs file text marks =
+    ((ds : List Definition) × IsTreeOf 0 text ds × AreTreeMarks programs file text ds marks)
     ⊎ ((e : errors.Error) × IsRefusedWith 0 text e × (marks ≡ error_mark text e))
 
 -- the diagnostic of a text that nests too deeply, at the first token that does
@@ -67,12 +66,12 @@ deep_mark text offset =
     record {
       start = start;
       end = start + min 1 (length text - start);
-      lint = None;
+      finder = parser;
       message = codes "more than 500 lists in one another, or '@' in one definition";
     }
 
--- the marks of any text; one that nests too deeply has that mark alone
-abbrev pub AreMarks : List ℕ → List Mark → Type 0
-AreMarks text marks =
+-- the marks of any text, which is this file of the programs; one that nests too deeply has that mark alone
+abbrev pub AreMarks : (programs : List (List Text)) → (file text : List ℕ) → List Mark → Type 0
+AreMarks programs file text marks =
     ((offset : ℕ) × FirstDeep text (Some offset) × (marks ≡ deep_mark text offset ∷ []))
-    ⊎ (FirstDeep text None × AreShallowMarks text marks)
+    ⊎ (FirstDeep text None × AreShallowMarks programs file text marks)

@@ -3,7 +3,7 @@ use Rattle.std.specs.Prelude.{◌≡◌, ℕ, List, [], ◌∷◌, ◌++◌, Boo
 use Rattle.serde_json.specs.Data.{Data, null}
 use Rattle.isle_lsp_files.specs.Disks.{Asked, Moment, View, no_view}
 use Rattle.isle_lsp_files.specs.Documents.{Document, document, document_at, document_of, text_of, without}
-use Rattle.isle_lsp_files.specs.Texts.{program_of}
+use Rattle.isle_lsp_files.specs.Texts.{program_of, programs_of}
 use Rattle.isle_lsp_protocol.specs.declared.machine.ErrorCode.TheVariants.{InvalidParams, MethodNotFound}
 use Rattle.isle_lsp_protocol.specs.declared.machine.Notification as notifications
 use Rattle.isle_lsp_protocol.specs.declared.machine.Notification.TheVariants.{DidOpen, DidChange, DidClose, DidChangeWorkspaceFolders}
@@ -43,6 +43,15 @@ uri_or_none (Some uri) = uri
 abbrev pub named_uri : Option Data → List ℕ
 named_uri d = uri_or_none (option_and_then parameters.uri_of d)
 
+-- what is asked of the disk first: of a document that is opened, which file it is
+abbrev pub asked_first : actions.Action → Option Data → Option Asked
+asked_first (Handle DidOpen) d = Some record { folders = []; documents = []; uri = named_uri d }
+asked_first action d = None
+
+-- the question about the programs that have the document that a message names
+abbrev pub programs_question : Option Data → Held → Asked
+programs_question d held = record { folders = held.folders; documents = held.documents; uri = named_uri d }
+
 -- what is asked before a request is answered: nothing, unless it is about names
 abbrev pub asked_for : requests.Request → Asked → Option Asked
 asked_for Initialize question = None
@@ -51,11 +60,18 @@ asked_for Formatting question = None
 asked_for Unknown question = None
 asked_for request question = Some question
 
--- what is asked of the disk before an action: of a document that is opened, which file it is
+-- what is asked before the diagnostics of a document are published: nothing, unless it is opened or changed
+abbrev pub asked_at : notifications.Notification → Asked → Option Asked
+asked_at DidOpen question = Some question
+asked_at DidChange question = Some question
+asked_at notification question = None
+
+-- what is asked of the disk before a message is sent, in the state after the action
 abbrev pub asked : actions.Action → Option Data → Held → Option Asked
-asked (Answer request) d held = asked_for request (record { folders = held.folders; documents = held.documents; uri = named_uri d })
-asked (Handle DidOpen) d held = Some record { folders = []; documents = []; uri = named_uri d }
-asked action d held = None
+asked (Answer request) d held = asked_for request (programs_question d held)
+asked (Handle notification) d held = asked_at notification (programs_question d held)
+asked Ignore d held = None
+asked (Reject code) d held = None
 
 -- the view of what is asked, at the next moment; if nothing is asked, the disk is not looked at
 abbrev pub Shows : Option Asked → (before after : List Moment) → View → Type 0
@@ -137,19 +153,21 @@ abbrev pub takes_after : actions.Action → Option Data → Bool → Bool
 takes_after (Answer Initialize) (Some d) takes = parameters.takes_document_changes d
 takes_after action d takes = takes
 
--- the diagnostics of a document, or none if it is not open, are published
-abbrev pub Publishes : List ℕ → List Document → Option (List ℕ) → Type 0
-Publishes uri docs sent = (text : List ℕ) × (sent ≡ Some text) × IsPublished uri (text_of uri docs) text
+-- the diagnostics of a document, or none if it is not open, are published: those of its text, and those of the programs that have its file, as
+-- their files are open or as the disk shows them
+abbrev pub Publishes : List ℕ → List Document → View → Option (List ℕ) → Type 0
+Publishes uri docs view sent =
+    (text : List ℕ) × (sent ≡ Some text) × IsPublished uri (programs_of docs view) view.file (text_of uri docs) text
 
-abbrev pub Reports : notifications.Notification → List ℕ → List Document → Option (List ℕ) → Type 0
-Reports DidOpen uri docs sent = Publishes uri docs sent
-Reports DidChange uri docs sent = Publishes uri docs sent
-Reports DidClose uri docs sent = Publishes uri docs sent
-Reports _ uri docs sent = sent ≡ None
+abbrev pub Reports : notifications.Notification → List ℕ → List Document → View → Option (List ℕ) → Type 0
+Reports DidOpen uri docs view sent = Publishes uri docs view sent
+Reports DidChange uri docs view sent = Publishes uri docs view sent
+Reports DidClose uri docs view sent = Publishes uri docs view sent
+Reports _ uri docs view sent = sent ≡ None
 
-abbrev pub ReportsNamed : notifications.Notification → Option (List ℕ) → List Document → Option (List ℕ) → Type 0
-ReportsNamed notification None docs sent = sent ≡ None
-ReportsNamed notification (Some uri) docs sent = Reports notification uri docs sent
+abbrev pub ReportsNamed : notifications.Notification → Option (List ℕ) → List Document → View → Option (List ℕ) → Type 0
+ReportsNamed notification None docs view sent = sent ≡ None
+ReportsNamed notification (Some uri) docs view sent = Reports notification uri docs view sent
 
 -- ---- messages to the client
 
@@ -158,4 +176,4 @@ abbrev pub Sends : actions.Action → Option Data → Held → View → Option (
 Sends Ignore d held view sent = sent ≡ None
 Sends (Reject c) d held view sent = (text : List ℕ) × (sent ≡ Some text) × IsTextOf (replies.error_response (reply_id d) c (reason_of c)) text
 Sends (Answer request) d held view sent = (text : List ℕ) × (sent ≡ Some text) × (o : Outcome) × IsResultOf request d held view o × IsTextOf (reply (reply_id d) o) text
-Sends (Handle notification) d held view sent = ReportsNamed notification (option_and_then parameters.uri_of d) held.documents sent
+Sends (Handle notification) d held view sent = ReportsNamed notification (option_and_then parameters.uri_of d) held.documents view sent

@@ -11,10 +11,10 @@ ghost use Rattle.isle_lsp.specs.Conversations.{AnswersAs, AnswersWithin, Convers
 ghost use Rattle.isle_lsp.specs.Conversations.{Explains, FromFault, IsEarly, IsOver, IsRefusal};
 ghost use Rattle.isle_lsp.specs.Conversations.{Ran, ShowsWithin, StopsAt, World, has_exited};
 ghost use Rattle.isle_lsp_files.specs.Disks.{Moment, view_of};
-ghost use Rattle.isle_lsp.specs.Serving.{asked, held_of, named_uri};
+ghost use Rattle.isle_lsp.specs.Serving.{asked, asked_first, held_of, named_uri};
 
 use crate::program::PROGRAM;
-use crate::server::{Server, handle};
+use crate::server::{Server, note, perform};
 use isle_cli::failure::Failure;
 use isle_cli::program::report;
 use isle_lsp_features::Gathered;
@@ -167,12 +167,33 @@ fn handle_message<D: Disk>(
     let message = decode(alloc, body.as_slice())?;
     drop(body);
     let (state, action) = step(server.state, message_in(&message));
-    let shown = view_for(alloc, disk, server, action, &message)?;
+    let opened = opened_view(alloc, disk, action, &message)?;
     server.state = state;
-    handle(alloc, server, gathered, action, &message, &shown)
+    note(alloc, server, action, &message, &opened)?;
+    let shown = view_for(alloc, disk, server, action, &message)?;
+    perform(alloc, server, gathered, action, &message, &shown)
 }
 
-/// What the disk shows of what an action needs. It is not looked at if the action needs nothing.
+/// What the disk shows of a document that an action opens: which file it is. It is not looked at for
+/// another action.
+fn opened_view<D: Disk>(
+    alloc: Global,
+    disk: &mut D,
+    action: Action,
+    message: &Option<Value>,
+) -> Result<View, AllocError>
+    ensures { (moments : List Moment) → D.moments disk.old ≡ Some moments
+        → IfOk result (λ shown. ShowsWithin (asked_first action (option_map view message.now))
+        moments (D.moments disk.new) (view_of shown)) }
+{
+    match action {
+        Action::Handle(Notification::DidOpen) => disk.look(alloc, &[], &[], named_uri(message)),
+        _ => Ok(View::nothing(alloc)),
+    }
+}
+
+/// What the disk shows of what a noted action needs to be performed. It is not looked at if the
+/// action needs nothing.
 fn view_for<D: Disk>(
     alloc: Global,
     disk: &mut D,
@@ -190,7 +211,9 @@ fn view_for<D: Disk>(
             Request::Initialize | Request::Shutdown | Request::Formatting | Request::Unknown,
         ) => Ok(View::nothing(alloc)),
         Action::Answer(_) => disk.look(alloc, &server.folders, &server.documents, uri),
-        Action::Handle(Notification::DidOpen) => disk.look(alloc, &[], &[], uri),
+        Action::Handle(Notification::DidOpen | Notification::DidChange) => {
+            disk.look(alloc, &server.folders, &server.documents, uri)
+        }
         _ => Ok(View::nothing(alloc)),
     }
 }

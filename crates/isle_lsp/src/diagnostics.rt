@@ -1,7 +1,8 @@
-//! The diagnostics of an ISLE text: that it nests too deeply, or its parse error, or else the
-//! findings of the lints that are on by default, except those that comments allow.
+//! The diagnostics of an ISLE text: that it nests too deeply, or its parse error, or else what the
+//! check of its programs tells of it, and the findings of the lints that are on by default, except
+//! those that comments allow.
 //!
-//! The text is read on its own, so lints of whole programs find nothing.
+//! For lints the text is read on its own, so those of whole programs find nothing.
 
 ghost use Rattle.std.specs.Prelude.{◌≡◌, ◌++◌, ◌∷◌, [], IfErr, IfOk, filter, length, map};
 ghost use Rattle.std.specs.Prelude.{string_bytes};
@@ -10,20 +11,40 @@ ghost use Rattle.isle_base_source.specs.declared.error.Error as errors;
 ghost use Rattle.isle_cli.specs.declared.failure.Failure.TheVariants.{Memory};
 ghost use Rattle.isle_lint_core.specs.Finding.{finding_of};
 ghost use Rattle.isle_lint_core.specs.Lint.{all_lints, is_default};
-ghost use Rattle.isle_lsp.specs.Diagnostics.{AreMarks, AreMarksOf, AreShallowMarks, deep_mark};
-ghost use Rattle.isle_lsp.specs.Diagnostics.{error_mark, found_mark, found_text};
-ghost use Rattle.isle_lsp.specs.Diagnostics.{mark_of, shown};
+ghost use Rattle.isle_lsp_features.specs.Programs.{text_of};
+ghost use Rattle.isle_lsp.specs.Checked.{AreChecked};
+ghost use Rattle.isle_lsp.specs.Diagnostics.{AreMarks, AreMarksOf, AreShallowMarks, AreTreeMarks};
+ghost use Rattle.isle_lsp.specs.Diagnostics.{deep_mark, error_mark, found_mark, found_text, shown};
+ghost use Rattle.isle_lsp.specs.Marks.{mark_of};
 
+use crate::checked::check_diagnostics;
 use isle_ast::ast::Def;
 use isle_base::lexer::Fault;
 use isle_base_source::error::Error;
 use isle_cli::failure::Failure;
 use isle_lint_core::{Finding, Lint, findings};
+use isle_lsp_features::Text;
 use isle_parser::dropping::drop_definitions;
 use isle_program::allowances::Allowances;
 use isle_program::nesting::deep_list;
 use isle_program::trees::read_defs;
 use std::alloc::{AllocError, Global};
+
+/// Who found what a diagnostic tells.
+#[derive(Clone, Copy, Debug)]
+pub enum Finder {
+    /// The parser: the text nests too deeply, or has a parse error.
+    Parser,
+    /// A lint.
+    Lint(Lint),
+    /// The check of a program.
+    Check {
+        /// Whether it is an error, and not a warning.
+        is_error: bool,
+        /// The name of its kind, such as `unknown-term`.
+        kind: &'static str,
+    },
+}
 
 /// A message about a part of a text.
 #[derive(Debug, Drop)]
@@ -32,8 +53,8 @@ pub struct Diagnostic {
     pub start: usize,
     /// The byte offset at which it ends.
     pub end: usize,
-    /// The lint that found it, or `None` for an error.
-    pub lint: Option<Lint>,
+    /// Who found it.
+    pub finder: Finder,
     /// The message.
     pub message: String,
 }
@@ -41,15 +62,22 @@ pub struct Diagnostic {
 /// What is wrong with a text that nests more deeply than `deep_list` takes.
 const DEEP: &str = "more than 500 lists in one another, or '@' in one definition";
 
-/// The diagnostics of a text, in order of position: where it nests too deeply, or the parse error,
-/// or else the findings of `isle-lint` without options. The only error is `Memory`.
-pub fn diagnostics(alloc: Global, text: &str) -> Result<Vec<Diagnostic>, Failure>
-    ensures ok { IfOk result (λ found. AreMarks text.now (map mark_of found.items)) }
+/// The diagnostics of a text, which is this file of the programs: where it nests too deeply, or the
+/// parse error. Or else what `isle-check` tells of it in these programs, and then the findings of
+/// `isle-lint` without options, in order of position. The only error is `Memory`.
+pub fn diagnostics(
+    alloc: Global,
+    programs: &[Vec<Text>],
+    file: &str,
+    text: &str,
+) -> Result<Vec<Diagnostic>, Failure>
+    ensures ok { IfOk result (λ found. AreMarks (map (λ p. map text_of p.items) programs.now)
+        file.now text.now (map mark_of found.items)) }
     ensures err { IfErr result (λ failure. failure ≡ Memory) }
 {
     match deep_list(alloc, text)? {
         Some(offset) => Ok(deep_diagnostics(alloc, text, offset)?),
-        None => shallow_diagnostics(alloc, text),
+        None => shallow_diagnostics(alloc, programs, file, text),
     }
 }
 
@@ -65,26 +93,52 @@ fn deep_diagnostics(alloc: Global, text: &str, offset: usize) -> Result<Vec<Diag
     diagnostics.push(Diagnostic {
         start,
         end: start + 1.min(left),
-        lint: None,
+        finder: Finder::Parser,
         message,
     })?;
     Ok(diagnostics)
 }
 
 /// The diagnostics of a text that does not nest too deeply.
-fn shallow_diagnostics(alloc: Global, text: &str) -> Result<Vec<Diagnostic>, Failure>
-    ensures ok { IfOk result (λ found. AreShallowMarks text.now (map mark_of found.items)) }
+fn shallow_diagnostics(
+    alloc: Global,
+    programs: &[Vec<Text>],
+    file: &str,
+    text: &str,
+) -> Result<Vec<Diagnostic>, Failure>
+    ensures ok { IfOk result (λ found. AreShallowMarks
+        (map (λ p. map text_of p.items) programs.now) file.now text.now
+        (map mark_of found.items)) }
     ensures err { IfErr result (λ failure. failure ≡ Memory) }
 {
     match read_defs(alloc, 0, text) {
         Ok(defs) => {
-            let found = lint_diagnostics(alloc, text, &defs);
+            let found = tree_diagnostics(alloc, programs, file, text, &defs);
             drop_definitions(defs);
-            Ok(found?)
+            found
         }
         Err(Fault::Error(error)) => Ok(error_diagnostics(alloc, text, error)?),
         Err(Fault::Failed | Fault::Memory) => Err(Failure::Memory),
     }
+}
+
+/// The diagnostics of a text with these definitions.
+fn tree_diagnostics(
+    alloc: Global,
+    programs: &[Vec<Text>],
+    file: &str,
+    text: &str,
+    defs: &[Def],
+) -> Result<Vec<Diagnostic>, Failure>
+    ensures ok { IfOk result (λ found. AreTreeMarks
+        (map (λ p. map text_of p.items) programs.now) file.now text.now
+        (definitions_of defs.now) (map mark_of found.items)) }
+    ensures err { IfErr result (λ failure. failure ≡ Memory) }
+{
+    let mut found = check_diagnostics(alloc, programs, file, text)?;
+    let mut lints = lint_diagnostics(alloc, text, defs)?;
+    found.append(&mut lints)?;
+    Ok(found)
 }
 
 /// The diagnostic of a parse error.
@@ -97,14 +151,14 @@ fn error_diagnostics(alloc: Global, text: &str, error: Error) -> Result<Vec<Diag
         diagnostics.push(Diagnostic {
             start: span.from.offset.min(text.len()),
             end: span.to.offset.min(text.len()),
-            lint: None,
+            finder: Finder::Parser,
             message: msg,
         })?;
     }
     Ok(diagnostics)
 }
 
-/// The diagnostics of a text with these definitions.
+/// The diagnostics of the lints in a text with these definitions.
 fn lint_diagnostics(alloc: Global, text: &str, defs: &[Def]) -> Result<Vec<Diagnostic>, AllocError>
     ensures { IfOk result (λ diagnostics. AreMarksOf text.now (definitions_of defs.now)
         (map mark_of diagnostics.items)) }
@@ -165,7 +219,7 @@ fn diagnostic_of(alloc: Global, text: &str, finding: &Finding) -> Result<Diagnos
     Ok(Diagnostic {
         start,
         end: start + finding.name.len().min(left),
-        lint: Some(finding.lint),
+        finder: Finder::Lint(finding.lint),
         message: message_of(alloc, finding)?,
     })
 }

@@ -6,30 +6,38 @@ ghost use Rattle.json.specs.Token.{key};
 ghost use Rattle.json.specs.Tree.{json_tokens};
 ghost use Rattle.serde_json.specs.Written.{outline};
 ghost use Rattle.isle_cli.specs.declared.failure.Failure.TheVariants.{Memory};
-ghost use Rattle.isle_lsp.specs.Diagnostics.{mark_of};
+ghost use Rattle.isle_lsp_features.specs.Programs.{text_of};
 ghost use Rattle.isle_lsp_protocol.specs.Replies.{IsTextOf, publishing};
 ghost use Rattle.isle_lsp_text.specs.Positions.{IsPlace};
+ghost use Rattle.isle_lsp.specs.Marks.{finder_of, mark_of};
 ghost use Rattle.isle_lsp.specs.Published.{IsPublished, diagnostics_data, mark_data};
 ghost use Rattle.isle_lsp.specs.Published.{parameters_data, diagnostic_data_at};
 
-use crate::diagnostics::{Diagnostic, diagnostics};
+use crate::diagnostics::{Diagnostic, Finder, diagnostics};
 use isle_cli::failure::Failure;
-use isle_lint_core::Lint;
-use isle_lsp_protocol::writing::{into_text, put_error, put_text, put_warning};
+use isle_lsp_features::Text;
+use isle_lsp_protocol::writing::{into_text, put_checked, put_error, put_text, put_warning};
 use isle_lsp_text::positions::{Place, Range, START, place_at};
 use json::Writer;
 use std::alloc::{AllocError, Global};
 
-/// The text of the notification with the diagnostics of a document. Without a text there are none.
-/// The only error is `Memory`.
-pub fn publish_diagnostics(alloc: Global, uri: &str, text: Option<&str>) -> Result<String, Failure>
-    ensures ok { IfOk result (λ sent. IsPublished uri.now (option_map (λ t. t.now) text.entry)
-        (string_bytes sent)) }
+/// The text of the notification with the diagnostics of a document, which is this file of the
+/// programs. Without a text there are none. The only error is `Memory`.
+pub fn publish_diagnostics(
+    alloc: Global,
+    uri: &str,
+    programs: &[Vec<Text>],
+    file: &str,
+    text: Option<&str>,
+) -> Result<String, Failure>
+    ensures ok { IfOk result (λ sent. IsPublished uri.now
+        (map (λ p. map text_of p.items) programs.now) file.now
+        (option_map (λ t. t.now) text.entry) (string_bytes sent)) }
     ensures err { IfErr result (λ failure. failure ≡ Memory) }
 {
     match text {
         Some(text) => {
-            let found = diagnostics(alloc, text)?;
+            let found = diagnostics(alloc, programs, file, text)?;
             Ok(notification(alloc, uri, text, &found)?)
         }
         None => Ok(notification(alloc, uri, "", &[])?),
@@ -127,23 +135,19 @@ fn put_diagnostic(
         start: start.position,
         end: end.position,
     };
-    put_at(out, range, diagnostic.lint, diagnostic.message.as_str())?;
+    put_at(out, range, diagnostic.finder, diagnostic.message.as_str())?;
     Ok(start)
 }
 
-/// Writes a diagnostic of a range: a warning if a lint found it, and otherwise an error.
-fn put_at(
-    out: &mut Writer,
-    range: Range,
-    lint: Option<Lint>,
-    message: &str,
-) -> Result<(), AllocError>
+/// Writes a diagnostic of a range, as its finder tells it.
+fn put_at(out: &mut Writer, range: Range, finder: Finder, message: &str) -> Result<(), AllocError>
     ensures before { out.new.before ≡ out.old.before }
     ensures tokens { OnOk result (out.new.tokens ≡ out.old.tokens
-        ++ json_tokens (outline (diagnostic_data_at range lint message.now))) }
+        ++ json_tokens (outline (diagnostic_data_at range (finder_of finder) message.now))) }
 {
-    match lint {
-        Some(lint) => put_warning(out, range, lint.name(), message),
-        None => put_error(out, range, message),
+    match finder {
+        Finder::Parser => put_error(out, range, message),
+        Finder::Lint(lint) => put_warning(out, range, lint.name(), message),
+        Finder::Check { is_error, kind } => put_checked(out, range, is_error, kind, message),
     }
 }

@@ -23,7 +23,7 @@ use isle_cli::failure::Failure;
 use isle_lsp_features::{Gathered, Question};
 use isle_lsp_files::disk::View;
 use isle_lsp_files::documents::{Document, close, document_at, open, text_of};
-use isle_lsp_files::texts::program_of;
+use isle_lsp_files::texts::{program_of, programs_of};
 use isle_lsp_protocol::capabilities::initialize_result;
 use isle_lsp_protocol::machine::{Action, ErrorCode, Notification, Request, State};
 use isle_lsp_protocol::parameters::{takes_document_changes, text_after, uri_of, version_of};
@@ -59,39 +59,60 @@ impl Server {
     }
 }
 
-/// Performs an action on a message, with what the disk shows for it, and returns the text to send,
-/// if any. Keeps the index that it makes. The only error is `Memory`.
-pub fn handle(
+/// Notes what an action changes: the documents, the folders, and what the client takes. `opened` is
+/// what the disk shows of a document that is opened. An `Err` means out of memory.
+pub fn note(
     alloc: Global,
     server: &mut Server,
-    gathered: &mut Gathered,
     action: Action,
     message: &Option<Value>,
-    shown: &View,
-) -> Result<Option<String>, Failure>
+    opened: &View,
+) -> Result<(), AllocError>
     ensures state { server.new.state ≡ server.old.state }
     ensures documents { OnOk result (map document_of server.new.documents.items
-        ≡ documents_after action (option_map view message.now) (view_of shown.now)
+        ≡ documents_after action (option_map view message.now) (view_of opened.now)
         (map document_of server.old.documents.items)) }
     ensures folders { OnOk result (map string_bytes server.new.folders.items
         ≡ folders_after action (option_map view message.now)
         (map string_bytes server.old.folders.items)) }
     ensures takes { OnOk result (server.new.takes_document_changes
         ≡ takes_after action (option_map view message.now) server.old.takes_document_changes) }
+{
+    match action {
+        Action::Ignore | Action::Reject(_) => Ok(()),
+        Action::Handle(notification) => {
+            note_notification(alloc, server, notification, message, opened)
+        }
+        Action::Answer(request) => {
+            if matches!(request, Request::Initialize) {
+                initialize(alloc, server, message)?;
+            }
+            Ok(())
+        }
+    }
+}
+
+/// Performs a noted action on a message, with what the disk shows for it, and returns the text to
+/// send, if any. Keeps the index that it makes. The only error is `Memory`.
+pub fn perform(
+    alloc: Global,
+    server: &Server,
+    gathered: &mut Gathered,
+    action: Action,
+    message: &Option<Value>,
+    shown: &View,
+) -> Result<Option<String>, Failure>
     ensures sends { IfOk result (λ sent. Sends action (option_map view message.now)
-        (held_of server.new) (view_of shown.now) (option_map string_bytes sent)) }
+        (held_of server.now) (view_of shown.now) (option_map string_bytes sent)) }
     ensures err { IfErr result (λ failure. failure ≡ Memory) }
 {
     match action {
         Action::Ignore => Ok(None),
         Action::Reject(code) => Ok(Some(error_response(alloc, message, code)?)),
         Action::Handle(notification) => {
-            handle_notification(alloc, server, notification, message, shown)
+            report_named(alloc, &server.documents, notification, message, shown)
         }
         Action::Answer(request) => {
-            if matches!(request, Request::Initialize) {
-                initialize(alloc, server, message)?;
-            }
             Ok(Some(response(alloc, server, gathered, request, message, shown)?))
         }
     }
@@ -129,14 +150,14 @@ fn error_response(
     replies::error_response(alloc, id, code, reason_of(code))
 }
 
-/// Handles a notification, and returns the text to send, if any.
-fn handle_notification(
+/// Notes what a notification changes.
+fn note_notification(
     alloc: Global,
     server: &mut Server,
     notification: Notification,
     message: &Option<Value>,
-    shown: &View,
-) -> Result<Option<String>, Failure>
+    opened: &View,
+) -> Result<(), AllocError>
     ensures state { server.new.state ≡ server.old.state }
     ensures takes { server.new.takes_document_changes ≡ server.old.takes_document_changes }
     ensures folders { OnOk result (map string_bytes server.new.folders.items
@@ -144,11 +165,7 @@ fn handle_notification(
         (map string_bytes server.old.folders.items)) }
     ensures documents { OnOk result (map document_of server.new.documents.items
         ≡ documents_after_notification notification (option_map view message.now)
-        (view_of shown.now) (map document_of server.old.documents.items)) }
-    ensures sends { IfOk result (λ sent. serving.ReportsNamed notification
-        (option_and_then parameters_of.uri_of (option_map view message.now))
-        (map document_of server.new.documents.items) (option_map string_bytes sent)) }
-    ensures err { IfErr result (λ failure. failure ≡ Memory) }
+        (view_of opened.now) (map document_of server.old.documents.items)) }
 {
     match message {
         Some(message) => {
@@ -158,43 +175,79 @@ fn handle_notification(
             match uri_of(message) {
                 Some(uri) => {
                     let documents = &mut server.documents;
-                    handle_for(alloc, documents, notification, uri, message, shown)
+                    note_for(alloc, documents, notification, uri, message, opened)
                 }
-                None => Ok(None),
+                None => Ok(()),
             }
         }
-        None => Ok(None),
+        None => Ok(()),
     }
 }
 
-/// Handles a notification about a document.
-fn handle_for(
+/// Notes a notification about a document.
+fn note_for(
     alloc: Global,
     documents: &mut Vec<Document>,
     notification: Notification,
     uri: &str,
     message: &Value,
+    opened: &View,
+) -> Result<(), AllocError>
+    ensures { OnOk result (map document_of documents.new.items
+        ≡ documents_noted notification uri.now (view message.now) (view_of opened.now)
+        (map document_of documents.old.items)) }
+{
+    match notification {
+        Notification::DidOpen => did_open(alloc, documents, uri, message, opened),
+        Notification::DidChange => did_change(alloc, documents, uri, message),
+        Notification::DidClose => {
+            close(documents, uri);
+            Ok(())
+        }
+        Notification::Initialized
+        | Notification::Exit
+        | Notification::DidChangeWorkspaceFolders
+        | Notification::Other => Ok(()),
+    }
+}
+
+/// The text to send after a noted notification, if any.
+fn report_named(
+    alloc: Global,
+    documents: &[Document],
+    notification: Notification,
+    message: &Option<Value>,
     shown: &View,
 ) -> Result<Option<String>, Failure>
-    ensures documents { OnOk result (map document_of documents.new.items
-        ≡ documents_noted notification uri.now (view message.now) (view_of shown.now)
-        (map document_of documents.old.items)) }
-    ensures sends { IfOk result (λ sent. Reports notification uri.now
-        (map document_of documents.new.items) (option_map string_bytes sent)) }
+    ensures ok { IfOk result (λ sent. serving.ReportsNamed notification
+        (option_and_then parameters_of.uri_of (option_map view message.now))
+        (map document_of documents.now) (view_of shown.now) (option_map string_bytes sent)) }
+    ensures err { IfErr result (λ failure. failure ≡ Memory) }
+{
+    match message {
+        Some(message) => match uri_of(message) {
+            Some(uri) => report(alloc, documents, notification, uri, shown),
+            None => Ok(None),
+        },
+        None => Ok(None),
+    }
+}
+
+/// The text to send after a noted notification about a document, if any.
+fn report(
+    alloc: Global,
+    documents: &[Document],
+    notification: Notification,
+    uri: &str,
+    shown: &View,
+) -> Result<Option<String>, Failure>
+    ensures ok { IfOk result (λ sent. Reports notification uri.now
+        (map document_of documents.now) (view_of shown.now) (option_map string_bytes sent)) }
     ensures err { IfErr result (λ failure. failure ≡ Memory) }
 {
     match notification {
-        Notification::DidOpen => {
-            did_open(alloc, documents, uri, message, shown)?;
-            publish(alloc, documents, uri)
-        }
-        Notification::DidChange => {
-            did_change(alloc, documents, uri, message)?;
-            publish(alloc, documents, uri)
-        }
-        Notification::DidClose => {
-            close(documents, uri);
-            publish(alloc, documents, uri)
+        Notification::DidOpen | Notification::DidChange | Notification::DidClose => {
+            publish(alloc, documents, uri, shown)
         }
         Notification::Initialized
         | Notification::Exit
@@ -204,13 +257,20 @@ fn handle_for(
 }
 
 /// The text of the notification with the diagnostics of a document.
-fn publish(alloc: Global, documents: &[Document], uri: &str) -> Result<Option<String>, Failure>
+fn publish(
+    alloc: Global,
+    documents: &[Document],
+    uri: &str,
+    shown: &View,
+) -> Result<Option<String>, Failure>
     ensures ok { IfOk result (λ sent. Publishes uri.now (map document_of documents.now)
-        (option_map string_bytes sent)) }
+        (view_of shown.now) (option_map string_bytes sent)) }
     ensures err { IfErr result (λ failure. failure ≡ Memory) }
 {
-    let text = publish_diagnostics(alloc, uri, text_of(documents, uri))?;
-    Ok(Some(text))
+    let programs = programs_of(alloc, documents, shown)?;
+    let (file, text) = (shown.file.as_str(), text_of(documents, uri));
+    let sent = publish_diagnostics(alloc, uri, &programs, file, text)?;
+    Ok(Some(sent))
 }
 
 /// Opens the document in a message.
@@ -219,15 +279,15 @@ fn did_open(
     documents: &mut Vec<Document>,
     uri: &str,
     message: &Value,
-    shown: &View,
+    opened: &View,
 ) -> Result<(), AllocError>
     ensures { OnOk result (map document_of documents.new.items ≡ serving.did_open uri.now
-        (parameters_of.text_of (view message.now)) (view message.now) (view_of shown.now)
+        (parameters_of.text_of (view message.now)) (view message.now) (view_of opened.now)
         (map document_of documents.old.items)) }
 {
     match parameters::text_of(message) {
         Some(text) => {
-            let file = String::from_str(alloc, shown.file.as_str())?;
+            let file = String::from_str(alloc, opened.file.as_str())?;
             let text = String::from_str(alloc, text)?;
             open(alloc, documents, uri, file, version_of(message), text)
         }

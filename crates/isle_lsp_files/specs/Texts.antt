@@ -1,6 +1,6 @@
 -- The texts of a program.
-use Rattle.std.specs.Prelude.{ℕ, List, [], ◌∷◌, ◌++◌, Bool, true, false, not, ◌&&◌, ◌||◌, Option, None, Some, bytes_eq, filter, map, if◌then◌else◌}
-use Rattle.std.specs.List.{list_any}
+use Rattle.std.specs.Prelude.{ℕ, List, [], ◌∷◌, ◌++◌, Bool, true, false, not, ◌&&◌, ◌||◌, Option, None, Some, bytes_eq, filter, is_some, map, option_to_list, if◌then◌else◌}
+use Rattle.std.specs.List.{flat_map, list_all, list_any}
 use Rattle.isle_lsp_files.specs.Disks.{File, View}
 use Rattle.isle_lsp_files.specs.Documents.{Document, latest}
 use Rattle.isle_lsp_features.specs.Programs.{Text}
@@ -54,3 +54,18 @@ is_beside view t = bytes_eq t.file view.file || membership.has_file t.file (memb
 abbrev pub program_of : (names_file : Bool) → List Document → View → List Text
 program_of true docs view = filter (is_beside view) (all_texts docs view)
 program_of false docs view = all_texts docs view
+
+-- whether each of these files has a text
+abbrev pub is_whole : List Text → (files : List (List ℕ)) → Bool
+is_whole texts files = list_all (λ file. is_some (text_at file texts)) files
+
+-- the texts of these files, in this order
+abbrev pub texts_in : List Text → (files : List (List ℕ)) → List Text
+texts_in texts files = flat_map (λ file. option_to_list (text_at file texts)) files
+
+-- the programs that have the file that is asked about and whose files all have texts, each as its texts
+abbrev pub programs_in : View → List Text → List (List Text)
+programs_in view texts = map (texts_in texts) (filter (λ p. membership.has_file view.file p && is_whole texts p) view.programs)
+
+abbrev pub programs_of : List Document → View → List (List Text)
+programs_of docs view = programs_in view (all_texts docs view)

@@ -194,7 +194,8 @@ fn manifest_at<R: Files + AllocGlobal + Clone + Drop>(
     }
 }
 
-/// Adds a program of the manifest in a folder, and those of its files that are not there yet.
+/// Adds a program of the manifest in a folder, and those of its files that are not there yet. An
+/// entry that stands for no file is held as a path of its own, which leads to none.
 fn add_program<R: Files + AllocGlobal + Clone + Drop>(
     rt: &R,
     top: &str,
@@ -203,13 +204,17 @@ fn add_program<R: Files + AllocGlobal + Clone + Drop>(
     view: &mut View,
 ) -> Result<(), AllocError> {
     let mut paths = Vec::new(rt.alloc());
-    for path in paths_of(rt, top, program)?.paths {
+    let listed = paths_of(rt, top, program)?;
+    for path in listed.paths {
         if let Some(path) = existing_path(rt, path.as_str())? {
             if !view.files.iter().any(|file| file.path == path) {
                 add_file(rt, path.as_str(), &mut view.files)?;
             }
-            paths.push(path)?;
+            add_path(&mut paths, path)?;
         }
+    }
+    for entry in listed.missing {
+        add_path(&mut paths, format!(in rt.alloc(); "{top}/{entry}")?)?;
     }
     for document in documents {
         let path = document.file.as_str();
@@ -218,6 +223,15 @@ fn add_program<R: Files + AllocGlobal + Clone + Drop>(
         }
     }
     view.programs.push(paths)?;
+    Ok(())
+}
+
+/// Adds a path, unless it is there.
+fn add_path(paths: &mut Vec<String>, path: String) -> Result<(), AllocError> {
+    if has_file(paths, path.as_str()) {
+        return Ok(());
+    }
+    paths.push(path)?;
     Ok(())
 }
 
@@ -363,7 +377,7 @@ fn add_programs(
     Ok(())
 }
 
-/// The paths of the files that are in a folder or in one above it.
+/// The paths of the files that are in a folder or in one above it, sorted.
 fn paths_above(
     alloc: Global,
     texts: &[FolderText],
@@ -375,15 +389,17 @@ fn paths_above(
             paths.push(String::from_str(alloc, text.path)?)?;
         }
     }
+    paths.sort()?;
     Ok(paths)
 }
 
-/// The paths of all files.
+/// The paths of all files, sorted.
 fn all_paths(alloc: Global, texts: &[FolderText]) -> Result<Vec<String>, AllocError> {
     let mut paths = Vec::new(alloc);
     for text in texts {
         paths.push(String::from_str(alloc, text.path)?)?;
     }
+    paths.sort()?;
     Ok(paths)
 }
 

@@ -2,6 +2,7 @@
 //! open documents that are none of these.
 
 ghost use Rattle.std.specs.Prelude.{◌≡◌, ◌++◌, IfOk, OnOk, filter, map, not, option_map};
+ghost use Rattle.std.specs.Prelude.{string_bytes};
 ghost use Rattle.isle_lsp_files.specs.Disks.{file_of, view_of};
 ghost use Rattle.isle_lsp_files.specs.Documents.{document_of};
 ghost use Rattle.isle_lsp_files.specs.Texts as wanted;
@@ -191,4 +192,65 @@ fn texts_beside<'a>(
         }
     }
     Ok(beside)
+}
+
+/// The programs that have the view's file, each as its texts. A program with a file that is not
+/// there or can't be read is left out.
+pub fn programs_of<'a>(
+    alloc: Global,
+    documents: &'a [Document],
+    view: &'a View,
+) -> Result<Vec<Vec<Text<'a>>>, AllocError>
+    ensures { IfOk result (λ programs. map (λ p. map text_of p.items) programs.items
+        ≡ wanted.programs_of (map document_of documents.now) (view_of view.now)) }
+{
+    let texts = all_texts(alloc, documents, view)?;
+    programs_in(alloc, view, &texts)
+}
+
+fn programs_in<'a>(
+    alloc: Global,
+    view: &View,
+    texts: &[Text<'a>],
+) -> Result<Vec<Vec<Text<'a>>>, AllocError>
+    ensures { IfOk result (λ programs. map (λ p. map text_of p.items) programs.items
+        ≡ wanted.programs_in (view_of view.now) (map text_of texts.now)) }
+{
+    let mut programs = Vec::new(alloc);
+    for program in &view.programs {
+        if membership::has_file(program, view.file.as_str()) && is_whole(texts, program) {
+            programs.push(texts_in(alloc, texts, program)?)?;
+        }
+    }
+    Ok(programs)
+}
+
+/// Returns whether each of these files has a text.
+fn is_whole(texts: &[Text], files: &[String]) -> bool
+    ensures { result ≡ wanted.is_whole (map text_of texts.now) (map string_bytes files.now) }
+{
+    for file in files {
+        if text_at(texts, file.as_str()).is_none() {
+            return false;
+        }
+    }
+    true
+}
+
+/// The texts of these files, in this order.
+fn texts_in<'a>(
+    alloc: Global,
+    texts: &[Text<'a>],
+    files: &[String],
+) -> Result<Vec<Text<'a>>, AllocError>
+    ensures { IfOk result (λ found. map text_of found.items
+        ≡ wanted.texts_in (map text_of texts.now) (map string_bytes files.now)) }
+{
+    let mut found = Vec::new(alloc);
+    for file in files {
+        if let Some(text) = text_at(texts, file.as_str()) {
+            found.push(text)?;
+        }
+    }
+    Ok(found)
 }

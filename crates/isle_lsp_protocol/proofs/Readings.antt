@@ -1,5 +1,5 @@
 -- Tokens that were written for data are read back as that data.
-use Rattle.std.proofs.Common.{◌≡◌, ℕ, ℤ, ◌≤◌, List, [], ◌++◌, Option, Some, decimal, option_and_then, refl, sym, ap, ◌∙◌, arith, append-nil}
+use Rattle.std.proofs.Common.{◌≡◌, ℕ, ℤ, ◌≤◌, Bool, true, false, List, [], ◌++◌, Option, Some, decimal, option_and_then, refl, sym, ap, ◌∙◌, arith, append-nil}
 use Rattle.json.specs.Token.{Token}
 use Rattle.json.specs.Lex.{tokens}
 use Rattle.json.specs.Json as json
@@ -13,7 +13,7 @@ use Rattle.serde_json.specs.Written.{items_outline, members_outline, outline}
 use Rattle.isle_lsp_text.specs.declared.positions.Position.{Position}
 use Rattle.isle_lsp_text.specs.declared.positions.Range.{Range}
 use Rattle.isle_lsp_protocol.specs.Replies.{IsTextOf}
-use Rattle.isle_lsp_protocol.specs.Results.{completion_item, document_edits, document_identifier, document_symbol, error_data, location, position_data, range_data, text_edit, version_data, warning_data, workspace_edit, workspace_symbol}
+use Rattle.isle_lsp_protocol.specs.Results.{checked_data, completion_item, document_edits, document_identifier, document_symbol, error_data, location, position_data, range_data, text_edit, version_data, warning_data, workspace_edit, workspace_symbol}
 use Rattle.isle_lsp_protocol.specs.Written.{Adds, Reads}
 
 mutual
@@ -56,6 +56,10 @@ range_reads r s e = rw e (rw s refl)
 
 pub warning_reads : (r : Range) (code message : List ℕ) → Reads (range_data r) → Reads (warning_data r code message)
 warning_reads r code message h = rw h (rw (number_of-decimal 2 (omega arith)) refl)
+
+pub checked_reads : (r : Range) (is_error : Bool) (kind message : List ℕ) → Reads (range_data r) → Reads (checked_data r is_error kind message)
+checked_reads r true kind message h = rw h (rw (number_of-decimal 1 (omega arith)) refl)
+checked_reads r false kind message h = rw h (rw (number_of-decimal 2 (omega arith)) refl)
 
 pub error_reads : (r : Range) (message : List ℕ) → Reads (range_data r) → Reads (error_data r message)
 error_reads r message h = rw h (rw (number_of-decimal 1 (omega arith)) refl)

@@ -1,5 +1,5 @@
 -- The results of requests and their parts, as JSON.
-use Rattle.std.specs.Prelude.{ℕ, ℤ, List, codes, Option, None, Some}
+use Rattle.std.specs.Prelude.{ℕ, ℤ, List, Bool, true, false, codes, Option, None, Some}
 use Rattle.serde_json.specs.Data.{Data, null, number, unsigned, string, object, Members, member, no_members, put}
 use Rattle.serde_json.specs.Find.{of_integer}
 use Rattle.isle_lsp_text.specs.declared.positions.Position.{Position}
@@ -24,6 +24,16 @@ abbrev pub warning_data : Range → (code message : List ℕ) → Data
 warning_data range code message =
     object (member (codes "code") (string code) (member (codes "message") (string message) (member (codes "range") (range_data range)
     (member (codes "severity") (number (unsigned 2)) (member (codes "source") (string (codes "isle")) no_members)))))
+
+abbrev pub severity : (is_error : Bool) → ℕ
+severity true = 1
+severity false = 2
+
+-- what the check of a program tells, with the name of its kind
+abbrev pub checked_data : Range → (is_error : Bool) → (kind message : List ℕ) → Data
+checked_data range is_error kind message =
+    object (member (codes "code") (string kind) (member (codes "message") (string message) (member (codes "range") (range_data range)
+    (member (codes "severity") (number (unsigned (severity is_error))) (member (codes "source") (string (codes "isle-check")) no_members)))))
 
 abbrev pub location : List ℕ → Range → Data
 location uri range = object (member (codes "range") (range_data range) (member (codes "uri") (string uri) no_members))

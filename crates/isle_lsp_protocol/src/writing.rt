@@ -7,8 +7,8 @@ ghost use Rattle.json.specs.Tree.{json_tokens};
 ghost use Rattle.serde_json.specs.Data.{unsigned};
 ghost use Rattle.serde_json.specs.Read.{number_of};
 ghost use Rattle.serde_json.specs.Written.{outline};
-ghost use Rattle.isle_lsp_protocol.specs.Results.{error_data, position_data, range_data};
-ghost use Rattle.isle_lsp_protocol.specs.Results.{warning_data};
+ghost use Rattle.isle_lsp_protocol.specs.Results.{checked_data, error_data, position_data};
+ghost use Rattle.isle_lsp_protocol.specs.Results.{range_data, severity, warning_data};
 ghost use Rattle.isle_lsp_protocol.specs.Written.{Reads};
 
 use isle_lsp_text::positions::{Position, Range};
@@ -49,6 +49,35 @@ pub fn put_error(out: &mut Writer, range: Range, message: &str) -> Result<(), Al
     put_number(out, "severity", 1)?;
     put_text(out, "source", "isle")?;
     out.end_object()
+}
+
+/// Writes the diagnostic of what the check of a program tells. Its code is the name of its kind.
+#[tactic(auto, using(crate::proofs::Tokens::appended))]
+pub fn put_checked(
+    out: &mut Writer,
+    range: Range,
+    is_error: bool,
+    kind: &str,
+    message: &str,
+) -> Result<(), AllocError>
+    ensures before { out.new.before ≡ out.old.before }
+    ensures tokens { OnOk result (out.new.tokens ≡ out.old.tokens
+        ++ json_tokens (outline (checked_data range is_error kind.now message.now))) }
+{
+    out.begin_object()?;
+    put_text(out, "code", kind)?;
+    put_text(out, "message", message)?;
+    put_range(out, "range", range)?;
+    put_number(out, "severity", severity(is_error))?;
+    put_text(out, "source", "isle-check")?;
+    out.end_object()
+}
+
+/// The number of a severity.
+fn severity(is_error: bool) -> usize
+    ensures { result ≡ severity is_error }
+{
+    if is_error { 1 } else { 2 }
 }
 
 /// Writes a member whose value is a range.

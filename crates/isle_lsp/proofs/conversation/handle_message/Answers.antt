@@ -7,9 +7,11 @@ use Rattle.isle_lsp.proofs.conversation.handle_message.Goals as goal
 pub returns-clause-ok : goal.returns-clause-ok
 returns-clause-ok g c = λ moments e.
     let m = c.message_in.ensures in
-    prepared _ _ _ (option_map view c.in_ok-message.message) _ _ _ moments _ c.handle.result
+    prepared _ _ _ (option_map view c.in_ok-message.message) _ _ _ _ moments _ _ c.perform.result
     (rw c.as_slice.ensures.value at c.in_ok-message.ensures.ok)
     (c.step-state.ensures.state ∙ ap (next_state c.args.server.now.state) m)
     (c.step-state.ensures.action ∙ ap (action_of c.args.server.now.state) m)
-    (c.in_ok-shown.ensures moments e)
-    c.handle.ensures.state c.handle.ensures.documents c.handle.ensures.folders c.handle.ensures.takes c.handle.ensures.sends
+    (c.in_ok-opened.ensures moments e)
+    c.in_ok-note.ensures.state c.in_ok-note.ensures.documents c.in_ok-note.ensures.folders c.in_ok-note.ensures.takes
+    c.in_ok-shown.ensures
+    c.perform.ensures.sends

@@ -1,6 +1,7 @@
 use Rattle.std.proofs.Common.{◌≡◌, ◌++◌, drop, map}
 use Rattle.isle_lint_core.specs.Finding.{finding_of}
-use Rattle.isle_lsp.specs.Diagnostics.{found_mark, mark_of, shown}
+use Rattle.isle_lsp.specs.Diagnostics.{found_mark, shown}
+use Rattle.isle_lsp.specs.Marks.{mark_of}
 use Rattle.isle_lsp.proofs.diagnostics.finding_diagnostics.Given as goal
 
 abbrev pub invariant-loop-finding : goal.invariant-loop-finding

@@ -2,7 +2,7 @@ use Rattle.std.proofs.Common.{[], ◌++◌, ap, map, ◌∙◌, arith, string_by
 use Rattle.json.specs.Lex.{tokens}
 use Rattle.json.specs.Tree.{json_tokens}
 use Rattle.serde_json.specs.Written.{outline}
-use Rattle.isle_lsp.specs.Diagnostics.{mark_of}
+use Rattle.isle_lsp.specs.Marks.{mark_of}
 use Rattle.isle_lsp.specs.Published.{diagnostics_data}
 use Rattle.isle_lsp_protocol.proofs.Readings.{adds_outline, is_text}
 use Rattle.isle_lsp_protocol.specs.Replies.{publishing}

@@ -4,7 +4,7 @@ use Rattle.json.specs.Token.{begin_array, key}
 use Rattle.json.specs.Tree.{items_tokens}
 use Rattle.serde_json.specs.View.{items_of}
 use Rattle.serde_json.specs.Written.{items_outline}
-use Rattle.isle_lsp.specs.Diagnostics.{mark_of}
+use Rattle.isle_lsp.specs.Marks.{mark_of}
 use Rattle.isle_lsp.specs.Published.{mark_data}
 use Rattle.isle_lsp.proofs.published.put_diagnostics.Given as goal
 

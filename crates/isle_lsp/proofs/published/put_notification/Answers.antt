@@ -3,7 +3,7 @@ use Rattle.std.proofs.lemmas.Result.{on_ok_weaker}
 use Rattle.json.specs.Token.{end_object, key, string}
 use Rattle.json.specs.Tree.{json_tokens}
 use Rattle.serde_json.specs.Written.{outline}
-use Rattle.isle_lsp.specs.Diagnostics.{mark_of}
+use Rattle.isle_lsp.specs.Marks.{mark_of}
 use Rattle.isle_lsp.specs.Published.{diagnostics_data}
 use Rattle.isle_lsp.specs.Published.{parameters_data}
 use Rattle.isle_lsp.proofs.published.put_notification.Goals as goal

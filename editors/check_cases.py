@@ -1,0 +1,112 @@
+"""The cases of editors/sessions about what the check of programs tells of the document that is opened or changed."""
+
+from program_cases import ARM_FILE, PRELUDE, TOML, X64_FILE
+from session_cases import Case
+
+TYPES = "(type T (primitive T))\n(type U (primitive U))\n"
+DECLARED = TYPES + "(decl foo (T) T)\n(decl made () U)\n(extern constructor made made)\n"
+RIGHT, WRONG = "(rule (foo x) x)\n", "(rule (foo x) (made))\n"
+WRONG_TYPE = "error 1:15 term-type Mismatched types: expression expects type 'T' but term has return type 'U'"
+GONE = "error 1:15 unknown-term Unknown term in expression: 'made'"
+ARGUMENTS = "(rule (lower x) (shared x x))\n"
+COUNT = "error 2:17 argument-count Incorrect argument count for term 'shared': got 2, expect 1"
+LOWER = "(decl lower (T) T)\n"
+ABSENT = TOML.replace(', "made/absent.isle"', "")
+
+CHECKED = [
+    Case(
+        "checking: a wrong type appears as it is typed, and goes as it is mended",
+        {"a.isle": DECLARED, "b.isle": RIGHT},
+        [
+            ("open", "b.isle"),
+            ("diagnostics", "b.isle"),
+            ("whole", "b.isle", WRONG),
+            ("diagnostics", "b.isle", WRONG_TYPE),
+            ("whole", "b.isle", RIGHT),
+            ("diagnostics", "b.isle"),
+            ("whole", "b.isle", WRONG),
+            ("diagnostics", "b.isle", WRONG_TYPE),
+            ("close", "b.isle"),
+            ("diagnostics", "b.isle"),
+        ],
+    ),
+    Case(
+        "checking: a term that is declared in a closed file, and then no more",
+        {"a.isle": DECLARED.replace("(decl made () U)", "(decl made () T)"), "b.isle": WRONG},
+        [
+            ("open", "b.isle"),
+            ("diagnostics", "b.isle"),
+            ("write", "a.isle", TYPES + "(decl foo (T) T)\n"),
+            ("insert", "b.isle", "made", " "),
+            ("diagnostics", "b.isle", GONE),
+        ],
+    ),
+    Case(
+        "checking: a term that is declared in an open file alone",
+        {"a.isle": TYPES + "(decl foo (T) T)\n", "b.isle": WRONG},
+        [
+            ("open", "b.isle"),
+            ("diagnostics", "b.isle", GONE),
+            ("open", "a.isle", DECLARED.replace("(decl made () U)", "(decl made () T)")),
+            ("insert", "b.isle", "made", " "),
+            ("diagnostics", "b.isle"),
+        ],
+    ),
+    Case(
+        "checking: errors of another file are not told of this one",
+        {"a.isle": DECLARED, "b.isle": WRONG},
+        [("open", "a.isle"), ("diagnostics", "a.isle")],
+    ),
+    Case(
+        "checking: a program with a syntax error in another file",
+        {"a.isle": DECLARED, "b.isle": WRONG},
+        [
+            ("open", "b.isle"),
+            ("diagnostics", "b.isle", WRONG_TYPE),
+            ("open", "a.isle", DECLARED + "("),
+            ("insert", "b.isle", "made", " "),
+            ("diagnostics", "b.isle"),
+            ("whole", "a.isle", DECLARED),
+            ("insert", "b.isle", "made", " "),
+            ("diagnostics", "b.isle", WRONG_TYPE),
+        ],
+    ),
+    Case(
+        "checking: two programs of one tree, each by itself",
+        {"prelude.isle": PRELUDE, X64_FILE: LOWER + "(rule (lower x) (shared x))\n", ARM_FILE: LOWER + ARGUMENTS, "isle.toml": ABSENT},
+        [("open", X64_FILE), ("diagnostics", X64_FILE), ("open", ARM_FILE), ("diagnostics", ARM_FILE, COUNT)],
+    ),
+    Case(
+        "checking: what two programs tell of a file that they share stands once",
+        {
+            "prelude.isle": PRELUDE + "(rule (shared x) (shared x x))\n",
+            X64_FILE: LOWER + "(rule (lower x) x)\n",
+            ARM_FILE: LOWER + "(rule (lower x) x)\n",
+            "isle.toml": ABSENT,
+        },
+        [("open", "prelude.isle"), ("diagnostics", "prelude.isle", COUNT.replace("2:17", "4:18"))],
+    ),
+    Case(
+        "checking: a program that lacks a file is not checked",
+        {"prelude.isle": PRELUDE, X64_FILE: LOWER + ARGUMENTS, ARM_FILE: LOWER + ARGUMENTS, "isle.toml": TOML},
+        [("open", X64_FILE), ("diagnostics", X64_FILE, COUNT), ("open", ARM_FILE), ("diagnostics", ARM_FILE)],
+    ),
+    Case(
+        "checking: a file of no program is not checked",
+        {"prelude.isle": PRELUDE, "other.isle": WRONG, X64_FILE: LOWER, ARM_FILE: LOWER, "isle.toml": ABSENT},
+        [("open", "other.isle"), ("diagnostics", "other.isle")],
+    ),
+    Case(
+        "checking: a warning, and lints behind what the check tells",
+        {"a.isle": TYPES + "(extern const $C T)\n", "b.isle": "(extern const $C T)\n(decl foo (T) T)\n(rule (foo x) (let ((y T x)) x))\n"},
+        [
+            ("open", "b.isle"),
+            (
+                "diagnostics",
+                "b.isle",
+                "warning 1:15 duplicate-constant Constant '$C' declared more than once: its last type counts",
+                "warning 3:22 unused-let unused variable 'y'",
+            ),
+        ],
+    ),
+]
