@@ -16,6 +16,26 @@ const VERIFICATION: [&str; 7] = [
     "macro",
 ];
 
+/// Compiles a program by one of the two crates: the same source, with the name of the crate changed.
+/// The answer is the code, or why there is none.
+macro_rules! compiled {
+    ($by:ident, $names:expr, $texts:expr) => {{
+        use $by::{codegen, compile, error, files, lexer, parser};
+        let pairs = $names.iter().cloned().zip($texts.iter().cloned());
+        let files = Arc::new(files::Files::from_names_and_contents(pairs));
+        let mut parsed = Ok(Vec::new());
+        for (file, text) in $texts.iter().enumerate() {
+            let defs = lexer::Lexer::new(file, text).and_then(parser::parse);
+            parsed = parsed.and_then(|before| Ok([before, defs?].concat()));
+        }
+        let options = codegen::CodegenOptions::default();
+        parsed
+            .map_err(|error| error::Errors::new(vec![error], files.clone()))
+            .and_then(|defs| compile::compile(files, &defs, &options))
+            .map_err(|errors| format!("{errors:?}"))
+    }};
+}
+
 fn main() -> ExitCode {
     let names: Vec<String> = env::args().skip(1).collect();
     let texts: Result<Vec<String>, _> = names.iter().map(fs::read_to_string).collect();
@@ -26,7 +46,8 @@ fn main() -> ExitCode {
             return ExitCode::from(3);
         }
     };
-    match (whole(&names, &texts), over(&names)) {
+    let whole = compiled!(upstream, names, texts);
+    match (whole, compiled!(upstream_over, names, texts)) {
         (Ok(upstream), Ok(ours)) if upstream == ours => {
             println!("equal: {} lines of code", ours.lines().count());
             ExitCode::SUCCESS
@@ -47,28 +68,6 @@ fn main() -> ExitCode {
             ExitCode::from(1)
         }
     }
-}
-
-/// The code that upstream's whole compiler makes, or why it makes none.
-fn whole(names: &[String], texts: &[String]) -> Result<String, String> {
-    use upstream::{codegen, compile, error, files, lexer, parser};
-    let pairs = names.iter().cloned().zip(texts.iter().cloned());
-    let files = Arc::new(files::Files::from_names_and_contents(pairs));
-    let mut defs = Vec::new();
-    for (file, text) in texts.iter().enumerate() {
-        let parsed = lexer::Lexer::new(file, text).and_then(parser::parse);
-        let told = |error| format!("{:?}", error::Errors::new(vec![error], files.clone()));
-        defs.extend(parsed.map_err(told)?);
-    }
-    let options = codegen::CodegenOptions::default();
-    compile::compile(files, &defs, &options).map_err(|errors| format!("{errors:?}"))
-}
-
-/// The code that it makes over `isle_syntax`, or why it makes none.
-fn over(names: &[String]) -> Result<String, String> {
-    let options = upstream_over::codegen::CodegenOptions::default();
-    let code = upstream_over::compile::from_files(names, &options);
-    code.map_err(|errors| errors.to_string())
 }
 
 /// The text with blanks in place of each definition for verification, so that nothing moves.
