@@ -216,10 +216,7 @@ impl<'a> Reader<'a> {
         let end = self.at.checked_add(len).ok_or(Broken)?;
         let text = self.text.get(self.at..end).ok_or(Broken)?;
         self.at = end;
-        let mut owned = String::new();
-        owned.try_reserve_exact(len).map_err(|_| Memory)?;
-        owned.push_str(text);
-        Ok(Ident(owned, self.pos()?))
+        Ok(Ident(owned(text)?, self.pos()?))
     }
 
     fn names(&mut self) -> Read<Vec<Ident>> {
@@ -234,8 +231,7 @@ impl<'a> Reader<'a> {
         if len > self.text.len() - self.at {
             return Err(Broken);
         }
-        let mut items = Vec::new();
-        items.try_reserve_exact(len).map_err(|_| Memory)?;
+        let mut items = room(len)?;
         for _ in 0..len {
             items.push(item(self)?);
         }
@@ -251,16 +247,46 @@ impl<'a> Reader<'a> {
     }
 }
 
-/// A value in memory of its own.
-fn boxed<T>(value: T) -> Read<Box<T>> {
+/// Memory for so many values, at least one.
+#[inline]
+fn place<T>(len: usize) -> Read<*mut T> {
     const { assert!(size_of::<T>() > 0) };
-    // SAFETY: the layout has a size.
-    let place = unsafe { alloc(Layout::new::<T>()) }.cast::<T>();
+    let layout = Layout::array::<T>(len).map_err(|_| Memory)?;
+    debug_assert!(len > 0);
+    // SAFETY: the layout has a size: there is a value, and each has one.
+    let place = unsafe { alloc(layout) }.cast::<T>();
     if place.is_null() {
-        return Err(Memory);
+        Err(Memory)
+    } else {
+        Ok(place)
     }
-    // SAFETY: the place is new, and has the size and the alignment of the value. The allocator is
-    // that of a `Box`, which owns it from here on.
+}
+
+/// An empty list with room for so many items. `Vec::try_reserve_exact` takes twice as long.
+#[inline]
+fn room<T>(len: usize) -> Read<Vec<T>> {
+    if len == 0 {
+        return Ok(Vec::new());
+    }
+    // SAFETY: the place is new, of the allocator of lists, and has room for so many items.
+    Ok(unsafe { Vec::from_raw_parts(place(len)?, 0, len) })
+}
+
+/// A text of its own.
+#[inline]
+fn owned(text: &str) -> Read<String> {
+    let mut bytes = room(text.len())?;
+    bytes.extend_from_slice(text.as_bytes());
+    // SAFETY: the bytes are those of a text.
+    Ok(unsafe { String::from_utf8_unchecked(bytes) })
+}
+
+/// A value in memory of its own.
+#[inline]
+fn boxed<T>(value: T) -> Read<Box<T>> {
+    let place = place::<T>(1)?;
+    // SAFETY: the place is new, of the allocator of boxes, and has room for the value, which it
+    // gets before the box owns it.
     unsafe {
         place.write(value);
         Ok(Box::from_raw(place))
