@@ -80,3 +80,14 @@ fn checks() {
         assert_eq!(check(text).err(), format(text, 78).err(), "of {question}");
     }
 }
+
+#[test]
+fn the_versions_are_those_of_the_tools() {
+    let program = concat!(
+        env!("CARGO_MANIFEST_DIR"),
+        "/../../crates/isle_cli/src/program.rt"
+    );
+    let program = std::fs::read_to_string(program).unwrap();
+    let (package, language) = (env!("CARGO_PKG_VERSION"), isle_syntax::LANGUAGE_VERSION);
+    assert!(program.contains(&format!(" {package} (ISLE {language})")));
+}
