@@ -68,20 +68,23 @@ static uint32_t whole_answer(int tidies, const buffer *text, buffer *into) {
     return is.status;
 }
 
-/* Says where and why a text is refused. */
-static void tell_refusal(int tidies, const char *name, const buffer *text) {
-    uint8_t reason[256];
+/* Says where and why a text is refused, with the room that the reason needs. It gives the status. */
+static int tell_refusal(int tidies, const char *name, const buffer *text, buffer *into) {
     isle_place place;
     isle_answer is;
     memset(&place, 0, sizeof place);
-    is = tidies ? isle_c_tidy_refusal(text->bytes, text->len, reason, sizeof reason, &place)
-                : isle_c_refusal(text->bytes, text->len, reason, sizeof reason, &place);
-    if (is.status == ISLE_WRITTEN) {
-        fprintf(stderr, "%s:%zu:%zu: %.*s\n", name, place.line, place.column, (int)is.len,
-                (const char *)reason);
-    } else {
-        fprintf(stderr, "%s:%zu:%zu: refused\n", name, place.line, place.column);
+    do {
+        is = tidies ? isle_c_tidy_refusal(text->bytes, text->len, into->bytes, into->room, &place)
+                    : isle_c_refusal(text->bytes, text->len, into->bytes, into->room, &place);
+    } while (is.status == ISLE_TOO_SHORT && reserve(into, is.len));
+    if (is.status != ISLE_WRITTEN) {
+        fprintf(stderr, "%s: out of memory\n", name);
+        return 4;
     }
+    fprintf(stderr, "%s:%zu:%zu: ", name, place.line, place.column);
+    fwrite(into->bytes, 1, is.len, stderr);
+    fputc('\n', stderr);
+    return 1;
 }
 
 /* Writes the answer. It gives the status. */
@@ -93,8 +96,7 @@ static int finish(int tidies, const char *name, const buffer *text, buffer *into
         }
         return 0;
     case ISLE_REFUSED:
-        tell_refusal(tidies, name, text);
-        return 1;
+        return tell_refusal(tidies, name, text, into);
     case ISLE_NOT_UTF8:
         fprintf(stderr, "%s: not UTF-8\n", name);
         return 3;

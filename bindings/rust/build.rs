@@ -36,6 +36,8 @@ fn main() {
 /// A file of the kit's that the archive holds when it is whole: the calls for memory.
 const LAST_MEMBER: &[u8] = b"heap.pic.o/";
 
+/// Names the archive to the linker. Without a whole one there is a warning: documents are made and
+/// sources are checked without it, and only what is linked fails.
 fn link_archive() {
     println!("cargo::rerun-if-env-changed={ARCHIVE}");
     let folder = env::var("CARGO_MANIFEST_DIR").expect("Cargo names the package's folder");
@@ -44,22 +46,20 @@ fn link_archive() {
     let own = places.iter().find(|it| it.exists()).unwrap_or(&places[0]);
     let archive = env::var_os(ARCHIVE).map_or(own.clone(), PathBuf::from);
     println!("cargo::rerun-if-changed={}", archive.display());
-    let archive = match archive.canonicalize() {
-        Ok(found) if is_whole(&found) => found,
-        found => {
-            let is = if found.is_ok() {
-                "the file is not the whole"
-            } else {
-                "there is no"
-            };
-            println!(
-                "cargo::error={is} archive {}: run bindings/rust/archive in the repository of \
-                 isle-syntax (it proves the library and makes the archive), or have {ARCHIVE} name one",
-                archive.display()
-            );
-            return;
-        }
-    };
+    let found = archive.canonicalize();
+    if !found.as_deref().is_ok_and(is_whole) {
+        let is = if found.is_ok() {
+            "the file is not the whole"
+        } else {
+            "there is no"
+        };
+        println!(
+            "cargo::warning={is} archive {}: run bindings/rust/archive in the repository of \
+             isle-syntax (it proves the library and makes the archive), or have {ARCHIVE} name one",
+            archive.display()
+        );
+    }
+    let archive = found.unwrap_or(archive);
     let (Some(folder), Some(name)) = (
         archive.parent(),
         archive.file_name().and_then(OsStr::to_str),

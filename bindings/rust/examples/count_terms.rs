@@ -1,25 +1,42 @@
 //! `count_terms FILE..`: counts in how many places the rules of ISLE files use each term, and
 //! prints the terms with their counts, the most used first.
+//!
+//! The status is 1 if a file does not parse, 3 if it can't be read or isn't UTF-8, 4 when out of
+//! memory. The reason is printed to standard error, and no counts are.
 
 use isle_syntax::ast::{Def, Ident, Pos};
-use isle_syntax::parse;
+use isle_syntax::{Fault, try_parse_each};
 use std::collections::BTreeMap;
-use std::error::Error;
-use std::{env, fs};
+use std::process::ExitCode;
+use std::{env, fs, io};
 
-fn main() -> Result<(), Box<dyn Error>> {
+fn main() -> ExitCode {
     let mut counts = BTreeMap::new();
     for file in env::args().skip(1) {
-        let text = fs::read_to_string(&file)?;
-        let defs = parse(&text).map_err(|refusal| format!("{file}:{refusal}"))?;
-        defs.iter().for_each(|def| count(def, &mut counts));
+        if let Err((status, why)) = count_file(&file, &mut counts) {
+            eprintln!("{file}:{why}");
+            return ExitCode::from(status);
+        }
     }
     let mut counts: Vec<(String, usize)> = counts.into_iter().collect();
     counts.sort_by_key(|(_, uses)| std::cmp::Reverse(*uses));
     for (term, uses) in counts {
         println!("{uses:6} {term}");
     }
-    Ok(())
+    ExitCode::SUCCESS
+}
+
+/// Counts the terms of a file, or says why it can't, with the status.
+fn count_file(file: &str, counts: &mut BTreeMap<String, usize>) -> Result<(), (u8, String)> {
+    let text = fs::read_to_string(file).map_err(|error| match error.kind() {
+        io::ErrorKind::OutOfMemory => (4, format!(" {error}")),
+        _ => (3, format!(" {error}")),
+    })?;
+    // One definition at a time: the tree of the file is never whole.
+    try_parse_each(&text, |def| count(&def, counts)).map_err(|fault| match fault {
+        Fault::Refused(refusal) => (1, refusal.to_string()),
+        fault => (4, format!(" {fault}")),
+    })
 }
 
 /// Counts the terms of a definition, if it is a rule.

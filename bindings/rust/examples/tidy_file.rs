@@ -35,7 +35,7 @@ fn tidy_file(file: &str) -> u8 {
             eprintln!("{file}:{refusal}");
             1
         }
-        Err(Fault::Memory) => told(4, file, &"out of memory"),
+        Err(fault) => told(4, file, &fault),
     }
 }
 

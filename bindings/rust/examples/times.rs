@@ -42,6 +42,10 @@ fn main() -> Result<(), Box<dyn Error>> {
             Box::new(|| drop(black_box(isle_syntax::parse(&text)))),
         ),
         (
+            "parse_each",
+            Box::new(|| drop(isle_syntax::parse_each(&text, |def| drop(black_box(def))))),
+        ),
+        (
             "format",
             Box::new(|| drop(black_box(isle_syntax::format(&text, width)))),
         ),

@@ -4,24 +4,15 @@
 
 mod rules;
 mod specs;
+mod templates;
 mod walks;
+
+pub use crate::lexer::Pos;
 
 pub use rules::{Expr, Extractor, IfLet, LetDef, Pattern, Rule};
 pub use specs::{
     Arm, FieldInit, ModelField, ModelType, Modifies, Spec, SpecExpr, SpecMacro, SpecOp, State,
 };
-
-/// A position: a file and an offset in it.
-///
-/// The default position, file 0 at offset 0, stands for an unknown place. Positions are ordered by
-/// file, then by offset.
-#[derive(Clone, Copy, Debug, Default, PartialEq, Eq, PartialOrd, Ord, Hash)]
-pub struct Pos {
-    /// The number of the file.
-    pub file: usize,
-    /// The byte offset in the file, from 0.
-    pub offset: usize,
-}
 
 /// An identifier: a variable, a term symbol, or a type, with its position.
 ///

@@ -8,42 +8,51 @@ mod definitions;
 mod rules;
 mod specs;
 
-use crate::ast::{Def, Ident, Pos};
+use self::Stop::{Broken, Memory};
+use crate::ast::{Def, Ident};
+use crate::lexer::Pos;
+use std::alloc::{Layout, alloc};
 use std::fmt;
 
-/// The bytes encode no tree.
+/// Why bytes give no tree.
 #[derive(Clone, Copy, Debug, PartialEq, Eq)]
-pub(crate) struct Broken;
+pub(crate) enum Stop {
+    /// The bytes encode no tree.
+    Broken,
+    /// Out of memory.
+    Memory,
+}
 
-impl fmt::Display for Broken {
+impl fmt::Display for Stop {
     fn fmt(&self, f: &mut fmt::Formatter<'_>) -> fmt::Result {
-        f.write_str("the bytes encode no tree")
+        f.write_str(match self {
+            Broken => "the bytes encode no tree",
+            Memory => "out of memory",
+        })
     }
 }
 
-/// A decoded value, or a broken encoding.
-type Read<T> = Result<T, Broken>;
+/// A decoded value, or the reason why there is none.
+type Read<T> = Result<T, Stop>;
 
 /// The version of the encoding.
 const VERSION: u8 = 1;
 
 /// The tree that the bytes encode. All bytes must be read.
 pub(crate) fn tree(bytes: &[u8]) -> Read<Vec<Def>> {
-    // All bytes outside texts are below 128, so one check of all of them is enough.
-    let text = str::from_utf8(bytes).map_err(|_| Broken)?;
-    let mut reader = Reader { text, at: 0 };
-    if reader.byte()? != VERSION {
-        return Err(Broken);
-    }
-    let mut defs = Vec::new();
-    while let Some(def) = reader.next_def()? {
-        defs.push(def);
-    }
-    if reader.at == text.len() {
-        Ok(defs)
-    } else {
-        Err(Broken)
-    }
+    Reader::new(bytes)?.defs()
+}
+
+/// The tree that the bytes encode, with default positions.
+pub(crate) fn tree_without_pos(bytes: &[u8]) -> Read<Vec<Def>> {
+    let mut reader = Reader::new(bytes)?;
+    reader.has_pos = false;
+    reader.defs()
+}
+
+/// Calls a closure with each definition that the bytes encode. All bytes must be read.
+pub(crate) fn each(bytes: &[u8], call: impl FnMut(Def) -> Read<()>) -> Read<()> {
+    Reader::new(bytes)?.each(call)
 }
 
 /// The bytes, and how many are read.
@@ -52,9 +61,48 @@ struct Reader<'a> {
     text: &'a str,
     /// How many are read.
     at: usize,
+    /// Whether positions are those that are read, or default ones.
+    has_pos: bool,
 }
 
-impl Reader<'_> {
+impl<'a> Reader<'a> {
+    /// Reads the version.
+    fn new(bytes: &'a [u8]) -> Read<Reader<'a>> {
+        // All bytes outside texts are below 128, so one check of all of them is enough.
+        let text = std::str::from_utf8(bytes).map_err(|_| Broken)?;
+        match bytes.first() {
+            Some(&VERSION) => Ok(Reader {
+                text,
+                at: 1,
+                has_pos: true,
+            }),
+            _ => Err(Broken),
+        }
+    }
+
+    /// The definitions, up to the end of the bytes.
+    fn defs(&mut self) -> Read<Vec<Def>> {
+        let mut defs = Vec::new();
+        self.each(|def| {
+            defs.try_reserve(1).map_err(|_| Memory)?;
+            defs.push(def);
+            Ok(())
+        })?;
+        Ok(defs)
+    }
+
+    /// Calls a closure with each definition, up to the end of the bytes.
+    fn each(&mut self, mut call: impl FnMut(Def) -> Read<()>) -> Read<()> {
+        while let Some(def) = self.next_def()? {
+            call(def)?;
+        }
+        if self.at == self.text.len() {
+            Ok(())
+        } else {
+            Err(Broken)
+        }
+    }
+
     #[inline]
     fn byte(&mut self) -> Read<u8> {
         let byte = *self.text.as_bytes().get(self.at).ok_or(Broken)?;
@@ -155,7 +203,11 @@ impl Reader<'_> {
     fn pos(&mut self) -> Read<Pos> {
         let file = self.number()?;
         let offset = self.number()?;
-        Ok(Pos { file, offset })
+        Ok(if self.has_pos {
+            Pos { file, offset }
+        } else {
+            Pos::default()
+        })
     }
 
     #[inline]
@@ -164,7 +216,7 @@ impl Reader<'_> {
         let end = self.at.checked_add(len).ok_or(Broken)?;
         let text = self.text.get(self.at..end).ok_or(Broken)?;
         self.at = end;
-        Ok(Ident(text.to_owned(), self.pos()?))
+        Ok(Ident(owned(text)?, self.pos()?))
     }
 
     fn names(&mut self) -> Read<Vec<Ident>> {
@@ -179,7 +231,7 @@ impl Reader<'_> {
         if len > self.text.len() - self.at {
             return Err(Broken);
         }
-        let mut items = Vec::with_capacity(len);
+        let mut items = room(len)?;
         for _ in 0..len {
             items.push(item(self)?);
         }
@@ -192,6 +244,52 @@ impl Reader<'_> {
         } else {
             Ok(None)
         }
+    }
+}
+
+/// Memory for so many values, at least one.
+#[inline]
+fn place<T>(len: usize) -> Read<*mut T> {
+    const { assert!(size_of::<T>() > 0) };
+    let layout = Layout::array::<T>(len).map_err(|_| Memory)?;
+    debug_assert!(len > 0);
+    // SAFETY: the layout has a size: there is a value, and each has one.
+    let place = unsafe { alloc(layout) }.cast::<T>();
+    if place.is_null() {
+        Err(Memory)
+    } else {
+        Ok(place)
+    }
+}
+
+/// An empty list with room for so many items. `Vec::try_reserve_exact` takes twice as long.
+#[inline]
+fn room<T>(len: usize) -> Read<Vec<T>> {
+    if len == 0 {
+        return Ok(Vec::new());
+    }
+    // SAFETY: the place is new, of the allocator of lists, and has room for so many items.
+    Ok(unsafe { Vec::from_raw_parts(place(len)?, 0, len) })
+}
+
+/// A text of its own.
+#[inline]
+fn owned(text: &str) -> Read<String> {
+    let mut bytes = room(text.len())?;
+    bytes.extend_from_slice(text.as_bytes());
+    // SAFETY: the bytes are those of a text.
+    Ok(unsafe { String::from_utf8_unchecked(bytes) })
+}
+
+/// A value in memory of its own.
+#[inline]
+fn boxed<T>(value: T) -> Read<Box<T>> {
+    let place = place::<T>(1)?;
+    // SAFETY: the place is new, of the allocator of boxes, and has room for the value, which it
+    // gets before the box owns it.
+    unsafe {
+        place.write(value);
+        Ok(Box::from_raw(place))
     }
 }
 

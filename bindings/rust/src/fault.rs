@@ -1,5 +1,6 @@
 //! The errors of calls.
 
+use crate::decode::Stop;
 use std::error::Error;
 use std::fmt;
 
@@ -14,6 +15,7 @@ use std::fmt;
 ///
 /// [`diagnostic`](crate::diagnostic) returns the text that upstream prints.
 #[derive(Clone, Debug, PartialEq, Eq)]
+#[non_exhaustive]
 pub struct Refusal {
     /// The message, as upstream words it.
     pub message: String,
@@ -41,9 +43,9 @@ impl fmt::Display for Refusal {
 
 impl Error for Refusal {}
 
-/// The error of [`try_tidy`](crate::try_tidy), [`try_format`](crate::try_format) and
-/// [`try_check`](crate::try_check).
+/// The error of the functions `try_..`.
 #[derive(Clone, Debug, PartialEq, Eq)]
+#[non_exhaustive]
 pub enum Fault {
     /// The text is rejected.
     Refused(Refusal),
@@ -65,5 +67,14 @@ impl Error for Fault {}
 impl From<Refusal> for Fault {
     fn from(refusal: Refusal) -> Fault {
         Fault::Refused(refusal)
+    }
+}
+
+impl From<Stop> for Fault {
+    fn from(stop: Stop) -> Fault {
+        match stop {
+            Stop::Memory => Fault::Memory,
+            Stop::Broken => unreachable!("an answer encodes a tree"),
+        }
     }
 }

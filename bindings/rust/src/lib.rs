@@ -16,10 +16,16 @@
 //! **The tree of a text has no comments and no blank lines, so formatting drops them. Tidying keeps
 //! them.**
 //!
-//! [`parse`] returns the tree, in the types of upstream's module [`ast`]. The library writes it as
-//! bytes, whose meaning is proved; the decoder in this package is only tested.
+//! [`parse`] returns the tree, in the types of upstream's module [`ast`], and [`parse_each`] hands
+//! out one definition after another. The library writes a tree as bytes, whose meaning is proved;
+//! the decoder in this package is only tested.
 //!
-//! All functions are thread-safe.
+//! A program over the syntax layer of `cranelift-isle` compiles with the name of the crate changed:
+//! the modules [`ast`], [`error`], [`files`], [`lexer`], [`parser`] and [`printer`] have upstream's
+//! names and signatures. `docs/CALLING.md` in the repository lists what is missing.
+//!
+//! All functions are thread-safe. Out of memory aborts the process, as in the standard library; the
+//! functions `try_..` return [`Fault::Memory`] instead.
 //!
 //! # Deep nesting
 //!
@@ -44,8 +50,14 @@
 
 mod archive;
 pub mod ast;
+pub mod codegen;
 mod decode;
+pub mod error;
 mod fault;
+pub mod files;
+pub mod lexer;
+pub mod parser;
+pub mod printer;
 
 use archive::{Place, Told};
 use ast::Def;
@@ -53,6 +65,10 @@ pub use fault::{Fault, Refusal};
 use std::alloc::{Layout, handle_alloc_error};
 use std::panic::resume_unwind;
 use std::thread;
+
+/// The version of `cranelift-isle` as which this package reads and prints ISLE. [`version`] asks
+/// the library that is linked.
+pub const LANGUAGE_VERSION: &str = "0.137.1";
 
 /// Bytes that suffice for nearly every message.
 const MESSAGE_ROOM: usize = 256;
@@ -77,7 +93,7 @@ pub fn tidy(text: &str) -> Result<String, Refusal> {
 
 /// Returns whether a text is tidy: whether [`tidy`] would change nothing.
 ///
-/// Out of memory aborts the process.
+/// Out of memory aborts the process; [`try_is_tidy`] returns an error instead.
 ///
 /// ```
 /// assert_eq!(isle_syntax::is_tidy("(rule (f x) y)\n"), Ok(true));
@@ -88,10 +104,19 @@ pub fn tidy(text: &str) -> Result<String, Refusal> {
 ///
 /// The same as those of [`tidy`].
 pub fn is_tidy(text: &str) -> Result<bool, Refusal> {
+    try_is_tidy(text).map_err(or_end)
+}
+
+/// Returns what [`is_tidy`] does, but an error when it is out of memory.
+///
+/// # Errors
+///
+/// [`Fault::Refused`] if [`tidy`] rejects the text, and [`Fault::Memory`].
+pub fn try_is_tidy(text: &str) -> Result<bool, Fault> {
     match archive::is_tidy(text.as_bytes()) {
         Told::Accepted => Ok(true),
         Told::Untidy => Ok(false),
-        told => Err(or_end(tidy_fault(text, told))),
+        told => Err(tidy_fault(text, told)),
     }
 }
 
@@ -154,7 +179,7 @@ pub fn try_check(text: &str) -> Result<(), Fault> {
 /// Parses a text, and returns its definitions.
 ///
 /// Each position is a byte offset in the text, in file 0; [`parse_file`] takes another number. Out
-/// of memory aborts the process.
+/// of memory aborts the process; [`try_parse`] returns an error instead.
 ///
 /// ```
 /// use isle_syntax::ast::{Def, Ident, Pos};
@@ -180,10 +205,66 @@ pub fn parse(text: &str) -> Result<Vec<Def>, Refusal> {
 ///
 /// The same as those of [`check`].
 pub fn parse_file(text: &str, file: usize) -> Result<Vec<Def>, Refusal> {
-    match encoding(text, file) {
-        Ok(bytes) => Ok(decode::tree(&bytes).expect("an answer encodes a tree")),
-        Err(told) => Err(or_end(fault(text, told))),
-    }
+    try_parse_file(text, file).map_err(or_end)
+}
+
+/// Parses as [`parse`] does, but returns an error when it is out of memory.
+///
+/// # Errors
+///
+/// [`Fault::Refused`] if [`parse`] rejects the text, and [`Fault::Memory`].
+pub fn try_parse(text: &str) -> Result<Vec<Def>, Fault> {
+    try_parse_file(text, 0)
+}
+
+/// Parses as [`parse_file`] does, but returns an error when it is out of memory.
+///
+/// # Errors
+///
+/// [`Fault::Refused`] if [`parse_file`] rejects the text, and [`Fault::Memory`].
+pub fn try_parse_file(text: &str, file: usize) -> Result<Vec<Def>, Fault> {
+    let bytes = encoding(text, file).map_err(|told| fault(text, told))?;
+    decode::tree(&bytes).map_err(Fault::from)
+}
+
+/// Parses a text, and calls a closure with each definition, in order.
+///
+/// The whole text is parsed before the first call. Only one definition is made at a time, so this
+/// takes less memory than [`parse`], and less time if the definitions are not kept. Positions are
+/// as there. Out of memory aborts the process; [`try_parse_each`] returns an error instead.
+///
+/// ```
+/// use isle_syntax::ast::Def;
+///
+/// let mut rules = 0;
+/// isle_syntax::parse_each("(rule (f x) x) (decl f (A) A)", |definition| {
+///     rules += usize::from(matches!(definition, Def::Rule(_)));
+/// })?;
+/// assert_eq!(rules, 1);
+/// # Ok::<(), isle_syntax::Refusal>(())
+/// ```
+///
+/// # Errors
+///
+/// The same as those of [`check`], before the first call.
+pub fn parse_each(text: &str, call: impl FnMut(Def)) -> Result<(), Refusal> {
+    try_parse_each(text, call).map_err(or_end)
+}
+
+/// Does what [`parse_each`] does, but returns an error when it is out of memory, which may come
+/// after some calls.
+///
+/// # Errors
+///
+/// [`Fault::Refused`] if [`parse_each`] rejects the text, before the first call, and
+/// [`Fault::Memory`].
+pub fn try_parse_each(text: &str, mut call: impl FnMut(Def)) -> Result<(), Fault> {
+    let bytes = encoding(text, 0).map_err(|told| fault(text, told))?;
+    let calls = decode::each(&bytes, |def| {
+        call(def);
+        Ok(())
+    });
+    calls.map_err(Fault::from)
 }
 
 /// The encoding of a text's tree, or the status in its place.
@@ -331,3 +412,8 @@ fn or_end(fault: Fault) -> Refusal {
 fn end() -> ! {
     handle_alloc_error(Layout::new::<u8>())
 }
+
+/// The programs of the README, as tests.
+#[cfg(doctest)]
+#[doc = include_str!("../README.md")]
+struct Readme;

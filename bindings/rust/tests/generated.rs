@@ -175,10 +175,10 @@ fn a_long_answer_is_whole() {
 }
 
 #[test]
-fn the_archive_is_of_the_packages_version() {
+fn the_archive_is_of_the_language_that_the_package_names() {
     let (major, minor, patch) = isle_syntax::version();
     assert_eq!(
         format!("{major}.{minor}.{patch}"),
-        env!("CARGO_PKG_VERSION")
+        isle_syntax::LANGUAGE_VERSION
     );
 }

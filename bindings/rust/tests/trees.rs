@@ -1,78 +1,33 @@
 //! Trees of the repository's cases, and of generated texts, printed again.
 
 mod common;
-mod printer;
+mod conformance;
 
 use common::text;
+use conformance::{cases, shown};
 use isle_syntax::ast::{Def, Pos};
-use isle_syntax::{Refusal, check, format, parse, parse_file};
-use std::path::Path;
-use std::{fs, thread};
+use isle_syntax::printer::print;
+use isle_syntax::{check, format, parse, parse_each, parse_file, try_parse};
+use std::thread;
 
 /// How many texts are generated.
 const TEXTS: u64 = 2000;
 
-/// A file of the cases, a case a line.
-fn lines(name: &str) -> Vec<String> {
-    let here = Path::new(env!("CARGO_MANIFEST_DIR"));
-    let path = here.join("../../crates/isle_test_conformance").join(name);
-    let text = fs::read_to_string(path).unwrap();
-    text.lines().map(str::to_string).collect()
-}
-
-/// The text between quotes, as the cases write it.
-fn unquoted(quoted: &str) -> String {
-    let mut chars = quoted.trim_matches('"').chars();
-    let mut text = String::new();
-    while let Some(c) = chars.next() {
-        text.push(match c {
-            '\\' => match chars.next().unwrap() {
-                'n' => '\n',
-                'r' => '\r',
-                't' => '\t',
-                'u' => {
-                    let code: String = chars.by_ref().take_while(|&c| c != '}').collect();
-                    let code = u32::from_str_radix(code.trim_start_matches('{'), 16);
-                    char::from_u32(code.unwrap()).unwrap()
-                }
-                other => other,
-            },
-            c => c,
-        });
-    }
-    text
-}
-
-/// A tree as the cases show it: a position is its file and its offset, and two names that are words
-/// of contracts have others.
-fn shown(tree: &Result<Vec<Def>, Refusal>) -> String {
-    let shown = format!("{tree:?}");
-    let mut parts = shown.split("Pos { file: ");
-    let mut short = parts.next().unwrap_or_default().to_string();
-    for part in parts {
-        let (place, rest) = part.split_once(" }").unwrap();
-        short += &place.replace(", offset: ", ":");
-        short += rest;
-    }
-    short
-        .replace("Type(Type {", "TypeDef(TypeDef {")
-        .replace(" requires: [", " requires_: [")
-}
-
 #[test]
 fn parses_to_the_trees_that_the_cases_state() {
     let mut compared = 0;
-    for (case, answer) in lines("stdin").iter().zip(lines("stdout")) {
-        // A number before the text says how many tokens are read first, which nothing here does.
-        let words = case.strip_prefix("parse ");
-        let words = words.and_then(|it| it.split_once(' '));
-        let Some((file, quoted)) = words.filter(|(_, text)| text.starts_with('"')) else {
+    for case in cases("parse") {
+        // A second number says how many tokens are read first, which nothing here does.
+        let ([file], text) = (&case.numbers[..], &case.texts[0]) else {
             continue;
         };
-        let tree = parse_file(&unquoted(quoted), file.parse().unwrap());
+        let tree = parse_file(text, *file);
         match &tree {
-            Ok(_) => assert_eq!(shown(&tree), answer, "of {case}"),
-            Err(refusal) => assert!(answer.contains(&refusal.message), "of {case}: {answer}"),
+            Ok(_) => assert_eq!(shown(&tree), case.answer, "of {}", case.question),
+            Err(refusal) => {
+                let (message, answer) = (&refusal.message, &case.answer);
+                assert!(answer.contains(message), "of {}: {answer}", case.question);
+            }
         }
         compared += 1;
     }
@@ -82,24 +37,35 @@ fn parses_to_the_trees_that_the_cases_state() {
 #[test]
 fn prints_as_the_formatter_does() {
     let mut printed = 0;
-    let cases = lines("stdin");
-    let cases = cases.iter().filter_map(|it| it.strip_prefix("parse 0 "));
-    let cases = cases.filter(|it| it.starts_with('"')).map(unquoted);
+    let cases = ["parse", "format", "nodes"].into_iter().flat_map(cases);
+    let cases = cases.filter_map(|it| it.texts.into_iter().next());
     let generated = (0..TEXTS).map(text);
-    for text in cases.chain(generated) {
+    for (seed, text) in cases.chain(generated).enumerate() {
+        let width = [0, 1, 5, 13, 20, 40, 78, 200, usize::MAX][seed % 9];
         match parse(&text) {
             Ok(defs) => {
-                assert_eq!(
-                    Ok(printer::print(&defs)),
-                    format(&text, usize::MAX),
-                    "of {text}"
-                );
+                let mut out = Vec::new();
+                print(&defs, width, &mut out).unwrap();
+                let out = String::from_utf8(out).unwrap();
+                assert_eq!(Ok(out), format(&text, width), "of {text} at {width}");
                 printed += 1;
             }
             Err(refusal) => assert_eq!(check(&text), Err(refusal), "of {text}"),
         }
     }
     assert!(printed > 700, "{printed} texts");
+}
+
+#[test]
+fn definitions_one_after_another_are_those_of_the_tree() {
+    for text in (0..TEXTS).map(text) {
+        let mut defs = vec![];
+        let each = parse_each(&text, |def| defs.push(def));
+        let parsed = parse(&text);
+        assert_eq!(each.clone().map(|()| defs), parsed, "of {text}");
+        let tried = try_parse(&text).map_err(|fault| fault.to_string());
+        assert_eq!(tried, parsed.map_err(|it| it.to_string()), "of {text}");
+    }
 }
 
 #[test]

@@ -2,18 +2,6 @@
 
 use super::{Expr, Ident, Pattern, Pos, SpecExpr, Variant};
 
-impl Pos {
-    /// Makes the position of a byte offset in a file.
-    pub fn new(file: usize, offset: usize) -> Self {
-        Self { file, offset }
-    }
-
-    /// Returns whether this is the default position, which stands for an unknown place.
-    pub fn is_unknown(&self) -> bool {
-        *self == Self::default()
-    }
-}
-
 impl Variant {
     /// The full name of a variant: the enum's name, a dot and the variant's name, at the position
     /// of the variant's name.

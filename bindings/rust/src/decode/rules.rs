@@ -1,6 +1,6 @@
 //! Patterns, expressions, rules and extractors.
 
-use super::{Broken, Read, Reader};
+use super::{Broken, Read, Reader, boxed};
 use crate::ast::{Expr, Extractor, IfLet, LetDef, Pattern, Rule};
 
 impl Reader<'_> {
@@ -44,7 +44,7 @@ impl Reader<'_> {
             },
             1 => Pattern::BindPattern {
                 var: self.name()?,
-                subpat: Box::new(self.pattern()?),
+                subpat: boxed(self.pattern()?)?,
                 pos: self.pos()?,
             },
             2 => Pattern::ConstBool {
@@ -102,7 +102,7 @@ impl Reader<'_> {
             },
             5 => Expr::Let {
                 defs: self.list(Reader::let_def)?,
-                body: Box::new(self.expr()?),
+                body: boxed(self.expr()?)?,
                 pos: self.pos()?,
             },
             _ => return Err(Broken),
@@ -113,7 +113,7 @@ impl Reader<'_> {
         Ok(LetDef {
             var: self.name()?,
             ty: self.name()?,
-            val: Box::new(self.expr()?),
+            val: boxed(self.expr()?)?,
             pos: self.pos()?,
         })
     }

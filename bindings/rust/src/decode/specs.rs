@@ -1,6 +1,6 @@
 //! Specs, their expressions, and models of types.
 
-use super::{Broken, Read, Reader};
+use super::{Broken, Read, Reader, boxed};
 use crate::ast::{
     Arm, FieldInit, Ident, ModelField, ModelType, Modifies, Spec, SpecExpr, SpecMacro, SpecOp,
     State,
@@ -87,7 +87,7 @@ impl Reader<'_> {
     }
 
     fn boxed_spec_expr(&mut self) -> Read<Box<SpecExpr>> {
-        self.spec_expr().map(Box::new)
+        self.spec_expr().and_then(boxed)
     }
 
     pub(super) fn spec_expr(&mut self) -> Read<SpecExpr> {

@@ -1,12 +1,20 @@
 //! Broken encodings, and numbers at their bounds.
 
 use super::*;
-use crate::ast::{Converter, ModelType, Pos};
+use crate::ast::{Converter, ModelType};
 
 /// The bytes of a tree of one conversion.
 const CONVERSION: [u8; 17] = [
     1, 13, 1, b'c', 0, 13, 1, b'A', 0, 9, 1, b'B', 0, 11, 0, 9, 0,
 ];
+
+fn reader(text: &str) -> Reader<'_> {
+    Reader {
+        text,
+        at: 0,
+        has_pos: true,
+    }
+}
 
 fn name(text: &str, offset: usize) -> Ident {
     Ident(text.to_string(), Pos { file: 0, offset })
@@ -22,6 +30,16 @@ fn decodes_a_conversion() {
     };
     assert_eq!(tree(&CONVERSION), Ok(vec![Def::Converter(conversion)]));
     assert_eq!(tree(&[1, 0]), Ok(vec![]));
+}
+
+#[test]
+fn positions_can_be_left_out() {
+    let defs = tree_without_pos(&CONVERSION).unwrap();
+    let [Def::Converter(it)] = &defs[..] else {
+        panic!("{defs:?}");
+    };
+    let places = [it.pos, it.term.1, it.inner_ty.1, it.outer_ty.1];
+    assert_eq!(places, [Pos::default(); 4]);
 }
 
 #[test]
@@ -58,8 +76,8 @@ fn each_changed_byte_gives_an_error_or_another_tree() {
 #[test]
 fn numbers_past_their_types_are_broken() {
     let read = |bytes: &[u8]| {
-        let text = str::from_utf8(bytes).unwrap();
-        Reader { text, at: 0 }.number()
+        let text = std::str::from_utf8(bytes).unwrap();
+        reader(text).number()
     };
     let mut most = vec![127; 10];
     most.push(15);
@@ -77,7 +95,7 @@ fn integers_at_their_bounds() {
         bytes.extend([127; 21]);
         bytes.push(last);
         let text = String::from_utf8(bytes).unwrap();
-        Reader { text: &text, at: 0 }.integer()
+        reader(&text).integer()
     };
     assert_eq!(read(0, 1), Ok(i128::MAX));
     assert_eq!(read(1, 1), Ok(i128::MIN));
@@ -89,7 +107,7 @@ fn integers_at_their_bounds() {
 fn a_length_past_the_bytes_takes_no_memory() {
     // A model of a struct with very many fields, of which none is there.
     let bytes = [6, 127, 127, 127, 127, 127, 7];
-    let text = str::from_utf8(&bytes).unwrap();
-    let read: Read<ModelType> = Reader { text, at: 0 }.model_type();
+    let text = std::str::from_utf8(&bytes).unwrap();
+    let read: Read<ModelType> = reader(text).model_type();
     assert_eq!(read, Err(Broken));
 }
