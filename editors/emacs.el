@@ -1,5 +1,4 @@
-(define-derived-mode isle-mode lisp-data-mode "ISLE")
-(add-to-list 'auto-mode-alist '("\\.isle\\'" . isle-mode))
+(require 'isle-mode)
 (with-eval-after-load 'eglot
   (add-to-list 'eglot-server-programs '(isle-mode . ("isle-lsp"))))
 (add-hook 'isle-mode-hook #'eglot-ensure)
