@@ -70,9 +70,7 @@ fn overlaps_are_told_as_stars(rt: HostRuntime) -> Result<(), AllocError> {
 }
 
 #[test]
-fn more_general_rules_of_a_higher_priority_hide_others(
-    rt: HostRuntime,
-) -> Result<(), AllocError> {
+fn more_general_rules_of_a_higher_priority_hide_others(rt: HostRuntime) -> Result<(), AllocError> {
     let alloc = rt.alloc();
     let mut rules = Vec::new(alloc);
     rules.push(rule(alloc, 10, 0, integers(alloc, &[1])?)?)?;
@@ -143,6 +141,9 @@ fn a_part_of_itself_is_a_warning(rt: HostRuntime) -> Result<(), AllocError> {
     assert_eq!(rt; (found.faults.len(), found.warnings.len()), (1, 1));
     assert!(rt; matches!(&found.faults[0].kind, Kind::UnequalConstraints));
     assert!(rt; matches!(&found.warnings[0].kind, Kind::PartOfItself));
-    assert_eq!(rt; (found.faults[0].pos.offset, found.warnings[0].pos.offset), (20, 10));
+    assert_eq!(rt;
+        (found.faults[0].pos.offset, found.warnings[0].pos.offset),
+        (20, 10)
+    );
     Ok(())
 }

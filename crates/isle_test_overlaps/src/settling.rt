@@ -1,8 +1,9 @@
 //! Tests of equal places.
 
 use crate::given::{argument, equal, field};
-use isle_check_places::{Constrained, Constraint, Equality, Settled, begin, constraint_at};
-use isle_check_places::{Step, same_constraint, settle};
+use isle_check_places::{
+    Constrained, Constraint, Equality, Settled, Step, begin, constraint_at, same_constraint, settle,
+};
 use std::alloc::{AllocError, Global};
 
 /// Returns that each of the first three arguments is equal to the next one.
@@ -15,11 +16,7 @@ fn chain<'a>(alloc: Global) -> Result<Vec<Equality<'a>>, AllocError> {
 }
 
 /// Returns whether an argument has this variant.
-fn is_pair(
-    alloc: Global,
-    constraints: &[Constrained],
-    index: usize,
-) -> Result<bool, AllocError> {
+fn is_pair(alloc: Global, constraints: &[Constrained], index: usize) -> Result<bool, AllocError> {
     let at = begin(alloc, Step::Argument(index))?;
     match constraint_at(constraints, &at) {
         Some(constraint) => Ok(same_constraint(&constraint, &Constraint::Variant("T.Pair", 2))),
