@@ -1,0 +1,5 @@
+pub mod Matchings
+pub mod Candidates
+pub mod Stars
+pub mod Faults
+pub mod Views

@@ -1,0 +1,98 @@
+//! The rules that are compared with one another.
+
+ghost use Rattle.std.specs.Prelude.{◌≡◌, ◌++◌, IfOk, OnOk};
+ghost use Rattle.isle_check_overlaps.specs.Candidates.{candidate_by, candidate_of, candidates};
+ghost use Rattle.isle_check_overlaps.specs.Candidates.{hides, overlap};
+ghost use Rattle.isle_check_overlaps.specs.Views as views;
+ghost use Rattle.isle_check_overlaps.specs.Views.{candidates_of, matching_of, matchings_of};
+ghost use Rattle.isle_check_places.specs.Views.{settled_of};
+
+use crate::matching::Matching;
+use isle_base_source::pos::Pos;
+use isle_check_places::{Constrained, Settled, apart, within};
+use std::alloc::{AllocError, Global};
+
+/// A rule that is compared with others.
+#[derive(Clone, Copy)]
+pub struct Candidate<'m, 'a> {
+    /// Its number among the rules of the program.
+    pub number: usize,
+    pub term: &'a str,
+    pub prio: i64,
+    pub pos: Pos,
+    pub constraints: &'m Vec<Constrained<'a>>,
+    /// Whether it has no equal places without a constraint.
+    pub is_plain: bool,
+}
+
+/// Returns the rules that are compared, in order. An `Err` means out of memory.
+pub fn candidates<'m, 'a>(
+    alloc: Global,
+    matchings: &'m [Matching<'a>],
+) -> Result<Vec<Candidate<'m, 'a>>, AllocError>
+    ensures { IfOk result (λ made. candidates_of made.items
+        ≡ candidates 0 (matchings_of matchings.now)) }
+{
+    let mut made = Vec::new(alloc);
+    for number in 0..matchings.len() {
+        add_candidate(number, &matchings[number], &mut made)?;
+    }
+    Ok(made)
+}
+
+fn add_candidate<'m, 'a>(
+    number: usize,
+    matching: &'m Matching<'a>,
+    made: &mut Vec<Candidate<'m, 'a>>,
+) -> Result<(), AllocError>
+    ensures { OnOk result (candidates_of made.new.items ≡ candidates_of made.old.items
+        ++ candidate_of number (matching_of matching.now)) }
+{
+    if !matching.clashes.is_empty() || matching.is_multi {
+        return Ok(());
+    }
+    add_settled(number, matching, &matching.settled, made)
+}
+
+fn add_settled<'m, 'a>(
+    number: usize,
+    matching: &'m Matching<'a>,
+    settled: &'m Settled<'a>,
+    made: &mut Vec<Candidate<'m, 'a>>,
+) -> Result<(), AllocError>
+    ensures { OnOk result (candidates_of made.new.items ≡ candidates_of made.old.items
+        ++ candidate_by number (matching_of matching.now) (settled_of settled.now)) }
+{
+    match settled {
+        Settled::Settled(constraints, equal) => {
+            made.push(Candidate {
+                number,
+                term: matching.term,
+                prio: matching.prio,
+                pos: matching.pos,
+                constraints,
+                is_plain: equal.is_empty(),
+            })?;
+            Ok(())
+        }
+        Settled::Unequal | Settled::Endless => Ok(()),
+    }
+}
+
+/// Returns whether two rules of one term and priority may match one value.
+pub fn overlap(a: &Candidate, b: &Candidate) -> bool
+    ensures { result ≡ overlap (views.candidate_of a.now) (views.candidate_of b.now) }
+{
+    a.prio == b.prio && a.term == b.term && !apart(a.constraints, b.constraints)
+}
+
+/// Returns whether the first rule hides the second one.
+pub fn hides(high: &Candidate, low: &Candidate) -> bool
+    ensures { result ≡ hides (views.candidate_of high.now) (views.candidate_of low.now) }
+{
+    low.prio < high.prio
+        && high.term == low.term
+        && high.is_plain
+        && low.is_plain
+        && within(high.constraints, low.constraints)
+}

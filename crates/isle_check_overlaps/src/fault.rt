@@ -1,0 +1,39 @@
+//! What is found when rules are compared.
+
+use isle_base_source::pos::Pos;
+
+/// Something that is wrong with a rule, beside others or by itself.
+#[derive(Debug, Drop)]
+pub struct Fault {
+    /// What is wrong.
+    pub kind: Kind,
+    /// The position of the rule.
+    pub pos: Pos,
+}
+
+/// What is wrong with a rule.
+#[derive(Debug, Drop)]
+pub enum Kind {
+    /// A value would have to match two constraints that differ: as they are written.
+    TwoConstraints(String, String),
+    /// Equal values would have to match constraints that differ.
+    UnequalConstraints,
+    /// A value would have to be a part of itself.
+    PartOfItself,
+    /// The rule and each of the rules at these positions may match one value, and neither has a
+    /// higher priority.
+    Overlaps(Vec<Pos>),
+    /// The rules at these positions match nothing that this rule does not match, and it has a
+    /// higher priority.
+    Shadows(Vec<Pos>),
+}
+
+/// What is found of the rules of a program.
+#[derive(Debug, Drop)]
+pub struct Comparison {
+    /// The errors.
+    pub faults: Vec<Fault>,
+    /// The warnings: the rules that would match a value that is a part of itself. They are not
+    /// compared with others.
+    pub warnings: Vec<Fault>,
+}

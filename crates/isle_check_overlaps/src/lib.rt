@@ -1,0 +1,13 @@
+//! Rules that match nothing, that overlap with others, or that hide others.
+#![tactic(auto)]
+
+mod candidates;
+mod fault;
+mod matching;
+mod overlaps;
+mod stars;
+mod unreachable;
+
+pub use fault::{Comparison, Fault, Kind};
+pub use matching::Matching;
+pub use overlaps::compare;

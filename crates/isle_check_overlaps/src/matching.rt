@@ -1,0 +1,21 @@
+//! What rules match.
+
+use isle_base_source::pos::Pos;
+use isle_check_places::{Clash, Settled};
+
+/// What a rule matches.
+#[derive(Debug, Drop)]
+pub struct Matching<'a> {
+    /// The term of the rule.
+    pub term: &'a str,
+    /// Whether the term is multi.
+    pub is_multi: bool,
+    /// The priority.
+    pub prio: i64,
+    /// The position of the rule.
+    pub pos: Pos,
+    /// The constraints that differ from the first one of their place.
+    pub clashes: Vec<Clash<'a>>,
+    /// What the constraints and the equal places come to.
+    pub settled: Settled<'a>,
+}

@@ -1,0 +1,5 @@
+pub mod Places
+pub mod Settling
+pub mod Clashes
+pub mod Comparing
+pub mod Views

@@ -1,0 +1,15 @@
+//! Places, which name the values that the rules of a term look at; what the values must be; and
+//! what follows from places that are equal.
+#![tactic(auto)]
+
+mod clashing;
+mod comparing;
+mod places;
+mod settling;
+
+pub use clashing::{Clash, clashes};
+pub use comparing::{apart, within};
+pub use places::{
+    Constrained, Constraint, Place, Step, begin, copied, same_constraint, same_place, step_on,
+};
+pub use settling::{Equality, Settled, constraint_at, settle};
