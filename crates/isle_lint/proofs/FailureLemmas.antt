@@ -22,7 +22,7 @@ abbrev pub this : Program
 this =
     record {
       name = record { ref_ptr = (0, 0); now = codes "isle-lint" };
-      usage = record { ref_ptr = (0, 0); now = codes "usage: isle-lint [--all] [--whole] [--lint NAME] [--allow NAME] [--stdin-name NAME] [--program NAME] [--all-programs] [FILE ..]\n" };
+      usage = record { ref_ptr = (0, 0); now = codes "usage: isle-lint [--all] [--lint NAME] [--allow NAME] [--stdin-name NAME] [--program NAME] [--all-programs] [FILE ..]\n" };
       help = record { ref_ptr = (0, 0); now = codes "" };
       version = record { ref_ptr = (0, 0); now = codes "" };
     }

@@ -22,12 +22,12 @@ use Rattle.isle_lint.specs.Report.{AreToldIn, count_text, sources_text}
 
 -- What is shown is what these lints find in the trees of the texts, each finding once, in order of place, but for what
 -- comments turn off; and which texts spell no tree; and how many there are of both.
-pub record IsReport (lints : List Lint) (is_whole : Bool) (sources : List Source) (shown : List ℕ) : Type 0 where
+pub record IsReport (lints : List Lint) (sources : List Source) (shown : List ℕ) : Type 0 where
   pub definitions : List Definition
   pub refusals : List (Option Error)
   pub read : IsReading sources definitions refusals
   pub told : List Found
-  pub are_told : AreToldIn lints is_whole sources definitions refusals told
+  pub are_told : AreToldIn lints sources definitions told
   pub is : shown ≡ sources_text 0 sources refusals told ++ count_text (refused_count refusals) (length told)
 
 abbrev pub is_empty : List ℕ → Bool
@@ -41,11 +41,11 @@ told_status is_read is_clean = if is_read then (if is_clean then 0 else 1) else 
 abbrev pub IsProgram : Program → Type 0
 IsProgram program =
     (program.name.now ≡ codes "isle-lint")
-    × (program.usage.now ≡ codes "usage: isle-lint [--all] [--whole] [--lint NAME] [--allow NAME] [--stdin-name NAME] [--program NAME] [--all-programs] [FILE ..]\n")
+    × (program.usage.now ≡ codes "usage: isle-lint [--all] [--lint NAME] [--allow NAME] [--stdin-name NAME] [--program NAME] [--all-programs] [FILE ..]\n")
 
 abbrev pub AreOptions : Options → Type 0
 AreOptions options =
-    (map (λ flag. flag.now) options.flags.now ≡ codes "--all" ∷ codes "--whole" ∷ [])
+    (map (λ flag. flag.now) options.flags.now ≡ codes "--all" ∷ [])
     × (map (λ setting. setting.now) options.settings.now ≡ codes "--lint" ∷ codes "--allow" ∷ [])
 
 -- the words ask this of the program
@@ -66,7 +66,7 @@ pub record Looks (given : List Given) (input input' : Option (List ℕ)) (Holds 
   pub faults : List ℕ
   pub read : IsReadFrom (name_list given) (stdin_name given) program input input' sources faults
   pub shown : List ℕ
-  pub report : IsReport (lints_on given) (is_empty faults) sources shown
+  pub report : IsReport (lints_on given) sources shown
   pub holds : Holds faults shown
 
 -- it is told, and this is the status

@@ -19,7 +19,7 @@ pub const VERSION: &str = version!("isle-lint");
 
 /// The help.
 pub const HELP: &str = "\
-usage: isle-lint [--all] [--whole] [--lint NAME] [--allow NAME] [--stdin-name NAME]
+usage: isle-lint [--all] [--lint NAME] [--allow NAME] [--stdin-name NAME]
                  [--program NAME] [--all-programs] [FILE ..]
 
 Lints ISLE source. All files are linted as one program. A folder stands for every .isle file below
@@ -29,8 +29,7 @@ With --program or --all-programs, programs of the nearest isle.toml are linted, 
 is looked for in the current folder and above it, or in the one folder that is given.
 
 Options:
-  --all              enable all lints, except those that need the complete program
-  --whole            treat the files as a complete program, and enable the lints that need one
+  --all              enable all lints
   --lint NAME        enable a lint; may be repeated
   --allow NAME       disable a lint; may be repeated, and takes precedence over --lint
   --stdin-name NAME  use NAME for standard input in messages
@@ -44,15 +43,7 @@ The comment `; isle-lint: allow NAME` above a definition disables a lint for it.
 
 Lints that are enabled by default:
   unused-let               a variable of a let is never used
-  unknown-variable         an expression uses a variable that is not bound
   duplicate-rule-name      an earlier rule has the same name
-  duplicate-declaration    a term is already declared
-  duplicate-extractor      a term already has an extractor
-  duplicate-constructor    a term already has a constructor, or rules
-  wrong-arity              a term is used with the wrong number of arguments
-Lints that --whole enables:
-  unknown-term             a term has no declaration, and is no variant
-  undefined-term           a term has no rule, extractor or extern
 Other lints:
   unused-binding           the variable before an @ is never used
   unused-pattern-variable  a variable of a pattern is never used
@@ -128,8 +119,8 @@ fn is_lint_option(option: &str) -> bool
     option == "--lint" || option == "--allow"
 }
 
-/// Returns whether a lint is enabled: `--allow` does not name it, and `--lint`, the other options
-/// or the default enable it.
+/// Returns whether a lint is enabled: `--allow` does not name it, and `--lint`, `--all` or the
+/// default enable it.
 fn is_on(arguments: &[Argument], lint: Lint) -> bool
     ensures { result ≡ is_on (map given_of arguments.now) lint }
 {
@@ -138,9 +129,6 @@ fn is_on(arguments: &[Argument], lint: Lint) -> bool
     }
     if names_lint(arguments, "--lint", lint) {
         return true;
-    }
-    if lint.needs_whole_program() {
-        return has_flag(arguments, "--whole");
     }
     lint.is_default() || has_flag(arguments, "--all")
 }

@@ -22,15 +22,15 @@ use std::io::{Read, Write};
 /// This program.
 pub const PROGRAM: Program = Program {
     name: "isle-lint",
-    usage: "usage: isle-lint [--all] [--whole] [--lint NAME] [--allow NAME] \
-            [--stdin-name NAME] [--program NAME] [--all-programs] [FILE ..]\n",
+    usage: "usage: isle-lint [--all] [--lint NAME] [--allow NAME] [--stdin-name NAME] \
+            [--program NAME] [--all-programs] [FILE ..]\n",
     help: HELP,
     version: VERSION,
 };
 
 /// Its options.
 pub const OPTIONS: Options = Options {
-    flags: &["--all", "--whole"],
+    flags: &["--all"],
     settings: &["--lint", "--allow"],
 };
 
@@ -151,16 +151,16 @@ fn lint<R: Files + AllocGlobal + Clone + Drop, I: Read, W: Write, E: Write>(
     let names = names_of(rt.alloc(), arguments)?;
     let stdin_name = stdin_name_of(arguments);
     let sources = read_sources(rt, &PROGRAM, &names, stdin_name, &mut streams.input)?;
-    let is_whole = sources.faults.is_empty();
-    let told = report_on(rt.alloc(), &sources.list, &lints, is_whole)?;
+    let told = report_on(rt.alloc(), &sources.list, &lints)?;
     match put(&mut streams.output, told.as_str()) {
         Ok(()) => {}
         Err(_) => return Err(Failure::Output),
     }
-    if !is_whole {
+    let is_read = sources.faults.is_empty();
+    if !is_read {
         let _ = write_whole(&mut streams.faults, sources.faults.as_bytes());
     }
-    Ok(status_of(is_whole, told.is_empty()))
+    Ok(status_of(is_read, told.is_empty()))
 }
 
 /// The exit status if all could be read, or not, and nothing was found, or something.
