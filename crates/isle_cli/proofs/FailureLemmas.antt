@@ -5,8 +5,15 @@ use Rattle.isle_cli.specs.Streams.{ReadsText, AppendsBeginning, WritesBeginning}
 use Rattle.isle_cli.specs.declared.failure.Failure.{Failure}
 use Rattle.isle_cli.specs.declared.failure.Failure.TheVariants as failures
 use Rattle.isle_cli.specs.declared.program.Program.{Program}
-use Rattle.isle_cli.specs.Failure.{status_of, text_of, IsDiagnostic, Explains}
+use Rattle.isle_cli.specs.declared.streams.ReadFault.{ReadFault}
+use Rattle.isle_cli.specs.declared.streams.ReadFault.TheVariants as read_faults
+use Rattle.isle_cli.specs.Failure.{read_failure, status_of, text_of, IsDiagnostic, Explains}
 use Rattle.isle_cli.proofs.StreamLemmas.{ReadsText-weaker}
+
+-- any fault of reading but want of memory is one of the input
+pub fails_reading : (fault : ReadFault) → ¬ (fault ≡ read_faults.Memory) → failures.Input ≡ read_failure fault
+fails_reading read_faults.Memory other = absurd (other refl)
+fails_reading _ other = refl
 
 -- the text of a failure goes with its status
 pub diagnostic-of : (program : Program) (failure : Failure) → IsDiagnostic program (status_of failure) (text_of program failure)

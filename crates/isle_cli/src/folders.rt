@@ -1,7 +1,8 @@
 //! The files below a folder.
 
 use crate::program::Program;
-use crate::sources::{SourceFault, fault_line, fault_of};
+use crate::sources::fault_line;
+use crate::streams::{ReadFault, fault_of};
 use std::alloc::AllocError;
 use std::fs::{DirEntry, Files, read_dir};
 use std::io;
@@ -98,7 +99,7 @@ fn push_fault<R: Files + AllocGlobal>(
     faults: &mut String,
 ) -> Result<(), AllocError> {
     match fault_of(error) {
-        SourceFault::Memory => Err(AllocError),
+        ReadFault::Memory => Err(AllocError),
         fault => {
             let line = fault_line(rt.alloc(), program, name, fault)?;
             faults.push_str(line.as_str())?;

@@ -10,9 +10,10 @@ use Rattle.isle_lint_core.specs.Finding.{Found, finding_of}
 use Rattle.isle_lint_core.specs.Findings.{findings_in}
 use Rattle.isle_lint_core.specs.declared.finding.Finding.{Finding}
 use Rattle.isle_lint_core.specs.declared.lint.Lint.{Lint}
+use Rattle.isle_cli.specs.Messages.{count_text}
 use Rattle.isle_cli.specs.Sources.{source_of}
 use Rattle.isle_cli.specs.declared.sources.Source as source_code
-use Rattle.isle_lint.specs.Report.{AreTold, count_text, is_told, kept_if, sources_text, told_in}
+use Rattle.isle_lint.specs.Report.{AreTold, is_told, kept_if, sources_text, told_in}
 use Rattle.isle_program.specs.Allowances.{Allowance, AreAllowances}
 use Rattle.isle_program.specs.Reading.{refused_count}
 

@@ -8,6 +8,7 @@ use Rattle.isle_lint_core.specs.Finding.{Found}
 use Rattle.isle_lint_core.specs.declared.lint.Lint.{Lint}
 use Rattle.isle_cli.specs.Arguments.{Asked, Given, asked, help_asked, name_list, stdin_name, version_asked, work_asked}
 use Rattle.isle_cli.specs.Failure.{IsDiagnostic}
+use Rattle.isle_cli.specs.Messages.{count_text}
 use Rattle.isle_cli.specs.Sources.{IsReadFrom}
 use Rattle.isle_cli.specs.Streams.{AppendsBeginning}
 use Rattle.isle_cli.specs.declared.failure.Failure.{Failure}
@@ -18,7 +19,7 @@ use Rattle.isle_cli.specs.declared.arguments.Options.{Options}
 use Rattle.isle_cli.specs.declared.program.Program.{Program}
 use Rattle.isle_lint.specs.declared.options.TheConstants.{HELP, VERSION}
 use Rattle.isle_lint.specs.Programs.{IsProgramsReport, Part}
-use Rattle.isle_lint.specs.Report.{AreToldIn, count_text, sources_text}
+use Rattle.isle_lint.specs.Report.{AreToldIn, sources_text}
 
 -- What is shown is what these lints find in the trees of the texts, each finding once, in order of place, but for what
 -- comments turn off; and which texts spell no tree; and how many there are of both.

@@ -1,5 +1,5 @@
 -- What is told of several programs, which may share texts.
-use Rattle.std.specs.Prelude.{◌≡◌, ℕ, ◌+◌, ◌==◌, List, [], ◌∷◌, ◌++◌, Bool, true, false, not, ◌&&◌, ◌||◌, if◌then◌else◌, Option, codes, filter, length, map, slice_get, string_bytes}
+use Rattle.std.specs.Prelude.{◌≡◌, ℕ, ◌+◌, ◌==◌, List, [], ◌∷◌, ◌++◌, Bool, false, not, ◌&&◌, if◌then◌else◌, Option, codes, filter, length, map, slice_get, string_bytes}
 use Rattle.std.specs.List.{flat_map, list_any}
 use Rattle.std.specs.List.Sorted.{IsPermutation, IsSortedByKey}
 use Rattle.std.specs.Option.{unwrap_or}
@@ -7,14 +7,14 @@ use Rattle.std.specs.Str.{bytes_eq}
 use Rattle.isle_base_source.specs.Source.{Source}
 use Rattle.isle_base_source.specs.declared.error.Error.{Error}
 use Rattle.isle_ast.specs.Tree.{Definition}
-use Rattle.isle_cli.specs.Messages.{message_line}
+use Rattle.isle_cli.specs.Messages.{count_text, message_line}
 use Rattle.isle_lint_core.specs.Finding.{Found, finding_cmp, finding_of}
 use Rattle.isle_lint_core.specs.Lint.{name}
 use Rattle.isle_lint_core.specs.declared.finding.Finding.{Finding}
 use Rattle.isle_lint_core.specs.declared.lint.Lint.{Lint}
 use Rattle.isle_program.specs.Messages.{refusal_text, shown_offset}
 use Rattle.isle_program.specs.Reading.{IsReading, refused_count}
-use Rattle.isle_lint.specs.Report.{AreToldIn, count_text, message_text}
+use Rattle.isle_lint.specs.Report.{AreToldIn, message_text}
 use Rattle.isle_lint.specs.declared.programs.Told.{Told}
 use Rattle.isle_lint.specs.declared.programs.Linted as linted_code
 use Rattle.isle_lint.specs.declared.programs.Part as part_code

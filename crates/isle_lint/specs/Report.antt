@@ -1,6 +1,5 @@
 -- What is told of a program: a line for each text that spells no tree, and for each finding.
-use Rattle.std.specs.Prelude.{◌≡◌, ℕ, ◌+◌, ◌==◌, List, [], ◌∷◌, ◌++◌, Bool, true, false, not, ◌&&◌, ◌||◌, if◌then◌else◌, Option, codes, filter, length, map, slice_get}
-use Rattle.std.specs.Fmt.{decimal}
+use Rattle.std.specs.Prelude.{◌≡◌, ℕ, ◌+◌, ◌==◌, List, [], ◌∷◌, ◌++◌, Bool, not, ◌&&◌, if◌then◌else◌, Option, codes, filter, map, slice_get}
 use Rattle.std.specs.List.{flat_map}
 use Rattle.std.specs.List.Sorted.{IsPermutation, IsSortedByKey}
 use Rattle.isle_base_source.specs.PositionOrder.{position_cmp}
@@ -57,13 +56,3 @@ source_text file source refusals found =
 abbrev pub sources_text : ℕ → List Source → List (Option Error) → List Found → List ℕ
 sources_text file [] refusals found = []
 sources_text file (source ∷ sources) refusals found = source_text file source refusals found ++ sources_text (file + 1) sources refusals found
-
-abbrev pub counted : ℕ → List ℕ → List ℕ
-counted n noun = if n == 1 then decimal n ++ (codes " " ++ noun) else decimal n ++ (codes " " ++ (noun ++ codes "s"))
-
--- the line that counts errors and warnings
-abbrev pub count_text : ℕ → ℕ → List ℕ
-count_text errors warnings =
-    if errors == 0 then (if warnings == 0 then [] else codes "found " ++ (counted warnings (codes "warning") ++ codes "\n"))
-    else (if warnings == 0 then codes "found " ++ (counted errors (codes "error") ++ codes "\n")
-    else codes "found " ++ (counted errors (codes "error") ++ (codes " and " ++ (counted warnings (codes "warning") ++ codes "\n"))))

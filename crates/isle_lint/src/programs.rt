@@ -12,11 +12,12 @@ ghost use Rattle.isle_lint.specs.Programs.{AreLinted, IsProgramsReport, IsShown,
 ghost use Rattle.isle_lint.specs.Programs.{found_of, linted_of, part_of};
 ghost use Rattle.isle_program.specs.Reading.{IsReading};
 
-use crate::report::{count_line, message_of, told_in_reading};
+use crate::report::{message_of, told_in_reading};
 use isle_base::lexer::Pos;
 use isle_base_source::error::Error;
 use isle_base_source::files::LineMap;
 use isle_cli::failure::Failure;
+use isle_cli::messages::count_line;
 use isle_cli::sources::Source;
 use isle_lint_core::{Finding, Lint};
 use isle_program::messages::{place_line, refusal_line};

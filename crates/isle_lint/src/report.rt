@@ -4,19 +4,19 @@ ghost use Rattle.std.specs.Prelude.{◌≡◌, ◌++◌, [], IfErr, IfOk, OnOk, 
 ghost use Rattle.std.specs.Prelude.{string_bytes};
 ghost use Rattle.isle_base_source.specs.Lines.{line_ends};
 ghost use Rattle.isle_ast.specs.TreeView.{definitions_of};
+ghost use Rattle.isle_cli.specs.Messages.{count_text};
 ghost use Rattle.isle_cli.specs.Sources.{source_of};
 ghost use Rattle.isle_cli.specs.declared.failure.Failure.TheVariants.{Memory};
 ghost use Rattle.isle_lint_core.specs.Finding.{finding_of};
 ghost use Rattle.isle_lint.specs.Doing.{IsReport};
-ghost use Rattle.isle_lint.specs.Report.{count_text, counted, finding_line};
-ghost use Rattle.isle_lint.specs.Report.{AreTold, AreToldIn, is_told, kept_if};
-ghost use Rattle.isle_lint.specs.Report.{message_text};
-ghost use Rattle.isle_lint.specs.Report.{source_text, sources_text, told_in};
+ghost use Rattle.isle_lint.specs.Report.{AreTold, AreToldIn, finding_line, is_told, kept_if};
+ghost use Rattle.isle_lint.specs.Report.{message_text, source_text, sources_text, told_in};
 ghost use Rattle.isle_program.specs.Reading.{IsReading, refused_count};
 
 use isle_base_source::error::Error;
 use isle_base_source::files::LineMap;
 use isle_cli::failure::Failure;
+use isle_cli::messages::count_line;
 use isle_cli::sources::Source;
 use isle_lint_core::{Finding, Lint, findings};
 use isle_program::allowances::Allowances;
@@ -214,33 +214,4 @@ pub fn message_of(alloc: Global, finding: &Finding) -> Result<String, AllocError
     message.push_str(finding.lint.name())?;
     message.push_str("]")?;
     Ok(message)
-}
-
-/// The line that counts errors and warnings; empty if there are none.
-pub fn count_line(alloc: Global, errors: usize, warnings: usize) -> Result<String, AllocError>
-    ensures { IfOk result (λ line. string_bytes line ≡ count_text errors warnings) }
-{
-    if errors == 0 {
-        if warnings == 0 {
-            return Ok(String::new(alloc));
-        }
-        let warned = counted(alloc, warnings, "warning")?;
-        return format!(in alloc; "found {warned}\n");
-    }
-    let refused = counted(alloc, errors, "error")?;
-    if warnings == 0 {
-        return format!(in alloc; "found {refused}\n");
-    }
-    let warned = counted(alloc, warnings, "warning")?;
-    format!(in alloc; "found {refused} and {warned}\n")
-}
-
-/// A number and a noun, in the plural unless the number is 1.
-fn counted(alloc: Global, number: usize, noun: &str) -> Result<String, AllocError>
-    ensures { IfOk result (λ text. string_bytes text ≡ counted number noun.now) }
-{
-    if number == 1 {
-        return format!(in alloc; "{number} {noun}");
-    }
-    format!(in alloc; "{number} {noun}s")
 }

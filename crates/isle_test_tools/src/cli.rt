@@ -10,7 +10,7 @@ use isle_cli::messages::message_line;
 use isle_cli::program::{Program, report, tell};
 use isle_cli::sources::read_sources;
 use std::alloc::{AllocError, Global};
-use std::io::{ErrorKind, Write};
+use std::io::{ErrorKind, Read, Write};
 use std::os::unix::fs::symlink;
 use std::{fs, io};
 
@@ -264,8 +264,36 @@ fn read_made(rt: HostRuntime) -> Option<String> {
 #[test]
 fn folders_are_opened(rt: HostRuntime) {
     let want = "tree/a.isle has a\ntree/b/z.isle has z\ntree/c.isle has c\n\
-        isle-test: tree/b/y.isle: unreadable or not UTF-8\n\
+        isle-test: tree/b/y.isle: not UTF-8 at byte 0\n\
         tree/a.txt has no\n<stdin> has input\ntree/l.isle has a\n\
-        isle-test: none: no such file or folder\n<stdin> has input\n";
+        isle-test: none: no such file or directory\n<stdin> has input\n";
     assert!(rt; is_text(&read_made(rt), want));
+}
+
+/// A reader of which each read fails.
+#[derive(Drop)]
+struct Broken(ErrorKind);
+
+impl Read for Broken {
+    fn read(&mut self, _buf: &mut [u8]) -> io::Result<usize> {
+        Err(io::Error::from(self.0))
+    }
+}
+
+/// The line about standard input that gives no text.
+fn told<I: Read>(rt: HostRuntime, mut input: I) -> Option<String> {
+    let read = read_sources(&rt, &PROGRAM, &[], "<stdin>", &mut input).ok()?;
+    Some(read.faults)
+}
+
+#[test]
+fn reasons_are_told(rt: HostRuntime) {
+    let denied = told(rt, Broken(ErrorKind::PermissionDenied));
+    assert!(rt; is_text(&denied, "isle-test: <stdin>: permission denied\n"));
+    let folder = told(rt, Broken(ErrorKind::IsADirectory));
+    assert!(rt; is_text(&folder, "isle-test: <stdin>: is a directory\n"));
+    let broken = told(rt, Broken(ErrorKind::Other));
+    assert!(rt; is_text(&broken, "isle-test: <stdin>: unreadable\n"));
+    let cut = told(rt, io::Cursor::new(b"a\xc3\xa9\xe2\x82".as_slice()));
+    assert!(rt; is_text(&cut, "isle-test: <stdin>: not UTF-8 at byte 3\n"));
 }

@@ -6,6 +6,7 @@ ghost use Rattle.std.specs.Io.KnownBytes.{Appends, Keeps};
 ghost use Rattle.isle_cli.specs.Arguments.{given_of, is_among, name_list, stdin_name};
 ghost use Rattle.isle_cli.specs.Failure as frame;
 ghost use Rattle.isle_cli.specs.Failure.{status_of};
+ghost use Rattle.isle_cli.specs.Sources.{fault_line};
 ghost use Rattle.isle_cli.specs.Streams.{AppendsBeginning, ReadsText, WritesBeginning};
 ghost use Rattle.isle_cli.specs.declared.failure.Failure.TheVariants.{Output};
 ghost use Rattle.isle_tidy_core.specs.Tidied.{IsTidyTextOf};
@@ -17,7 +18,7 @@ ghost use Rattle.isle_tidy.specs.Doing.{names_input};
 ghost use Rattle.isle_tidy.specs.Program.{AreOwn, AsAsked, AskForNothing, HaveNames, IsDiagnostic};
 ghost use Rattle.isle_tidy.specs.Program.{IsThis};
 
-use crate::in_place::tidy_file;
+use crate::in_place::{FileText, read_regular, tidy_file};
 use crate::pieces::{is_untidy, put_tidied};
 use isle_cli::arguments::{
     Argument, Options, Request, has_flag, names_of, requested, stdin_name_of,
@@ -25,9 +26,10 @@ use isle_cli::arguments::{
 use isle_cli::failure::Failure;
 use isle_cli::folders::files_of;
 use isle_cli::program::{Program, put, report, tell};
-use isle_cli::streams::{Streams, read_text, write_whole};
+use isle_cli::sources::fault_line;
+use isle_cli::streams::{ReadFault, Streams, read_text, write_whole};
 use isle_cli::version;
-use std::alloc::Global;
+use std::alloc::{AllocError, Global};
 use std::fs::Files;
 use std::io::{Read, Write};
 
@@ -502,10 +504,64 @@ fn run_on_file<R: Files + AllocGlobal, W: Write, E: Write>(
     ensures { RunsOnFiles task.now.check result (W.contents output.old) (W.contents output.new)
         (E.contents faults.old) (E.contents faults.new) }
 {
-    match tidy_file(rt, name, task.check) {
+    match read_regular(rt, name) {
+        Ok(file) => run_on_text(rt, task, name, &file, output, faults),
+        Err(fault) => report_unread(rt.alloc(), task.program, name, fault, faults),
+    }
+}
+
+/// Tidies a file that was read, or, with `check`, lists it if it would change.
+fn run_on_text<R: Files + AllocGlobal, W: Write, E: Write>(
+    rt: &R,
+    task: &Task<'_>,
+    name: &str,
+    file: &FileText,
+    output: &mut W,
+    faults: &mut E,
+) -> u8
+    ensures { RunsOnFiles task.now.check result (W.contents output.old) (W.contents output.new)
+        (E.contents faults.old) (E.contents faults.new) }
+{
+    match tidy_file(rt, name, file, task.check) {
         Ok(is_untidy) if is_untidy && task.check => named(task, name, output, faults),
         Ok(_) => 0,
         Err(failure) => report_on_file(&failure, name, faults),
+    }
+}
+
+/// Writes why a file can't be read to standard error, and returns the exit status.
+fn report_unread<E: Write>(
+    alloc: Global,
+    program: &Program,
+    name: &str,
+    fault: ReadFault,
+    faults: &mut E,
+) -> u8
+    ensures statuses { (result ≡ 3) ⊎ (result ≡ 4) }
+    ensures told { result ≡ 3 → AppendsBeginning (E.contents faults.old) (E.contents faults.new)
+        (fault_line program.now name.now fault) }
+{
+    match unread_line(alloc, program, name, fault) {
+        Ok(line) => {
+            let _ = write_whole(faults, line.as_bytes());
+            Failure::Input.status()
+        }
+        Err(_) => report_on_file(&Failure::Memory, name, faults),
+    }
+}
+
+/// The line that says why a file can't be read, if memory wasn't the reason.
+fn unread_line(
+    alloc: Global,
+    program: &Program,
+    name: &str,
+    fault: ReadFault,
+) -> Result<String, AllocError>
+    ensures { IfOk result (λ line. string_bytes line ≡ fault_line program.now name.now fault) }
+{
+    match fault {
+        ReadFault::Memory => Err(AllocError),
+        _ => fault_line(alloc, program, name, fault),
     }
 }
 
@@ -543,7 +599,7 @@ fn reason(failure: &Failure) -> &'static str {
     match failure {
         Failure::Refused(_) => "can't be tidied",
         Failure::Usage => "is no file",
-        Failure::Input => "unreadable or not UTF-8",
+        Failure::Input => "unreadable",
         Failure::Memory => "out of memory",
         Failure::Output => "can't be written",
     }

@@ -1,4 +1,4 @@
--- What is read of texts.
+-- What is read of texts can be written.
 use Rattle.std.proofs.Common.{◌≡◌, ℕ, ◌+◌, List, [], ◌∷◌, ◌++◌, Option, false, subst, sym}
 use Rattle.std.specs.List.{flat_map}
 use Rattle.isle_base.specs.Place.{in_file, placed}
@@ -30,7 +30,7 @@ outcomes-writable file (s ∷ ss) (o ∷ os) each =
     each-append IsWritable (tree_of o) (flat_map tree_of os) (outcome-writable file s.text o each.0) (outcomes-writable (file + 1) ss os each.1)
 
 -- so what several texts spell is writable, and holds no argument of a macro
-reading-writable : (sources : List Source) (ds : List Definition) (refusals : List (Option Error)) → IsReading sources ds refusals → AreWritable ds
+pub reading-writable : (sources : List Source) (ds : List Definition) (refusals : List (Option Error)) → IsReading sources ds refusals → AreWritable ds
 reading-writable sources ds refusals reading = subst AreWritable (sym reading.trees) (outcomes-writable 0 sources reading.outcomes reading.each)
 
 pub reading-plain : (sources : List Source) (ds : List Definition) (refusals : List (Option Error)) → IsReading sources ds refusals → definitions_have_macro_arg ds ≡ false
