@@ -22,8 +22,11 @@ pub const HELP: &str = "\
 usage: isle-lint [--all] [--lint NAME] [--allow NAME] [--stdin-name NAME]
                  [--program NAME] [--all-programs] [FILE ..]
 
-Lints ISLE source. All files are linted as one program. A folder stands for every .isle file below
-it, and - for standard input. With no FILE, standard input is linted.
+Lints ISLE source: finds what the compiler accepts but is likely a mistake. For what it rejects, use
+isle-check.
+
+All files are linted as one program. A folder stands for every .isle file below it, and - for
+standard input. With no FILE, standard input is linted.
 
 With --program or --all-programs, programs of the nearest isle.toml are linted, each by itself. It
 is looked for in the current folder and above it, or in the one folder that is given.
