@@ -1,5 +1,5 @@
 -- What is said of a failure, and the text that goes with its status.
-use Rattle.std.proofs.Common.{◌≡◌, ◌++◌, ℕ, List, Option, None, Some, string_bytes, take, refl, ap, subst, sym, ◌∙◌}
+use Rattle.std.proofs.Common.{◌≡◌, ◌++◌, ℕ, List, Option, None, Some, codes, string_bytes, take, refl, ap, subst, sym, ◌∙◌}
 use Rattle.std.specs.Io.KnownBytes.{Appends, Keeps}
 use Rattle.isle_cli.specs.Streams.{ReadsText, AppendsBeginning, WritesBeginning}
 use Rattle.isle_cli.specs.declared.failure.Failure.{Failure}
@@ -55,3 +55,13 @@ module _ (usable : Type 0) (Refused Written : List ℕ → List ℕ → Type 0) 
   pub refused-told : (status : ℕ) (failure : Failure) → Explains usable Refused Written failure input input' output output' → AppendsBeginning faults faults' (text_of program failure) → status ≡ status_of failure → status ≡ 1
       → ReadsText input input' (λ text. WritesBeginning faults faults' (Refused text))
   refused-told status failure why told is one = refused_text failure why told (sym is ∙ one)
+
+-- A program of this name and usage, wherever these texts lie; a failure shows neither its help nor its version.
+abbrev pub program_of : (name usage : List ℕ) → Program
+program_of name usage =
+    record {
+      name = record { ref_ptr = (0, 0); now = name };
+      usage = record { ref_ptr = (0, 0); now = usage };
+      help = record { ref_ptr = (0, 0); now = codes "" };
+      version = record { ref_ptr = (0, 0); now = codes "" };
+    }

@@ -28,6 +28,10 @@ reason_of faults.Memory = codes "out of memory"
 abbrev pub fault_line : Program → (name : List ℕ) → ReadFault → List ℕ
 fault_line program name fault = program.name.now ++ codes ": " ++ name ++ codes ": " ++ reason_of fault ++ codes "\n"
 
+-- the line that says that a folder has no ISLE file
+abbrev pub empty_line : Program → (name : List ℕ) → List ℕ
+empty_line program name = program.name.now ++ (codes ": no .isle file in '" ++ (name ++ codes "'\n"))
+
 -- Standard input was read whole, and is one source more; or it gave no text, which is one fault more.
 abbrev pub ReadsInput : (stdin_name : List ℕ) → Program → (input input' : Option (List ℕ)) → (sources : List files.Source) → (faults : List ℕ) → (sources' : List files.Source) → (faults' : List ℕ) → Type 0
 ReadsInput stdin_name program input input' sources faults sources' faults' =

@@ -103,7 +103,7 @@ pub fn count_line(alloc: Global, errors: usize, warnings: usize) -> Result<Strin
 }
 
 /// A number and a noun, in the plural unless the number is 1.
-fn counted(alloc: Global, number: usize, noun: &str) -> Result<String, AllocError>
+pub fn counted(alloc: Global, number: usize, noun: &str) -> Result<String, AllocError>
     ensures { IfOk result (λ text. string_bytes text ≡ counted number noun.now) }
 {
     if number == 1 {

@@ -2,9 +2,10 @@
 
 ghost use Rattle.std.specs.Prelude.{◌≡◌, ◌++◌, [], IfOk, OnOk, map, string_bytes};
 ghost use Rattle.isle_base.specs.Diagnostics.{only_file};
-ghost use Rattle.isle_cli.specs.Sources.{IsReadFrom, ReadsInput, fault_line, reason_of, source_of};
+ghost use Rattle.isle_cli.specs.Sources.{IsReadFrom, ReadsInput, empty_line, fault_line};
+ghost use Rattle.isle_cli.specs.Sources.{reason_of, source_of};
 
-use crate::folders::files_of;
+use crate::folders::files_named;
 use crate::program::Program;
 pub use crate::streams::ReadFault as SourceFault;
 use crate::streams::{ReadFault, fault_of, read_text};
@@ -32,10 +33,10 @@ pub struct Sources {
 }
 
 /// Reads the texts that the names of a command line stand for: standard input for `-`, the files
-/// that `files_of` finds below a folder, or a file. Without names it reads standard input.
+/// that `files_named` finds below a folder, or a file. Without names it reads standard input.
 ///
-/// A line is added to `faults` for each text that can't be read, and the others are read all the
-/// same.
+/// A line is added to `faults` for each text that can't be read and each folder without an ISLE
+/// file, and the others are read all the same.
 pub fn read_sources<R: Files + AllocGlobal + Clone + Drop, I: Read>(
     rt: &R,
     program: &Program,
@@ -130,7 +131,7 @@ fn read_path<R: Files + AllocGlobal + Clone + Drop>(
     name: &str,
     read: &mut Sources,
 ) -> Result<(), AllocError> {
-    for file in files_of(rt, program, name, &mut read.faults)? {
+    for file in files_named(rt, program, name, &mut read.faults)? {
         match read_file(rt, file.as_str()) {
             Ok(text) => read.push(rt.alloc(), file.as_str(), text)?,
             Err(ReadFault::Memory) => return Err(AllocError),
@@ -160,6 +161,13 @@ pub fn fault_line(
 {
     let reason = reason_of(alloc, fault)?;
     format!(in alloc; "{}: {name}: {reason}\n", program.name)
+}
+
+/// The line that says that a folder has no ISLE file, with its line end.
+pub fn empty_line(alloc: Global, program: &Program, name: &str) -> Result<String, AllocError>
+    ensures { IfOk result (λ line. string_bytes line ≡ empty_line program.now name.now) }
+{
+    format!(in alloc; "{}: no .isle file in '{name}'\n", program.name)
 }
 
 /// The reason in words.

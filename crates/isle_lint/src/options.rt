@@ -39,8 +39,8 @@ Options:
   --program NAME     lint this program of isle.toml; may be repeated
   --all-programs     lint all programs of isle.toml
   --                 treat all later arguments as files
-  --help             print this help
-  --version          print the version
+  -h, --help         print this help
+  -V, --version      print the version
 
 The comment `; isle-lint: allow NAME` above a definition disables a lint for it.
 
@@ -56,7 +56,7 @@ Exit status:
   0  nothing was found
   1  something was found, or an input does not parse
   2  usage error, or a mistake in isle.toml
-  3  an input cannot be read, or is not UTF-8
+  3  an input cannot be read, or is not UTF-8, or a folder has no .isle file
   4  out of memory
   5  the output cannot be written
 ";

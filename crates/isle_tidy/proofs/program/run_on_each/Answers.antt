@@ -1,5 +1,5 @@
 use Rattle.isle_tidy.proofs.FileLemmas.{runs-end}
-use Rattle.isle_tidy.proofs.program.run_on_names.Goals as goal
+use Rattle.isle_tidy.proofs.program.run_on_each.Goals as goal
 
 pub returns-else-names_stdin-clause-statuses : goal.returns-else-names_stdin-clause-statuses
 returns-else-names_stdin-clause-statuses g c = (runs-end c.args.task.now.check _ _ _ _ _ c.run_on_paths.ensures).known
