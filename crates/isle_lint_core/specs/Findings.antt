@@ -1,5 +1,5 @@
 -- What each lint finds in definitions.
-use Rattle.std.specs.Prelude.{List, [], ◌++◌, true, false}
+use Rattle.std.specs.Prelude.{List, [], true, false}
 use Rattle.std.specs.List.{flat_map}
 use Rattle.isle_ast_names.specs.Tree.{Name}
 use Rattle.isle_ast_rules.specs.Tree.{RuleDefinition}

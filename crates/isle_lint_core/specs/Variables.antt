@@ -1,5 +1,5 @@
 -- The variables of patterns, once for each occurrence. The first one of a name binds it, and every later one uses it.
-use Rattle.std.specs.Prelude.{List, [], ◌∷◌, ◌++◌, true}
+use Rattle.std.specs.Prelude.{List, [], ◌++◌, true}
 use Rattle.std.specs.List.{flat_map}
 use Rattle.isle_ast_names.specs.Tree.{Name}
 use Rattle.isle_ast_rules.specs.Tree.{PatternNode, var_pattern, bind_pattern, bool_pattern, int_pattern, constant_pattern, term_pattern, wildcard_pattern, and_pattern, macro_arg_pattern, PatternList, no_pattern, more_pattern, Condition, RuleDefinition}
