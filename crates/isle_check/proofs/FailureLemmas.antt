@@ -31,24 +31,25 @@ failure-told failure status faults kept faults' keeps is told =
     (said.0, (this, (refl, refl), said.1), said.2)
 
 -- the same, of a call with these words
-pub words-told-here : (own all : Options) (words : List (List ℕ)) (failure : Failure) (status : ℕ) (faults faults' : Option (List ℕ)) → AreOptions own → AreAllOptions all
+pub words-told-here : (program : Program) (own all : Options) (words : List (List ℕ)) (failure : Failure) (status : ℕ) (faults faults' : Option (List ℕ))
     → (failure ≡ failures.Memory) ⊎ (failure ≡ failures.Usage) × (asked own words ≡ None)
-    → status ≡ status_of failure → AppendsBeginning faults faults' (words_text this all words failure) → WritesBeginning faults faults' (IsFailureTextOf words status)
-words-told-here own all words failure status faults faults' are are_all why is told =
-    let said = words-told this own all words status failure faults faults' why told is in
-    (said.0, (this, own, all, (refl, refl), are, are_all, said.1), said.2)
+    → status ≡ status_of failure → AppendsBeginning faults faults' (words_text program all words failure)
+    → IsProgram program → AreOptions own → AreAllOptions all → WritesBeginning faults faults' (IsFailureTextOf words status)
+words-told-here program own all words failure status faults faults' why ends told is are are_all =
+    let said = words-told program own all words status failure faults faults' why told ends in
+    (said.0, (program, own, all, is, are, are_all, said.1), said.2)
 
 -- the same, where the words ask for something
-pub asked-told : (own : Options) (words : List (List ℕ)) (what : Asked) (status : ℕ) (faults faults' : Option (List ℕ)) → AreOptions own → asked own words ≡ Some what
-    → WritesBeginning faults faults' (IsFailureText status) → WritesBeginning faults faults' (IsFailureTextOf words status)
-asked-told own words what status faults faults' are asks told =
+pub asked-told : (own : Options) (words : List (List ℕ)) (what : Asked) (status : ℕ) (faults faults' : Option (List ℕ)) → asked own words ≡ Some what
+    → WritesBeginning faults faults' (IsFailureText status) → AreOptions own → WritesBeginning faults faults' (IsFailureTextOf words status)
+asked-told own words what status faults faults' asks told are =
     let program = told.1.0 in
     (told.0, (program, own, all, told.1.1, are, (refl, refl), understood program own all words what status told.0 asks told.1.2), told.2)
 
-pub own-told : (program : Program) (own : Options) (words : List (List ℕ)) (what : Asked) (status : ℕ) (faults faults' : Option (List ℕ)) → IsProgram program → AreOptions own → asked own words ≡ Some what
-    → WritesBeginning faults faults' (IsDiagnostic program status) → WritesBeginning faults faults' (IsFailureTextOf words status)
-own-told program own words what status faults faults' is are asks told =
-    asked-told own words what status faults faults' are asks (told.0, (program, is, told.1), told.2)
+pub own-told : (program : Program) (own : Options) (words : List (List ℕ)) (what : Asked) (status : ℕ) (faults faults' : Option (List ℕ)) → asked own words ≡ Some what
+    → WritesBeginning faults faults' (IsDiagnostic program status) → IsProgram program → AreOptions own → WritesBeginning faults faults' (IsFailureTextOf words status)
+own-told program own words what status faults faults' asks told is are =
+    asked-told own words what status faults faults' asks (told.0, (program, is, told.1), told.2) are
 
 -- a call that only writes ends with 5 if it fails
 pub past-two : (status : ℕ) → (status ≡ 0) ⊎ (status ≡ 5) → 2 ≤ status → status ≡ 5
