@@ -2,12 +2,12 @@ use Rattle.std.proofs.Common.{List, ap, map, refl, ◌∙◌}
 use Rattle.std.specs.Global.{Vec}
 use Rattle.isle_cli.specs.declared.arguments.Argument.{Argument}
 use Rattle.isle_cli.specs.Arguments.{given_of, work_asked}
-use Rattle.isle_lint.proofs.FailureLemmas.{asked-told, asks-what, cuts-same, own-told, past-two, tells-same, words-told-here}
+use Rattle.isle_lint.proofs.FailureLemmas.{asked-told, asks-what, cuts-same, own-told, past-two, tells-same, this, words-told-here}
 use Rattle.isle_lint.proofs.program.run.Goals as goal
 
 pub returns-in-Err-clause-told : goal.returns-in-Err-clause-told
 returns-in-Err-clause-told g c =
-    λ two three. words-told-here _ _ _ _ c.in-Err.failure c.report_words.result _ _ c.in-Err.ensures.err c.report_words.ensures.status c.report_words.ensures.text (refl, refl) (refl, refl) (refl, refl)
+    λ two three. words-told-here this _ _ _ c.in-Err.failure c.report_words.result _ _ c.in-Err.ensures.err c.report_words.ensures.status c.report_words.ensures.text (refl, refl) (refl, refl) (refl, refl)
 
 pub returns-in-Ok-Help-clause-told : goal.returns-in-Ok-Help-clause-told
 returns-in-Ok-Help-clause-told g c =
