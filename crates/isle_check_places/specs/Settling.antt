@@ -71,16 +71,18 @@ abbrev pub sweep : SweepNode → List EqualityNode → SweepNode
 sweep s [] = s
 sweep s (e ∷ es) = sweep (swept s e) es
 
--- the constraints of all places, and the equalities of places that are not constrained; or constraints of equal places differ; or there is no
--- end of equal parts, since a value would be a part of itself
+-- the constraints of all places, and the equalities of places that are not constrained; or constraints of equal places differ; or equal
+-- parts are not at an end within the bound below
 pub data SettledNode : Type 0 where
   settled : List ConstrainedNode → List EqualityNode → SettledNode
   unequal : SettledNode
   endless : SettledNode
 
--- how often equal places are gone over, and how many of them there are at most
+-- How often equal places are gone over, and how many of them there may be after each time if more can be made of them. Where a value would be
+-- a part of itself, equal parts have no end, and exceed this. But so can other rules: those with more than 64 second mentions of variables,
+-- or with equal parts that double again and again. Such a rule counts as endless, too: it is told in a warning, and not compared.
 abbrev pub most_sweeps : ℕ
-most_sweeps = 500
+most_sweeps = 64
 
 abbrev pub begun : List ConstrainedNode → SweepNode
 begun cs = record { constraints = cs; equal = []; is_opened = false; clashes = false }

@@ -14,8 +14,9 @@ use crate::places::{
 };
 use std::alloc::{AllocError, Global};
 
-/// How often equal places are gone over, and how many of them there may be.
-const MOST_SWEEPS: usize = 500;
+/// How often equal places are gone over, and how many of them there may be after each time if more
+/// can be made of them. A rule that exceeds this counts as endless.
+const MOST_SWEEPS: usize = 64;
 
 /// Two places that are equal.
 #[derive(Debug, Drop)]
@@ -43,7 +44,8 @@ pub enum Settled<'a> {
     Settled(Vec<Constrained<'a>>, Vec<Equality<'a>>),
     /// Two constraints of equal places differ.
     Unequal,
-    /// There is no end of equal parts: a value would be a part of itself.
+    /// There is no end of equal parts within a bound, as where a value would be a part of itself.
+    /// Rules with more than 64 second mentions of variables may exceed it, too.
     Endless,
 }
 
