@@ -5,9 +5,13 @@ use isle_check_places::{Constrained, Constraint, Equality, Settled, begin, const
 use isle_check_places::{Step, same_constraint, settle};
 use std::alloc::{AllocError, Global};
 
-/// Returns that each of the first four arguments is equal to the next one.
+/// Returns that each of the first three arguments is equal to the next one.
 fn chain<'a>(alloc: Global) -> Result<Vec<Equality<'a>>, AllocError> {
-    vec![in alloc; equal(alloc, 0, 1)?, equal(alloc, 1, 2)?, equal(alloc, 2, 3)?]
+    let mut made = Vec::new(alloc);
+    for index in 0..3 {
+        made.push(equal(alloc, index, index + 1)?)?;
+    }
+    Ok(made)
 }
 
 /// Returns whether an argument has this variant.
