@@ -1,31 +1,27 @@
 -- What standard error gets of a failure, and what the words ask.
-use Rattle.std.proofs.Common.{◌≡◌, ℕ, List, Option, None, Some, map, refl, subst}
+use Rattle.std.proofs.Common.{◌≡◌, ◌≤◌, ◌⊎◌, inl, inr, ℕ, List, [], ◌∷◌, Option, None, Some, arith, map, refl, subst}
 use Rattle.std.specs.Io.KnownBytes.{Keeps}
 use Rattle.std.specs.Prelude.{codes}
-use Rattle.isle_cli.proofs.FailureLemmas.{first-told-text}
-use Rattle.isle_cli.specs.Failure.{status_of, text_of}
+use Rattle.isle_cli.proofs.FailureLemmas.{first-told-text, program_of}
+use Rattle.isle_cli.proofs.UsageLemmas.{options_of, understood, words-told}
+use Rattle.isle_cli.specs.Failure.{IsDiagnostic, status_of, text_of}
 use Rattle.isle_cli.specs.Streams.{AppendsBeginning, WritesBeginning}
+use Rattle.isle_cli.specs.Usage.{words_text}
 use Rattle.isle_cli.specs.declared.failure.Failure.{Failure}
+use Rattle.isle_cli.specs.declared.failure.Failure.TheVariants as failures
 use Rattle.isle_cli.specs.declared.program.Program.{Program}
 use Rattle.isle_cli.specs.Arguments.{Asked, asked, given_of}
 use Rattle.isle_cli.specs.declared.arguments.Argument.{Argument}
 use Rattle.isle_cli.specs.declared.arguments.Options.{Options}
-use Rattle.isle_check.specs.Doing.{AreOptions, Ask, Cuts, IsFailureText, Tells}
+use Rattle.isle_check.specs.Doing.{AreAllOptions, AreOptions, Ask, Cuts, IsFailureText, IsFailureTextOf, IsProgram, Tells}
 
--- nothing is changed
-pub kept-same : (a : Option (List ℕ)) → Keeps a a
-kept-same None = tt
-kept-same (Some xs) = refl
-
--- this program, wherever its texts lie; a failure shows neither its help nor its version
+-- this program
 abbrev pub this : Program
-this =
-    record {
-      name = record { ref_ptr = (0, 0); now = codes "isle-check" };
-      usage = record { ref_ptr = (0, 0); now = codes "usage: isle-check [--allow KIND] [--stdin-name NAME] [--program NAME] [--all-programs] [FILE ..]\n" };
-      help = record { ref_ptr = (0, 0); now = codes "" };
-      version = record { ref_ptr = (0, 0); now = codes "" };
-    }
+this = program_of (codes "isle-check") (codes "usage: isle-check [--allow KIND] [--stdin-name NAME] [--program NAME] [--all-programs] [FILE ..]\n")
+
+-- its options, and those that are about the programs of a manifest
+abbrev pub all : Options
+all = options_of (codes "--print-programs" ∷ codes "--all-programs" ∷ []) (codes "--allow" ∷ codes "--program" ∷ [])
 
 -- What is told of a failure, where nothing was told before. `text_of` looks at no place of the program's texts.
 pub failure-told : (failure : Failure) (status : ℕ) (faults kept faults' : Option (List ℕ)) → Keeps faults kept → status ≡ status_of failure →
@@ -33,6 +29,32 @@ pub failure-told : (failure : Failure) (status : ℕ) (faults kept faults' : Opt
 failure-told failure status faults kept faults' keeps is told =
     let said = first-told-text this status failure faults kept faults' keeps told is in
     (said.0, (this, (refl, refl), said.1), said.2)
+
+-- the same, of a call with these words
+pub words-told-here : (program : Program) (own all : Options) (words : List (List ℕ)) (failure : Failure) (status : ℕ) (faults faults' : Option (List ℕ))
+    → (failure ≡ failures.Memory) ⊎ (failure ≡ failures.Usage) × (asked own words ≡ None)
+    → status ≡ status_of failure → AppendsBeginning faults faults' (words_text program all words failure)
+    → IsProgram program → AreOptions own → AreAllOptions all → WritesBeginning faults faults' (IsFailureTextOf words status)
+words-told-here program own all words failure status faults faults' why ends told is are are_all =
+    let said = words-told program own all words status failure faults faults' why told ends in
+    (said.0, (program, own, all, is, are, are_all, said.1), said.2)
+
+-- the same, where the words ask for something
+pub asked-told : (own : Options) (words : List (List ℕ)) (what : Asked) (status : ℕ) (faults faults' : Option (List ℕ)) → asked own words ≡ Some what
+    → WritesBeginning faults faults' (IsFailureText status) → AreOptions own → WritesBeginning faults faults' (IsFailureTextOf words status)
+asked-told own words what status faults faults' asks told are =
+    let program = told.1.0 in
+    (told.0, (program, own, all, told.1.1, are, (refl, refl), understood program own all words what status told.0 asks told.1.2), told.2)
+
+pub own-told : (program : Program) (own : Options) (words : List (List ℕ)) (what : Asked) (status : ℕ) (faults faults' : Option (List ℕ)) → asked own words ≡ Some what
+    → WritesBeginning faults faults' (IsDiagnostic program status) → IsProgram program → AreOptions own → WritesBeginning faults faults' (IsFailureTextOf words status)
+own-told program own words what status faults faults' asks told is are =
+    asked-told own words what status faults faults' asks (told.0, (program, is, told.1), told.2) are
+
+-- a call that only writes ends with 5 if it fails
+pub past-two : (status : ℕ) → (status ≡ 0) ⊎ (status ≡ 5) → 2 ≤ status → status ≡ 5
+past-two status (inl zero) two = absurd (omega (arith, zero, two))
+past-two status (inr five) two = five
 
 -- what the words ask of this program
 pub asks-what : (options : Options) (words : List (List ℕ)) (what : Asked) → asked options words ≡ Some what → AreOptions options → Ask words (Some what)

@@ -1,4 +1,3 @@
-pub mod ReadingLemmas
 pub mod FailureLemmas
 pub mod EndLemmas
 pub mod DoingLemmas

@@ -6,6 +6,7 @@ use Rattle.isle_cli.specs.Arguments.{Asked, Given, asked, help_asked, name_list,
 use Rattle.isle_cli.specs.Failure.{IsDiagnostic}
 use Rattle.isle_cli.specs.Sources.{IsReadFrom}
 use Rattle.isle_cli.specs.Streams.{AppendsBeginning}
+use Rattle.isle_cli.specs.Usage.{IsDiagnosticOf}
 use Rattle.isle_cli.specs.declared.failure.Failure.{Failure}
 use Rattle.isle_cli.specs.declared.failure.Failure.TheVariants as failures
 use Rattle.isle_cli.specs.declared.arguments.Options.{Options}
@@ -28,6 +29,12 @@ IsProgram program =
 abbrev pub AreOptions : Options → Type 0
 AreOptions options = (map (λ flag. flag.now) options.flags.now ≡ []) × (map (λ setting. setting.now) options.settings.now ≡ codes "--allow" ∷ [])
 
+-- its options, and those that are about the programs of a manifest
+abbrev pub AreAllOptions : Options → Type 0
+AreAllOptions options =
+    (map (λ flag. flag.now) options.flags.now ≡ codes "--print-programs" ∷ codes "--all-programs" ∷ [])
+    × (map (λ setting. setting.now) options.settings.now ≡ codes "--allow" ∷ codes "--program" ∷ [])
+
 -- the words ask this of the program
 abbrev pub Ask : List (List ℕ) → Option Asked → Type 0
 Ask words what = (options : Options) × AreOptions options × (asked options words ≡ what)
@@ -35,6 +42,12 @@ Ask words what = (options : Options) × AreOptions options × (asked options wor
 -- the text that goes with a status past 1
 abbrev pub IsFailureText : ℕ → List ℕ → Type 0
 IsFailureText status text = (program : Program) × IsProgram program × IsDiagnostic program status text
+
+-- the same, where the program is called with these words
+abbrev pub IsFailureTextOf : (words : List (List ℕ)) → (status : ℕ) → (text : List ℕ) → Type 0
+IsFailureTextOf words status text =
+    (program : Program) × (own : Options) × (all : Options) × IsProgram program × AreOptions own × AreAllOptions all
+    × IsDiagnosticOf program own all words status text
 
 -- What was read of what the arguments name; Holds is said of the faults of reading, and of the texts.
 pub record Reads (given : List Given) (input input' : Option (List ℕ)) (Holds : List ℕ → List Source → Type 0) : Type 0 where

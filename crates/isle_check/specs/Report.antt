@@ -1,12 +1,12 @@
 -- What is told of a program: a line for each text that spells no tree, or else for each finding.
 use Rattle.std.specs.Prelude.{◌≡◌, ℕ, ◌==◌, List, [], ◌∷◌, ◌++◌, Bool, true, false, Option, if◌then◌else◌, codes, count_by, map}
-use Rattle.std.specs.Fmt.{decimal}
 use Rattle.std.specs.List.{flat_map}
 use Rattle.isle_base_source.specs.Lines.{line_ends}
 use Rattle.isle_base_source.specs.Source.{Source}
 use Rattle.isle_base_source.specs.declared.error.Error.{Error}
 use Rattle.isle_ast.specs.Tree.{Definition}
 use Rattle.isle_cli.specs.Arguments.{Given}
+use Rattle.isle_cli.specs.Messages.{count_text}
 use Rattle.isle_check_core.specs.Findings.{FindingNode, findings, is_error}
 use Rattle.isle_check_core.specs.FindingWords.{kind_words}
 use Rattle.isle_check_core.specs.Words.{WordsNode}
@@ -63,16 +63,6 @@ count_of as_error lines = count_by (counts_as as_error) lines
 
 abbrev pub joined : List LineNode → List ℕ
 joined lines = flat_map (λ line. line.text) lines
-
-abbrev pub counted : ℕ → List ℕ → List ℕ
-counted n noun = if n == 1 then decimal n ++ (codes " " ++ noun) else decimal n ++ (codes " " ++ (noun ++ codes "s"))
-
--- the line that counts errors and warnings
-abbrev pub count_text : ℕ → ℕ → List ℕ
-count_text errors warnings =
-    if errors == 0 then (if warnings == 0 then [] else codes "found " ++ (counted warnings (codes "warning") ++ codes "\n"))
-    else (if warnings == 0 then codes "found " ++ (counted errors (codes "error") ++ codes "\n")
-    else codes "found " ++ (counted errors (codes "error") ++ (codes " and " ++ (counted warnings (codes "warning") ++ codes "\n"))))
 
 -- the report that has these lines
 abbrev pub rendered : List LineNode → ReportNode

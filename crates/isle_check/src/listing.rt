@@ -22,8 +22,8 @@ use std::io::Write;
 /// The option that asks for the list.
 const LIST_OPTION: &str = "--print-programs";
 
-/// The options with it.
-const OPTIONS: Options = Options {
+/// All options: those of `run_programs`, and this one.
+pub const OPTIONS: Options = Options {
     flags: &[LIST_OPTION, ALL_OPTION],
     settings: &["--allow", NAME_OPTION],
 };

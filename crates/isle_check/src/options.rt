@@ -32,8 +32,8 @@ Options:
   --all-programs     check all programs of isle.toml
   --print-programs   check nothing, but print each program of isle.toml with its files
   --                 treat all later arguments as files
-  --help             print this help
-  --version          print the version
+  -h, --help         print this help
+  -V, --version      print the version
 
 Errors of types and constants:
   duplicate-type           a type has the name of an earlier one, or of a built-in type
@@ -108,7 +108,7 @@ Exit status:
   0  no error was found
   1  an error was found, or an input does not parse
   2  usage error, or a mistake in isle.toml
-  3  an input cannot be read, or is not UTF-8
+  3  an input cannot be read, or is not UTF-8, or a folder has no .isle file
   4  out of memory
   5  the output cannot be written
 ";

@@ -6,9 +6,11 @@ ghost use Rattle.std.specs.Io.KnownBytes.{Keeps};
 ghost use Rattle.isle_cli.specs.Arguments.{given_of};
 ghost use Rattle.isle_cli.specs.Streams.{WritesBeginning};
 ghost use Rattle.isle_check.specs.Doing.{AsAsked, Cuts, CutsAsked, Does, Explains};
-ghost use Rattle.isle_check.specs.Doing.{IsFailureText, IsMisuse, Tells, told_status};
+ghost use Rattle.isle_check.specs.Doing.{IsFailureText, IsFailureTextOf, IsMisuse, Tells};
+ghost use Rattle.isle_check.specs.Doing.{told_status};
 ghost use Rattle.isle_check.specs.Options.{are_usable};
 
+use crate::listing;
 use crate::options::{HELP, VERSION, are_usable};
 use crate::report::report_on;
 use isle_cli::arguments::{Argument, Options, Request, names_of, requested, stdin_name_of};
@@ -16,6 +18,7 @@ use isle_cli::failure::Failure;
 use isle_cli::program::{Program, put, report, tell};
 use isle_cli::sources::read_sources;
 use isle_cli::streams::{Streams, write_whole};
+use isle_cli::usage::report_words;
 use std::fs::Files;
 use std::io::{Read, Write};
 
@@ -38,10 +41,12 @@ pub const OPTIONS: Options = Options {
 /// |---|---|
 /// | 0 | no error is found, or the help or the version is printed |
 /// | 1 | an error is found, or a text does not parse |
-/// | 2 | usage error; standard error gets the usage |
-/// | 3 | an input can't be read or isn't UTF-8; standard error gets a line for each |
+/// | 2 | usage error; standard error gets the unknown option, if one is unknown, and the usage |
+/// | 3 | an input can't be read or isn't UTF-8, or a folder has no ISLE file |
 /// | 4 | `isle-check: out of memory` |
 /// | 5 | `isle-check: output failed` |
+///
+/// With status 3 standard error gets a line for each.
 ///
 /// With status 0 and 1 the output gets a line for each text that does not parse, or else a line for
 /// each finding, and a line that counts them; with status 5 a beginning of that. With status 2, 3
@@ -75,7 +80,7 @@ pub fn run<R: Files + AllocGlobal + Clone + Drop, I: Read, W: Write, E: Write>(
     ensures quiet { result ≤ 1
         → Keeps (E.contents streams.old.faults) (E.contents streams.new.faults) }
     ensures told { 2 ≤ result → result ≢ 3 → WritesBeginning (E.contents streams.old.faults)
-        (E.contents streams.new.faults) (IsFailureText result) }
+        (E.contents streams.new.faults) (IsFailureTextOf (map string_bytes words.now) result) }
     ensures statuses { result ≤ 5 }
 {
     match requested(rt.alloc(), &OPTIONS, words) {
@@ -96,7 +101,15 @@ pub fn run<R: Files + AllocGlobal + Clone + Drop, I: Read, W: Write, E: Write>(
             )
         }
         Ok(Request::Work(arguments)) => work(rt, &arguments, streams),
-        Err(failure) => report(&PROGRAM, &failure, &mut streams.faults),
+        Err(failure) => {
+            report_words(
+                &PROGRAM,
+                &listing::OPTIONS,
+                words,
+                &failure,
+                &mut streams.faults,
+            )
+        }
     }
 }
 

@@ -7,8 +7,8 @@ ghost use Rattle.isle_cli.specs.Arguments.{given_of};
 ghost use Rattle.isle_cli.specs.Sources.{source_of};
 ghost use Rattle.isle_cli.specs.declared.failure.Failure.TheVariants.{Memory};
 ghost use Rattle.isle_check_core.specs.Views.{finding_of, findings_of};
-ghost use Rattle.isle_check.specs.Report.{IsReport, count_of, count_text, counted, finding_lines};
-ghost use Rattle.isle_check.specs.Report.{joined, line_for, line_maps, lines_of, refused, rendered};
+ghost use Rattle.isle_check.specs.Report.{IsReport, count_of, finding_lines, joined};
+ghost use Rattle.isle_check.specs.Report.{line_for, line_maps, lines_of, refused, rendered};
 ghost use Rattle.isle_check.specs.Report.{report_in};
 ghost use Rattle.isle_check.specs.ReportView.{lines_at, report_of};
 ghost use Rattle.isle_program.specs.Messages.{line_at};
@@ -22,6 +22,7 @@ use isle_base_source::files::LineMap;
 use isle_check_core::{Finding, check};
 use isle_cli::arguments::Argument;
 use isle_cli::failure::Failure;
+use isle_cli::messages::count_line;
 use isle_cli::sources::Source;
 use isle_program::messages::{place_line, refusal_lines};
 use isle_program::trees::{Reading, drop_reading, read_all, refused_count};
@@ -246,33 +247,4 @@ fn count_of(lines: &[Line], is_error: bool) -> usize
         }
     }
     count
-}
-
-/// Returns the line that counts errors and warnings; empty if there are none.
-fn count_line(alloc: Global, errors: usize, warnings: usize) -> Result<String, AllocError>
-    ensures { IfOk result (λ line. string_bytes line ≡ count_text errors warnings) }
-{
-    if errors == 0 {
-        if warnings == 0 {
-            return Ok(String::new(alloc));
-        }
-        let warned = counted(alloc, warnings, "warning")?;
-        return format!(in alloc; "found {warned}\n");
-    }
-    let refused = counted(alloc, errors, "error")?;
-    if warnings == 0 {
-        return format!(in alloc; "found {refused}\n");
-    }
-    let warned = counted(alloc, warnings, "warning")?;
-    format!(in alloc; "found {refused} and {warned}\n")
-}
-
-/// Returns a number and a noun, in the plural unless the number is 1.
-fn counted(alloc: Global, number: usize, noun: &str) -> Result<String, AllocError>
-    ensures { IfOk result (λ text. string_bytes text ≡ counted number noun.now) }
-{
-    if number == 1 {
-        return format!(in alloc; "{number} {noun}");
-    }
-    format!(in alloc; "{number} {noun}s")
 }

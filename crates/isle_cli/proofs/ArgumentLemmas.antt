@@ -18,7 +18,7 @@ after-after front one None = refl
 after-after front one (Some more) = ap Some (sym (append_assoc front one more))
 
 -- a list from this element on
-from_here : {A : Type 0} (xs : List A) (i : ℕ) (x : A) → i < length xs → x ≡ get_or xs i x → x ∷ drop (i + 1) xs ≡ drop i xs
+pub from_here : {A : Type 0} (xs : List A) (i : ℕ) (x : A) → i < length xs → x ≡ get_or xs i x → x ∷ drop (i + 1) xs ≡ drop i xs
 from_here xs i x within is = ap (λ y. y ∷ drop (i + 1) xs) is ∙ sym (drop_more xs i x within)
 
 given-word : (options : Options) (front : List Given) (a : Awaited) (word : List ℕ) (words : List (List ℕ)) (t : Option Given × Awaited) → taken options a word ≡ Some t

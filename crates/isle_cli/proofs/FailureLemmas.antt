@@ -1,12 +1,19 @@
 -- What is said of a failure, and the text that goes with its status.
-use Rattle.std.proofs.Common.{◌≡◌, ◌++◌, ℕ, List, Option, None, Some, string_bytes, take, refl, ap, subst, sym, ◌∙◌}
+use Rattle.std.proofs.Common.{◌≡◌, ◌++◌, ℕ, List, Option, None, Some, codes, string_bytes, take, refl, ap, subst, sym, ◌∙◌}
 use Rattle.std.specs.Io.KnownBytes.{Appends, Keeps}
 use Rattle.isle_cli.specs.Streams.{ReadsText, AppendsBeginning, WritesBeginning}
 use Rattle.isle_cli.specs.declared.failure.Failure.{Failure}
 use Rattle.isle_cli.specs.declared.failure.Failure.TheVariants as failures
 use Rattle.isle_cli.specs.declared.program.Program.{Program}
-use Rattle.isle_cli.specs.Failure.{status_of, text_of, IsDiagnostic, Explains}
+use Rattle.isle_cli.specs.declared.streams.ReadFault.{ReadFault}
+use Rattle.isle_cli.specs.declared.streams.ReadFault.TheVariants as read_faults
+use Rattle.isle_cli.specs.Failure.{read_failure, status_of, text_of, IsDiagnostic, Explains}
 use Rattle.isle_cli.proofs.StreamLemmas.{ReadsText-weaker}
+
+-- any fault of reading but want of memory is one of the input
+pub fails_reading : (fault : ReadFault) → ¬ (fault ≡ read_faults.Memory) → failures.Input ≡ read_failure fault
+fails_reading read_faults.Memory other = absurd (other refl)
+fails_reading _ other = refl
 
 -- the text of a failure goes with its status
 pub diagnostic-of : (program : Program) (failure : Failure) → IsDiagnostic program (status_of failure) (text_of program failure)
@@ -48,3 +55,13 @@ module _ (usable : Type 0) (Refused Written : List ℕ → List ℕ → Type 0) 
   pub refused-told : (status : ℕ) (failure : Failure) → Explains usable Refused Written failure input input' output output' → AppendsBeginning faults faults' (text_of program failure) → status ≡ status_of failure → status ≡ 1
       → ReadsText input input' (λ text. WritesBeginning faults faults' (Refused text))
   refused-told status failure why told is one = refused_text failure why told (sym is ∙ one)
+
+-- A program of this name and usage, wherever these texts lie; a failure shows neither its help nor its version.
+abbrev pub program_of : (name usage : List ℕ) → Program
+program_of name usage =
+    record {
+      name = record { ref_ptr = (0, 0); now = name };
+      usage = record { ref_ptr = (0, 0); now = usage };
+      help = record { ref_ptr = (0, 0); now = codes "" };
+      version = record { ref_ptr = (0, 0); now = codes "" };
+    }

@@ -3,3 +3,4 @@ pub mod FailureLemmas
 pub mod MessageLemmas
 pub mod SourceLemmas
 pub mod StreamLemmas
+pub mod UsageLemmas

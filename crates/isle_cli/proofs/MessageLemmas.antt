@@ -7,7 +7,7 @@ use Rattle.isle_base_source.specs.Lines as lines
 use Rattle.isle_cli.specs.Messages.{message_line}
 use Rattle.isle_cli.specs.Sources.{fault_line, reason_of}
 use Rattle.isle_cli.specs.declared.program.Program.{Program}
-use Rattle.isle_cli.specs.declared.sources.SourceFault.{SourceFault}
+use Rattle.isle_cli.specs.declared.streams.ReadFault.{ReadFault}
 
 joined : (a b c d e f g h i j : List ℕ) → a ++ b ++ c ++ d ++ e ++ f ++ g ++ h ++ i ++ j ≡ a ++ (b ++ (c ++ (d ++ (e ++ (f ++ (g ++ (h ++ (i ++ j))))))))
 joined a b c d e f g h i j =
@@ -31,7 +31,7 @@ message-parts name text offset number column kind message result is_number is_co
     ∙ ap (λ m. name ++ codes ":" ++ decimal (lines.line text offset + 1) ++ codes ":" ++ decimal (m + 1) ++ codes ": " ++ kind ++ codes ": " ++ message ++ codes "\n") is_column
     ) said
 
-pub fault-parts : {E : Type 0} (program : Program) (name : List ℕ) (fault : SourceFault) (reason : List ℕ) (result : Result (String Global) E) → reason ≡ reason_of fault
+pub fault-parts : {E : Type 0} (program : Program) (name : List ℕ) (fault : ReadFault) (reason : List ℕ) (result : Result (String Global) E) → reason ≡ reason_of fault
     → IfOk result (λ s. string_bytes s ≡ program.name.now ++ (codes ": " ++ (name ++ (codes ": " ++ (reason ++ codes "\n")))))
     → IfOk result (λ s. string_bytes s ≡ fault_line program name fault)
 fault-parts program name fault reason result is said =

@@ -8,8 +8,9 @@ use Rattle.std.specs.declared.string.String.{String}
 use Rattle.isle_base_source.specs.Source.{Source}
 use Rattle.isle_base.specs.Diagnostics.{only_file}
 use Rattle.isle_cli.specs.Sources.{ReadsInput, fault_line}
+use Rattle.isle_cli.specs.Streams.{IsStreamFault}
 use Rattle.isle_cli.specs.declared.program.Program.{Program}
-use Rattle.isle_cli.specs.declared.sources.SourceFault.TheVariants.{Unreadable}
+use Rattle.isle_cli.specs.declared.streams.ReadFault.{ReadFault}
 
 -- the whole input is one text more
 pub one_source_more : {E : Type 0} (stdin_name : List ℕ) (program : Program) (input input' : Option (List ℕ)) (sources : List Source) (faults : List ℕ) (sources' : List Source) (faults' : List ℕ) (text : List ℕ) (result : Result (Unit {0}) E)
@@ -20,11 +21,11 @@ one_source_more stdin_name program input input' sources faults sources' faults' 
 one_source_more stdin_name program input input' sources faults sources' faults' text (Err _) utf8 consumed ended list same = tt
 
 -- or one fault more
-pub one_fault_more : {E : Type 0} (stdin_name : List ℕ) (program : Program) (input input' : Option (List ℕ)) (sources : List Source) (faults : List ℕ) (sources' : List Source) (faults' : List ℕ) (result : Result (Unit {0}) E)
-    → sources' ≡ sources → OnOk result (faults' ≡ faults ++ fault_line program stdin_name Unreadable)
+pub one_fault_more : {E : Type 0} (stdin_name : List ℕ) (program : Program) (input input' : Option (List ℕ)) (sources : List Source) (faults : List ℕ) (sources' : List Source) (faults' : List ℕ) (fault : ReadFault) (result : Result (Unit {0}) E)
+    → IsStreamFault input input' fault → sources' ≡ sources → OnOk result (faults' ≡ faults ++ fault_line program stdin_name fault)
     → OnOk result (ReadsInput stdin_name program input input' sources faults sources' faults')
-one_fault_more stdin_name program input input' sources faults sources' faults' (Ok _) list told = inr (list, told)
-one_fault_more stdin_name program input input' sources faults sources' faults' (Err _) list told = tt
+one_fault_more stdin_name program input input' sources faults sources' faults' fault (Ok _) why list told = inr (fault, why, list, told)
+one_fault_more stdin_name program input input' sources faults sources' faults' fault (Err _) why list told = tt
 
 -- a name that is `-` is among the names
 pub names_input : (names : List (String Global)) (i : ℕ) (name : String Global) → i < length names → name ≡ get_or names i name → string_bytes name ≡ codes "-" → Contains (map string_bytes names) (codes "-")

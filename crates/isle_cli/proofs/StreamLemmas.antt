@@ -1,11 +1,18 @@
 -- Several reads and several writes, taken together.
-use Rattle.std.proofs.Common.{◌≡◌, ◌++◌, ℕ, ◌+◌, ◌-◌, min, List, length, take, drop, Option, subst, sym, ◌∙◌, arith, length-drop}
+use Rattle.std.proofs.Common.{◌≡◌, ◌≢◌, ◌++◌, ℕ, ◌+◌, ◌-◌, min, List, length, take, drop, Option, Result, Ok, Err, IfErr, IsUtf8, refl, ap, subst, sym, ◌∙◌, arith, length-drop}
 use Rattle.std.proofs.KnownBytes.{Appends-trans, Consumes-trans, starts_with_rest}
 use Rattle.std.proofs.Math.Seq.{take-add, take-append-add}
 use Rattle.std.proofs.lemmas.List.{take-append-le, take_all, take_min}
+use Rattle.std.proofs.lemmas.Result.{err_from_is_err_and}
 use Rattle.std.specs.Io.{StartsWith, appended_bytes}
-use Rattle.std.specs.Io.KnownBytes.{Appends, Consumes}
-use Rattle.isle_cli.specs.Streams.{AppendsBeginning, ReadsText}
+use Rattle.std.specs.Io.KnownBytes.{Appends, Consumes, IsAtEnd}
+use Rattle.std.specs.Result.{IsErrAnd}
+use Rattle.std.specs.Str.Lossy.{utf8_valid_len}
+use Rattle.std.specs.declared.io.ErrorKind.{ErrorKind}
+use Rattle.std.specs.declared.io.ErrorKind.TheVariants as kinds
+use Rattle.isle_cli.specs.Streams.{AppendsBeginning, IsBroken, IsStreamFault, ReadsText, fault_of}
+use Rattle.isle_cli.specs.declared.streams.ReadFault.{ReadFault}
+use Rattle.isle_cli.specs.declared.streams.ReadFault.TheVariants as faults
 
 -- the bytes so far were consumed, and then those by which they grew
 pub Consumes-grown : (a b c : Option (List ℕ)) (old new : List ℕ) → StartsWith new old
@@ -36,3 +43,28 @@ AppendsBeginning-behind a b c xs ys front rest =
 pub ReadsText-weaker : (old new : Option (List ℕ)) (P Q : List ℕ → Type 0) → ((text : List ℕ) → P text → Q text) → ReadsText old new P → ReadsText old new Q
 ReadsText-weaker old new P Q follows read =
     record { text = read.text; consumed = read.consumed; ended = read.ended; utf8 = read.utf8; holds = follows read.text read.holds }
+
+broken_fault : (old new : Option (List ℕ)) (fault : ReadFault) → IsBroken fault → IsStreamFault old new fault
+broken_fault old new (faults.NotUtf8 offset) broken = absurd broken
+broken_fault old new _ broken = tt
+
+-- an error of one read is an error of the stream
+pub broken_stream : {X : Type 0} (old new : Option (List ℕ)) (r : Result X ReadFault) (e : ReadFault) → IsErrAnd r (λ f. f ≡ e) → IsBroken e → IfErr r (IsStreamFault old new)
+broken_stream old new r e is broken =
+    let p = err_from_is_err_and r is in
+    subst (λ q. IfErr q (IsStreamFault old new)) (sym (p.1 ∙ ap Err p.2)) (broken_fault old new e broken)
+
+-- any other error of the system
+pub fault_of-other : (kind : ErrorKind) → kind ≢ kinds.NotFound → kind ≢ kinds.PermissionDenied → kind ≢ kinds.IsADirectory → kind ≢ kinds.OutOfMemory → faults.Unreadable ≡ fault_of kind
+fault_of-other kinds.NotFound missing denied folder memory = absurd (missing refl)
+fault_of-other kinds.PermissionDenied missing denied folder memory = absurd (denied refl)
+fault_of-other kinds.IsADirectory missing denied folder memory = absurd (folder refl)
+fault_of-other kinds.OutOfMemory missing denied folder memory = absurd (memory refl)
+fault_of-other _ missing denied folder memory = refl
+
+-- bytes that aren't UTF-8 are no text
+pub no_text : {X : Type 0} (old new : Option (List ℕ)) (bytes : List ℕ) (r : Result X ReadFault) → Consumes old new bytes → IsAtEnd new → IfErr r (λ _. ¬ (IsUtf8 bytes))
+    → IfErr r (λ f. f ≡ faults.NotUtf8 (utf8_valid_len bytes)) → IfErr r (IsStreamFault old new)
+no_text old new bytes (Ok x) consumed ended not_utf8 is = tt
+no_text old new bytes (Err e) consumed ended not_utf8 is =
+    subst (IsStreamFault old new) (sym is) (record { bytes = bytes; consumed = consumed; ended = ended; not_utf8 = not_utf8; valid = refl })

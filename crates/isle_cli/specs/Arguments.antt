@@ -1,7 +1,7 @@
 -- The words of a command line: options, which stand anywhere, and names.
-use Rattle.std.specs.Prelude.{◌≡◌, ℕ, ◌==◌, List, [], ◌∷◌, ◌++◌, Bool, false, ◌||◌, not, if◌then◌else◌, Option, None, Some, codes, map, option_to_list, string_bytes, unwrap_or}
-use Rattle.std.specs.List.{list_any}
-use Rattle.std.specs.Option.{option_and_then, option_map}
+use Rattle.std.specs.Prelude.{◌≡◌, ℕ, ◌+◌, ◌==◌, List, [], ◌∷◌, ◌++◌, Bool, false, ◌||◌, not, if◌then◌else◌, Option, None, Some, codes, drop, map, option_to_list, string_bytes, take, unwrap_or}
+use Rattle.std.specs.List.{list_any, position}
+use Rattle.std.specs.Option.{option_and_then, option_map, option_map_or}
 use Rattle.std.specs.Str.{bytes_eq}
 use Rattle.isle_cli.specs.declared.arguments.Argument.{Argument}
 use Rattle.isle_cli.specs.declared.arguments.Argument.TheVariants as arguments
@@ -37,7 +37,8 @@ is_among words word = list_any (λ other. bytes_eq other word) words
 -- the options of the program, and those of every program
 abbrev pub is_flag : Options → List ℕ → Bool
 is_flag options word =
-    bytes_eq word (codes "--help") || bytes_eq word (codes "--version") || is_among (map (λ flag. flag.now) options.flags.now) word
+    bytes_eq word (codes "--help") || bytes_eq word (codes "-h") || bytes_eq word (codes "--version") || bytes_eq word (codes "-V")
+    || is_among (map (λ flag. flag.now) options.flags.now) word
 
 abbrev pub is_setting : Options → List ℕ → Bool
 is_setting options word = bytes_eq word (codes "--stdin-name") || is_among (map (λ setting. setting.now) options.settings.now) word
@@ -51,13 +52,25 @@ begins_with_dash (b ∷ _) = b == 45
 abbrev pub is_name : List ℕ → Bool
 is_name word = bytes_eq word (codes "-") || not (begins_with_dash word)
 
+-- what stands in front of the first `=` (61), and what stands behind it
+abbrev pub parts_at_equals : List ℕ → Option (List ℕ × List ℕ)
+parts_at_equals word = option_map (λ at. (take at word, drop (at + 1) word)) (position (λ b. b == 61) word)
+
+-- a word such as `--width=60`: an option and its value
+abbrev pub setting_at : Options → List ℕ × List ℕ → Option Given
+setting_at options parts = if is_setting options parts.0 then Some (setting_given parts.0 parts.1) else None
+
+abbrev pub joined_setting : Options → List ℕ → Option Given
+joined_setting options word = option_and_then (setting_at options) (parts_at_equals word)
+
 -- what a word gives that may be anything, and what the next one may be; an unknown option gives nothing
 abbrev pub taken_any : Options → List ℕ → Option (Option Given × Awaited)
 taken_any options word =
     if bytes_eq word (codes "--") then Some (None, names_awaited)
     else if is_setting options word then Some (None, value_awaited word)
     else if is_flag options word then Some (Some (flag_given word), anything_awaited)
-    else if is_name word then Some (Some (name_given word), anything_awaited) else None
+    else option_map_or (λ setting. Some (Some setting, anything_awaited)) (joined_setting options word)
+    (if is_name word then Some (Some (name_given word), anything_awaited) else None)
 
 -- what a word gives, and what the next one may be
 abbrev pub taken : Options → Awaited → List ℕ → Option (Option Given × Awaited)
@@ -106,11 +119,15 @@ name_list (name_given n ∷ more) = n ∷ name_list more
 abbrev pub stdin_name : List Given → List ℕ
 stdin_name list = unwrap_or (last_setting (codes "--stdin-name") None list) (codes "<stdin>")
 
+-- an option is given, in full or by its letter
+abbrev pub gives_either : (flag letter : List ℕ) → List Given → Bool
+gives_either flag letter list = gives_flag flag list || gives_flag letter list
+
 -- `--help` comes before `--version`, and both before the work
 abbrev pub asked_by : List Given → Asked
 asked_by list =
-    if gives_flag (codes "--help") list then help_asked
-    else if gives_flag (codes "--version") list then version_asked else work_asked list
+    if gives_either (codes "--help") (codes "-h") list then help_asked
+    else if gives_either (codes "--version") (codes "-V") list then version_asked else work_asked list
 
 -- what the words ask for; nothing where they are none of the usage
 abbrev pub asked : Options → List (List ℕ) → Option Asked

@@ -32,8 +32,8 @@ pub record IsDiagnostic (program : Program) (status : ℕ) (text : List ℕ) : T
 
 -- what a fault of reading is to a program
 abbrev pub read_failure : ReadFault → Failure
-read_failure read_faults.Unreadable = failures.Input
 read_failure read_faults.Memory = failures.Memory
+read_failure _ = failures.Input
 
 -- What a failure says of standard input and output, before and after, where the words are usable or not. Of the whole
 -- input Refused holds with the text that is told, or Written with the text of which the output got a beginning.

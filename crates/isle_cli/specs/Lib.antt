@@ -3,4 +3,5 @@ pub mod Failure
 pub mod Messages
 pub mod Sources
 pub mod Streams
+pub mod Usage
 pub mod Words

@@ -4,9 +4,10 @@ ghost use Rattle.std.specs.Prelude.{◌≡◌, ◌⊎◌, ◌++◌, IfErr, IfOk,
 ghost use Rattle.std.specs.Prelude.{option_to_list, string_bytes};
 ghost use Rattle.std.specs.Option.{option_copied, option_map};
 ghost use Rattle.isle_cli.specs.Arguments.{anything_awaited, asked, awaited_of, given};
-ghost use Rattle.isle_cli.specs.Arguments.{given_of, gives_flag, is_among, is_this_flag};
-ghost use Rattle.isle_cli.specs.Arguments.{is_flag, is_name, is_setting, last_setting, name_list};
-ghost use Rattle.isle_cli.specs.Arguments.{request_of, stdin_name, taken, taken_of};
+ghost use Rattle.isle_cli.specs.Arguments.{given_of, gives_either, gives_flag, is_among};
+ghost use Rattle.isle_cli.specs.Arguments.{is_flag, is_name, is_setting, is_this_flag};
+ghost use Rattle.isle_cli.specs.Arguments.{joined_setting, last_setting, name_list};
+ghost use Rattle.isle_cli.specs.Arguments.{parts_at_equals, request_of, stdin_name, taken, taken_of};
 ghost use Rattle.isle_cli.specs.declared.failure.Failure.TheVariants.{Memory, Usage};
 
 use crate::failure::Failure;
@@ -15,13 +16,14 @@ use std::alloc::{AllocError, Global};
 /// The name that stands for standard input.
 pub const INPUT_NAME: &str = "<stdin>";
 
-/// The options of a program, besides `--help`, `--version` and `--stdin-name NAME`, which every
-/// program accepts.
+/// The options of a program, besides `--help` and `-h`, `--version` and `-V`, and
+/// `--stdin-name NAME`, which every program accepts.
 #[derive(Clone, Copy, Debug)]
 pub struct Options {
     /// The options without a value, such as `--check`.
     pub flags: &'static [&'static str],
-    /// The options whose value is the next word, such as `--width`.
+    /// The options with a value, such as `--width`. It is the next word, or stands behind `=` in the
+    /// word of the option.
     pub settings: &'static [&'static str],
 }
 
@@ -70,6 +72,8 @@ struct Taken {
 /// Options may stand anywhere among the names; after `--` every word is a name. A word that begins
 /// with `-` is an option, except `-` alone, which is a name. An option may be repeated.
 ///
+/// The value of an option is the next word, or stands behind the first `=` of the option's word.
+///
 /// It fails with `Usage` if an option is unknown or its value is missing, and with `Memory`.
 /// Otherwise `--help` takes precedence over `--version`, and both over the work.
 pub fn requested(alloc: Global, options: &Options, words: &[String]) -> Result<Request, Failure>
@@ -79,10 +83,10 @@ pub fn requested(alloc: Global, options: &Options, words: &[String]) -> Result<R
         ⊎ (failure ≡ Usage) × (asked options.now (map string_bytes words.now) ≡ None)) }
 {
     let arguments = arguments_of(alloc, options, words)?;
-    if has_flag(&arguments, "--help") {
+    if has_either(&arguments, "--help", "-h") {
         return Ok(Request::Help);
     }
-    if has_flag(&arguments, "--version") {
+    if has_either(&arguments, "--version", "-V") {
         return Ok(Request::Version);
     }
     Ok(Request::Work(arguments))
@@ -136,7 +140,7 @@ fn take(alloc: Global, options: &Options, awaited: Awaited, word: &str) -> Resul
 {
     let word = String::from_str(alloc, word)?;
     match awaited {
-        Awaited::Anything => take_any(options, word),
+        Awaited::Anything => take_any(alloc, options, word),
         Awaited::Value(option) => Ok(Taken {
             argument: Some(Argument::Setting(option, word)),
             awaited: Awaited::Anything,
@@ -149,10 +153,10 @@ fn take(alloc: Global, options: &Options, awaited: Awaited, word: &str) -> Resul
 }
 
 /// Parses a word that may be an option or a name.
-fn take_any(options: &Options, word: String) -> Result<Taken, Failure>
+fn take_any(alloc: Global, options: &Options, word: String) -> Result<Taken, Failure>
     ensures ok { IfOk result (λ next. taken options.now anything_awaited (string_bytes word)
         ≡ Some (taken_of next)) }
-    ensures err { IfErr result (λ failure. (failure ≡ Usage)
+    ensures err { IfErr result (λ failure. (failure ≡ Memory) ⊎ (failure ≡ Usage)
         × (taken options.now anything_awaited (string_bytes word) ≡ None)) }
 {
     if word.as_str() == "--" {
@@ -173,6 +177,12 @@ fn take_any(options: &Options, word: String) -> Result<Taken, Failure>
             awaited: Awaited::Anything,
         });
     }
+    if let Some(setting) = joined_setting(alloc, options, word.as_str())? {
+        return Ok(Taken {
+            argument: Some(setting),
+            awaited: Awaited::Anything,
+        });
+    }
     if is_name_word(word.as_str()) {
         return Ok(Taken {
             argument: Some(Argument::Name(word)),
@@ -182,16 +192,48 @@ fn take_any(options: &Options, word: String) -> Result<Taken, Failure>
     Err(Failure::Usage)
 }
 
+/// The option and its value that a word such as `--width=60` gives, if the part before its first
+/// `=` is an option with a value.
+fn joined_setting(
+    alloc: Global,
+    options: &Options,
+    word: &str,
+) -> Result<Option<Argument>, AllocError>
+    ensures { IfOk result (λ argument. option_map given_of argument
+        ≡ joined_setting options.now word.now) }
+{
+    match parts_at_equals(word) {
+        Some((option, value)) if options.is_setting(option) => {
+            let option = String::from_str(alloc, option)?;
+            let value = String::from_str(alloc, value)?;
+            Ok(Some(Argument::Setting(option, value)))
+        }
+        _ => Ok(None),
+    }
+}
+
+/// What stands in front of the first `=` of a word, and what stands behind it.
+pub(crate) fn parts_at_equals(word: &str) -> Option<(&str, &str)>
+    ensures { option_map (λ parts. (parts.0.now, parts.1.now)) result
+        ≡ parts_at_equals word.now }
+{
+    word.split_once('=')
+}
+
 impl Options {
     /// Returns whether a word is an option without a value.
-    fn is_flag(&self, word: &str) -> bool
+    pub(crate) fn is_flag(&self, word: &str) -> bool
         ensures { result ≡ is_flag self.now word.now }
     {
-        word == "--help" || word == "--version" || is_among(self.flags, word)
+        word == "--help"
+            || word == "-h"
+            || word == "--version"
+            || word == "-V"
+            || is_among(self.flags, word)
     }
 
     /// Returns whether a word is an option with a value.
-    fn is_setting(&self, word: &str) -> bool
+    pub(crate) fn is_setting(&self, word: &str) -> bool
         ensures { result ≡ is_setting self.now word.now }
     {
         word == "--stdin-name" || is_among(self.settings, word)
@@ -210,10 +252,17 @@ fn is_among(words: &[&str], word: &str) -> bool
 }
 
 /// Returns whether a word is no option: it is `-`, or does not begin with `-`.
-fn is_name_word(word: &str) -> bool
+pub(crate) fn is_name_word(word: &str) -> bool
     ensures { result ≡ is_name word.now }
 {
     word == "-" || !word.starts_with('-')
+}
+
+/// Returns whether an option without a value is given, in full or by its letter.
+fn has_either(arguments: &[Argument], flag: &str, letter: &str) -> bool
+    ensures { result ≡ gives_either flag.now letter.now (map given_of arguments.now) }
+{
+    has_flag(arguments, flag) || has_flag(arguments, letter)
 }
 
 /// Returns whether an option without a value is given.

@@ -43,8 +43,8 @@ impl From<ReadFault> for Failure {
 
     fn from(fault: ReadFault) -> Failure {
         match fault {
-            ReadFault::Unreadable => Failure::Input,
             ReadFault::Memory => Failure::Memory,
+            _ => Failure::Input,
         }
     }
 }

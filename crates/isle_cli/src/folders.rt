@@ -1,7 +1,8 @@
 //! The files below a folder.
 
 use crate::program::Program;
-use crate::sources::{SourceFault, fault_line, fault_of};
+use crate::sources::{empty_line, fault_line};
+use crate::streams::{ReadFault, fault_of};
 use std::alloc::AllocError;
 use std::fs::{DirEntry, Files, read_dir};
 use std::io;
@@ -14,6 +15,23 @@ const SUFFIX: &str = ".isle";
 struct Entry {
     path: String,
     is_folder: bool,
+}
+
+/// The names of the files that a name of the command line stands for, as `files_of` finds them. A
+/// line is added to `faults`, too, if it is a folder without an ISLE file.
+pub fn files_named<R: Files + AllocGlobal + Clone + Drop>(
+    rt: &R,
+    program: &Program,
+    name: &str,
+    faults: &mut String,
+) -> Result<Vec<String>, AllocError> {
+    let told = faults.len();
+    let files = files_of(rt, program, name, faults)?;
+    if files.is_empty() && faults.len() == told {
+        let line = empty_line(rt.alloc(), program, name)?;
+        faults.push_str(line.as_str())?;
+    }
+    Ok(files)
 }
 
 /// The names of the files that a name stands for: itself, or, if it is a folder, each file below it
@@ -98,7 +116,7 @@ fn push_fault<R: Files + AllocGlobal>(
     faults: &mut String,
 ) -> Result<(), AllocError> {
     match fault_of(error) {
-        SourceFault::Memory => Err(AllocError),
+        ReadFault::Memory => Err(AllocError),
         fault => {
             let line = fault_line(rt.alloc(), program, name, fault)?;
             faults.push_str(line.as_str())?;

@@ -9,4 +9,5 @@ pub mod messages;
 pub mod program;
 pub mod sources;
 pub mod streams;
+pub mod usage;
 pub mod words;

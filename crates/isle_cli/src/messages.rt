@@ -1,10 +1,10 @@
-//! Messages of one line: `FILE:LINE:COLUMN: error: MESSAGE`.
+//! Messages of one line: `FILE:LINE:COLUMN: error: MESSAGE`, and the line that counts them.
 
 ghost use Rattle.std.specs.Prelude.{◌≡◌, ◌+◌, ◌-◌, ◌^◌, ◌<◌, ◌≤◌, ◌==◌, IfOk, length};
 ghost use Rattle.std.specs.Prelude.{if◌then◌else◌, slice_index, string_bytes};
 ghost use Rattle.isle_base_source.specs.Lines.{column, line_ends};
 ghost use Rattle.isle_base.specs.Refusal.{RefusesIn};
-ghost use Rattle.isle_cli.specs.Messages.{error_line, message_line};
+ghost use Rattle.isle_cli.specs.Messages.{count_text, counted, error_line, message_line};
 
 use isle_base_source::error::Error;
 use isle_base_source::files::LineMap;
@@ -80,4 +80,34 @@ pub fn error_line(
         }
         _ => unreachable!(),
     }
+}
+
+/// The line that counts errors and warnings, `found 2 errors and 1 warning`, with its line end;
+/// empty if there are none.
+pub fn count_line(alloc: Global, errors: usize, warnings: usize) -> Result<String, AllocError>
+    ensures { IfOk result (λ line. string_bytes line ≡ count_text errors warnings) }
+{
+    if errors == 0 {
+        if warnings == 0 {
+            return Ok(String::new(alloc));
+        }
+        let warned = counted(alloc, warnings, "warning")?;
+        return format!(in alloc; "found {warned}\n");
+    }
+    let refused = counted(alloc, errors, "error")?;
+    if warnings == 0 {
+        return format!(in alloc; "found {refused}\n");
+    }
+    let warned = counted(alloc, warnings, "warning")?;
+    format!(in alloc; "found {refused} and {warned}\n")
+}
+
+/// A number and a noun, in the plural unless the number is 1.
+pub fn counted(alloc: Global, number: usize, noun: &str) -> Result<String, AllocError>
+    ensures { IfOk result (λ text. string_bytes text ≡ counted number noun.now) }
+{
+    if number == 1 {
+        return format!(in alloc; "{number} {noun}");
+    }
+    format!(in alloc; "{number} {noun}s")
 }

@@ -2,15 +2,16 @@
 
 ghost use Rattle.std.specs.Prelude.{◌≡◌, ◌++◌, [], IfOk, OnOk, map, string_bytes};
 ghost use Rattle.isle_base.specs.Diagnostics.{only_file};
-ghost use Rattle.isle_cli.specs.Sources.{IsReadFrom, ReadsInput, fault_line, reason_of, source_of};
+ghost use Rattle.isle_cli.specs.Sources.{IsReadFrom, ReadsInput, empty_line, fault_line};
+ghost use Rattle.isle_cli.specs.Sources.{reason_of, source_of};
 
-use crate::folders::files_of;
+use crate::folders::files_named;
 use crate::program::Program;
-use crate::streams::{ReadFault, read_text};
+pub use crate::streams::ReadFault as SourceFault;
+use crate::streams::{ReadFault, fault_of, read_text};
 use std::alloc::{AllocError, Global};
 use std::fs::{Files, OpenOptions};
-use std::io;
-use std::io::{ErrorKind, Read};
+use std::io::Read;
 
 /// A text, and its name in messages.
 #[derive(Debug, Drop)]
@@ -31,22 +32,11 @@ pub struct Sources {
     pub faults: String,
 }
 
-/// Why a file can't be read.
-#[derive(Clone, Copy, Debug)]
-pub enum SourceFault {
-    /// There is no such file or folder.
-    Missing,
-    /// It can't be read to its end, or isn't UTF-8.
-    Unreadable,
-    /// Out of memory.
-    Memory,
-}
-
 /// Reads the texts that the names of a command line stand for: standard input for `-`, the files
-/// that `files_of` finds below a folder, or a file. Without names it reads standard input.
+/// that `files_named` finds below a folder, or a file. Without names it reads standard input.
 ///
-/// A line is added to `faults` for each text that can't be read, and the others are read all the
-/// same.
+/// A line is added to `faults` for each text that can't be read and each folder without an ISLE
+/// file, and the others are read all the same.
 pub fn read_sources<R: Files + AllocGlobal + Clone + Drop, I: Read>(
     rt: &R,
     program: &Program,
@@ -102,7 +92,7 @@ impl Sources {
         alloc: Global,
         program: &Program,
         name: &str,
-        fault: SourceFault,
+        fault: ReadFault,
     ) -> Result<(), AllocError>
         ensures list { map source_of self.new.list.items ≡ map source_of self.old.list.items }
         ensures faults { OnOk result (string_bytes self.new.faults
@@ -129,10 +119,8 @@ fn read_input<I: Read>(
 {
     match read_text(alloc, input) {
         Ok(text) => read.push(alloc, stdin_name, text),
-        Err(ReadFault::Unreadable) => {
-            read.push_fault(alloc, program, stdin_name, SourceFault::Unreadable)
-        }
         Err(ReadFault::Memory) => Err(AllocError),
+        Err(fault) => read.push_fault(alloc, program, stdin_name, fault),
     }
 }
 
@@ -143,10 +131,10 @@ fn read_path<R: Files + AllocGlobal + Clone + Drop>(
     name: &str,
     read: &mut Sources,
 ) -> Result<(), AllocError> {
-    for file in files_of(rt, program, name, &mut read.faults)? {
+    for file in files_named(rt, program, name, &mut read.faults)? {
         match read_file(rt, file.as_str()) {
             Ok(text) => read.push(rt.alloc(), file.as_str(), text)?,
-            Err(SourceFault::Memory) => return Err(AllocError),
+            Err(ReadFault::Memory) => return Err(AllocError),
             Err(fault) => read.push_fault(rt.alloc(), program, file.as_str(), fault)?,
         }
     }
@@ -154,25 +142,12 @@ fn read_path<R: Files + AllocGlobal + Clone + Drop>(
 }
 
 /// Reads a file in UTF-8.
-pub fn read_file<R: Files + AllocGlobal>(rt: &R, name: &str) -> Result<String, SourceFault> {
+pub fn read_file<R: Files + AllocGlobal>(rt: &R, name: &str) -> Result<String, ReadFault> {
     let mut file = OpenOptions::new()
         .read(true)
         .open(rt, name)
         .map_err(fault_of)?;
-    match read_text(rt.alloc(), &mut file) {
-        Ok(text) => Ok(text),
-        Err(ReadFault::Unreadable) => Err(SourceFault::Unreadable),
-        Err(ReadFault::Memory) => Err(SourceFault::Memory),
-    }
-}
-
-/// Why a file can't be read, from the error of the system.
-pub fn fault_of(error: io::Error) -> SourceFault {
-    match error.kind() {
-        ErrorKind::NotFound => SourceFault::Missing,
-        ErrorKind::OutOfMemory => SourceFault::Memory,
-        _ => SourceFault::Unreadable,
-    }
+    read_text(rt.alloc(), &mut file)
 }
 
 /// The line that says why a name can't be read: `PROGRAM: NAME: REASON`, with its line end.
@@ -180,20 +155,32 @@ pub fn fault_line(
     alloc: Global,
     program: &Program,
     name: &str,
-    fault: SourceFault,
+    fault: ReadFault,
 ) -> Result<String, AllocError>
     ensures { IfOk result (λ line. string_bytes line ≡ fault_line program.now name.now fault) }
 {
-    format!(in alloc; "{}: {name}: {}\n", program.name, reason_of(fault))
+    let reason = reason_of(alloc, fault)?;
+    format!(in alloc; "{}: {name}: {reason}\n", program.name)
+}
+
+/// The line that says that a folder has no ISLE file, with its line end.
+pub fn empty_line(alloc: Global, program: &Program, name: &str) -> Result<String, AllocError>
+    ensures { IfOk result (λ line. string_bytes line ≡ empty_line program.now name.now) }
+{
+    format!(in alloc; "{}: no .isle file in '{name}'\n", program.name)
 }
 
 /// The reason in words.
-fn reason_of(fault: SourceFault) -> &'static str
-    ensures { result.now ≡ reason_of fault }
+fn reason_of(alloc: Global, fault: ReadFault) -> Result<String, AllocError>
+    ensures { IfOk result (λ reason. string_bytes reason ≡ reason_of fault) }
 {
     match fault {
-        SourceFault::Missing => "no such file or folder",
-        SourceFault::Unreadable => "unreadable or not UTF-8",
-        SourceFault::Memory => "out of memory",
+        ReadFault::Missing => String::from_str(alloc, "no such file or directory"),
+        ReadFault::Denied => String::from_str(alloc, "permission denied"),
+        ReadFault::Folder => String::from_str(alloc, "is a directory"),
+        ReadFault::NotRegular => String::from_str(alloc, "not a regular file"),
+        ReadFault::NotUtf8(offset) => format!(in alloc; "not UTF-8 at byte {offset}"),
+        ReadFault::Unreadable => String::from_str(alloc, "unreadable"),
+        ReadFault::Memory => String::from_str(alloc, "out of memory"),
     }
 }

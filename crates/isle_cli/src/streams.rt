@@ -1,10 +1,13 @@
 //! Reading to the end and writing whole texts, for any reader and any writer.
 
-ghost use Rattle.std.specs.Prelude.{◌≡◌, ◌<◌, length, string_bytes, IfOk, Ok, OnOk, false};
+ghost use Rattle.std.specs.Prelude.{◌≡◌, ◌<◌, length, string_bytes, IfErr, IfOk, IsUtf8, Ok, OnOk};
+ghost use Rattle.std.specs.Prelude.{false};
 ghost use Rattle.std.specs.Io.{StartsWith, appended_bytes};
 ghost use Rattle.std.specs.Io.KnownBytes.{Appends, Consumes, IsAtEnd};
-ghost use Rattle.isle_cli.specs.Streams.{AppendsBeginning};
-ghost use Rattle.isle_cli.specs.declared.streams.ReadFault.TheVariants.{Memory};
+ghost use Rattle.std.specs.IoError.{error_kind};
+ghost use Rattle.std.specs.Str.Lossy.{utf8_valid_len};
+ghost use Rattle.isle_cli.specs.Streams.{AppendsBeginning, IsBroken, IsStreamFault, fault_of};
+ghost use Rattle.isle_cli.specs.declared.streams.ReadFault.TheVariants.{Memory, NotUtf8};
 
 use std::alloc::{AllocError, AllocFailed, Global};
 use std::io;
@@ -39,9 +42,19 @@ impl<I, W, E> Streams<I, W, E> {
 }
 
 /// Why no text was read.
-#[derive(Debug, Drop)]
+#[derive(Clone, Copy, Debug)]
 pub enum ReadFault {
-    /// The input can't be read to its end, or isn't UTF-8.
+    /// There is no such file or folder.
+    Missing,
+    /// The user may not read it.
+    Denied,
+    /// It is a folder.
+    Folder,
+    /// It isn't a regular file, where one is needed.
+    NotRegular,
+    /// It isn't UTF-8: so many bytes stand in front of the first one that is wrong.
+    NotUtf8(usize),
+    /// It can't be read to its end, for another reason.
     Unreadable,
     /// Out of memory.
     Memory,
@@ -63,6 +76,20 @@ impl<T: Drop> From<AllocFailed<T>> for ReadFault {
     }
 }
 
+/// Why nothing can be read, from the error of the system.
+pub fn fault_of(error: io::Error) -> ReadFault
+    ensures kind { result ≡ fault_of (error_kind error) }
+    ensures broken { IsBroken result }
+{
+    match error.kind() {
+        ErrorKind::NotFound => ReadFault::Missing,
+        ErrorKind::PermissionDenied => ReadFault::Denied,
+        ErrorKind::IsADirectory => ReadFault::Folder,
+        ErrorKind::OutOfMemory => ReadFault::Memory,
+        _ => ReadFault::Unreadable,
+    }
+}
+
 /// Reads a text in UTF-8 to its end.
 ///
 /// An interrupted read is repeated. After an error the bytes read so far are lost.
@@ -70,15 +97,29 @@ pub fn read_text<R: Read>(alloc: Global, input: &mut R) -> Result<String, ReadFa
     ensures consumed { IfOk result (λ text.
         Consumes (R.remaining input.old) (R.remaining input.new) (string_bytes text)) }
     ensures ended { OnOk result (IsAtEnd (R.remaining input.new)) }
+    ensures fault { IfErr result (λ fault.
+        IsStreamFault (R.remaining input.old) (R.remaining input.new) fault) }
 {
     let mut bytes = Vec::new(alloc);
     let mut buffer = [0; READ_LEN];
     for _ in 0..u64::MAX {
         if !read_more(input, &mut buffer, &mut bytes)? {
-            return String::from_utf8(bytes).map_err(|_| ReadFault::Unreadable);
+            return text_of(bytes);
         }
     }
     Err(ReadFault::Unreadable)
+}
+
+/// The text that bytes are.
+fn text_of(bytes: Vec<u8>) -> Result<String, ReadFault>
+    ensures ok { IfOk result (λ text. string_bytes text ≡ bytes.items) }
+    ensures err { IfErr result (λ fault. fault ≡ NotUtf8 (utf8_valid_len bytes.items)) }
+    ensures not_utf8 { IfErr result (λ _. ¬ (IsUtf8 bytes.items)) }
+{
+    match String::from_utf8(bytes) {
+        Ok(text) => Ok(text),
+        Err(error) => Err(ReadFault::NotUtf8(error.utf8_error().valid_up_to())),
+    }
 }
 
 /// Reads once, and returns whether there may be more. An interrupted read adds no bytes.
@@ -92,6 +133,7 @@ fn read_more<R: Read>(
     ensures consumed { OnOk result (Consumes (R.remaining input.old) (R.remaining input.new)
         (appended_bytes bytes.old.items bytes.new.items)) }
     ensures ended { result ≡ Ok false → IsAtEnd (R.remaining input.new) }
+    ensures broken { IfErr result IsBroken }
 {
     match input.read(buffer) {
         Ok(n) => {
@@ -99,7 +141,7 @@ fn read_more<R: Read>(
             Ok(n != 0)
         }
         Err(error) if error.kind() == ErrorKind::Interrupted => Ok(true),
-        Err(_) => Err(ReadFault::Unreadable),
+        Err(error) => Err(fault_of(error)),
     }
 }
 

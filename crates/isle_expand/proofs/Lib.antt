@@ -1,2 +1,3 @@
 pub mod ExpansionLemmas
 pub mod DoingLemmas
+pub mod WordLemmas

@@ -2,7 +2,7 @@
 use Rattle.std.specs.Prelude.{◌≡◌, ◌⊎◌, ℕ, List, [], ◌∷◌, Option, None, Some, codes, map}
 use Rattle.std.specs.Str.Parse.{digits_value}
 use Rattle.isle_cli.specs.Arguments.{AnswersTo, Asked, Given, asked, last_setting, work_asked}
-use Rattle.isle_cli.specs.Failure as frame
+use Rattle.isle_cli.specs.Usage.{IsDiagnosticOf}
 use Rattle.isle_cli.specs.Words.{IsWidth}
 use Rattle.isle_cli.specs.declared.arguments.Options.{Options}
 use Rattle.isle_cli.specs.declared.program.Program.{Program}
@@ -16,6 +16,11 @@ pub record IsThis (program : Program) : Type 0 where
 pub record AreOwn (options : Options) : Type 0 where
   pub flags : map (λ flag. flag.now) options.flags.now ≡ []
   pub settings : map (λ setting. setting.now) options.settings.now ≡ codes "--width" ∷ []
+
+-- its own options, and that which asks for a program of a manifest
+pub record AreAll (options : Options) : Type 0 where
+  pub flags : map (λ flag. flag.now) options.flags.now ≡ []
+  pub settings : map (λ setting. setting.now) options.settings.now ≡ codes "--width" ∷ codes "--program" ∷ []
 
 -- a value of `--width` is one, where it is given
 abbrev pub IsWidthSetting : Option (List ℕ) → Type 0
@@ -46,6 +51,8 @@ IsMisuse answer = (answer ≡ None) ⊎ ((given : List Given) × (answer ≡ Som
 abbrev pub AskForNothing : List (List ℕ) → Type 0
 AskForNothing words = (options : Options) × AreOwn options × IsMisuse (asked options words)
 
--- the text that goes with a status past 1
-abbrev pub IsDiagnostic : (status : ℕ) (text : List ℕ) → Type 0
-IsDiagnostic status text = (program : Program) × IsThis program × frame.IsDiagnostic program status text
+-- the text that goes with a status past 1, where the program is called with these words
+abbrev pub IsDiagnostic : (words : List (List ℕ)) (status : ℕ) (text : List ℕ) → Type 0
+IsDiagnostic words status text =
+    (program : Program) × (own : Options) × (all : Options) × IsThis program × AreOwn own × AreAll all
+    × IsDiagnosticOf program own all words status text

@@ -41,14 +41,15 @@ Options:
   --stdin-name NAME  use NAME for standard input in messages
   --program NAME     expand the program NAME of isle.toml
   --                 treat all later arguments as files
-  --help             print this help
-  --version          print the version
+  -h, --help         print this help
+  -V, --version      print the version
 
 Exit status:
   0  success
   1  an input does not parse, or an extractor cannot be inlined
   2  usage error, or a mistake in isle.toml
-  3  an input cannot be read, or is not UTF-8, or there is no isle.toml
+  3  an input cannot be read, or is not UTF-8, or a folder has no .isle file,
+     or there is no isle.toml
   4  out of memory
   5  the output cannot be written
 ";

@@ -12,12 +12,14 @@ ghost use Rattle.isle_expand.specs.Expansion.{AreWarnings, IsPrintOfExpansion};
 ghost use Rattle.isle_expand.specs.Program.{AsAsked, AskForNothing, IsDiagnostic};
 
 use crate::expansion::answer_to;
+use crate::manifests;
 use crate::options::{PROGRAM, own_options, this_program, width_of};
 use isle_cli::arguments::{Argument, Request, names_of, requested, stdin_name_of};
 use isle_cli::failure::Failure;
 use isle_cli::program::{Program, put, report, tell};
 use isle_cli::sources::{Source, Sources, read_sources};
 use isle_cli::streams::{Streams, write_whole};
+use isle_cli::usage::report_words;
 use std::alloc::Global;
 use std::fs::Files;
 use std::io::{Read, Write};
@@ -32,8 +34,8 @@ use std::io::{Read, Write};
 /// |---|---|---|
 /// | 0 | the expansion, the help or the version is printed | warnings |
 /// | 1 | a text does not parse, or an extractor is misused | a line for each, or the first |
-/// | 2 | usage error | the usage |
-/// | 3 | a file or standard input can't be read, or isn't UTF-8 | a line for each |
+/// | 2 | usage error | the unknown option, if one is unknown, and the usage |
+/// | 3 | an input can't be read or isn't UTF-8, or a folder has no ISLE file | a line for each |
 /// | 4 | out of memory | `isle-expand: out of memory` |
 /// | 5 | the output fails, after a beginning of the print | `isle-expand: output failed` |
 ///
@@ -72,7 +74,7 @@ pub fn run<R: Files + AllocGlobal + Clone + Drop, I: Read, W: Write, E: Write>(
     // With status 2, 4 or 5 standard error gets the message of the status.
     ensures told { 2 ≤ result → result ≢ 3
         → WritesBeginning (E.contents streams.old.faults) (E.contents streams.new.faults)
-        (IsDiagnostic result) }
+        (IsDiagnostic (map string_bytes words.now) result) }
     ensures statuses { result ≤ 5 }
 
     // Status 2 depends on the command line alone, and then nothing is read.
@@ -99,7 +101,10 @@ pub fn run<R: Files + AllocGlobal + Clone + Drop, I: Read, W: Write, E: Write>(
                 &mut streams.faults,
             );
         }
-        Err(failure) => return report(&program, &failure, &mut streams.faults),
+        Err(failure) => {
+            let faults = &mut streams.faults;
+            return report_words(&program, &manifests::OPTIONS, words, &failure, faults);
+        }
     };
     match expand(rt, &program, &arguments, streams) {
         Ok(status) => status,

@@ -9,7 +9,7 @@ use Rattle.isle_lint.specs.declared.programs.Part as part_code
 
 -- one program more
 linted-last : (lints : List Lint) (sources : List Source) (parts : List Part) (part : Part) (linted : List Linted) (l : Linted) → AreLinted lints sources parts linted
-    → l.name ≡ part.name → l.has ≡ part.has → IsToldIn lints (own part.has 0 sources) part.is_whole l.told
+    → l.name ≡ part.name → l.has ≡ part.has → IsToldIn lints (own part.has 0 sources) l.told
     → AreLinted lints sources (parts ++ part ∷ []) (linted ++ l ∷ [])
 linted-last lints sources [] part [] l before named has told = (named, has, told, tt)
 linted-last lints sources [] part (_ ∷ _) l before named has told = absurd before
@@ -20,7 +20,7 @@ linted-last lints sources (p ∷ parts) part (q ∷ linted) l before named has t
 pub one_linted : (lints : List Lint) (sources : List Source) (parts : List part_code.Part) (i : ℕ) (part : part_code.Part) (linted more : List linted_code.Linted) (l : linted_code.Linted)
     → i < length parts → part ≡ get_or parts i part → more ≡ linted ++ l ∷ []
     → AreLinted lints sources (map part_of (take i parts)) (map linted_of linted)
-    → (linted_of l).name ≡ (part_of part).name → (linted_of l).has ≡ (part_of part).has → IsToldIn lints (own (part_of part).has 0 sources) (part_of part).is_whole (linted_of l).told
+    → (linted_of l).name ≡ (part_of part).name → (linted_of l).has ≡ (part_of part).has → IsToldIn lints (own (part_of part).has 0 sources) (linted_of l).told
     → AreLinted lints sources (map part_of (take (i + 1) parts)) (map linted_of more)
 one_linted lints sources parts i part linted more l within is grown before named has told =
     let P : List Part → Type 0 = λ ps. AreLinted lints sources ps (map linted_of more) in

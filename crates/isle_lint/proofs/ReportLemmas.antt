@@ -10,9 +10,10 @@ use Rattle.isle_lint_core.specs.Finding.{Found, finding_of}
 use Rattle.isle_lint_core.specs.Findings.{findings_in}
 use Rattle.isle_lint_core.specs.declared.finding.Finding.{Finding}
 use Rattle.isle_lint_core.specs.declared.lint.Lint.{Lint}
+use Rattle.isle_cli.specs.Messages.{count_text}
 use Rattle.isle_cli.specs.Sources.{source_of}
 use Rattle.isle_cli.specs.declared.sources.Source as source_code
-use Rattle.isle_lint.specs.Report.{AreTold, count_text, is_told, kept_if, sources_text, told_in}
+use Rattle.isle_lint.specs.Report.{AreTold, is_told, kept_if, sources_text, told_in}
 use Rattle.isle_program.specs.Allowances.{Allowance, AreAllowances}
 use Rattle.isle_program.specs.Reading.{refused_count}
 
@@ -26,12 +27,11 @@ shown-as sources given refusals kept all shown same told is =
     ∙ ap (λ n. sources_text 0 sources refusals (map finding_of kept) ++ count_text (refused_count refusals) n) (sym (length-map kept finding_of))
     ∙ ap (λ fs. sources_text 0 sources refusals fs ++ count_text (refused_count refusals) (length fs)) told
 
-pub found-as : (given lints : List Lint) (defs own : List Def) (found : List Found) → given ≡ lints → defs ≡ own →
-    IsPermutation (findings_in given (definitions_of defs)) found → IsPermutation (findings_in lints (definitions_of own)) found
-found-as given lints defs own found same mine exact =
-    let Of : List Lint → Type 0 = λ ls. IsPermutation (findings_in ls (definitions_of own)) found in
-    let In : List Def → Type 0 = λ ds. IsPermutation (findings_in given (definitions_of ds)) found in
-    subst Of same (subst In mine exact)
+pub found-as : (lints : List Lint) (defs own : List Def) (found : List Found) → defs ≡ own →
+    IsPermutation (findings_in lints (definitions_of defs)) found → IsPermutation (findings_in lints (definitions_of own)) found
+found-as lints defs own found mine exact =
+    let In : List Def → Type 0 = λ ds. IsPermutation (findings_in lints (definitions_of ds)) found in
+    subst In mine exact
 
 kept-cond : (b : Bool) (f : Found) (fs : List Found) → kept_if b f ++ fs ≡ cond b (f ∷ fs) fs
 kept-cond true f fs = refl

@@ -8,8 +8,10 @@ use Rattle.isle_lint_core.specs.Finding.{Found}
 use Rattle.isle_lint_core.specs.declared.lint.Lint.{Lint}
 use Rattle.isle_cli.specs.Arguments.{Asked, Given, asked, help_asked, name_list, stdin_name, version_asked, work_asked}
 use Rattle.isle_cli.specs.Failure.{IsDiagnostic}
+use Rattle.isle_cli.specs.Messages.{count_text}
 use Rattle.isle_cli.specs.Sources.{IsReadFrom}
 use Rattle.isle_cli.specs.Streams.{AppendsBeginning}
+use Rattle.isle_cli.specs.Usage.{IsDiagnosticOf}
 use Rattle.isle_cli.specs.declared.failure.Failure.{Failure}
 use Rattle.isle_cli.specs.declared.failure.Failure.TheVariants as failures
 use Rattle.isle_lint.specs.Options.{are_usable, lints_on}
@@ -18,16 +20,16 @@ use Rattle.isle_cli.specs.declared.arguments.Options.{Options}
 use Rattle.isle_cli.specs.declared.program.Program.{Program}
 use Rattle.isle_lint.specs.declared.options.TheConstants.{HELP, VERSION}
 use Rattle.isle_lint.specs.Programs.{IsProgramsReport, Part}
-use Rattle.isle_lint.specs.Report.{AreToldIn, count_text, sources_text}
+use Rattle.isle_lint.specs.Report.{AreToldIn, sources_text}
 
 -- What is shown is what these lints find in the trees of the texts, each finding once, in order of place, but for what
 -- comments turn off; and which texts spell no tree; and how many there are of both.
-pub record IsReport (lints : List Lint) (is_whole : Bool) (sources : List Source) (shown : List ℕ) : Type 0 where
+pub record IsReport (lints : List Lint) (sources : List Source) (shown : List ℕ) : Type 0 where
   pub definitions : List Definition
   pub refusals : List (Option Error)
   pub read : IsReading sources definitions refusals
   pub told : List Found
-  pub are_told : AreToldIn lints is_whole sources definitions refusals told
+  pub are_told : AreToldIn lints sources definitions told
   pub is : shown ≡ sources_text 0 sources refusals told ++ count_text (refused_count refusals) (length told)
 
 abbrev pub is_empty : List ℕ → Bool
@@ -41,12 +43,18 @@ told_status is_read is_clean = if is_read then (if is_clean then 0 else 1) else 
 abbrev pub IsProgram : Program → Type 0
 IsProgram program =
     (program.name.now ≡ codes "isle-lint")
-    × (program.usage.now ≡ codes "usage: isle-lint [--all] [--whole] [--lint NAME] [--allow NAME] [--stdin-name NAME] [--program NAME] [--all-programs] [FILE ..]\n")
+    × (program.usage.now ≡ codes "usage: isle-lint [--all] [--lint NAME] [--allow NAME] [--stdin-name NAME] [--program NAME] [--all-programs] [FILE ..]\n")
 
 abbrev pub AreOptions : Options → Type 0
 AreOptions options =
-    (map (λ flag. flag.now) options.flags.now ≡ codes "--all" ∷ codes "--whole" ∷ [])
+    (map (λ flag. flag.now) options.flags.now ≡ codes "--all" ∷ [])
     × (map (λ setting. setting.now) options.settings.now ≡ codes "--lint" ∷ codes "--allow" ∷ [])
+
+-- its options, and those that ask for programs of a manifest
+abbrev pub AreAllOptions : Options → Type 0
+AreAllOptions options =
+    (map (λ flag. flag.now) options.flags.now ≡ codes "--all" ∷ codes "--all-programs" ∷ [])
+    × (map (λ setting. setting.now) options.settings.now ≡ codes "--lint" ∷ codes "--allow" ∷ codes "--program" ∷ [])
 
 -- the words ask this of the program
 abbrev pub Ask : List (List ℕ) → Option Asked → Type 0
@@ -55,6 +63,12 @@ Ask words what = (options : Options) × AreOptions options × (asked options wor
 -- the text that goes with a status past 1
 abbrev pub IsFailureText : ℕ → List ℕ → Type 0
 IsFailureText status text = (program : Program) × IsProgram program × IsDiagnostic program status text
+
+-- the same, where the program is called with these words
+abbrev pub IsFailureTextOf : (words : List (List ℕ)) → (status : ℕ) → (text : List ℕ) → Type 0
+IsFailureTextOf words status text =
+    (program : Program) × (own : Options) × (all : Options) × IsProgram program × AreOptions own × AreAllOptions all
+    × IsDiagnosticOf program own all words status text
 
 -- What was read of what the arguments name, and what is to be told of it; Holds is said of the faults of reading, and of
 -- what is told.
@@ -66,7 +80,7 @@ pub record Looks (given : List Given) (input input' : Option (List ℕ)) (Holds 
   pub faults : List ℕ
   pub read : IsReadFrom (name_list given) (stdin_name given) program input input' sources faults
   pub shown : List ℕ
-  pub report : IsReport (lints_on given) (is_empty faults) sources shown
+  pub report : IsReport (lints_on given) sources shown
   pub holds : Holds faults shown
 
 -- it is told, and this is the status

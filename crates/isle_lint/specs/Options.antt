@@ -1,10 +1,10 @@
 -- Which lints a command line turns on.
-use Rattle.std.specs.Prelude.{ℕ, List, Bool, false, true, not, ◌&&◌, ◌||◌, if◌then◌else◌, codes, filter}
+use Rattle.std.specs.Prelude.{ℕ, List, Bool, false, true, not, ◌&&◌, ◌||◌, codes, filter}
 use Rattle.std.specs.List.{find, list_all, list_any}
 use Rattle.std.specs.Option.{is_some}
 use Rattle.std.specs.Str.{bytes_eq}
 use Rattle.isle_cli.specs.Arguments.{Given, flag_given, setting_given, name_given, gives_flag}
-use Rattle.isle_lint_core.specs.Lint.{all_lints, is_default, name, needs_whole_program}
+use Rattle.isle_lint_core.specs.Lint.{all_lints, is_default, name}
 use Rattle.isle_lint_core.specs.declared.lint.Lint.{Lint}
 
 -- an option with a value names a lint
@@ -21,7 +21,7 @@ abbrev pub is_on : List Given → Lint → Bool
 is_on given lint =
     not (names_lint (codes "--allow") lint given)
     && (names_lint (codes "--lint") lint given
-    || (if needs_whole_program lint then gives_flag (codes "--whole") given else (is_default lint || gives_flag (codes "--all") given)))
+    || (is_default lint || gives_flag (codes "--all") given))
 
 abbrev pub lints_on : List Given → List Lint
 lints_on given = filter (is_on given) all_lints

@@ -1,5 +1,5 @@
 -- What is told of several programs, which may share texts.
-use Rattle.std.specs.Prelude.{◌≡◌, ℕ, ◌+◌, ◌==◌, List, [], ◌∷◌, ◌++◌, Bool, true, false, not, ◌&&◌, ◌||◌, if◌then◌else◌, Option, codes, filter, length, map, slice_get, string_bytes}
+use Rattle.std.specs.Prelude.{◌≡◌, ℕ, ◌+◌, ◌==◌, List, [], ◌∷◌, ◌++◌, Bool, false, not, ◌&&◌, if◌then◌else◌, Option, codes, filter, length, map, slice_get, string_bytes}
 use Rattle.std.specs.List.{flat_map, list_any}
 use Rattle.std.specs.List.Sorted.{IsPermutation, IsSortedByKey}
 use Rattle.std.specs.Option.{unwrap_or}
@@ -7,23 +7,22 @@ use Rattle.std.specs.Str.{bytes_eq}
 use Rattle.isle_base_source.specs.Source.{Source}
 use Rattle.isle_base_source.specs.declared.error.Error.{Error}
 use Rattle.isle_ast.specs.Tree.{Definition}
-use Rattle.isle_cli.specs.Messages.{message_line}
+use Rattle.isle_cli.specs.Messages.{count_text, message_line}
 use Rattle.isle_lint_core.specs.Finding.{Found, finding_cmp, finding_of}
 use Rattle.isle_lint_core.specs.Lint.{name}
 use Rattle.isle_lint_core.specs.declared.finding.Finding.{Finding}
 use Rattle.isle_lint_core.specs.declared.lint.Lint.{Lint}
 use Rattle.isle_program.specs.Messages.{refusal_text, shown_offset}
 use Rattle.isle_program.specs.Reading.{IsReading, refused_count}
-use Rattle.isle_lint.specs.Report.{AreToldIn, count_text, message_text}
+use Rattle.isle_lint.specs.Report.{AreToldIn, message_text}
 use Rattle.isle_lint.specs.declared.programs.Told.{Told}
 use Rattle.isle_lint.specs.declared.programs.Linted as linted_code
 use Rattle.isle_lint.specs.declared.programs.Part as part_code
 
--- a program among texts: its name, which of them are its own, and whether all of its files could be read
+-- a program among texts: its name, and which of them are its own
 pub record Part : Type 0 where
   pub name : List ℕ
   pub has : List Bool
-  pub is_whole : Bool
 
 -- a program with the findings that are told of it
 pub record Linted : Type 0 where
@@ -33,7 +32,7 @@ pub record Linted : Type 0 where
 
 -- those of the code
 abbrev pub part_of : part_code.Part → Part
-part_of p = record { name = string_bytes p.name; has = p.has.items; is_whole = p.is_whole }
+part_of p = record { name = string_bytes p.name; has = p.has.items }
 
 abbrev pub found_of : Told → Found
 found_of t = record { pos = t.pos; lint = t.lint; name = string_bytes t.name }
@@ -52,11 +51,11 @@ own has number (source ∷ sources) =
     record { name = source.name; text = if is_own has number then source.text else [] } ∷ own has (number + 1) sources
 
 -- these are the findings that are told of one program
-pub record IsToldIn (lints : List Lint) (sources : List Source) (is_whole : Bool) (all : List Found) : Type 0 where
+pub record IsToldIn (lints : List Lint) (sources : List Source) (all : List Found) : Type 0 where
   pub definitions : List Definition
   pub refusals : List (Option Error)
   pub read : IsReading sources definitions refusals
-  pub are : AreToldIn lints is_whole sources definitions refusals all
+  pub are : AreToldIn lints sources definitions all
 
 -- each program is linted by itself
 abbrev pub AreLinted : List Lint → List Source → List Part → List Linted → Type 0
@@ -64,7 +63,7 @@ AreLinted lints sources [] [] = Unit {0}
 AreLinted lints sources [] (_ ∷ _) = ⊥
 AreLinted lints sources (_ ∷ _) [] = ⊥
 AreLinted lints sources (part ∷ parts) (l ∷ linted) =
-    (l.name ≡ part.name) × (l.has ≡ part.has) × IsToldIn lints (own part.has 0 sources) part.is_whole l.told × AreLinted lints sources parts linted
+    (l.name ≡ part.name) × (l.has ≡ part.has) × IsToldIn lints (own part.has 0 sources) l.told × AreLinted lints sources parts linted
 
 -- two findings are the same: one lint finds one name at one place
 abbrev pub is_same : Found → Found → Bool

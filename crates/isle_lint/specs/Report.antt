@@ -1,6 +1,5 @@
 -- What is told of a program: a line for each text that spells no tree, and for each finding.
-use Rattle.std.specs.Prelude.{◌≡◌, ℕ, ◌+◌, ◌==◌, List, [], ◌∷◌, ◌++◌, Bool, true, false, not, ◌&&◌, ◌||◌, if◌then◌else◌, Option, codes, filter, length, map, slice_get}
-use Rattle.std.specs.Fmt.{decimal}
+use Rattle.std.specs.Prelude.{◌≡◌, ℕ, ◌+◌, ◌==◌, List, [], ◌∷◌, ◌++◌, Bool, not, ◌&&◌, if◌then◌else◌, Option, codes, filter, map, slice_get}
 use Rattle.std.specs.List.{flat_map}
 use Rattle.std.specs.List.Sorted.{IsPermutation, IsSortedByKey}
 use Rattle.isle_base_source.specs.PositionOrder.{position_cmp}
@@ -11,19 +10,10 @@ use Rattle.isle_cli.specs.Messages.{message_line}
 use Rattle.isle_lint_core.specs.Finding.{Found, finding_of}
 use Rattle.isle_lint_core.specs.Findings.{findings_in}
 use Rattle.isle_lint_core.specs.declared.finding.Finding.{Finding}
-use Rattle.isle_lint_core.specs.Lint.{message, name, needs_whole_program}
+use Rattle.isle_lint_core.specs.Lint.{message, name}
 use Rattle.isle_lint_core.specs.declared.lint.Lint.{Lint}
 use Rattle.isle_program.specs.Allowances.{Allowance, AreAllowances, is_allowed}
 use Rattle.isle_program.specs.Messages.{refusal_text, shown_offset}
-use Rattle.isle_program.specs.Reading.{refused_count}
-
--- the lints that can be used: without a whole program, those that need none
-abbrev pub usable : Bool → List Lint → List Lint
-usable is_whole ls = filter (λ l. is_whole || not (needs_whole_program l)) ls
-
--- the texts are a whole program: they are said to be, and each spells a tree
-abbrev pub is_program : Bool → List (Option Error) → Bool
-is_program is_whole refusals = is_whole && (refused_count refusals == 0)
 
 -- a finding is in the file of this number, and no comment turns it off
 abbrev pub is_told : ℕ → List Allowance → Found → Bool
@@ -43,11 +33,11 @@ AreTold file (source ∷ sources) found told =
     (allowances : List Allowance) × (more : List Found) × AreAllowances source.text allowances × AreTold (file + 1) sources found more
     × (told ≡ told_in file allowances found ++ more)
 
--- These are told of texts with these definitions and refusals: what the lints find in the definitions, each finding once, in
--- order of place, but for what comments turn off.
-pub record AreToldIn (lints : List Lint) (is_whole : Bool) (sources : List Source) (ds : List Definition) (refusals : List (Option Error)) (told : List Found) : Type 0 where
+-- These are told of texts with these definitions: what the lints find in the definitions, each finding once, in order of
+-- place, but for what comments turn off.
+pub record AreToldIn (lints : List Lint) (sources : List Source) (ds : List Definition) (told : List Found) : Type 0 where
   pub found : List Finding
-  pub exact : IsPermutation (findings_in (usable (is_program is_whole refusals) lints) ds) (map finding_of found)
+  pub exact : IsPermutation (findings_in lints ds) (map finding_of found)
   pub in_order : IsSortedByKey (λ f. f.pos) position_cmp found
   pub are : AreTold 0 sources (map finding_of found) told
 
@@ -66,13 +56,3 @@ source_text file source refusals found =
 abbrev pub sources_text : ℕ → List Source → List (Option Error) → List Found → List ℕ
 sources_text file [] refusals found = []
 sources_text file (source ∷ sources) refusals found = source_text file source refusals found ++ sources_text (file + 1) sources refusals found
-
-abbrev pub counted : ℕ → List ℕ → List ℕ
-counted n noun = if n == 1 then decimal n ++ (codes " " ++ noun) else decimal n ++ (codes " " ++ (noun ++ codes "s"))
-
--- the line that counts errors and warnings
-abbrev pub count_text : ℕ → ℕ → List ℕ
-count_text errors warnings =
-    if errors == 0 then (if warnings == 0 then [] else codes "found " ++ (counted warnings (codes "warning") ++ codes "\n"))
-    else (if warnings == 0 then codes "found " ++ (counted errors (codes "error") ++ codes "\n")
-    else codes "found " ++ (counted errors (codes "error") ++ (codes " and " ++ (counted warnings (codes "warning") ++ codes "\n"))))

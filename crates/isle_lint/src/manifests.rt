@@ -25,7 +25,7 @@ use std::io::Write;
 
 /// The options with those that ask for programs of a manifest.
 pub const OPTIONS: Options = Options {
-    flags: &["--all", "--whole", ALL_OPTION],
+    flags: &["--all", ALL_OPTION],
     settings: &["--lint", "--allow", NAME_OPTION],
 };
 
@@ -94,19 +94,11 @@ fn parts_of(alloc: Global, programs: &[Chosen], texts: &[Source]) -> Result<Vec<
     for program in programs {
         let paths = &program.listed.paths;
         let mut has = Vec::new(alloc);
-        let mut count = 0usize;
         for text in texts {
-            let is_own = has_file(paths, text.name.as_str());
-            has.push(is_own)?;
-            count = count.saturating_add(usize::from(is_own));
+            has.push(has_file(paths, text.name.as_str()))?;
         }
-        let is_whole = program.listed.missing.is_empty() && count == paths.len();
         let name = program.name.clone()?;
-        parts.push(Part {
-            name,
-            has,
-            is_whole,
-        })?;
+        parts.push(Part { name, has })?;
     }
     Ok(parts)
 }

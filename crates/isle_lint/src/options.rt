@@ -19,40 +19,34 @@ pub const VERSION: &str = version!("isle-lint");
 
 /// The help.
 pub const HELP: &str = "\
-usage: isle-lint [--all] [--whole] [--lint NAME] [--allow NAME] [--stdin-name NAME]
+usage: isle-lint [--all] [--lint NAME] [--allow NAME] [--stdin-name NAME]
                  [--program NAME] [--all-programs] [FILE ..]
 
-Lints ISLE source. All files are linted as one program. A folder stands for every .isle file below
-it, and - for standard input. With no FILE, standard input is linted.
+Lints ISLE source: finds what the compiler accepts but is likely a mistake. For what it rejects, use
+isle-check.
+
+All files are linted as one program. A folder stands for every .isle file below it, and - for
+standard input. With no FILE, standard input is linted.
 
 With --program or --all-programs, programs of the nearest isle.toml are linted, each by itself. It
 is looked for in the current folder and above it, or in the one folder that is given.
 
 Options:
-  --all              enable all lints, except those that need the complete program
-  --whole            treat the files as a complete program, and enable the lints that need one
+  --all              enable all lints
   --lint NAME        enable a lint; may be repeated
   --allow NAME       disable a lint; may be repeated, and takes precedence over --lint
   --stdin-name NAME  use NAME for standard input in messages
   --program NAME     lint this program of isle.toml; may be repeated
   --all-programs     lint all programs of isle.toml
   --                 treat all later arguments as files
-  --help             print this help
-  --version          print the version
+  -h, --help         print this help
+  -V, --version      print the version
 
 The comment `; isle-lint: allow NAME` above a definition disables a lint for it.
 
 Lints that are enabled by default:
   unused-let               a variable of a let is never used
-  unknown-variable         an expression uses a variable that is not bound
   duplicate-rule-name      an earlier rule has the same name
-  duplicate-declaration    a term is already declared
-  duplicate-extractor      a term already has an extractor
-  duplicate-constructor    a term already has a constructor, or rules
-  wrong-arity              a term is used with the wrong number of arguments
-Lints that --whole enables:
-  unknown-term             a term has no declaration, and is no variant
-  undefined-term           a term has no rule, extractor or extern
 Other lints:
   unused-binding           the variable before an @ is never used
   unused-pattern-variable  a variable of a pattern is never used
@@ -62,7 +56,7 @@ Exit status:
   0  nothing was found
   1  something was found, or an input does not parse
   2  usage error, or a mistake in isle.toml
-  3  an input cannot be read, or is not UTF-8
+  3  an input cannot be read, or is not UTF-8, or a folder has no .isle file
   4  out of memory
   5  the output cannot be written
 ";
@@ -128,8 +122,8 @@ fn is_lint_option(option: &str) -> bool
     option == "--lint" || option == "--allow"
 }
 
-/// Returns whether a lint is enabled: `--allow` does not name it, and `--lint`, the other options
-/// or the default enable it.
+/// Returns whether a lint is enabled: `--allow` does not name it, and `--lint`, `--all` or the
+/// default enable it.
 fn is_on(arguments: &[Argument], lint: Lint) -> bool
     ensures { result ≡ is_on (map given_of arguments.now) lint }
 {
@@ -138,9 +132,6 @@ fn is_on(arguments: &[Argument], lint: Lint) -> bool
     }
     if names_lint(arguments, "--lint", lint) {
         return true;
-    }
-    if lint.needs_whole_program() {
-        return has_flag(arguments, "--whole");
     }
     lint.is_default() || has_flag(arguments, "--all")
 }

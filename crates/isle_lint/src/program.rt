@@ -6,9 +6,11 @@ ghost use Rattle.std.specs.Io.KnownBytes.{Keeps};
 ghost use Rattle.isle_cli.specs.Arguments.{given_of};
 ghost use Rattle.isle_cli.specs.Streams.{WritesBeginning};
 ghost use Rattle.isle_lint.specs.Doing.{AsAsked, Cuts, CutsAsked, Does, Explains};
-ghost use Rattle.isle_lint.specs.Doing.{IsFailureText, IsMisuse, Tells, told_status};
+ghost use Rattle.isle_lint.specs.Doing.{IsFailureText, IsFailureTextOf, IsMisuse, Tells};
+ghost use Rattle.isle_lint.specs.Doing.{told_status};
 ghost use Rattle.isle_lint.specs.Options.{are_usable};
 
+use crate::manifests;
 use crate::options::{HELP, VERSION, lints_of};
 use crate::report::report_on;
 use isle_cli::arguments::{Argument, Options, Request, names_of, requested, stdin_name_of};
@@ -16,21 +18,22 @@ use isle_cli::failure::Failure;
 use isle_cli::program::{Program, put, report, tell};
 use isle_cli::sources::read_sources;
 use isle_cli::streams::{Streams, write_whole};
+use isle_cli::usage::report_words;
 use std::fs::Files;
 use std::io::{Read, Write};
 
 /// This program.
 pub const PROGRAM: Program = Program {
     name: "isle-lint",
-    usage: "usage: isle-lint [--all] [--whole] [--lint NAME] [--allow NAME] \
-            [--stdin-name NAME] [--program NAME] [--all-programs] [FILE ..]\n",
+    usage: "usage: isle-lint [--all] [--lint NAME] [--allow NAME] [--stdin-name NAME] \
+            [--program NAME] [--all-programs] [FILE ..]\n",
     help: HELP,
     version: VERSION,
 };
 
 /// Its options.
 pub const OPTIONS: Options = Options {
-    flags: &["--all", "--whole"],
+    flags: &["--all"],
     settings: &["--lint", "--allow"],
 };
 
@@ -40,10 +43,12 @@ pub const OPTIONS: Options = Options {
 /// |---|---|
 /// | 0 | nothing is found, or the help or the version is printed |
 /// | 1 | something is found, or a text does not parse |
-/// | 2 | usage error; standard error gets the usage |
-/// | 3 | an input can't be read or isn't UTF-8; standard error gets a line for each |
+/// | 2 | usage error; standard error gets the unknown option, if one is unknown, and the usage |
+/// | 3 | an input can't be read or isn't UTF-8, or a folder has no ISLE file |
 /// | 4 | `isle-lint: out of memory` |
 /// | 5 | `isle-lint: output failed` |
+///
+/// With status 3 standard error gets a line for each.
 ///
 /// With status 1 and 3 the output gets a line for each finding and each text that does not parse,
 /// in order of file and position, and a line that counts them; with status 5 a beginning of that.
@@ -77,7 +82,7 @@ pub fn run<R: Files + AllocGlobal + Clone + Drop, I: Read, W: Write, E: Write>(
     ensures quiet { result ≤ 1
         → Keeps (E.contents streams.old.faults) (E.contents streams.new.faults) }
     ensures told { 2 ≤ result → result ≢ 3 → WritesBeginning (E.contents streams.old.faults)
-        (E.contents streams.new.faults) (IsFailureText result) }
+        (E.contents streams.new.faults) (IsFailureTextOf (map string_bytes words.now) result) }
     ensures statuses { result ≤ 5 }
 {
     match requested(rt.alloc(), &OPTIONS, words) {
@@ -98,7 +103,15 @@ pub fn run<R: Files + AllocGlobal + Clone + Drop, I: Read, W: Write, E: Write>(
             )
         }
         Ok(Request::Work(arguments)) => work(rt, &arguments, streams),
-        Err(failure) => report(&PROGRAM, &failure, &mut streams.faults),
+        Err(failure) => {
+            report_words(
+                &PROGRAM,
+                &manifests::OPTIONS,
+                words,
+                &failure,
+                &mut streams.faults,
+            )
+        }
     }
 }
 
@@ -151,16 +164,16 @@ fn lint<R: Files + AllocGlobal + Clone + Drop, I: Read, W: Write, E: Write>(
     let names = names_of(rt.alloc(), arguments)?;
     let stdin_name = stdin_name_of(arguments);
     let sources = read_sources(rt, &PROGRAM, &names, stdin_name, &mut streams.input)?;
-    let is_whole = sources.faults.is_empty();
-    let told = report_on(rt.alloc(), &sources.list, &lints, is_whole)?;
+    let told = report_on(rt.alloc(), &sources.list, &lints)?;
     match put(&mut streams.output, told.as_str()) {
         Ok(()) => {}
         Err(_) => return Err(Failure::Output),
     }
-    if !is_whole {
+    let is_read = sources.faults.is_empty();
+    if !is_read {
         let _ = write_whole(&mut streams.faults, sources.faults.as_bytes());
     }
-    Ok(status_of(is_whole, told.is_empty()))
+    Ok(status_of(is_read, told.is_empty()))
 }
 
 /// The exit status if all could be read, or not, and nothing was found, or something.

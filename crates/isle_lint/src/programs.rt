@@ -12,11 +12,12 @@ ghost use Rattle.isle_lint.specs.Programs.{AreLinted, IsProgramsReport, IsShown,
 ghost use Rattle.isle_lint.specs.Programs.{found_of, linted_of, part_of};
 ghost use Rattle.isle_program.specs.Reading.{IsReading};
 
-use crate::report::{count_line, message_of, told_in_reading};
+use crate::report::{message_of, told_in_reading};
 use isle_base::lexer::Pos;
 use isle_base_source::error::Error;
 use isle_base_source::files::LineMap;
 use isle_cli::failure::Failure;
+use isle_cli::messages::count_line;
 use isle_cli::sources::Source;
 use isle_lint_core::{Finding, Lint};
 use isle_program::messages::{place_line, refusal_line};
@@ -29,8 +30,6 @@ pub struct Part {
     pub name: String,
     /// For each text, whether it is the program's.
     pub has: Vec<bool>,
-    /// Whether all files of the program could be read.
-    pub is_whole: bool,
 }
 
 /// A finding that outlives the trees.
@@ -86,7 +85,7 @@ fn lint_all(
     let mut linted = Vec::new(alloc);
     for part in parts {
         let own = own_texts(alloc, sources, &part.has)?;
-        let told = told_of(alloc, &own, lints, part.is_whole)?;
+        let told = told_of(alloc, &own, lints)?;
         let one = linted_as(part, told)?;
         linted.push(one)?;
     }
@@ -131,18 +130,13 @@ fn is_own(has: &[bool], number: usize) -> bool
 }
 
 /// The findings that are told of one program.
-fn told_of(
-    alloc: Global,
-    own: &[Source],
-    lints: &[Lint],
-    is_whole: bool,
-) -> Result<Vec<Told>, Failure>
-    ensures ok { IfOk result (λ all. IsToldIn lints.now (map source_of own.now) is_whole
+fn told_of(alloc: Global, own: &[Source], lints: &[Lint]) -> Result<Vec<Told>, Failure>
+    ensures ok { IfOk result (λ all. IsToldIn lints.now (map source_of own.now)
         (map found_of all.items)) }
     ensures err { IfErr result (λ failure. failure ≡ Memory) }
 {
     let reading = read_all(alloc, own)?;
-    let told = copied_from(alloc, own, lints, is_whole, &reading);
+    let told = copied_from(alloc, own, lints, &reading);
     drop_reading(reading);
     Ok(told?)
 }
@@ -152,15 +146,14 @@ fn copied_from(
     alloc: Global,
     own: &[Source],
     lints: &[Lint],
-    is_whole: bool,
     reading: &Reading,
 ) -> Result<Vec<Told>, AllocError>
     requires { IsReading (map source_of own.now) (definitions_of reading.now.defs.items)
         reading.now.refusals.items }
-    ensures { IfOk result (λ all. IsToldIn lints.now (map source_of own.now) is_whole
+    ensures { IfOk result (λ all. IsToldIn lints.now (map source_of own.now)
         (map found_of all.items)) }
 {
-    let told = told_in_reading(alloc, own, lints, is_whole, reading)?;
+    let told = told_in_reading(alloc, own, lints, reading)?;
     copied(alloc, &told)
 }
 

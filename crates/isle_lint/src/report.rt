@@ -4,19 +4,19 @@ ghost use Rattle.std.specs.Prelude.{◌≡◌, ◌++◌, [], IfErr, IfOk, OnOk, 
 ghost use Rattle.std.specs.Prelude.{string_bytes};
 ghost use Rattle.isle_base_source.specs.Lines.{line_ends};
 ghost use Rattle.isle_ast.specs.TreeView.{definitions_of};
+ghost use Rattle.isle_cli.specs.Messages.{count_text};
 ghost use Rattle.isle_cli.specs.Sources.{source_of};
 ghost use Rattle.isle_cli.specs.declared.failure.Failure.TheVariants.{Memory};
 ghost use Rattle.isle_lint_core.specs.Finding.{finding_of};
 ghost use Rattle.isle_lint.specs.Doing.{IsReport};
-ghost use Rattle.isle_lint.specs.Report.{count_text, counted, finding_line, is_program};
-ghost use Rattle.isle_lint.specs.Report.{AreTold, AreToldIn, is_told, kept_if};
-ghost use Rattle.isle_lint.specs.Report.{message_text};
-ghost use Rattle.isle_lint.specs.Report.{source_text, sources_text, told_in, usable};
+ghost use Rattle.isle_lint.specs.Report.{AreTold, AreToldIn, finding_line, is_told, kept_if};
+ghost use Rattle.isle_lint.specs.Report.{message_text, source_text, sources_text, told_in};
 ghost use Rattle.isle_program.specs.Reading.{IsReading, refused_count};
 
 use isle_base_source::error::Error;
 use isle_base_source::files::LineMap;
 use isle_cli::failure::Failure;
+use isle_cli::messages::count_line;
 use isle_cli::sources::Source;
 use isle_lint_core::{Finding, Lint, findings};
 use isle_program::allowances::Allowances;
@@ -27,21 +27,13 @@ use std::alloc::{AllocError, Global};
 /// The report of these lints on a program: a line for each finding and for each text that does not
 /// parse, in order of file and position, and a line that counts them. It is empty if there are
 /// none.
-///
-/// The lints that need the complete program find nothing if a text does not parse, or `is_whole` is
-/// `false`.
-pub fn report_on(
-    alloc: Global,
-    sources: &[Source],
-    lints: &[Lint],
-    is_whole: bool,
-) -> Result<String, Failure>
-    ensures ok { IfOk result (λ report. IsReport lints.now is_whole (map source_of sources.now)
+pub fn report_on(alloc: Global, sources: &[Source], lints: &[Lint]) -> Result<String, Failure>
+    ensures ok { IfOk result (λ report. IsReport lints.now (map source_of sources.now)
         (string_bytes report)) }
     ensures err { IfErr result (λ failure. failure ≡ Memory) }
 {
     let reading = read_all(alloc, sources)?;
-    let report = report_on_reading(alloc, sources, lints, is_whole, &reading);
+    let report = report_on_reading(alloc, sources, lints, &reading);
     drop_reading(reading);
     Ok(report?)
 }
@@ -51,15 +43,14 @@ fn report_on_reading(
     alloc: Global,
     sources: &[Source],
     lints: &[Lint],
-    is_whole: bool,
     reading: &Reading,
 ) -> Result<String, AllocError>
     requires { IsReading (map source_of sources.now) (definitions_of reading.now.defs.items)
         reading.now.refusals.items }
-    ensures { IfOk result (λ report. IsReport lints.now is_whole (map source_of sources.now)
+    ensures { IfOk result (λ report. IsReport lints.now (map source_of sources.now)
         (string_bytes report)) }
 {
-    let told = told_in_reading(alloc, sources, lints, is_whole, reading)?;
+    let told = told_in_reading(alloc, sources, lints, reading)?;
     whole_report(alloc, sources, &reading.refusals, &told)
 }
 
@@ -69,16 +60,12 @@ pub fn told_in_reading<'a>(
     alloc: Global,
     sources: &[Source],
     lints: &[Lint],
-    is_whole: bool,
     reading: &'a Reading,
 ) -> Result<Vec<Finding<'a>>, AllocError>
-    ensures { IfOk result (λ all. AreToldIn lints.now is_whole (map source_of sources.now)
-        (definitions_of reading.now.defs.items) reading.now.refusals.items
-        (map finding_of all.items)) }
+    ensures { IfOk result (λ all. AreToldIn lints.now (map source_of sources.now)
+        (definitions_of reading.now.defs.items) (map finding_of all.items)) }
 {
-    let is_program = is_program(is_whole, &reading.refusals);
-    let usable = usable(alloc, lints, is_program)?;
-    let found = findings(alloc, &reading.defs, &usable)?;
+    let found = findings(alloc, &reading.defs, lints)?;
     let told = told(alloc, sources, &found)?;
     Ok(told)
 }
@@ -98,26 +85,6 @@ fn whole_report(
     let count = count_line(alloc, refused_count(refusals), told.len())?;
     report.push_str(count.as_str())?;
     Ok(report)
-}
-
-/// The lints that can be used: without a whole program, those that need none.
-pub fn usable(alloc: Global, lints: &[Lint], is_whole: bool) -> Result<Vec<Lint>, AllocError>
-    ensures { IfOk result (λ usable_lints. usable_lints.items ≡ usable is_whole lints.now) }
-{
-    let mut usable = Vec::new(alloc);
-    for lint in lints {
-        if is_whole || !lint.needs_whole_program() {
-            usable.push(*lint)?;
-        }
-    }
-    Ok(usable)
-}
-
-/// Returns whether the texts are a whole program: `is_whole` says so, and each of them parses.
-pub fn is_program(is_whole: bool, refusals: &[Option<Error>]) -> bool
-    ensures { result ≡ is_program is_whole refusals.now }
-{
-    is_whole && refused_count(refusals) == 0
 }
 
 /// The findings that no comment disables, in order.
@@ -247,33 +214,4 @@ pub fn message_of(alloc: Global, finding: &Finding) -> Result<String, AllocError
     message.push_str(finding.lint.name())?;
     message.push_str("]")?;
     Ok(message)
-}
-
-/// The line that counts errors and warnings; empty if there are none.
-pub fn count_line(alloc: Global, errors: usize, warnings: usize) -> Result<String, AllocError>
-    ensures { IfOk result (λ line. string_bytes line ≡ count_text errors warnings) }
-{
-    if errors == 0 {
-        if warnings == 0 {
-            return Ok(String::new(alloc));
-        }
-        let warned = counted(alloc, warnings, "warning")?;
-        return format!(in alloc; "found {warned}\n");
-    }
-    let refused = counted(alloc, errors, "error")?;
-    if warnings == 0 {
-        return format!(in alloc; "found {refused}\n");
-    }
-    let warned = counted(alloc, warnings, "warning")?;
-    format!(in alloc; "found {refused} and {warned}\n")
-}
-
-/// A number and a noun, in the plural unless the number is 1.
-fn counted(alloc: Global, number: usize, noun: &str) -> Result<String, AllocError>
-    ensures { IfOk result (λ text. string_bytes text ≡ counted number noun.now) }
-{
-    if number == 1 {
-        return format!(in alloc; "{number} {noun}");
-    }
-    format!(in alloc; "{number} {noun}s")
 }

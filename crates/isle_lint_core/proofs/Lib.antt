@@ -1,5 +1,3 @@
 pub mod NameLemmas
 pub mod SeenLemmas
 pub mod RuleLemmas
-pub mod MentionLemmas
-pub mod CountLemmas

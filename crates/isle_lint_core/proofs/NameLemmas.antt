@@ -1,12 +1,12 @@
 -- Lists of names, as they grow by one.
-use Rattle.std.proofs.Common.{◌≡◌, ℕ, ◌+◌, ◌<◌, List, [], ◌∷◌, ◌++◌, Bool, true, false, not, cond, length, get_or, drop, take, refl, sym, ap, ◌∙◌, append_assoc}
+use Rattle.std.proofs.Common.{◌≡◌, ℕ, ◌+◌, ◌<◌, List, [], ◌∷◌, ◌++◌, length, get_or, drop, take, refl, sym, ap, ◌∙◌}
 use Rattle.std.proofs.Math.Seq.{take-append_seam}
 use Rattle.std.proofs.lemmas.List.{at_drop_more, length-map, take-map}
 use Rattle.std.specs.Borrow.{Bor}
 use Rattle.isle_ast_names.specs.declared.Ident.{Ident}
 use Rattle.isle_ast_names.specs.Tree.{Name}
 use Rattle.isle_ast_names.specs.TreeView.{name_of}
-use Rattle.isle_lint_core.specs.Names.{absent, has, kept_if, names_at}
+use Rattle.isle_lint_core.specs.Names.{names_at}
 
 -- the names at references, those of a list after those of another
 pub names_at-append : (xs ys : List (Bor Ident)) → names_at (xs ++ ys) ≡ names_at xs ++ names_at ys
@@ -30,20 +30,3 @@ names_at-take n xs ys ns count grown =
     ∙ ap (take n) grown
     ∙ ap (λ m. take m (names_at xs ++ ns)) (count ∙ sym (length-map xs (λ (i : Bor Ident). name_of i.now)))
     ∙ take-append_seam (names_at xs) ns
-
-kept-cond : (b : Bool) (n : Name) (ns : List Name) → kept_if b n ++ ns ≡ cond b (n ∷ ns) ns
-kept-cond true n ns = refl
-kept-cond false n ns = refl
-
--- what is absent of the names to come, one step on
-pub absent-step : (others : List Name) (found grown names : List (Bor Ident)) (i : ℕ) (x : Bor Ident) (seen : Bool) →
-    i < length names → x ≡ get_or names i x → seen ≡ has others (name_of x.now).text →
-    names_at grown ≡ names_at found ++ kept_if (not seen) (name_of x.now) →
-    names_at grown ++ absent others (names_at (drop (i + 1) names)) ≡ names_at found ++ absent others (names_at (drop i names))
-absent-step others found grown names i x seen within is tells adds =
-    let rest : List Name = absent others (names_at (drop (i + 1) names)) in
-    ap (λ ns. ns ++ rest) adds
-    ∙ append_assoc (names_at found) (kept_if (not seen) (name_of x.now)) rest
-    ∙ ap (λ b. names_at found ++ (kept_if (not b) (name_of x.now) ++ rest)) tells
-    ∙ ap (λ ns. names_at found ++ ns) (kept-cond (not (has others (name_of x.now).text)) (name_of x.now) rest)
-    ∙ sym (at-step (λ ns. names_at found ++ absent others ns) names i x within is)

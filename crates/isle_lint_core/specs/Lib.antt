@@ -2,14 +2,9 @@ pub mod Names
 pub mod Seen
 pub mod Variables
 pub mod Uses
-pub mod Unknown
 pub mod Unused
 pub mod Shadowed
-pub mod Givings
-pub mod Mentions
-pub mod Signatures
-pub mod Counts
-pub mod Terms
+pub mod RuleNames
 pub mod Lint
 pub mod Finding
 pub mod Findings

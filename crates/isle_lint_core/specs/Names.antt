@@ -1,5 +1,5 @@
--- Lists of names: which occur twice, and which are not in another list.
-use Rattle.std.specs.Prelude.{ℕ, List, [], ◌∷◌, ◌++◌, Bool, false, not, map, filter, ◌==◌, if◌then◌else◌}
+-- Lists of names: which occur twice.
+use Rattle.std.specs.Prelude.{ℕ, List, [], ◌∷◌, ◌++◌, Bool, false, map, ◌==◌, if◌then◌else◌}
 use Rattle.std.specs.Borrow.{Bor}
 use Rattle.std.specs.List.{list_any}
 use Rattle.std.specs.Str.{bytes_eq}
@@ -29,7 +29,3 @@ kept_if counts name = if counts then name ∷ [] else []
 abbrev pub repeated : List Name → List Name → List Name
 repeated earlier [] = []
 repeated earlier (n ∷ ns) = kept_if (has earlier n.text) n ++ repeated (n ∷ earlier) ns
-
--- the names that are not among the others, by text
-abbrev pub absent : List Name → List Name → List Name
-absent others names = filter (λ n. not (has others n.text)) names

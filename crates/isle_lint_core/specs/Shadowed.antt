@@ -3,8 +3,12 @@ use Rattle.std.specs.Prelude.{List, [], ◌∷◌, ◌++◌}
 use Rattle.isle_ast_names.specs.Tree.{Name}
 use Rattle.isle_ast_rules.specs.Tree.{Expression, term_expression, var_expression, bool_expression, int_expression, constant_expression, let_expression, ExpressionList, no_expression, more_expression, LetList, no_let, more_let, Condition, RuleDefinition}
 use Rattle.isle_lint_core.specs.Names.{has, kept_if}
-use Rattle.isle_lint_core.specs.Unknown.{let_names}
 use Rattle.isle_lint_core.specs.Variables.{all, variables, condition_variables}
+
+-- the names that a `let` binds
+abbrev pub let_names : LetList → List Name
+let_names no_let = []
+let_names (more_let var _ _ _ ds) = var ∷ let_names ds
 
 -- those of an expression. These names are bound around it
 abbrev mutual

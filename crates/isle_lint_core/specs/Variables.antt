@@ -1,10 +1,9 @@
 -- The variables of patterns, once for each occurrence. The first one of a name binds it, and every later one uses it.
-use Rattle.std.specs.Prelude.{List, [], ◌∷◌, ◌++◌, true}
+use Rattle.std.specs.Prelude.{List, [], ◌++◌, true}
 use Rattle.std.specs.List.{flat_map}
 use Rattle.isle_ast_names.specs.Tree.{Name}
-use Rattle.isle_ast_rules.specs.Tree.{PatternNode, var_pattern, bind_pattern, bool_pattern, int_pattern, constant_pattern, term_pattern, wildcard_pattern, and_pattern, macro_arg_pattern, PatternList, no_pattern, more_pattern, Condition, RuleDefinition, ExtractorDefinition}
-use Rattle.isle_ast.specs.Tree.{Definition, extractor}
-use Rattle.isle_lint_core.specs.Names.{absent, kept_if}
+use Rattle.isle_ast_rules.specs.Tree.{PatternNode, var_pattern, bind_pattern, bool_pattern, int_pattern, constant_pattern, term_pattern, wildcard_pattern, and_pattern, macro_arg_pattern, PatternList, no_pattern, more_pattern, Condition, RuleDefinition}
+use Rattle.isle_lint_core.specs.Names.{kept_if}
 use Rattle.isle_lint_core.specs.declared.patterns.Wanted.{Wanted}
 
 -- all variables are wanted: those that stand alone, and those before an `@`
@@ -33,14 +32,3 @@ condition_variables cs = flat_map (λ c. variables all c.pattern) cs
 -- those of all patterns of a rule
 abbrev pub rule_variables : RuleDefinition → List Name
 rule_variables r = variables all r.pattern ++ condition_variables r.iflets
-
--- those of an extractor's template that are none of its parameters; a rule that uses the extractor sees them
-abbrev pub own_variables : ExtractorDefinition → List Name
-own_variables e = absent e.args (variables all e.template)
-
-abbrev pub definition_own_variables : Definition → List Name
-definition_own_variables (extractor e) = own_variables e
-definition_own_variables _ = []
-
-abbrev pub template_variables : List Definition → List Name
-template_variables ds = flat_map definition_own_variables ds

@@ -1,11 +1,10 @@
-//! The variables of expressions: which are used, unknown, unused or shadowed.
+//! The variables of expressions: which are used, unused or shadowed.
 
 ghost use Rattle.std.specs.Prelude.{◌≡◌, ◌++◌, OnOk};
 ghost use Rattle.isle_ast_rules.specs.TreeView.{expression_of, expression_list_of, expressions_of};
 ghost use Rattle.isle_ast_rules.specs.TreeView.{let_list_of, single_lets_of};
 ghost use Rattle.isle_lint_core.specs.Names.{names_at};
-ghost use Rattle.isle_lint_core.specs.Shadowed.{let_shadowed, list_shadowed, shadowed};
-ghost use Rattle.isle_lint_core.specs.Unknown.{let_names, let_unknown, list_unknown, unknown};
+ghost use Rattle.isle_lint_core.specs.Shadowed.{let_names, let_shadowed, list_shadowed, shadowed};
 ghost use Rattle.isle_lint_core.specs.Unused.{let_unused, list_unused, unused};
 ghost use Rattle.isle_lint_core.specs.Uses.{let_uses, list_uses, uses};
 
@@ -56,71 +55,6 @@ fn let_uses(defs: &[LetDef], name: &str, body: bool) -> bool
         }
     }
     body
-}
-
-/// Adds the variables that an expression uses and nothing binds. The names `bound` are bound around
-/// it.
-#[cycle(unknown)]
-pub fn add_unknown<'a>(
-    expr: &'a Expr,
-    bound: &mut Vec<&'a Ident>,
-    found: &mut Vec<&'a Ident>,
-) -> Result<(), AllocError>
-    ensures added { OnOk result (names_at found.new.items
-        ≡ names_at found.old.items ++ unknown (expression_of expr.now) (names_at bound.old.items)) }
-    ensures bound { OnOk result (names_at bound.new.items ≡ names_at bound.old.items) }
-{
-    match expr {
-        Expr::Term { args, .. } => add_list_unknown(args, bound, found)?,
-        Expr::Var { name, .. } => {
-            let is_bound = has(bound, name.0.as_str());
-            add_if(!is_bound, name, found)?;
-        }
-        Expr::Let { defs, body, .. } => {
-            let around = bound.len();
-            add_let_unknown(defs, bound, found)?;
-            add_unknown(body, bound, found)?;
-            bound.truncate(around);
-        }
-        Expr::ConstBool { .. } | Expr::ConstInt { .. } | Expr::ConstPrim { .. } => {}
-    }
-    Ok(())
-}
-
-#[cycle(unknown)]
-fn add_list_unknown<'a>(
-    exprs: &'a Vec<Expr>,
-    bound: &mut Vec<&'a Ident>,
-    found: &mut Vec<&'a Ident>,
-) -> Result<(), AllocError>
-    ensures added { OnOk result (names_at found.new.items ≡ names_at found.old.items
-        ++ list_unknown (expression_list_of (expressions_of exprs.now.items))
-        (names_at bound.old.items)) }
-    ensures bound { OnOk result (names_at bound.new.items ≡ names_at bound.old.items) }
-{
-    for expr in exprs {
-        add_unknown(expr, bound, found)?;
-    }
-    Ok(())
-}
-
-/// Adds the variables that the values of a `let` use and nothing binds. Adds its own to `bound`.
-#[cycle(unknown)]
-fn add_let_unknown<'a>(
-    defs: &'a Vec<LetDef>,
-    bound: &mut Vec<&'a Ident>,
-    found: &mut Vec<&'a Ident>,
-) -> Result<(), AllocError>
-    ensures added { OnOk result (names_at found.new.items ≡ names_at found.old.items
-        ++ let_unknown (let_list_of (single_lets_of defs.now.items)) (names_at bound.old.items)) }
-    ensures bound { OnOk result (names_at bound.new.items ≡ names_at bound.old.items
-        ++ let_names (let_list_of (single_lets_of defs.now.items))) }
-{
-    for def in defs {
-        add_unknown(&def.val, bound, found)?;
-        bound.push(&def.var)?;
-    }
-    Ok(())
 }
 
 /// Adds the variables that a `let` in the expression binds and nothing uses.

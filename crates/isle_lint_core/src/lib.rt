@@ -1,9 +1,8 @@
-//! Lints for ISLE definitions: variables that are unused or unbound, duplicate names, terms with a
-//! wrong number of arguments, and terms that are undeclared or undefined.
+//! Lints for ISLE definitions: variables that are unused or hide others, and names of rules that
+//! occur twice. The compiler accepts what they find; its errors are those of `isle-check`.
 //!
-//! `findings` runs some of the lints. It does not report what the definitions at hand leave open: a
-//! symbol that stands alone is always taken as a variable, and the number of a term's arguments is
-//! checked only if its `decl` or its variant is among the definitions.
+//! `findings` runs some of the lints. It looks at definitions alone, and a symbol that stands alone
+//! is always taken as a variable.
 #![tactic(auto)]
 
 ghost use Rattle.std.specs.Prelude.{◌≡◌, IfOk, map};
@@ -14,48 +13,36 @@ ghost use Rattle.isle_lint_core.specs.Finding.{finding_cmp, finding_of};
 ghost use Rattle.isle_lint_core.specs.Findings.{findings_in, names_found};
 ghost use Rattle.isle_lint_core.specs.Names.{names_at};
 
-mod definitions;
 mod expressions;
 mod finding;
 mod lint;
-mod mentions;
 mod names;
 mod patterns;
+mod rule_names;
 mod rules;
-mod signatures;
-mod terms;
 
-use definitions::{Giving, repeated_constructors, repeats_in, undefined_terms};
 pub use finding::Finding;
 use finding::add;
 use isle_ast::ast::{Def, Ident};
 pub use lint::Lint;
+use rule_names::repeated_rule_names;
 use rules::{Asked, find_variables};
 use std::alloc::{AllocError, Global};
-use terms::{unknown_terms, wrong_arities};
 
 /// Runs `lints` on `defs`. Returns the findings in order of position.
 ///
 /// | Lint | Finds, each at its name |
 /// |---|---|
 /// | `unused-let` | a variable that a `let` binds and nothing uses |
-/// | `unknown-variable` | a variable that an expression uses and nothing binds before it |
 /// | `duplicate-rule-name` | the name of a rule that an earlier rule has too |
-/// | `duplicate-declaration` | a term that an earlier `decl` declares too |
-/// | `duplicate-extractor` | a term that has an earlier extractor |
-/// | `duplicate-constructor` | an `extern constructor` of a term with rules, or an earlier one |
-/// | `wrong-arity` | a term with more or fewer arguments than its `decl` or its variant has |
-/// | `unknown-term` | a term that is used or defined, and is neither declared nor a variant |
-/// | `undefined-term` | the term of a `decl` that no rule, extractor or `extern` defines |
 /// | `unused-binding` | a variable before an `@` that nothing uses |
 /// | `unused-pattern-variable` | a variable alone in a pattern that nothing uses |
 /// | `shadowed-variable` | a variable that a `let` binds although it is bound already |
 ///
 /// A name that begins with `_` is never reported. The first occurrence of a variable in a rule's
 /// patterns binds it, and every later one uses it. A condition's expression comes before its
-/// pattern. A definition of a `let` is in scope in the later ones and in the body. A variable that
-/// an extractor's template binds is bound in every rule. A lint that is listed twice reports its
-/// findings twice. An `Err` means out of memory.
+/// pattern. A definition of a `let` is in scope in the later ones and in the body. A lint that is
+/// listed twice reports its findings twice. An `Err` means out of memory.
 pub fn findings<'a>(
     alloc: Global,
     defs: &'a [Def],
@@ -95,14 +82,7 @@ fn find_names(alloc: Global, defs: &[Def], lint: Lint) -> Result<Vec<&Ident>, Al
 {
     match lint {
         Lint::UnusedLet => find_variables(alloc, defs, Asked::UnusedLets),
-        Lint::UnknownVariable => find_variables(alloc, defs, Asked::UnknownVariables),
-        Lint::DuplicateRuleName => repeats_in(alloc, defs, Giving::RuleName),
-        Lint::DuplicateDeclaration => repeats_in(alloc, defs, Giving::Declaration),
-        Lint::DuplicateExtractor => repeats_in(alloc, defs, Giving::Extractor),
-        Lint::DuplicateConstructor => repeated_constructors(alloc, defs),
-        Lint::WrongArity => wrong_arities(alloc, defs),
-        Lint::UnknownTerm => unknown_terms(alloc, defs),
-        Lint::UndefinedTerm => undefined_terms(alloc, defs),
+        Lint::DuplicateRuleName => repeated_rule_names(alloc, defs),
         Lint::UnusedBinding => find_variables(alloc, defs, Asked::UnusedBindings),
         Lint::UnusedPatternVariable => find_variables(alloc, defs, Asked::UnusedPatternVariables),
         Lint::ShadowedVariable => find_variables(alloc, defs, Asked::ShadowedVariables),

@@ -1,9 +1,9 @@
-//! Lists of names: which occur twice, and which are not in another list.
+//! Lists of names: which occur twice.
 
-ghost use Rattle.std.specs.Prelude.{◌≡◌, ◌∷◌, ◌++◌, List, IfOk, OnOk, not};
+ghost use Rattle.std.specs.Prelude.{◌≡◌, ◌∷◌, [], ◌++◌, List, IfOk, OnOk, not};
 ghost use Rattle.isle_ast_names.specs.Tree.{Name};
 ghost use Rattle.isle_ast_names.specs.TreeView.{name_of};
-ghost use Rattle.isle_lint_core.specs.Names.{absent, has, is_private, kept_if, names_at, repeated};
+ghost use Rattle.isle_lint_core.specs.Names.{has, is_private, kept_if, names_at, repeated};
 ghost use Rattle.isle_lint_core.specs.Seen.{Knows};
 
 use isle_ast::ast::Ident;
@@ -46,52 +46,13 @@ pub fn is_private(text: &str) -> bool
     }
 }
 
-/// The names that are equal to one of `earlier` or to a name before them, by text.
-pub fn repeats<'a>(
-    alloc: Global,
-    earlier: &[&'a Ident],
-    names: &[&'a Ident],
-) -> Result<Vec<&'a Ident>, AllocError>
-    ensures { IfOk result (λ found. names_at found.items
-        ≡ repeated (names_at earlier.now) (names_at names.now)) }
-{
-    let mut seen = texts(alloc, earlier)?;
-    find_repeats(alloc, &mut seen, names)
-}
-
-/// The names that are not among `others`, by text.
-pub fn absent_names<'a>(
-    alloc: Global,
-    others: &[&'a Ident],
-    names: &[&'a Ident],
-) -> Result<Vec<&'a Ident>, AllocError>
-    ensures { IfOk result (λ found. names_at found.items
-        ≡ absent (names_at others.now) (names_at names.now)) }
-{
-    let seen = texts(alloc, others)?;
-    let mut found = Vec::new(alloc);
-    for name in names {
-        let is_seen = is_seen(&seen, name);
-        add_if(!is_seen, name, &mut found)?;
-    }
-    Ok(found)
-}
-
-fn texts<'a>(alloc: Global, names: &[&'a Ident]) -> Result<BTreeSet<&'a str>, AllocError>
-    ensures { IfOk result (λ seen. Knows seen (names_at names.now)) }
+/// The names that are equal to a name before them, by text.
+pub fn repeats<'a>(alloc: Global, names: &[&'a Ident]) -> Result<Vec<&'a Ident>, AllocError>
+    ensures { IfOk result
+        (λ found. names_at found.items ≡ repeated [] (names_at names.now)) }
 {
     let mut seen = BTreeSet::new(alloc);
-    for name in names {
-        put(&mut seen, name)?;
-    }
-    Ok(seen)
-}
-
-fn is_seen<'a>(seen: &BTreeSet<&'a str>, name: &'a Ident) -> bool
-    ensures { (names : List Name) → Knows seen.now names
-        → result ≡ has names (name_of name.now).text }
-{
-    seen.contains(&name.0.as_str())
+    find_repeats(alloc, &mut seen, names)
 }
 
 /// The names that are in `seen` or equal to a name before them. Adds all of them to `seen`.

@@ -1,26 +1,22 @@
-//! The variables of rules: which are unused, unknown or shadowed.
+//! The variables of rules: which are unused or shadowed.
 
 ghost use Rattle.std.specs.Prelude.{◌≡◌, ◌++◌, IfOk, OnOk, count_by, ◌==◌};
 ghost use Rattle.std.specs.List.{flat_map};
 ghost use Rattle.std.specs.Str.{bytes_eq};
 ghost use Rattle.isle_ast.specs.TreeView.{definitions_of};
-ghost use Rattle.isle_ast_names.specs.TreeView.{names_of};
-ghost use Rattle.isle_ast_rules.specs.TreeView.{conditions_of, expression_of, extractor_of};
-ghost use Rattle.isle_ast_rules.specs.TreeView.{rule_of};
+ghost use Rattle.isle_ast_rules.specs.TreeView.{conditions_of, expression_of, rule_of};
 ghost use Rattle.isle_lint_core.specs.Findings.{asked_of, of_rules};
-ghost use Rattle.isle_lint_core.specs.Names.{has, names_at};
+ghost use Rattle.isle_lint_core.specs.Names.{names_at};
 ghost use Rattle.isle_lint_core.specs.Shadowed.{conditions_shadowed, shadowed_variables};
-ghost use Rattle.isle_lint_core.specs.Unknown.{conditions_unknown, unknown_variables};
 ghost use Rattle.isle_lint_core.specs.Unused.{conditions_idle, idle, is_idle, rule_idle};
 ghost use Rattle.isle_lint_core.specs.Unused.{unused, unused_lets};
 ghost use Rattle.isle_lint_core.specs.Uses.{uses_after};
-ghost use Rattle.isle_lint_core.specs.Variables.{condition_variables, own_variables};
-ghost use Rattle.isle_lint_core.specs.Variables.{template_variables};
+ghost use Rattle.isle_lint_core.specs.Variables.{condition_variables};
 
-use crate::expressions::{add_shadowed, add_unknown, add_unused, uses};
-use crate::names::{add_if, has};
+use crate::expressions::{add_shadowed, add_unused, uses};
+use crate::names::add_if;
 use crate::patterns::{ALL, Wanted, add_variables, rule_variables, variables};
-use isle_ast::ast::{Def, Expr, Extractor, Ident, IfLet, Rule};
+use isle_ast::ast::{Def, Expr, Ident, IfLet, Rule};
 use std::alloc::{AllocError, Global};
 
 /// Which variables of rules to find.
@@ -28,8 +24,6 @@ use std::alloc::{AllocError, Global};
 pub enum Asked {
     /// Those that a `let` binds and nothing uses.
     UnusedLets,
-    /// Those that an expression uses and nothing binds before it.
-    UnknownVariables,
     /// Those before an `@` that nothing uses.
     UnusedBindings,
     /// Those alone in a pattern that nothing uses.
@@ -50,78 +44,33 @@ const ALONE: Wanted = Wanted {
 
 pub fn find_variables(alloc: Global, defs: &[Def], asked: Asked) -> Result<Vec<&Ident>, AllocError>
     ensures { IfOk result (λ found. names_at found.items
-        ≡ of_rules (asked_of asked (template_variables (definitions_of defs.now)))
-        (definitions_of defs.now)) }
+        ≡ of_rules (asked_of asked) (definitions_of defs.now)) }
 {
-    let outer = template_variables(alloc, defs)?;
     let mut found = Vec::new(alloc);
     for def in defs {
         if let Def::Rule(rule) = def {
-            add_asked(alloc, rule, &outer, asked, &mut found)?;
+            add_asked(alloc, rule, asked, &mut found)?;
         }
     }
     Ok(found)
 }
 
-/// Adds those of one rule. The names `outer` are bound around it.
+/// Adds those of one rule.
 fn add_asked<'a>(
     alloc: Global,
     rule: &'a Rule,
-    outer: &[&'a Ident],
     asked: Asked,
     found: &mut Vec<&'a Ident>,
 ) -> Result<(), AllocError>
     ensures { OnOk result (names_at found.new.items
-        ≡ names_at found.old.items ++ asked_of asked (names_at outer.now) (rule_of rule.now)) }
+        ≡ names_at found.old.items ++ asked_of asked (rule_of rule.now)) }
 {
     match asked {
         Asked::UnusedLets => add_unused_lets(rule, found),
-        Asked::UnknownVariables => add_unknown_variables(alloc, rule, outer, found),
         Asked::UnusedBindings => add_rule_idle(alloc, rule, BINDINGS, found),
         Asked::UnusedPatternVariables => add_rule_idle(alloc, rule, ALONE, found),
         Asked::ShadowedVariables => add_shadowed_variables(alloc, rule, found),
     }
-}
-
-/// The variables that the templates of extractors bind.
-fn template_variables(alloc: Global, defs: &[Def]) -> Result<Vec<&Ident>, AllocError>
-    ensures { IfOk result
-        (λ names. names_at names.items ≡ template_variables (definitions_of defs.now)) }
-{
-    let mut names = Vec::new(alloc);
-    for def in defs {
-        if let Def::Extractor(extractor) = def {
-            add_own_variables(alloc, extractor, &mut names)?;
-        }
-    }
-    Ok(names)
-}
-
-/// Adds the variables of an extractor's template that are none of its parameters.
-fn add_own_variables<'a>(
-    alloc: Global,
-    extractor: &'a Extractor,
-    names: &mut Vec<&'a Ident>,
-) -> Result<(), AllocError>
-    ensures { OnOk result (names_at names.new.items
-        ≡ names_at names.old.items ++ own_variables (extractor_of extractor.now)) }
-{
-    for name in &variables(alloc, &extractor.template, ALL)? {
-        let is_parameter = is_parameter(&extractor.args, name.0.as_str());
-        add_if(!is_parameter, name, names)?;
-    }
-    Ok(())
-}
-
-fn is_parameter(parameters: &[Ident], text: &str) -> bool
-    ensures { result ≡ has (names_of parameters.now) text.now }
-{
-    for parameter in parameters {
-        if parameter.0.as_str() == text {
-            return true;
-        }
-    }
-    false
 }
 
 /// Adds the wanted variables of the rule's patterns that nothing uses.
@@ -232,42 +181,6 @@ fn add_conditions_unused<'a>(
 {
     for condition in conditions {
         add_unused(&condition.expr, found)?;
-    }
-    Ok(())
-}
-
-/// Adds the variables that an expression of the rule uses and nothing binds before it. The names
-/// `outer` are bound around the rule.
-fn add_unknown_variables<'a>(
-    alloc: Global,
-    rule: &'a Rule,
-    outer: &[&'a Ident],
-    found: &mut Vec<&'a Ident>,
-) -> Result<(), AllocError>
-    ensures { OnOk result (names_at found.new.items ≡ names_at found.old.items
-        ++ unknown_variables (names_at outer.now) (rule_of rule.now)) }
-{
-    let mut bound = variables(alloc, &rule.pattern, ALL)?;
-    bound.extend_from_slice(outer)?;
-    add_conditions_unknown(&rule.iflets, &mut bound, found)?;
-    add_unknown(&rule.expr, &mut bound, found)
-}
-
-/// Adds the variables that the conditions' expressions use and nothing binds before. Adds those of
-/// their patterns to `bound`.
-fn add_conditions_unknown<'a>(
-    conditions: &'a [IfLet],
-    bound: &mut Vec<&'a Ident>,
-    found: &mut Vec<&'a Ident>,
-) -> Result<(), AllocError>
-    ensures added { OnOk result (names_at found.new.items ≡ names_at found.old.items
-        ++ conditions_unknown (conditions_of conditions.now) (names_at bound.old.items)) }
-    ensures bound { OnOk result (names_at bound.new.items
-        ≡ names_at bound.old.items ++ condition_variables (conditions_of conditions.now)) }
-{
-    for condition in conditions {
-        add_unknown(&condition.expr, bound, found)?;
-        add_variables(&condition.pattern, ALL, bound)?;
     }
     Ok(())
 }

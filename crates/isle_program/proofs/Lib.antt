@@ -3,3 +3,4 @@ pub mod CommentLemmas
 pub mod OffLemmas
 pub mod OpeningLemmas
 pub mod ReadingLemmas
+pub mod WritableLemmas

@@ -8,8 +8,8 @@ use crate::membership::add_all;
 use isle_cli::arguments::{Argument, Options, Request, has_flag, names_of, requested, setting_of};
 use isle_cli::failure::Failure;
 use isle_cli::program::Program;
-use isle_cli::sources::{Source, SourceFault, Sources, fault_line, read_file};
-use isle_cli::streams::write_whole;
+use isle_cli::sources::{Source, Sources, fault_line, read_file};
+use isle_cli::streams::{ReadFault, write_whole};
 use std::alloc::{AllocError, Global};
 use std::env::Env;
 use std::fs::Files;
@@ -110,7 +110,7 @@ pub fn read_texts<R: Files + AllocGlobal + Clone + Drop>(
     for name in all_paths(rt.alloc(), programs)? {
         match read_file(rt, name.as_str()) {
             Ok(text) => list.push(Source { name, text })?,
-            Err(SourceFault::Memory) => return Err(AllocError),
+            Err(ReadFault::Memory) => return Err(AllocError),
             Err(fault) => {
                 let line = fault_line(rt.alloc(), tool, name.as_str(), fault)?;
                 faults.push_str(line.as_str())?;

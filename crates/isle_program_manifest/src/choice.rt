@@ -6,7 +6,8 @@ use crate::membership::has_file;
 use isle_base_source::files::LineMap;
 use isle_cli::messages::message_line;
 use isle_cli::program::Program;
-use isle_cli::sources::{SourceFault, fault_line, read_file};
+use isle_cli::sources::{fault_line, read_file};
+use isle_cli::streams::ReadFault;
 use std::alloc::{AllocError, AllocFailed};
 use std::env;
 use std::env::Env;
@@ -63,7 +64,7 @@ pub fn choose<R: Files + Env + AllocGlobal + Clone + Drop>(
     let path = in_folder(rt, top.as_str(), FILE_NAME)?;
     let text = match read_file(rt, path.as_str()) {
         Ok(text) => text,
-        Err(SourceFault::Memory) => return Err(ChoiceFault::Memory),
+        Err(ReadFault::Memory) => return Err(ChoiceFault::Memory),
         Err(fault) => {
             let line = fault_line(rt.alloc(), tool, path.as_str(), fault)?;
             return Err(ChoiceFault::Unread(line));

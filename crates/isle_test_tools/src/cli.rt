@@ -9,8 +9,9 @@ use isle_cli::failure::Failure;
 use isle_cli::messages::message_line;
 use isle_cli::program::{Program, report, tell};
 use isle_cli::sources::read_sources;
+use isle_cli::usage::report_words;
 use std::alloc::{AllocError, Global};
-use std::io::{ErrorKind, Write};
+use std::io::{ErrorKind, Read, Write};
 use std::os::unix::fs::symlink;
 use std::{fs, io};
 
@@ -81,6 +82,14 @@ fn options_stand_anywhere(rt: HostRuntime) {
     assert!(rt; is_text(&given, lines));
 }
 
+#[test]
+fn values_stand_behind_equals(rt: HostRuntime) {
+    let words = ["--width=5=6", "--stdin-name=", "a=b", "--", "--width=7"];
+    let given = shown_arguments(rt.alloc(), &words);
+    let lines = "--width is 5=6\n--stdin-name is \nname a=b\nname --width=7\n";
+    assert!(rt; is_text(&given, lines));
+}
+
 /// Whether `--check` is given, the width, the name of standard input and the number of file names.
 fn found(alloc: Global, words: &[&str]) -> Option<String> {
     let Ok(Request::Work(arguments)) = request(alloc, words) else {
@@ -114,7 +123,7 @@ fn unknown_options_are_refused(rt: HostRuntime) {
         asked(rt.alloc(), &["-x"]),
         asked(rt.alloc(), &["a", "--checks"]),
         asked(rt.alloc(), &["--width"]),
-        asked(rt.alloc(), &["--help", "--stdin-name"]),
+        asked(rt.alloc(), &["--help", "--check=yes"]),
     ];
     assert!(rt; answers == ["usage", "usage", "usage", "usage"]);
 }
@@ -124,8 +133,10 @@ fn help_comes_before_the_version(rt: HostRuntime) {
     let answers = [
         asked(rt.alloc(), &["a", "--version", "--help"]),
         asked(rt.alloc(), &["--check", "--version"]),
+        asked(rt.alloc(), &["-V", "-h"]),
+        asked(rt.alloc(), &["a", "-V"]),
     ];
-    assert!(rt; answers == ["help", "version"]);
+    assert!(rt; answers == ["help", "version", "help", "version"]);
 }
 
 /// A writer with room for a number of bytes; further writes fail.
@@ -189,6 +200,33 @@ fn failures_are_reported(rt: HostRuntime) {
     assert!(rt; are_told(rt.alloc(), lines) && is_told_up_to(rt.alloc(), 4, "isle"));
 }
 
+/// The message about words that are none of the usage, as far as standard error has room for it.
+fn misused(alloc: Global, words: &[&str], room: usize) -> Option<Vec<u8>> {
+    let words = strings(alloc, words).ok()?;
+    let mut faults = Writer::new(alloc, room);
+    let status = report_words(&PROGRAM, &OPTIONS, &words, &Failure::Usage, &mut faults);
+    if status == 2 { Some(faults.held) } else { None }
+}
+
+/// Returns whether these bytes are there.
+fn are_bytes(bytes: &Option<Vec<u8>>, text: &str) -> bool {
+    match bytes {
+        Some(bytes) => bytes.as_slice() == text.as_bytes(),
+        None => false,
+    }
+}
+
+#[test]
+fn an_unknown_option_is_told(rt: HostRuntime) {
+    let first = misused(rt.alloc(), &["a", "--width", "-x", "--chekc", "-y"], 1000);
+    let told = "isle-test: unknown option '--chekc'\nusage: isle-test [FILE ..]\n";
+    assert!(rt; are_bytes(&first, told));
+    let none = misused(rt.alloc(), &["--width"], 1000);
+    assert!(rt; are_bytes(&none, "usage: isle-test [FILE ..]\n"));
+    let cut = misused(rt.alloc(), &["-x"], 12);
+    assert!(rt; are_bytes(&cut, "isle-test: u"));
+}
+
 /// Returns whether a failed write is reported after this beginning of the output.
 fn is_cut(alloc: Global, room: usize, beginning: &str) -> bool {
     let mut output = Writer::new(alloc, room);
@@ -236,6 +274,8 @@ fn make_folder(rt: HostRuntime) -> io::Result<()> {
     fs::create_dir(&rt, "tree")?;
     fs::create_dir(&rt, "tree/b")?;
     fs::create_dir(&rt, "tree/.git")?;
+    fs::create_dir(&rt, "tree/d")?;
+    fs::write(&rt, "tree/d/a.txt", "no")?;
     fs::write(&rt, "tree/c.isle", "c")?;
     fs::write(&rt, "tree/a.isle", "a")?;
     fs::write(&rt, "tree/a.txt", "no")?;
@@ -249,6 +289,7 @@ fn make_folder(rt: HostRuntime) -> io::Result<()> {
 fn read_all(rt: HostRuntime) -> Result<String, AllocError> {
     let mut all = read(rt, &["tree"])?;
     all.push_str(&read(rt, &["tree/a.txt", "none", "-", "tree/l.isle"])?)?;
+    all.push_str(&read(rt, &["tree/d", "tree/c.isle"])?)?;
     all.push_str(&read(rt, &[])?)?;
     Ok(all)
 }
@@ -264,8 +305,37 @@ fn read_made(rt: HostRuntime) -> Option<String> {
 #[test]
 fn folders_are_opened(rt: HostRuntime) {
     let want = "tree/a.isle has a\ntree/b/z.isle has z\ntree/c.isle has c\n\
-        isle-test: tree/b/y.isle: unreadable or not UTF-8\n\
+        isle-test: tree/b/y.isle: not UTF-8 at byte 0\n\
         tree/a.txt has no\n<stdin> has input\ntree/l.isle has a\n\
-        isle-test: none: no such file or folder\n<stdin> has input\n";
+        isle-test: none: no such file or directory\n\
+        tree/c.isle has c\nisle-test: no .isle file in 'tree/d'\n<stdin> has input\n";
     assert!(rt; is_text(&read_made(rt), want));
+}
+
+/// A reader of which each read fails.
+#[derive(Drop)]
+struct Broken(ErrorKind);
+
+impl Read for Broken {
+    fn read(&mut self, _buf: &mut [u8]) -> io::Result<usize> {
+        Err(io::Error::from(self.0))
+    }
+}
+
+/// The line about standard input that gives no text.
+fn told<I: Read>(rt: HostRuntime, mut input: I) -> Option<String> {
+    let read = read_sources(&rt, &PROGRAM, &[], "<stdin>", &mut input).ok()?;
+    Some(read.faults)
+}
+
+#[test]
+fn reasons_are_told(rt: HostRuntime) {
+    let denied = told(rt, Broken(ErrorKind::PermissionDenied));
+    assert!(rt; is_text(&denied, "isle-test: <stdin>: permission denied\n"));
+    let folder = told(rt, Broken(ErrorKind::IsADirectory));
+    assert!(rt; is_text(&folder, "isle-test: <stdin>: is a directory\n"));
+    let broken = told(rt, Broken(ErrorKind::Other));
+    assert!(rt; is_text(&broken, "isle-test: <stdin>: unreadable\n"));
+    let cut = told(rt, io::Cursor::new(b"a\xc3\xa9\xe2\x82".as_slice()));
+    assert!(rt; is_text(&cut, "isle-test: <stdin>: not UTF-8 at byte 3\n"));
 }

@@ -55,6 +55,12 @@ module _ (check : Bool) where
   failed-ends failures.Memory status a p q why is = ends-some status a a p q (omega (arith, is)) (omega (arith, is)) (λ two. omega (arith, is, two)) (λ off. Keeps-refl a)
   failed-ends failures.Output status a p q why is = ends-some status a a p q (omega (arith, is)) (omega (arith, is)) (λ two. omega (arith, is, two)) (λ off. Keeps-refl a)
 
+  -- it can't be read, or memory was refused
+  pub unread-runs : (status : ℕ) (a p q : Option (List ℕ)) → (status ≡ 3) ⊎ (status ≡ 4) → RunsOnFiles check status a a p q
+  unread-runs status a p q which =
+      runs-one status a a p q (ends-some status a a p q (⊎_elim (λ e. omega (arith, e)) (λ e. omega (arith, e)) which) (⊎_elim (λ e. omega (arith, e)) (λ e. omega (arith, e)) which)
+      (λ two. ⊎_elim (λ e. omega (arith, e, two)) (λ e. omega (arith, e, two)) which) (λ off. Keeps-refl a))
+
   -- some names can't be read, and then files are done
   pub missed-first : (status all : ℕ) (a b p q r : Option (List ℕ)) → RunsOnFiles check status a b q r → all ≡ max status 3 → RunsOnFiles check all a b p r
   missed-first status all a b p q r runs is =

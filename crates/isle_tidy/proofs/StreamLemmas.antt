@@ -1,5 +1,6 @@
 -- Two writes taken together, and what is said of a failure.
 use Rattle.std.proofs.Common.{◌≡◌, ◌≢◌, ◌++◌, [], ◌∷◌, Some, ℕ, List, Option, Result, Ok, Err, IfErr, Bool, string_bytes, sym, ◌∙◌, inl, refl}
+use Rattle.std.proofs.KnownBytes.{Appends-nil}
 use Rattle.std.specs.Io.KnownBytes.{Appends}
 use Rattle.isle_cli.proofs.StreamLemmas.{AppendsBeginning-behind, AppendsBeginning-front, ReadsText-weaker}
 use Rattle.isle_cli.specs.Arguments.{AnswersTo, Asked, Given, name_list, work_asked}
@@ -41,3 +42,7 @@ module _ (program : Program) (check : Bool) (name : List ℕ) (input input' outp
   pub found-by : (status : ℕ) (failure : Failure) → Explains failure check name input input' output output' → AppendsBeginning faults faults' (text_of program failure)
       → status ≡ status_of failure → status ≡ 1 → FindsInput check name input input' output output' faults faults'
   found-by status failure why told is one = found_by failure why told (sym is ∙ one)
+
+-- where nothing is written, that is a beginning
+pub none-of : (a : Option (List ℕ)) (bytes : List ℕ) → AppendsBeginning a a bytes
+none-of a bytes = (0, Appends-nil a)

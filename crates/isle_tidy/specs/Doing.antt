@@ -1,9 +1,9 @@
 -- What the program does, to streams whose bytes are known or not, before and after.
-use Rattle.std.specs.Prelude.{◌≡◌, ◌≢◌, ◌≤◌, ◌⊎◌, ◌++◌, ℕ, List, [], ◌∷◌, Bool, true, false, Option, codes, length, max, string_bytes}
+use Rattle.std.specs.Prelude.{◌≡◌, ◌≢◌, ◌≤◌, ◌⊎◌, ◌==◌, ◌++◌, ℕ, List, [], ◌∷◌, Bool, true, false, if◌then◌else◌, Option, codes, length, max, string_bytes}
 use Rattle.std.specs.Io.KnownBytes.{Appends, Keeps}
 use Rattle.isle_base_source.specs.declared.error.Error.{Error}
 use Rattle.isle_cli.specs.Arguments.{Given, Asked, help_asked, version_asked, work_asked, gives_flag, is_among, name_list, stdin_name}
-use Rattle.isle_cli.specs.Messages.{error_line}
+use Rattle.isle_cli.specs.Messages.{counted, error_line}
 use Rattle.isle_cli.specs.Streams.{AppendsBeginning, ReadsText, Writes, WritesBeginning}
 use Rattle.isle_cli.specs.declared.failure.Failure.{Failure}
 use Rattle.isle_cli.specs.declared.failure.Failure.TheVariants as failures
@@ -180,3 +180,9 @@ abbrev pub EndsPrograms : Bool → (status : ℕ) → (output output' : Option (
 EndsPrograms check status output output' =
     ((2 ≤ status) × (status ≤ 4) × Keeps output output')
     ⊎ ((faults : Option (List ℕ)) × (faults' : Option (List ℕ)) × RunsOnFiles check status output output' faults faults')
+
+-- what is told of files that would change, as many as these
+abbrev pub changes_text : Program → (untidy : ℕ) → List ℕ
+changes_text program untidy =
+    if untidy == 0 then []
+    else program.name.now ++ (codes ": " ++ (counted untidy (codes "file") ++ codes " would change; run the same command without --check\n"))

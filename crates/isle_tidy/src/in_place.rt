@@ -1,57 +1,70 @@
 //! Tidying files in place: all of a file, or nothing of it.
 
-ghost use Rattle.std.specs.Prelude.{◌≡◌, IfErr, OnOk, false};
+ghost use Rattle.std.specs.Prelude.{◌≡◌, IfErr, IfOk, OnOk, false, string_bytes};
 ghost use Rattle.isle_cli.specs.Streams.{Writes};
 ghost use Rattle.isle_tidy_core.specs.Tidied.{IsTidyTextOf, IsUntidy};
-ghost use Rattle.isle_tidy.specs.Doing.{IsFileFailure};
+ghost use Rattle.isle_tidy.specs.Doing.{IsFileFailure, IsJudged};
 
 use crate::pieces::{is_untidy, put_tidied};
 use isle_cli::failure::Failure;
-use isle_cli::streams::read_text;
+use isle_cli::sources::read_file;
+use isle_cli::streams::{ReadFault, fault_of};
 use std::fs::{Files, Metadata, OpenFile, OpenOptions};
 use std::io::ErrorKind;
 use std::os::unix::fs::MetadataExt;
+use std::path::PathBuf;
 use std::{fs, io};
 
 /// The number of names that are tried for the new file beside the old one.
 const NAMES: u32 = 100;
 
-/// Tidies a file, and returns whether its text was untidy. With `check` the file is left alone.
-///
-/// A link is followed, and its target is tidied. The tidy text is written to a new file beside the
-/// old one, with the old one's owner and permissions. Once it is synced to disk, the new file
-/// replaces the old one. After an error the old file is unchanged, and the new one is removed.
-pub fn tidy_file<R: Files + AllocGlobal>(rt: &R, name: &str, check: bool) -> Result<bool, Failure>
-    ensures { IfErr result IsFileFailure }
-{
-    let target = fs::canonicalize(rt, name).map_err(unreadable)?;
-    let path = target.as_str();
-    let metadata = rt.metadata(path).map_err(unreadable)?;
-    if !metadata.is_file() {
-        return Err(Failure::Input);
-    }
-    let mut file = OpenOptions::new()
-        .read(true)
-        .open(rt, path)
-        .map_err(unreadable)?;
-    let text = read_text(rt.alloc(), &mut file)?;
-    drop(file);
-    let is_untidy = is_untidy(rt.alloc(), name, text.as_str())?;
-    if is_untidy && !check {
-        replace(rt, path, &metadata, text.as_str(), check)?;
-    }
-    Ok(is_untidy)
+/// A file that was read.
+#[derive(Drop)]
+pub struct FileText {
+    /// Its path, without links.
+    path: PathBuf,
+    /// Its owner and permissions.
+    metadata: Metadata,
+    /// Its text.
+    pub text: String,
 }
 
-/// The failure of reading a file, from the error of the system.
-fn unreadable(error: io::Error) -> Failure
-    ensures { IsFileFailure result }
-{
-    if error.kind() == ErrorKind::OutOfMemory {
-        Failure::Memory
-    } else {
-        Failure::Input
+/// Reads a file in UTF-8, which must be a regular one. A link is followed.
+pub fn read_regular<R: Files + AllocGlobal>(rt: &R, name: &str) -> Result<FileText, ReadFault> {
+    let path = fs::canonicalize(rt, name).map_err(fault_of)?;
+    let metadata = rt.metadata(path.as_str()).map_err(fault_of)?;
+    if !metadata.is_file() {
+        return Err(ReadFault::NotRegular);
     }
+    let text = read_file(rt, path.as_str())?;
+    Ok(FileText {
+        path,
+        metadata,
+        text,
+    })
+}
+
+/// Tidies a file of this name that was read, and returns whether its text was untidy. With `check`
+/// the file is left alone.
+///
+/// The tidy text is written to a new file beside the old one, with the old one's owner and
+/// permissions. Once it is synced to disk, the new file replaces the old one. After an error the
+/// old file is unchanged, and the new one is removed.
+pub fn tidy_file<R: Files + AllocGlobal>(
+    rt: &R,
+    name: &str,
+    file: &FileText,
+    check: bool,
+) -> Result<bool, Failure>
+    ensures judged { IfOk result (λ is_untidy. IsJudged (string_bytes file.now.text) is_untidy) }
+    ensures failed { IfErr result IsFileFailure }
+{
+    let text = file.text.as_str();
+    let is_untidy = is_untidy(rt.alloc(), name, text)?;
+    if is_untidy && !check {
+        replace(rt, file.path.as_str(), &file.metadata, text, check)?;
+    }
+    Ok(is_untidy)
 }
 
 /// Replaces a file by a new one with the tidy text of `text`, which must be untidy. `check` must be

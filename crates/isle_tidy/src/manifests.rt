@@ -6,7 +6,7 @@ ghost use Rattle.isle_cli.specs.Arguments.{given_of};
 ghost use Rattle.isle_cli.specs.declared.failure.Failure.TheVariants.{Memory, Usage};
 ghost use Rattle.isle_tidy.specs.Doing.{EndsPrograms, checks};
 
-use crate::program::{PROGRAM, Task, run_on_paths, this_program};
+use crate::program::{PROGRAM, Task, run_on_paths, tell_changes, this_program};
 use isle_cli::arguments::{Argument, Options, has_flag, stdin_name_of};
 use isle_cli::failure::Failure;
 use isle_cli::program::report;
@@ -28,7 +28,8 @@ pub const OPTIONS: Options = Options {
 /// Tidies the files of programs of the nearest manifest in place, each once, and returns the exit
 /// status, which is that of `run`; it is 2 for a manifest with a mistake, and 3 without a manifest.
 ///
-/// Standard error gets a line for each entry without a file. No contract can say which files there
+/// Standard error gets a line for each entry without a file, and with `--check` how many files would
+/// change, if any would. No contract can say which files there
 /// are.
 pub fn run_programs<R: Files + Env + AllocGlobal + Clone + Drop, I, W: Write, E: Write>(
     rt: &R,
@@ -77,6 +78,9 @@ fn tidy_programs<R: Files + Env + AllocGlobal + Clone + Drop, I, W: Write, E: Wr
         check: has_flag(arguments, "--check"),
         stdin_name: stdin_name_of(arguments),
     };
-    let status = run_on_paths(rt, &task, &paths, &mut streams.output, &mut streams.faults);
+    let (output, faults) = (&mut streams.output, &mut streams.faults);
+    let mut untidy = 0;
+    let status = run_on_paths(rt, &task, &paths, output, faults, &mut untidy);
+    tell_changes(rt.alloc(), &program, status, untidy, faults);
     Ok(status)
 }

@@ -6,28 +6,33 @@ ghost use Rattle.std.specs.Io.KnownBytes.{Appends, Keeps};
 ghost use Rattle.isle_cli.specs.Arguments.{given_of, is_among, name_list, stdin_name};
 ghost use Rattle.isle_cli.specs.Failure as frame;
 ghost use Rattle.isle_cli.specs.Failure.{status_of};
+ghost use Rattle.isle_cli.specs.Sources.{fault_line};
 ghost use Rattle.isle_cli.specs.Streams.{AppendsBeginning, ReadsText, WritesBeginning};
 ghost use Rattle.isle_cli.specs.declared.failure.Failure.TheVariants.{Output};
 ghost use Rattle.isle_tidy_core.specs.Tidied.{IsTidyTextOf};
 ghost use Rattle.isle_tidy.specs.Doing.{Cuts, CutsInput, Does, DoesInput, DoesTask, Explains};
 ghost use Rattle.isle_tidy.specs.Doing.{Finds, FindsInput, HandlesFiles};
 ghost use Rattle.isle_tidy.specs.Doing.{IsInputFailure, IsJudged, IsTidyFailure, Judges};
-ghost use Rattle.isle_tidy.specs.Doing.{LeavesOutput, RunsOnFiles, Tells, TidiesInput, checks};
-ghost use Rattle.isle_tidy.specs.Doing.{names_input};
+ghost use Rattle.isle_tidy.specs.Doing.{LeavesOutput, RunsOnFiles, Tells, TidiesInput};
+ghost use Rattle.isle_tidy.specs.Doing.{changes_text, checks, names_input};
 ghost use Rattle.isle_tidy.specs.Program.{AreOwn, AsAsked, AskForNothing, HaveNames, IsDiagnostic};
 ghost use Rattle.isle_tidy.specs.Program.{IsThis};
 
-use crate::in_place::tidy_file;
+use crate::in_place::{FileText, read_regular, tidy_file};
+use crate::manifests;
 use crate::pieces::{is_untidy, put_tidied};
 use isle_cli::arguments::{
     Argument, Options, Request, has_flag, names_of, requested, stdin_name_of,
 };
 use isle_cli::failure::Failure;
-use isle_cli::folders::files_of;
+use isle_cli::folders::files_named;
+use isle_cli::messages::counted;
 use isle_cli::program::{Program, put, report, tell};
-use isle_cli::streams::{Streams, read_text, write_whole};
+use isle_cli::sources::fault_line;
+use isle_cli::streams::{ReadFault, Streams, read_text, write_whole};
+use isle_cli::usage::report_words;
 use isle_cli::version;
-use std::alloc::Global;
+use std::alloc::{AllocError, Global};
 use std::fs::Files;
 use std::io::{Read, Write};
 
@@ -62,14 +67,15 @@ Options:
   --program NAME     tidy the files of the program NAME of isle.toml; may be repeated
   --all-programs     tidy the files of each program of isle.toml
   --                 treat all later arguments as files
-  --help             print this help
-  --version          print the version
+  -h, --help         print this help
+  -V, --version      print the version
 
 Exit status (with several files, the greatest of theirs):
   0  success; with --check, nothing would change
   1  an input cannot be tidied; with --check, or an input would change
   2  usage error, or a mistake in isle.toml
-  3  an input cannot be read, or is not UTF-8, or there is no isle.toml
+  3  an input cannot be read, or is not UTF-8, or a folder has no .isle file,
+     or there is no isle.toml
   4  out of memory
   5  an output cannot be written
 ";
@@ -98,7 +104,7 @@ fn own_options() -> Options
 /// | 0 | all is tidied; with `--check`, all is tidy |
 /// | 1 | a text can't be tidied; with `--check`, or one would change |
 /// | 2 | usage error |
-/// | 3 | standard input or a file can't be read, or isn't UTF-8 |
+/// | 3 | an input can't be read or isn't UTF-8, or a folder has no ISLE file |
 /// | 4 | out of memory |
 /// | 5 | standard output or a file can't be written whole |
 ///
@@ -156,7 +162,7 @@ pub fn run<R: Files + AllocGlobal + Clone + Drop, I: Read, W: Write, E: Write>(
         → Keeps (E.contents streams.old.faults) (E.contents streams.new.faults) }
     ensures told { 2 ≤ result → ¬ (HaveNames (map string_bytes words.now))
         → WritesBeginning (E.contents streams.old.faults) (E.contents streams.new.faults)
-        (IsDiagnostic result) }
+        (IsDiagnostic (map string_bytes words.now) result) }
 {
     let (program, options) = (this_program(), own_options());
     match requested(rt.alloc(), &options, words) {
@@ -177,7 +183,15 @@ pub fn run<R: Files + AllocGlobal + Clone + Drop, I: Read, W: Write, E: Write>(
             )
         }
         Ok(Request::Work(arguments)) => work(rt, &program, &arguments, streams),
-        Err(failure) => report(&program, &failure, &mut streams.faults),
+        Err(failure) => {
+            report_words(
+                &program,
+                &manifests::OPTIONS,
+                words,
+                &failure,
+                &mut streams.faults,
+            )
+        }
     }
 }
 
@@ -366,7 +380,8 @@ fn names_stdin(names: &[String]) -> bool
     }
 }
 
-/// Tidies the inputs of these names in turn. The status is the greatest of theirs.
+/// Tidies the inputs of these names in turn. The status is the greatest of theirs. With `check` a
+/// line says how many files would change, if any would.
 fn run_on_names<R: Files + AllocGlobal + Clone + Drop, I: Read, W: Write, E: Write>(
     rt: &R,
     task: &Task<'_>,
@@ -385,10 +400,78 @@ fn run_on_names<R: Files + AllocGlobal + Clone + Drop, I: Read, W: Write, E: Wri
     ensures quiet { result ≡ 0
         → Keeps (E.contents streams.old.faults) (E.contents streams.new.faults) }
 {
+    let mut untidy = 0;
+    let status = run_on_each(rt, task, names, streams, &mut untidy);
+    tell_changes(
+        rt.alloc(),
+        task.program,
+        status,
+        untidy,
+        &mut streams.faults,
+    );
+    status
+}
+
+/// Writes to standard error how many files would change, if any would, and how to change them.
+pub fn tell_changes<E: Write>(
+    alloc: Global,
+    program: &Program,
+    status: u8,
+    untidy: usize,
+    faults: &mut E,
+)
+    ensures quiet { status ≡ 0 → Keeps (E.contents faults.old) (E.contents faults.new) }
+    ensures told { AppendsBeginning (E.contents faults.old) (E.contents faults.new)
+        (changes_text program.now untidy) }
+{
+    if status == 0 {
+        return;
+    }
+    match changes_text(alloc, program, untidy) {
+        Ok(text) => {
+            let _ = write_whole(faults, text.as_bytes());
+        }
+        Err(_) => {}
+    }
+}
+
+/// The line that says how many files would change, and how to change them; empty if none would.
+fn changes_text(alloc: Global, program: &Program, untidy: usize) -> Result<String, AllocError>
+    ensures { IfOk result (λ text. string_bytes text ≡ changes_text program.now untidy) }
+{
+    if untidy == 0 {
+        return Ok(String::new(alloc));
+    }
+    let files = counted(alloc, untidy, "file")?;
+    let name = program.name;
+    format!(in alloc; "{name}: {files} would change; run the same command without --check\n")
+}
+
+/// The same, without the line about the files that would change: they are added to `untidy`.
+fn run_on_each<R: Files + AllocGlobal + Clone + Drop, I: Read, W: Write, E: Write>(
+    rt: &R,
+    task: &Task<'_>,
+    names: &[String],
+    streams: &mut Streams<I, W, E>,
+    untidy: &mut usize,
+) -> u8
+    ensures statuses { result ≤ 5 }
+    ensures used { result ≢ 2 }
+    ensures unread { is_among (map string_bytes names.now) (codes "-") ≡ false
+        → Keeps (I.remaining streams.old.input) (I.remaining streams.new.input) }
+    ensures unwritten { result ≡ 0 → is_among (map string_bytes names.now) (codes "-") ≡ false
+        → Keeps (W.contents streams.old.output) (W.contents streams.new.output) }
+    ensures in_place { is_among (map string_bytes names.now) (codes "-") ≡ false
+        → task.now.check ≡ false
+        → Keeps (W.contents streams.old.output) (W.contents streams.new.output) }
+    ensures quiet { result ≡ 0
+        → Keeps (E.contents streams.old.faults) (E.contents streams.new.faults) }
+{
     if names_stdin(names) {
-        run_on_all(rt, task, names, streams)
+        run_on_all(rt, task, names, streams, untidy)
     } else {
-        run_on_paths(rt, task, names, &mut streams.output, &mut streams.faults)
+        let (output, faults) = (&mut streams.output, &mut streams.faults);
+        run_on_paths(rt, task, names, output, faults, untidy)
     }
 }
 
@@ -398,6 +481,7 @@ fn run_on_all<R: Files + AllocGlobal + Clone + Drop, I: Read, W: Write, E: Write
     task: &Task<'_>,
     names: &[String],
     streams: &mut Streams<I, W, E>,
+    untidy: &mut usize,
 ) -> u8
     ensures statuses { result ≤ 5 }
     ensures used { result ≢ 2 }
@@ -406,7 +490,7 @@ fn run_on_all<R: Files + AllocGlobal + Clone + Drop, I: Read, W: Write, E: Write
 {
     let mut status: u8 = 0;
     for name in names {
-        let done = run_on_name(rt, task, name.as_str(), streams);
+        let done = run_on_name(rt, task, name.as_str(), streams, untidy);
         status = status.max(done);
     }
     status
@@ -418,6 +502,7 @@ fn run_on_name<R: Files + AllocGlobal + Clone + Drop, I: Read, W: Write, E: Writ
     task: &Task<'_>,
     name: &str,
     streams: &mut Streams<I, W, E>,
+    untidy: &mut usize,
 ) -> u8
     ensures statuses { result ≤ 5 }
     ensures used { result ≢ 2 }
@@ -427,24 +512,32 @@ fn run_on_name<R: Files + AllocGlobal + Clone + Drop, I: Read, W: Write, E: Writ
     if name == "-" {
         run_on_input(rt.alloc(), task, streams)
     } else {
-        run_on_path(rt, task, name, &mut streams.output, &mut streams.faults)
+        run_on_path(
+            rt,
+            task,
+            name,
+            &mut streams.output,
+            &mut streams.faults,
+            untidy,
+        )
     }
 }
 
-/// Tidies files, and the files below folders.
+/// Tidies files, and the files below folders. Those that would change are added to `untidy`.
 pub fn run_on_paths<R: Files + AllocGlobal + Clone + Drop, W: Write, E: Write>(
     rt: &R,
     task: &Task<'_>,
     names: &[String],
     output: &mut W,
     faults: &mut E,
+    untidy: &mut usize,
 ) -> u8
     ensures { RunsOnFiles task.now.check result (W.contents output.old) (W.contents output.new)
         (E.contents faults.old) (E.contents faults.new) }
 {
     let mut status: u8 = 0;
     for name in names {
-        let done = run_on_path(rt, task, name.as_str(), output, faults);
+        let done = run_on_path(rt, task, name.as_str(), output, faults, untidy);
         status = status.max(done);
     }
     status
@@ -457,16 +550,17 @@ fn run_on_path<R: Files + AllocGlobal + Clone + Drop, W: Write, E: Write>(
     name: &str,
     output: &mut W,
     faults: &mut E,
+    untidy: &mut usize,
 ) -> u8
     ensures { RunsOnFiles task.now.check result (W.contents output.old) (W.contents output.new)
         (E.contents faults.old) (E.contents faults.new) }
 {
     let mut lines = String::new(rt.alloc());
-    match files_of(rt, task.program, name, &mut lines) {
-        Ok(files) if lines.is_empty() => run_on_files(rt, task, &files, output, faults),
+    match files_named(rt, task.program, name, &mut lines) {
+        Ok(files) if lines.is_empty() => run_on_files(rt, task, &files, output, faults, untidy),
         Ok(files) => {
             let _ = write_whole(faults, lines.as_bytes());
-            run_on_files(rt, task, &files, output, faults).max(3)
+            run_on_files(rt, task, &files, output, faults, untidy).max(3)
         }
         Err(_) => report(task.program, &Failure::Memory, faults),
     }
@@ -479,13 +573,14 @@ fn run_on_files<R: Files + AllocGlobal, W: Write, E: Write>(
     names: &[String],
     output: &mut W,
     faults: &mut E,
+    untidy: &mut usize,
 ) -> u8
     ensures { RunsOnFiles task.now.check result (W.contents output.old) (W.contents output.new)
         (E.contents faults.old) (E.contents faults.new) }
 {
     let mut status: u8 = 0;
     for name in names {
-        let done = run_on_file(rt, task, name.as_str(), output, faults);
+        let done = run_on_file(rt, task, name.as_str(), output, faults, untidy);
         status = status.max(done);
     }
     status
@@ -498,14 +593,73 @@ fn run_on_file<R: Files + AllocGlobal, W: Write, E: Write>(
     name: &str,
     output: &mut W,
     faults: &mut E,
+    untidy: &mut usize,
 ) -> u8
     ensures { RunsOnFiles task.now.check result (W.contents output.old) (W.contents output.new)
         (E.contents faults.old) (E.contents faults.new) }
 {
-    match tidy_file(rt, name, task.check) {
-        Ok(is_untidy) if is_untidy && task.check => named(task, name, output, faults),
+    match read_regular(rt, name) {
+        Ok(file) => run_on_text(rt, task, name, &file, output, faults, untidy),
+        Err(fault) => report_unread(rt.alloc(), task.program, name, fault, faults),
+    }
+}
+
+/// Tidies a file that was read, or, with `check`, lists it if it would change.
+fn run_on_text<R: Files + AllocGlobal, W: Write, E: Write>(
+    rt: &R,
+    task: &Task<'_>,
+    name: &str,
+    file: &FileText,
+    output: &mut W,
+    faults: &mut E,
+    untidy: &mut usize,
+) -> u8
+    ensures { RunsOnFiles task.now.check result (W.contents output.old) (W.contents output.new)
+        (E.contents faults.old) (E.contents faults.new) }
+{
+    match tidy_file(rt, name, file, task.check) {
+        Ok(is_untidy) if is_untidy && task.check => {
+            *untidy = untidy.saturating_add(1);
+            named(task, name, output, faults)
+        }
         Ok(_) => 0,
         Err(failure) => report_on_file(&failure, name, faults),
+    }
+}
+
+/// Writes why a file can't be read to standard error, and returns the exit status.
+fn report_unread<E: Write>(
+    alloc: Global,
+    program: &Program,
+    name: &str,
+    fault: ReadFault,
+    faults: &mut E,
+) -> u8
+    ensures statuses { (result ≡ 3) ⊎ (result ≡ 4) }
+    ensures told { result ≡ 3 → AppendsBeginning (E.contents faults.old) (E.contents faults.new)
+        (fault_line program.now name.now fault) }
+{
+    match unread_line(alloc, program, name, fault) {
+        Ok(line) => {
+            let _ = write_whole(faults, line.as_bytes());
+            Failure::Input.status()
+        }
+        Err(_) => report_on_file(&Failure::Memory, name, faults),
+    }
+}
+
+/// The line that says why a file can't be read, if memory wasn't the reason.
+fn unread_line(
+    alloc: Global,
+    program: &Program,
+    name: &str,
+    fault: ReadFault,
+) -> Result<String, AllocError>
+    ensures { IfOk result (λ line. string_bytes line ≡ fault_line program.now name.now fault) }
+{
+    match fault {
+        ReadFault::Memory => Err(AllocError),
+        _ => fault_line(alloc, program, name, fault),
     }
 }
 
@@ -543,7 +697,7 @@ fn reason(failure: &Failure) -> &'static str {
     match failure {
         Failure::Refused(_) => "can't be tidied",
         Failure::Usage => "is no file",
-        Failure::Input => "unreadable or not UTF-8",
+        Failure::Input => "unreadable",
         Failure::Memory => "out of memory",
         Failure::Output => "can't be written",
     }

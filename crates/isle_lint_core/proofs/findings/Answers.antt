@@ -1,4 +1,4 @@
-use Rattle.std.proofs.Common.{◌≡◌, Bool, true, false, rules, tests, List, map, subst, refl}
+use Rattle.std.proofs.Common.{◌≡◌, false, rules, tests, List, map, subst, refl}
 use Rattle.std.proofs.lemmas.List.Sorted.{IsPermutation-map}
 use Rattle.std.specs.List.Sorted.{IsPermutation}
 use Rattle.std.specs.Ordering.{is_lt, ordering_then}

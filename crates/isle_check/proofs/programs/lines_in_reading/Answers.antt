@@ -5,7 +5,7 @@ use Rattle.isle_ast.specs.TreeView.{definitions_of}
 use Rattle.isle_cli.specs.Arguments.{given_of}
 use Rattle.isle_cli.specs.Sources.{source_of}
 use Rattle.isle_check.specs.Report as report
-use Rattle.isle_check.proofs.ReadingLemmas.{reading-plain}
+use Rattle.isle_program.proofs.WritableLemmas.{reading-plain}
 use Rattle.isle_check.proofs.programs.lines_in_reading.Goals as goal
 
 pub lines_of-requires : goal.lines_of-requires

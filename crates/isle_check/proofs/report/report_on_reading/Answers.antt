@@ -2,7 +2,7 @@ use Rattle.std.proofs.Common.{map}
 use Rattle.std.proofs.lemmas.Result.{IfOk-weaker}
 use Rattle.isle_ast.specs.TreeView.{definitions_of}
 use Rattle.isle_cli.specs.Sources.{source_of}
-use Rattle.isle_check.proofs.ReadingLemmas.{reading-plain}
+use Rattle.isle_program.proofs.WritableLemmas.{reading-plain}
 use Rattle.isle_check.proofs.report.report_on_reading.Goals as goal
 
 pub report_in-requires : goal.report_in-requires

@@ -2,7 +2,7 @@ use Rattle.std.proofs.Common.{map, subst, sym}
 use Rattle.isle_ast.specs.TreeView.{definitions_of}
 use Rattle.isle_cli.specs.Sources.{source_of}
 use Rattle.isle_program.specs.Reading.{IsReading}
-use Rattle.isle_expand.proofs.ExpansionLemmas.{reading-plain}
+use Rattle.isle_program.proofs.WritableLemmas.{reading-plain}
 use Rattle.isle_expand.proofs.expansion.answer_to_reading.Goals as goal
 
 pub answer_to_program-requires-clause-plain : goal.answer_to_program-requires-clause-plain

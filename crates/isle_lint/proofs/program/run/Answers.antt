@@ -2,12 +2,29 @@ use Rattle.std.proofs.Common.{List, ap, map, refl, ◌∙◌}
 use Rattle.std.specs.Global.{Vec}
 use Rattle.isle_cli.specs.declared.arguments.Argument.{Argument}
 use Rattle.isle_cli.specs.Arguments.{given_of, work_asked}
-use Rattle.isle_lint.proofs.FailureLemmas.{asks-what, cuts-same, failure-told, kept-same, tells-same}
+use Rattle.isle_lint.proofs.FailureLemmas.{asked-told, asks-what, cuts-same, own-told, past-two, tells-same, this, words-told-here}
 use Rattle.isle_lint.proofs.program.run.Goals as goal
 
 pub returns-in-Err-clause-told : goal.returns-in-Err-clause-told
 returns-in-Err-clause-told g c =
-    λ two three. failure-told c.in-Err.failure c.report.result _ _ _ (kept-same _) c.report.ensures.status c.report.ensures.text
+    λ two three. words-told-here this _ _ _ c.in-Err.failure c.report_words.result _ _ c.in-Err.ensures.err c.report_words.ensures.status c.report_words.ensures.text (refl, refl) (refl, refl) (refl, refl)
+
+pub returns-in-Ok-Help-clause-told : goal.returns-in-Ok-Help-clause-told
+returns-in-Ok-Help-clause-told g c =
+    λ two three.
+    let asks = rw c.in-Ok-Help.field-0-is at c.in-Ok-Help.ensures.ok in
+    own-told _ _ _ _ c.tell.result _ _ asks (c.tell.ensures.told (past-two c.tell.result c.tell.ensures.statuses two)) (refl, refl) (refl, refl)
+
+pub returns-in-Ok-Version-clause-told : goal.returns-in-Ok-Version-clause-told
+returns-in-Ok-Version-clause-told g c =
+    λ two three.
+    let asks = rw c.in-Ok-Version.field-0-is at c.in-Ok-Version.ensures.ok in
+    own-told _ _ _ _ c.tell-in-Ok-Version.result _ _ asks (c.tell-in-Ok-Version.ensures.told (past-two c.tell-in-Ok-Version.result c.tell-in-Ok-Version.ensures.statuses two)) (refl, refl) (refl, refl)
+
+pub returns-in-Ok-Work-clause-told : goal.returns-in-Ok-Work-clause-told
+returns-in-Ok-Work-clause-told g c = λ two three.
+    let asks = rw c.in-Ok-Work.field-0-is at c.in-Ok-Work.ensures.ok in
+    asked-told _ _ _ c.work.result _ _ asks (c.work.ensures.told two three) (refl, refl)
 
 pub returns-in-Ok-Work-clause-done : goal.returns-in-Ok-Work-clause-done
 returns-in-Ok-Work-clause-done g c = λ two four five.

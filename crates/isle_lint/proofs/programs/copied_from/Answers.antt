@@ -15,6 +15,6 @@ returns c =
       definitions = definitions;
       refusals = refusals;
       read = c.requires;
-      are = subst (AreToldIn c.args.lints.now c.args.is_whole (map source_of c.args.own.now) definitions refusals) (sym (same ∙ ap (map finding_of) c.deref.ensures.value)) c.in_ok-told.ensures;
+      are = subst (AreToldIn c.args.lints.now (map source_of c.args.own.now) definitions) (sym (same ∙ ap (map finding_of) c.deref.ensures.value)) c.in_ok-told.ensures;
     })
     c.copied.ensures

@@ -6,7 +6,7 @@ use Rattle.isle_cli.specs.Sources.{source_of}
 use Rattle.isle_lint_core.specs.Finding.{Found, finding_of}
 use Rattle.isle_program.specs.Reading.{refused_count}
 use Rattle.isle_lint.specs.Programs.{linted_of, tagged_texts}
-use Rattle.isle_lint.specs.Report.{count_text}
+use Rattle.isle_cli.specs.Messages.{count_text}
 use Rattle.isle_lint.proofs.ProgramLemmas.{both_parts}
 use Rattle.isle_lint.proofs.programs.report_on_linted.Goals as goal
 

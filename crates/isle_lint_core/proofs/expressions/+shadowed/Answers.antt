@@ -1,6 +1,6 @@
 use Rattle.std.proofs.Common.{◌∙◌}
 use Rattle.isle_ast_rules.specs.TreeView.{let_list_of, single_lets_of}
-use Rattle.isle_lint_core.specs.Unknown.{let_names}
+use Rattle.isle_lint_core.specs.Shadowed.{let_names}
 use Rattle.isle_ast_names.proofs.ListComparison.{count}
 use Rattle.isle_lint_core.proofs.NameLemmas.{names_at-take}
 use Rattle.isle_lint_core.proofs.expressions.+shadowed.Goals as goal

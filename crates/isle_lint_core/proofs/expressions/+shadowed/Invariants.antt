@@ -2,7 +2,7 @@ use Rattle.std.proofs.Common.{◌≡◌, ◌++◌, drop}
 use Rattle.isle_ast_rules.specs.TreeView.{expression_list_of, expressions_of, let_list_of, single_lets_of}
 use Rattle.isle_lint_core.specs.Names.{names_at}
 use Rattle.isle_lint_core.specs.Shadowed.{let_shadowed, list_shadowed}
-use Rattle.isle_lint_core.specs.Unknown.{let_names}
+use Rattle.isle_lint_core.specs.Shadowed.{let_names}
 use Rattle.isle_lint_core.proofs.expressions.+shadowed.Given as goal
 
 -- those found, and those of the expressions to come, are all; the names bound stay

@@ -1,5 +1,0 @@
-use Rattle.std.proofs.Common.{rules, tests}
-use Rattle.isle_lint_core.proofs.definitions.rule_name.Goals as goal
-
-pub returns-in-Rule : goal.returns-in-Rule
-returns-in-Rule c = search (tests, rules)
