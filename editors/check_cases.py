@@ -10,7 +10,6 @@ WRONG_TYPE = "error 1:15 term-type Mismatched types: expression expects type 'T'
 GONE = "error 1:15 unknown-term Unknown term in expression: 'made'"
 ARGUMENTS = "(rule (lower x) (shared x x))\n"
 COUNT = "error 2:17 argument-count Incorrect argument count for term 'shared': got 2, expect 1"
-ARITY = "warning 4:19 wrong-arity wrong number of arguments of term 'shared'"
 LOWER = "(decl lower (T) T)\n"
 ABSENT = TOML.replace(', "made/absent.isle"', "")
 
@@ -85,7 +84,7 @@ CHECKED = [
             ARM_FILE: LOWER + "(rule (lower x) x)\n",
             "isle.toml": ABSENT,
         },
-        [("open", "prelude.isle"), ("diagnostics", "prelude.isle", COUNT.replace("2:17", "4:18"), ARITY)],
+        [("open", "prelude.isle"), ("diagnostics", "prelude.isle", COUNT.replace("2:17", "4:18"))],
     ),
     Case(
         "checking: a program that lacks a file is not checked",

@@ -1,4 +1,3 @@
-pub mod ReadTexts
 pub mod Readings
 pub mod Results
 pub mod Sent

@@ -3,7 +3,7 @@ use Rattle.std.proofs.lemmas.Result.{IfOk-weaker}
 use Rattle.isle_ast.specs.TreeView.{definitions_of}
 use Rattle.isle_lsp_features.specs.Programs.{text_of}
 use Rattle.isle_lsp.specs.Checked.{sources_of}
-use Rattle.isle_lsp.proofs.ReadTexts.{reading-plain}
+use Rattle.isle_program.proofs.WritableLemmas.{reading-plain}
 use Rattle.isle_lsp.proofs.checked.diagnostics_of_reading.Goals as goal
 
 pub diagnostics_in-requires : goal.diagnostics_in-requires
