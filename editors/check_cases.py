@@ -11,6 +11,8 @@ GONE = "error 1:15 unknown-term Unknown term in expression: 'made'"
 ARGUMENTS = "(rule (lower x) (shared x x))\n"
 COUNT = "error 2:17 argument-count Incorrect argument count for term 'shared': got 2, expect 1"
 LOWER = "(decl lower (T) T)\n"
+ONLY = "(decl only (T) T)\n(extern constructor only only)\n"
+NOT_THERE = "error 4:18 unknown-term Unknown term in expression: 'only'"
 ABSENT = TOML.replace(', "made/absent.isle"', "")
 
 CHECKED = [
@@ -50,6 +52,43 @@ CHECKED = [
             ("open", "a.isle", DECLARED.replace("(decl made () U)", "(decl made () T)")),
             ("insert", "b.isle", "made", " "),
             ("diagnostics", "b.isle"),
+        ],
+    ),
+    Case(
+        "checking: what changes in one file is told of the other open ones of its program",
+        {"a.isle": DECLARED.replace("(decl made () U)", "(decl made () T)"), "b.isle": WRONG},
+        [
+            ("open", "b.isle"),
+            ("open", "a.isle"),
+            ("diagnostics", "b.isle"),
+            ("whole", "a.isle", DECLARED),
+            ("diagnostics", "a.isle"),
+            ("diagnostics", "b.isle", WRONG_TYPE),
+            ("close", "a.isle"),
+            ("diagnostics", "b.isle"),
+            ("open", "a.isle", DECLARED),
+            ("diagnostics", "b.isle", WRONG_TYPE),
+        ],
+    ),
+    Case(
+        "checking: an open file of two programs, of which one changes",
+        {
+            "prelude.isle": PRELUDE + "(rule (shared x) (only x))\n",
+            X64_FILE: LOWER + "(rule (lower x) x)\n",
+            ARM_FILE: LOWER + "(rule (lower x) x)\n" + ONLY,
+            "isle.toml": ABSENT,
+        },
+        [
+            ("open", "prelude.isle"),
+            ("diagnostics", "prelude.isle", NOT_THERE),
+            ("open", ARM_FILE),
+            ("insert", ARM_FILE, "lower", " "),
+            ("diagnostics", "prelude.isle", NOT_THERE),
+            ("open", X64_FILE, LOWER + "(rule (lower x) x)\n" + ONLY),
+            ("diagnostics", "prelude.isle"),
+            ("whole", ARM_FILE, LOWER + "(rule (lower x) x)\n"),
+            ("diagnostics", "prelude.isle", NOT_THERE),
+            ("diagnostics", X64_FILE),
         ],
     ),
     Case(

@@ -1,5 +1,6 @@
 -- One message more of a conversation.
-use Rattle.std.proofs.Common.{◌≡◌, ◌≢◌, ℕ, List, [], ◌∷◌, ◌++◌, length, true, false, Option, None, Some, Result, Ok, Err, IfOk, OnOk, String, option_map, option_to_list, string_bytes, refl, sym, ◌∙◌, ap, subst, inl, inr, ◌⊎◌, arith, append_assoc, append-nil}
+use Rattle.std.proofs.Common.{◌≡◌, ◌≢◌, ℕ, List, [], ◌∷◌, ◌++◌, length, true, false, Option, None, Some, Result, Ok, Err, IfOk, OnOk, String, map, string_bytes, refl, sym, ◌∙◌, ap, subst, inl, inr, ◌⊎◌, arith, append_assoc, append-nil}
+use Rattle.std.specs.Global.{Vec}
 use Rattle.std.specs.Io.KnownBytes.{Appends}
 use Rattle.std.proofs.KnownBytes.{Appends-trans}
 use Rattle.std.proofs.lemmas.List.{take_all}
@@ -32,7 +33,7 @@ appends_none None = tt
 appends_none (Some x) = sym (append-nil x)
 
 -- what is done with a message
-pub prepared : {E : Type 0} (old new : Held) (body : List ℕ) (json : Option Data) (state : State) (action : Action) (opened view : View) (moments : List Moment) (middle left : Option (List Moment)) (r : Result (Option (String Global)) E) → Decodes body json → state ≡ next_state old.state (message_in json) → action ≡ action_of old.state (message_in json) → ShowsWithin (asked_first action json) moments middle opened → new.state ≡ state → new.documents ≡ documents_after action json opened old.documents → new.folders ≡ folders_after action json old.folders → new.takes_document_changes ≡ takes_after action json old.takes_document_changes → ((between : List Moment) → middle ≡ Some between → ShowsWithin (asked action json new) between left view) → IfOk r (λ sent. Sends action json new view (option_map string_bytes sent)) → IfOk r (λ sent. AnswersWithin old moments body new left (option_map string_bytes sent))
+pub prepared : {E : Type 0} (old new : Held) (body : List ℕ) (json : Option Data) (state : State) (action : Action) (opened view : View) (moments : List Moment) (middle left : Option (List Moment)) (r : Result (Vec (String Global)) E) → Decodes body json → state ≡ next_state old.state (message_in json) → action ≡ action_of old.state (message_in json) → ShowsWithin (asked_first action json) moments middle opened → new.state ≡ state → new.documents ≡ documents_after action json opened old.documents → new.folders ≡ folders_after action json old.folders → new.takes_document_changes ≡ takes_after action json old.takes_document_changes → ((between : List Moment) → middle ≡ Some between → ShowsWithin (asked action json new) between left view) → IfOk r (λ sent. Sends action json new view (map string_bytes sent.items)) → IfOk r (λ sent. AnswersWithin old moments body new left (map string_bytes sent.items))
 prepared old new body json state action opened view moments middle left (Ok sent) d s t opens n docs folders takes shows sends =
     let last = shows opens.0 opens.1 in (
       last.0,
@@ -49,17 +50,17 @@ prepared old new body json state action opened view moments middle left (Ok sent
         folders = folders ∙ ap (λ u. folders_after u json old.folders) t;
         takes = takes ∙ ap (λ u. takes_after u json old.takes_document_changes) t;
         shows = subst (λ u. Shows (asked u json new) opens.0 last.0 view) t last.2;
-        sends = subst (λ u. Sends u json new view (option_map string_bytes sent)) t sends;
+        sends = subst (λ u. Sends u json new view (map string_bytes sent.items)) t sends;
       },
     )
 prepared old new body json state action opened view moments middle left (Err e) d s t opens n docs folders takes shows sends = tt
 
--- the answer is written, or a beginning of it
-pub answers_as : (old new : Held) (moments : List Moment) (left : Option (List Moment)) (body text : List ℕ) (before after : Option (List ℕ)) → AnswersWithin old moments body new left (Some text) → Appends before after (frame text) → AnswersAs old moments body new left before after
-answers_as old new moments left body text before after a w = (Some text, a, subst (Appends before after) (sym (append-nil (frame text))) w)
+-- what is sent is written, or a beginning of it
+pub answers_as : (old new : Held) (moments : List Moment) (left : Option (List Moment)) (body : List ℕ) (sent : List (List ℕ)) (before after : Option (List ℕ)) → AnswersWithin old moments body new left sent → Appends before after (frames sent) → AnswersAs old moments body new left before after
+answers_as old new moments left body sent before after a w = (sent, a, w)
 
-pub stops_at : (old new : Held) (moments : List Moment) (left : Option (List Moment)) (body text : List ℕ) (before after : Option (List ℕ)) → AnswersWithin old moments body new left (Some text) → AppendsBeginning before after (frame text) → StopsAt old moments body before after
-stops_at old new moments left body text before after a w = inr (new, a.0, Some text, a.2, subst (AppendsBeginning before after) (sym (append-nil (frame text))) w)
+pub stops_at : (old new : Held) (moments : List Moment) (left : Option (List Moment)) (body : List ℕ) (sent : List (List ℕ)) (before after : Option (List ℕ)) → AnswersWithin old moments body new left sent → AppendsBeginning before after (frames sent) → StopsAt old moments body before after
+stops_at old new moments left body sent before after a w = inr (new, a.0, sent, a.2, w)
 
 -- after `exit` the conversation is over
 pub over : (state : State) (input : Option (List ℕ)) → has_exited state ≡ true → IsOver state input
@@ -97,11 +98,11 @@ module _ (world : World) (old : Held) (input : Option (List ℕ)) (disk : Option
       let m = more so_far.rest.moments so_far.shown in
       record {
         rest = record { bytes = r.0; moments = m.1.0 };
-        texts = so_far.texts ++ option_to_list m.0;
+        texts = so_far.texts ++ m.0;
         left = r.1;
         shown = m.1.1;
         conversation = answered so_far.conversation goes_on r.2 m.1.2;
-        written = subst (Appends before after') (sym (frames-append so_far.texts (option_to_list m.0))) (Appends-trans before after after' _ _ so_far.written m.2);
+        written = subst (Appends before after') (sym (frames-append so_far.texts m.0)) (Appends-trans before after after' _ _ so_far.written m.2);
       }
 
   pub ran : Ran world old.state input before after
@@ -127,9 +128,9 @@ module _ (world : World) (old : Held) (input : Option (List ℕ)) (disk : Option
       record {
         held = part.0;
         rest = record { bytes = r.0; moments = part.1 };
-        texts = so_far.texts ++ option_to_list part.2;
+        texts = so_far.texts ++ part.2;
         conversation = answered so_far.conversation goes_on r.2 part.3;
-        written = subst (AppendsBeginning before after') (sym (frames-append so_far.texts (option_to_list part.2))) (AppendsBeginning-behind before after after' (frames so_far.texts) (frames (option_to_list part.2)) so_far.written part.4);
+        written = subst (AppendsBeginning before after') (sym (frames-append so_far.texts part.2)) (AppendsBeginning-behind before after after' (frames so_far.texts) (frames part.2) so_far.written part.4);
       }
 
   short : (fault : FrameFault) → frame_at so_far.rest.bytes ≡ Err fault → IsShort world before after

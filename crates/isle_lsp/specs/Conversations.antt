@@ -1,5 +1,5 @@
 -- Whole conversations: which bytes are written for the bytes that are read and for what the disk shows.
-use Rattle.std.specs.Prelude.{◌≡◌, ◌≢◌, ◌⊎◌, ℕ, List, [], ◌∷◌, ◌++◌, Bool, true, false, Option, Some, Ok, Err, option_to_list}
+use Rattle.std.specs.Prelude.{◌≡◌, ◌≢◌, ◌⊎◌, ℕ, List, [], ◌∷◌, ◌++◌, Bool, true, false, Option, Some, Ok, Err}
 use Rattle.std.specs.Io.KnownBytes.{Appends}
 use Rattle.serde_json.specs.Data.{Data}
 use Rattle.isle_cli.specs.Failure.{status_of}
@@ -16,9 +16,9 @@ use Rattle.isle_lsp_protocol.specs.Decoding.{Decodes, message_in}
 use Rattle.isle_lsp_files.specs.Disks.{Asked, Moment, View}
 use Rattle.isle_lsp.specs.Serving.{Held, Sends, Shows, asked, asked_first, documents_after, folders_after, takes_after}
 
--- The message changes the server's state from old to new, and this is sent, if anything. What each of both needs of the disk, the disk shows at
+-- The message changes the server's state from old to new, and these messages are sent. What each of both needs of the disk, the disk shows at
 -- the next moment.
-pub record Answers (old : Held) (moments : List Moment) (body : List ℕ) (new : Held) (later : List Moment) (sent : Option (List ℕ)) : Type 0 where
+pub record Answers (old : Held) (moments : List Moment) (body : List ℕ) (new : Held) (later : List Moment) (sent : List (List ℕ)) : Type 0 where
   pub json : Option Data
   pub between : List Moment
   pub opened : View
@@ -56,9 +56,9 @@ has_exited Aborted = true
 -- From this world, one message after another was answered, and these texts were sent; this is left of it. After `exit` no message is read.
 pub data Conversation (world : World) : Held → World → List (List ℕ) → Type 0 where
   begun : Conversation world nothing world []
-  answered : {old : Held} {rest : World} {texts : List (List ℕ)} {body after : List ℕ} {new : Held} {later : List Moment} {sent : Option (List ℕ)} →
+  answered : {old : Held} {rest : World} {texts : List (List ℕ)} {body after : List ℕ} {new : Held} {later : List Moment} {sent : List (List ℕ)} →
       Conversation world old rest texts → has_exited old.state ≡ false → frame_at rest.bytes ≡ Ok (Some body, after) → Answers old rest.moments body new later sent →
-      Conversation world new (record { bytes = after; moments = later }) (texts ++ option_to_list sent)
+      Conversation world new (record { bytes = after; moments = later }) (texts ++ sent)
 
 -- The conversation ended in this state; everything sent was written in full, and nothing else.
 pub record Ran (world : World) (state : State) (input before after : Option (List ℕ)) : Type 0 where
@@ -101,7 +101,7 @@ Converses world status input before after =
 -- ---- the moments that are left
 
 -- an answer with what is left of the moments
-abbrev pub AnswersWithin : Held → List Moment → List ℕ → Held → (left : Option (List Moment)) → (sent : Option (List ℕ)) → Type 0
+abbrev pub AnswersWithin : Held → List Moment → List ℕ → Held → (left : Option (List Moment)) → (sent : List (List ℕ)) → Type 0
 AnswersWithin old moments body new left sent = (later : List Moment) × (left ≡ Some later) × Answers old moments body new later sent
 
 -- a view of what is asked, with what is left of the moments
@@ -110,17 +110,17 @@ ShowsWithin question moments left view = (later : List Moment) × (left ≡ Some
 
 -- ---- one message
 
--- the message is answered, and the answer is written
+-- the message is answered, and all that is sent is written
 abbrev pub AnswersAs : Held → List Moment → List ℕ → Held → (left : Option (List Moment)) → (before after : Option (List ℕ)) → Type 0
 AnswersAs old moments body new left before after =
-    (sent : Option (List ℕ)) × AnswersWithin old moments body new left sent × Appends before after (frames (option_to_list sent))
+    (sent : List (List ℕ)) × AnswersWithin old moments body new left sent × Appends before after (frames sent)
 
--- nothing is written, or a prefix of the answer
+-- nothing is written, or a prefix of what is sent
 abbrev pub StopsAt : Held → List Moment → List ℕ → (before after : Option (List ℕ)) → Type 0
 StopsAt old moments body before after =
     AppendsBeginning before after []
-    ⊎ ((new : Held) × (later : List Moment) × (sent : Option (List ℕ)) × Answers old moments body new later sent
-    × AppendsBeginning before after (frames (option_to_list sent)))
+    ⊎ ((new : Held) × (later : List Moment) × (sent : List (List ℕ)) × Answers old moments body new later sent
+    × AppendsBeginning before after (frames sent))
 
 -- the input is rejected, or memory ran out
 abbrev pub IsRefusal : Failure → Type 0

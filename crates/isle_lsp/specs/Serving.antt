@@ -1,9 +1,9 @@
 -- The server's handling of a message.
-use Rattle.std.specs.Prelude.{◌≡◌, ℕ, List, [], ◌∷◌, ◌++◌, Bool, Option, None, Some, is_some, map, option_and_then, string_bytes}
+use Rattle.std.specs.Prelude.{◌≡◌, ℕ, List, [], ◌∷◌, ◌++◌, Bool, ◌&&◌, not, Option, None, Some, bytes_eq, filter, is_some, map, option_and_then, string_bytes}
 use Rattle.serde_json.specs.Data.{Data, null}
 use Rattle.isle_lsp_files.specs.Disks.{Asked, Moment, View, no_view}
 use Rattle.isle_lsp_files.specs.Documents.{Document, document, document_at, document_of, text_of, without}
-use Rattle.isle_lsp_files.specs.Texts.{program_of, programs_of}
+use Rattle.isle_lsp_files.specs.Texts.{is_together, program_of, programs_of}
 use Rattle.isle_lsp_protocol.specs.declared.machine.ErrorCode.TheVariants.{InvalidParams, MethodNotFound}
 use Rattle.isle_lsp_protocol.specs.declared.machine.Notification as notifications
 use Rattle.isle_lsp_protocol.specs.declared.machine.Notification.TheVariants.{DidOpen, DidChange, DidClose, DidChangeWorkspaceFolders}
@@ -60,10 +60,11 @@ asked_for Formatting question = None
 asked_for Unknown question = None
 asked_for request question = Some question
 
--- what is asked before the diagnostics of a document are published: nothing, unless it is opened or changed
+-- what is asked before diagnostics are published: nothing, unless a document is opened, changed or closed
 abbrev pub asked_at : notifications.Notification → Asked → Option Asked
 asked_at DidOpen question = Some question
 asked_at DidChange question = Some question
+asked_at DidClose question = Some question
 asked_at notification question = None
 
 -- what is asked of the disk before a message is sent, in the state after the action
@@ -153,27 +154,49 @@ abbrev pub takes_after : actions.Action → Option Data → Bool → Bool
 takes_after (Answer Initialize) (Some d) takes = parameters.takes_document_changes d
 takes_after action d takes = takes
 
--- the diagnostics of a document, or none if it is not open, are published: those of its text, and those of the programs that have its file, as
--- their files are open or as the disk shows them
-abbrev pub Publishes : List ℕ → List Document → View → Option (List ℕ) → Type 0
-Publishes uri docs view sent =
-    (text : List ℕ) × (sent ≡ Some text) × IsPublished uri (programs_of docs view) view.file (text_of uri docs) text
+-- the text publishes the diagnostics of a document, which is this file, or none if it is not open: those of its text, and those of the programs
+-- that have the file, as their files are open or as the disk shows them
+abbrev pub IsReport : List Document → View → (uri file text : List ℕ) → Type 0
+IsReport docs view uri file text = IsPublished uri (programs_of docs view file) file (text_of uri docs) text
 
-abbrev pub Reports : notifications.Notification → List ℕ → List Document → View → Option (List ℕ) → Type 0
+-- the other open documents that are in a program with the file of the one that a message names
+abbrev pub is_other : (uri : List ℕ) → View → Document → Bool
+is_other uri view d = not (bytes_eq d.uri uri) && is_together view d.file
+
+abbrev pub others : (uri : List ℕ) → View → List Document → List Document
+others uri view docs = filter (is_other uri view) docs
+
+-- the diagnostics of each of these documents are published
+abbrev pub AreReports : List Document → View → (reported : List Document) → (sent : List (List ℕ)) → Type 0
+AreReports docs view [] sent = sent ≡ []
+AreReports docs view (d ∷ ds) sent =
+    (text : List ℕ) × (more : List (List ℕ)) × (sent ≡ text ∷ more) × IsReport docs view d.uri d.file text × AreReports docs view ds more
+
+-- the diagnostics of the document that a message names are published, and then those of the others
+abbrev pub Publishes : List ℕ → List Document → View → List (List ℕ) → Type 0
+Publishes uri docs view sent =
+    (text : List ℕ) × (more : List (List ℕ)) × (sent ≡ text ∷ more) × IsReport docs view uri view.file text
+    × AreReports docs view (others uri view docs) more
+
+abbrev pub Reports : notifications.Notification → List ℕ → List Document → View → List (List ℕ) → Type 0
 Reports DidOpen uri docs view sent = Publishes uri docs view sent
 Reports DidChange uri docs view sent = Publishes uri docs view sent
 Reports DidClose uri docs view sent = Publishes uri docs view sent
-Reports _ uri docs view sent = sent ≡ None
+Reports _ uri docs view sent = sent ≡ []
 
-abbrev pub ReportsNamed : notifications.Notification → Option (List ℕ) → List Document → View → Option (List ℕ) → Type 0
-ReportsNamed notification None docs view sent = sent ≡ None
+abbrev pub ReportsNamed : notifications.Notification → Option (List ℕ) → List Document → View → List (List ℕ) → Type 0
+ReportsNamed notification None docs view sent = sent ≡ []
 ReportsNamed notification (Some uri) docs view sent = Reports notification uri docs view sent
 
 -- ---- messages to the client
 
--- the message that an action sends, with the state after it and what the disk showed
-abbrev pub Sends : actions.Action → Option Data → Held → View → Option (List ℕ) → Type 0
-Sends Ignore d held view sent = sent ≡ None
-Sends (Reject c) d held view sent = (text : List ℕ) × (sent ≡ Some text) × IsTextOf (replies.error_response (reply_id d) c (reason_of c)) text
-Sends (Answer request) d held view sent = (text : List ℕ) × (sent ≡ Some text) × (o : Outcome) × IsResultOf request d held view o × IsTextOf (reply (reply_id d) o) text
+-- the text replies to a request
+abbrev pub IsReply : requests.Request → Option Data → Held → View → (text : List ℕ) → Type 0
+IsReply request d held view text = (o : Outcome) × IsResultOf request d held view o × IsTextOf (reply (reply_id d) o) text
+
+-- the messages that an action sends, with the state after it and what the disk showed
+abbrev pub Sends : actions.Action → Option Data → Held → View → List (List ℕ) → Type 0
+Sends Ignore d held view sent = sent ≡ []
+Sends (Reject c) d held view sent = (text : List ℕ) × (sent ≡ text ∷ []) × IsTextOf (replies.error_response (reply_id d) c (reason_of c)) text
+Sends (Answer request) d held view sent = (text : List ℕ) × (sent ≡ text ∷ []) × IsReply request d held view text
 Sends (Handle notification) d held view sent = ReportsNamed notification (option_and_then parameters.uri_of d) held.documents view sent

@@ -1,25 +1,17 @@
 //! What the check of programs tells of one of their files.
 
-ghost use Rattle.std.specs.Prelude.{◌≡◌, ◌≤◌, ◌++◌, [], IfErr, IfOk, OnOk, false, length, map};
-ghost use Rattle.isle_ast.specs.MacroArgs.{definitions_have_macro_arg};
-ghost use Rattle.isle_ast.specs.TreeView.{definitions_of};
-ghost use Rattle.isle_cli.specs.Sources.{source_of};
+ghost use Rattle.std.specs.Prelude.{◌≡◌, ◌≤◌, ◌++◌, [], IfErr, IfOk, OnOk, length, map};
 ghost use Rattle.isle_cli.specs.declared.failure.Failure.TheVariants.{Memory};
-ghost use Rattle.isle_check_core.specs.Views.{finding_of, findings_of};
 ghost use Rattle.isle_lsp_features.specs.Programs.{text_of};
-ghost use Rattle.isle_program.specs.Reading.{IsReading};
 ghost use Rattle.isle_lsp.specs.Checked as wanted;
-ghost use Rattle.isle_lsp.specs.Checked.{AreChecked, AreProgramMarks};
+ghost use Rattle.isle_lsp.specs.Checked.{AreChecked, AreProgramMarks, told_of};
 ghost use Rattle.isle_lsp.specs.Marks.{mark_of};
 
+use crate::checks::{Checks, Told};
 use crate::diagnostics::{Diagnostic, Finder};
-use isle_ast::ast::Def;
 use isle_base::lexer::{Pos, symbol_end};
-use isle_check_core::{Finding, check};
 use isle_cli::failure::Failure;
-use isle_cli::sources::Source;
 use isle_lsp_features::Text;
-use isle_program::trees::{Reading, drop_reading, read_all, refused_count};
 use std::alloc::{AllocError, Global};
 
 /// The diagnostics of what `isle-check` finds in these programs in one of their files, which has
@@ -27,6 +19,7 @@ use std::alloc::{AllocError, Global};
 /// tell stands once. The only error is `Memory`.
 pub fn check_diagnostics(
     alloc: Global,
+    checks: &mut Checks,
     programs: &[Vec<Text>],
     file: &str,
     text: &str,
@@ -37,7 +30,7 @@ pub fn check_diagnostics(
 {
     let mut diagnostics = Vec::new(alloc);
     for program in programs {
-        let more = program_diagnostics(alloc, program, file, text)?;
+        let more = program_diagnostics(alloc, checks, program, file, text)?;
         add_each_once(&mut diagnostics, &more)?;
     }
     Ok(diagnostics)
@@ -46,6 +39,7 @@ pub fn check_diagnostics(
 /// The diagnostics of what is found in one program.
 fn program_diagnostics(
     alloc: Global,
+    checks: &mut Checks,
     program: &[Text],
     file: &str,
     text: &str,
@@ -54,113 +48,45 @@ fn program_diagnostics(
         text.now (map mark_of found.items)) }
     ensures err { IfErr result (λ failure. failure ≡ Memory) }
 {
-    let sources = sources_of(alloc, program)?;
-    let reading = read_all(alloc, &sources)?;
-    let found = diagnostics_of_reading(alloc, program, file, text, &reading);
-    drop_reading(reading);
-    Ok(found?)
+    let checked = checks.take(alloc, program)?;
+    let found = finding_diagnostics(alloc, program, file, text, checked.all())?;
+    checks.put(checked)?;
+    Ok(found)
 }
 
-/// The texts of a program, without names.
-fn sources_of(alloc: Global, program: &[Text]) -> Result<Vec<Source>, AllocError>
-    ensures { IfOk result (λ sources. map source_of sources.items
-        ≡ wanted.sources_of (map text_of program.now)) }
-{
-    let mut sources = Vec::new(alloc);
-    for source in program {
-        sources.push(Source {
-            name: String::new(alloc),
-            text: String::from_str(alloc, source.text)?,
-        })?;
-    }
-    Ok(sources)
-}
-
-/// The diagnostics of what is found in a program that is parsed.
-fn diagnostics_of_reading(
-    alloc: Global,
-    program: &[Text],
-    file: &str,
-    text: &str,
-    reading: &Reading,
-) -> Result<Vec<Diagnostic>, AllocError>
-    requires { IsReading (wanted.sources_of (map text_of program.now))
-        (definitions_of reading.now.defs.items) reading.now.refusals.items }
-    ensures { IfOk result (λ found. AreProgramMarks (map text_of program.now) file.now
-        text.now (map mark_of found.items)) }
-{
-    diagnostics_in(alloc, program, file, text, reading)
-}
-
-fn diagnostics_in(
-    alloc: Global,
-    program: &[Text],
-    file: &str,
-    text: &str,
-    reading: &Reading,
-) -> Result<Vec<Diagnostic>, AllocError>
-    requires { definitions_have_macro_arg (definitions_of reading.now.defs.items) ≡ false }
-    ensures { IfOk result (λ found. map mark_of found.items
-        ≡ wanted.reading_marks (map text_of program.now) file.now text.now
-        (definitions_of reading.now.defs.items) reading.now.refusals.items) }
-{
-    if refused_count(&reading.refusals) != 0 {
-        return Ok(Vec::new(alloc));
-    }
-    checked_diagnostics(alloc, program, file, text, &reading.defs)
-}
-
-/// The diagnostics of what is found in these definitions, all of a program.
-fn checked_diagnostics(
-    alloc: Global,
-    program: &[Text],
-    file: &str,
-    text: &str,
-    defs: &[Def],
-) -> Result<Vec<Diagnostic>, AllocError>
-    requires { definitions_have_macro_arg (definitions_of defs.now) ≡ false }
-    ensures { IfOk result (λ found. map mark_of found.items
-        ≡ wanted.definition_marks (map text_of program.now) file.now text.now
-        (definitions_of defs.now)) }
-{
-    let found = check(alloc, defs)?;
-    finding_diagnostics(alloc, program, file, text, &found)
-}
-
-/// The diagnostics of those findings that are in a file.
+/// The diagnostics of what is told in a file.
 fn finding_diagnostics(
     alloc: Global,
     program: &[Text],
     file: &str,
     text: &str,
-    found: &[Finding],
+    all: &[Told],
 ) -> Result<Vec<Diagnostic>, AllocError>
     ensures { IfOk result (λ diagnostics. map mark_of diagnostics.items
-        ≡ wanted.marks_in (map text_of program.now) file.now text.now
-        (findings_of found.now)) }
+        ≡ wanted.marks_in (map text_of program.now) file.now text.now (map told_of all.now)) }
 {
     let mut diagnostics = Vec::new(alloc);
-    for finding in found {
-        add_diagnostic(alloc, program, file, text, finding, &mut diagnostics)?;
+    for told in all {
+        add_diagnostic(alloc, program, file, text, told, &mut diagnostics)?;
     }
     Ok(diagnostics)
 }
 
-/// Adds the diagnostic of a finding, if it is in a file.
+/// Adds the diagnostic of what is told, if it is in a file.
 fn add_diagnostic(
     alloc: Global,
     program: &[Text],
     file: &str,
     text: &str,
-    finding: &Finding,
+    told: &Told,
     diagnostics: &mut Vec<Diagnostic>,
 ) -> Result<(), AllocError>
     ensures { OnOk result (map mark_of diagnostics.new.items
         ≡ map mark_of diagnostics.old.items ++ wanted.marks_for (map text_of program.now)
-        file.now text.now (finding_of finding.now)) }
+        file.now text.now (told_of told.now)) }
 {
-    if is_in(program, file, finding.pos) {
-        diagnostics.push(checked_diagnostic(alloc, text, finding)?)?;
+    if is_in(program, file, told.pos) {
+        diagnostics.push(checked_diagnostic(alloc, text, told)?)?;
     }
     Ok(())
 }
@@ -175,25 +101,20 @@ fn is_in(program: &[Text], file: &str, pos: Pos) -> bool
     }
 }
 
-/// The diagnostic of a finding, cut at the end of the text.
-fn checked_diagnostic(
-    alloc: Global,
-    text: &str,
-    finding: &Finding,
-) -> Result<Diagnostic, AllocError>
+/// The diagnostic of what is told, cut at the end of the text.
+fn checked_diagnostic(alloc: Global, text: &str, told: &Told) -> Result<Diagnostic, AllocError>
     ensures { IfOk result
-        (λ diagnostic. mark_of diagnostic ≡ wanted.checked_mark text.now (finding_of finding.now)) }
+        (λ diagnostic. mark_of diagnostic ≡ wanted.checked_mark text.now (told_of told.now)) }
 {
-    let words = finding.kind.words(alloc)?;
-    let start = finding.pos.offset.min(text.len());
+    let start = told.pos.offset.min(text.len());
     Ok(Diagnostic {
         start,
         end: part_end(text, start),
         finder: Finder::Check {
-            is_error: finding.kind.is_error(),
-            kind: words.name,
+            is_error: told.is_error,
+            kind: told.kind,
         },
-        message: words.message,
+        message: String::from_str(alloc, told.message.as_str())?,
     })
 }
 

@@ -1,23 +1,23 @@
 //! The main loop of a session with an editor, over any reader and any two writers.
 
 ghost use Rattle.std.specs.Prelude.{◌≡◌, ◌≢◌, ◌⊎◌, ◌≤◌, ℕ, IfErr, IfOk, List, OnErr, OnOk, Some};
-ghost use Rattle.std.specs.Prelude.{option_map, string_bytes};
-ghost use Rattle.std.specs.Io.KnownBytes.{Keeps};
+ghost use Rattle.std.specs.Prelude.{map, option_map, string_bytes};
+ghost use Rattle.std.specs.Io.KnownBytes.{Appends, Keeps};
 ghost use Rattle.serde_json.specs.View.{view};
 ghost use Rattle.isle_cli.specs.declared.failure.Failure.TheVariants.{Memory, Output, Usage};
-ghost use Rattle.isle_cli.specs.Streams.{WritesBeginning};
+ghost use Rattle.isle_cli.specs.Streams.{AppendsBeginning, WritesBeginning};
 ghost use Rattle.isle_lsp.specs.CommandLine.{IsFailureText};
 ghost use Rattle.isle_lsp.specs.Conversations.{AnswersAs, AnswersWithin, Converses, EndsAs};
 ghost use Rattle.isle_lsp.specs.Conversations.{Explains, FromFault, IsEarly, IsOver, IsRefusal};
-ghost use Rattle.isle_lsp.specs.Conversations.{Ran, ShowsWithin, StopsAt, World, has_exited};
+ghost use Rattle.isle_lsp.specs.Conversations.{Ran, ShowsWithin, StopsAt, World, frames};
+ghost use Rattle.isle_lsp.specs.Conversations.{has_exited};
 ghost use Rattle.isle_lsp_files.specs.Disks.{Moment, view_of};
 ghost use Rattle.isle_lsp.specs.Serving.{asked, asked_first, held_of, named_uri};
 
 use crate::program::PROGRAM;
-use crate::server::{Server, note, perform};
+use crate::server::{Kept, Server, note, perform};
 use isle_cli::failure::Failure;
 use isle_cli::program::report;
-use isle_lsp_features::Gathered;
 use isle_lsp_files::disk::{Disk, View};
 use isle_lsp_frames::{FrameFault, read_frame, write_frame};
 use isle_lsp_protocol::decoding::{decode, message_in};
@@ -103,14 +103,14 @@ fn main_loop<D: Disk, I: BufRead, W: Write>(
     ensures kind { IfErr result (λ failure. failure ≢ Usage) }
 {
     let mut server = Server::new(alloc);
-    let mut gathered = Gathered::new(alloc);
+    let mut kept = Kept::new(alloc);
     for _ in 0..u64::MAX {
         let body = match read_frame(alloc, input) {
             Ok(Some(body)) => body,
             Ok(None) => return Ok(server.state),
             Err(fault) => return Err(failure_of(alloc, fault)),
         };
-        answer_message(alloc, disk, &mut server, &mut gathered, body, output)?;
+        answer_message(alloc, disk, &mut server, &mut kept, body, output)?;
         if has_exited(server.state) {
             return Ok(server.state);
         }
@@ -128,12 +128,12 @@ fn has_exited(state: State) -> bool
     }
 }
 
-/// Handles a message, and writes the answer, if any.
+/// Handles a message, and writes what it sends.
 fn answer_message<D: Disk, W: Write>(
     alloc: Global,
     disk: &mut D,
     server: &mut Server,
-    gathered: &mut Gathered,
+    kept: &mut Kept,
     body: Vec<u8>,
     output: &mut W,
 ) -> Result<(), Failure>
@@ -145,23 +145,38 @@ fn answer_message<D: Disk, W: Write>(
         (W.contents output.old) (W.contents output.new)) }
     ensures kind { IfErr result (λ failure. (failure ≡ Memory) ⊎ (failure ≡ Output)) }
 {
-    match handle_message(alloc, disk, server, gathered, body)? {
-        Some(text) => write_frame(alloc, output, text.as_bytes()),
-        None => Ok(()),
+    let sent = handle_message(alloc, disk, server, kept, body)?;
+    write_frames(alloc, output, &sent)
+}
+
+/// Writes messages, each with its header.
+fn write_frames<W: Write>(alloc: Global, output: &mut W, texts: &[String]) -> Result<(), Failure>
+    ensures ok { OnOk result (Appends (W.contents output.old) (W.contents output.new)
+        (frames (map string_bytes texts.now))) }
+    ensures part { OnErr result (AppendsBeginning (W.contents output.old)
+        (W.contents output.new) (frames (map string_bytes texts.now))) }
+    ensures kind { IfErr result (λ failure. (failure ≡ Memory) ⊎ (failure ≡ Output)) }
+{
+    match texts {
+        [] => Ok(()),
+        [text, more @ ..] => {
+            write_frame(alloc, output, text.as_bytes())?;
+            write_frames(alloc, output, more)
+        }
     }
 }
 
-/// Handles a message, and returns the text to send, if any.
+/// Handles a message, and returns the texts to send.
 fn handle_message<D: Disk>(
     alloc: Global,
     disk: &mut D,
     server: &mut Server,
-    gathered: &mut Gathered,
+    kept: &mut Kept,
     body: Vec<u8>,
-) -> Result<Option<String>, Failure>
+) -> Result<Vec<String>, Failure>
     ensures ok { (moments : List Moment) → D.moments disk.old ≡ Some moments
         → IfOk result (λ sent. AnswersWithin (held_of server.old) moments body.items
-        (held_of server.new) (D.moments disk.new) (option_map string_bytes sent)) }
+        (held_of server.new) (D.moments disk.new) (map string_bytes sent.items)) }
     ensures err { IfErr result (λ failure. failure ≡ Memory) }
 {
     let message = decode(alloc, body.as_slice())?;
@@ -171,7 +186,7 @@ fn handle_message<D: Disk>(
     server.state = state;
     note(alloc, server, action, &message, &opened)?;
     let shown = view_for(alloc, disk, server, action, &message)?;
-    perform(alloc, server, gathered, action, &message, &shown)
+    perform(alloc, server, kept, action, &message, &shown)
 }
 
 /// What the disk shows of a document that an action opens: which file it is. It is not looked at for
@@ -211,9 +226,8 @@ fn view_for<D: Disk>(
             Request::Initialize | Request::Shutdown | Request::Formatting | Request::Unknown,
         ) => Ok(View::nothing(alloc)),
         Action::Answer(_) => disk.look(alloc, &server.folders, &server.documents, uri),
-        Action::Handle(Notification::DidOpen | Notification::DidChange) => {
-            disk.look(alloc, &server.folders, &server.documents, uri)
-        }
+        Action::Handle(Notification::DidOpen | Notification::DidChange | Notification::DidClose) =>
+            disk.look(alloc, &server.folders, &server.documents, uri),
         _ => Ok(View::nothing(alloc)),
     }
 }

@@ -18,6 +18,7 @@ ghost use Rattle.isle_lsp.specs.Diagnostics.{deep_mark, error_mark, found_mark, 
 ghost use Rattle.isle_lsp.specs.Marks.{mark_of};
 
 use crate::checked::check_diagnostics;
+use crate::checks::Checks;
 use isle_ast::ast::Def;
 use isle_base::lexer::Fault;
 use isle_base_source::error::Error;
@@ -67,6 +68,7 @@ const DEEP: &str = "more than 500 lists in one another, or '@' in one definition
 /// `isle-lint` without options, in order of position. The only error is `Memory`.
 pub fn diagnostics(
     alloc: Global,
+    checks: &mut Checks,
     programs: &[Vec<Text>],
     file: &str,
     text: &str,
@@ -77,7 +79,7 @@ pub fn diagnostics(
 {
     match deep_list(alloc, text)? {
         Some(offset) => Ok(deep_diagnostics(alloc, text, offset)?),
-        None => shallow_diagnostics(alloc, programs, file, text),
+        None => shallow_diagnostics(alloc, checks, programs, file, text),
     }
 }
 
@@ -102,6 +104,7 @@ fn deep_diagnostics(alloc: Global, text: &str, offset: usize) -> Result<Vec<Diag
 /// The diagnostics of a text that does not nest too deeply.
 fn shallow_diagnostics(
     alloc: Global,
+    checks: &mut Checks,
     programs: &[Vec<Text>],
     file: &str,
     text: &str,
@@ -113,7 +116,7 @@ fn shallow_diagnostics(
 {
     match read_defs(alloc, 0, text) {
         Ok(defs) => {
-            let found = tree_diagnostics(alloc, programs, file, text, &defs);
+            let found = tree_diagnostics(alloc, checks, programs, file, text, &defs);
             drop_definitions(defs);
             found
         }
@@ -125,6 +128,7 @@ fn shallow_diagnostics(
 /// The diagnostics of a text with these definitions.
 fn tree_diagnostics(
     alloc: Global,
+    checks: &mut Checks,
     programs: &[Vec<Text>],
     file: &str,
     text: &str,
@@ -135,7 +139,7 @@ fn tree_diagnostics(
         (definitions_of defs.now) (map mark_of found.items)) }
     ensures err { IfErr result (λ failure. failure ≡ Memory) }
 {
-    let mut found = check_diagnostics(alloc, programs, file, text)?;
+    let mut found = check_diagnostics(alloc, checks, programs, file, text)?;
     let mut lints = lint_diagnostics(alloc, text, defs)?;
     found.append(&mut lints)?;
     Ok(found)

@@ -2,11 +2,13 @@
 #![tactic(auto)]
 
 mod checked;
+mod checks;
 mod conversation;
 mod diagnostics;
 mod formatting;
 mod program;
 mod published;
+mod reports;
 mod server;
 
 pub use conversation::converse;

@@ -13,6 +13,7 @@ ghost use Rattle.isle_lsp.specs.Marks.{finder_of, mark_of};
 ghost use Rattle.isle_lsp.specs.Published.{IsPublished, diagnostics_data, mark_data};
 ghost use Rattle.isle_lsp.specs.Published.{parameters_data, diagnostic_data_at};
 
+use crate::checks::Checks;
 use crate::diagnostics::{Diagnostic, Finder, diagnostics};
 use isle_cli::failure::Failure;
 use isle_lsp_features::Text;
@@ -25,6 +26,7 @@ use std::alloc::{AllocError, Global};
 /// programs. Without a text there are none. The only error is `Memory`.
 pub fn publish_diagnostics(
     alloc: Global,
+    checks: &mut Checks,
     uri: &str,
     programs: &[Vec<Text>],
     file: &str,
@@ -37,7 +39,7 @@ pub fn publish_diagnostics(
 {
     match text {
         Some(text) => {
-            let found = diagnostics(alloc, programs, file, text)?;
+            let found = diagnostics(alloc, checks, programs, file, text)?;
             Ok(notification(alloc, uri, text, &found)?)
         }
         None => Ok(notification(alloc, uri, "", &[])?),

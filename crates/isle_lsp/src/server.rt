@@ -1,6 +1,6 @@
 //! The state of the server, and its handlers of messages.
 
-ghost use Rattle.std.specs.Prelude.{◌≡◌, IfErr, IfOk, OnOk, Some, map, option_and_then, option_map};
+ghost use Rattle.std.specs.Prelude.{◌≡◌, ◌∷◌, [], IfErr, IfOk, OnOk, map, option_map};
 ghost use Rattle.std.specs.Prelude.{string_bytes};
 ghost use Rattle.serde_json.specs.View.{view};
 ghost use Rattle.isle_cli.specs.declared.failure.Failure.TheVariants.{Memory};
@@ -12,18 +12,18 @@ ghost use Rattle.isle_lsp_protocol.specs.Parameters as parameters_of;
 ghost use Rattle.isle_lsp_protocol.specs.Replies as replies_of;
 ghost use Rattle.isle_lsp.specs.Conversations.{nothing};
 ghost use Rattle.isle_lsp.specs.Serving as serving;
-ghost use Rattle.isle_lsp.specs.Serving.{IsNamed, IsResult, IsResultOf, Publishes};
-ghost use Rattle.isle_lsp.specs.Serving.{Reports, Sends};
+ghost use Rattle.isle_lsp.specs.Serving.{IsNamed, IsReply, IsResult, IsResultOf, Sends};
 ghost use Rattle.isle_lsp.specs.Serving.{document_in, documents_after, documents_noted, held_of};
 ghost use Rattle.isle_lsp.specs.Serving.{documents_after_notification, folders_after, takes_after};
 
+use crate::checks::Checks;
 use crate::formatting::formatting;
-use crate::published::publish_diagnostics;
+use crate::reports::reports;
 use isle_cli::failure::Failure;
 use isle_lsp_features::{Gathered, Question};
 use isle_lsp_files::disk::View;
 use isle_lsp_files::documents::{Document, close, document_at, open, text_of};
-use isle_lsp_files::texts::{program_of, programs_of};
+use isle_lsp_files::texts::program_of;
 use isle_lsp_protocol::capabilities::initialize_result;
 use isle_lsp_protocol::machine::{Action, ErrorCode, Notification, Request, State};
 use isle_lsp_protocol::parameters::{takes_document_changes, text_after, uri_of, version_of};
@@ -55,6 +55,25 @@ impl Server {
             documents: Vec::new(alloc),
             folders: Vec::new(alloc),
             takes_document_changes: false,
+        }
+    }
+}
+
+/// What the server keeps from one message to the next, so that it does less. No answer depends on it.
+#[derive(Drop)]
+pub struct Kept {
+    /// The index of the program that was asked about last.
+    pub gathered: Gathered,
+    /// What was found in the programs that were checked last.
+    pub checks: Checks,
+}
+
+impl Kept {
+    /// Nothing is kept.
+    pub fn new(alloc: Global) -> Kept {
+        Kept {
+            gathered: Gathered::new(alloc),
+            checks: Checks::new(alloc),
         }
     }
 }
@@ -92,30 +111,49 @@ pub fn note(
     }
 }
 
-/// Performs a noted action on a message, with what the disk shows for it, and returns the text to
-/// send, if any. Keeps the index that it makes. The only error is `Memory`.
+/// Performs a noted action on a message, with what the disk shows for it, and returns the texts to
+/// send. The only error is `Memory`.
 pub fn perform(
     alloc: Global,
     server: &Server,
-    gathered: &mut Gathered,
+    kept: &mut Kept,
     action: Action,
     message: &Option<Value>,
     shown: &View,
-) -> Result<Option<String>, Failure>
+) -> Result<Vec<String>, Failure>
     ensures sends { IfOk result (λ sent. Sends action (option_map view message.now)
-        (held_of server.now) (view_of shown.now) (option_map string_bytes sent)) }
+        (held_of server.now) (view_of shown.now) (map string_bytes sent.items)) }
     ensures err { IfErr result (λ failure. failure ≡ Memory) }
 {
     match action {
-        Action::Ignore => Ok(None),
-        Action::Reject(code) => Ok(Some(error_response(alloc, message, code)?)),
+        Action::Ignore => Ok(Vec::new(alloc)),
+        Action::Reject(code) => Ok(one(alloc, error_response(alloc, message, code)?)?),
         Action::Handle(notification) => {
-            report_named(alloc, &server.documents, notification, message, shown)
+            let checks = &mut kept.checks;
+            reports(
+                alloc,
+                checks,
+                &server.documents,
+                notification,
+                message,
+                shown,
+            )
         }
         Action::Answer(request) => {
-            Ok(Some(response(alloc, server, gathered, request, message, shown)?))
+            let gathered = &mut kept.gathered;
+            let text = response(alloc, server, gathered, request, message, shown)?;
+            Ok(one(alloc, text)?)
         }
     }
+}
+
+/// One text to send.
+fn one(alloc: Global, text: String) -> Result<Vec<String>, AllocError>
+    ensures { IfOk result (λ sent. map string_bytes sent.items ≡ string_bytes text ∷ []) }
+{
+    let mut sent = Vec::new(alloc);
+    sent.push(text)?;
+    Ok(sent)
 }
 
 /// Learns the client's folders and capabilities.
@@ -211,68 +249,6 @@ fn note_for(
     }
 }
 
-/// The text to send after a noted notification, if any.
-fn report_named(
-    alloc: Global,
-    documents: &[Document],
-    notification: Notification,
-    message: &Option<Value>,
-    shown: &View,
-) -> Result<Option<String>, Failure>
-    ensures ok { IfOk result (λ sent. serving.ReportsNamed notification
-        (option_and_then parameters_of.uri_of (option_map view message.now))
-        (map document_of documents.now) (view_of shown.now) (option_map string_bytes sent)) }
-    ensures err { IfErr result (λ failure. failure ≡ Memory) }
-{
-    match message {
-        Some(message) => match uri_of(message) {
-            Some(uri) => report(alloc, documents, notification, uri, shown),
-            None => Ok(None),
-        },
-        None => Ok(None),
-    }
-}
-
-/// The text to send after a noted notification about a document, if any.
-fn report(
-    alloc: Global,
-    documents: &[Document],
-    notification: Notification,
-    uri: &str,
-    shown: &View,
-) -> Result<Option<String>, Failure>
-    ensures ok { IfOk result (λ sent. Reports notification uri.now
-        (map document_of documents.now) (view_of shown.now) (option_map string_bytes sent)) }
-    ensures err { IfErr result (λ failure. failure ≡ Memory) }
-{
-    match notification {
-        Notification::DidOpen | Notification::DidChange | Notification::DidClose => {
-            publish(alloc, documents, uri, shown)
-        }
-        Notification::Initialized
-        | Notification::Exit
-        | Notification::DidChangeWorkspaceFolders
-        | Notification::Other => Ok(None),
-    }
-}
-
-/// The text of the notification with the diagnostics of a document.
-fn publish(
-    alloc: Global,
-    documents: &[Document],
-    uri: &str,
-    shown: &View,
-) -> Result<Option<String>, Failure>
-    ensures ok { IfOk result (λ sent. Publishes uri.now (map document_of documents.now)
-        (view_of shown.now) (option_map string_bytes sent)) }
-    ensures err { IfErr result (λ failure. failure ≡ Memory) }
-{
-    let programs = programs_of(alloc, documents, shown)?;
-    let (file, text) = (shown.file.as_str(), text_of(documents, uri));
-    let sent = publish_diagnostics(alloc, uri, &programs, file, text)?;
-    Ok(Some(sent))
-}
-
 /// Opens the document in a message.
 fn did_open(
     alloc: Global,
@@ -325,8 +301,8 @@ fn response(
     message: &Option<Value>,
     shown: &View,
 ) -> Result<String, Failure>
-    ensures ok { IfOk result (λ text. Sends (Action.Answer request) (option_map view message.now)
-        (held_of server.now) (view_of shown.now) (Some (string_bytes text))) }
+    ensures ok { IfOk result (λ text. IsReply request (option_map view message.now)
+        (held_of server.now) (view_of shown.now) (string_bytes text)) }
     ensures err { IfErr result (λ failure. failure ≡ Memory) }
 {
     let id = reply_id(message)?;

@@ -63,9 +63,13 @@ is_whole texts files = list_all (λ file. is_some (text_at file texts)) files
 abbrev pub texts_in : List Text → (files : List (List ℕ)) → List Text
 texts_in texts files = flat_map (λ file. option_to_list (text_at file texts)) files
 
--- the programs that have the file that is asked about and whose files all have texts, each as its texts
-abbrev pub programs_in : View → List Text → List (List Text)
-programs_in view texts = map (texts_in texts) (filter (λ p. membership.has_file view.file p && is_whole texts p) view.programs)
+-- the programs that have this file and whose files all have texts, each as its texts
+abbrev pub programs_in : View → (file : List ℕ) → List Text → List (List Text)
+programs_in view file texts = map (texts_in texts) (filter (λ p. membership.has_file file p && is_whole texts p) view.programs)
 
-abbrev pub programs_of : List Document → View → List (List Text)
-programs_of docs view = programs_in view (all_texts docs view)
+abbrev pub programs_of : List Document → View → (file : List ℕ) → List (List Text)
+programs_of docs view file = programs_in view file (all_texts docs view)
+
+-- whether a program has both the file that is asked about and this one
+abbrev pub is_together : View → (file : List ℕ) → Bool
+is_together view file = list_any (λ p. membership.has_file view.file p && membership.has_file file p) view.programs

@@ -194,35 +194,51 @@ fn texts_beside<'a>(
     Ok(beside)
 }
 
-/// The programs that have the view's file, each as its texts. A program with a file that is not
-/// there or can't be read is left out.
+/// The programs that have a file, each as its texts. A program with a file that is not there or
+/// can't be read is left out.
 pub fn programs_of<'a>(
     alloc: Global,
     documents: &'a [Document],
     view: &'a View,
+    file: &str,
 ) -> Result<Vec<Vec<Text<'a>>>, AllocError>
     ensures { IfOk result (λ programs. map (λ p. map text_of p.items) programs.items
-        ≡ wanted.programs_of (map document_of documents.now) (view_of view.now)) }
+        ≡ wanted.programs_of (map document_of documents.now) (view_of view.now) file.now) }
 {
     let texts = all_texts(alloc, documents, view)?;
-    programs_in(alloc, view, &texts)
+    programs_in(alloc, view, file, &texts)
 }
 
 fn programs_in<'a>(
     alloc: Global,
     view: &View,
+    file: &str,
     texts: &[Text<'a>],
 ) -> Result<Vec<Vec<Text<'a>>>, AllocError>
     ensures { IfOk result (λ programs. map (λ p. map text_of p.items) programs.items
-        ≡ wanted.programs_in (view_of view.now) (map text_of texts.now)) }
+        ≡ wanted.programs_in (view_of view.now) file.now (map text_of texts.now)) }
 {
     let mut programs = Vec::new(alloc);
     for program in &view.programs {
-        if membership::has_file(program, view.file.as_str()) && is_whole(texts, program) {
+        if membership::has_file(program, file) && is_whole(texts, program) {
             programs.push(texts_in(alloc, texts, program)?)?;
         }
     }
     Ok(programs)
+}
+
+/// Returns whether a program has both the view's file and another one.
+pub fn is_together(view: &View, file: &str) -> bool
+    ensures { result ≡ wanted.is_together (view_of view.now) file.now }
+{
+    for program in &view.programs {
+        if membership::has_file(program, view.file.as_str())
+            && membership::has_file(program, file)
+        {
+            return true;
+        }
+    }
+    false
 }
 
 /// Returns whether each of these files has a text.

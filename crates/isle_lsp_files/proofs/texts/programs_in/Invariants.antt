@@ -8,4 +8,4 @@ abbrev pub invariant-loop-program : goal.invariant-loop-program
 invariant-loop-program l =
     map (λ p. map text_of p.items) l.programs.items
     ≡ map (texts_in (map text_of l.texts))
-    (filter (λ p. has_file (string_bytes l.view.file) p && is_whole (map text_of l.texts) p) (map (λ p. map string_bytes p.items) (take l.program-index l.view.programs.items)))
+    (filter (λ p. has_file l.file p && is_whole (map text_of l.texts) p) (map (λ p. map string_bytes p.items) (take l.program-index l.view.programs.items)))

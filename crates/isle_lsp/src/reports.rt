@@ -1,0 +1,140 @@
+//! The diagnostics that are sent after a notification: those of the document that it names, and
+//! those of the other open documents that are in a program with its file.
+
+ghost use Rattle.std.specs.Prelude.{◌≡◌, ◌&&◌, IfErr, IfOk, map, not, option_and_then, option_map};
+ghost use Rattle.std.specs.Prelude.{string_bytes};
+ghost use Rattle.serde_json.specs.View.{view};
+ghost use Rattle.isle_cli.specs.declared.failure.Failure.TheVariants.{Memory};
+ghost use Rattle.isle_lsp_files.specs.Disks.{view_of};
+ghost use Rattle.isle_lsp_files.specs.Documents.{document_of};
+ghost use Rattle.isle_lsp_protocol.specs.Parameters as parameters_of;
+ghost use Rattle.isle_lsp.specs.Serving as serving;
+ghost use Rattle.isle_lsp.specs.Serving.{AreReports, IsReport, Publishes, Reports};
+
+use crate::checks::Checks;
+use crate::published::publish_diagnostics;
+use isle_cli::failure::Failure;
+use isle_lsp_files::disk::View;
+use isle_lsp_files::documents::{Document, text_of};
+use isle_lsp_files::texts::{is_together, programs_of};
+use isle_lsp_protocol::machine::Notification;
+use isle_lsp_protocol::parameters::uri_of;
+use serde_json::Value;
+use std::alloc::Global;
+
+/// The texts to send after a noted notification. The only error is `Memory`.
+pub fn reports(
+    alloc: Global,
+    checks: &mut Checks,
+    documents: &[Document],
+    notification: Notification,
+    message: &Option<Value>,
+    shown: &View,
+) -> Result<Vec<String>, Failure>
+    ensures ok { IfOk result (λ sent. serving.ReportsNamed notification
+        (option_and_then parameters_of.uri_of (option_map view message.now))
+        (map document_of documents.now) (view_of shown.now) (map string_bytes sent.items)) }
+    ensures err { IfErr result (λ failure. failure ≡ Memory) }
+{
+    match message {
+        Some(message) => match uri_of(message) {
+            Some(uri) => report(alloc, checks, documents, notification, uri, shown),
+            None => Ok(Vec::new(alloc)),
+        },
+        None => Ok(Vec::new(alloc)),
+    }
+}
+
+/// The texts to send after a noted notification about a document.
+fn report(
+    alloc: Global,
+    checks: &mut Checks,
+    documents: &[Document],
+    notification: Notification,
+    uri: &str,
+    shown: &View,
+) -> Result<Vec<String>, Failure>
+    ensures ok { IfOk result (λ sent. Reports notification uri.now
+        (map document_of documents.now) (view_of shown.now) (map string_bytes sent.items)) }
+    ensures err { IfErr result (λ failure. failure ≡ Memory) }
+{
+    match notification {
+        Notification::DidOpen | Notification::DidChange | Notification::DidClose => {
+            publish_all(alloc, checks, documents, uri, shown)
+        }
+        Notification::Initialized
+        | Notification::Exit
+        | Notification::DidChangeWorkspaceFolders
+        | Notification::Other => Ok(Vec::new(alloc)),
+    }
+}
+
+/// The notifications with the diagnostics of a document and of the others.
+fn publish_all(
+    alloc: Global,
+    checks: &mut Checks,
+    documents: &[Document],
+    uri: &str,
+    shown: &View,
+) -> Result<Vec<String>, Failure>
+    ensures ok { IfOk result (λ sent. Publishes uri.now (map document_of documents.now)
+        (view_of shown.now) (map string_bytes sent.items)) }
+    ensures err { IfErr result (λ failure. failure ≡ Memory) }
+{
+    checks.renew(alloc);
+    let named = publish(alloc, checks, documents, uri, shown.file.as_str(), shown)?;
+    let mut others = publish_others(alloc, checks, documents, uri, shown)?;
+    let mut sent = Vec::new(alloc);
+    sent.push(named)?;
+    sent.append(&mut others)?;
+    Ok(sent)
+}
+
+/// The notifications with the diagnostics of the other open documents that are in a program with
+/// the view's file.
+fn publish_others(
+    alloc: Global,
+    checks: &mut Checks,
+    documents: &[Document],
+    uri: &str,
+    shown: &View,
+) -> Result<Vec<String>, Failure>
+    ensures ok { IfOk result (λ sent. AreReports (map document_of documents.now)
+        (view_of shown.now) (serving.others uri.now (view_of shown.now)
+        (map document_of documents.now)) (map string_bytes sent.items)) }
+    ensures err { IfErr result (λ failure. failure ≡ Memory) }
+{
+    let mut sent = Vec::new(alloc);
+    for document in documents {
+        if is_other(document, uri, shown) {
+            let (uri, file) = (document.uri.as_str(), document.file.as_str());
+            let text = publish(alloc, checks, documents, uri, file, shown)?;
+            sent.push(text)?;
+        }
+    }
+    Ok(sent)
+}
+
+/// Returns whether a document is not that of a URI, but in a program with the view's file.
+fn is_other(document: &Document, uri: &str, shown: &View) -> bool
+    ensures { result ≡ serving.is_other uri.now (view_of shown.now) (document_of document.now) }
+{
+    document.uri.as_str() != uri && is_together(shown, document.file.as_str())
+}
+
+/// The text of the notification with the diagnostics of a document, which is this file.
+fn publish(
+    alloc: Global,
+    checks: &mut Checks,
+    documents: &[Document],
+    uri: &str,
+    file: &str,
+    shown: &View,
+) -> Result<String, Failure>
+    ensures ok { IfOk result (λ text. IsReport (map document_of documents.now)
+        (view_of shown.now) uri.now file.now (string_bytes text)) }
+    ensures err { IfErr result (λ failure. failure ≡ Memory) }
+{
+    let programs = programs_of(alloc, documents, shown, file)?;
+    publish_diagnostics(alloc, checks, uri, &programs, file, text_of(documents, uri))
+}
