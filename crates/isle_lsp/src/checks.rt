@@ -64,6 +64,14 @@ impl Checked {
     {
         &self.all
     }
+
+    /// Returns whether the texts are those of a program.
+    fn is_of(&self, program: &[Text]) -> bool
+        ensures { result ≡ true
+            → AreTold (wanted.sources_of (map text_of program.now)) self.now.all }
+    {
+        are_sources(&self.sources, program)
+    }
 }
 
 /// The programs that are checked. What a program of the same texts had is not looked for anew.
@@ -96,10 +104,10 @@ impl Checks {
             AreTold (wanted.sources_of (map text_of program.now)) checked.all) }
         ensures err { IfErr result (λ failure. failure ≡ Memory) }
     {
-        if let Some(checked) = take_from(&mut self.current, program) {
+        if let Some(checked) = take_from(&mut self.current, program)? {
             return Ok(checked);
         }
-        if let Some(checked) = take_from(&mut self.last, program) {
+        if let Some(checked) = take_from(&mut self.last, program)? {
             return Ok(checked);
         }
         check_program(alloc, program)
@@ -112,20 +120,22 @@ impl Checks {
     }
 }
 
-/// Takes a program with these texts out of a list, if there is one.
-fn take_from(list: &mut Vec<Checked>, program: &[Text]) -> Option<Checked>
-    ensures { IfSome result (λ checked.
-        AreTold (wanted.sources_of (map text_of program.now)) checked.all) }
+/// Takes a program with these texts out of a list, if there is one. The others change places.
+fn take_from(list: &mut Vec<Checked>, program: &[Text]) -> Result<Option<Checked>, AllocError>
+    ensures { IfOk result (λ taken. IfSome taken (λ checked.
+        AreTold (wanted.sources_of (map text_of program.now)) checked.all)) }
 {
-    for at in 0..list.len() {
-        if list
-            .get(at)
-            .is_some_and(|checked| are_sources(&checked.sources, program))
-        {
-            return Some(list.remove(at));
+    for _ in 0..list.len() {
+        if list.is_empty() {
+            return Ok(None);
         }
+        let checked = list.remove(0);
+        if checked.is_of(program) {
+            return Ok(Some(checked));
+        }
+        list.push(checked)?;
     }
-    None
+    Ok(None)
 }
 
 /// Returns whether these are the texts of a program, without names.
