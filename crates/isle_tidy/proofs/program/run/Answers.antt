@@ -9,14 +9,14 @@ returns-in-Ok-Work-clause-unwritten g c =
     λ past whole none.
     let is = rw c.in-Ok-Work.field-0-is at c.in-Ok-Work.ensures.ok in
     let empty = without-names _ (map given_of c.in-Ok-Work.arguments.items) is (λ of. none (c.this_program-program.result, c.own_options-options.result, c.this_program-program.ensures, c.own_options-options.ensures, of)) in
-    c.work.ensures.unwritten past whole (ap (λ items. name_list (map given_of items)) c.deref.ensures.value ∙ empty)
+    c.work.ensures.unwritten past whole (ap (λ items. name_list (map given_of items)) (rw c.in-Ok-Work.field-0-is at c.deref.ensures.value) ∙ empty)
 
 pub returns-in-Ok-Work-clause-told : goal.returns-in-Ok-Work-clause-told
 returns-in-Ok-Work-clause-told g c =
     λ past none.
     let is = rw c.in-Ok-Work.field-0-is at c.in-Ok-Work.ensures.ok in
     let empty = without-names _ (map given_of c.in-Ok-Work.arguments.items) is (λ of. none (c.this_program-program.result, c.own_options-options.result, c.this_program-program.ensures, c.own_options-options.ensures, of)) in
-    let told = c.work.ensures.told past (ap (λ items. name_list (map given_of items)) c.deref.ensures.value ∙ empty) in
+    let told = c.work.ensures.told past (ap (λ items. name_list (map given_of items)) (rw c.in-Ok-Work.field-0-is at c.deref.ensures.value) ∙ empty) in
     asked-told c.this_program-program.result c.own_options-options.result _ _ c.work.result _ _ c.this_program-program.ensures c.own_options-options.ensures is told
 
 pub returns-in-Ok-Help-clause-told : goal.returns-in-Ok-Help-clause-told
