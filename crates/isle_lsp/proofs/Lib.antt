@@ -1,6 +1,6 @@
 pub mod Readings
 pub mod Results
-pub mod Reports
+pub mod Reporting
 pub mod Sent
 pub mod Talks
 pub mod Tokens

@@ -2,7 +2,7 @@
 use Rattle.std.proofs.Common.{◌≡◌, ◌≢◌, ◌⊎◌, inl, inr, ◌≤◌, ℕ, List, [], ◌∷◌, ◌++◌, Option, None, Some, true, arith, refl, sym, ◌∙◌, ap, subst, option_map, option_and_then, option_to_list}
 use Rattle.std.specs.Io.KnownBytes.{Appends, Keeps}
 use Rattle.std.specs.Prelude.{codes}
-use Rattle.isle_cli.specs.Arguments.{Asked, Awaited, Given, anything_awaited, asked, asked_by, given, help_asked, names_awaited, taken, value_awaited, version_asked}
+use Rattle.isle_cli.specs.Arguments.{Asked, Awaited, Given, anything_awaited, asked, asked_by, given, help_asked, names_awaited, parts_at_equals, setting_at, taken, value_awaited, version_asked}
 use Rattle.isle_cli.specs.Failure.{IsDiagnostic, status_of, text_of}
 use Rattle.isle_cli.specs.Streams.{AppendsBeginning, WritesBeginning}
 use Rattle.isle_cli.specs.declared.arguments.Options.{Options}
@@ -33,8 +33,12 @@ this =
 
 -- ---- the words
 
+same_joined : (a b : Options) (parts : Option (List ℕ × List ℕ)) → AreNone a → AreNone b → option_and_then (setting_at a) parts ≡ option_and_then (setting_at b) parts
+same_joined a b None x y = refl
+same_joined a b (Some parts) x y = rw (x.settings, y.settings) refl
+
 same_taken : (a b : Options) (awaited : Awaited) (word : List ℕ) → AreNone a → AreNone b → taken a awaited word ≡ taken b awaited word
-same_taken a b anything_awaited word x y = rw (x.flags, x.settings, y.flags, y.settings) refl
+same_taken a b anything_awaited word x y = rw (same_joined a b (parts_at_equals word) x y, x.flags, x.settings, y.flags, y.settings) refl
 same_taken a b (value_awaited option) word x y = refl
 same_taken a b names_awaited word x y = refl
 

@@ -146,10 +146,17 @@ fn are_sources(sources: &[Source], program: &[Text]) -> bool
     match (sources, program) {
         ([], []) => true,
         ([source, more @ ..], [text, later @ ..]) => {
-            source.name.is_empty() && source.text.as_str() == text.text && are_sources(more, later)
+            is_source(source, text) && are_sources(more, later)
         }
         _ => false,
     }
+}
+
+/// Returns whether this is a text of a program, without a name.
+fn is_source(source: &Source, text: &Text) -> bool
+    ensures { result ≡ true → source_of source.now ≡ wanted.source_of (text_of text.now) }
+{
+    source.name.as_str() == "" && source.text.as_str() == text.text
 }
 
 /// Checks a program. Nothing is found in it if one of its texts does not parse. The only error is

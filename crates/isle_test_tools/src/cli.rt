@@ -323,7 +323,7 @@ impl Read for Broken {
 }
 
 /// The line about standard input that gives no text.
-fn told<I: Read>(rt: HostRuntime, mut input: I) -> Option<String> {
+fn told<I: Read + Drop>(rt: HostRuntime, mut input: I) -> Option<String> {
     let read = read_sources(&rt, &PROGRAM, &[], "<stdin>", &mut input).ok()?;
     Some(read.faults)
 }
