@@ -7,8 +7,8 @@ ghost use Rattle.isle_check_matchings.specs.Views.{asks_of, terms_of, under_of};
 ghost use Rattle.isle_check_places.specs.Views.{constraint_of, place_of};
 
 use crate::openings::{Terms, Under, place_under, term_opening};
-use isle_check_places::{Constraint, Place, Step, copied};
 use crate::values::Value;
+use isle_check_places::{Constraint, Place, Step, copied};
 use isle_check_typing::TypedPattern;
 use std::alloc::{AllocError, Global};
 
@@ -86,7 +86,9 @@ pub fn add_asks<'a>(
 {
     match pattern {
         TypedPattern::Bind {
-            variable, subpat, ..
+            variable,
+            subpat,
+            ..
         } => {
             bind(alloc, *variable, at, asks)?;
             add_asks(alloc, terms, subpat, at, asks)
@@ -139,9 +141,9 @@ pub fn add_list_asks<'a>(
         ++ list_asks (terms_of terms.entry) (under_of under.entry) 0
         (typed_list_of (all_typed_of patterns.now.items)) (place_of at.now)) }
 {
-    for index in 0..patterns.len() {
+    for (index, pattern) in patterns.iter().enumerate() {
         let inner = place_under(alloc, under, index, at)?;
-        add_asks(alloc, terms, &patterns[index], &inner, asks)?;
+        add_asks(alloc, terms, pattern, &inner, asks)?;
     }
     Ok(())
 }

@@ -28,11 +28,13 @@ fn add_infallible(def: &Def, names: &mut Names) -> Result<(), AllocError>
         → Knows names.new (known ++ infallible_name (definition_of def.now))) }
 {
     match def {
-        Def::Extern(Extern::Extractor {
-            term,
-            infallible: true,
-            ..
-        }) => add_name(names, term),
+        Def::Extern(
+            Extern::Extractor {
+                term,
+                infallible: true,
+                ..
+            },
+        ) => add_name(names, term),
         _ => Ok(()),
     }
 }

@@ -6,8 +6,8 @@ ghost use Rattle.isle_check_matchings.specs.Views.{asks_of, terms_of, under_of};
 ghost use Rattle.isle_check_places.specs.Views.{place_of};
 
 use crate::asks::{Ask, constrain};
-use isle_check_places::{Constraint, Place, Step, begin, copied, step_on};
 use isle_check_environment::names::{Names, has};
+use isle_check_places::{Constraint, Place, Step, begin, copied, step_on};
 use isle_check_signatures::{Environment, Term};
 use std::alloc::{AllocError, Global};
 
@@ -61,7 +61,11 @@ pub fn place_under<'a>(
 fn parts_of<'a>(count: usize) -> Under<'a>
     ensures { under_of result ≡ parts_of count }
 {
-    if count == 1 { Under::Same } else { Under::Parts }
+    if count == 1 {
+        Under::Same
+    } else {
+        Under::Parts
+    }
 }
 
 /// Adds what a term with so many patterns asks by itself of the value at a place.

@@ -8,12 +8,12 @@ ghost use Rattle.isle_check_signatures.specs.Views.{term_of};
 ghost use Rattle.isle_check_matchings.specs.Values.{answered, known_with, term_value, value};
 ghost use Rattle.isle_check_matchings.specs.Values.{value_at, values, variable_value};
 ghost use Rattle.isle_check_matchings.specs.Views.{ask_of, asks_of, terms_of, value_of};
-ghost use Rattle.isle_check_places.specs.Views.{place_of};
+ghost use Rattle.isle_check_places.specs.Views.{place_of, places_of};
 
 use crate::asks::Ask;
 use crate::openings::Terms;
-use isle_check_places::{Place, Step, begin, copied, step_on};
 use isle_check_expressions::{TypedExpression, TypedLet};
+use isle_check_places::{Place, Step, begin, copied, step_on};
 use isle_check_signatures::Term;
 use std::alloc::{AllocError, Global};
 
@@ -30,11 +30,18 @@ fn copied_value<'a>(alloc: Global, value: &Value<'a>) -> Result<Value<'a>, Alloc
     ensures { IfOk result (λ made. value_of made ≡ value_of value.now) }
 {
     let at = copied(alloc, &value.at)?;
-    let mut needs = Vec::with_capacity(alloc, value.needs.len())?;
-    for place in &value.needs {
-        needs.push(copied(alloc, place)?)?;
-    }
+    let needs = copied_places(alloc, &value.needs)?;
     Ok(Value { at, needs })
+}
+
+fn copied_places<'a>(alloc: Global, places: &[Place<'a>]) -> Result<Vec<Place<'a>>, AllocError>
+    ensures { IfOk result (λ made. places_of made.items ≡ places_of places.now) }
+{
+    let mut made = Vec::with_capacity(alloc, places.len())?;
+    for place in places {
+        made.push(copied(alloc, place)?)?;
+    }
+    Ok(made)
 }
 
 fn copied_ask<'a>(alloc: Global, ask: &Ask<'a>) -> Result<Ask<'a>, AllocError>
