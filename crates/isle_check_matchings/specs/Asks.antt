@@ -66,25 +66,27 @@ abbrev pub count_typed : TypedList → ℕ
 count_typed no_typed = 0
 count_typed (more_typed p ps) = suc (count_typed ps)
 
--- what a pattern asks of the value at a place
+-- what a pattern asks of the value at a place. A term asks by itself first, and then come its arguments
 abbrev mutual
-  pub asks : TermsNode → TypedNode → (at : Place) → List AskNode
-  asks k (typed_bind x _ p) at = binds x at [] ∷ asks k p at
-  asks k (typed_var x _) at = equals x at ∷ []
-  asks k (typed_bool b _) at = constrains at (of_bool b) ∷ []
-  asks k (typed_int i _) at = constrains at (of_int i) ∷ []
-  asks k (typed_const name _) at = constrains at (of_constant name) ∷ []
-  asks k (typed_term f _ ps) at = term_asks k f ps at
-  asks k (typed_wildcard _) at = []
-  asks k (typed_and _ ps) at = list_asks k same 0 ps at
-
-  -- a term, and then its arguments
-  pub term_asks : TermsNode → (term : List ℕ) → TypedList → (at : Place) → List AskNode
-  term_asks k f ps at =
+  pub pattern_asks : TermsNode → TypedNode → (at : Place) → List AskNode
+  pattern_asks k (typed_bind x _ p) at = binds x at [] ∷ pattern_asks k p at
+  pattern_asks k (typed_var x _) at = equals x at ∷ []
+  pattern_asks k (typed_bool b _) at = constrains at (of_bool b) ∷ []
+  pattern_asks k (typed_int i _) at = constrains at (of_int i) ∷ []
+  pattern_asks k (typed_const name _) at = constrains at (of_constant name) ∷ []
+  pattern_asks k (typed_term f _ ps) at =
       (term_opening k f (count_typed ps) at).asked
       ++ list_asks k (term_opening k f (count_typed ps) at).under 0 ps (term_opening k f (count_typed ps) at).at
+  pattern_asks k (typed_wildcard _) at = []
+  pattern_asks k (typed_and _ ps) at = list_asks k same 0 ps at
 
   -- patterns in order, of which the first has this index
   pub list_asks : TermsNode → UnderNode → (index : ℕ) → TypedList → (at : Place) → List AskNode
   list_asks k under i no_typed at = []
-  list_asks k under i (more_typed p ps) at = asks k p (place_under under i at) ++ list_asks k under (suc i) ps at
+  list_asks k under i (more_typed p ps) at = pattern_asks k p (place_under under i at) ++ list_asks k under (suc i) ps at
+
+-- a term and its arguments
+abbrev pub term_asks : TermsNode → (term : List ℕ) → TypedList → (at : Place) → List AskNode
+term_asks k f ps at =
+    (term_opening k f (count_typed ps) at).asked
+    ++ list_asks k (term_opening k f (count_typed ps) at).under 0 ps (term_opening k f (count_typed ps) at).at

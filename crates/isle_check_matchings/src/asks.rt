@@ -2,7 +2,8 @@
 
 ghost use Rattle.std.specs.Prelude.{◌≡◌, ◌++◌, ◌∷◌, [], OnOk};
 ghost use Rattle.isle_check_typing.specs.TypedView.{all_typed_of, typed_list_of, typed_of};
-ghost use Rattle.isle_check_matchings.specs.Asks.{asks, binds, constrains, equals, list_asks, term_asks};
+ghost use Rattle.isle_check_matchings.specs.Asks.{binds, constrains, equals, list_asks};
+ghost use Rattle.isle_check_matchings.specs.Asks.{pattern_asks, term_asks};
 ghost use Rattle.isle_check_matchings.specs.Views.{asks_of, terms_of, under_of};
 ghost use Rattle.isle_check_places.specs.Views.{constraint_of, place_of};
 
@@ -31,7 +32,7 @@ pub fn constrain<'a>(
     asks: &mut Vec<Ask<'a>>,
 ) -> Result<(), AllocError>
     ensures { OnOk result (asks_of asks.new.items ≡ asks_of asks.old.items
-        ++ constrains (place_of at.now) (constraint_of constraint) ∷ []) }
+        ++ constrains (place_of at.now) (constraint_of constraint.entry) ∷ []) }
 {
     let at = copied(alloc, at)?;
     asks.push(Ask::Constrains(at, constraint))?;
@@ -82,7 +83,7 @@ pub fn add_asks<'a>(
     asks: &mut Vec<Ask<'a>>,
 ) -> Result<(), AllocError>
     ensures { OnOk result (asks_of asks.new.items ≡ asks_of asks.old.items
-        ++ asks (terms_of terms.entry) (typed_of pattern.now) (place_of at.now)) }
+        ++ pattern_asks (terms_of terms.entry) (typed_of pattern.now) (place_of at.now)) }
 {
     match pattern {
         TypedPattern::Bind {

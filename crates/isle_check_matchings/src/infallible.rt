@@ -31,10 +31,15 @@ fn add_infallible(def: &Def, names: &mut Names) -> Result<(), AllocError>
         Def::Extern(
             Extern::Extractor {
                 term,
-                infallible: true,
+                infallible,
                 ..
             },
-        ) => add_name(names, term),
+        ) => {
+            if *infallible {
+                return add_name(names, term);
+            }
+            Ok(())
+        }
         _ => Ok(()),
     }
 }

@@ -117,9 +117,9 @@ fn answer<'a>(
     asks: &mut Vec<Ask<'a>>,
 ) -> Result<Place<'a>, AllocError>
     ensures asked { OnOk result (asks_of asks.new.items ≡ asks_of asks.old.items
-        ++ (answer (terms_of terms.entry) multi term.now (place_of at.items)).asked) }
+        ++ (answer (terms_of terms.entry) multi term.now (place_of at.entry.items)).asked) }
     ensures at { IfOk result (λ made. place_of made.items
-        ≡ (answer (terms_of terms.entry) multi term.now (place_of at.items)).at) }
+        ≡ (answer (terms_of terms.entry) multi term.now (place_of at.entry.items)).at) }
 {
     if multi {
         return step_on(alloc, &at, Step::Each);

@@ -66,7 +66,7 @@ fn copied_asks<'a>(alloc: Global, asks: &[Ask<'a>]) -> Result<Vec<Ask<'a>>, Allo
 
 /// Returns a value at a place that needs nothing.
 fn plain<'a>(alloc: Global, at: Place<'a>) -> Result<Value<'a>, AllocError>
-    ensures { IfOk result (λ made. value_of made ≡ value_at (place_of at.items) []) }
+    ensures { IfOk result (λ made. value_of made ≡ value_at (place_of at.entry.items) []) }
 {
     Ok(Value {
         at,
@@ -102,7 +102,7 @@ fn term_value<'a>(
     args: Value<'a>,
 ) -> Result<Value<'a>, AllocError>
     ensures { IfOk result (λ made. value_of made
-        ≡ term_value (terms_of terms.entry) term.now count (value_of args)) }
+        ≡ term_value (terms_of terms.entry) term.now count (value_of args.entry)) }
 {
     let Value { mut at, needs } = args;
     at.push(Step::Computed(term, count))?;
@@ -115,7 +115,7 @@ fn answered<'a>(
     value: Value<'a>,
 ) -> Result<Value<'a>, AllocError>
     ensures { IfOk result (λ made. value_of made
-        ≡ answered (option_map (λ t. term_of t.now) term.entry) (value_of value)) }
+        ≡ answered (option_map (λ t. term_of t.now) term.entry) (value_of value.entry)) }
 {
     let Some(term) = term else {
         return Ok(value);
