@@ -1,5 +1,5 @@
 -- What typed rules match.
-use Rattle.std.specs.Prelude.{ℕ, List, [], ◌∷◌, Bool, false, Option, None, Some}
+use Rattle.std.specs.Prelude.{ℕ, List, [], ◌∷◌, Bool, false, Option, None, Some, map}
 use Rattle.std.specs.List.{flat_map}
 use Rattle.isle_check_signatures.specs.Signatures.{TermNode}
 use Rattle.isle_check_rules.specs.TypedRules.{TypedRuleNode}
@@ -47,8 +47,7 @@ abbrev pub matching : TermsNode → TypedRuleNode → MatchingNode
 matching k r = matching_of k r (rule_asks k r)
 
 abbrev pub matchings : TermsNode → List TypedRuleNode → List MatchingNode
-matchings k [] = []
-matchings k (r ∷ rs) = matching k r ∷ matchings k rs
+matchings k rs = map (matching k) rs
 
 -- what is found of typed rules
 abbrev pub rule_overlaps : TermsNode → List TypedRuleNode → ComparisonNode

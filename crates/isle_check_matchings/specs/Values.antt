@@ -59,3 +59,7 @@ abbrev mutual
   known_with k known no_typed_let = known
   known_with k known (more_typed_let x e ds) =
       known_with k (known ++ binds x (value k known e).at (value k known e).needs ∷ []) ds
+
+-- what a term gives for expressions
+abbrev pub called : TermsNode → (known : List AskNode) → (term : List ℕ) → TypedExpressionList → ValueNode
+called k known f es = term_value k f (count_typed_expressions es) (values k known es)

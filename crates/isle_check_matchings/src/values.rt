@@ -5,7 +5,8 @@ ghost use Rattle.isle_check_expressions.specs.TypedExpressions.{typed_expression
 ghost use Rattle.isle_check_expressions.specs.TypedExpressions.{typed_let_list};
 ghost use Rattle.isle_check_expressions.specs.TypedView.{typed_expression_of, typed_let_of};
 ghost use Rattle.isle_check_signatures.specs.Views.{term_of};
-ghost use Rattle.isle_check_matchings.specs.Values.{answered, known_with, term_value, value};
+ghost use Rattle.isle_check_matchings.specs.Values.{answered, called, known_with};
+ghost use Rattle.isle_check_matchings.specs.Values.{term_value, value};
 ghost use Rattle.isle_check_matchings.specs.Values.{value_at, values, variable_value};
 ghost use Rattle.isle_check_matchings.specs.Views.{ask_of, asks_of, terms_of, value_of};
 ghost use Rattle.isle_check_places.specs.Views.{place_of, places_of};
@@ -156,14 +157,30 @@ pub fn expression_value<'a>(
             plain(alloc, begin(alloc, Step::Const(name.as_str()))?)
         }
         TypedExpression::Term { term, args, .. } => {
-            let given = values(alloc, terms, known, args)?;
-            term_value(alloc, terms, term.as_str(), args.len(), given)
+            called(alloc, terms, known, term.as_str(), args)
         }
         TypedExpression::Let { defs, body, .. } => {
             let inner = known_with(alloc, terms, known, defs)?;
             expression_value(alloc, terms, &inner, body)
         }
     }
+}
+
+/// Returns what a term gives for expressions.
+#[cycle(value)]
+fn called<'a>(
+    alloc: Global,
+    terms: Terms,
+    known: &[Ask<'a>],
+    term: &'a str,
+    args: &'a Vec<TypedExpression>,
+) -> Result<Value<'a>, AllocError>
+    ensures { IfOk result (λ made. value_of made
+        ≡ called (terms_of terms.entry) (asks_of known.now) term.now
+        (typed_expression_list (map typed_expression_of args.now.items))) }
+{
+    let given = values(alloc, terms, known, args)?;
+    term_value(alloc, terms, term, args.len(), given)
 }
 
 /// Returns the values of expressions, one behind the other.
