@@ -17,7 +17,7 @@ usage: isle-check [--allow KIND] [--stdin-name NAME] [--program NAME] [--all-pro
 
 Checks a complete ISLE program, as the compiler does before it makes code. All files are one
 program. A folder stands for every .isle file below it, and - for standard input. With no FILE,
-standard input is checked. Whether rules overlap is not checked.
+standard input is checked.
 
 The errors come in groups. Those of a group are told only if no earlier group has any, and warnings
 only if there is no error.
@@ -97,12 +97,17 @@ Errors of rules:
   multi-priority         a rule of a multi term has a priority
   macro-argument         a macro argument stands in a rule
   deep-rule              a rule nests too deeply to be checked
+Errors of rules beside one another:
+  unreachable-rule  a rule would match two different values at one place
+  rule-overlap      rules of one priority can match the same values
+  rule-shadow       a rule matches all that others of lower priorities match
 Warnings:
   duplicate-constant             a constant is declared twice, and its last type counts
   extractor-parameters           an extractor has more or fewer parameters than its term arguments
   dropped-pattern                a pattern's extractor has a parameter without an argument
   condition-without-constructor  a term in a condition has no constructor
   multi-extractor                a multi extractor is used in a rule of a term that is not multi
+  part-of-itself                 a rule would match a value that is a part of itself
 
 Exit status:
   0  no error was found

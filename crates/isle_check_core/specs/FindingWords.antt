@@ -4,8 +4,9 @@ use Rattle.std.specs.Fmt.{decimal}
 use Rattle.isle_ast_names.specs.Tree.{Name}
 use Rattle.isle_check_core.specs.DeclarationWords.{declaration_words}
 use Rattle.isle_check_rules.specs.Warnings as warned
-use Rattle.isle_check_core.specs.Findings.{KindNode, declaration, recursive_extractor, rule, deep_rule, constant_again, parameter_count, rule_warning}
+use Rattle.isle_check_core.specs.Findings.{KindNode, declaration, recursive_extractor, rule, deep_rule, overlap, constant_again, parameter_count, rule_warning}
 use Rattle.isle_check_core.specs.RuleWords.{rule_words}
+use Rattle.isle_check_core.specs.OverlapWords.{overlap_words}
 use Rattle.isle_check_core.specs.Words.{WordsNode, words}
 
 -- one name more of a path
@@ -35,6 +36,7 @@ kind_words (recursive_extractor path) =
 kind_words (rule kind) = rule_words kind
 kind_words deep_rule =
     words (codes "deep-rule") (codes "This rule nests too deeply once extractors are expanded and conversions are written out: no rule is checked")
+kind_words (overlap kind) = overlap_words kind
 kind_words (constant_again name) =
     words (codes "duplicate-constant") (codes "Constant '$" ++ name.text ++ codes "' declared more than once: its last type counts")
 kind_words (parameter_count extractor parameters arguments) =

@@ -22,14 +22,18 @@ use Rattle.isle_check_rules.specs.RuleFaults.{rule_faults}
 use Rattle.isle_check_rules.specs.RuleTypes.{RulesTyping}
 use Rattle.isle_check_rules.specs.TypedRules.{TypedRuleNode}
 use Rattle.isle_check_rules.specs.Warnings as warned
+use Rattle.isle_check_matchings.specs.Infallible.{program_terms}
+use Rattle.isle_check_matchings.specs.Matchings.{rule_overlaps}
+use Rattle.isle_check_overlaps.specs.Faults as overlapping
 
--- an error of a declaration, that an extractor uses itself, an error of a rule, or that a rule is too deep to be checked; or a
--- warning: a constant is declared again, an extractor has another number of parameters than its term has arguments, or one of rules
+-- an error of a declaration, that an extractor uses itself, an error of a rule, that a rule is too deep to be checked, or an error of rules
+-- beside one another; or a warning: a constant is declared again, an extractor has another number of parameters than its term has arguments, or one of rules
 pub data KindNode : Type 0 where
   declaration : declarations.KindNode → KindNode
   recursive_extractor : (path : List Name) → KindNode
   rule : typing.KindNode → KindNode
   deep_rule : KindNode
+  overlap : overlapping.KindNode → KindNode
   constant_again : Name → KindNode
   parameter_count : (extractor : Name) → (parameters arguments : ℕ) → KindNode
   rule_warning : warned.WarningKindNode → KindNode
@@ -39,11 +43,17 @@ abbrev pub is_rule_error : typing.KindNode → Bool
 is_rule_error (typing.parameter_without_argument _) = false
 is_rule_error _ = true
 
+-- upstream ends without an error, or does not end, where a value would be a part of itself
+abbrev pub is_overlap_error : overlapping.KindNode → Bool
+is_overlap_error overlapping.part_of_itself = false
+is_overlap_error _ = true
+
 abbrev pub is_error : KindNode → Bool
 is_error (declaration _) = true
 is_error (recursive_extractor _) = true
 is_error (rule kind) = is_rule_error kind
 is_error deep_rule = true
+is_error (overlap kind) = is_overlap_error kind
 is_error (constant_again _) = false
 is_error (parameter_count _ _ _) = false
 is_error (rule_warning _) = false
@@ -69,6 +79,9 @@ of_rule_fault f = finding (rule f.kind) f.pos
 
 abbrev pub of_warning : warned.WarningNode → FindingNode
 of_warning w = finding (rule_warning w.kind) w.pos
+
+abbrev pub of_overlap : overlapping.FaultNode → FindingNode
+of_overlap f = finding (overlap f.kind) f.pos
 
 -- those of a group, if there are any, and otherwise those of the groups after it
 abbrev pub or_next : (group later : List FindingNode) → List FindingNode
@@ -106,16 +119,23 @@ warnings env rules ds =
 abbrev pub has_error : List FindingNode → Bool
 has_error fs = list_any (λ f. is_error f.kind) fs
 
--- what is found, and the warnings behind it if none of it is an error
-abbrev pub with_warnings : (found later : List FindingNode) → List FindingNode
-with_warnings found later = if has_error found then found else found ++ later
+-- the errors of rules beside one another, if there are any, and otherwise the warnings
+abbrev pub compared : (overlaps : overlapping.ComparisonNode) → (warnings : List FindingNode) → List FindingNode
+compared overlaps warnings = or_next (map of_overlap overlaps.faults) (warnings ++ map of_overlap overlaps.warnings)
+
+abbrev pub after_rules : EnvironmentNode → List TypedRuleNode → List Definition → List FindingNode
+after_rules env rules ds = compared (rule_overlaps (program_terms env ds) rules) (warnings env rules ds)
+
+-- what is found, and what is found later behind it if none of it is an error
+abbrev pub with_later : (found later : List FindingNode) → List FindingNode
+with_later found later = if has_error found then found else found ++ later
 
 -- how many patterns or expressions of a rule may lie in one another once templates are filled and conversions are written out
 abbrev pub rule_depth : ℕ
 rule_depth = 500
 
 abbrev pub of_rules : EnvironmentNode → List Definition → Result RulesTyping Pos → List FindingNode
-of_rules env ds (Ok made) = with_warnings (map of_rule_fault made.faults) (warnings env made.typed ds)
+of_rules env ds (Ok made) = with_later (map of_rule_fault made.faults) (after_rules env made.typed ds)
 of_rules env ds (Err place) = finding deep_rule place ∷ []
 
 -- the errors of rules, or the first rule that is too deep; and warnings where there is no error

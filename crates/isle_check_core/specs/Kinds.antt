@@ -54,10 +54,14 @@ is_use_kind text = bytes_eq text (codes "impure-term") || (bytes_eq text (codes 
 abbrev pub is_rule_kind : List ℕ → Bool
 is_rule_kind text = is_value_kind text || (is_variable_kind text || (is_used_term_kind text || is_use_kind text))
 
+-- the kinds of rules beside one another
+abbrev pub is_overlap_kind : List ℕ → Bool
+is_overlap_kind text = bytes_eq text (codes "unreachable-rule") || (bytes_eq text (codes "rule-overlap") || bytes_eq text (codes "rule-shadow"))
+
 -- the kinds of warnings
 abbrev pub is_warning_kind : List ℕ → Bool
-is_warning_kind text = bytes_eq text (codes "duplicate-constant") || (bytes_eq text (codes "extractor-parameters") || (bytes_eq text (codes "dropped-pattern") || (bytes_eq text (codes "condition-without-constructor") || bytes_eq text (codes "multi-extractor"))))
+is_warning_kind text = bytes_eq text (codes "duplicate-constant") || (bytes_eq text (codes "extractor-parameters") || (bytes_eq text (codes "dropped-pattern") || (bytes_eq text (codes "condition-without-constructor") || (bytes_eq text (codes "multi-extractor") || bytes_eq text (codes "part-of-itself")))))
 
 -- a text is the name of a kind
 abbrev pub is_kind : List ℕ → Bool
-is_kind text = is_type_kind text || (is_field_kind text || (is_term_kind text || (is_root_kind text || (is_extractor_kind text || (is_converter_kind text || (is_constructor_kind text || (is_external_kind text || (is_rule_kind text || is_warning_kind text))))))))
+is_kind text = is_type_kind text || (is_field_kind text || (is_term_kind text || (is_root_kind text || (is_extractor_kind text || (is_converter_kind text || (is_constructor_kind text || (is_external_kind text || (is_rule_kind text || (is_overlap_kind text || is_warning_kind text)))))))))

@@ -3,14 +3,16 @@
 ghost use Rattle.std.specs.Prelude.{◌≡◌, ◌++◌, ◌∷◌, [], IfOk, Ok, OnOk, false, map};
 ghost use Rattle.isle_ast.specs.MacroArgs.{definitions_have_macro_arg};
 ghost use Rattle.isle_ast.specs.TreeView.{definitions_of};
-ghost use Rattle.isle_check_core.specs.Findings.{deep_rule, finding, findings, has_error};
+ghost use Rattle.isle_check_core.specs.Findings.{after_rules, deep_rule, finding, findings};
+ghost use Rattle.isle_check_core.specs.Findings.{has_error, of_overlap};
 ghost use Rattle.isle_check_core.specs.Findings.{later_findings, of_faults, of_recursion};
 ghost use Rattle.isle_check_core.specs.Findings.{of_rule_fault, of_rules, root_errors};
 ghost use Rattle.isle_check_core.specs.Findings.{root_findings, rule_findings, rule_findings_by};
 ghost use Rattle.isle_check_core.specs.Views.{findings_of};
 ghost use Rattle.isle_check_declarations.specs.Views.{faults_of};
+ghost use Rattle.isle_check_overlaps.specs.Views as overlaps;
 ghost use Rattle.isle_check_recursion.specs.Views.{names_at, recursions_at};
-ghost use Rattle.isle_check_rules.specs.Views.{rules_typing_of};
+ghost use Rattle.isle_check_rules.specs.Views.{rules_typing_of, typed_rules_of};
 ghost use Rattle.isle_check_signatures.specs.Environment.{environment};
 ghost use Rattle.isle_check_signatures.specs.Views.{environment_of};
 ghost use Rattle.isle_check_typing.specs.Views as typing;
@@ -21,8 +23,10 @@ use isle_ast::ast::{Def, Ident};
 use isle_base::lexer::Pos;
 use isle_check_declarations::{Fault, term_faults, type_faults};
 use isle_check_extractors::{converter_faults, extern_faults, extractor_faults, root_faults};
+use isle_check_matchings::rule_overlaps;
+use isle_check_overlaps::Comparison;
 use isle_check_recursion::{Recursion, recursions};
-use isle_check_rules::{RuleRefusal, RulesTyping, rule_faults};
+use isle_check_rules::{RuleRefusal, RulesTyping, TypedRule, rule_faults};
 use isle_check_signatures::Environment;
 use std::alloc::{AllocError, Global};
 
@@ -32,8 +36,8 @@ const RULE_DEPTH: usize = 500;
 
 /// Returns the errors of a program: those of the first group that has any, in the order in which
 /// upstream reports them. The groups are types and constants; declared terms; the left sides of
-/// rules, and internal extractors; converters; external definitions; rules. Whether rules overlap
-/// is not checked. Without an error it returns the warnings.
+/// rules, and internal extractors; converters; external definitions; rules; rules beside one
+/// another. Without an error it returns the warnings.
 ///
 /// No template may hold a macro argument, `Pattern::MacroArg`, which the parser never makes. An
 /// `Err` means out of memory.
@@ -144,9 +148,45 @@ fn of_typing<'a>(
     let RulesTyping { typed, faults } = made;
     let mut found = of_rule_faults(alloc, faults)?;
     if !has_error(&found) {
-        add_warnings(alloc, env, &typed, defs, &mut found)?;
+        add_later(alloc, env, &typed, defs, &mut found)?;
     }
     Ok(found)
+}
+
+/// Adds the errors of rules beside one another, or else the warnings.
+fn add_later<'a>(
+    alloc: Global,
+    env: &Environment,
+    rules: &[TypedRule],
+    defs: &'a [Def],
+    found: &mut Vec<Finding<'a>>,
+) -> Result<(), AllocError>
+    ensures { OnOk result (findings_of found.new.items ≡ findings_of found.old.items
+        ++ after_rules (environment_of env.now) (typed_rules_of rules.now)
+        (definitions_of defs.now)) }
+{
+    let Comparison { faults, warnings } = rule_overlaps(alloc, env, defs, rules)?;
+    if !faults.is_empty() {
+        return add_overlaps(faults, found);
+    }
+    add_warnings(alloc, env, rules, defs, found)?;
+    add_overlaps(warnings, found)
+}
+
+fn add_overlaps(
+    faults: Vec<isle_check_overlaps::Fault>,
+    found: &mut Vec<Finding>,
+) -> Result<(), AllocError>
+    ensures { OnOk result (findings_of found.new.items ≡ findings_of found.old.items
+        ++ map of_overlap (overlaps.faults_of faults.items)) }
+{
+    for fault in faults {
+        found.push(Finding {
+            kind: Kind::Overlap(fault.kind),
+            pos: fault.pos,
+        })?;
+    }
+    Ok(())
 }
 
 fn of_rule_faults<'a>(

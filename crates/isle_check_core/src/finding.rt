@@ -4,15 +4,18 @@ ghost use Rattle.std.specs.Prelude.{◌≡◌, [], IfOk, OnOk, string_bytes};
 ghost use Rattle.isle_ast_names.specs.TreeView.{name_of};
 ghost use Rattle.isle_check_core.specs.FindingWords.{first_name, kind_words, path_after};
 ghost use Rattle.isle_check_core.specs.FindingWords.{warning_words, with_step};
-ghost use Rattle.isle_check_core.specs.Findings.{constant_again, is_error, is_rule_error};
+ghost use Rattle.isle_check_core.specs.Findings.{constant_again, is_error};
+ghost use Rattle.isle_check_core.specs.Findings.{is_overlap_error, is_rule_error};
 ghost use Rattle.isle_check_core.specs.Findings.{parameter_count, recursive_extractor};
 ghost use Rattle.isle_check_core.specs.Views.{node_of};
 ghost use Rattle.isle_check_core.specs.Words.{words_of};
+ghost use Rattle.isle_check_overlaps.specs.Views as overlaps;
 ghost use Rattle.isle_check_recursion.specs.Views.{names_at};
 ghost use Rattle.isle_check_rules.specs.Views.{warning_kind_of};
 ghost use Rattle.isle_check_typing.specs.Views.{kind_of};
 
 use crate::declarations::declaration_words;
+use crate::overlaps::overlap_words;
 use crate::rules::rule_words;
 use crate::words::{Words, about, about_three, about_two, plain};
 use isle_ast::ast::Ident;
@@ -44,6 +47,9 @@ pub enum Kind<'a> {
     /// are filled and conversions are written out. It is the first such rule, and no rule is
     /// checked.
     DeepRule,
+    /// An error of rules beside one another, except for `PartOfItself`, which is a warning: upstream
+    /// ends without an error, or does not end.
+    Overlap(isle_check_overlaps::Kind),
     /// A warning: a constant is already declared.
     ConstantAgain(&'a Ident),
     /// A warning: an internal extractor has another number of parameters than its term has
@@ -68,6 +74,7 @@ impl<'a> Kind<'a> {
         match self {
             Kind::Declaration(_) | Kind::RecursiveExtractor(_) | Kind::DeepRule => true,
             Kind::Rule(kind) => is_rule_error(kind),
+            Kind::Overlap(kind) => is_overlap_error(kind),
             Kind::ConstantAgain(_) | Kind::ParameterCount { .. } | Kind::RuleWarning(_) => false,
         }
     }
@@ -86,6 +93,7 @@ impl<'a> Kind<'a> {
                 "This rule nests too deeply once extractors are expanded and conversions are \
                  written out: no rule is checked",
             ),
+            Kind::Overlap(kind) => overlap_words(alloc, kind),
             Kind::ConstantAgain(name) => constant_words(alloc, name),
             Kind::ParameterCount {
                 extractor,
@@ -102,6 +110,13 @@ fn is_rule_error(kind: &isle_check_typing::Kind) -> bool
     ensures { result ≡ is_rule_error (kind_of kind.now) }
 {
     !matches!(kind, isle_check_typing::Kind::ParameterWithoutArgument(_))
+}
+
+/// Returns whether upstream reports it.
+fn is_overlap_error(kind: &isle_check_overlaps::Kind) -> bool
+    ensures { result ≡ is_overlap_error (overlaps.kind_of kind.now) }
+{
+    !matches!(kind, isle_check_overlaps::Kind::PartOfItself)
 }
 
 fn recursion_words(alloc: Global, path: &[&Ident]) -> Result<Words, AllocError>

@@ -16,6 +16,7 @@ pub fn is_kind(text: &str) -> bool
         || is_constructor_kind(text)
         || is_external_kind(text)
         || is_rule_kind(text)
+        || is_overlap_kind(text)
         || is_warning_kind(text)
 }
 
@@ -138,6 +139,12 @@ fn is_use_kind(text: &str) -> bool
         || text == "deep-rule"
 }
 
+fn is_overlap_kind(text: &str) -> bool
+    ensures { result ≡ Kinds.is_overlap_kind text.now }
+{
+    text == "unreachable-rule" || text == "rule-overlap" || text == "rule-shadow"
+}
+
 fn is_warning_kind(text: &str) -> bool
     ensures { result ≡ Kinds.is_warning_kind text.now }
 {
@@ -146,4 +153,5 @@ fn is_warning_kind(text: &str) -> bool
         || text == "dropped-pattern"
         || text == "condition-without-constructor"
         || text == "multi-extractor"
+        || text == "part-of-itself"
 }

@@ -5,6 +5,7 @@ mod checks;
 mod declarations;
 mod finding;
 mod kinds;
+mod overlaps;
 mod rules;
 mod warnings;
 mod words;

@@ -1,1 +1,2 @@
 pub mod StarLemmas
+pub mod TermLemmas

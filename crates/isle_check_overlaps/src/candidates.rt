@@ -1,6 +1,7 @@
 //! The rules that are compared with one another.
 
 ghost use Rattle.std.specs.Prelude.{◌≡◌, ◌++◌, IfOk, OnOk};
+ghost use Rattle.std.specs.Str.{bytes_eq};
 ghost use Rattle.isle_check_overlaps.specs.Candidates.{candidate_by, candidate_of, candidates};
 ghost use Rattle.isle_check_overlaps.specs.Candidates.{hides, overlap};
 ghost use Rattle.isle_check_overlaps.specs.Views as views;
@@ -79,11 +80,20 @@ fn add_settled<'m, 'a>(
     }
 }
 
+/// Returns whether two rules are of one term. Most terms differ in length, which is found at once.
+#[tactic(auto, using(crate::proofs::TermLemmas::other_lengths))]
+fn is_of_one_term(a: &Candidate, b: &Candidate) -> bool
+    ensures { result
+        ≡ bytes_eq (views.candidate_of a.now).term (views.candidate_of b.now).term }
+{
+    a.term.len() == b.term.len() && a.term == b.term
+}
+
 /// Returns whether two rules of one term and priority may match one value.
 pub fn overlap(a: &Candidate, b: &Candidate) -> bool
     ensures { result ≡ overlap (views.candidate_of a.now) (views.candidate_of b.now) }
 {
-    a.prio == b.prio && a.term == b.term && !apart(a.constraints, b.constraints)
+    a.prio == b.prio && is_of_one_term(a, b) && !apart(a.constraints, b.constraints)
 }
 
 /// Returns whether the first rule hides the second one.
@@ -91,7 +101,7 @@ pub fn hides(high: &Candidate, low: &Candidate) -> bool
     ensures { result ≡ hides (views.candidate_of high.now) (views.candidate_of low.now) }
 {
     low.prio < high.prio
-        && high.term == low.term
+        && is_of_one_term(high, low)
         && high.is_plain
         && low.is_plain
         && within(high.constraints, low.constraints)

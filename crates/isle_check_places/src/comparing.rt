@@ -24,8 +24,8 @@ fn differs(constrained: &Constrained, others: &[Constrained]) -> bool
         (all_constrained_of others.now) }
 {
     for other in others {
-        if same_place(&constrained.at, &other.at)
-            && !same_constraint(&constrained.constraint, &other.constraint)
+        if !same_constraint(&constrained.constraint, &other.constraint)
+            && same_place(&constrained.at, &other.at)
         {
             return true;
         }
@@ -49,8 +49,8 @@ fn is_in(constrained: &Constrained, others: &[Constrained]) -> bool
     ensures { result ≡ is_in (constrained_of constrained.now) (all_constrained_of others.now) }
 {
     for other in others {
-        if same_place(&constrained.at, &other.at)
-            && same_constraint(&constrained.constraint, &other.constraint)
+        if same_constraint(&constrained.constraint, &other.constraint)
+            && same_place(&constrained.at, &other.at)
         {
             return true;
         }

@@ -60,13 +60,13 @@ pub struct Constrained<'a> {
     pub constraint: Constraint<'a>,
 }
 
-/// Returns whether two places are the same.
+/// Returns whether two places are the same. Most that differ do so at their ends, so it begins there.
 pub fn same_place(a: &[Step], b: &[Step]) -> bool
     ensures { result ≡ same_place (place_of a.now) (place_of b.now) }
 {
-    match a.split_first() {
+    match a.split_last() {
         None => b.is_empty(),
-        Some((step, more)) => match b.split_first() {
+        Some((step, more)) => match b.split_last() {
             None => false,
             Some((other, others)) => same_step(step, other) && same_place(more, others),
         },
