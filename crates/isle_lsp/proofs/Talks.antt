@@ -1,14 +1,14 @@
 -- One message more of a conversation.
-use Rattle.std.proofs.Common.{◌≡◌, ◌≢◌, ℕ, List, [], ◌∷◌, ◌++◌, length, true, false, Option, None, Some, Result, Ok, Err, IfOk, OnOk, String, map, string_bytes, refl, sym, ◌∙◌, ap, subst, inl, inr, ◌⊎◌, arith, append_assoc, append-nil}
+use Rattle.std.proofs.Common.{◌≡◌, ◌≢◌, ◌≤◌, ℕ, ◌+◌, drop, List, [], ◌∷◌, ◌++◌, length, true, false, Option, None, Some, Result, Ok, Err, IfOk, OnOk, String, map, string_bytes, refl, sym, ◌∙◌, ap, subst, inl, inr, ◌⊎◌, arith, append_assoc, append-nil}
 use Rattle.std.specs.Global.{Vec}
 use Rattle.std.specs.Io.KnownBytes.{Appends}
 use Rattle.std.proofs.KnownBytes.{Appends-trans}
-use Rattle.std.proofs.lemmas.List.{take_all}
+use Rattle.std.proofs.lemmas.List.{drop_all, take_all}
 use Rattle.isle_cli.specs.Failure.{status_of}
 use Rattle.isle_cli.specs.Streams.{AppendsBeginning}
 use Rattle.isle_cli.specs.declared.failure.Failure.{Failure}
 use Rattle.isle_cli.specs.declared.failure.Failure.TheVariants.{Refused, Usage, Input, Memory, Output}
-use Rattle.isle_cli.proofs.StreamLemmas.{AppendsBeginning-behind}
+use Rattle.isle_cli.proofs.StreamLemmas.{AppendsBeginning-behind, AppendsBeginning-front}
 use Rattle.isle_lsp_frames.specs.Frames.{frame, frame_at, Fails}
 use Rattle.isle_lsp_frames.specs.declared.frames.FrameFault.{FrameFault}
 use Rattle.isle_lsp_frames.specs.declared.frames.FrameFault.TheVariants as faults
@@ -61,6 +61,36 @@ answers_as old new moments left body sent before after a w = (sent, a, w)
 
 pub stops_at : (old new : Held) (moments : List Moment) (left : Option (List Moment)) (body : List ℕ) (sent : List (List ℕ)) (before after : Option (List ℕ)) → AnswersWithin old moments body new left sent → AppendsBeginning before after (frames sent) → StopsAt old moments body before after
 stops_at old new moments left body sent before after a w = inr (new, a.0, sent, a.2, w)
+
+-- ---- frames one after another
+
+-- of these texts, those before a place are written
+pub record HaveWritten (texts : List (String Global)) (i : ℕ) (before after : Option (List ℕ)) : Type 0 where
+  pub front : List ℕ
+  pub all : front ++ frames (map string_bytes (drop i texts)) ≡ frames (map string_bytes texts)
+  pub written : Appends before after front
+
+pub written_none : (texts : List (String Global)) (before : Option (List ℕ)) → HaveWritten texts 0 before before
+written_none texts before = record { front = []; all = refl; written = appends_none before }
+
+module _ (texts : List (String Global)) (i : ℕ) (text : String Global) (before middle after : Option (List ℕ)) (left : drop i texts ≡ text ∷ drop (i + 1) texts) (so_far : HaveWritten texts i before middle) where
+  on : (so_far.front ++ frame (string_bytes text)) ++ frames (map string_bytes (drop (i + 1) texts)) ≡ frames (map string_bytes texts)
+  on =
+      append_assoc so_far.front (frame (string_bytes text)) (frames (map string_bytes (drop (i + 1) texts)))
+      ∙ ap (λ ts. so_far.front ++ frames (map string_bytes ts)) (sym left) ∙ so_far.all
+
+  pub written_more : Appends middle after (frame (string_bytes text)) → HaveWritten texts (i + 1) before after
+  written_more w = record { front = so_far.front ++ frame (string_bytes text); all = on; written = Appends-trans before middle after so_far.front (frame (string_bytes text)) so_far.written w }
+
+  pub written_part : AppendsBeginning middle after (frame (string_bytes text)) → AppendsBeginning before after (frames (map string_bytes texts))
+  written_part w =
+      subst (AppendsBeginning before after) on
+      (AppendsBeginning-front before after (so_far.front ++ frame (string_bytes text)) (frames (map string_bytes (drop (i + 1) texts)))
+      (AppendsBeginning-behind before middle after so_far.front (frame (string_bytes text)) so_far.written w))
+
+pub written_all : (texts : List (String Global)) (i : ℕ) (before after : Option (List ℕ)) → length texts ≤ i → HaveWritten texts i before after → Appends before after (frames (map string_bytes texts))
+written_all texts i before after past so_far =
+    subst (Appends before after) (sym (append-nil so_far.front) ∙ ap (λ ts. so_far.front ++ frames (map string_bytes ts)) (sym (drop_all i texts past)) ∙ so_far.all) so_far.written
 
 -- after `exit` the conversation is over
 pub over : (state : State) (input : Option (List ℕ)) → has_exited state ≡ true → IsOver state input

@@ -1,5 +1,5 @@
 -- The diagnostics of a text, on its own and in its programs.
-use Rattle.std.specs.Prelude.{◌≡◌, ℕ, ◌+◌, ◌-◌, ◌⊎◌, List, [], ◌∷◌, ◌++◌, Option, None, Some, filter, length, map, min, not, codes, string_bytes}
+use Rattle.std.specs.Prelude.{◌≡◌, ℕ, ◌+◌, ◌-◌, ◌⊎◌, List, [], ◌∷◌, ◌++◌, None, Some, filter, length, map, min, not, codes, string_bytes}
 use Rattle.std.specs.List.Sorted.{IsPermutation, IsSortedByKey}
 use Rattle.isle_ast.specs.Tree.{Definition}
 use Rattle.isle_base_source.specs.PositionOrder.{position_cmp}

@@ -157,13 +157,10 @@ fn write_frames<W: Write>(alloc: Global, output: &mut W, texts: &[String]) -> Re
         (W.contents output.new) (frames (map string_bytes texts.now))) }
     ensures kind { IfErr result (λ failure. (failure ≡ Memory) ⊎ (failure ≡ Output)) }
 {
-    match texts {
-        [] => Ok(()),
-        [text, more @ ..] => {
-            write_frame(alloc, output, text.as_bytes())?;
-            write_frames(alloc, output, more)
-        }
+    for text in texts {
+        write_frame(alloc, output, text.as_bytes())?;
     }
+    Ok(())
 }
 
 /// Handles a message, and returns the texts to send.
