@@ -4,8 +4,7 @@ use Rattle.isle_lsp.proofs.reports.publish_all.Goals as goal
 pub returns-clause-ok : goal.returns-clause-ok
 returns-clause-ok c =
     let named = c.in_ok-named.named in
-    let others = c.in_ok-others.others.items in
-    (
+    let others = c.in_ok-others.others.items in (
       string_bytes named,
       map string_bytes others,
       ap (map string_bytes) (c.in_ok-append.ensures.items ∙ ap (λ xs. xs ++ others) (c.in_ok-push.ensures.items ∙ ap (λ xs. xs ++ named ∷ []) c.new-sent.ensures.items)),
