@@ -5,14 +5,9 @@ use Rattle.serde_json.specs.View.{items_of}
 use Rattle.isle_tidy_core.specs.Refused.{HasNoDocument}
 use Rattle.isle_tidy_core.specs.Tidied.{IsTidyTextOf}
 use Rattle.isle_lsp_protocol.specs.Results.{text_edit}
+use Rattle.isle_lsp_diagnostics.specs.Published.{range_of}
 use Rattle.isle_lsp_text.specs.Edits.{AreEdits, applied, part}
-use Rattle.isle_lsp_text.specs.Positions.{position_at}
 use Rattle.isle_lsp_text.specs.declared.edits.Edit.{Edit}
-use Rattle.isle_lsp_text.specs.declared.positions.Range.{Range}
-
--- the range between two offsets
-abbrev pub range_of : List ℕ → (start end : ℕ) → Range
-range_of text start end = record { start = position_at start text; end = position_at end text }
 
 -- an edit, at its range of the old text
 abbrev pub edit_data : (old new : List ℕ) → Edit → Data

@@ -19,7 +19,7 @@ use Rattle.isle_lsp_protocol.specs.Capabilities.{initialize_result}
 use Rattle.isle_lsp_features.specs.Answers as names
 use Rattle.isle_lsp_features.specs.Programs.{Question}
 use Rattle.isle_lsp.specs.Formatted.{IsFormatting}
-use Rattle.isle_lsp.specs.Published.{IsPublished}
+use Rattle.isle_lsp_diagnostics.specs.Published.{IsPublished}
 use Rattle.isle_lsp.specs.declared.server.Server.{Server}
 
 -- the state of the server: of the session, the open documents, the folders by their URIs, and whether the client takes edits with versions

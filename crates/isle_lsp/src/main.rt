@@ -1,13 +1,9 @@
 //! `isle-lsp`: a language server for ISLE, on standard input and output.
 #![tactic(auto)]
 
-mod checked;
-mod checks;
 mod conversation;
-mod diagnostics;
 mod formatting;
 mod program;
-mod published;
 mod reports;
 mod server;
 

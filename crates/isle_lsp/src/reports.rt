@@ -11,9 +11,8 @@ ghost use Rattle.isle_lsp_protocol.specs.Parameters as parameters_of;
 ghost use Rattle.isle_lsp.specs.Serving as serving;
 ghost use Rattle.isle_lsp.specs.Serving.{AreReports, IsReport, Publishes, Reports};
 
-use crate::checks::Checks;
-use crate::published::publish_diagnostics;
 use isle_cli::failure::Failure;
+use isle_lsp_diagnostics::{Checks, publish_diagnostics};
 use isle_lsp_files::disk::View;
 use isle_lsp_files::documents::{Document, text_of};
 use isle_lsp_files::texts::{is_together, programs_of};

@@ -16,10 +16,10 @@ ghost use Rattle.isle_lsp.specs.Serving.{IsNamed, IsReply, IsResult, IsResultOf,
 ghost use Rattle.isle_lsp.specs.Serving.{document_in, documents_after, documents_noted, held_of};
 ghost use Rattle.isle_lsp.specs.Serving.{documents_after_notification, folders_after, takes_after};
 
-use crate::checks::Checks;
 use crate::formatting::formatting;
 use crate::reports::reports;
 use isle_cli::failure::Failure;
+use isle_lsp_diagnostics::Checks;
 use isle_lsp_features::{Gathered, Question};
 use isle_lsp_files::disk::View;
 use isle_lsp_files::documents::{Document, close, document_at, open, text_of};

@@ -1,5 +1,0 @@
-use Rattle.std.proofs.Common.{length}
-use Rattle.isle_lsp.proofs.checks.+are_sources.Given as goal
-
-abbrev pub decreases-are_sources : goal.decreases-are_sources
-decreases-are_sources l = length l.sources.now

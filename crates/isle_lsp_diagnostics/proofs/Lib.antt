@@ -1,0 +1,3 @@
+pub mod Readings
+pub mod Sent
+pub mod Tokens

@@ -1,0 +1,103 @@
+-- What the check of programs tells of one of their files.
+use Rattle.std.specs.Prelude.{◌≡◌, ℕ, ◌+◌, ◌-◌, ◌==◌, List, [], ◌∷◌, ◌++◌, Bool, false, Option, None, Some, drop, length, map, max, min, slice_get, string_bytes, if◌then◌else◌}
+use Rattle.std.specs.List.{flat_map, list_any, prefix_len}
+use Rattle.std.specs.Str.{bytes_eq}
+use Rattle.isle_base.specs.Spellings.{in_symbol}
+use Rattle.isle_base_source.specs.Source.{Source}
+use Rattle.isle_base_source.specs.declared.error.Error.{Error}
+use Rattle.isle_base_source.specs.declared.pos.Pos.{Pos}
+use Rattle.isle_ast.specs.Tree.{Definition}
+use Rattle.isle_check_core.specs.FindingWords.{kind_words}
+use Rattle.isle_check_core.specs.Findings.{FindingNode, findings, is_error}
+use Rattle.isle_check_core.specs.Words.{WordsNode}
+use Rattle.isle_program.specs.Reading.{IsReading, refused_count}
+use Rattle.isle_lsp_features.specs.Programs.{Text}
+use Rattle.isle_lsp_diagnostics.specs.Marks.{Mark, check, is_same}
+use Rattle.isle_lsp_diagnostics.specs.declared.checks.Told.{Told as CodeTold}
+
+-- the end of what begins here: that of a symbol, and otherwise one byte on, if there is one
+abbrev pub part_end : List ℕ → (start : ℕ) → ℕ
+part_end text start = start + max (prefix_len in_symbol (drop start text)) (min 1 (length text - start))
+
+-- what a finding tells: where, whether it is an error, its kind, and its message
+pub record Told : Type 0 where
+  pub pos : Pos
+  pub is_error : Bool
+  pub kind : List ℕ
+  pub message : List ℕ
+
+abbrev pub told_of : CodeTold → Told
+told_of t = record { pos = t.pos; is_error = t.is_error; kind = t.kind.now; message = string_bytes t.message }
+
+abbrev pub told_in : Pos → Bool → WordsNode → Told
+told_in pos is_error words = record { pos = pos; is_error = is_error; kind = words.name; message = words.message }
+
+abbrev pub told : FindingNode → Told
+told f = told_in f.pos (is_error f.kind) (kind_words f.kind)
+
+-- the mark of what is told, cut at the end of the text
+abbrev pub checked_mark_at : List ℕ → (start : ℕ) → Told → Mark
+checked_mark_at text start t = record { start = start; end = part_end text start; finder = check t.is_error t.kind; message = t.message }
+
+abbrev pub checked_mark : List ℕ → Told → Mark
+checked_mark text t = checked_mark_at text (min t.pos.offset (length text)) t
+
+-- whether a text is of this file
+abbrev pub is_of : List ℕ → Option Text → Bool
+is_of file None = false
+is_of file (Some t) = bytes_eq t.file file
+
+-- whether a position in a program is in this file
+abbrev pub is_in : List Text → (file : List ℕ) → Pos → Bool
+is_in program file pos = is_of file (slice_get program pos.file)
+
+-- the mark of what is told in a program, if it is in this file
+abbrev pub marks_for : List Text → (file text : List ℕ) → Told → List Mark
+marks_for program file text t = if is_in program file t.pos then checked_mark text t ∷ [] else []
+
+abbrev pub marks_in : List Text → (file text : List ℕ) → List Told → List Mark
+marks_in program file text ts = flat_map (marks_for program file text) ts
+
+abbrev pub source_of : Text → Source
+source_of t = record { name = []; text = t.text }
+
+abbrev pub sources_of : List Text → List Source
+sources_of program = map source_of program
+
+-- what is told of the definitions of a program's reading: if one of its texts has no tree, nothing
+abbrev pub reading_told : List Definition → List (Option Error) → List Told
+reading_told ds refusals = if refused_count refusals == 0 then map told (findings ds) else []
+
+-- this is what the check of a program of these texts tells
+pub record AreTold (sources : List Source) (all : List Told) : Type 0 where
+  pub definitions : List Definition
+  pub refusals : List (Option Error)
+  pub read : IsReading sources definitions refusals
+  pub are : all ≡ reading_told definitions refusals
+
+-- a program that is checked: its texts, and what the check tells
+pub record CheckedProgram : Type 0 where
+  pub sources : List Source
+  pub all : List Told
+
+-- these are the marks in a file, which has this text, of what the check of a program tells
+abbrev pub AreProgramMarks : List Text → (file text : List ℕ) → List Mark → Type 0
+AreProgramMarks program file text marks =
+    (all : List Told) × AreTold (sources_of program) all × (marks ≡ marks_in program file text all)
+
+-- a mark is added, unless one is there that tells the same
+abbrev pub is_among : List Mark → Mark → Bool
+is_among marks m = list_any (λ other. is_same other m) marks
+
+abbrev pub added : List Mark → Mark → List Mark
+added marks m = if is_among marks m then marks else marks ++ m ∷ []
+
+abbrev pub all_added : (marks more : List Mark) → List Mark
+all_added marks [] = marks
+all_added marks (m ∷ more) = all_added (added marks m) more
+
+-- to these marks those of each program are added, and then they are the others
+abbrev pub AreChecked : (programs : List (List Text)) → (file text : List ℕ) → (marks all : List Mark) → Type 0
+AreChecked [] file text marks all = all ≡ marks
+AreChecked (p ∷ ps) file text marks all =
+    (own : List Mark) × AreProgramMarks p file text own × AreChecked ps file text (all_added marks own) all

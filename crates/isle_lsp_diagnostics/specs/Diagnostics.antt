@@ -1,0 +1,77 @@
+-- The diagnostics of a text, on its own and in its programs.
+use Rattle.std.specs.Prelude.{◌≡◌, ℕ, ◌+◌, ◌-◌, ◌⊎◌, List, [], ◌∷◌, ◌++◌, None, Some, filter, length, map, min, not, codes, string_bytes}
+use Rattle.std.specs.List.Sorted.{IsPermutation, IsSortedByKey}
+use Rattle.isle_ast.specs.Tree.{Definition}
+use Rattle.isle_base_source.specs.PositionOrder.{position_cmp}
+use Rattle.isle_base_source.specs.declared.error.Error as errors
+use Rattle.isle_base_source.specs.declared.error.Error.TheVariants.{ParseError}
+use Rattle.isle_lint_core.specs.Finding.{Found, finding_of}
+use Rattle.isle_lint_core.specs.Findings.{findings_in}
+use Rattle.isle_lint_core.specs.Lint.{all_lints, is_default, message}
+use Rattle.isle_lint_core.specs.declared.finding.Finding.{Finding}
+use Rattle.isle_program.specs.Allowances.{Allowance, AreAllowances, is_allowed}
+use Rattle.isle_program.specs.Nesting.{FirstDeep}
+use Rattle.isle_program.specs.Reading.{IsRefusedWith, IsTreeOf}
+use Rattle.isle_lsp_features.specs.Programs.{Text}
+use Rattle.isle_lsp_diagnostics.specs.Checked.{AreChecked}
+use Rattle.isle_lsp_diagnostics.specs.Marks.{Mark, lint, parser}
+
+-- the message of a finding
+abbrev pub found_text : Found → List ℕ
+found_text f = message f.lint ++ (codes " '" ++ (f.name ++ codes "'"))
+
+-- the diagnostic of a finding, at its name, cut at the end of the text
+abbrev pub found_mark : List ℕ → Found → Mark
+found_mark text f =
+    let start : ℕ = min f.pos.offset (length text) in
+    record { start = start; end = start + min (length f.name) (length text - start); finder = lint f.lint; message = found_text f }
+
+-- the diagnostic of a text that spells no tree
+abbrev pub error_mark : List ℕ → errors.Error → List Mark
+error_mark text (ParseError msg span) =
+    record { start = min span.from.offset (length text); end = min span.to.offset (length text); finder = parser; message = string_bytes msg } ∷ []
+error_mark text _ = []
+
+-- the findings that no comment allows
+abbrev pub shown : List Allowance → List Found → List Found
+shown allowances fs = filter (λ f. not (is_allowed allowances f)) fs
+
+-- The marks are those of the findings of the default lints in the definitions, in order of position, except those that comments allow.
+pub record AreMarksOf (text : List ℕ) (ds : List Definition) (told : List Mark) : Type 0 where
+  pub found : List Finding
+  pub exact : IsPermutation (findings_in (filter is_default all_lints) ds) (map finding_of found)
+  pub in_order : IsSortedByKey (λ f. f.pos) position_cmp found
+  pub allowances : List Allowance
+  pub allowing : AreAllowances text allowances
+  pub marks : told ≡ map (found_mark text) (shown allowances (map finding_of found))
+
+-- the marks of a text that spells this tree: of what the check of the programs that have it finds in it, and then of lints
+pub record AreTreeMarks (programs : List (List Text)) (file text : List ℕ) (ds : List Definition) (marks : List Mark) : Type 0 where
+  pub checks : List Mark
+  pub lints : List Mark
+  pub checked : AreChecked programs file text [] checks
+  pub linted : AreMarksOf text ds lints
+  pub are : marks ≡ checks ++ lints
+
+-- the marks of a text: of its tree, or why it has none
+abbrev pub AreShallowMarks : (programs : List (List Text)) → (file text : List ℕ) → List Mark → Type 0
+AreShallowMarks programs file text marks =
+    ((ds : List Definition) × IsTreeOf 0 text ds × AreTreeMarks programs file text ds marks)
+    ⊎ ((e : errors.Error) × IsRefusedWith 0 text e × (marks ≡ error_mark text e))
+
+-- the diagnostic of a text that nests too deeply, at the first token that does
+abbrev pub deep_mark : List ℕ → ℕ → Mark
+deep_mark text offset =
+    let start : ℕ = min offset (length text) in
+    record {
+      start = start;
+      end = start + min 1 (length text - start);
+      finder = parser;
+      message = codes "more than 500 lists in one another, or '@' in one definition";
+    }
+
+-- the marks of any text, which is this file of the programs; one that nests too deeply has that mark alone
+abbrev pub AreMarks : (programs : List (List Text)) → (file text : List ℕ) → List Mark → Type 0
+AreMarks programs file text marks =
+    ((offset : ℕ) × FirstDeep text (Some offset) × (marks ≡ deep_mark text offset ∷ []))
+    ⊎ (FirstDeep text None × AreShallowMarks programs file text marks)

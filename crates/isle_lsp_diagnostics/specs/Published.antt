@@ -1,0 +1,41 @@
+-- The diagnostics of a document.
+use Rattle.std.specs.Prelude.{◌≡◌, ℕ, List, codes, map, Option, None, Some}
+use Rattle.serde_json.specs.Data.{Data, array, member, no_items, no_members, object, string}
+use Rattle.serde_json.specs.View.{items_of}
+use Rattle.isle_lint_core.specs.Lint.{name}
+use Rattle.isle_lsp_diagnostics.specs.Diagnostics.{AreMarks}
+use Rattle.isle_lsp_diagnostics.specs.Marks.{Finder, Mark, check, lint, parser}
+use Rattle.isle_lsp_features.specs.Programs.{Text}
+use Rattle.isle_lsp_protocol.specs.Replies.{IsTextOf, publishing}
+use Rattle.isle_lsp_protocol.specs.Results.{checked_data, error_data, warning_data}
+use Rattle.isle_lsp_text.specs.Positions.{position_at}
+use Rattle.isle_lsp_text.specs.declared.positions.Range.{Range}
+
+-- the range between two offsets
+abbrev pub range_of : List ℕ → (start end : ℕ) → Range
+range_of text start end = record { start = position_at start text; end = position_at end text }
+
+abbrev pub diagnostic_data_at : Range → Finder → List ℕ → Data
+diagnostic_data_at range parser message = error_data range message
+diagnostic_data_at range (lint it) message = warning_data range (name it) message
+diagnostic_data_at range (check is_error kind) message = checked_data range is_error kind message
+
+-- a diagnostic, at its range
+abbrev pub mark_data : List ℕ → Mark → Data
+mark_data text m = diagnostic_data_at (range_of text m.start m.end) m.finder m.message
+
+abbrev pub diagnostics_data : List ℕ → List Mark → Data
+diagnostics_data text marks = array (items_of (map (mark_data text) marks))
+
+-- the diagnostics of a text, which is this file of the programs; without a text there are none
+abbrev pub AreDiagnostics : (programs : List (List Text)) → (file : List ℕ) → Option (List ℕ) → Data → Type 0
+AreDiagnostics programs file None d = d ≡ array no_items
+AreDiagnostics programs file (Some text) d = (marks : List Mark) × AreMarks programs file text marks × (d ≡ diagnostics_data text marks)
+
+-- the parameters of the notification with the diagnostics of a document
+abbrev pub parameters_data : List ℕ → Data → Data
+parameters_data uri diagnostics = object (member (codes "diagnostics") diagnostics (member (codes "uri") (string uri) no_members))
+
+-- the notification for a document, which is this file of the programs, with its text, or for one that is not open
+abbrev pub IsPublished : (uri : List ℕ) → (programs : List (List Text)) → (file : List ℕ) → Option (List ℕ) → List ℕ → Type 0
+IsPublished uri programs file text sent = (d : Data) × AreDiagnostics programs file text d × IsTextOf (publishing uri d) sent
