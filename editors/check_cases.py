@@ -12,7 +12,7 @@ ARGUMENTS = "(rule (lower x) (shared x x))\n"
 COUNT = "error 2:17 argument-count Incorrect argument count for term 'shared': got 2, expect 1"
 LOWER = "(decl lower (T) T)\n"
 ONLY = "(decl only (T) T)\n(extern constructor only only)\n"
-NOT_THERE = "error 4:18 unknown-term Unknown term in expression: 'only'"
+NOT_THERE = "error 5:19 unknown-term Unknown term in expression: 'only'"
 ABSENT = TOML.replace(', "made/absent.isle"', "")
 
 CHECKED = [
@@ -73,7 +73,7 @@ CHECKED = [
     Case(
         "checking: an open file of two programs, of which one changes",
         {
-            "prelude.isle": PRELUDE + "(rule (shared x) (only x))\n",
+            "prelude.isle": PRELUDE + "(decl wrapped (T) T)\n(rule (wrapped x) (only x))\n",
             X64_FILE: LOWER + "(rule (lower x) x)\n",
             ARM_FILE: LOWER + "(rule (lower x) x)\n" + ONLY,
             "isle.toml": ABSENT,
