@@ -1,8 +1,8 @@
-//! The diagnostics of an ISLE text: that it nests too deeply, or its parse error, or else what the
-//! check of its programs tells of it, and the findings of the lints that are on by default, except
-//! those that comments allow.
+//! The diagnostics of an ISLE text: that it nests too deeply, or its parse error. Or else what the
+//! check of its programs finds in it, and then the findings of the lints that are on by default,
+//! except those that comments allow.
 //!
-//! For lints the text is read on its own, so those of whole programs find nothing.
+//! Lints see this text alone: of two rules with one name, in two files, none is found.
 
 ghost use Rattle.std.specs.Prelude.{◌≡◌, ◌++◌, ◌∷◌, [], IfErr, IfOk, filter, length, map};
 ghost use Rattle.std.specs.Prelude.{string_bytes};

@@ -102,7 +102,7 @@ fn own_options() -> Options
 /// | Status | When |
 /// |---|---|
 /// | 0 | all is tidied; with `--check`, all is tidy |
-/// | 1 | a text can't be tidied; with `--check`, or one would change |
+/// | 1 | a text can't be tidied, or with `--check` one would change |
 /// | 2 | usage error |
 /// | 3 | an input can't be read or isn't UTF-8, or a folder has no ISLE file |
 /// | 4 | out of memory |
