@@ -22,8 +22,8 @@ pub const INPUT_NAME: &str = "<stdin>";
 pub struct Options {
     /// The options without a value, such as `--check`.
     pub flags: &'static [&'static str],
-    /// The options with a value, such as `--width`. It is the next word, or stands behind `=` in the
-    /// word of the option.
+    /// The options with a value, such as `--width`. The value is the next word, or follows `=` in
+    /// the option's word.
     pub settings: &'static [&'static str],
 }
 
@@ -72,7 +72,7 @@ struct Taken {
 /// Options may stand anywhere among the names; after `--` every word is a name. A word that begins
 /// with `-` is an option, except `-` alone, which is a name. An option may be repeated.
 ///
-/// The value of an option is the next word, or stands behind the first `=` of the option's word.
+/// The value of an option is the next word, or follows the first `=` of the option's word.
 ///
 /// It fails with `Usage` if an option is unknown or its value is missing, and with `Memory`.
 /// Otherwise `--help` takes precedence over `--version`, and both over the work.
@@ -192,8 +192,8 @@ fn take_any(alloc: Global, options: &Options, word: String) -> Result<Taken, Fai
     Err(Failure::Usage)
 }
 
-/// The option and its value that a word such as `--width=60` gives, if the part before its first
-/// `=` is an option with a value.
+/// The option and its value in a word such as `--width=60`, if the part before its first `=` is an
+/// option with a value.
 fn joined_setting(
     alloc: Global,
     options: &Options,
@@ -212,7 +212,7 @@ fn joined_setting(
     }
 }
 
-/// What stands in front of the first `=` of a word, and what stands behind it.
+/// The parts of a word before and after its first `=`.
 pub(crate) fn parts_at_equals(word: &str) -> Option<(&str, &str)>
     ensures { option_map (λ parts. (parts.0.now, parts.1.now)) result
         ≡ parts_at_equals word.now }

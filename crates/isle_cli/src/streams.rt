@@ -52,7 +52,7 @@ pub enum ReadFault {
     Folder,
     /// It isn't a regular file, where one is needed.
     NotRegular,
-    /// It isn't UTF-8: so many bytes stand in front of the first one that is wrong.
+    /// It isn't UTF-8: this many bytes precede the first one that is wrong.
     NotUtf8(usize),
     /// It can't be read to its end, for another reason.
     Unreadable,

@@ -1,4 +1,4 @@
-//! What is told of words that are none of the usage: the option that is unknown, and the usage.
+//! The messages of usage errors: the first unknown option, and the usage.
 
 ghost use Rattle.std.specs.Prelude.{◌≡◌, Some, is_some, map, string_bytes};
 ghost use Rattle.std.specs.Option.{option_copied, option_map};
@@ -28,9 +28,9 @@ enum Next<'a> {
 
 /// Writes the message of a failure of these words to standard error, and returns the exit status.
 ///
-/// The message for `Usage` is the usage, after `PROGRAM: unknown option 'WORD'` and a line end if
-/// there is an unknown option; the first one is told. Otherwise it is that of `report`. Errors of
-/// standard error are ignored: it then has a beginning of the message.
+/// The message for `Usage` is the usage. If an option is unknown, the line
+/// `PROGRAM: unknown option 'WORD'` comes before it, about the first one. Otherwise the message is
+/// that of `report`. Errors of standard error are ignored: it then has a beginning of the message.
 pub fn report_words<E: Write>(
     program: &Program,
     options: &Options,
@@ -51,7 +51,7 @@ pub fn report_words<E: Write>(
     }
 }
 
-/// Writes the usage, after the option that is unknown, if there is one.
+/// Writes the usage, after a line about the first unknown option, if there is one.
 fn write_usage<E: Write>(
     program: &Program,
     options: &Options,
@@ -79,7 +79,8 @@ fn write_unknown<E: Write>(program: &Program, word: &str, faults: &mut E) -> io:
     write_whole(faults, program.usage.as_bytes())
 }
 
-/// The first word that is no option of the program, where an option may stand.
+/// The first word that looks like an option and is none of the program's, where an option may
+/// stand.
 pub fn unknown_word<'a>(options: &Options, words: &'a [String]) -> Option<&'a str>
     ensures { option_copied result
         ≡ unknown_word options.now anything_awaited (map string_bytes words.now) }

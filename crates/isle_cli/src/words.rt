@@ -54,7 +54,7 @@ fn after_first(mut args: Vec<String>) -> Vec<String>
     args
 }
 
-/// The number that a word of decimal digits writes, if it fits `usize`.
+/// The value of a word of decimal digits, if it fits in `usize`.
 pub fn parsed_width(word: &str) -> Option<usize>
     ensures { SomeIff result (IsWidth word.now) (digits_value 10 word.now) }
 {

@@ -1,5 +1,5 @@
-//! How deep a text nests. Each list, and each pattern behind an `@`, may take a stack frame of those
-//! that walk a tree; so a text that nests too deeply is not made a tree.
+//! How deep a text nests. A walk over a tree may need a stack frame for each list, and for each
+//! pattern after an `@`. So no tree is made from a text that nests too deeply.
 
 ghost use Rattle.std.specs.Prelude.{◌≡◌, IfOk, false};
 ghost use Rattle.isle_base.specs.TokenView.{token_of_ref};

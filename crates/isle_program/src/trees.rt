@@ -28,7 +28,7 @@ pub struct Reading {
 }
 
 /// Parses the texts of a program, each as the file with its index. A text that nests too deeply is
-/// refused, as one that does not parse. The only failure is `Memory`.
+/// refused, like one that does not parse. The only error is `Memory`.
 pub fn read_all(alloc: Global, sources: &[Source]) -> Result<Reading, Failure>
     ensures ok { IfOk result (λ reading. IsReading (map source_of sources.now)
         (definitions_of reading.defs.items) reading.refusals.items) }
@@ -133,8 +133,7 @@ fn too_deep(alloc: Global, file: usize, text: &str, offset: usize) -> Result<Err
     })
 }
 
-/// Parses a text as the file with this number. Stack is used for each list that is in another, so
-/// ask `deep_list` first.
+/// Parses a text as the file with this number. Nested lists take stack, so call `deep_list` first.
 pub fn read_defs(alloc: Global, file: usize, text: &str) -> Result<Vec<Def>, Fault>
     ensures { IsReadAs file text.now result }
 {
