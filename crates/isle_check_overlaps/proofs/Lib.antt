@@ -1,2 +1,5 @@
 pub mod StarLemmas
 pub mod TermLemmas
+pub mod ListLemmas
+pub mod GroupLemmas
+pub mod DegreeLemmas

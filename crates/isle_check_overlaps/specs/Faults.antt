@@ -1,5 +1,5 @@
 -- Rules that match nothing, overlap, or are hidden.
-use Rattle.std.specs.Prelude.{ℕ, suc, List, [], ◌∷◌, ◌++◌, ◌==◌, Bool, true, false, length, map, codes, if◌then◌else◌}
+use Rattle.std.specs.Prelude.{ℕ, List, [], ◌∷◌, ◌++◌, ◌==◌, true, false, length, map, codes, if◌then◌else◌}
 use Rattle.std.specs.Fmt.{signed_decimal}
 use Rattle.std.specs.List.{flat_map}
 use Rattle.isle_base_source.specs.declared.pos.Pos.{Pos}
@@ -60,7 +60,7 @@ abbrev pub endless_rules : List MatchingNode → List FaultNode
 endless_rules ms = flat_map (λ m. endless_by m.pos m.settled) ms
 
 abbrev pub star_at : CandidateNode → StarNode → List FaultNode
-star_at c s = if s.center == c.number then fault (overlaps s.others) c.pos ∷ [] else []
+star_at c s = if s.center == c.number then fault (overlaps (map (λ o. o.pos) s.others)) c.pos ∷ [] else []
 
 abbrev pub if_hidden : CandidateNode → CandidateNode → List Pos
 if_hidden high low = if hides high low then low.pos ∷ [] else []

@@ -1,31 +1,27 @@
 -- The pairs of rules that overlap, told as stars.
 use Rattle.std.specs.Prelude.{ℕ, zero, suc, List, [], ◌∷◌, ◌++◌, ◌==◌, Bool, ◌||◌, not, length, map, nat_le, if◌then◌else◌}
-use Rattle.std.specs.List.{filter}
-use Rattle.isle_base_source.specs.declared.pos.Pos.{Pos}
+use Rattle.std.specs.List.{filter, flat_map}
 use Rattle.isle_check_overlaps.specs.Candidates.{CandidateNode, overlap}
-
-pub record MarkNode : Type 0 where
-  pub number : ℕ
-  pub pos : Pos
-
-abbrev pub mark : CandidateNode → MarkNode
-mark c = record { number = c.number; pos = c.pos }
 
 -- two rules that overlap
 pub record PairNode : Type 0 where
-  pub first : MarkNode
-  pub second : MarkNode
+  pub first : CandidateNode
+  pub second : CandidateNode
 
 abbrev pub pair : CandidateNode → CandidateNode → List PairNode
-pair a b = if overlap a b then record { first = mark a; second = mark b } ∷ [] else []
+pair a b = if overlap a b then record { first = a; second = b } ∷ [] else []
 
-abbrev pub pairs_with : CandidateNode → List CandidateNode → List PairNode
-pairs_with a [] = []
-pairs_with a (b ∷ bs) = pair a b ++ pairs_with a bs
+-- those of a rule with the rules before it
+abbrev pub pairs_before : (earlier : List CandidateNode) → CandidateNode → List PairNode
+pairs_before earlier b = flat_map (λ a. pair a b) earlier
 
+abbrev pub pairs_after : (earlier : List CandidateNode) → List CandidateNode → List PairNode
+pairs_after earlier [] = []
+pairs_after earlier (b ∷ bs) = pairs_before earlier b ++ pairs_after (earlier ++ b ∷ []) bs
+
+-- the pairs of rules that overlap
 abbrev pub pairs : List CandidateNode → List PairNode
-pairs [] = []
-pairs (a ∷ later) = pairs_with a later ++ pairs later
+pairs cs = pairs_after [] cs
 
 abbrev pub touches : (number : ℕ) → PairNode → Bool
 touches number p = p.first.number == number || p.second.number == number
@@ -42,10 +38,10 @@ top ps (suc n) = if nat_le (degree ps (top ps n)) (degree ps n) then n else top 
 -- a rule with those that it overlaps with
 pub record StarNode : Type 0 where
   pub center : ℕ
-  pub others : List Pos
+  pub others : List CandidateNode
 
-abbrev pub other_than : (number : ℕ) → PairNode → Pos
-other_than number p = if p.first.number == number then p.second.pos else p.first.pos
+abbrev pub other_than : (number : ℕ) → PairNode → CandidateNode
+other_than number p = if p.first.number == number then p.second else p.first
 
 abbrev pub star : (number : ℕ) → List PairNode → StarNode
 star number ps = record { center = number; others = map (other_than number) (filter (touches number) ps) }

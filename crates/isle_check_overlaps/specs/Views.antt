@@ -1,9 +1,9 @@
 -- Rules that are compared, and what is found of them, as pure values.
 use Rattle.std.specs.Prelude.{List, map, string_bytes}
+use Rattle.std.specs.Borrow.{Bor}
 use Rattle.isle_check_places.specs.Views.{all_constrained_of, clashes_of, settled_of}
 use Rattle.isle_check_overlaps.specs.declared.matching.Matching.{Matching}
 use Rattle.isle_check_overlaps.specs.declared.candidates.Candidate.{Candidate}
-use Rattle.isle_check_overlaps.specs.declared.stars.Mark.{Mark}
 use Rattle.isle_check_overlaps.specs.declared.stars.Pair.{Pair}
 use Rattle.isle_check_overlaps.specs.declared.stars.Star.{Star}
 use Rattle.isle_check_overlaps.specs.declared.fault.Fault.{Fault}
@@ -13,7 +13,7 @@ use Rattle.isle_check_overlaps.specs.declared.fault.Comparison.{Comparison}
 use Rattle.isle_check_overlaps.specs.Matchings.{MatchingNode}
 use Rattle.isle_check_overlaps.specs.Candidates.{CandidateNode}
 use Rattle.isle_check_overlaps.specs.Faults as nodes
-use Rattle.isle_check_overlaps.specs.Stars.{MarkNode, PairNode, StarNode}
+use Rattle.isle_check_overlaps.specs.Stars.{PairNode, StarNode}
 
 abbrev pub matching_of : Matching → MatchingNode
 matching_of m =
@@ -43,17 +43,18 @@ candidate_of c =
 abbrev pub candidates_of : List Candidate → List CandidateNode
 candidates_of cs = map candidate_of cs
 
-abbrev pub mark_of : Mark → MarkNode
-mark_of m = record { number = m.number; pos = m.pos }
+-- those of references
+abbrev pub candidates_at : List (Bor Candidate) → List CandidateNode
+candidates_at cs = map (λ c. candidate_of c.now) cs
 
 abbrev pub pair_of : Pair → PairNode
-pair_of p = record { first = mark_of p.first; second = mark_of p.second }
+pair_of p = record { first = candidate_of p.first.now; second = candidate_of p.second.now }
 
 abbrev pub pairs_of : List Pair → List PairNode
 pairs_of ps = map pair_of ps
 
 abbrev pub star_of : Star → StarNode
-star_of s = record { center = s.center; others = s.others.items }
+star_of s = record { center = s.center; others = candidates_at s.others.items }
 
 abbrev pub stars_of : List Star → List StarNode
 stars_of ss = map star_of ss

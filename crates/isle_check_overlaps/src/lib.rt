@@ -3,6 +3,7 @@
 
 mod candidates;
 mod fault;
+mod groups;
 mod matching;
 mod overlaps;
 mod stars;

@@ -1,15 +1,19 @@
 //! Rules, compared with one another.
 
 ghost use Rattle.std.specs.Prelude.{◌≡◌, ◌++◌, IfOk, OnOk};
+ghost use Rattle.std.specs.BTreeMap.{get_by_text};
 ghost use Rattle.std.specs.List.{flat_map};
 ghost use Rattle.isle_check_overlaps.specs.Faults.{hidden_by, meetings, met_at, comparison_of};
 ghost use Rattle.isle_check_overlaps.specs.Faults.{meetings_by, shadow_at, star_at};
+ghost use Rattle.isle_check_overlaps.specs.Groups.{AreGroups, group_of};
 ghost use Rattle.isle_check_overlaps.specs.Views as views;
-ghost use Rattle.isle_check_overlaps.specs.Views.{candidate_of, candidates_of, faults_of};
+ghost use Rattle.isle_check_overlaps.specs.Views.{candidate_of, candidates_at, candidates_of};
+ghost use Rattle.isle_check_overlaps.specs.Views.{faults_of};
 ghost use Rattle.isle_check_overlaps.specs.Views.{matchings_of, star_of, stars_of};
 
 use crate::candidates::{Candidate, candidates, hides};
 use crate::fault::{Comparison, Fault, Kind};
+use crate::groups::{Groups, groups};
 use crate::matching::Matching;
 use crate::stars::{Star, pairs, stars};
 use crate::unreachable::{add_unreachable, endless_rules};
@@ -45,20 +49,23 @@ fn add_meetings(
 {
     let pairs = pairs(alloc, candidates)?;
     let stars = stars(alloc, count, pairs)?;
-    add_met_all(alloc, &stars, candidates, found)
+    let groups = groups(alloc, candidates)?;
+    add_met_all(alloc, &stars, &groups, candidates, found)
 }
 
 fn add_met_all(
     alloc: Global,
     stars: &[Star],
+    groups: &Groups,
     candidates: &[Candidate],
     found: &mut Vec<Fault>,
 ) -> Result<(), AllocError>
+    requires { AreGroups groups.now (candidates_of candidates.now) }
     ensures { OnOk result (faults_of found.new.items ≡ faults_of found.old.items
         ++ meetings_by (stars_of stars.now) (candidates_of candidates.now)) }
 {
     for candidate in candidates {
-        add_met(alloc, stars, candidates, candidate, found)?;
+        add_met(alloc, stars, groups, candidate, found)?;
     }
     Ok(())
 }
@@ -66,16 +73,16 @@ fn add_met_all(
 fn add_met(
     alloc: Global,
     stars: &[Star],
-    candidates: &[Candidate],
+    groups: &Groups,
     candidate: &Candidate,
     found: &mut Vec<Fault>,
 ) -> Result<(), AllocError>
     ensures { OnOk result (faults_of found.new.items ≡ faults_of found.old.items
-        ++ met_at (stars_of stars.now) (candidates_of candidates.now)
-        (candidate_of candidate.now)) }
+        ++ met_at (stars_of stars.now)
+        (group_of (get_by_text groups.now candidate.now.term.now)) (candidate_of candidate.now)) }
 {
     add_stars(alloc, stars, candidate, found)?;
-    let hidden = hidden_by(alloc, candidate, candidates)?;
+    let hidden = hidden_by(alloc, candidate, groups)?;
     add_shadow(candidate, hidden, found)
 }
 
@@ -107,7 +114,9 @@ fn add_star(
         return Ok(());
     }
     let mut others = Vec::new(alloc);
-    others.extend_from_slice(&star.others)?;
+    for other in &star.others {
+        others.push(other.pos)?;
+    }
     found.push(Fault {
         kind: Kind::Overlaps(others),
         pos: candidate.pos,
@@ -116,16 +125,22 @@ fn add_star(
 }
 
 /// Returns the positions of the rules that a rule hides.
-fn hidden_by(
-    alloc: Global,
-    high: &Candidate,
-    candidates: &[Candidate],
-) -> Result<Vec<Pos>, AllocError>
-    ensures { IfOk result (λ made. made.items
-        ≡ hidden_by (candidate_of high.now) (candidates_of candidates.now)) }
+fn hidden_by(alloc: Global, high: &Candidate, groups: &Groups) -> Result<Vec<Pos>, AllocError>
+    ensures { IfOk result (λ made. made.items ≡ hidden_by (candidate_of high.now)
+        (group_of (get_by_text groups.now high.now.term.now))) }
+{
+    let Some(group) = groups.get(high.term) else {
+        return Ok(Vec::new(alloc));
+    };
+    hidden_in(alloc, high, group)
+}
+
+fn hidden_in(alloc: Global, high: &Candidate, group: &[&Candidate]) -> Result<Vec<Pos>, AllocError>
+    ensures { IfOk result
+        (λ made. made.items ≡ hidden_by (candidate_of high.now) (candidates_at group.now)) }
 {
     let mut hidden = Vec::new(alloc);
-    for low in candidates {
+    for low in group {
         if hides(high, low) {
             hidden.push(low.pos)?;
         }

@@ -1,83 +1,92 @@
 //! The pairs of rules that overlap, told as stars.
 
-ghost use Rattle.std.specs.Prelude.{◌≡◌, ◌==◌, ◌++◌, ◌∷◌, [], IfOk, OnOk, length, map};
+ghost use Rattle.std.specs.Prelude.{◌≡◌, ◌==◌, ◌<◌, ◌++◌, ◌∷◌, ℕ, [], IfOk, OnOk};
+ghost use Rattle.std.specs.Prelude.{get_or, length, map};
+ghost use Rattle.std.specs.BTreeMap.{get_by_text};
 ghost use Rattle.std.specs.List.{filter};
-ghost use Rattle.isle_check_overlaps.specs.Stars.{degree, other_than, pair, pairs, pairs_with};
+ghost use Rattle.isle_check_overlaps.specs.Degrees.{AreDegrees, counted, counted_pair};
+ghost use Rattle.isle_check_overlaps.specs.Groups.{group_of};
+ghost use Rattle.isle_check_overlaps.specs.Stars.{other_than, pair, pairs, pairs_before};
 ghost use Rattle.isle_check_overlaps.specs.Stars.{star, stars, top, touches, without};
-ghost use Rattle.isle_check_overlaps.specs.Views.{candidate_of, candidates_of, pair_of};
-ghost use Rattle.isle_check_overlaps.specs.Views.{pairs_of, star_of, stars_of};
+ghost use Rattle.isle_check_overlaps.specs.Views.{candidate_of, candidates_at, candidates_of};
+ghost use Rattle.isle_check_overlaps.specs.Views.{pair_of, pairs_of, star_of, stars_of};
 
 use crate::candidates::{Candidate, overlap};
-use isle_base_source::pos::Pos;
+use crate::groups::{Groups, add_to_group, no_groups};
 use std::alloc::{AllocError, Global};
 
-/// A rule by its number and its position.
-#[derive(Clone, Copy, Debug)]
-pub struct Mark {
-    pub number: usize,
-    pub pos: Pos,
-}
-
 /// Two rules that overlap.
-#[derive(Clone, Copy, Debug)]
-pub struct Pair {
-    pub first: Mark,
-    pub second: Mark,
+#[derive(Clone, Copy)]
+pub struct Pair<'c, 'm, 'a> {
+    pub first: &'c Candidate<'m, 'a>,
+    pub second: &'c Candidate<'m, 'a>,
 }
 
-/// A rule, and the positions of those that it overlaps with.
-#[derive(Debug, Drop)]
-pub struct Star {
+/// A rule, and those that it overlaps with.
+#[derive(Drop)]
+pub struct Star<'c, 'm, 'a> {
     pub center: usize,
-    pub others: Vec<Pos>,
+    pub others: Vec<&'c Candidate<'m, 'a>>,
 }
 
-/// Returns the pairs of rules that overlap.
-pub fn pairs(alloc: Global, candidates: &[Candidate]) -> Result<Vec<Pair>, AllocError>
+/// Returns the pairs of rules that overlap. An `Err` means out of memory.
+pub fn pairs<'c, 'm, 'a>(
+    alloc: Global,
+    candidates: &'c [Candidate<'m, 'a>],
+) -> Result<Vec<Pair<'c, 'm, 'a>>, AllocError>
     ensures { IfOk result
         (λ made. pairs_of made.items ≡ pairs (candidates_of candidates.now)) }
 {
+    let mut earlier = no_groups(alloc);
     let mut made = Vec::new(alloc);
-    for index in 0..candidates.len() {
-        add_pairs(&candidates[index], &candidates[index + 1..], &mut made)?;
+    for candidate in candidates {
+        add_pairs(&earlier, candidate, &mut made)?;
+        add_to_group(alloc, candidate, &mut earlier)?;
     }
     Ok(made)
 }
 
-fn add_pairs(
-    candidate: &Candidate,
-    later: &[Candidate],
-    made: &mut Vec<Pair>,
+/// Adds the pairs of a rule with those before it.
+fn add_pairs<'c, 'm, 'a>(
+    earlier: &Groups<'c, 'm, 'a>,
+    candidate: &'c Candidate<'m, 'a>,
+    made: &mut Vec<Pair<'c, 'm, 'a>>,
 ) -> Result<(), AllocError>
     ensures { OnOk result (pairs_of made.new.items ≡ pairs_of made.old.items
-        ++ pairs_with (candidate_of candidate.now) (candidates_of later.now)) }
+        ++ pairs_before (group_of (get_by_text earlier.now candidate.now.term.now))
+        (candidate_of candidate.now)) }
 {
-    for other in later {
-        add_pair(candidate, other, made)?;
+    let Some(group) = earlier.get(candidate.term) else {
+        return Ok(());
+    };
+    add_pairs_in(group, candidate, made)
+}
+
+fn add_pairs_in<'c, 'm, 'a>(
+    group: &[&'c Candidate<'m, 'a>],
+    candidate: &'c Candidate<'m, 'a>,
+    made: &mut Vec<Pair<'c, 'm, 'a>>,
+) -> Result<(), AllocError>
+    ensures { OnOk result (pairs_of made.new.items ≡ pairs_of made.old.items
+        ++ pairs_before (candidates_at group.now) (candidate_of candidate.now)) }
+{
+    for other in group {
+        add_pair(other, candidate, made)?;
     }
     Ok(())
 }
 
-fn add_pair(
-    candidate: &Candidate,
-    other: &Candidate,
-    made: &mut Vec<Pair>,
+fn add_pair<'c, 'm, 'a>(
+    first: &'c Candidate<'m, 'a>,
+    second: &'c Candidate<'m, 'a>,
+    made: &mut Vec<Pair<'c, 'm, 'a>>,
 ) -> Result<(), AllocError>
     ensures { OnOk result (pairs_of made.new.items ≡ pairs_of made.old.items
-        ++ pair (candidate_of candidate.now) (candidate_of other.now)) }
+        ++ pair (candidate_of first.now) (candidate_of second.now)) }
 {
-    if !overlap(candidate, other) {
-        return Ok(());
+    if overlap(first, second) {
+        made.push(Pair { first, second })?;
     }
-    let first = Mark {
-        number: candidate.number,
-        pos: candidate.pos,
-    };
-    let second = Mark {
-        number: other.number,
-        pos: other.pos,
-    };
-    made.push(Pair { first, second })?;
     Ok(())
 }
 
@@ -87,34 +96,62 @@ fn touches(pair: &Pair, number: usize) -> bool
     pair.first.number == number || pair.second.number == number
 }
 
-/// Returns how many rules overlap with a rule.
-fn degree(pairs: &[Pair], number: usize) -> usize
-    ensures { result ≡ degree (pairs_of pairs.now) number }
+/// Returns, for each of so many numbers, how many rules overlap with the rule of that number.
+fn degrees(alloc: Global, pairs: &[Pair], count: usize) -> Result<Vec<usize>, AllocError>
+    ensures count { IfOk result (λ made. length made.items ≡ count) }
+    ensures each { IfOk result (λ made. AreDegrees made.items (pairs_of pairs.now)) }
 {
-    let mut count = 0;
+    let mut degrees = vec![in alloc; 0; count]?;
     for pair in pairs {
-        if touches(pair, number) {
-            count += 1;
-        }
+        count_pair(pair, &mut degrees);
     }
-    count
+    Ok(degrees)
 }
 
-/// Returns the rule that overlaps with most, of equals the last one, of so many rules.
-fn top(pairs: &[Pair], count: usize) -> usize
-    ensures { result ≡ top (pairs_of pairs.now) count }
+/// Counts the rules of a pair.
+fn count_pair(pair: &Pair, counts: &mut Vec<usize>)
+    requires { (number : ℕ) → number < length counts.old.items
+        → get_or counts.old.items number 0 < 18446744073709551615 }
+    ensures { counts.new.items ≡ counted_pair counts.old.items (pair_of pair.now) }
 {
+    count_rule(pair.first.number, counts);
+    if pair.second.number != pair.first.number {
+        count_rule(pair.second.number, counts);
+    }
+}
+
+/// Adds one to the count of a number, if it has one.
+fn count_rule(number: usize, counts: &mut Vec<usize>)
+    requires { number < length counts.old.items
+        → get_or counts.old.items number 0 < 18446744073709551615 }
+    ensures { counts.new.items ≡ counted counts.old.items number }
+{
+    if number < counts.len() {
+        counts[number] += 1;
+    }
+}
+
+/// Returns the rule that overlaps with most, of equals the last one, of so many rules. An `Err`
+/// means out of memory.
+fn top(alloc: Global, pairs: &[Pair], count: usize) -> Result<usize, AllocError>
+    ensures { IfOk result (λ best. best ≡ top (pairs_of pairs.now) count) }
+{
+    let degrees = degrees(alloc, pairs, count)?;
     let mut best = 0;
     for number in 0..count {
-        if degree(pairs, best) <= degree(pairs, number) {
+        if degrees[best] <= degrees[number] {
             best = number;
         }
     }
-    best
+    Ok(best)
 }
 
 /// Returns a rule with those that it overlaps with.
-fn star_around(alloc: Global, pairs: &[Pair], number: usize) -> Result<Star, AllocError>
+fn star_around<'c, 'm, 'a>(
+    alloc: Global,
+    pairs: &[Pair<'c, 'm, 'a>],
+    number: usize,
+) -> Result<Star<'c, 'm, 'a>, AllocError>
     ensures { IfOk result (λ made. star_of made ≡ star number (pairs_of pairs.now)) }
 {
     let mut others = Vec::new(alloc);
@@ -127,23 +164,31 @@ fn star_around(alloc: Global, pairs: &[Pair], number: usize) -> Result<Star, All
     })
 }
 
-fn add_other(pair: &Pair, number: usize, others: &mut Vec<Pos>) -> Result<(), AllocError>
-    ensures { OnOk result (others.new.items ≡ others.old.items
+fn add_other<'c, 'm, 'a>(
+    pair: &Pair<'c, 'm, 'a>,
+    number: usize,
+    others: &mut Vec<&'c Candidate<'m, 'a>>,
+) -> Result<(), AllocError>
+    ensures { OnOk result (candidates_at others.new.items ≡ candidates_at others.old.items
         ++ map (other_than number) (filter (touches number) (pair_of pair.now ∷ []))) }
 {
     if pair.first.number == number {
-        others.push(pair.second.pos)?;
+        others.push(pair.second)?;
         return Ok(());
     }
     if pair.second.number == number {
-        others.push(pair.first.pos)?;
+        others.push(pair.first)?;
         return Ok(());
     }
     Ok(())
 }
 
 /// Returns the pairs without those of a rule.
-fn without(alloc: Global, pairs: &[Pair], number: usize) -> Result<Vec<Pair>, AllocError>
+fn without<'c, 'm, 'a>(
+    alloc: Global,
+    pairs: &[Pair<'c, 'm, 'a>],
+    number: usize,
+) -> Result<Vec<Pair<'c, 'm, 'a>>, AllocError>
     ensures { IfOk result (λ made. pairs_of made.items ≡ without number (pairs_of pairs.now)) }
 {
     let mut made = Vec::new(alloc);
@@ -157,9 +202,13 @@ fn without(alloc: Global, pairs: &[Pair], number: usize) -> Result<Vec<Pair>, Al
 
 /// Returns the stars of pairs among so many rules: the rule that overlaps with most, then the same
 /// without it, and so on. An `Err` means out of memory.
-pub fn stars(alloc: Global, count: usize, pairs: Vec<Pair>) -> Result<Vec<Star>, AllocError>
+pub fn stars<'c, 'm, 'a>(
+    alloc: Global,
+    count: usize,
+    pairs: Vec<Pair<'c, 'm, 'a>>,
+) -> Result<Vec<Star<'c, 'm, 'a>>, AllocError>
     ensures { IfOk result (λ made. stars_of made.items
-        ≡ stars (length (pairs_of pairs.items)) count (pairs_of pairs.items)) }
+        ≡ stars (length (pairs_of pairs.entry.items)) count (pairs_of pairs.entry.items)) }
 {
     let mut made = Vec::new(alloc);
     add_stars(alloc, pairs.len(), count, pairs, &mut made)?;
@@ -173,15 +222,15 @@ fn are_none(pairs: &Vec<Pair>) -> bool
 }
 
 /// Adds at most so many stars.
-fn add_stars(
+fn add_stars<'c, 'm, 'a>(
     alloc: Global,
     steps: usize,
     count: usize,
-    pairs: Vec<Pair>,
-    made: &mut Vec<Star>,
+    pairs: Vec<Pair<'c, 'm, 'a>>,
+    made: &mut Vec<Star<'c, 'm, 'a>>,
 ) -> Result<(), AllocError>
     ensures { OnOk result (stars_of made.new.items
-        ≡ stars_of made.old.items ++ stars steps count (pairs_of pairs.items)) }
+        ≡ stars_of made.old.items ++ stars steps count (pairs_of pairs.entry.items)) }
 {
     if steps == 0 || are_none(&pairs) {
         return Ok(());
@@ -191,18 +240,18 @@ fn add_stars(
 }
 
 /// Adds the star of the rule that overlaps with most, and returns the pairs without it.
-fn add_star(
+fn add_star<'c, 'm, 'a>(
     alloc: Global,
     count: usize,
-    pairs: &Vec<Pair>,
-    made: &mut Vec<Star>,
-) -> Result<Vec<Pair>, AllocError>
+    pairs: &Vec<Pair<'c, 'm, 'a>>,
+    made: &mut Vec<Star<'c, 'm, 'a>>,
+) -> Result<Vec<Pair<'c, 'm, 'a>>, AllocError>
     ensures told { IfOk result (λ _. stars_of made.new.items ≡ stars_of made.old.items
         ++ star (top (pairs_of pairs.now.items) count) (pairs_of pairs.now.items) ∷ []) }
     ensures left { IfOk result (λ left. pairs_of left.items
         ≡ without (top (pairs_of pairs.now.items) count) (pairs_of pairs.now.items)) }
 {
-    let center = top(pairs, count);
+    let center = top(alloc, pairs, count)?;
     made.push(star_around(alloc, pairs, center)?)?;
     without(alloc, pairs, center)
 }

@@ -1,5 +1,4 @@
-use Rattle.std.proofs.Common.{◌≡◌, ◌++◌, OnOk, sym, ◌∙◌, subst}
-use Rattle.isle_check_overlaps.specs.Stars.{stars}
+use Rattle.std.proofs.Common.{◌≡◌, OnOk, sym, ◌∙◌, subst}
 use Rattle.isle_check_overlaps.specs.Views.{pairs_of, stars_of}
 use Rattle.isle_check_overlaps.proofs.StarLemmas.{stars_step}
 use Rattle.isle_check_overlaps.proofs.stars.+add_stars.Goals as goal

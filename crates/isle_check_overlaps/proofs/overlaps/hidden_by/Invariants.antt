@@ -1,8 +1,0 @@
-use Rattle.std.proofs.Common.{◌≡◌, ◌++◌, drop}
-use Rattle.isle_check_overlaps.specs.Faults.{hidden_by}
-use Rattle.isle_check_overlaps.specs.Views.{candidate_of, candidates_of}
-use Rattle.isle_check_overlaps.proofs.overlaps.hidden_by.Given as goal
-
-abbrev pub invariant-loop-low : goal.invariant-loop-low
-invariant-loop-low l =
-    l.hidden.items ++ hidden_by (candidate_of l.high) (candidates_of (drop l.low-index l.candidates)) ≡ hidden_by (candidate_of l.high) (candidates_of l.candidates)
