@@ -1,0 +1,5 @@
+pub mod Next
+pub mod Shapes
+pub mod Said
+pub mod Values
+pub mod Views

@@ -1,0 +1,12 @@
+//! Values that two rules of one term match, written as patterns.
+#![tactic(auto)]
+
+mod next;
+mod said;
+mod shapes;
+#[cfg(test)]
+mod tests;
+mod values;
+mod written;
+
+pub use values::{Value, value_of_both};
