@@ -8,13 +8,14 @@ use Rattle.isle_ast.specs.Tree.{Definition}
 use Rattle.isle_cli.specs.Arguments.{Given}
 use Rattle.isle_cli.specs.Messages.{count_text}
 use Rattle.isle_check_core.specs.Findings.{FindingNode, findings, is_error}
-use Rattle.isle_check_core.specs.FindingWords.{kind_words}
-use Rattle.isle_check_core.specs.Words.{WordsNode}
+use Rattle.isle_check_core.specs.FindingWords.{finding_notes, kind_words}
+use Rattle.isle_check_messages.specs.Notes.{NoteNode}
+use Rattle.isle_check_messages.specs.Words.{WordsNode}
 use Rattle.isle_check.specs.Options.{is_allowed}
 use Rattle.isle_program.specs.Messages.{line_at, refusal_lines}
 use Rattle.isle_program.specs.Reading.{IsReading, refused_count}
 
--- a line with its newline, and whether it tells an error
+-- a finding's line and those of its notes, each with its newline, and whether it tells an error
 pub record LineNode : Type 0 where
   pub is_error : Bool
   pub text : List ℕ
@@ -31,11 +32,14 @@ severity false = codes "warning"
 abbrev pub message_text : WordsNode → List ℕ
 message_text words = words.message ++ codes " [" ++ words.name ++ codes "]"
 
+abbrev pub note_line : List Source → NoteNode → List ℕ
+note_line sources n = line_at sources n.pos (codes "note") n.message
+
 abbrev pub finding_line : List Source → FindingNode → LineNode
 finding_line sources f =
     record {
       is_error = is_error f.kind;
-      text = line_at sources f.pos (severity (is_error f.kind)) (message_text (kind_words f.kind));
+      text = line_at sources f.pos (severity (is_error f.kind)) (message_text (kind_words f.kind)) ++ flat_map (note_line sources) (finding_notes f);
     }
 
 -- where the lines of each text end

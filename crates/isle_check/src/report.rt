@@ -3,13 +3,15 @@
 ghost use Rattle.std.specs.Prelude.{◌≡◌, ◌++◌, IfErr, IfOk, OnOk, false, map, string_bytes};
 ghost use Rattle.isle_ast.specs.MacroArgs.{definitions_have_macro_arg};
 ghost use Rattle.isle_ast.specs.TreeView.{definitions_of};
+ghost use Rattle.std.specs.List.{flat_map};
+ghost use Rattle.isle_check_messages.specs.Notes.{notes_of};
 ghost use Rattle.isle_cli.specs.Arguments.{given_of};
 ghost use Rattle.isle_cli.specs.Sources.{source_of};
 ghost use Rattle.isle_cli.specs.declared.failure.Failure.TheVariants.{Memory};
 ghost use Rattle.isle_check_core.specs.Views.{finding_of, findings_of};
 ghost use Rattle.isle_check.specs.Report.{IsReport, count_of, finding_lines, joined};
 ghost use Rattle.isle_check.specs.Report.{line_for, line_maps, lines_of, refused, rendered};
-ghost use Rattle.isle_check.specs.Report.{report_in};
+ghost use Rattle.isle_check.specs.Report.{note_line, report_in};
 ghost use Rattle.isle_check.specs.ReportView.{lines_at, report_of};
 ghost use Rattle.isle_program.specs.Messages.{line_at};
 ghost use Rattle.isle_program.specs.Reading.{IsReading};
@@ -19,7 +21,7 @@ use isle_ast::ast::Def;
 use isle_base::lexer::Pos;
 use isle_base_source::error::Error;
 use isle_base_source::files::LineMap;
-use isle_check_core::{Finding, check};
+use isle_check_core::{Finding, Note, check};
 use isle_cli::arguments::Argument;
 use isle_cli::failure::Failure;
 use isle_cli::messages::count_line;
@@ -33,7 +35,7 @@ use std::alloc::{AllocError, Global};
 pub struct Line {
     /// Whether it tells an error, and not a warning.
     pub is_error: bool,
-    /// The line, with its newline.
+    /// The line of a finding, and those of its notes, each with its newline.
     pub text: String,
 }
 
@@ -181,7 +183,7 @@ fn add_line(
     let is_error = finding.kind.is_error();
     let severity = if is_error { "error" } else { "warning" };
     let message = format!(in alloc; "{} [{}]", words.message, words.name)?;
-    let text = line_at(
+    let mut text = line_at(
         alloc,
         sources,
         maps,
@@ -189,7 +191,27 @@ fn add_line(
         severity,
         message.as_str(),
     )?;
+    add_notes(alloc, sources, maps, &finding.notes(alloc)?, &mut text)?;
     lines.push(Line { is_error, text })?;
+    Ok(())
+}
+
+/// Adds a line for each note. `maps` are the line maps of the texts.
+fn add_notes(
+    alloc: Global,
+    sources: &[Source],
+    maps: &[LineMap],
+    notes: &[Note],
+    text: &mut String,
+) -> Result<(), AllocError>
+    requires { maps.now ≡ line_maps (map source_of sources.now) }
+    ensures { OnOk result (string_bytes text.new ≡ string_bytes text.old
+        ++ flat_map (note_line (map source_of sources.now)) (notes_of notes.now)) }
+{
+    for note in notes {
+        let line = line_at(alloc, sources, maps, note.pos, "note", note.message.as_str())?;
+        text.push_str(line.as_str())?;
+    }
     Ok(())
 }
 

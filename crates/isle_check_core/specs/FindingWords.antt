@@ -1,13 +1,15 @@
 -- The words of each kind of finding.
 use Rattle.std.specs.Prelude.{ℕ, List, [], ◌∷◌, ◌++◌, codes}
 use Rattle.std.specs.Fmt.{decimal}
+use Rattle.isle_base_source.specs.declared.pos.Pos.{Pos}
 use Rattle.isle_ast_names.specs.Tree.{Name}
-use Rattle.isle_check_core.specs.DeclarationWords.{declaration_words}
+use Rattle.isle_check_messages.specs.DeclarationWords.{declaration_words}
 use Rattle.isle_check_rules.specs.Warnings as warned
-use Rattle.isle_check_core.specs.Findings.{KindNode, declaration, recursive_extractor, rule, deep_rule, overlap, constant_again, parameter_count, rule_warning}
-use Rattle.isle_check_core.specs.RuleWords.{rule_words}
-use Rattle.isle_check_core.specs.OverlapWords.{overlap_words}
-use Rattle.isle_check_core.specs.Words.{WordsNode, words}
+use Rattle.isle_check_core.specs.Findings.{FindingNode, KindNode, declaration, recursive_extractor, rule, deep_rule, overlap, constant_again, parameter_count, rule_warning}
+use Rattle.isle_check_messages.specs.RuleWords.{rule_words}
+use Rattle.isle_check_messages.specs.Notes.{NoteNode, overlap_notes}
+use Rattle.isle_check_messages.specs.OverlapWords.{overlap_words}
+use Rattle.isle_check_messages.specs.Words.{WordsNode, words}
 
 -- one name more of a path
 abbrev pub with_step : (text : List ℕ) → Name → List ℕ
@@ -43,3 +45,11 @@ kind_words (parameter_count extractor parameters arguments) =
     words (codes "extractor-parameters")
     (codes "Extractor of '" ++ extractor.text ++ codes "' has " ++ decimal parameters ++ codes " parameters, but the term " ++ decimal arguments ++ codes " arguments")
 kind_words (rule_warning kind) = warning_words kind
+
+abbrev pub kind_notes : Pos → KindNode → List NoteNode
+kind_notes pos (overlap kind) = overlap_notes pos kind
+kind_notes pos _ = []
+
+-- what is told of other rules
+abbrev pub finding_notes : FindingNode → List NoteNode
+finding_notes f = kind_notes f.pos f.kind

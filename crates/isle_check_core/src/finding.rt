@@ -2,24 +2,24 @@
 
 ghost use Rattle.std.specs.Prelude.{◌≡◌, [], IfOk, OnOk, string_bytes};
 ghost use Rattle.isle_ast_names.specs.TreeView.{name_of};
-ghost use Rattle.isle_check_core.specs.FindingWords.{first_name, kind_words, path_after};
+ghost use Rattle.isle_check_core.specs.FindingWords.{finding_notes, first_name, kind_words};
+ghost use Rattle.isle_check_core.specs.FindingWords.{path_after};
 ghost use Rattle.isle_check_core.specs.FindingWords.{warning_words, with_step};
 ghost use Rattle.isle_check_core.specs.Findings.{constant_again, is_error};
 ghost use Rattle.isle_check_core.specs.Findings.{is_overlap_error, is_rule_error};
 ghost use Rattle.isle_check_core.specs.Findings.{parameter_count, recursive_extractor};
-ghost use Rattle.isle_check_core.specs.Views.{node_of};
-ghost use Rattle.isle_check_core.specs.Words.{words_of};
+ghost use Rattle.isle_check_core.specs.Views.{finding_of, node_of};
+ghost use Rattle.isle_check_messages.specs.Notes.{notes_of};
+ghost use Rattle.isle_check_messages.specs.Words.{words_of};
 ghost use Rattle.isle_check_overlaps.specs.Views as overlaps;
 ghost use Rattle.isle_check_recursion.specs.Views.{names_at};
 ghost use Rattle.isle_check_rules.specs.Views.{warning_kind_of};
 ghost use Rattle.isle_check_typing.specs.Views.{kind_of};
 
-use crate::declarations::declaration_words;
-use crate::overlaps::overlap_words;
-use crate::rules::rule_words;
-use crate::words::{Words, about, about_three, about_two, plain};
 use isle_ast::ast::Ident;
 use isle_base::lexer::Pos;
+use isle_check_messages::{Note, Words, about, about_three, about_two, declaration_words};
+use isle_check_messages::{overlap_notes, overlap_words, plain, rule_words};
 use isle_check_rules::WarningKind;
 use std::alloc::{AllocError, Global};
 
@@ -30,6 +30,20 @@ pub struct Finding<'a> {
     pub kind: Kind<'a>,
     /// The position that it is reported at.
     pub pos: Pos,
+}
+
+impl<'a> Finding<'a> {
+    /// Returns what is told of other rules, each at its position: those that overlap with a rule,
+    /// and those that a rule hides. For all other kinds there is nothing. An `Err` means out of
+    /// memory.
+    pub fn notes(&self, alloc: Global) -> Result<Vec<Note>, AllocError>
+        ensures { IfOk result (λ made. notes_of made.items ≡ finding_notes (finding_of self.now)) }
+    {
+        match &self.kind {
+            Kind::Overlap(kind) => overlap_notes(alloc, self.pos, kind),
+            _ => Ok(Vec::new(alloc)),
+        }
+    }
 }
 
 /// What is wrong in a program.

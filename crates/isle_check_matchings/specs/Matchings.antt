@@ -51,4 +51,4 @@ matchings k rs = map (matching k) rs
 
 -- what is found of typed rules
 abbrev pub rule_overlaps : TermsNode → List TypedRuleNode → ComparisonNode
-rule_overlaps k rs = comparison_of (matchings k rs)
+rule_overlaps k rs = comparison_of k.terms (matchings k rs)

@@ -42,7 +42,7 @@ pub fn rule_overlaps(
         infallible: &infallible,
     };
     let made = matchings(alloc, terms, rules)?;
-    compare(alloc, &made)
+    compare(alloc, env, &made)
 }
 
 fn matchings<'a>(

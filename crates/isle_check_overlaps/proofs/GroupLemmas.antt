@@ -11,6 +11,7 @@ use Rattle.std.proofs.Math.Bool.{and-false}
 use Rattle.std.proofs.lemmas.Map.Text.{btree_map_updates_text}
 use Rattle.std.proofs.lemmas.Slice.Eq.{bytes_eq-Decides}
 use Rattle.isle_check_places.specs.Comparing.{apart, within}
+use Rattle.isle_check_signatures.specs.Signatures.{TermNode}
 use Rattle.isle_check_overlaps.specs.declared.candidates.Candidate.{Candidate}
 use Rattle.isle_check_overlaps.specs.Candidates.{CandidateNode}
 use Rattle.isle_check_overlaps.specs.Faults.{FaultNode, hidden_by, if_hidden, met_at, shadow_at, star_at}
@@ -115,15 +116,15 @@ groups_step m xs i b within is held =
     subst (AreGroups m) (sym (ap candidates_of (take_more xs i b within is) ∙ map_last candidate_of (take i xs) b)) held
 
 -- what is told of one rule more
-pub met_step : (groups : BTreeMap (String Global) (Vec (Bor Candidate) Global)) (ss : List StarNode) (cs : List CandidateNode) (xs : List Candidate) (i : ℕ) (c : Candidate)
+pub met_step : (terms : List ℕ → Option TermNode) (groups : BTreeMap (String Global) (Vec (Bor Candidate) Global)) (ss : List StarNode) (cs : List CandidateNode) (xs : List Candidate) (i : ℕ) (c : Candidate)
     (before now all : List FaultNode) → i < length xs → c ≡ get_or xs i c → AreGroups groups cs →
-    now ≡ before ++ met_at ss (group_of (get_by_text groups c.term.now)) (candidate_of c) →
-    before ++ flat_map (met_at ss cs) (candidates_of (drop i xs)) ≡ all → now ++ flat_map (met_at ss cs) (candidates_of (drop (i + 1) xs)) ≡ all
-met_step groups ss cs xs i c before now all within is held now_is told =
+    now ≡ before ++ met_at terms ss (group_of (get_by_text groups c.term.now)) (candidate_of c) →
+    before ++ flat_map (met_at terms ss cs) (candidates_of (drop i xs)) ≡ all → now ++ flat_map (met_at terms ss cs) (candidates_of (drop (i + 1) xs)) ≡ all
+met_step terms groups ss cs xs i c before now all within is held now_is told =
     let n : CandidateNode = candidate_of c in
-    let rest : List FaultNode = flat_map (met_at ss cs) (candidates_of (drop (i + 1) xs)) in
+    let rest : List FaultNode = flat_map (met_at terms ss cs) (candidates_of (drop (i + 1) xs)) in
     ap (λ fs. fs ++ rest) (now_is
-    ∙ ap (λ l. before ++ (flat_map (star_at n) ss ++ shadow_at n l)) (ap (hidden_by n) (held c.term.now) ∙ same_term_hidden n cs))
-    ∙ (append_assoc before (met_at ss cs n) rest
-    ∙ (ap (λ l. before ++ flat_map (met_at ss cs) (candidates_of l)) (sym (drop_more xs i c within is))
+    ∙ ap (λ l. before ++ (flat_map (star_at terms n) ss ++ shadow_at n l)) (ap (hidden_by n) (held c.term.now) ∙ same_term_hidden n cs))
+    ∙ (append_assoc before (met_at terms ss cs n) rest
+    ∙ (ap (λ l. before ++ flat_map (met_at terms ss cs) (candidates_of l)) (sym (drop_more xs i c within is))
     ∙ told))

@@ -6,18 +6,25 @@ use Rattle.isle_base_source.specs.declared.pos.Pos.{Pos}
 use Rattle.isle_check_places.specs.Places.{ConstraintNode, of_variant, of_bool, of_int, of_constant, present}
 use Rattle.isle_check_places.specs.Clashes.{ClashNode}
 use Rattle.isle_check_places.specs.Settling.{SettledNode, settled, unequal, endless}
+use Rattle.isle_check_signatures.specs.Signatures.{TermNode}
+use Rattle.isle_check_values.specs.Values.{ValueNode, value}
 use Rattle.isle_check_overlaps.specs.Matchings.{MatchingNode}
 use Rattle.isle_check_overlaps.specs.Candidates.{CandidateNode, candidates, hides}
 use Rattle.isle_check_overlaps.specs.Stars.{StarNode, PairNode, pairs, stars}
 
+-- a rule that overlaps with another one, and the value that both match
+pub record OtherNode : Type 0 where
+  pub pos : Pos
+  pub value : ValueNode
+
 -- a place would have two constraints that differ; equal places would; a value would be a part of itself; a rule overlaps with others; a rule
--- hides others
+-- hides others. Of the others, so many are left out
 pub data KindNode : Type 0 where
   two_constraints : (first second : List ℕ) → KindNode
   unequal_constraints : KindNode
   part_of_itself : KindNode
-  overlaps : (others : List Pos) → KindNode
-  shadows : (others : List Pos) → KindNode
+  overlaps : (others : List OtherNode) → (left_out : ℕ) → KindNode
+  shadows : (others : List Pos) → (left_out : ℕ) → KindNode
 
 pub record FaultNode : Type 0 where
   pub kind : KindNode
@@ -59,8 +66,23 @@ endless_by pos endless = fault part_of_itself pos ∷ []
 abbrev pub endless_rules : List MatchingNode → List FaultNode
 endless_rules ms = flat_map (λ m. endless_by m.pos m.settled) ms
 
-abbrev pub star_at : CandidateNode → StarNode → List FaultNode
-star_at c s = if s.center == c.number then fault (overlaps (map (λ o. o.pos) s.others)) c.pos ∷ [] else []
+-- how many of the others are told
+abbrev pub most_told : ℕ
+most_told = 10
+
+-- a pattern says nothing of values that must be equal
+abbrev pub sure_if : (are_plain : Bool) → ValueNode → ValueNode
+sure_if are_plain v = record { text = v.text; is_sure = v.is_sure && are_plain }
+
+abbrev pub other : (terms : List ℕ → Option TermNode) → CandidateNode → CandidateNode → OtherNode
+other terms c d =
+    record { pos = d.pos; value = sure_if (c.is_plain && d.is_plain) (value terms c.term c.constraints d.constraints) }
+
+abbrev pub star_of : (terms : List ℕ → Option TermNode) → CandidateNode → (others : List CandidateNode) → FaultNode
+star_of terms c others = fault (overlaps (map (other terms c) (take most_told others)) (length others - most_told)) c.pos
+
+abbrev pub star_at : (terms : List ℕ → Option TermNode) → CandidateNode → StarNode → List FaultNode
+star_at terms c s = if s.center == c.number then star_of terms c s.others ∷ [] else []
 
 abbrev pub if_hidden : CandidateNode → CandidateNode → List Pos
 if_hidden high low = if hides high low then low.pos ∷ [] else []
@@ -70,30 +92,30 @@ hidden_by high cs = flat_map (if_hidden high) cs
 
 abbrev pub shadow_at : CandidateNode → (hidden : List Pos) → List FaultNode
 shadow_at c [] = []
-shadow_at c (p ∷ ps) = fault (shadows (p ∷ ps)) c.pos ∷ []
+shadow_at c (p ∷ ps) = fault (shadows (take most_told (p ∷ ps)) (length (p ∷ ps) - most_told)) c.pos ∷ []
 
 -- what is told of one rule
-abbrev pub met_at : List StarNode → List CandidateNode → CandidateNode → List FaultNode
-met_at ss cs c = flat_map (star_at c) ss ++ shadow_at c (hidden_by c cs)
+abbrev pub met_at : (terms : List ℕ → Option TermNode) → List StarNode → List CandidateNode → CandidateNode → List FaultNode
+met_at terms ss cs c = flat_map (star_at terms c) ss ++ shadow_at c (hidden_by c cs)
 
-abbrev pub meetings_by : List StarNode → List CandidateNode → List FaultNode
-meetings_by ss cs = flat_map (met_at ss cs) cs
+abbrev pub meetings_by : (terms : List ℕ → Option TermNode) → List StarNode → List CandidateNode → List FaultNode
+meetings_by terms ss cs = flat_map (met_at terms ss cs) cs
 
 abbrev pub stars_of : (count : ℕ) → List PairNode → List StarNode
 stars_of count ps = stars (length ps) count ps
 
 -- the rules that overlap or hide others, in order, among so many rules
-abbrev pub meetings : (count : ℕ) → List CandidateNode → List FaultNode
-meetings count cs = meetings_by (stars_of count (pairs cs)) cs
+abbrev pub meetings : (terms : List ℕ → Option TermNode) → (count : ℕ) → List CandidateNode → List FaultNode
+meetings terms count cs = meetings_by terms (stars_of count (pairs cs)) cs
 
 -- the errors of rules, and the warnings
 pub record ComparisonNode : Type 0 where
   pub faults : List FaultNode
   pub warnings : List FaultNode
 
-abbrev pub comparison_of : List MatchingNode → ComparisonNode
-comparison_of ms =
+abbrev pub comparison_of : (terms : List ℕ → Option TermNode) → List MatchingNode → ComparisonNode
+comparison_of terms ms =
     record {
-      faults = unreachable_rules ms ++ meetings (length ms) (candidates 0 ms);
+      faults = unreachable_rules ms ++ meetings terms (length ms) (candidates 0 ms);
       warnings = endless_rules ms;
     }

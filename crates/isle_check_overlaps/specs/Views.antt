@@ -6,7 +6,9 @@ use Rattle.isle_check_overlaps.specs.declared.matching.Matching.{Matching}
 use Rattle.isle_check_overlaps.specs.declared.candidates.Candidate.{Candidate}
 use Rattle.isle_check_overlaps.specs.declared.stars.Pair.{Pair}
 use Rattle.isle_check_overlaps.specs.declared.stars.Star.{Star}
+use Rattle.isle_check_values.specs.Views.{value_of}
 use Rattle.isle_check_overlaps.specs.declared.fault.Fault.{Fault}
+use Rattle.isle_check_overlaps.specs.declared.fault.Other.{Other}
 use Rattle.isle_check_overlaps.specs.declared.fault.Kind.{Kind}
 use Rattle.isle_check_overlaps.specs.declared.fault.Kind.TheVariants as kinds
 use Rattle.isle_check_overlaps.specs.declared.fault.Comparison.{Comparison}
@@ -59,12 +61,18 @@ star_of s = record { center = s.center; others = candidates_at s.others.items }
 abbrev pub stars_of : List Star → List StarNode
 stars_of ss = map star_of ss
 
+abbrev pub other_of : Other → nodes.OtherNode
+other_of o = record { pos = o.pos; value = value_of o.value }
+
+abbrev pub others_of : List Other → List nodes.OtherNode
+others_of os = map other_of os
+
 abbrev pub kind_of : Kind → nodes.KindNode
 kind_of (kinds.TwoConstraints first second) = nodes.two_constraints (string_bytes first) (string_bytes second)
 kind_of kinds.UnequalConstraints = nodes.unequal_constraints
 kind_of kinds.PartOfItself = nodes.part_of_itself
-kind_of (kinds.Overlaps others) = nodes.overlaps others.items
-kind_of (kinds.Shadows others) = nodes.shadows others.items
+kind_of (kinds.Overlaps others left_out) = nodes.overlaps (others_of others.items) left_out
+kind_of (kinds.Shadows others left_out) = nodes.shadows others.items left_out
 
 abbrev pub fault_of : Fault → nodes.FaultNode
 fault_of f = nodes.fault (kind_of f.kind) f.pos

@@ -1,6 +1,7 @@
 //! What is found when rules are compared.
 
 use isle_base_source::pos::Pos;
+use isle_check_values::Value;
 
 /// Something that is wrong with a rule, beside others or by itself.
 #[derive(Debug, Drop)]
@@ -20,12 +21,22 @@ pub enum Kind {
     UnequalConstraints,
     /// A value would have to be a part of itself.
     PartOfItself,
-    /// The rule and each of the rules at these positions may match one value, and neither has a
-    /// higher priority.
-    Overlaps(Vec<Pos>),
+    /// The rule and each of these may match one value, and neither has a higher priority; and so
+    /// may as many more, which are left out.
+    Overlaps(Vec<Other>, usize),
     /// The rules at these positions match nothing that this rule does not match, and it has a
-    /// higher priority.
-    Shadows(Vec<Pos>),
+    /// higher priority; and so do as many more, which are left out.
+    Shadows(Vec<Pos>, usize),
+}
+
+/// A rule that overlaps with another one.
+#[derive(Debug, Drop)]
+pub struct Other {
+    /// The position of the rule.
+    pub pos: Pos,
+    /// The value that both match. It is sure if neither rule has equal places without a constraint,
+    /// and each value of the pattern satisfies the constraints of both.
+    pub value: Value,
 }
 
 /// What is found of the rules of a program.

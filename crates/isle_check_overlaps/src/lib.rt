@@ -9,6 +9,6 @@ mod overlaps;
 mod stars;
 mod unreachable;
 
-pub use fault::{Comparison, Fault, Kind};
+pub use fault::{Comparison, Fault, Kind, Other};
 pub use matching::Matching;
-pub use overlaps::compare;
+pub use overlaps::{MOST_TOLD, compare};

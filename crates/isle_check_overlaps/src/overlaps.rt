@@ -1,38 +1,49 @@
 //! Rules, compared with one another.
 
-ghost use Rattle.std.specs.Prelude.{◌≡◌, ◌++◌, IfOk, OnOk};
+ghost use Rattle.std.specs.Prelude.{◌≡◌, ◌++◌, IfOk, OnOk, map};
 ghost use Rattle.std.specs.BTreeMap.{get_by_text};
 ghost use Rattle.std.specs.List.{flat_map};
 ghost use Rattle.isle_check_overlaps.specs.Faults.{hidden_by, meetings, met_at, comparison_of};
 ghost use Rattle.isle_check_overlaps.specs.Faults.{meetings_by, shadow_at, star_at};
 ghost use Rattle.isle_check_overlaps.specs.Groups.{AreGroups, group_of};
+ghost use Rattle.isle_check_overlaps.specs.Faults as told;
 ghost use Rattle.isle_check_overlaps.specs.Views as views;
+ghost use Rattle.isle_check_signatures.specs.Views.{environment_of};
 ghost use Rattle.isle_check_overlaps.specs.Views.{candidate_of, candidates_at, candidates_of};
-ghost use Rattle.isle_check_overlaps.specs.Views.{faults_of};
+ghost use Rattle.isle_check_overlaps.specs.Views.{faults_of, other_of, others_of};
 ghost use Rattle.isle_check_overlaps.specs.Views.{matchings_of, star_of, stars_of};
 
 use crate::candidates::{Candidate, candidates, hides};
-use crate::fault::{Comparison, Fault, Kind};
+use crate::fault::{Comparison, Fault, Kind, Other};
 use crate::groups::{Groups, groups};
 use crate::matching::Matching;
 use crate::stars::{Star, pairs, stars};
 use crate::unreachable::{add_unreachable, endless_rules};
 use isle_base_source::pos::Pos;
+use isle_check_signatures::Environment;
+use isle_check_values::{Value, value_of_both};
 use std::alloc::{AllocError, Global};
+
+/// How many of the rules that overlap with a rule, or that it hides, are told.
+pub const MOST_TOLD: usize = 10;
 
 /// Returns what is wrong with the rules of a program: those that match nothing, in order, and then
 /// those that overlap with others or hide others, in order.
 ///
 /// Of the pairs of rules that overlap, the rule that overlaps with most is told with all of those,
 /// of equals the later one; then the same without it, and so on. An `Err` means out of memory.
-pub fn compare(alloc: Global, matchings: &[Matching]) -> Result<Comparison, AllocError>
-    ensures { IfOk result
-        (λ made. views.comparison_of made ≡ comparison_of (matchings_of matchings.now)) }
+pub fn compare(
+    alloc: Global,
+    env: &Environment,
+    matchings: &[Matching],
+) -> Result<Comparison, AllocError>
+    ensures { IfOk result (λ made. views.comparison_of made
+        ≡ comparison_of (environment_of env.now).terms (matchings_of matchings.now)) }
 {
     let mut faults = Vec::new(alloc);
     add_unreachable(alloc, matchings, &mut faults)?;
     let candidates = candidates(alloc, matchings)?;
-    add_meetings(alloc, matchings.len(), &candidates, &mut faults)?;
+    add_meetings(alloc, env, matchings.len(), &candidates, &mut faults)?;
     let warnings = endless_rules(alloc, matchings)?;
     Ok(Comparison { faults, warnings })
 }
@@ -40,21 +51,23 @@ pub fn compare(alloc: Global, matchings: &[Matching]) -> Result<Comparison, Allo
 /// Adds the rules that overlap with others or hide others, among so many rules.
 fn add_meetings(
     alloc: Global,
+    env: &Environment,
     count: usize,
     candidates: &[Candidate],
     found: &mut Vec<Fault>,
 ) -> Result<(), AllocError>
     ensures { OnOk result (faults_of found.new.items ≡ faults_of found.old.items
-        ++ meetings count (candidates_of candidates.now)) }
+        ++ meetings (environment_of env.now).terms count (candidates_of candidates.now)) }
 {
     let pairs = pairs(alloc, candidates)?;
     let stars = stars(alloc, count, pairs)?;
     let groups = groups(alloc, candidates)?;
-    add_met_all(alloc, &stars, &groups, candidates, found)
+    add_met_all(alloc, env, &stars, &groups, candidates, found)
 }
 
 fn add_met_all(
     alloc: Global,
+    env: &Environment,
     stars: &[Star],
     groups: &Groups,
     candidates: &[Candidate],
@@ -62,66 +75,127 @@ fn add_met_all(
 ) -> Result<(), AllocError>
     requires { AreGroups groups.now (candidates_of candidates.now) }
     ensures { OnOk result (faults_of found.new.items ≡ faults_of found.old.items
-        ++ meetings_by (stars_of stars.now) (candidates_of candidates.now)) }
+        ++ meetings_by (environment_of env.now).terms (stars_of stars.now)
+        (candidates_of candidates.now)) }
 {
     for candidate in candidates {
-        add_met(alloc, stars, groups, candidate, found)?;
+        add_met(alloc, env, stars, groups, candidate, found)?;
     }
     Ok(())
 }
 
 fn add_met(
     alloc: Global,
+    env: &Environment,
     stars: &[Star],
     groups: &Groups,
     candidate: &Candidate,
     found: &mut Vec<Fault>,
 ) -> Result<(), AllocError>
     ensures { OnOk result (faults_of found.new.items ≡ faults_of found.old.items
-        ++ met_at (stars_of stars.now)
+        ++ met_at (environment_of env.now).terms (stars_of stars.now)
         (group_of (get_by_text groups.now candidate.now.term.now)) (candidate_of candidate.now)) }
 {
-    add_stars(alloc, stars, candidate, found)?;
+    add_stars(alloc, env, stars, candidate, found)?;
     let hidden = hidden_by(alloc, candidate, groups)?;
     add_shadow(candidate, hidden, found)
 }
 
 fn add_stars(
     alloc: Global,
+    env: &Environment,
     stars: &[Star],
     candidate: &Candidate,
     found: &mut Vec<Fault>,
 ) -> Result<(), AllocError>
     ensures { OnOk result (faults_of found.new.items ≡ faults_of found.old.items
-        ++ flat_map (star_at (candidate_of candidate.now)) (stars_of stars.now)) }
+        ++ flat_map (star_at (environment_of env.now).terms (candidate_of candidate.now))
+        (stars_of stars.now)) }
 {
     for star in stars {
-        add_star(alloc, star, candidate, found)?;
+        add_star(alloc, env, star, candidate, found)?;
     }
     Ok(())
 }
 
 fn add_star(
     alloc: Global,
+    env: &Environment,
     star: &Star,
     candidate: &Candidate,
     found: &mut Vec<Fault>,
 ) -> Result<(), AllocError>
     ensures { OnOk result (faults_of found.new.items ≡ faults_of found.old.items
-        ++ star_at (candidate_of candidate.now) (star_of star.now)) }
+        ++ star_at (environment_of env.now).terms (candidate_of candidate.now)
+        (star_of star.now)) }
 {
     if star.center != candidate.number {
         return Ok(());
     }
-    let mut others = Vec::new(alloc);
-    for other in &star.others {
-        others.push(other.pos)?;
-    }
-    found.push(Fault {
-        kind: Kind::Overlaps(others),
-        pos: candidate.pos,
-    })?;
+    found.push(star_fault(alloc, env, candidate, &star.others)?)?;
     Ok(())
+}
+
+/// Returns what is told of a rule that overlaps with others.
+fn star_fault(
+    alloc: Global,
+    env: &Environment,
+    candidate: &Candidate,
+    others: &[&Candidate],
+) -> Result<Fault, AllocError>
+    ensures { IfOk result (λ made. views.fault_of made
+        ≡ told.star_of (environment_of env.now).terms (candidate_of candidate.now)
+        (candidates_at others.now)) }
+{
+    let count = others.len().min(MOST_TOLD);
+    let told = told_others(alloc, env, candidate, &others[..count])?;
+    Ok(Fault {
+        kind: Kind::Overlaps(told, others.len() - count),
+        pos: candidate.pos,
+    })
+}
+
+fn told_others(
+    alloc: Global,
+    env: &Environment,
+    candidate: &Candidate,
+    others: &[&Candidate],
+) -> Result<Vec<Other>, AllocError>
+    ensures { IfOk result (λ made. others_of made.items
+        ≡ map (told.other (environment_of env.now).terms (candidate_of candidate.now))
+        (candidates_at others.now)) }
+{
+    let mut made = Vec::new(alloc);
+    for other in others {
+        made.push(told_other(alloc, env, candidate, other)?)?;
+    }
+    Ok(made)
+}
+
+fn told_other(
+    alloc: Global,
+    env: &Environment,
+    candidate: &Candidate,
+    other: &Candidate,
+) -> Result<Other, AllocError>
+    ensures { IfOk result (λ made. other_of made
+        ≡ told.other (environment_of env.now).terms (candidate_of candidate.now)
+        (candidate_of other.now)) }
+{
+    let value = value_of_both(
+        alloc,
+        env,
+        candidate.term,
+        candidate.constraints,
+        other.constraints,
+    )?;
+    Ok(Other {
+        pos: other.pos,
+        value: Value {
+            text: value.text,
+            is_sure: value.is_sure && candidate.is_plain && other.is_plain,
+        },
+    })
 }
 
 /// Returns the positions of the rules that a rule hides.
@@ -159,8 +233,11 @@ fn add_shadow(
     if hidden.is_empty() {
         return Ok(());
     }
+    let left_out = hidden.len().saturating_sub(MOST_TOLD);
+    let mut told = hidden;
+    told.truncate(MOST_TOLD);
     found.push(Fault {
-        kind: Kind::Shadows(hidden),
+        kind: Kind::Shadows(told, left_out),
         pos: candidate.pos,
     })?;
     Ok(())

@@ -9,7 +9,7 @@ use Rattle.isle_base_source.specs.declared.pos.Pos.{Pos}
 use Rattle.isle_ast.specs.Tree.{Definition}
 use Rattle.isle_check_core.specs.FindingWords.{kind_words}
 use Rattle.isle_check_core.specs.Findings.{FindingNode, findings, is_error}
-use Rattle.isle_check_core.specs.Words.{WordsNode}
+use Rattle.isle_check_messages.specs.Words.{WordsNode}
 use Rattle.isle_program.specs.Reading.{IsReading, refused_count}
 use Rattle.isle_lsp_features.specs.Programs.{Text}
 use Rattle.isle_lsp_diagnostics.specs.Marks.{Mark, check, is_same}

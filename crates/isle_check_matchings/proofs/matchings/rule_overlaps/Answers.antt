@@ -15,9 +15,9 @@ returns c =
     let env = environment_of c.args.env.now in
     let ds = definitions_of c.args.defs.now in
     let rules = typed_rules_of c.args.rules.now in
-    IfOk-weaker c.compare.result (λ made. seen.comparison_of made ≡ faults.comparison_of (seen.matchings_of c.deref.result.now))
+    IfOk-weaker c.compare.result (λ made. seen.comparison_of made ≡ faults.comparison_of env.terms (seen.matchings_of c.deref.result.now))
     (λ made. seen.comparison_of made ≡ rule_overlaps (program_terms env ds) rules)
     (λ made e. e
-    ∙ ap faults.comparison_of (ap seen.matchings_of c.deref.ensures.value
+    ∙ ap (faults.comparison_of env.terms) (ap seen.matchings_of c.deref.ensures.value
     ∙ (c.in_ok-made.ensures ∙ ap (λ k. matchings k rules) (terms_known env ds c.in_ok-infallible.infallible c.in_ok-infallible.ensures))))
     c.compare.ensures

@@ -1,11 +1,11 @@
 //! The words of errors of declarations.
 
 ghost use Rattle.std.specs.Prelude.{◌≡◌, IfOk, option_map};
-ghost use Rattle.isle_check_core.specs.DeclarationWords.{constructor_words, converter_words};
-ghost use Rattle.isle_check_core.specs.DeclarationWords.{declaration_words, external_words};
-ghost use Rattle.isle_check_core.specs.DeclarationWords.{extractor_words, field_words};
-ghost use Rattle.isle_check_core.specs.DeclarationWords.{root_words, term_words, type_words};
-ghost use Rattle.isle_check_core.specs.Words.{words_of};
+ghost use Rattle.isle_check_messages.specs.DeclarationWords.{constructor_words, converter_words};
+ghost use Rattle.isle_check_messages.specs.DeclarationWords.{declaration_words, external_words};
+ghost use Rattle.isle_check_messages.specs.DeclarationWords.{extractor_words, field_words};
+ghost use Rattle.isle_check_messages.specs.DeclarationWords.{root_words, term_words, type_words};
+ghost use Rattle.isle_check_messages.specs.Words.{words_of};
 ghost use Rattle.isle_check_declarations.specs.Views.{kind_of};
 
 use crate::words::{Words, about, about_three, about_two, no_words, plain};

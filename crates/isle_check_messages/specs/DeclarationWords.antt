@@ -2,7 +2,7 @@
 use Rattle.std.specs.Prelude.{◌++◌, Option, None, Some, codes}
 use Rattle.std.specs.Fmt.{decimal}
 use Rattle.isle_check_declarations.specs.Faults.{KindNode, type_again, type_built_in, primitive_nodebug, primitive_extern, extern_nodebug, variant_again, constant_type_unknown, field_again, field_type_unknown, index_type_unknown, term_again, multi_and_partial, argument_type_unknown, result_type_unknown, variant_taken, root_no_term, root_unknown, root_variant, extractor_unknown, template_unknown, extractor_variant, extractor_multi, extractor_again, extractor_before, inner_type_unknown, outer_type_unknown, converter_unknown, converter_again, constructor_unknown, constructor_variant, constructor_ruled, constructor_again, external_unknown, external_variant, external_internal, internal_before, external_again, external_before}
-use Rattle.isle_check_core.specs.Words.{WordsNode, first_of, no_words, words}
+use Rattle.isle_check_messages.specs.Words.{WordsNode, first_of, no_words, words}
 
 -- the words of errors of types and constants
 abbrev pub type_words : KindNode → Option WordsNode

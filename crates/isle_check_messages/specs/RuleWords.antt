@@ -2,7 +2,7 @@
 use Rattle.std.specs.Prelude.{List, ℕ, ◌++◌, Bool, true, false, Option, None, Some, codes}
 use Rattle.std.specs.Fmt.{decimal, signed_decimal}
 use Rattle.isle_check_typing.specs.Faults.{KindNode, integer_type, bool_type, constant_unknown, constant_type, variable_bound, variable_type, term_unknown, term_type, argument_count, no_extractor, parameter_without_argument, macro_argument, integer_without_type, expression_constant_type, variable_unknown, expression_variable_type, let_type_unknown, expression_term_unknown, expression_term_type, impure_term, multi_term, partial_term, priority_in_multi, term_undefined, no_constructor}
-use Rattle.isle_check_core.specs.Words.{WordsNode, first_of, no_words, words}
+use Rattle.isle_check_messages.specs.Words.{WordsNode, first_of, no_words, words}
 
 abbrev pub bool_text : Bool → List ℕ
 bool_text true = codes "true"

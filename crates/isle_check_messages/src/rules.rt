@@ -1,10 +1,10 @@
 //! The words of errors of rules.
 
 ghost use Rattle.std.specs.Prelude.{◌≡◌, IfOk, option_map};
-ghost use Rattle.isle_check_core.specs.RuleWords.{bool_text, other_words, partial_term_end};
-ghost use Rattle.isle_check_core.specs.RuleWords.{rule_words, term_words, unknown_term_end};
-ghost use Rattle.isle_check_core.specs.RuleWords.{use_words, value_words, variable_words};
-ghost use Rattle.isle_check_core.specs.Words.{words_of};
+ghost use Rattle.isle_check_messages.specs.RuleWords.{bool_text, other_words, partial_term_end};
+ghost use Rattle.isle_check_messages.specs.RuleWords.{rule_words, term_words, unknown_term_end};
+ghost use Rattle.isle_check_messages.specs.RuleWords.{use_words, value_words, variable_words};
+ghost use Rattle.isle_check_messages.specs.Words.{words_of};
 ghost use Rattle.isle_check_typing.specs.Views.{kind_of};
 
 use crate::words::{Words, about, about_three, about_two, no_words, plain};

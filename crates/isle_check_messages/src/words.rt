@@ -1,8 +1,8 @@
 //! The words of findings.
 
 ghost use Rattle.std.specs.Prelude.{◌≡◌, ◌++◌, IfOk, string_bytes};
-ghost use Rattle.isle_check_core.specs.Words as Node;
-ghost use Rattle.isle_check_core.specs.Words.{words_of};
+ghost use Rattle.isle_check_messages.specs.Words as Node;
+ghost use Rattle.isle_check_messages.specs.Words.{words_of};
 
 use std::alloc::{AllocError, Global};
 

@@ -1,0 +1,5 @@
+pub mod Words
+pub mod DeclarationWords
+pub mod RuleWords
+pub mod OverlapWords
+pub mod Notes
