@@ -1,5 +1,5 @@
 -- The item at an index, taken and dropped.
-use Rattle.std.proofs.Common.{◌≡◌, ◌<◌, ℕ, ◌+◌, zero, suc, List, [], ◌∷◌, ◌++◌, length, get_or, map, take, drop, refl, ap, sym, ◌∙◌, arith}
+use Rattle.std.proofs.Common.{◌≡◌, ◌<◌, ℕ, ◌+◌, zero, suc, List, [], ◌∷◌, ◌++◌, length, get_or, map, min, take, drop, refl, ap, sym, ◌∙◌, arith}
 
 pub take_more : {A : Type 0} (xs : List A) (i : ℕ) (x : A) → i < length xs → x ≡ get_or xs i x → take (i + 1) xs ≡ take i xs ++ x ∷ []
 take_more [] i x within is = absurd (omega (arith, within))
@@ -18,3 +18,19 @@ drop_more (y ∷ ys) (suc i) x within is =
 pub map_last : {A B : Type 0} (f : A → B) (xs : List A) (x : A) → map f (xs ++ x ∷ []) ≡ map f xs ++ f x ∷ []
 map_last f [] x = refl
 map_last f (y ∷ ys) x = ap (λ l. f y ∷ l) (map_last f ys x)
+
+pub take_map : {A B : Type 0} (f : A → B) (n : ℕ) (xs : List A) → map f (take n xs) ≡ take n (map f xs)
+take_map f zero xs = refl
+take_map f (suc n) [] = refl
+take_map f (suc n) (x ∷ xs) = ap (λ l. f x ∷ l) (take_map f n xs)
+
+-- no more can be taken than there are
+pub take_min : {A : Type 0} (xs : List A) (most : ℕ) → take (min (length xs) most) xs ≡ take most xs
+take_min [] zero = refl
+take_min {A} [] (suc most) =
+    let n : min 0 (suc most) ≡ 0 = omega arith in
+    let none : List A = [] in ap (λ k. take k none) n
+take_min (x ∷ xs) zero = let n : min (length (x ∷ xs)) 0 ≡ 0 = omega arith in ap (λ k. take k (x ∷ xs)) n
+take_min (x ∷ xs) (suc most) =
+    let n : min (length (x ∷ xs)) (suc most) ≡ suc (min (length xs) most) = omega arith in
+    ap (λ k. take k (x ∷ xs)) n ∙ ap (λ l. x ∷ l) (take_min xs most)

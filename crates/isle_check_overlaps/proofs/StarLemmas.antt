@@ -1,9 +1,15 @@
 -- The first star, and those after it.
-use Rattle.std.proofs.Common.{◌≡◌, ◌≢◌, ◌==◌, ℕ, zero, suc, ◌-◌, List, [], ◌∷◌, ◌++◌, length, false, refl, ap, ◌∙◌, arith, append_assoc}
+use Rattle.std.proofs.Common.{◌≡◌, ◌≢◌, ◌==◌, ℕ, zero, suc, ◌-◌, Bor, List, [], ◌∷◌, ◌++◌, Option, length, map, min, take, false, refl, ap, ◌∙◌, arith, append_assoc}
+use Rattle.isle_check_overlaps.specs.Faults.{OtherNode, fault, most_told, other, overlaps, star_of}
+use Rattle.isle_check_overlaps.specs.Candidates.{CandidateNode}
+use Rattle.isle_check_overlaps.specs.declared.candidates.Candidate.{Candidate}
+use Rattle.isle_check_signatures.specs.Signatures.{TermNode}
+use Rattle.std.proofs.lemmas.List.{length-map}
 use Rattle.std.proofs.lemmas.Bool.{true≢false}
 use Rattle.isle_check_overlaps.specs.declared.stars.Pair.{Pair}
 use Rattle.isle_check_overlaps.specs.Stars.{PairNode, StarNode, star, stars, top, without}
-use Rattle.isle_check_overlaps.specs.Views.{pair_of, pairs_of}
+use Rattle.isle_check_overlaps.specs.Views.{candidate_of, candidates_at, pair_of, pairs_of}
+use Rattle.isle_check_overlaps.proofs.ListLemmas.{take_map, take_min}
 
 pub stars_step : (n count : ℕ) (items : List Pair) (left : List PairNode) (before after : List StarNode) → n ≢ 0 → (length items == 0) ≡ false →
     after ≡ before ++ star (top (pairs_of items) count) (pairs_of items) ∷ [] → left ≡ without (top (pairs_of items) count) (pairs_of items) →
@@ -17,3 +23,12 @@ stars_step (suc n) count (p ∷ ps) left before after some pairs told rest =
     ∙ (ap (λ l. after ++ stars n count l) rest
     ∙ (ap (λ a. a ++ stars n count (without center (pair_of p ∷ pairs_of ps))) told
     ∙ append_assoc before (star center (pair_of p ∷ pairs_of ps) ∷ []) (stars n count (without center (pair_of p ∷ pairs_of ps)))))
+
+-- what is told of a star
+pub star_parts : (terms : List ℕ → Option TermNode) (c : CandidateNode) (others : List (Bor Candidate)) (n : ℕ) (told : List OtherNode) → n ≡ min (length others) most_told →
+    told ≡ map (other terms c) (candidates_at (take n others)) → fault (overlaps told (length others - n)) c.pos ≡ star_of terms c (candidates_at others)
+star_parts terms c others n told count told_is =
+    let first : told ≡ map (other terms c) (take most_told (candidates_at others)) =
+    told_is ∙ ap (map (other terms c)) (ap (λ k. candidates_at (take k others)) count ∙ (ap candidates_at (take_min others most_told) ∙ take_map (λ x. candidate_of x.now) most_told others)) in
+    let rest : length others - n ≡ length (candidates_at others) - most_told = omega (arith, count, length-map others (λ x. candidate_of x.now)) in
+    λ i. fault (overlaps (first i) (rest i)) c.pos
