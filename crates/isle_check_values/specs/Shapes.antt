@@ -42,7 +42,7 @@ abbrev mutual
   shape_text (constant_shape name) = codes "$" ++ name
   shape_text (variant_shape v ss) = codes "(" ++ (v ++ (list_text ss ++ codes ")"))
   shape_text (extractor_shape g _ ss) = codes "(" ++ (g ++ (list_text ss ++ codes ")"))
-  shape_text (several ss) = codes "(" ++ (codes "and" ++ (list_text ss ++ codes ")"))
+  shape_text (several ss) = codes "(and" ++ (list_text ss ++ codes ")")
 
   -- shapes in order, each behind a space
   pub list_text : ShapeList → List ℕ

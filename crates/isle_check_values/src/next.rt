@@ -11,7 +11,10 @@ pub fn next_step<'a>(at: &[Step], place: &[Step<'a>]) -> Option<Step<'a>>
     ensures { option_map step_of result ≡ next_step (place_of at.now) (place_of place.now) }
 {
     let count = at.len();
-    if count < place.len() && same_place(at, &place[..count]) {
+    if place.len() <= count {
+        return None;
+    }
+    if same_place(at, &place[..count]) {
         Some(place[count])
     } else {
         None
