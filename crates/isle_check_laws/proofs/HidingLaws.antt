@@ -1,0 +1,45 @@
+-- A rule that is hidden runs only where the rule runs that hides it.
+use Rattle.std.proofs.Common.{◌≡◌, ℕ, List, ◌==◌, length, true, ◌&&◌, sym, ◌∙◌, subst, bytes_eq, int_lt}
+use Rattle.std.proofs.lemmas.Bool.Decides.{Decides-eqb}
+use Rattle.std.proofs.lemmas.List.{nil_from_length}
+use Rattle.isle_check_rules.specs.TypedRules.{TypedRuleNode}
+use Rattle.isle_check_places.specs.Comparing.{within}
+use Rattle.isle_check_places.specs.Settling.{EqualityNode, settled, most_sweeps}
+use Rattle.isle_check_overlaps.specs.Candidates.{CandidateNode, hides}
+use Rattle.isle_check_matchings.specs.Asks.{TermsNode}
+use Rattle.isle_check_matchings.specs.Matchings.{constraints_of, equalities_of}
+use Rattle.isle_check_matchings.specs.RuleAsks.{rule_asks}
+use Rattle.isle_check_laws.specs.Closed.{IsClosed}
+use Rattle.isle_check_laws.specs.Compared.{IsCompared}
+use Rattle.isle_check_laws.specs.Extensional.{IsExtensional}
+use Rattle.isle_check_laws.specs.PlaceValues.{valuation, AreEqual}
+use Rattle.isle_check_laws.specs.Runs.{Runs}
+use Rattle.isle_check_laws.specs.Worlds.{World}
+use Rattle.isle_check_laws.proofs.Booleans.{and_first, and_second}
+use Rattle.isle_check_laws.proofs.ComparisonLaws.{within_satisfies}
+use Rattle.isle_check_laws.proofs.RuleLaws.{comes, compared_holds}
+use Rattle.isle_check_laws.proofs.RuleValues.{runs_law}
+use Rattle.isle_check_laws.proofs.UnsettlingLaws.{IsWhole, settle_back}
+
+none_left : {V : Type 0} (w : World V) (input : ℕ → V) (es : List EqualityNode) → (length es == 0) ≡ true → AreEqual w input es
+none_left w input es h = subst (AreEqual w input) (sym (nil_from_length es ((Decides-eqb (length es) 0).0 h))) tt
+
+pub hiding_law : {V : Type 0} (k : TermsNode) (w : World V) (input : ℕ → V) (high low : TypedRuleNode) (a b : CandidateNode) → IsExtensional w → IsClosed k high →
+    IsCompared k high a → IsCompared k low b → hides a b ≡ true → Runs k w low input →
+    Runs k w high input × (int_lt low.prio high.prio ≡ true)
+hiding_law k w input high low a b looks closed is_a is_b h runs =
+    let inside = within a.constraints b.constraints in
+    let low_plain = b.is_plain && inside in
+    let plain = a.is_plain && low_plain in
+    let term = bytes_eq a.term b.term && plain in
+    let higher = and_first (int_lt b.prio a.prio) term h in
+    let of_term = and_second (int_lt b.prio a.prio) term h in
+    let is_plain = and_second (bytes_eq a.term b.term) plain of_term in
+    let is_inside = and_second b.is_plain inside (and_second a.is_plain low_plain is_plain) in
+    let c = comes k high a is_a in
+    let holds = within_satisfies (valuation w input) a.constraints b.constraints is_inside (compared_holds k w input low b is_b runs) in
+    let whole : IsWhole w input looks (settled a.constraints c.equal) = (holds, none_left w input c.equal (sym c.is_plain ∙ and_first a.is_plain low_plain is_plain)) in
+    let back = settle_back w input looks most_sweeps (constraints_of (rule_asks k high)) (equalities_of (rule_asks k high)) (subst (IsWhole w input looks) (sym c.is_settled) whole) in (
+      runs_law w input k high closed back.0 back.1,
+      subst (λ p. int_lt p high.prio ≡ true) (comes k low b is_b).prio (subst (λ p. int_lt b.prio p ≡ true) c.prio higher),
+    )
