@@ -1,2 +1,4 @@
+pub mod DepthLemmas
 pub mod NextLemmas
+pub mod SameLemmas
 pub mod ShapeLemmas

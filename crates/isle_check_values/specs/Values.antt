@@ -65,25 +65,38 @@ abbrev pub longest : List ConstrainedNode → ℕ
 longest [] = 0
 longest (c ∷ cs) = max (length c.at) (longest cs)
 
--- The shapes of a term's arguments. An argument's place has one step, and each shape in another one has a longer place. So the depth suffices:
--- where it is used up, the place is longer than all that are constrained, and of its value nothing is said.
-abbrev pub argument_shapes : KnownNode → (term : List ℕ) → ShapeList
-argument_shapes k term = shapes_under (λ p. shape k (longest k.constraints) p) arguments 0 (argument_count k term) []
+-- the shapes of a term's arguments
+abbrev pub argument_shapes : KnownNode → (depth : ℕ) → (term : List ℕ) → ShapeList
+argument_shapes k depth term = shapes_under (λ p. shape k depth p) arguments 0 (argument_count k term) []
+
+-- The length of the longest place suffices as the depth: an argument's place has one step, and each shape within another one a longer place.
+-- So where the depth is used up, the place is longer than all that are constrained, and nothing is said of its value.
+abbrev pub value_shapes : KnownNode → (term : List ℕ) → ShapeList
+value_shapes k term = argument_shapes k (longest k.constraints) term
 
 -- a value as it is written, and whether it surely satisfies all that is asked of it
 pub record ValueNode : Type 0 where
   pub text : List ℕ
   pub is_sure : Bool
 
+-- what the shapes of a term's arguments ask
+abbrev pub arguments_ask : ShapeList → List ConstrainedNode
+arguments_ask ss = list_asks arguments 0 ss []
+
 abbrev pub value_by : (term : List ℕ) → ShapeList → List ConstrainedNode → ValueNode
-value_by term ss cs = record { text = term_text term ss; is_sure = within cs (list_asks arguments 0 ss []) }
+value_by term ss cs = record { text = term_text term ss; is_sure = within cs (arguments_ask ss) }
 
 abbrev pub known_value : KnownNode → (term : List ℕ) → ValueNode
-known_value k term = value_by term (argument_shapes k term) k.constraints
+known_value k term = value_by term (value_shapes k term) k.constraints
 
-abbrev pub known : (terms : List ℕ → Option TermNode) → List ConstrainedNode → KnownNode
-known terms cs = record { terms = terms; constraints = cs }
+-- by the constraints of both rules
+abbrev pub known_of_both : (terms : List ℕ → Option TermNode) → (cs ds : List ConstrainedNode) → KnownNode
+known_of_both terms cs ds = record { terms = terms; constraints = cs ++ ds }
 
--- the value that two rules of a term match, by the constraints of both
+-- the value that two rules of a term match
 abbrev pub value : (terms : List ℕ → Option TermNode) → (term : List ℕ) → (cs ds : List ConstrainedNode) → ValueNode
-value terms term cs ds = known_value (known terms (cs ++ ds)) term
+value terms term cs ds = known_value (known_of_both terms cs ds) term
+
+-- what is asked of each value that it stands for
+abbrev pub value_asks : (terms : List ℕ → Option TermNode) → (term : List ℕ) → (cs ds : List ConstrainedNode) → List ConstrainedNode
+value_asks terms term cs ds = arguments_ask (value_shapes (known_of_both terms cs ds) term)

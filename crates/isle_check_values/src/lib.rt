@@ -1,6 +1,7 @@
 //! Values that two rules of one term match, written as patterns.
 #![tactic(auto)]
 
+pub mod laws;
 mod next;
 mod said;
 mod shapes;
