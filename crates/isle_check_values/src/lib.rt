@@ -5,8 +5,6 @@ pub mod laws;
 mod next;
 mod said;
 mod shapes;
-#[cfg(test)]
-mod tests;
 mod values;
 mod written;
 

@@ -10,3 +10,5 @@ mod overlaps;
 mod places;
 #[cfg(test)]
 mod settling;
+#[cfg(test)]
+mod values;

@@ -1,10 +1,9 @@
 //! Tests of rules beside one another.
 
-use crate::given::{argument, equal, integers};
+use crate::given::{argument, environment, equal, integers};
 use isle_base_source::pos::Pos;
 use isle_check_overlaps::{Comparison, Fault, Kind, MOST_TOLD, Matching, Other, compare};
 use isle_check_places::{Constrained, Constraint, Settled, clashes};
-use isle_check_signatures::{Environment, Term};
 use std::alloc::{AllocError, Global};
 
 /// Returns what a rule of `f` at an offset matches.
@@ -24,22 +23,6 @@ fn rule<'a>(
         clashes,
         settled,
     })
-}
-
-/// Returns an environment in which `f` has two arguments.
-fn environment<'a>(alloc: Global) -> Result<Environment<'a>, AllocError> {
-    let mut env = Environment::new(alloc, &[])?;
-    let args = vec![in alloc; String::new(alloc), String::new(alloc)]?;
-    let term = Term {
-        args,
-        ret: String::new(alloc),
-        pure: false,
-        multi: false,
-        partial: false,
-        is_variant: false,
-    };
-    env.terms.insert(String::from_str(alloc, "f")?, term)?;
-    Ok(env)
 }
 
 /// Returns whether rules at these offsets overlap with the rule at the first one.
@@ -90,7 +73,7 @@ fn overlaps_are_told_as_stars(rt: HostRuntime) -> Result<(), AllocError> {
     rules.push(rule(alloc, 20, 0, integers(alloc, &[1, 2])?)?)?;
     rules.push(rule(alloc, 30, 0, integers(alloc, &[1])?)?)?;
     rules.push(rule(alloc, 40, 0, integers(alloc, &[])?)?)?;
-    let Comparison { faults: found, .. } = compare(alloc, &environment(alloc)?, &rules)?;
+    let Comparison { faults: found, .. } = compare(alloc, &environment(alloc, 2)?, &rules)?;
     assert_eq!(rt; found.len(), 2);
     // The last two overlap with three rules each. Without the later one, the other has two left.
     assert!(rt; is_star(&found[0], 30, &[10, 20]));
@@ -106,7 +89,7 @@ fn more_general_rules_of_a_higher_priority_hide_others(rt: HostRuntime) -> Resul
     rules.push(rule(alloc, 20, 1, integers(alloc, &[])?)?)?;
     rules.push(rule(alloc, 30, 0, integers(alloc, &[2])?)?)?;
     rules.push(rule(alloc, 40, 2, integers(alloc, &[2])?)?)?;
-    let Comparison { faults: found, .. } = compare(alloc, &environment(alloc)?, &rules)?;
+    let Comparison { faults: found, .. } = compare(alloc, &environment(alloc, 2)?, &rules)?;
     assert_eq!(rt; found.len(), 2);
     assert!(rt; is_shadow(&found[0], 20, &[10, 30]));
     assert!(rt; is_shadow(&found[1], 40, &[30]));
@@ -121,7 +104,7 @@ fn rules_with_equal_places_hide_nothing(rt: HostRuntime) -> Result<(), AllocErro
     high.settled = Settled::Settled(Vec::new(alloc), equal);
     let mut rules = vec![in alloc; high]?;
     rules.push(rule(alloc, 20, 0, integers(alloc, &[1, 2])?)?)?;
-    let found = compare(alloc, &environment(alloc)?, &rules)?;
+    let found = compare(alloc, &environment(alloc, 2)?, &rules)?;
     assert!(rt; found.faults.is_empty());
     Ok(())
 }
@@ -135,7 +118,7 @@ fn rules_of_other_terms_are_not_compared(rt: HostRuntime) -> Result<(), AllocErr
     multi.is_multi = true;
     let mut rules = vec![in alloc; other, multi]?;
     rules.push(rule(alloc, 30, 0, Vec::new(alloc))?)?;
-    let found = compare(alloc, &environment(alloc)?, &rules)?;
+    let found = compare(alloc, &environment(alloc, 2)?, &rules)?;
     assert!(rt; found.faults.is_empty());
     Ok(())
 }
@@ -147,7 +130,7 @@ fn a_rule_that_matches_nothing_is_told_alone(rt: HostRuntime) -> Result<(), Allo
     constraints.push(argument(alloc, 0, Constraint::Const("zero"))?)?;
     let mut rules = vec![in alloc; rule(alloc, 10, 0, Vec::new(alloc))?]?;
     rules.push(rule(alloc, 20, 0, constraints)?)?;
-    let Comparison { faults: found, .. } = compare(alloc, &environment(alloc)?, &rules)?;
+    let Comparison { faults: found, .. } = compare(alloc, &environment(alloc, 2)?, &rules)?;
     assert_eq!(rt; found.len(), 1);
     let Kind::TwoConstraints(first, second) = &found[0].kind else {
         assert!(rt; false);
@@ -166,7 +149,7 @@ fn a_part_of_itself_is_a_warning(rt: HostRuntime) -> Result<(), AllocError> {
     let mut unequal = rule(alloc, 20, 0, Vec::new(alloc))?;
     unequal.settled = Settled::Unequal;
     let rules = vec![in alloc; endless, unequal]?;
-    let found = compare(alloc, &environment(alloc)?, &rules)?;
+    let found = compare(alloc, &environment(alloc, 2)?, &rules)?;
     assert_eq!(rt; (found.faults.len(), found.warnings.len()), (1, 1));
     assert!(rt; matches!(&found.faults[0].kind, Kind::UnequalConstraints));
     assert!(rt; matches!(&found.warnings[0].kind, Kind::PartOfItself));
@@ -183,7 +166,7 @@ fn an_overlap_is_told_with_a_value_that_both_match(rt: HostRuntime) -> Result<()
     let mut rules = vec![in alloc; rule(alloc, 10, 0, integers(alloc, &[1])?)?]?;
     let second = vec![in alloc; argument(alloc, 1, Constraint::Int(2))?]?;
     rules.push(rule(alloc, 20, 0, second)?)?;
-    let Comparison { faults: found, .. } = compare(alloc, &environment(alloc)?, &rules)?;
+    let Comparison { faults: found, .. } = compare(alloc, &environment(alloc, 2)?, &rules)?;
     let Kind::Overlaps(others, 0) = &found[0].kind else {
         assert!(rt; false);
         return Ok(());
@@ -201,7 +184,7 @@ fn a_value_of_equal_places_is_not_sure(rt: HostRuntime) -> Result<(), AllocError
     same.settled = Settled::Settled(Vec::new(alloc), equal);
     let mut rules = vec![in alloc; same]?;
     rules.push(rule(alloc, 20, 0, integers(alloc, &[1, 2])?)?)?;
-    let Comparison { faults: found, .. } = compare(alloc, &environment(alloc)?, &rules)?;
+    let Comparison { faults: found, .. } = compare(alloc, &environment(alloc, 2)?, &rules)?;
     let Kind::Overlaps(others, 0) = &found[0].kind else {
         assert!(rt; false);
         return Ok(());
@@ -218,7 +201,7 @@ fn ten_of_the_others_are_told(rt: HostRuntime) -> Result<(), AllocError> {
     for offset in 1..13 {
         rules.push(rule(alloc, offset, 0, integers(alloc, &[])?)?)?;
     }
-    let Comparison { faults: found, .. } = compare(alloc, &environment(alloc)?, &rules)?;
+    let Comparison { faults: found, .. } = compare(alloc, &environment(alloc, 2)?, &rules)?;
     let Kind::Shadows(hidden, left_out) = &found[0].kind else {
         assert!(rt; false);
         return Ok(());
