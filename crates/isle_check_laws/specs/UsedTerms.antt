@@ -8,6 +8,7 @@ use Rattle.isle_check_rules.specs.TypedRules.{TypedCondition, TypedRuleNode}
 use Rattle.isle_check_matchings.specs.Asks.{TermsNode}
 use Rattle.isle_check_matchings.specs.Matchings.{multi_by}
 
+-- the terms of a pattern
 abbrev mutual
   pub pattern_terms : TypedNode → List (List ℕ)
   pattern_terms (typed_bind _ _ p) = pattern_terms p
@@ -23,6 +24,7 @@ abbrev mutual
   list_terms no_typed = []
   list_terms (more_typed p ps) = pattern_terms p ++ list_terms ps
 
+-- the terms of an expression
 abbrev mutual
   pub expression_terms : TypedExpressionNode → List (List ℕ)
   expression_terms (typed_var_expression _ _) = []
@@ -40,10 +42,12 @@ abbrev mutual
   lets_terms no_typed_let = []
   lets_terms (more_typed_let _ e ds) = expression_terms e ++ lets_terms ds
 
+-- the terms of conditions
 abbrev pub conditions_terms : List TypedCondition → List (List ℕ)
 conditions_terms [] = []
 conditions_terms (c ∷ cs) = expression_terms c.expr ++ (pattern_terms c.pattern ++ conditions_terms cs)
 
+-- those of a rule, without its right side
 abbrev pub rule_terms : TypedRuleNode → List (List ℕ)
 rule_terms r = list_terms (typed_list_of r.args) ++ conditions_terms r.iflets
 
