@@ -1,6 +1,7 @@
--- Examples of runs, by computing.
-use Rattle.std.proofs.Common.{◌≡◌, ℕ, ◌+◌, ◌-◌, ◌==◌, List, [], ◌∷◌, map, nat_lt, Bool, true, false, Option, Some, None, refl, codes, bytes_eq, pos, if◌then◌else◌}
+-- Examples of runs, by computing, in a world of numbers.
+use Rattle.std.proofs.Common.{◌≡◌, ◌∙◌, sym, subst, arith, ltb-false, ◌≤◌, ℕ, ◌+◌, ◌-◌, ◌==◌, List, [], ◌∷◌, map, nat_lt, Bool, true, false, Option, Some, None, refl, codes, bytes_eq, pos, if◌then◌else◌}
 use Rattle.std.proofs.lemmas.Bool.Decides.{Decides-eqb}
+use Rattle.std.proofs.lemmas.Option.{none-some, same_Some}
 use Rattle.std.specs.List.{sum_by}
 use Rattle.isle_check_signatures.specs.Signatures.{TermNode}
 use Rattle.isle_check_typing.specs.Typed.{TypedNode, typed_bind, typed_var, typed_int, typed_term, typed_wildcard, typed_and, no_typed, more_typed}
@@ -10,6 +11,7 @@ use Rattle.isle_check_places.specs.Places.{ConstraintNode, of_int, present}
 use Rattle.isle_check_matchings.specs.Asks.{TermsNode}
 use Rattle.isle_check_matchings.specs.RuleAsks.{rule_asks}
 use Rattle.isle_check_matchings.specs.Matchings.{constraints_of}
+use Rattle.isle_check_laws.specs.Extensional.{HaveEqualParts, IsExtensional}
 use Rattle.isle_check_laws.specs.PlaceValues.{value_at}
 use Rattle.isle_check_laws.specs.Runs.{bound, run}
 use Rattle.isle_check_laws.specs.Worlds.{World}
@@ -33,6 +35,31 @@ numbers =
       int_value = λ i ty. 4;
       constant_value = λ name. 5;
     }
+
+-- what holds of a number
+data Looks (n : ℕ) (c : ConstraintNode) : Type 0 where
+  literal : c ≡ of_int (pos n) → Looks n c
+  answer : c ≡ present → 10 ≤ n → Looks n c
+
+looks_by : (n : ℕ) (c : ConstraintNode) (b d : Bool) → nat_lt n 10 ≡ b → (if b then Some (of_int (pos n)) else if d then Some present else None) ≡ Some c → Looks n c
+looks_by n c true d is h = literal (sym (same_Some (of_int (pos n)) c h))
+looks_by n c false true is h = answer (sym (same_Some present c h)) (ltb-false n 10 is)
+looks_by n c false false is h = absurd (none-some c h)
+
+both_look : (c : ConstraintNode) (u v : ℕ) → Looks u c → Looks v c → HaveEqualParts numbers c u v → u ≡ v
+both_look c u v (literal is) (literal other) parts = number u v (sym is ∙ other) where
+  number : (u v : ℕ) → of_int (pos u) ≡ of_int (pos v) → u ≡ v
+  number u v h = cc
+both_look c u v (literal is) (answer other le) parts = let e : of_int (pos u) ≡ present = sym is ∙ other in cc
+both_look c u v (answer is le) (literal other) parts = let e : present ≡ of_int (pos v) = sym is ∙ other in cc
+both_look c u v (answer is le) (answer other more) parts = equal u v le more (subst (λ d. HaveEqualParts numbers d u v) is parts) where
+  equal : (u v : ℕ) → 10 ≤ u → 10 ≤ v → u - 10 ≡ v - 10 → u ≡ v
+  equal u v le more h = omega (arith, le, more, h)
+
+-- in this world values are equal if they look so
+numbers_look : IsExtensional numbers
+numbers_look c u v is_u is_v parts =
+    both_look c u v (looks_by u c (nat_lt u 10) (nat_lt u 100) refl is_u) (looks_by v c (nat_lt v 10) (nat_lt v 100) refl is_v) parts
 
 abbrev term : (partial : Bool) → TermNode
 term partial = record { args = []; ret = []; pure = true; multi = false; partial = partial; is_variant = false }

@@ -2,6 +2,7 @@
 use Rattle.std.proofs.Common.{◌≡◌, ℕ, List, ◌==◌, length, true, ◌&&◌, sym, ◌∙◌, subst, bytes_eq, int_lt}
 use Rattle.std.proofs.lemmas.Bool.Decides.{Decides-eqb}
 use Rattle.std.proofs.lemmas.List.{nil_from_length}
+use Rattle.std.proofs.lemmas.Slice.Eq.{bytes_eq-Decides}
 use Rattle.isle_check_rules.specs.TypedRules.{TypedRuleNode}
 use Rattle.isle_check_places.specs.Comparing.{within}
 use Rattle.isle_check_places.specs.Settling.{EqualityNode, settled, most_sweeps}
@@ -26,7 +27,7 @@ none_left w input es h = subst (AreEqual w input) (sym (nil_from_length es ((Dec
 
 pub hiding_law : {V : Type 0} (k : TermsNode) (w : World V) (input : ℕ → V) (high low : TypedRuleNode) (a b : CandidateNode) → IsExtensional w → IsClosed k high →
     IsCompared k high a → IsCompared k low b → hides a b ≡ true → Runs k w low input →
-    Runs k w high input × (int_lt low.prio high.prio ≡ true)
+    Runs k w high input × ((high.term ≡ low.term) × (int_lt low.prio high.prio ≡ true))
 hiding_law k w input high low a b looks closed is_a is_b h runs =
     let inside = within a.constraints b.constraints in
     let low_plain = b.is_plain && inside in
@@ -37,9 +38,14 @@ hiding_law k w input high low a b looks closed is_a is_b h runs =
     let is_plain = and_second (bytes_eq a.term b.term) plain of_term in
     let is_inside = and_second b.is_plain inside (and_second a.is_plain low_plain is_plain) in
     let c = comes k high a is_a in
+    let d = comes k low b is_b in
+    let same = (bytes_eq-Decides a.term b.term).0 (and_first (bytes_eq a.term b.term) plain of_term) in
     let holds = within_satisfies (valuation w input) a.constraints b.constraints is_inside (compared_holds k w input low b is_b runs) in
     let whole : IsWhole w input looks (settled a.constraints c.equal) = (holds, none_left w input c.equal (sym c.is_plain ∙ and_first a.is_plain low_plain is_plain)) in
     let back = settle_back w input looks most_sweeps (constraints_of (rule_asks k high)) (equalities_of (rule_asks k high)) (subst (IsWhole w input looks) (sym c.is_settled) whole) in (
       runs_law w input k high closed back.0 back.1,
-      subst (λ p. int_lt p high.prio ≡ true) (comes k low b is_b).prio (subst (λ p. int_lt b.prio p ≡ true) c.prio higher),
+      (
+        sym c.term ∙ (same ∙ d.term),
+        subst (λ p. int_lt p high.prio ≡ true) d.prio (subst (λ p. int_lt b.prio p ≡ true) c.prio higher),
+      ),
     )

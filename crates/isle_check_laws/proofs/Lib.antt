@@ -18,4 +18,8 @@ pub mod BareAsks
 pub mod PatternValues
 pub mod RuleValues
 pub mod HidingLaws
+pub mod SeenVariables
+pub mod ClosedPatterns
+pub mod ClosedExpressions
+pub mod ClosedRules
 pub mod Examples

@@ -8,6 +8,7 @@ use Rattle.isle_check_expressions.specs.TypedExpressions.{TypedExpressionNode, t
 use Rattle.isle_check_rules.specs.TypedRules.{TypedCondition, TypedRuleNode}
 use Rattle.isle_check_matchings.specs.Asks.{TermsNode}
 
+-- a variable is one of these
 abbrev pub IsBound : (before : List ℕ) → (variable : ℕ) → Type 0
 IsBound before x = list_any (λ y. x == y) before ≡ true
 
@@ -71,11 +72,13 @@ abbrev mutual
   AreClosedLets k before no_typed_let = Unit {0}
   AreClosedLets k before (more_typed_let x e ds) = IsClosedExpression k before e × AreClosedLets k (before ++ x ∷ []) ds
 
+-- conditions, each with its expression before its pattern, where these variables are bound
 abbrev pub AreClosedConditions : TermsNode → (before : List ℕ) → List TypedCondition → Type 0
 AreClosedConditions k before [] = Unit {0}
 AreClosedConditions k before (c ∷ cs) =
     IsClosedExpression k before c.expr
     × (IsClosedPattern k before c.pattern × AreClosedConditions k (before ++ pattern_variables c.pattern) cs)
 
+-- the arguments of a rule, and then its conditions
 abbrev pub IsClosed : TermsNode → TypedRuleNode → Type 0
 IsClosed k r = AreClosedPatterns k [] (typed_list_of r.args) × AreClosedConditions k (list_variables (typed_list_of r.args)) r.iflets

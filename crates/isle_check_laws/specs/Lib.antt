@@ -4,4 +4,5 @@ pub mod Runs
 pub mod PlaceValues
 pub mod Compared
 pub mod Closed
+pub mod UsedTerms
 pub mod Extensional

@@ -5,6 +5,7 @@ use Rattle.isle_check_places.specs.Settling.{EqualityNode, SettledNode, settled,
 use Rattle.isle_check_laws.specs.Valuations.{Valuation, Satisfies}
 use Rattle.isle_check_laws.specs.Worlds.{World}
 
+-- the stack with its top changed
 abbrev pub on_top : {V : Type 0} → (V → V) → List V → List V
 on_top f [] = []
 on_top f (v ∷ stack) = f v ∷ stack
@@ -23,6 +24,7 @@ stepped w input (bool_value val ty) stack = w.bool_value val ty ∷ stack
 stepped w input (int_value val ty) stack = w.int_value val ty ∷ stack
 stepped w input (constant_value name) stack = w.constant_value name ∷ stack
 
+-- the stack after all steps of a place
 abbrev pub steps : {V : Type 0} → World V → (input : ℕ → V) → Place → List V → List V
 steps w input [] stack = stack
 steps w input (a ∷ more) stack = steps w input more (stepped w input a stack)
@@ -44,7 +46,7 @@ abbrev pub AreEqual : {V : Type 0} → World V → (input : ℕ → V) → List 
 AreEqual w input [] = Unit {0}
 AreEqual w input (e ∷ es) = (value_at w input e.left ≡ value_at w input e.right) × AreEqual w input es
 
--- what is settled holds
+-- what is settled holds; equal places whose constraints differ there cannot be; where there is no end, nothing is said
 abbrev pub IsMet : {V : Type 0} → World V → (input : ℕ → V) → SettledNode → Type 0
 IsMet w input (settled cs es) = Satisfies (valuation w input) cs × AreEqual w input es
 IsMet w input unequal = ⊥

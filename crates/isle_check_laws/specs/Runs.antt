@@ -22,9 +22,11 @@ abbrev pub looked_up : {V : Type 0} → List (BoundNode V) → (variable : ℕ) 
 looked_up [] x = None
 looked_up (b ∷ bs) x = if x == b.variable then b.val else looked_up bs x
 
+-- the value, if this holds
 abbrev pub only_if : {V : Type 0} → Bool → V → Option V
 only_if b x = if b then Some x else None
 
+-- whether the first constraint is there, and is the second
 abbrev pub is_constraint : Option ConstraintNode → ConstraintNode → Bool
 is_constraint None c = false
 is_constraint (Some d) c = same_constraint d c
@@ -33,6 +35,7 @@ is_constraint (Some d) c = same_constraint d c
 abbrev pub is_of : {V : Type 0} → World V → V → ConstraintNode → Bool
 is_of w v c = is_constraint (w.constraint v) c
 
+-- whether the first value is there, and is the second
 abbrev pub is_value : {V : Type 0} → World V → Option V → V → Bool
 is_value w None v = false
 is_value w (Some u) v = w.same u v
@@ -101,6 +104,7 @@ abbrev mutual
 abbrev pub run_condition : {V : Type 0} → TermsNode → World V → TypedCondition → List (BoundNode V) → Option (List (BoundNode V))
 run_condition k w c bs = option_and_then (λ v. match_pattern k w c.pattern v bs) (evaluate k w bs c.expr)
 
+-- conditions one after another
 abbrev pub run_conditions : {V : Type 0} → TermsNode → World V → List TypedCondition → List (BoundNode V) → Option (List (BoundNode V))
 run_conditions k w [] bs = Some bs
 run_conditions k w (c ∷ cs) bs = option_and_then (run_conditions k w cs) (run_condition k w c bs)
@@ -109,5 +113,6 @@ run_conditions k w (c ∷ cs) bs = option_and_then (run_conditions k w cs) (run_
 abbrev pub run : {V : Type 0} → TermsNode → World V → TypedRuleNode → (input : ℕ → V) → Option (List (BoundNode V))
 run k w r input = option_and_then (run_conditions k w r.iflets) (match_list k w (typed_list_of r.args) input 0 [])
 
+-- the rule matches the arguments
 abbrev pub Runs : {V : Type 0} → TermsNode → World V → TypedRuleNode → (input : ℕ → V) → Type 0
 Runs k w r input = is_some (run k w r input) ≡ true

@@ -6,6 +6,7 @@ use Rattle.isle_check_places.specs.Places.{Place, ConstraintNode, ConstrainedNod
 abbrev pub Valuation : Type 0
 Valuation = Place → Option ConstraintNode
 
+-- a constraint holds of the value at its place
 abbrev pub Holds : Valuation → ConstrainedNode → Type 0
 Holds values c = values c.at ≡ Some c.constraint
 

@@ -2,7 +2,10 @@
 
 ghost use Rattle.std.specs.Prelude.{◌≡◌, ◌≢◌, ◌↔◌, Decides, ℕ, List, [], false, int_lt};
 ghost use Rattle.std.specs.Prelude.{true};
+ghost use Rattle.isle_ast_rules.specs.Tree.{RuleDefinition};
+ghost use Rattle.isle_check_signatures.specs.Environment.{EnvironmentNode};
 ghost use Rattle.isle_check_rules.specs.TypedRules.{TypedRuleNode};
+ghost use Rattle.isle_check_judgements.specs.IsTypedRule.{IsTypedRule};
 ghost use Rattle.isle_check_places.specs.Clashes.{clashes_after};
 ghost use Rattle.isle_check_places.specs.Comparing.{apart, within};
 ghost use Rattle.isle_check_places.specs.Places.{ConstrainedNode, ConstraintNode, Place};
@@ -18,6 +21,7 @@ ghost use Rattle.isle_check_laws.specs.Compared.{Covers, IsCompared, Meet};
 ghost use Rattle.isle_check_laws.specs.Extensional.{IsExtensional};
 ghost use Rattle.isle_check_laws.specs.PlaceValues.{AreEqual, IsMet, valuation};
 ghost use Rattle.isle_check_laws.specs.Runs.{Runs};
+ghost use Rattle.isle_check_laws.specs.UsedTerms.{AreSingle, rule_terms};
 ghost use Rattle.isle_check_laws.specs.Worlds.{World};
 ghost use Rattle.isle_check_laws.specs.Valuations.{HaveCommon, Satisfies, Valuation};
 
@@ -118,6 +122,14 @@ pub fn closed_rules_run_if_they_get_what_they_ask<V>()
         → AreEqual w input (equalities_of (rule_asks k r)) → Runs k w r input }
 {}
 
+/// A law, which runs no code: a rule that has its typed rule by the rules of types is closed, if
+/// none of the terms that it uses in its arguments and conditions is multi.
+pub fn typed_rules_are_closed()
+    ensures { (env : EnvironmentNode) (k : TermsNode) (r : RuleDefinition) (typed : TypedRuleNode)
+        → k.terms ≡ env.terms → IsTypedRule env r typed → AreSingle k (rule_terms typed)
+        → IsClosed k typed }
+{}
+
 /// A law, which runs no code: in a world in which values are equal if they look so, what is settled
 /// holds only if that of which it is settled holds.
 pub fn settling_keeps_what_is_asked<V>()
@@ -128,10 +140,11 @@ pub fn settling_keeps_what_is_asked<V>()
 {}
 
 /// A law, which runs no code: a rule that is hidden is never taken. In a world in which values are
-/// equal if they look so, where it runs, the closed rule runs that hides it, of a higher priority.
+/// equal if they look so, where it runs, the closed rule runs that hides it: of its term, and of a
+/// higher priority.
 pub fn hidden_rules_are_never_taken<V>()
     ensures { (k : TermsNode) (w : World V) (input : ℕ → V) (high low : TypedRuleNode)
         (a b : CandidateNode) → IsExtensional w → IsClosed k high → IsCompared k high a
         → IsCompared k low b → hides a b ≡ true → Runs k w low input
-        → Runs k w high input × (int_lt low.prio high.prio ≡ true) }
+        → Runs k w high input × ((high.term ≡ low.term) × (int_lt low.prio high.prio ≡ true)) }
 {}

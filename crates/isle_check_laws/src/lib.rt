@@ -1,5 +1,5 @@
-//! Laws of the comparison of rules: what overlaps and hidden rules mean, by valuations of places and
-//! by runs of rules.
+//! Laws of the comparison of rules: what overlaps and hidden rules mean, by valuations of places
+//! and by runs of rules.
 #![tactic(auto)]
 
 pub mod laws;
