@@ -18,23 +18,18 @@ note pos message = record { pos = pos; message = message }
 abbrev pub left_out_note : Pos → (count : ℕ) → List NoteNode
 left_out_note pos count = if count == 0 then [] else note pos (codes "more such rules: " ++ decimal count) ∷ []
 
-abbrev pub next_note : OtherNode → NoteNode
-next_note o = note o.pos (codes "another rule: " ++ both_text o.value)
-
--- the message of the error tells what the first of the others matches
-abbrev pub other_notes : List OtherNode → List NoteNode
-other_notes [] = []
-other_notes (o ∷ os) = note o.pos (codes "the other rule") ∷ map next_note os
+abbrev pub other_note : OtherNode → NoteNode
+other_note o = note o.pos (codes "this rule overlaps with another one: " ++ both_text o.value)
 
 abbrev pub hidden_note : Pos → NoteNode
-hidden_note pos = note pos (codes "this rule is never taken")
+hidden_note pos = note pos (codes "this rule is never taken: a more general one has a higher priority")
 
 -- of an error at this position
 abbrev pub overlap_notes : Pos → KindNode → List NoteNode
 overlap_notes pos (two_constraints _ _) = []
 overlap_notes pos unequal_constraints = []
 overlap_notes pos part_of_itself = []
-overlap_notes pos (overlaps others left_out) = other_notes others ++ left_out_note pos left_out
+overlap_notes pos (overlaps others left_out) = map other_note others ++ left_out_note pos left_out
 overlap_notes pos (shadows hidden left_out) = map hidden_note hidden ++ left_out_note pos left_out
 
 -- of code

@@ -1,9 +1,8 @@
 //! What is told of other rules beside an error of a rule.
 
-ghost use Rattle.std.specs.Prelude.{◌≡◌, ◌++◌, ◌∷◌, [], IfOk, OnOk, map};
+ghost use Rattle.std.specs.Prelude.{◌≡◌, ◌++◌, IfOk, OnOk, map};
 ghost use Rattle.isle_check_messages.specs.Notes as told;
-ghost use Rattle.isle_check_messages.specs.Notes.{left_out_note, next_note, note, note_of};
-ghost use Rattle.isle_check_messages.specs.Notes.{notes_of, other_notes};
+ghost use Rattle.isle_check_messages.specs.Notes.{left_out_note, note_of, notes_of};
 ghost use Rattle.isle_check_overlaps.specs.Views.{kind_of, other_of, others_of};
 
 use crate::overlaps::put_both;
@@ -43,22 +42,18 @@ pub fn overlap_notes(alloc: Global, pos: Pos, kind: &Kind) -> Result<Vec<Note>, 
 /// Adds the rules that overlap with a rule.
 fn add_others(alloc: Global, others: &[Other], notes: &mut Vec<Note>) -> Result<(), AllocError>
     ensures { OnOk result (notes_of notes.new.items
-        ≡ notes_of notes.old.items ++ other_notes (others_of others.now)) }
+        ≡ notes_of notes.old.items ++ map told.other_note (others_of others.now)) }
 {
-    let [first, later @ ..] = others else {
-        return Ok(());
-    };
-    add(alloc, first.pos, "the other rule", notes)?;
-    for other in later {
-        notes.push(next_note(alloc, other)?)?;
+    for other in others {
+        notes.push(other_note(alloc, other)?)?;
     }
     Ok(())
 }
 
-fn next_note(alloc: Global, other: &Other) -> Result<Note, AllocError>
-    ensures { IfOk result (λ made. note_of made ≡ next_note (other_of other.now)) }
+fn other_note(alloc: Global, other: &Other) -> Result<Note, AllocError>
+    ensures { IfOk result (λ made. note_of made ≡ told.other_note (other_of other.now)) }
 {
-    let mut message = String::from_str(alloc, "another rule: ")?;
+    let mut message = String::from_str(alloc, "this rule overlaps with another one: ")?;
     put_both(&other.value, &mut message)?;
     Ok(Note {
         pos: other.pos,
@@ -72,9 +67,19 @@ fn add_hidden(alloc: Global, hidden: &[Pos], notes: &mut Vec<Note>) -> Result<()
         ≡ notes_of notes.old.items ++ map told.hidden_note hidden.now) }
 {
     for pos in hidden {
-        add(alloc, *pos, "this rule is never taken", notes)?;
+        notes.push(hidden_note(alloc, *pos)?)?;
     }
     Ok(())
+}
+
+fn hidden_note(alloc: Global, pos: Pos) -> Result<Note, AllocError>
+    ensures { IfOk result (λ made. note_of made ≡ told.hidden_note pos) }
+{
+    let message = String::from_str(
+        alloc,
+        "this rule is never taken: a more general one has a higher priority",
+    )?;
+    Ok(Note { pos, message })
 }
 
 /// Adds how many rules are left out, if there are any.
@@ -91,15 +96,6 @@ fn add_left_out(
         return Ok(());
     }
     let message = format!(in alloc; "more such rules: {count}")?;
-    notes.push(Note { pos, message })?;
-    Ok(())
-}
-
-fn add(alloc: Global, pos: Pos, message: &str, notes: &mut Vec<Note>) -> Result<(), AllocError>
-    ensures { OnOk result (notes_of notes.new.items
-        ≡ notes_of notes.old.items ++ note pos message.now ∷ []) }
-{
-    let message = String::from_str(alloc, message)?;
     notes.push(Note { pos, message })?;
     Ok(())
 }

@@ -7,8 +7,9 @@ use Rattle.isle_base_source.specs.Source.{Source}
 use Rattle.isle_base_source.specs.declared.error.Error.{Error}
 use Rattle.isle_base_source.specs.declared.pos.Pos.{Pos}
 use Rattle.isle_ast.specs.Tree.{Definition}
-use Rattle.isle_check_core.specs.FindingWords.{kind_words}
+use Rattle.isle_check_core.specs.FindingWords.{finding_notes, kind_words}
 use Rattle.isle_check_core.specs.Findings.{FindingNode, findings, is_error}
+use Rattle.isle_check_messages.specs.Notes.{NoteNode}
 use Rattle.isle_check_messages.specs.Words.{WordsNode}
 use Rattle.isle_program.specs.Reading.{IsReading, refused_count}
 use Rattle.isle_lsp_features.specs.Programs.{Text}
@@ -34,6 +35,14 @@ told_in pos is_error words = record { pos = pos; is_error = is_error; kind = wor
 
 abbrev pub told : FindingNode → Told
 told f = told_in f.pos (is_error f.kind) (kind_words f.kind)
+
+-- a note tells of another place what the finding is
+abbrev pub told_note : (is_error : Bool) → (kind : List ℕ) → NoteNode → Told
+told_note is_error kind n = record { pos = n.pos; is_error = is_error; kind = kind; message = n.message }
+
+-- a finding, and its notes
+abbrev pub all_told : FindingNode → List Told
+all_told f = told f ∷ map (told_note (is_error f.kind) (kind_words f.kind).name) (finding_notes f)
 
 -- the mark of what is told, cut at the end of the text
 abbrev pub checked_mark_at : List ℕ → (start : ℕ) → Told → Mark
@@ -66,7 +75,7 @@ sources_of program = map source_of program
 
 -- what is told of the definitions of a program's reading: if one of its texts has no tree, nothing
 abbrev pub reading_told : List Definition → List (Option Error) → List Told
-reading_told ds refusals = if refused_count refusals == 0 then map told (findings ds) else []
+reading_told ds refusals = if refused_count refusals == 0 then flat_map all_told (findings ds) else []
 
 -- this is what the check of a program of these texts tells
 pub record AreTold (sources : List Source) (all : List Told) : Type 0 where

@@ -1,17 +1,20 @@
 //! What is found in programs, kept from one message to the next.
 
-ghost use Rattle.std.specs.Prelude.{◌≡◌, IfErr, IfOk, IfSome, false, map, true};
+ghost use Rattle.std.specs.Prelude.{◌≡◌, ◌++◌, IfErr, IfOk, IfSome, OnOk, false, map};
+ghost use Rattle.std.specs.Prelude.{true};
+ghost use Rattle.std.specs.List.{flat_map};
 ghost use Rattle.isle_ast.specs.MacroArgs.{definitions_have_macro_arg};
 ghost use Rattle.isle_ast.specs.TreeView.{definitions_of};
 ghost use Rattle.isle_check_core.specs.Views.{finding_of, findings_of};
+ghost use Rattle.isle_check_messages.specs.Notes.{notes_of};
 ghost use Rattle.isle_cli.specs.Sources.{source_of};
 ghost use Rattle.isle_cli.specs.declared.failure.Failure.TheVariants.{Memory};
 ghost use Rattle.isle_lsp_features.specs.Programs.{text_of};
 ghost use Rattle.isle_lsp_diagnostics.specs.Checked as wanted;
-ghost use Rattle.isle_lsp_diagnostics.specs.Checked.{AreTold, told, told_of};
+ghost use Rattle.isle_lsp_diagnostics.specs.Checked.{AreTold, told_of};
 
 use isle_base::lexer::Pos;
-use isle_check_core::{Finding, check};
+use isle_check_core::{Finding, Note, check};
 use isle_cli::failure::Failure;
 use isle_cli::sources::Source;
 use isle_lsp_features::Text;
@@ -20,7 +23,7 @@ use std::alloc::{AllocError, Global};
 use std::marker::Model;
 use std::mem;
 
-/// What a finding tells.
+/// What a finding tells, or one of its notes.
 #[derive(Debug, Drop)]
 pub struct Told {
     /// The position that it is reported at.
@@ -202,20 +205,51 @@ fn told_of_reading(alloc: Global, reading: &Reading) -> Result<Vec<Told>, AllocE
     all_told(alloc, &found)
 }
 
-/// What findings tell.
+/// What findings and their notes tell.
 fn all_told(alloc: Global, found: &[Finding]) -> Result<Vec<Told>, AllocError>
-    ensures { IfOk result
-        (λ all. map told_of all.items ≡ map told (findings_of found.now)) }
+    ensures { IfOk result (λ all. map told_of all.items
+        ≡ flat_map wanted.all_told (findings_of found.now)) }
 {
     let mut all = Vec::new(alloc);
     for finding in found {
-        let words = finding.kind.words(alloc)?;
-        all.push(Told {
-            pos: finding.pos,
-            is_error: finding.kind.is_error(),
-            kind: words.name,
-            message: words.message,
-        })?;
+        add_told(alloc, finding, &mut all)?;
     }
     Ok(all)
+}
+
+/// Adds what a finding and its notes tell.
+fn add_told(alloc: Global, finding: &Finding, all: &mut Vec<Told>) -> Result<(), AllocError>
+    ensures { OnOk result (map told_of all.new.items
+        ≡ map told_of all.old.items ++ wanted.all_told (finding_of finding.now)) }
+{
+    let words = finding.kind.words(alloc)?;
+    let is_error = finding.kind.is_error();
+    let kind = words.name;
+    all.push(Told {
+        pos: finding.pos,
+        is_error,
+        kind,
+        message: words.message,
+    })?;
+    add_notes(is_error, kind, finding.notes(alloc)?, all)
+}
+
+fn add_notes(
+    is_error: bool,
+    kind: &'static str,
+    notes: Vec<Note>,
+    all: &mut Vec<Told>,
+) -> Result<(), AllocError>
+    ensures { OnOk result (map told_of all.new.items ≡ map told_of all.old.items
+        ++ map (wanted.told_note is_error kind.now) (notes_of notes.items)) }
+{
+    for note in notes {
+        all.push(Told {
+            pos: note.pos,
+            is_error,
+            kind,
+            message: note.message,
+        })?;
+    }
+    Ok(())
 }

@@ -1,9 +1,10 @@
 use Rattle.std.proofs.Common.{◌≡◌, ◌==◌, Bool, IfOk, [], ap, cond, false, map, refl, subst, sym, true, ◌∙◌, arith}
+use Rattle.std.specs.List.{flat_map}
 use Rattle.isle_ast.specs.TreeView.{definitions_of}
 use Rattle.isle_check_core.specs.Findings.{findings}
 use Rattle.isle_check_core.specs.Views.{findings_of}
 use Rattle.isle_program.specs.Reading.{refused_count}
-use Rattle.isle_lsp_diagnostics.specs.Checked.{told, told_of}
+use Rattle.isle_lsp_diagnostics.specs.Checked.{all_told, told_of}
 use Rattle.isle_lsp_diagnostics.proofs.checks.told_of_reading.Goals as goal
 
 chosen : {A : Type 0} (b : Bool) (x y : A) → b ≡ true → cond b x y ≡ x
@@ -19,5 +20,5 @@ returns c =
     let same : findings_of c.deref-3.result.now ≡ findings ds =
     ap findings_of c.deref-3.ensures.value ∙ c.in_ok-found.ensures ∙ ap (λ defs. findings (definitions_of defs)) c.deref-2.ensures.value in
     subst (λ r. IfOk c.all_told.result (λ all. map told_of all.items ≡ r))
-    (ap (map told) same ∙ sym (chosen (refused_count refusals == 0) (map told (findings ds)) [] none))
+    (ap (flat_map all_told) same ∙ sym (chosen (refused_count refusals == 0) (flat_map all_told (findings ds)) [] none))
     c.all_told.ensures
