@@ -209,7 +209,14 @@ fn add_notes(
         ++ flat_map (note_line (map source_of sources.now)) (notes_of notes.now)) }
 {
     for note in notes {
-        let line = line_at(alloc, sources, maps, note.pos, "note", note.message.as_str())?;
+        let line = line_at(
+            alloc,
+            sources,
+            maps,
+            note.pos,
+            "note",
+            note.message.as_str(),
+        )?;
         text.push_str(line.as_str())?;
     }
     Ok(())

@@ -18,8 +18,10 @@ ghost use Rattle.isle_check_typing.specs.Views.{kind_of};
 
 use isle_ast::ast::Ident;
 use isle_base::lexer::Pos;
-use isle_check_messages::{Note, Words, about, about_three, about_two, declaration_words};
-use isle_check_messages::{overlap_notes, overlap_words, plain, rule_words};
+use isle_check_messages::{
+    Note, Words, about, about_three, about_two, declaration_words, overlap_notes, overlap_words,
+    plain, rule_words,
+};
 use isle_check_rules::WarningKind;
 use std::alloc::{AllocError, Global};
 

@@ -8,5 +8,5 @@ mod warnings;
 
 pub use checks::check;
 pub use finding::{Finding, Kind};
-pub use kinds::is_kind;
 pub use isle_check_messages::{Note, Words};
+pub use kinds::is_kind;

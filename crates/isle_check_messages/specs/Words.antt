@@ -1,6 +1,6 @@
 -- The words of a finding.
 use Rattle.std.specs.Prelude.{ℕ, List, [], Option, None, Some, string_bytes}
-use Rattle.isle_check_core.specs.declared.words.Words.{Words}
+use Rattle.isle_check_messages.specs.declared.words.Words.{Words}
 
 -- the name of a kind of finding, and the message of a finding
 pub record WordsNode : Type 0 where
