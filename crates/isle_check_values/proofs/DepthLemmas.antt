@@ -1,10 +1,9 @@
 -- Nothing is said of values at places that are longer than all that are constrained.
-use Rattle.std.proofs.Common.{◌≡◌, ℕ, zero, suc, ◌+◌, ◌<◌, ◌≤◌, List, [], ◌∷◌, ◌++◌, Bool, true, false, ◌&&◌, ◌==◌, Option, None, Some, length, max, refl, sym, ap, ◌∙◌, arith, length-append, if◌then◌else◌}
-use Rattle.isle_check_places.specs.Places.{StepNode, argument, field, content, part, each, extracted, Place, ConstraintNode, ConstrainedNode, same_place, same_step, step_on}
+use Rattle.std.proofs.Common.{◌≡◌, ℕ, zero, suc, ◌+◌, ◌<◌, ◌≤◌, List, [], ◌∷◌, ◌++◌, Bool, true, false, ◌&&◌, ◌==◌, None, Some, length, map, refl, sym, ap, ◌∙◌, arith, length-append, if◌then◌else◌}
+use Rattle.isle_check_places.specs.Places.{StepNode, argument, field, content, part, each, extracted, Place, ConstrainedNode, same_place, same_step, step_on}
 use Rattle.isle_check_places.specs.Settling.{constraint_at}
-use Rattle.isle_check_values.specs.Next.{next_step}
-use Rattle.isle_check_values.specs.Said.{SaidNode, said_variant, said_bool, said_int, said_constant, said_extractor, said_at, said_by, with_extractors, with_step}
-use Rattle.isle_check_values.specs.Shapes.{AnswerNode, may_fail, has_several, is_there, ShapeNode, anything, variant_shape, extractor_shape, ShapeList, more_shapes, UnderNode, same, arguments, fields, parts, place_under, parts_of, answer_place}
+use Rattle.isle_check_values.specs.Said.{SaidNode, said_variant, said_bool, said_int, said_constant, said_extractor, distinct, extractor_by, extractors_from, said_at, said_by}
+use Rattle.isle_check_values.specs.Shapes.{AnswerNode, may_fail, has_several, is_there, ShapeNode, anything, variant_shape, extractor_shape, more_shapes, UnderNode, same, arguments, fields, parts, place_under, parts_of, answer_place}
 use Rattle.isle_check_values.specs.Values.{KnownNode, answer_at, argument_count, argument_shapes, joined, longest, said_shape, said_shapes, shape, shapes_under}
 use Rattle.isle_check_values.proofs.NextLemmas.{no_next}
 
@@ -23,13 +22,15 @@ no_constraint [] at less = refl
 no_constraint (c ∷ cs) at less =
     ap (λ b. if b then Some c.constraint else constraint_at cs at) (shorter c.at at (omega (arith, less))) ∙ no_constraint cs at (omega (arith, less))
 
-no_extractors : (before : List SaidNode) (cs : List ConstrainedNode) (at : Place) → longest cs < length at → with_extractors before cs at ≡ before
-no_extractors before [] at less = refl
-no_extractors before (c ∷ cs) at less =
-    ap (λ o. with_extractors (with_step before o) cs at) (no_next at c.at (omega (arith, less))) ∙ no_extractors before cs at (omega (arith, less))
+no_extractors : (cs : List ConstrainedNode) (at : Place) → longest cs < length at → extractors_from cs at ≡ []
+no_extractors [] at less = refl
+no_extractors (c ∷ cs) at less =
+    ap (λ o. extractor_by o ++ extractors_from cs at) (no_next at c.at (omega (arith, less))) ∙ no_extractors cs at (omega (arith, less))
 
 nothing_said : (cs : List ConstrainedNode) (at : Place) → longest cs < length at → said_at cs at ≡ []
-nothing_said cs at less = no_extractors (said_by (constraint_at cs at)) cs at less ∙ ap said_by (no_constraint cs at less)
+nothing_said cs at less =
+    ap (λ c. said_by c ++ map said_extractor (distinct (extractors_from cs at))) (no_constraint cs at less)
+    ∙ ap (λ ts. map said_extractor (distinct ts)) (no_extractors cs at less)
 
 nothing_shown : (k : KnownNode) (n : ℕ) (at : Place) → longest k.constraints < length at → shape k (suc n) at ≡ anything
 nothing_shown k n at less = ap (λ ss. joined (said_shapes k (λ p. shape k n p) at ss)) (nothing_said k.constraints at less)

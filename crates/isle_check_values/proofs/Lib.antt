@@ -1,4 +1,5 @@
 pub mod DepthLemmas
 pub mod NextLemmas
+pub mod SaidLemmas
 pub mod SameLemmas
 pub mod ShapeLemmas

@@ -1,5 +1,5 @@
 -- The step of a place behind those of another one, by how many these are.
-use Rattle.std.proofs.Common.{◌≡◌, ℕ, suc, ◌<◌, ◌≤◌, List, [], ◌∷◌, Bool, true, false, ◌&&◌, Option, None, Some, length, take, get_or, refl, sym, arith, if◌then◌else◌}
+use Rattle.std.proofs.Common.{◌≡◌, ◌<◌, ◌≤◌, List, [], ◌∷◌, Bool, true, false, ◌&&◌, Option, None, Some, length, take, get_or, refl, sym, arith, if◌then◌else◌}
 use Rattle.std.proofs.lemmas.List.{length-map}
 use Rattle.isle_check_places.specs.declared.places.Step.{Step}
 use Rattle.isle_check_places.specs.Places.{StepNode, Place, same_place, same_step}

@@ -1,5 +1,5 @@
 -- How places go on from another one.
-use Rattle.std.specs.Prelude.{ℕ, List, [], ◌∷◌, Bool, true, false, Option, None, Some, if◌then◌else◌}
+use Rattle.std.specs.Prelude.{List, [], ◌∷◌, Bool, true, false, Option, None, Some, if◌then◌else◌}
 use Rattle.std.specs.List.{list_any}
 use Rattle.isle_check_places.specs.Places.{StepNode, each, Place, same_step, ConstrainedNode}
 

@@ -1,6 +1,6 @@
 -- What constraints say of the value at a place by itself: that it is of a variant or a literal, and what extractors it is given to.
-use Rattle.std.specs.Prelude.{ℕ, ℤ, List, [], ◌∷◌, ◌++◌, Bool, false, Option, None, Some, if◌then◌else◌}
-use Rattle.std.specs.List.{list_any}
+use Rattle.std.specs.Prelude.{ℕ, ℤ, List, [], ◌∷◌, ◌++◌, Bool, not, Option, None, Some, map}
+use Rattle.std.specs.List.{filter, flat_map}
 use Rattle.std.specs.Str.{bytes_eq}
 use Rattle.isle_check_places.specs.Places.{StepNode, extracted, Place, ConstraintNode, of_variant, of_bool, of_int, of_constant, present, ConstrainedNode}
 use Rattle.isle_check_places.specs.Settling.{constraint_at}
@@ -22,19 +22,19 @@ said_by (Some (of_int i)) = said_int i ∷ []
 said_by (Some (of_constant name)) = said_constant name ∷ []
 said_by (Some present) = []
 
-abbrev pub is_extractor : (term : List ℕ) → SaidNode → Bool
-is_extractor g (said_extractor h) = bytes_eq g h
-is_extractor g _ = false
+abbrev pub extractor_by : Option StepNode → List (List ℕ)
+extractor_by (Some (extracted g)) = g ∷ []
+extractor_by _ = []
 
--- an extractor is said once
-abbrev pub with_step : List SaidNode → Option StepNode → List SaidNode
-with_step before (Some (extracted g)) = if list_any (is_extractor g) before then before else before ++ said_extractor g ∷ []
-with_step before _ = before
+-- the extractors by which places go on from this one
+abbrev pub extractors_from : List ConstrainedNode → (at : Place) → List (List ℕ)
+extractors_from cs at = flat_map (λ c. extractor_by (next_step at c.at)) cs
 
--- what is said before, and then the extractors by which places go on from this one, in order
-abbrev pub with_extractors : (before : List SaidNode) → List ConstrainedNode → (at : Place) → List SaidNode
-with_extractors before [] at = before
-with_extractors before (c ∷ cs) at = with_extractors (with_step before (next_step at c.at)) cs at
+-- each text once, in the order in which they are first
+abbrev pub distinct : List (List ℕ) → List (List ℕ)
+distinct [] = []
+distinct (t ∷ ts) = t ∷ filter (λ other. not (bytes_eq other t)) (distinct ts)
 
+-- first what is asked of the value itself
 abbrev pub said_at : List ConstrainedNode → (at : Place) → List SaidNode
-said_at cs at = with_extractors (said_by (constraint_at cs at)) cs at
+said_at cs at = said_by (constraint_at cs at) ++ map said_extractor (distinct (extractors_from cs at))

@@ -1,7 +1,7 @@
 -- The value that rules of one term match, written as a pattern.
 use Rattle.std.specs.Prelude.{ℕ, zero, suc, List, [], ◌∷◌, ◌++◌, Bool, Option, None, Some, length, max, if◌then◌else◌}
 use Rattle.isle_check_signatures.specs.Signatures.{TermNode}
-use Rattle.isle_check_places.specs.Places.{Place, extracted, step_on, ConstraintNode, of_variant, of_bool, of_int, of_constant, present, ConstrainedNode}
+use Rattle.isle_check_places.specs.Places.{Place, extracted, step_on, ConstraintNode, present, ConstrainedNode}
 use Rattle.isle_check_places.specs.Comparing.{within}
 use Rattle.isle_check_places.specs.Settling.{constraint_at}
 use Rattle.isle_check_values.specs.Next.{goes_on_with_each}

@@ -1,5 +1,6 @@
 -- What is known and said of values, and values, of code, as pure values.
-use Rattle.std.specs.Prelude.{List, map, string_bytes}
+use Rattle.std.specs.Prelude.{ℕ, List, map, string_bytes}
+use Rattle.std.specs.Borrow.{Bor}
 use Rattle.isle_check_signatures.specs.Views.{environment_of}
 use Rattle.isle_check_places.specs.Views.{all_constrained_of}
 use Rattle.isle_check_values.specs.declared.said.Said.{Said}
@@ -23,6 +24,9 @@ said_of (said.Extractor term) = said_extractor term.now
 
 abbrev pub all_said_of : List Said → List SaidNode
 all_said_of ss = map said_of ss
+
+abbrev pub texts_of : List (Bor (List ℕ)) → List (List ℕ)
+texts_of ts = map (λ t. t.now) ts
 
 abbrev pub answer_of : Answer → AnswerNode
 answer_of answers.MayFail = may_fail

@@ -1,12 +1,13 @@
 //! What constraints say of the value at a place by itself.
 
-ghost use Rattle.std.specs.Prelude.{◌≡◌, ◌++◌, ◌∷◌, [], IfOk, OnOk, option_map};
-ghost use Rattle.std.specs.List.{list_any};
+ghost use Rattle.std.specs.Prelude.{◌≡◌, ◌++◌, IfOk, OnOk, map, not, option_map};
+ghost use Rattle.std.specs.List.{filter, list_any};
+ghost use Rattle.std.specs.Str.{bytes_eq};
 ghost use Rattle.isle_check_places.specs.Views.{all_constrained_of, constraint_of, place_of};
 ghost use Rattle.isle_check_places.specs.Views.{step_of};
-ghost use Rattle.isle_check_values.specs.Said.{is_extractor, said_at, said_by, with_step};
-ghost use Rattle.isle_check_values.specs.Said.{with_extractors};
-ghost use Rattle.isle_check_values.specs.Views.{all_said_of, said_of};
+ghost use Rattle.isle_check_values.specs.Said.{distinct, extractor_by, extractors_from};
+ghost use Rattle.isle_check_values.specs.Said.{said_at, said_by, said_extractor};
+ghost use Rattle.isle_check_values.specs.Views.{all_said_of, texts_of};
 
 use crate::next::next_step;
 use isle_check_places::{Constrained, Constraint, Step, constraint_at};
@@ -33,8 +34,19 @@ pub fn said_at<'a>(
         ≡ said_at (all_constrained_of constraints.now) (place_of at.now)) }
 {
     let mut made = said_by(alloc, constraint_at(constraints, at))?;
-    add_extractors(constraints, at, &mut made)?;
+    let extractors = extractors_from(alloc, constraints, at)?;
+    add_said(&extractors, &mut made)?;
     Ok(made)
+}
+
+fn add_said<'a>(extractors: &[&'a str], made: &mut Vec<Said<'a>>) -> Result<(), AllocError>
+    ensures { OnOk result (all_said_of made.new.items ≡ all_said_of made.old.items
+        ++ map said_extractor (texts_of extractors.now)) }
+{
+    for term in extractors {
+        made.push(Said::Extractor(*term))?;
+    }
+    Ok(())
 }
 
 fn said_by<'a>(
@@ -55,49 +67,42 @@ fn said_by<'a>(
     Ok(made)
 }
 
-/// Adds the extractors by which places go on from this one, in order.
-fn add_extractors<'a>(
+/// Returns the extractors by which places go on from this one, each once.
+fn extractors_from<'a>(
+    alloc: Global,
     constraints: &[Constrained<'a>],
     at: &[Step],
-    made: &mut Vec<Said<'a>>,
-) -> Result<(), AllocError>
-    ensures { OnOk result (all_said_of made.new.items ≡ with_extractors (all_said_of made.old.items)
-        (all_constrained_of constraints.now) (place_of at.now)) }
+) -> Result<Vec<&'a str>, AllocError>
+    ensures { IfOk result (λ made. texts_of made.items
+        ≡ distinct (extractors_from (all_constrained_of constraints.now) (place_of at.now))) }
 {
+    let mut made = Vec::new(alloc);
     for constrained in constraints {
-        add_step(next_step(at, &constrained.at), made)?;
+        add_extractor(next_step(at, &constrained.at), &mut made)?;
     }
-    Ok(())
+    Ok(made)
 }
 
-fn add_step<'a>(step: Option<Step<'a>>, made: &mut Vec<Said<'a>>) -> Result<(), AllocError>
-    ensures { OnOk result (all_said_of made.new.items
-        ≡ with_step (all_said_of made.old.items) (option_map step_of step.entry)) }
+fn add_extractor<'a>(step: Option<Step<'a>>, made: &mut Vec<&'a str>) -> Result<(), AllocError>
+    ensures { OnOk result (texts_of made.new.items ≡ texts_of made.old.items
+        ++ filter (λ text. not (list_any (bytes_eq text) (texts_of made.old.items)))
+        (extractor_by (option_map step_of step.entry))) }
 {
     if let Some(Step::Extracted(term)) = step {
-        if !has_extractor(made, term) {
-            made.push(Said::Extractor(term))?;
+        if !has_text(made, term) {
+            made.push(term)?;
         }
     }
     Ok(())
 }
 
-fn has_extractor(said: &[Said], term: &str) -> bool
-    ensures { result ≡ list_any (is_extractor term.now) (all_said_of said.now) }
+fn has_text(texts: &[&str], text: &str) -> bool
+    ensures { result ≡ list_any (bytes_eq text.now) (texts_of texts.now) }
 {
-    for one in said {
-        if is_extractor(one, term) {
+    for other in texts {
+        if text == *other {
             return true;
         }
     }
     false
-}
-
-fn is_extractor(said: &Said, term: &str) -> bool
-    ensures { result ≡ is_extractor term.now (said_of said.now) }
-{
-    match said {
-        Said::Extractor(other) => term == *other,
-        _ => false,
-    }
 }

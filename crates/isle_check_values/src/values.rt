@@ -17,12 +17,14 @@ use std::alloc::{AllocError, Global};
 pub struct Value {
     /// The pattern, such as `(f (T.A) _)`.
     pub text: String,
-    /// Whether each value of the pattern satisfies all that is asked.
+    /// Whether each value that matches the pattern satisfies all constraints of both rules.
     pub is_sure: bool,
 }
 
-/// Returns the value that two rules of a term match, by the constraints of both, of which no two
-/// of one place differ. An `Err` means out of memory.
+/// Returns the value that two rules of a term match, by the constraints of both. It is not sure if
+/// two of these differ at one place, or if one is of a computed value. Equal places are not looked
+/// at: a rule with some that are not constrained may match fewer values. An `Err` means out of
+/// memory.
 pub fn value_of_both(
     alloc: Global,
     env: &Environment,

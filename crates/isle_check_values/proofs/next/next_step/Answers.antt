@@ -1,4 +1,4 @@
-use Rattle.std.proofs.Common.{◌≡◌, sym, ◌∙◌, arith}
+use Rattle.std.proofs.Common.{sym, ◌∙◌, arith}
 use Rattle.isle_check_places.specs.declared.places.Step.TheVariants as steps
 use Rattle.isle_check_values.proofs.NextLemmas.{is_next, is_other, is_short}
 use Rattle.isle_check_values.proofs.next.next_step.Goals as goal
