@@ -1,5 +1,5 @@
 -- What follows a sweep.
-use Rattle.std.proofs.Common.{◌≡◌, ℕ, zero, suc, ◌≢◌, ◌-◌, List, length, nat_lt, Bool, true, false, refl, sym, ap, ◌∙◌, arith, if◌then◌else◌}
+use Rattle.std.proofs.Common.{◌≡◌, ℕ, zero, suc, ◌≢◌, ◌-◌, List, length, nat_lt, true, false, refl, sym, ap, ◌∙◌, arith, if◌then◌else◌}
 use Rattle.isle_check_places.specs.Places.{ConstrainedNode}
 use Rattle.isle_check_places.specs.Settling.{EqualityNode, SettledNode, settled, unequal, endless, SweepNode, after, begun, most_sweeps, settle, sweep}
 

@@ -1,4 +1,4 @@
-use Rattle.std.proofs.Common.{◌≡◌, ◌&&◌, sym, ap, ◌∙◌}
+use Rattle.std.proofs.Common.{◌&&◌, sym, ap, ◌∙◌}
 use Rattle.isle_check_places.specs.Places.{same_place}
 use Rattle.isle_check_places.specs.Views.{place_of}
 use Rattle.isle_check_places.proofs.PlaceLemmas.{none_is_other, same_by_ends}

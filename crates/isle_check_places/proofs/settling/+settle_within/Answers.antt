@@ -1,5 +1,4 @@
-use Rattle.std.proofs.Common.{◌≡◌, IfOk, true, false, not, sym, ap, ◌∙◌, subst}
-use Rattle.isle_check_places.specs.Settling.{settle}
+use Rattle.std.proofs.Common.{◌≡◌, IfOk, sym, ◌∙◌, subst}
 use Rattle.isle_check_places.specs.Views.{all_constrained_of, all_equalities_of, settled_of, sweep_of}
 use Rattle.isle_check_places.proofs.SettleLemmas.{settle_continues}
 use Rattle.isle_check_places.proofs.settling.+settle_within.Goals as goal
