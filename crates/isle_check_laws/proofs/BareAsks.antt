@@ -4,8 +4,9 @@ use Rattle.isle_check_signatures.specs.Signatures.{TermNode}
 use Rattle.isle_check_typing.specs.Typed.{TypedNode, typed_bind, typed_var, typed_bool, typed_int, typed_const, typed_term, typed_wildcard, typed_and, TypedList, no_typed, more_typed}
 use Rattle.isle_check_typing.specs.TypedView.{typed_list_of}
 use Rattle.isle_check_rules.specs.TypedRules.{TypedCondition, TypedRuleNode}
+use Rattle.isle_check_places.specs.Under.{UnderNode, same, arguments, place_under}
 use Rattle.isle_check_places.specs.Places.{Place}
-use Rattle.isle_check_matchings.specs.Asks.{TermsNode, AskNode, constrains, binds, equals, UnderNode, arguments, same, place_under, opening_by, pattern_asks, list_asks, count_typed}
+use Rattle.isle_check_matchings.specs.Asks.{TermsNode, AskNode, constrains, binds, equals, opening_by, pattern_asks, list_asks, count_typed}
 use Rattle.isle_check_matchings.specs.RuleAsks.{needed, matched, conditions_asks, rule_asks}
 use Rattle.isle_check_matchings.specs.Values as places
 use Rattle.isle_check_matchings.specs.Values.{variable_value}

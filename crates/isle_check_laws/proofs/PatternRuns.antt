@@ -3,8 +3,9 @@ use Rattle.std.proofs.Common.{◌≡◌, ℕ, suc, List, [], ◌∷◌, ◌++◌
 use Rattle.std.proofs.lemmas.Option.{none-some, same_Some}
 use Rattle.isle_check_signatures.specs.Signatures.{TermNode}
 use Rattle.isle_check_typing.specs.Typed.{TypedNode, typed_bind, typed_var, typed_bool, typed_int, typed_const, typed_term, typed_wildcard, typed_and, TypedList, no_typed, more_typed}
+use Rattle.isle_check_places.specs.Under.{UnderNode, same, fields, parts, place_under, parts_of}
 use Rattle.isle_check_places.specs.Places.{Place, field, content, part, each, extracted, present, step_on, ConstraintNode, of_variant, of_bool, of_int, of_constant}
-use Rattle.isle_check_matchings.specs.Asks.{TermsNode, AskNode, constrains, equals, UnderNode, same, fields, parts, place_under, AnswerNode, OpeningNode, opening, opening_by, parts_of, pattern_asks, list_asks, count_typed}
+use Rattle.isle_check_matchings.specs.Asks.{TermsNode, AskNode, constrains, equals, AnswerNode, OpeningNode, opening, opening_by, pattern_asks, list_asks, count_typed}
 use Rattle.isle_check_laws.specs.Runs.{BoundNode, bound, looked_up, match_pattern, match_list, opened_by, parts_by, only_if, is_of, is_value}
 use Rattle.isle_check_laws.specs.Worlds.{World}
 use Rattle.isle_check_laws.proofs.Bindings.{Fits, append_fits, Asked, append_asked, asked_more}

@@ -2,8 +2,9 @@
 use Rattle.std.proofs.Common.{◌≡◌, ℕ, suc, List, [], ◌∷◌, ◌++◌, length, Bool, true, false, Option, Some, None, refl, ap, sym, ◌∙◌, subst, append_assoc, append-nil, option_and_then}
 use Rattle.isle_check_signatures.specs.Signatures.{TermNode}
 use Rattle.isle_check_typing.specs.Typed.{TypedNode, typed_bind, typed_var, typed_bool, typed_int, typed_const, typed_term, typed_wildcard, typed_and, TypedList, no_typed, more_typed}
+use Rattle.isle_check_places.specs.Under.{UnderNode, same, place_under}
 use Rattle.isle_check_places.specs.Places.{Place, content, extracted, present, step_on, ConstraintNode, of_variant, of_bool, of_int, of_constant}
-use Rattle.isle_check_matchings.specs.Asks.{TermsNode, AskNode, constrains, binds, equals, UnderNode, same, place_under, OpeningNode, opening_by, pattern_asks, list_asks, count_typed}
+use Rattle.isle_check_matchings.specs.Asks.{TermsNode, AskNode, constrains, binds, equals, OpeningNode, opening_by, pattern_asks, list_asks, count_typed}
 use Rattle.isle_check_matchings.specs.Values.{variable_value}
 use Rattle.isle_check_laws.specs.Closed.{IsBound, IsSingle, pattern_variables, list_variables, IsClosedPattern, AreClosedPatterns}
 use Rattle.isle_check_laws.specs.PlaceValues.{value_at, valuation}

@@ -3,8 +3,9 @@ use Rattle.std.proofs.Common.{◌≡◌, ℕ, List, [], ◌∷◌, ◌++◌, map
 use Rattle.std.specs.List.{flat_map}
 use Rattle.isle_check_typing.specs.TypedView.{typed_list_of}
 use Rattle.isle_check_rules.specs.TypedRules.{TypedCondition, TypedRuleNode}
+use Rattle.isle_check_places.specs.Under.{arguments}
 use Rattle.isle_check_places.specs.Places.{Place}
-use Rattle.isle_check_matchings.specs.Asks.{TermsNode, AskNode, constrains, binds, equals, arguments, list_asks, pattern_asks}
+use Rattle.isle_check_matchings.specs.Asks.{TermsNode, AskNode, constrains, binds, equals, list_asks, pattern_asks}
 use Rattle.isle_check_matchings.specs.Matchings.{constraints_of, equality_of, equalities_of}
 use Rattle.isle_check_matchings.specs.RuleAsks.{needed, matched, conditions_asks, rule_asks}
 use Rattle.isle_check_matchings.specs.Values as places

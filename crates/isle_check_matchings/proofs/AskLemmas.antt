@@ -5,8 +5,9 @@ use Rattle.isle_check_typing.specs.TypedView.{all_typed_of, typed_list_of}
 use Rattle.isle_check_expressions.specs.declared.typed.TypedExpression.{TypedExpression}
 use Rattle.isle_check_expressions.specs.TypedExpressions.{typed_expression_list}
 use Rattle.isle_check_expressions.specs.TypedView.{typed_expression_of}
+use Rattle.isle_check_places.specs.Under.{UnderNode}
 use Rattle.isle_check_places.specs.Places.{Place}
-use Rattle.isle_check_matchings.specs.Asks.{TermsNode, AskNode, UnderNode, OpeningNode, count_typed, list_asks, term_asks, term_opening}
+use Rattle.isle_check_matchings.specs.Asks.{TermsNode, AskNode, OpeningNode, count_typed, list_asks, term_asks, term_opening}
 use Rattle.isle_check_matchings.specs.Values.{ValueNode, count_typed_expressions, called, term_value, values}
 
 pub count_of : (ps : List TypedPattern) → count_typed (typed_list_of (all_typed_of ps)) ≡ length ps

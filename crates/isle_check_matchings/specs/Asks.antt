@@ -2,7 +2,8 @@
 use Rattle.std.specs.Prelude.{ℕ, suc, List, [], ◌∷◌, ◌++◌, Bool, ◌==◌, Option, None, Some, length, if◌then◌else◌}
 use Rattle.isle_check_signatures.specs.Signatures.{TermNode}
 use Rattle.isle_check_typing.specs.Typed.{TypedNode, typed_bind, typed_var, typed_bool, typed_int, typed_const, typed_term, typed_wildcard, typed_and, TypedList, no_typed, more_typed}
-use Rattle.isle_check_places.specs.Places.{Place, argument, field, content, part, each, extracted, step_on, ConstraintNode, of_variant, of_bool, of_int, of_constant, present}
+use Rattle.isle_check_places.specs.Under.{UnderNode, same, fields, parts, place_under, parts_of}
+use Rattle.isle_check_places.specs.Places.{Place, content, each, extracted, step_on, ConstraintNode, of_variant, of_bool, of_int, of_constant, present}
 
 -- the terms of a program, and the external extractors that always match
 pub record TermsNode : Type 0 where
@@ -14,19 +15,6 @@ pub data AskNode : Type 0 where
   constrains : (at : Place) → ConstraintNode → AskNode
   binds : (variable : ℕ) → (at : Place) → (needs : List Place) → AskNode
   equals : (variable : ℕ) → (at : Place) → AskNode
-
--- where the values of patterns lie in the value of a place
-pub data UnderNode : Type 0 where
-  same : UnderNode
-  arguments : UnderNode
-  fields : (variant : List ℕ) → UnderNode
-  parts : UnderNode
-
-abbrev pub place_under : UnderNode → (index : ℕ) → Place → Place
-place_under same i at = at
-place_under arguments i at = argument i ∷ []
-place_under (fields v) i at = step_on at (field v i)
-place_under parts i at = step_on at (part i)
 
 -- an answer's place and what is asked of it
 pub record AnswerNode : Type 0 where
@@ -48,10 +36,6 @@ pub record OpeningNode : Type 0 where
 
 abbrev pub opening : List AskNode → Place → UnderNode → OpeningNode
 opening asked at under = record { asked = asked; at = at; under = under }
-
--- an extractor of one pattern gives its value, any other the parts of its answer
-abbrev pub parts_of : (count : ℕ) → UnderNode
-parts_of count = if count == 1 then same else parts
 
 abbrev pub opening_by : TermsNode → Option TermNode → (term : List ℕ) → (count : ℕ) → (at : Place) → OpeningNode
 opening_by k None term count at = opening [] at same

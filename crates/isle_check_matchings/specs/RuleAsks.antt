@@ -2,8 +2,9 @@
 use Rattle.std.specs.Prelude.{List, [], ◌∷◌, ◌++◌, map}
 use Rattle.isle_check_typing.specs.TypedView.{typed_list_of}
 use Rattle.isle_check_rules.specs.TypedRules.{TypedCondition, TypedRuleNode}
+use Rattle.isle_check_places.specs.Under.{arguments}
 use Rattle.isle_check_places.specs.Places.{Place, present}
-use Rattle.isle_check_matchings.specs.Asks.{TermsNode, AskNode, constrains, arguments, pattern_asks, list_asks}
+use Rattle.isle_check_matchings.specs.Asks.{TermsNode, AskNode, constrains, pattern_asks, list_asks}
 use Rattle.isle_check_matchings.specs.Values.{ValueNode, value}
 
 abbrev pub needed : Place → AskNode

@@ -6,10 +6,8 @@ use Rattle.isle_check_places.specs.Views.{constraint_of, place_of, places_of}
 use Rattle.isle_check_matchings.specs.declared.asks.Ask.{Ask}
 use Rattle.isle_check_matchings.specs.declared.asks.Ask.TheVariants as said
 use Rattle.isle_check_matchings.specs.declared.openings.Terms.{Terms}
-use Rattle.isle_check_matchings.specs.declared.openings.Under.{Under}
-use Rattle.isle_check_matchings.specs.declared.openings.Under.TheVariants as unders
 use Rattle.isle_check_matchings.specs.declared.values.Value.{Value}
-use Rattle.isle_check_matchings.specs.Asks.{TermsNode, AskNode, constrains, binds, equals, UnderNode, same, arguments, fields, parts}
+use Rattle.isle_check_matchings.specs.Asks.{TermsNode, AskNode, constrains, binds, equals}
 use Rattle.isle_check_matchings.specs.Values.{ValueNode}
 
 abbrev pub ask_of : Ask → AskNode
@@ -26,12 +24,6 @@ terms_of k =
       terms = (environment_of k.env.now).terms;
       infallible = λ text. is_some (get_by_text k.infallible.now text);
     }
-
-abbrev pub under_of : Under → UnderNode
-under_of unders.Same = same
-under_of unders.Arguments = arguments
-under_of (unders.Fields variant) = fields variant.now
-under_of unders.Parts = parts
 
 abbrev pub value_of : Value → ValueNode
 value_of v = record { at = place_of v.at.items; needs = places_of v.needs.items }

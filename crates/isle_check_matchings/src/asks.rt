@@ -4,12 +4,13 @@ ghost use Rattle.std.specs.Prelude.{◌≡◌, ◌++◌, ◌∷◌, [], OnOk};
 ghost use Rattle.isle_check_typing.specs.TypedView.{all_typed_of, typed_list_of, typed_of};
 ghost use Rattle.isle_check_matchings.specs.Asks.{binds, constrains, equals, list_asks};
 ghost use Rattle.isle_check_matchings.specs.Asks.{pattern_asks, term_asks};
-ghost use Rattle.isle_check_matchings.specs.Views.{asks_of, terms_of, under_of};
+ghost use Rattle.isle_check_matchings.specs.Views.{asks_of, terms_of};
+ghost use Rattle.isle_check_places.specs.UnderView.{under_of};
 ghost use Rattle.isle_check_places.specs.Views.{constraint_of, place_of};
 
-use crate::openings::{Terms, Under, place_under, term_opening};
+use crate::openings::{Terms, term_opening};
 use crate::values::Value;
-use isle_check_places::{Constraint, Place, Step, copied};
+use isle_check_places::{Constraint, Place, Step, Under, copied, place_under};
 use isle_check_typing::TypedPattern;
 use std::alloc::{AllocError, Global};
 

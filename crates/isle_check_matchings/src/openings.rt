@@ -1,13 +1,14 @@
 //! What terms in patterns ask by themselves, and where the values of their arguments are.
 
 ghost use Rattle.std.specs.Prelude.{◌≡◌, ◌++◌, IfOk, OnOk};
-ghost use Rattle.isle_check_matchings.specs.Asks.{answer, parts_of, place_under, term_opening};
-ghost use Rattle.isle_check_matchings.specs.Views.{asks_of, terms_of, under_of};
+ghost use Rattle.isle_check_matchings.specs.Asks.{answer, term_opening};
+ghost use Rattle.isle_check_matchings.specs.Views.{asks_of, terms_of};
+ghost use Rattle.isle_check_places.specs.UnderView.{under_of};
 ghost use Rattle.isle_check_places.specs.Views.{place_of};
 
 use crate::asks::{Ask, constrain};
 use isle_check_environment::names::{Names, has};
-use isle_check_places::{Constraint, Place, Step, begin, copied, step_on};
+use isle_check_places::{Constraint, Place, Step, Under, copied, parts_of, step_on};
 use isle_check_signatures::{Environment, Term};
 use std::alloc::{AllocError, Global};
 
@@ -20,52 +21,11 @@ pub struct Terms<'e, 'a> {
     pub infallible: &'e Names,
 }
 
-/// Where the values of patterns lie in the value of a place.
-#[derive(Clone, Copy)]
-pub enum Under<'a> {
-    /// The value itself.
-    Same,
-    /// The arguments of the rule's term.
-    Arguments,
-    /// The fields of a variant.
-    Fields(&'a str),
-    /// The parts of an answer.
-    Parts,
-}
-
 /// Where the values of a term's arguments are.
 #[derive(Drop)]
 pub struct Opening<'a> {
     pub at: Place<'a>,
     pub under: Under<'a>,
-}
-
-/// Returns the place of the value of a pattern.
-pub fn place_under<'a>(
-    alloc: Global,
-    under: Under<'a>,
-    index: usize,
-    at: &[Step<'a>],
-) -> Result<Place<'a>, AllocError>
-    ensures { IfOk result
-        (λ made. place_of made.items ≡ place_under (under_of under.entry) index (place_of at.now)) }
-{
-    match under {
-        Under::Same => copied(alloc, at),
-        Under::Arguments => begin(alloc, Step::Argument(index)),
-        Under::Fields(variant) => step_on(alloc, at, Step::Field(variant, index)),
-        Under::Parts => step_on(alloc, at, Step::Part(index)),
-    }
-}
-
-fn parts_of<'a>(count: usize) -> Under<'a>
-    ensures { under_of result ≡ parts_of count }
-{
-    if count == 1 {
-        Under::Same
-    } else {
-        Under::Parts
-    }
 }
 
 /// Adds what a term with so many patterns asks by itself of the value at a place.

@@ -6,6 +6,7 @@ mod clashing;
 mod comparing;
 mod places;
 mod settling;
+mod under;
 
 pub use clashing::{Clash, clashes};
 pub use comparing::{apart, within};
@@ -13,3 +14,4 @@ pub use places::{
     Constrained, Constraint, Place, Step, begin, copied, same_constraint, same_place, step_on,
 };
 pub use settling::{Equality, Settled, constraint_at, settle};
+pub use under::{Under, parts_of, place_under};

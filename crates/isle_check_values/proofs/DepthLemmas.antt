@@ -1,9 +1,10 @@
 -- Nothing is said of values at places that are longer than all that are constrained.
 use Rattle.std.proofs.Common.{◌≡◌, ℕ, zero, suc, ◌+◌, ◌<◌, ◌≤◌, List, [], ◌∷◌, ◌++◌, Bool, true, false, ◌&&◌, ◌==◌, None, Some, length, map, refl, sym, ap, ◌∙◌, arith, length-append, if◌then◌else◌}
+use Rattle.isle_check_places.specs.Under.{UnderNode, same, arguments, fields, parts, place_under, parts_of}
 use Rattle.isle_check_places.specs.Places.{StepNode, argument, field, content, part, each, extracted, Place, ConstrainedNode, same_place, same_step, step_on}
 use Rattle.isle_check_places.specs.Settling.{constraint_at}
 use Rattle.isle_check_values.specs.Said.{SaidNode, said_variant, said_bool, said_int, said_constant, said_extractor, distinct, extractor_by, extractors_from, said_at, said_by}
-use Rattle.isle_check_values.specs.Shapes.{AnswerNode, may_fail, has_several, is_there, ShapeNode, anything, variant_shape, extractor_shape, more_shapes, UnderNode, same, arguments, fields, parts, place_under, parts_of, answer_place}
+use Rattle.isle_check_values.specs.Shapes.{AnswerNode, may_fail, has_several, is_there, ShapeNode, anything, variant_shape, extractor_shape, more_shapes, answer_place}
 use Rattle.isle_check_values.specs.Values.{KnownNode, answer_at, argument_count, argument_shapes, joined, longest, said_shape, said_shapes, shape, shapes_under}
 use Rattle.isle_check_values.proofs.NextLemmas.{no_next}
 

@@ -1,7 +1,8 @@
 -- Shapes in order, one by one.
 use Rattle.std.proofs.Common.{◌≡◌, ◌≢◌, ℕ, zero, suc, ◌+◌, ◌-◌, ◌<◌, List, [], ◌∷◌, ◌++◌, codes, length, refl, sym, ap, ◌∙◌, arith, append_assoc}
+use Rattle.isle_check_places.specs.Under.{UnderNode, place_under}
 use Rattle.isle_check_places.specs.Places.{Place, ConstrainedNode}
-use Rattle.isle_check_values.specs.Shapes.{ShapeNode, ShapeList, more_shapes, count_shapes, list_asks, list_text, shape_asks, shape_text, UnderNode, place_under}
+use Rattle.isle_check_values.specs.Shapes.{ShapeNode, ShapeList, more_shapes, count_shapes, list_asks, list_text, shape_asks, shape_text}
 use Rattle.isle_check_values.specs.declared.said.Said.{Said}
 use Rattle.isle_check_values.specs.Values.{KnownNode, joined, said_shapes, shapes_under}
 use Rattle.isle_check_values.specs.Views.{all_said_of}

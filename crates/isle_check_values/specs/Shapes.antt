@@ -1,7 +1,8 @@
 -- Shapes of values: their texts as patterns, and what they ask.
-use Rattle.std.specs.Prelude.{ℕ, ℤ, suc, List, [], ◌∷◌, ◌++◌, ◌==◌, Bool, true, false, codes, if◌then◌else◌}
+use Rattle.std.specs.Prelude.{ℕ, ℤ, suc, List, [], ◌∷◌, ◌++◌, Bool, true, false, codes}
 use Rattle.std.specs.Fmt.{signed_decimal}
-use Rattle.isle_check_places.specs.Places.{Place, argument, field, content, part, each, extracted, step_on, of_variant, of_bool, of_int, of_constant, present, ConstrainedNode}
+use Rattle.isle_check_places.specs.Under.{UnderNode, same, fields, place_under, parts_of}
+use Rattle.isle_check_places.specs.Places.{Place, content, each, extracted, step_on, of_variant, of_bool, of_int, of_constant, present, ConstrainedNode}
 use Rattle.isle_check_places.specs.Settling.{constrained}
 
 -- an extractor's answer must be there; there are several, and each is looked at; or it is always there
@@ -52,23 +53,6 @@ abbrev mutual
 -- a term and what it stands before
 abbrev pub term_text : (term : List ℕ) → ShapeList → List ℕ
 term_text term ss = codes "(" ++ (term ++ (list_text ss ++ codes ")"))
-
--- where the values of shapes lie in the value of a place
-pub data UnderNode : Type 0 where
-  same : UnderNode
-  arguments : UnderNode
-  fields : (variant : List ℕ) → UnderNode
-  parts : UnderNode
-
-abbrev pub place_under : UnderNode → (index : ℕ) → Place → Place
-place_under same i at = at
-place_under arguments i at = argument i ∷ []
-place_under (fields v) i at = step_on at (field v i)
-place_under parts i at = step_on at (part i)
-
--- an extractor of one argument gives its value, any other the parts of its answer
-abbrev pub parts_of : (count : ℕ) → UnderNode
-parts_of count = if count == 1 then same else parts
 
 -- where the value is that an answer at a place gives
 abbrev pub answer_place : AnswerNode → Place → Place

@@ -1,12 +1,13 @@
 -- The value that rules of one term match, written as a pattern.
 use Rattle.std.specs.Prelude.{ℕ, zero, suc, List, [], ◌∷◌, ◌++◌, Bool, Option, None, Some, length, max, if◌then◌else◌}
 use Rattle.isle_check_signatures.specs.Signatures.{TermNode}
+use Rattle.isle_check_places.specs.Under.{UnderNode, arguments, fields, place_under, parts_of}
 use Rattle.isle_check_places.specs.Places.{Place, extracted, step_on, ConstraintNode, present, ConstrainedNode}
 use Rattle.isle_check_places.specs.Comparing.{within}
 use Rattle.isle_check_places.specs.Settling.{constraint_at}
 use Rattle.isle_check_values.specs.Next.{goes_on_with_each}
 use Rattle.isle_check_values.specs.Said.{SaidNode, said_variant, said_bool, said_int, said_constant, said_extractor, said_at}
-use Rattle.isle_check_values.specs.Shapes.{AnswerNode, may_fail, has_several, is_there, ShapeNode, anything, bool_shape, int_shape, constant_shape, variant_shape, extractor_shape, several, ShapeList, no_shapes, more_shapes, term_text, UnderNode, arguments, fields, place_under, parts_of, answer_place, list_asks}
+use Rattle.isle_check_values.specs.Shapes.{AnswerNode, may_fail, has_several, is_there, ShapeNode, anything, bool_shape, int_shape, constant_shape, variant_shape, extractor_shape, several, ShapeList, no_shapes, more_shapes, term_text, answer_place, list_asks}
 
 -- the terms of a program, and what is asked of a value
 pub record KnownNode : Type 0 where

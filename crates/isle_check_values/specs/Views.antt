@@ -7,12 +7,10 @@ use Rattle.isle_check_values.specs.declared.said.Said.{Said}
 use Rattle.isle_check_values.specs.declared.said.Said.TheVariants as said
 use Rattle.isle_check_values.specs.declared.written.Answer.{Answer}
 use Rattle.isle_check_values.specs.declared.written.Answer.TheVariants as answers
-use Rattle.isle_check_values.specs.declared.written.Under.{Under}
-use Rattle.isle_check_values.specs.declared.written.Under.TheVariants as unders
 use Rattle.isle_check_values.specs.declared.shapes.Known.{Known}
 use Rattle.isle_check_values.specs.declared.values.Value.{Value}
 use Rattle.isle_check_values.specs.Said.{SaidNode, said_variant, said_bool, said_int, said_constant, said_extractor}
-use Rattle.isle_check_values.specs.Shapes.{AnswerNode, may_fail, has_several, is_there, UnderNode, same, arguments, fields, parts}
+use Rattle.isle_check_values.specs.Shapes.{AnswerNode, may_fail, has_several, is_there}
 use Rattle.isle_check_values.specs.Values.{KnownNode, ValueNode}
 
 abbrev pub said_of : Said → SaidNode
@@ -32,12 +30,6 @@ abbrev pub answer_of : Answer → AnswerNode
 answer_of answers.MayFail = may_fail
 answer_of answers.HasSeveral = has_several
 answer_of answers.IsThere = is_there
-
-abbrev pub under_of : Under → UnderNode
-under_of unders.Same = same
-under_of unders.Arguments = arguments
-under_of (unders.Fields variant) = fields variant.now
-under_of unders.Parts = parts
 
 abbrev pub known_of : Known → KnownNode
 known_of k = record { terms = (environment_of k.env.now).terms; constraints = all_constrained_of k.constraints.now }

@@ -1,21 +1,22 @@
 //! Shapes of values, written as patterns. What they ask is collected on the way.
 
 ghost use Rattle.std.specs.Prelude.{◌≡◌, ◌++◌, ◌∷◌, [], OnOk, string_bytes};
+ghost use Rattle.isle_check_places.specs.Under.{same};
+ghost use Rattle.isle_check_places.specs.UnderView.{under_of};
 ghost use Rattle.isle_check_places.specs.Views.{all_constrained_of, place_of};
 ghost use Rattle.isle_check_values.specs.Said.{said_extractor};
-ghost use Rattle.isle_check_values.specs.Shapes.{list_asks, list_text, same, shape_asks};
+ghost use Rattle.isle_check_values.specs.Shapes.{list_asks, list_text, shape_asks};
 ghost use Rattle.isle_check_values.specs.Shapes.{shape_text, term_text};
 ghost use Rattle.isle_check_values.specs.Values.{answer_at, argument_count, joined, said_shape};
 ghost use Rattle.isle_check_values.specs.Values.{said_shapes, shape, shapes_under};
 ghost use Rattle.isle_check_values.specs.Views.{all_said_of, answer_of, known_of, said_of};
-ghost use Rattle.isle_check_values.specs.Views.{under_of};
 
 use crate::next::goes_on_with_each;
 use crate::said::{Said, said_at};
-use crate::written::{
-    Answer, Under, Written, add_answer, answer_place, constrain, parts_of, place_under,
+use crate::written::{Answer, Written, add_answer, answer_place, constrain};
+use isle_check_places::{
+    Constrained, Constraint, Step, Under, constraint_at, parts_of, place_under, step_on,
 };
-use isle_check_places::{Constrained, Constraint, Step, constraint_at, step_on};
 use isle_check_signatures::Environment;
 use std::alloc::{AllocError, Global};
 

@@ -7,8 +7,8 @@ ghost use Rattle.isle_check_values.specs.Values.{known_value, longest, value};
 ghost use Rattle.isle_check_values.specs.Views.{known_of, value_of};
 
 use crate::shapes::{Known, argument_count, put_term};
-use crate::written::{Under, Written};
-use isle_check_places::{Constrained, copied, within};
+use crate::written::Written;
+use isle_check_places::{Constrained, Under, copied, within};
 use isle_check_signatures::Environment;
 use std::alloc::{AllocError, Global};
 

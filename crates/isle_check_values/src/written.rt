@@ -3,10 +3,10 @@
 ghost use Rattle.std.specs.Prelude.{◌≡◌, ◌++◌, ◌∷◌, [], IfOk, OnOk, string_bytes};
 ghost use Rattle.isle_check_places.specs.Settling.{constrained};
 ghost use Rattle.isle_check_places.specs.Views.{all_constrained_of, constraint_of, place_of};
-ghost use Rattle.isle_check_values.specs.Shapes.{answer_asks, answer_place, parts_of, place_under};
-ghost use Rattle.isle_check_values.specs.Views.{answer_of, under_of};
+ghost use Rattle.isle_check_values.specs.Shapes.{answer_asks, answer_place};
+ghost use Rattle.isle_check_values.specs.Views.{answer_of};
 
-use isle_check_places::{Constrained, Constraint, Place, Step, begin, copied, step_on};
+use isle_check_places::{Constrained, Constraint, Place, Step, copied, step_on};
 use std::alloc::{AllocError, Global};
 
 /// The text of a value so far, and what it asks.
@@ -25,48 +25,6 @@ pub enum Answer {
     HasSeveral,
     /// Its answer is always there.
     IsThere,
-}
-
-/// Where the values of shapes lie in the value of a place.
-#[derive(Clone, Copy)]
-pub enum Under<'a> {
-    /// The value itself.
-    Same,
-    /// The arguments of the rule's term.
-    Arguments,
-    /// The fields of a variant.
-    Fields(&'a str),
-    /// The parts of an answer.
-    Parts,
-}
-
-/// Returns the place of a value that lies so in the value of a place.
-pub fn place_under<'a>(
-    alloc: Global,
-    under: Under<'a>,
-    index: usize,
-    at: &[Step<'a>],
-) -> Result<Place<'a>, AllocError>
-    ensures { IfOk result
-        (λ made. place_of made.items ≡ place_under (under_of under.entry) index (place_of at.now)) }
-{
-    match under {
-        Under::Same => copied(alloc, at),
-        Under::Arguments => begin(alloc, Step::Argument(index)),
-        Under::Fields(variant) => step_on(alloc, at, Step::Field(variant, index)),
-        Under::Parts => step_on(alloc, at, Step::Part(index)),
-    }
-}
-
-/// Returns where the values of an extractor's so many arguments lie in its answer.
-pub fn parts_of<'a>(count: usize) -> Under<'a>
-    ensures { under_of result ≡ parts_of count }
-{
-    if count == 1 {
-        Under::Same
-    } else {
-        Under::Parts
-    }
 }
 
 /// Adds what is asked of an answer at a place.

@@ -1,6 +1,7 @@
 use Rattle.std.proofs.Common.{◌≡◌, OnOk, subst, ap, ◌∙◌, rules}
+use Rattle.isle_check_places.specs.UnderView.{under_of}
 use Rattle.isle_check_places.specs.Views.{place_of}
-use Rattle.isle_check_matchings.specs.Views.{asks_of, terms_of, under_of}
+use Rattle.isle_check_matchings.specs.Views.{asks_of, terms_of}
 use Rattle.isle_check_matchings.proofs.AskLemmas.{term_step}
 use Rattle.isle_check_matchings.proofs.asks.+pattern.Goals as goal
 

@@ -1,8 +1,9 @@
 use Rattle.std.proofs.Common.{◌≡◌, ◌++◌, drop}
 use Rattle.isle_check_typing.specs.TypedView.{all_typed_of, typed_list_of}
+use Rattle.isle_check_places.specs.UnderView.{under_of}
 use Rattle.isle_check_places.specs.Views.{place_of}
 use Rattle.isle_check_matchings.specs.Asks.{list_asks}
-use Rattle.isle_check_matchings.specs.Views.{asks_of, terms_of, under_of}
+use Rattle.isle_check_matchings.specs.Views.{asks_of, terms_of}
 use Rattle.isle_check_matchings.proofs.asks.+pattern.Given as goal
 
 abbrev pub invariant-add_list_asks-loop-index : goal.invariant-add_list_asks-loop-index

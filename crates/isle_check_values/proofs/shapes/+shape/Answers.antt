@@ -1,9 +1,10 @@
 use Rattle.std.proofs.Common.{◌++◌, string_bytes, ap, ◌∙◌, arith}
 use Rattle.std.proofs.lemmas.Grind.{common_steps}
+use Rattle.isle_check_places.specs.UnderView.{under_of}
 use Rattle.isle_check_places.specs.Views.{all_constrained_of, place_of}
 use Rattle.isle_check_values.specs.Shapes.{list_asks, list_text}
 use Rattle.isle_check_values.specs.Values.{shape, shapes_under}
-use Rattle.isle_check_values.specs.Views.{known_of, under_of}
+use Rattle.isle_check_values.specs.Views.{known_of}
 use Rattle.isle_check_values.proofs.ShapeLemmas.{asks_step, counted, several_text, text_step}
 use Rattle.isle_check_values.proofs.shapes.+shape.Goals as goal
 

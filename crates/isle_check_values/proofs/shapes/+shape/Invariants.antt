@@ -1,8 +1,10 @@
 use Rattle.std.proofs.Common.{◌≡◌, ◌+◌, ◌*◌, ◌-◌, ◌++◌, drop, string_bytes}
+use Rattle.isle_check_places.specs.Under.{same}
+use Rattle.isle_check_places.specs.UnderView.{under_of}
 use Rattle.isle_check_places.specs.Views.{all_constrained_of, place_of}
-use Rattle.isle_check_values.specs.Shapes.{list_asks, list_text, same}
+use Rattle.isle_check_values.specs.Shapes.{list_asks, list_text}
 use Rattle.isle_check_values.specs.Values.{said_shapes, shape, shapes_under}
-use Rattle.isle_check_values.specs.Views.{all_said_of, known_of, under_of}
+use Rattle.isle_check_values.specs.Views.{all_said_of, known_of}
 use Rattle.isle_check_values.proofs.shapes.+shape.Given as goal
 
 abbrev pub decreases-put_shape : goal.decreases-put_shape
