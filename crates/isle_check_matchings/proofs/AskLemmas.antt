@@ -1,5 +1,5 @@
 -- What a term asks, and its value, by the number of its arguments.
-use Rattle.std.proofs.Common.{◌≡◌, ℕ, suc, List, [], ◌∷◌, ◌++◌, length, map, refl, sym, ap, ◌∙◌, arith, append_assoc}
+use Rattle.std.proofs.Common.{◌≡◌, ℕ, List, [], ◌∷◌, ◌++◌, length, map, refl, sym, ap, ◌∙◌, arith, append_assoc}
 use Rattle.isle_check_typing.specs.declared.typed.TypedPattern.{TypedPattern}
 use Rattle.isle_check_typing.specs.TypedView.{all_typed_of, typed_list_of}
 use Rattle.isle_check_expressions.specs.declared.typed.TypedExpression.{TypedExpression}

@@ -1,5 +1,5 @@
 -- The external extractors that always match.
-use Rattle.std.specs.Prelude.{List, [], ◌∷◌, Bool, if◌then◌else◌}
+use Rattle.std.specs.Prelude.{List, [], ◌∷◌, if◌then◌else◌}
 use Rattle.std.specs.List.{flat_map}
 use Rattle.isle_ast_names.specs.Tree.{Name}
 use Rattle.isle_ast.specs.Tree.{ExternDefinition, extern_extractor, Definition, external}

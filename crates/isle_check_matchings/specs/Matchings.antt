@@ -1,5 +1,5 @@
 -- What typed rules match.
-use Rattle.std.specs.Prelude.{ℕ, List, [], ◌∷◌, Bool, false, Option, None, Some, map}
+use Rattle.std.specs.Prelude.{List, [], ◌∷◌, Bool, false, Option, None, Some, map}
 use Rattle.std.specs.List.{flat_map}
 use Rattle.isle_check_signatures.specs.Signatures.{TermNode}
 use Rattle.isle_check_rules.specs.TypedRules.{TypedRuleNode}

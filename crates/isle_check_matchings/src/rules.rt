@@ -9,9 +9,9 @@ ghost use Rattle.isle_check_rules.specs.Views.{typed_condition_of, typed_conditi
 ghost use Rattle.isle_check_rules.specs.Views.{typed_rule_of};
 
 use crate::asks::{Ask, add_asks, add_list_asks, constrain};
-use crate::openings::{Terms, Under};
+use crate::openings::Terms;
 use crate::values::expression_value;
-use isle_check_places::{Constraint, Place};
+use isle_check_places::{Constraint, Place, Under};
 use isle_check_rules::{TypedIfLet, TypedRule};
 use std::alloc::{AllocError, Global};
 

@@ -1,4 +1,4 @@
-use Rattle.std.proofs.Common.{◌≡◌, ◌++◌, drop, map}
+use Rattle.std.proofs.Common.{◌≡◌, drop, map}
 use Rattle.isle_check_expressions.specs.TypedExpressions.{typed_expression_list, typed_let_list}
 use Rattle.isle_check_expressions.specs.TypedView.{typed_expression_of, typed_let_of}
 use Rattle.isle_check_places.specs.Views.{place_of, places_of}
