@@ -19,14 +19,14 @@ Checks a complete ISLE program, as the compiler does before it makes code. All f
 program. A folder stands for every .isle file below it, and - for standard input. With no FILE,
 standard input is checked.
 
-The errors come in groups. Those of a group are told only if no earlier group has any, and warnings
-only if there is no error.
+The errors come in groups. Those of a group are reported only if no earlier group has any, and
+warnings only if there is no error. Lines that begin with note: belong to the error before them.
 
 With --program or --all-programs, programs of the nearest isle.toml are checked, each by itself. It
 is looked for in the current folder and above it, or in the one folder that is given.
 
 Options:
-  --allow KIND       do not tell findings of this kind; may be repeated
+  --allow KIND       leave out findings of this kind; may be repeated
   --stdin-name NAME  use NAME for standard input in messages
   --program NAME     check this program of isle.toml; may be repeated
   --all-programs     check all programs of isle.toml
