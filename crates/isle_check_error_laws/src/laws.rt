@@ -1,0 +1,23 @@
+//! Laws of the errors of definitions, which run no code.
+
+ghost use Rattle.std.specs.Prelude.{List};
+ghost use Rattle.std.specs.List.{All};
+ghost use Rattle.isle_ast.specs.Tree.{Definition};
+ghost use Rattle.isle_check_declarations.specs.TermFaults.{term_faults};
+ghost use Rattle.isle_check_declarations.specs.TypeFaults.{type_faults};
+ghost use Rattle.isle_check_error_laws.specs.BrokenTerms.{IsBrokenTerm};
+ghost use Rattle.isle_check_error_laws.specs.BrokenTypes.{IsBrokenType};
+
+/// A law, which runs no code: each error of the types and the constants of a program names what is
+/// wrong there.
+pub fn errors_of_types_name_broken_types()
+    ensures { (ds : List Definition)
+        → All (λ f. IsBrokenType ds f.kind f.pos) (type_faults ds) }
+{}
+
+/// A law, which runs no code: each error of the declared terms of a program, and of its variants as
+/// terms, names what is wrong there.
+pub fn errors_of_terms_name_broken_terms()
+    ensures { (ds : List Definition)
+        → All (λ f. IsBrokenTerm ds f.kind f.pos) (term_faults ds) }
+{}
