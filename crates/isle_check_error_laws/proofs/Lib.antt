@@ -2,3 +2,5 @@ pub mod Lists
 pub mod Names
 pub mod TypeErrors
 pub mod TermErrors
+pub mod Meanings
+pub mod RootErrors

@@ -148,7 +148,7 @@ module _ (ds : List Definition) where
       (λ new. inr (t, Contains-push before t, free_is t.name terms (variants_of t.ty) n new))
       (Contains-append_cases terms (free_variants t.name terms (variants_of t.ty)) n among)))
 
-  declared_is : (n : Name) → Contains (declared known (decls_in ds)) n → IsDeclared ds n.text
+  pub declared_is : (n : Name) → Contains (declared known (decls_in ds)) n → IsDeclared ds n.text
   declared_is n among =
       let at = in_part (counted known) (decls_in ds) n among in
       (at.0, at.1, (counted_is (signature_fault known at.0) at.0 n at.2).0)

@@ -1,10 +1,12 @@
 //! Laws of the errors of definitions, which run no code.
 
-ghost use Rattle.std.specs.Prelude.{List};
+ghost use Rattle.std.specs.Prelude.{◌≡◌, [], List};
 ghost use Rattle.std.specs.List.{All};
 ghost use Rattle.isle_ast.specs.Tree.{Definition};
 ghost use Rattle.isle_check_declarations.specs.TermFaults.{term_faults};
 ghost use Rattle.isle_check_declarations.specs.TypeFaults.{type_faults};
+ghost use Rattle.isle_check_extractors.specs.Roots.{root_faults};
+ghost use Rattle.isle_check_error_laws.specs.BrokenRoots.{IsBrokenRoot};
 ghost use Rattle.isle_check_error_laws.specs.BrokenTerms.{IsBrokenTerm};
 ghost use Rattle.isle_check_error_laws.specs.BrokenTypes.{IsBrokenType};
 
@@ -20,4 +22,11 @@ pub fn errors_of_types_name_broken_types()
 pub fn errors_of_terms_name_broken_terms()
     ensures { (ds : List Definition)
         → All (λ f. IsBrokenTerm ds f.kind f.pos) (term_faults ds) }
+{}
+
+/// A law, which runs no code: in a program whose terms are right, each error of the left sides of
+/// its rules names what is wrong there.
+pub fn errors_of_roots_name_broken_rules()
+    ensures { (ds : List Definition) → term_faults ds ≡ []
+        → All (λ f. IsBrokenRoot ds f.kind f.pos) (root_faults ds) }
 {}
