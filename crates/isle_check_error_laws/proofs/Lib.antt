@@ -4,3 +4,5 @@ pub mod TypeErrors
 pub mod TermErrors
 pub mod Meanings
 pub mod RootErrors
+pub mod ExtractorErrors
+pub mod ConverterErrors

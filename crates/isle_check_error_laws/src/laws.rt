@@ -5,7 +5,11 @@ ghost use Rattle.std.specs.List.{All};
 ghost use Rattle.isle_ast.specs.Tree.{Definition};
 ghost use Rattle.isle_check_declarations.specs.TermFaults.{term_faults};
 ghost use Rattle.isle_check_declarations.specs.TypeFaults.{type_faults};
+ghost use Rattle.isle_check_extractors.specs.Converters.{converter_faults};
+ghost use Rattle.isle_check_extractors.specs.Extractors.{extractor_faults};
 ghost use Rattle.isle_check_extractors.specs.Roots.{root_faults};
+ghost use Rattle.isle_check_error_laws.specs.BrokenConverters.{IsBrokenConverter};
+ghost use Rattle.isle_check_error_laws.specs.BrokenExtractors.{IsBrokenExtractor};
 ghost use Rattle.isle_check_error_laws.specs.BrokenRoots.{IsBrokenRoot};
 ghost use Rattle.isle_check_error_laws.specs.BrokenTerms.{IsBrokenTerm};
 ghost use Rattle.isle_check_error_laws.specs.BrokenTypes.{IsBrokenType};
@@ -29,4 +33,18 @@ pub fn errors_of_terms_name_broken_terms()
 pub fn errors_of_roots_name_broken_rules()
     ensures { (ds : List Definition) → term_faults ds ≡ []
         → All (λ f. IsBrokenRoot ds f.kind f.pos) (root_faults ds) }
+{}
+
+/// A law, which runs no code: in a program whose terms are right, each error of its internal
+/// extractors names what is wrong there.
+pub fn errors_of_extractors_name_broken_extractors()
+    ensures { (ds : List Definition) → term_faults ds ≡ []
+        → All (λ f. IsBrokenExtractor ds f.kind f.pos) (extractor_faults ds) }
+{}
+
+/// A law, which runs no code: in a program whose terms are right, each error of its converters
+/// names what is wrong there.
+pub fn errors_of_converters_name_broken_converters()
+    ensures { (ds : List Definition) → term_faults ds ≡ []
+        → All (λ f. IsBrokenConverter ds f.kind f.pos) (converter_faults ds) }
 {}
