@@ -1,6 +1,6 @@
 -- Each error of converters is broken, in a program whose terms are right.
-use Rattle.std.proofs.Common.{◌≡◌, ℕ, List, [], ◌∷◌, ◌++◌, Bool, true, false, ◌&&◌, ◌||◌, Option, None, Some, Contains, refl, ap, sym, subst, ◌∙◌, bytes_eq, if◌then◌else◌}
-use Rattle.std.specs.List.{All, list_any}
+use Rattle.std.proofs.Common.{◌≡◌, ℕ, List, [], ◌∷◌, ◌++◌, Bool, true, false, ◌&&◌, ◌||◌, Option, None, Some, Contains, refl, subst, bytes_eq, if◌then◌else◌}
+use Rattle.std.specs.List.{All}
 use Rattle.std.proofs.lemmas.List.Elements.{All-append, All-nil, Contains-append_cases, Contains-append_left, Contains-push}
 use Rattle.isle_ast.specs.Tree.{Conversion, Definition}
 use Rattle.isle_check_declarations.specs.Faults as kinds
@@ -53,16 +53,16 @@ module _ (ds : List Definition) (right : term_faults ds ≡ []) where
       else Some (fault (kinds.outer_type_unknown c.outer_ty) c.outer_ty.pos))
       (Some (fault (kinds.inner_type_unknown c.inner_ty) c.inner_ty.pos))
       (λ _. optional_choice Broken (known c.outer_ty.text)
-          (if is_unknown (terms ds c.term.text) then Some (fault (kinds.converter_unknown c.term) c.term.pos) else None)
-          (Some (fault (kinds.outer_type_unknown c.outer_ty) c.outer_ty.pos))
-          (λ _. optional_choice Broken (is_unknown (terms ds c.term.text)) (Some (fault (kinds.converter_unknown c.term) c.term.pos)) None
-              (λ unknown. one Broken (fault (kinds.converter_unknown c.term) c.term.pos)
-                  (broken.converter_unknown c among (means_unknown ds c.term.text (terms ds c.term.text) (meaning ds right c.term.text) unknown)))
-              (λ _. All-nil Broken))
-          (λ unknown. one Broken (fault (kinds.outer_type_unknown c.outer_ty) c.outer_ty.pos)
-              (broken.outer_type_unknown c among (unknown_type (types_in ds) c.outer_ty.text unknown))))
+      (if is_unknown (terms ds c.term.text) then Some (fault (kinds.converter_unknown c.term) c.term.pos) else None)
+      (Some (fault (kinds.outer_type_unknown c.outer_ty) c.outer_ty.pos))
+      (λ _. optional_choice Broken (is_unknown (terms ds c.term.text)) (Some (fault (kinds.converter_unknown c.term) c.term.pos)) None
+      (λ unknown. one Broken (fault (kinds.converter_unknown c.term) c.term.pos)
+      (broken.converter_unknown c among (means_unknown ds c.term.text (terms ds c.term.text) (meaning ds right c.term.text) unknown)))
+      (λ _. All-nil Broken))
+      (λ unknown. one Broken (fault (kinds.outer_type_unknown c.outer_ty) c.outer_ty.pos)
+      (broken.outer_type_unknown c among (unknown_type (types_in ds) c.outer_ty.text unknown))))
       (λ unknown. one Broken (fault (kinds.inner_type_unknown c.inner_ty) c.inner_ty.pos)
-          (broken.inner_type_unknown c among (unknown_type (types_in ds) c.inner_ty.text unknown)))
+      (broken.inner_type_unknown c among (unknown_type (types_in ds) c.inner_ty.text unknown)))
 
   -- each of these converters is one of those before
   abbrev AreOf : (before earlier : List Conversion) → Type 0
@@ -73,8 +73,8 @@ module _ (ds : List Definition) (right : term_faults ds ≡ []) where
   doubled before c stands earlier are =
       choice Broken (has_pair earlier c.inner_ty.text c.outer_ty.text) (fault (kinds.converter_again c.inner_ty c.outer_ty) c.pos ∷ []) []
       (λ is. let first = pair earlier c.inner_ty.text c.outer_ty.text is in
-          one Broken (fault (kinds.converter_again c.inner_ty c.outer_ty) c.pos)
-          (broken.converter_again c first.0 before stands (are first.0 first.1) first.2 first.3))
+      one Broken (fault (kinds.converter_again c.inner_ty c.outer_ty) c.pos)
+      (broken.converter_again c first.0 before stands (are first.0 first.1) first.2 first.3))
       (λ _. All-nil Broken)
 
   by_names : (o : Option FaultNode) (earlier : List Conversion) (c : Conversion) → All Broken (optional o) → All Broken (doubled_converter earlier c) →
@@ -89,10 +89,10 @@ module _ (ds : List Definition) (right : term_faults ds ≡ []) where
       All-append Broken (wrong_converter known (terms ds) earlier c) (wrong_converters known (terms ds) (earlier ++ counted known (terms ds) c) cs)
       (by_names (unknown_name known (terms ds) c) earlier c (names c (stands_in (converters_in ds) before c (cs, is))) (doubled before c (cs, is) earlier are))
       (all_converters (before ++ c ∷ []) cs (step (converters_in ds) before c cs is) (earlier ++ counted known (terms ds) c)
-          (λ e among.
-              either (λ old. Contains-append_left before (c ∷ []) e (are e old))
-              (λ new. subst (λ x. Contains (before ++ c ∷ []) x) (counted_is (unknown_name known (terms ds) c) c e new) (Contains-push before c))
-              (Contains-append_cases earlier (counted known (terms ds) c) e among)))
+      (λ e among.
+      either (λ old. Contains-append_left before (c ∷ []) e (are e old))
+      (λ new. subst (λ x. Contains (before ++ c ∷ []) x) (counted_is (unknown_name known (terms ds) c) c e new) (Contains-push before c))
+      (Contains-append_cases earlier (counted known (terms ds) c) e among)))
 
 pub converters_broken : (ds : List Definition) → term_faults ds ≡ [] → All (λ f. IsBrokenConverter ds f.kind f.pos) (converter_faults ds)
 converters_broken ds right = all_converters ds right [] (converters_in ds) refl [] (λ e among. among)

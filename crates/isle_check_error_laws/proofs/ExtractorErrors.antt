@@ -1,13 +1,13 @@
 -- Each error of internal extractors is broken, in a program whose terms are right.
 use Rattle.std.proofs.Common.{◌≡◌, ℕ, List, [], ◌∷◌, ◌++◌, Bool, true, false, Option, None, Some, Contains, refl, ap, sym, ◌∙◌, subst, append_assoc, if◌then◌else◌}
-use Rattle.std.specs.List.{All, flat_map}
-use Rattle.std.proofs.lemmas.List.Elements.{All-append, All-nil, Contains-append_cases, Contains-append_left, Contains-append_right, Contains-push}
+use Rattle.std.specs.List.{All}
+use Rattle.std.proofs.lemmas.List.Elements.{All-append, All-nil, Contains-append_cases, Contains-append_left, Contains-push}
 use Rattle.isle_base_source.specs.declared.pos.Pos.{Pos}
 use Rattle.isle_ast_names.specs.Tree.{Name}
 use Rattle.isle_ast_rules.specs.Roots.{pattern_pos}
 use Rattle.isle_ast_rules.specs.TermHeads.{heads}
 use Rattle.isle_ast_rules.specs.Tree.{ExtractorDefinition}
-use Rattle.isle_ast.specs.Tree.{Declaration, Definition}
+use Rattle.isle_ast.specs.Tree.{Definition}
 use Rattle.isle_check_declarations.specs.Faults as kinds
 use Rattle.isle_check_declarations.specs.Faults.{FaultNode, fault}
 use Rattle.isle_check_declarations.specs.TermFaults.{term_faults}
@@ -85,7 +85,7 @@ module _ (ds : List Definition) where
       two Broken (fault (kinds.extractor_again x.term) x.pos) (fault (kinds.extractor_before x.term) place)
       (broken.extractor_again x before stands (first.0, first.1, first.2 ∙ at.2))
       (subst (λ p. IsBrokenExtractor ds (kinds.extractor_before x.term) p) (first.3 ∙ at.3)
-          (broken.extractor_before x first.0 before stands first.1 (first.2 ∙ at.2)))
+      (broken.extractor_before x first.0 before stands first.1 (first.2 ∙ at.2)))
 
   of_term : (before : List ExtractorDefinition) (x : ExtractorDefinition) → StandsBehind (extractors_in ds) before x →
       (earlier : List Name) → AreTemplates before earlier → (node : TermNode) → Means ds x.term.text node → All Broken (wrong_term node earlier x)
@@ -95,7 +95,7 @@ module _ (ds : List Definition) where
   of_term before x stands earlier are (declared_term d) means =
       choice Broken d.multi (fault (kinds.extractor_multi x.term) x.pos ∷ []) (doubled_extractor (place_of earlier x.term.text) x)
       (λ multi. one Broken (fault (kinds.extractor_multi x.term) x.pos)
-          (broken.extractor_multi x d (stands_in (extractors_in ds) before x stands) means.0 means.1 multi))
+      (broken.extractor_multi x d (stands_in (extractors_in ds) before x stands) means.0 means.1 multi))
       (λ _. doubled before x stands earlier are (place_of earlier x.term.text) refl)
 
   module _ (right : term_faults ds ≡ []) where
@@ -104,8 +104,8 @@ module _ (ds : List Definition) where
     heads_of x among head inside =
         choice Broken (is_unknown (terms ds head.1.text)) (fault (kinds.template_unknown head.1 x.term) head.0 ∷ []) []
         (λ unknown. one Broken (fault (kinds.template_unknown head.1 x.term) head.0)
-            (broken.template_unknown x head.0 head.1 among inside
-                (means_unknown ds head.1.text (terms ds head.1.text) (meaning ds right head.1.text) unknown)))
+        (broken.template_unknown x head.0 head.1 among inside
+        (means_unknown ds head.1.text (terms ds head.1.text) (meaning ds right head.1.text) unknown)))
         (λ _. All-nil Broken)
 
     extractor : (before : List ExtractorDefinition) (x : ExtractorDefinition) → StandsBehind (extractors_in ds) before x →
@@ -115,10 +115,10 @@ module _ (ds : List Definition) where
         choice Broken (is_unknown (terms ds x.term.text)) (fault (kinds.extractor_unknown x.term) x.pos ∷ [])
         (unknown_terms (terms ds) x.term (heads x.template) ++ wrong_term (terms ds x.term.text) earlier x)
         (λ unknown. one Broken (fault (kinds.extractor_unknown x.term) x.pos)
-            (broken.extractor_unknown x among (means_unknown ds x.term.text (terms ds x.term.text) (meaning ds right x.term.text) unknown)))
+        (broken.extractor_unknown x among (means_unknown ds x.term.text (terms ds x.term.text) (meaning ds right x.term.text) unknown)))
         (λ _. All-append Broken (unknown_terms (terms ds) x.term (heads x.template)) (wrong_term (terms ds x.term.text) earlier x)
-            (all_parts Broken (unknown_term_at (terms ds) x.term) (heads x.template) (heads_of x among))
-            (of_term before x stands earlier are (terms ds x.term.text) (meaning ds right x.term.text)))
+        (all_parts Broken (unknown_term_at (terms ds) x.term) (heads x.template) (heads_of x among))
+        (of_term before x stands earlier are (terms ds x.term.text) (meaning ds right x.term.text)))
 
     all_extractors : (rest before xs : List ExtractorDefinition) → extractors_in ds ≡ before ++ (xs ++ rest) →
         (earlier : List Name) → AreTemplates before earlier → All Broken (wrong_extractors (terms ds) earlier xs)
@@ -127,7 +127,7 @@ module _ (ds : List Definition) where
         All-append Broken (wrong_extractor (terms ds) earlier x) (wrong_extractors (terms ds) (with_template (terms ds) earlier x) xs)
         (extractor before x (xs ++ rest, is) earlier are)
         (all_extractors rest (before ++ x ∷ []) xs (step (extractors_in ds) before x (xs ++ rest) is) (with_template (terms ds) earlier x)
-            (by_term before earlier are x (terms ds x.term.text)))
+        (by_term before earlier are x (terms ds x.term.text)))
 
 pub extractors_broken : (ds : List Definition) → term_faults ds ≡ [] → All (λ f. IsBrokenExtractor ds f.kind f.pos) (extractor_faults ds)
 extractors_broken ds right =

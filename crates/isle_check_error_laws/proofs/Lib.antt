@@ -6,3 +6,5 @@ pub mod Meanings
 pub mod RootErrors
 pub mod ExtractorErrors
 pub mod ConverterErrors
+pub mod ExternNames
+pub mod ExternErrors

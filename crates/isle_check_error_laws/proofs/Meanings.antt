@@ -1,6 +1,5 @@
 -- What a text means as the name of a term, in a program whose terms are right.
 use Rattle.std.proofs.Common.{◌≡◌, ◌⊎◌, inl, inr, ℕ, List, [], ◌∷◌, ◌++◌, Bool, true, false, Option, None, Some, Contains, refl, ap, sym, ◌∙◌, subst, bytes_eq, if◌then◌else◌}
-use Rattle.std.specs.List.{flat_map}
 use Rattle.std.proofs.lemmas.List.Elements.{Contains-append_cases, Contains-append_left, Contains-append_right}
 use Rattle.std.proofs.lemmas.Option.{none-some}
 use Rattle.isle_ast_names.specs.Tree.{Name}
@@ -9,12 +8,12 @@ use Rattle.isle_ast.specs.Tree.{Declaration, Definition, EnumVariant, TypeDefini
 use Rattle.isle_check_declarations.specs.Faults as kinds
 use Rattle.isle_check_declarations.specs.Faults.{FaultNode, fault, optional}
 use Rattle.isle_check_declarations.specs.TermFaults.{counted, declared, doubled_decl, free_variants, signature_fault, taken_variant, taken_variants, term_faults, term_names, variants_of, with_variants, wrong_decl, wrong_decls, wrong_flags}
-use Rattle.isle_check_declarations.specs.Terms.{TermNode, counted_by, counted_decl, counted_decls, decl_of, declared_term, is_unknown, term_by, terms, unknown_term, variant_term}
+use Rattle.isle_check_declarations.specs.Terms.{TermNode, counted_by, counted_decls, decl_of, declared_term, is_unknown, term_by, terms, unknown_term, variant_term}
 use Rattle.isle_check_environment.specs.Names.{has, or_else, place_of}
 use Rattle.isle_check_environment.specs.Parts.{decls_in, type_names, types_in}
 use Rattle.isle_check_environment.specs.Types.{is_type}
 use Rattle.isle_check_error_laws.specs.Named.{HasDeclaration, HasVariant, HasVariantOf, IsDeclared, IsNameOf, IsOnlyVariant, IsUnknownTerm}
-use Rattle.isle_check_error_laws.proofs.Lists.{both_empty, either, first_or_later, here, in_part, later, no_element}
+use Rattle.isle_check_error_laws.proofs.Lists.{both_empty, either, first_or_later, here, later, no_element}
 use Rattle.isle_check_error_laws.proofs.Names.{has_name, has_no_name, other_text, same_text}
 use Rattle.isle_check_error_laws.proofs.TermErrors.{declared_is, free_is}
 
@@ -77,7 +76,7 @@ all_count known earlier (d ∷ ds) h =
 
 free_by : (t : TypeDefinition) (terms : List Name) (v : EnumVariant) (vs : List EnumVariant) (text : List ℕ) (b : Bool) →
     (taken_variant t (terms ++ full_name t.name v.name ∷ []) vs ≡ [] → HasVariant t.name vs text →
-        IsNameOf (free_variants t.name (terms ++ full_name t.name v.name ∷ []) vs) text) →
+    IsNameOf (free_variants t.name (terms ++ full_name t.name v.name ∷ []) vs) text) →
     (if b then fault (kinds.variant_taken t.name v.name) t.pos ∷ [] else taken_variant t (terms ++ full_name t.name v.name ∷ []) vs) ≡ [] →
     HasVariant t.name (v ∷ vs) text →
     IsNameOf (if b then [] else full_name t.name v.name ∷ free_variants t.name (terms ++ full_name t.name v.name ∷ []) vs) text
@@ -107,8 +106,8 @@ is_named terms (t ∷ ts) text h variant =
     let rest = both_empty (taken_variant t terms (variants_of t.ty)) (taken_variants (terms ++ free) ts) h in
     either
     (λ same.
-        let n = is_free t terms (variants_of t.ty) text rest.0 (subst (λ (x : TypeDefinition). HasVariant x.name (variants_of x.ty) text) (sym same) variant.2) in
-        (n.0, stays (terms ++ free) ts n.0 (Contains-append_right terms free n.0 n.1), n.2))
+    let n = is_free t terms (variants_of t.ty) text rest.0 (subst (λ (x : TypeDefinition). HasVariant x.name (variants_of x.ty) text) (sym same) variant.2) in
+    (n.0, stays (terms ++ free) ts n.0 (Contains-append_right terms free n.0 n.1), n.2))
     (λ among. is_named (terms ++ free) ts text rest.1 (variant.0, among, variant.2))
     (first_or_later t ts variant.0 variant.1)
 
@@ -148,16 +147,15 @@ module _ (ds : List Definition) (right : term_faults ds ≡ []) (text : List ℕ
   by_parts : (o : Option Declaration) → decl_of (counted_decls known (decls_in ds)) text ≡ o →
       (b : Bool) → has (term_names known (decls_in ds) (types_in ds)) text ≡ b → Means ds text (term_by o b)
   by_parts (Some d) is b named = found (decls_in ds) text d (subst (λ xs. decl_of xs text ≡ Some d) (all_count known [] (decls_in ds) parts.0) is)
-  by_parts None is true named =
-      (
-          either (λ declared. absurd (not_declared is declared)) (λ variant. variant)
-              (variant_or_declared (has_name (term_names known (decls_in ds) (types_in ds)) text named)),
-          not_declared is,
-      )
+  by_parts None is true named = (
+    either (λ declared. absurd (not_declared is declared)) (λ variant. variant)
+        (variant_or_declared (has_name (term_names known (decls_in ds) (types_in ds)) text named)),
+    not_declared is,
+  )
   by_parts None is false named =
       either (not_declared is)
       (λ variant. has_no_name (term_names known (decls_in ds) (types_in ds)) text named
-          (is_named (declared known (decls_in ds)) (types_in ds) text parts.1 variant))
+      (is_named (declared known (decls_in ds)) (types_in ds) text parts.1 variant))
 
 -- each text means what its term says
 pub meaning : (ds : List Definition) → term_faults ds ≡ [] → (text : List ℕ) → Means ds text (terms ds text)

@@ -1,5 +1,5 @@
 -- Each error of the left sides of rules is broken, in a program whose terms are right.
-use Rattle.std.proofs.Common.{◌≡◌, ℕ, List, [], ◌∷◌, Option, None, Some, Contains, refl}
+use Rattle.std.proofs.Common.{◌≡◌, List, [], Option, None, Some, Contains, refl}
 use Rattle.std.specs.List.{All}
 use Rattle.std.proofs.lemmas.List.Elements.{All-nil}
 use Rattle.isle_ast_names.specs.Tree.{Name}

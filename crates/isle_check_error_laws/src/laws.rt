@@ -6,9 +6,11 @@ ghost use Rattle.isle_ast.specs.Tree.{Definition};
 ghost use Rattle.isle_check_declarations.specs.TermFaults.{term_faults};
 ghost use Rattle.isle_check_declarations.specs.TypeFaults.{type_faults};
 ghost use Rattle.isle_check_extractors.specs.Converters.{converter_faults};
+ghost use Rattle.isle_check_extractors.specs.Externs.{extern_faults};
 ghost use Rattle.isle_check_extractors.specs.Extractors.{extractor_faults};
 ghost use Rattle.isle_check_extractors.specs.Roots.{root_faults};
 ghost use Rattle.isle_check_error_laws.specs.BrokenConverters.{IsBrokenConverter};
+ghost use Rattle.isle_check_error_laws.specs.BrokenExterns.{IsBrokenExtern};
 ghost use Rattle.isle_check_error_laws.specs.BrokenExtractors.{IsBrokenExtractor};
 ghost use Rattle.isle_check_error_laws.specs.BrokenRoots.{IsBrokenRoot};
 ghost use Rattle.isle_check_error_laws.specs.BrokenTerms.{IsBrokenTerm};
@@ -47,4 +49,11 @@ pub fn errors_of_extractors_name_broken_extractors()
 pub fn errors_of_converters_name_broken_converters()
     ensures { (ds : List Definition) → term_faults ds ≡ []
         → All (λ f. IsBrokenConverter ds f.kind f.pos) (converter_faults ds) }
+{}
+
+/// A law, which runs no code: in a program whose terms are right, each error of its external
+/// constructors and extractors names what is wrong there.
+pub fn errors_of_externs_name_broken_externs()
+    ensures { (ds : List Definition) → term_faults ds ≡ []
+        → All (λ f. IsBrokenExtern ds f.kind f.pos) (extern_faults ds) }
 {}
