@@ -8,3 +8,8 @@ pub mod ExtractorErrors
 pub mod ConverterErrors
 pub mod ExternNames
 pub mod ExternErrors
+pub mod RuleSteps
+pub mod PatternErrors
+pub mod ExpressionErrors
+pub mod OwnTypes
+pub mod RuleErrors

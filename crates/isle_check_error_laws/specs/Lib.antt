@@ -5,3 +5,5 @@ pub mod BrokenRoots
 pub mod BrokenExtractors
 pub mod BrokenConverters
 pub mod BrokenExterns
+pub mod RuleParts
+pub mod BrokenRules

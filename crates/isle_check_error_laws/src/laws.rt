@@ -1,6 +1,6 @@
 //! Laws of the errors of definitions, which run no code.
 
-ghost use Rattle.std.specs.Prelude.{◌≡◌, [], List};
+ghost use Rattle.std.specs.Prelude.{◌≡◌, ℕ, [], List, Ok};
 ghost use Rattle.std.specs.List.{All};
 ghost use Rattle.isle_ast.specs.Tree.{Definition};
 ghost use Rattle.isle_check_declarations.specs.TermFaults.{term_faults};
@@ -9,10 +9,14 @@ ghost use Rattle.isle_check_extractors.specs.Converters.{converter_faults};
 ghost use Rattle.isle_check_extractors.specs.Externs.{extern_faults};
 ghost use Rattle.isle_check_extractors.specs.Extractors.{extractor_faults};
 ghost use Rattle.isle_check_extractors.specs.Roots.{root_faults};
+ghost use Rattle.isle_check_signatures.specs.Environment.{EnvironmentNode};
+ghost use Rattle.isle_check_rules.specs.RuleFaults.{rule_faults};
+ghost use Rattle.isle_check_rules.specs.RuleTypes.{RulesTyping};
 ghost use Rattle.isle_check_error_laws.specs.BrokenConverters.{IsBrokenConverter};
 ghost use Rattle.isle_check_error_laws.specs.BrokenExterns.{IsBrokenExtern};
 ghost use Rattle.isle_check_error_laws.specs.BrokenExtractors.{IsBrokenExtractor};
 ghost use Rattle.isle_check_error_laws.specs.BrokenRoots.{IsBrokenRoot};
+ghost use Rattle.isle_check_error_laws.specs.BrokenRules.{IsBrokenRule};
 ghost use Rattle.isle_check_error_laws.specs.BrokenTerms.{IsBrokenTerm};
 ghost use Rattle.isle_check_error_laws.specs.BrokenTypes.{IsBrokenType};
 
@@ -56,4 +60,11 @@ pub fn errors_of_converters_name_broken_converters()
 pub fn errors_of_externs_name_broken_externs()
     ensures { (ds : List Definition) → term_faults ds ≡ []
         → All (λ f. IsBrokenExtern ds f.kind f.pos) (extern_faults ds) }
+{}
+
+/// A law, which runs no code: each error of the rules of a program names what is wrong there.
+pub fn errors_of_rules_name_broken_rules()
+    ensures { (env : EnvironmentNode) (ds : List Definition) (depth : ℕ) (made : RulesTyping)
+        → rule_faults depth env ds ≡ Ok made
+        → All (λ f. IsBrokenRule env ds f.kind f.pos) made.faults }
 {}
