@@ -13,3 +13,5 @@ pub mod PatternErrors
 pub mod ExpressionErrors
 pub mod OwnTypes
 pub mod RuleErrors
+pub mod Cycles
+pub mod RecursionErrors

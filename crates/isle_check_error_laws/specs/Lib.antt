@@ -7,3 +7,4 @@ pub mod BrokenConverters
 pub mod BrokenExterns
 pub mod RuleParts
 pub mod BrokenRules
+pub mod BrokenRecursions

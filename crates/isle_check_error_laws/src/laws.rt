@@ -10,11 +10,13 @@ ghost use Rattle.isle_check_extractors.specs.Externs.{extern_faults};
 ghost use Rattle.isle_check_extractors.specs.Extractors.{extractor_faults};
 ghost use Rattle.isle_check_extractors.specs.Roots.{root_faults};
 ghost use Rattle.isle_check_signatures.specs.Environment.{EnvironmentNode};
+ghost use Rattle.isle_check_recursion.specs.Recursion.{recursions};
 ghost use Rattle.isle_check_rules.specs.RuleFaults.{rule_faults};
 ghost use Rattle.isle_check_rules.specs.RuleTypes.{RulesTyping};
 ghost use Rattle.isle_check_error_laws.specs.BrokenConverters.{IsBrokenConverter};
 ghost use Rattle.isle_check_error_laws.specs.BrokenExterns.{IsBrokenExtern};
 ghost use Rattle.isle_check_error_laws.specs.BrokenExtractors.{IsBrokenExtractor};
+ghost use Rattle.isle_check_error_laws.specs.BrokenRecursions.{IsBrokenRecursion};
 ghost use Rattle.isle_check_error_laws.specs.BrokenRoots.{IsBrokenRoot};
 ghost use Rattle.isle_check_error_laws.specs.BrokenRules.{IsBrokenRule};
 ghost use Rattle.isle_check_error_laws.specs.BrokenTerms.{IsBrokenTerm};
@@ -46,6 +48,13 @@ pub fn errors_of_roots_name_broken_rules()
 pub fn errors_of_extractors_name_broken_extractors()
     ensures { (ds : List Definition) → term_faults ds ≡ []
         → All (λ f. IsBrokenExtractor ds f.kind f.pos) (extractor_faults ds) }
+{}
+
+/// A law, which runs no code: each recursion that is told is one. Its terms have internal extractors
+/// each of which uses the next one, and the last one comes twice.
+pub fn recursions_name_cycles_of_extractors()
+    ensures { (ds : List Definition)
+        → All (λ r. IsBrokenRecursion ds r.path r.pos) (recursions ds) }
 {}
 
 /// A law, which runs no code: in a program whose terms are right, each error of its converters
