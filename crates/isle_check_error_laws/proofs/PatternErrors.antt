@@ -1,6 +1,5 @@
 -- Each error of the patterns of a rule is broken.
 use Rattle.std.proofs.Common.{◌≡◌, ◌≢◌, ℕ, suc, zero, List, [], ◌∷◌, Bool, true, false, ◌==◌, Option, None, Some, IfSome, is_none, Contains, refl, length, codes, bytes_eq, zip, if◌then◌else◌}
-use Rattle.std.specs.List.{All}
 use Rattle.isle_base_source.specs.declared.pos.Pos.{Pos}
 use Rattle.isle_ast_names.specs.Tree.{Name}
 use Rattle.isle_ast_rules.specs.Templates.{plug}
@@ -11,15 +10,15 @@ use Rattle.isle_check_typing.specs.Faults as kinds
 use Rattle.isle_check_typing.specs.Faults.{FaultNode}
 use Rattle.isle_check_typing.specs.PatternTypes.{arguments_by, bound_by, constant_by, converted_by, converting, count_patterns, each_by, filled_by, if_extracts, list_list, own_by, step, term_by, type_at, use_by, variable_by}
 use Rattle.isle_check_typing.specs.Progress.{FoundNode, ProgressNode, find, tell, unless}
-use Rattle.isle_check_typing.specs.Typed.{TypedNode}
+use Rattle.isle_check_typing.specs.Typed.{TypedNode, type_of}
 use Rattle.isle_check_typing.specs.Typings.{Typing, Typings, with_typed}
 use Rattle.isle_check_error_laws.specs.BrokenRules as broken
 use Rattle.isle_check_error_laws.specs.BrokenRules.{CannotExtract, IsBrokenPattern}
 use Rattle.isle_check_error_laws.specs.RuleParts as parts
-use Rattle.isle_check_error_laws.specs.RuleParts.{IsPattern}
+use Rattle.isle_check_error_laws.specs.RuleParts.{BindsVariable, IsPattern}
 use Rattle.isle_check_error_laws.proofs.Lists.{here, later}
 use Rattle.isle_check_error_laws.proofs.Names.{other_text}
-use Rattle.isle_check_error_laws.proofs.RuleSteps.{map_some, other_number, then_some, told, unless_told}
+use Rattle.isle_check_error_laws.proofs.RuleSteps.{IsGood, binds, found_variable, map_some, other_number, then_some, told, unless_told}
 
 -- a converter that can be used is a converter
 extracts : (env : EnvironmentNode) (o : Option (List ℕ)) (c : List ℕ) → if_extracts env o ≡ Some c → o ≡ Some c
@@ -41,39 +40,44 @@ cannot env (Some d) h c is = by (env.has_extractor d) refl h
 -- P holds of each error that typing a part of the rule adds, if it holds of each broken pattern
 module _ (env : EnvironmentNode) (r : RuleDefinition) (P : FaultNode → Type 0)
     (holds : (kind : kinds.KindNode) (place : Pos) → IsBrokenPattern env r kind place → P (record { kind = kind; pos = place })) where
+  abbrev V : List ℕ → List ℕ → Type 0
+  V = BindsVariable env r
+
   abbrev Good : ProgressNode → Type 0
-  Good s = All P s.faults
+  Good s = IsGood P V s
 
   abbrev GoodOne : Typing TypedNode → Type 0
-  GoodOne m = All P m.after.faults
+  GoodOne m = IsGood P V m.after
 
   abbrev GoodAll : Typings TypedNode → Type 0
-  GoodAll m = All P m.after.faults
+  GoodAll m = IsGood P V m.after
 
   -- leaves
 
   constant : (name : Name) (place : Pos) (ty : List ℕ) → IsPattern env r (constant_pattern name place) ty → (s : ProgressNode) → Good s →
       (o : Option (List ℕ)) → env.constants name.text ≡ o → GoodOne (constant_by o name place ty s)
   constant name place ty stands s good None is =
-      told P (kinds.constant_unknown name.text) place s (holds (kinds.constant_unknown name.text) place (broken.constant_unknown name place ty stands is)) good
+      told P V (kinds.constant_unknown name.text) place s (holds (kinds.constant_unknown name.text) place (broken.constant_unknown name place ty stands is)) good
   constant name place ty stands s good (Some found) is =
-      unless_told P (bytes_eq found ty) (kinds.constant_type ty found) place s
+      unless_told P V (bytes_eq found ty) (kinds.constant_type ty found) place s
       (λ other. holds (kinds.constant_type ty found) place (broken.constant_type name place ty found stands is (other_text found ty other))) good
 
   variable : (var : Name) (place : Pos) (ty : List ℕ) → IsPattern env r (var_pattern var place) ty → (s : ProgressNode) → Good s →
-      (o : Option FoundNode) → GoodOne (variable_by o var place ty s)
-  variable var place ty stands s good None = good
-  variable var place ty stands s good (Some known) =
-      unless_told P (bytes_eq known.ty ty) (kinds.variable_type var.text ty known.ty) place s
+      (o : Option FoundNode) → find s.bound var.text ≡ o → GoodOne (variable_by o var place ty s)
+  variable var place ty stands s good None is = binds P V var.text ty s (parts.by_mention stands) good
+  variable var place ty stands s good (Some known) is =
+      unless_told P V (bytes_eq known.ty ty) (kinds.variable_type var.text ty known.ty) place s
       (λ other. holds (kinds.variable_type var.text ty known.ty) place
-      (broken.variable_type var place ty known.ty stands (other_text known.ty ty other))) good
+      (broken.variable_type var place ty known.ty stands (found_variable V var.text known s.bound good.1 is) (other_text known.ty ty other))) good
 
   bound : (var : Name) (p : PatternNode) (place : Pos) (ty : List ℕ) → IsPattern env r (bind_pattern var p place) ty → (s : ProgressNode) → Good s →
       (o : Option TypedNode) → GoodOne (bound_by o var place s)
   bound var p place ty stands s good None = good
   bound var p place ty stands s good (Some typed) =
-      unless_told P (is_none (find s.bound var.text)) (kinds.variable_bound var.text) place s
-      (λ _. holds (kinds.variable_bound var.text) place (broken.variable_bound var p place ty stands)) good
+      binds P V var.text (type_of typed) (unless (is_none (find s.bound var.text)) (kinds.variable_bound var.text) place s)
+      (parts.by_name stands (type_of typed))
+      (unless_told P V (is_none (find s.bound var.text)) (kinds.variable_bound var.text) place s
+      (λ _. holds (kinds.variable_bound var.text) place (broken.variable_bound var p place ty stands)) good)
 
   -- patterns whose parts are typed with no more than this depth
   module _ (depth : ℕ) (below : (p : PatternNode) (ty : List ℕ) → IsPattern env r p ty → (s : ProgressNode) → Good s → IfSome (type_at depth env p ty s) GoodOne) where
@@ -100,7 +104,7 @@ module _ (env : EnvironmentNode) (r : RuleDefinition) (P : FaultNode → Type 0)
       filled : (template : PatternNode) → env.templates name.text ≡ Some template → (o : Option PatternNode) → plug template (list_list args) ≡ o →
           (counts : Bool) (s : ProgressNode) → Good s → IfSome (filled_by (type_at depth env) o counts name.text place ty s) GoodOne
       filled template is None fills true s good =
-          told P (kinds.parameter_without_argument name.text) place s
+          told P V (kinds.parameter_without_argument name.text) place s
           (holds (kinds.parameter_without_argument name.text) place (broken.parameter_without_argument name args place ty template stands is fills)) good
       filled template is None fills false s good = good
       filled template is (Some q) fills counts s good = below q ty (parts.of_template stands is fills) s good
@@ -112,7 +116,7 @@ module _ (env : EnvironmentNode) (r : RuleDefinition) (P : FaultNode → Type 0)
           (arguments_by (type_at depth env) args t.args [] (unless (env.has_extractor name.text) (kinds.no_extractor name.text) place s)) _
           (arguments args t.args (λ p u among. parts.of_term stands known is among) []
           (unless (env.has_extractor name.text) (kinds.no_extractor name.text) place s)
-          (unless_told P (env.has_extractor name.text) (kinds.no_extractor name.text) place s
+          (unless_told P V (env.has_extractor name.text) (kinds.no_extractor name.text) place s
           (λ lacks. holds (kinds.no_extractor name.text) place (broken.no_extractor name args place ty stands is lacks)) good))
           (λ m after. after)
       used t known (Some template) is s good =
@@ -123,7 +127,7 @@ module _ (env : EnvironmentNode) (r : RuleDefinition) (P : FaultNode → Type 0)
       own t known s good =
           used t known (env.templates name.text) refl
           (unless (length t.args == count_patterns args) (kinds.argument_count name.text (count_patterns args) (length t.args)) place s)
-          (unless_told P (length t.args == count_patterns args) (kinds.argument_count name.text (count_patterns args) (length t.args)) place s
+          (unless_told P V (length t.args == count_patterns args) (kinds.argument_count name.text (count_patterns args) (length t.args)) place s
           (λ other. holds (kinds.argument_count name.text (count_patterns args) (length t.args)) place
           (broken.argument_count name args place ty t stands known (other_number (length t.args) (count_patterns args) other))) good)
 
@@ -131,7 +135,7 @@ module _ (env : EnvironmentNode) (r : RuleDefinition) (P : FaultNode → Type 0)
           (s : ProgressNode) → Good s → IfSome (converted_by (type_at depth env) env o (term_pattern name args place) t name.text args place ty s) GoodOne
       converted t known other None is s good =
           own t known (tell (kinds.term_type ty t.ret) place s)
-          (told P (kinds.term_type ty t.ret) place s
+          (told P V (kinds.term_type ty t.ret) place s
           (holds (kinds.term_type ty t.ret) place
           (broken.term_type name args place ty t stands known other (cannot env (env.converters t.ret ty) is))) good)
       converted t known other (Some c) is s good =
@@ -147,19 +151,19 @@ module _ (env : EnvironmentNode) (r : RuleDefinition) (P : FaultNode → Type 0)
       term : (o : Option TermNode) → env.terms name.text ≡ o → (s : ProgressNode) → Good s →
           IfSome (term_by (type_at depth env) env o (term_pattern name args place) name.text args place ty s) GoodOne
       term None is s good =
-          told P (kinds.term_unknown name.text) place s (holds (kinds.term_unknown name.text) place (broken.term_unknown name args place ty stands is)) good
+          told P V (kinds.term_unknown name.text) place s (holds (kinds.term_unknown name.text) place (broken.term_unknown name args place ty stands is)) good
       term (Some t) is s good = found t is (bytes_eq t.ret ty) refl s good
 
     pattern_step : (p : PatternNode) (ty : List ℕ) → IsPattern env r p ty → (s : ProgressNode) → Good s → IfSome (step (type_at depth env) env p ty s) GoodOne
-    pattern_step (var_pattern var place) ty stands s good = variable var place ty stands s good (find s.bound var.text)
+    pattern_step (var_pattern var place) ty stands s good = variable var place ty stands s good (find s.bound var.text) refl
     pattern_step (bind_pattern var p place) ty stands s good =
         map_some GoodOne GoodOne (type_at depth env p ty s) _ (below p ty (parts.of_name stands) s good)
         (λ m after. bound var p place ty stands m.after after m.typed)
     pattern_step (bool_pattern val place) ty stands s good =
-        unless_told P (bytes_eq ty (codes "bool")) (kinds.bool_type val ty) place s
+        unless_told P V (bytes_eq ty (codes "bool")) (kinds.bool_type val ty) place s
         (λ other. holds (kinds.bool_type val ty) place (broken.bool_type val place ty stands (other_text ty (codes "bool") other))) good
     pattern_step (int_pattern val place) ty stands s good =
-        unless_told P (env.is_number ty) (kinds.integer_type val ty) place s
+        unless_told P V (env.is_number ty) (kinds.integer_type val ty) place s
         (λ other. holds (kinds.integer_type val ty) place (broken.integer_type val place ty stands other)) good
     pattern_step (constant_pattern name place) ty stands s good = constant name place ty stands s good (env.constants name.text) refl
     pattern_step (term_pattern name args place) ty stands s good = term name args place ty stands (env.terms name.text) refl s good
@@ -167,7 +171,7 @@ module _ (env : EnvironmentNode) (r : RuleDefinition) (P : FaultNode → Type 0)
     pattern_step (and_pattern ps place) ty stands s good =
         map_some GoodAll GoodOne (each_by (type_at depth env) ps ty [] s) _ (each ps ty (λ p among. parts.of_several stands among) [] s good) (λ m after. after)
     pattern_step (macro_arg_pattern index place) ty stands s good =
-        told P kinds.macro_argument place s (holds kinds.macro_argument place (broken.macro_argument index place ty stands)) good
+        told P V kinds.macro_argument place s (holds kinds.macro_argument place (broken.macro_argument index place ty stands)) good
 
   pub pattern : (depth : ℕ) (p : PatternNode) (ty : List ℕ) → IsPattern env r p ty → (s : ProgressNode) → Good s → IfSome (type_at depth env p ty s) GoodOne
   pattern zero p ty stands s good = tt

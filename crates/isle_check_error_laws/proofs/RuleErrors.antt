@@ -26,12 +26,12 @@ use Rattle.isle_check_rules.specs.TypedRules.{TypedCondition}
 use Rattle.isle_check_error_laws.specs.BrokenRules as broken
 use Rattle.isle_check_error_laws.specs.BrokenRules.{IsBrokenRule}
 use Rattle.isle_check_error_laws.specs.RuleParts as parts
-use Rattle.isle_check_error_laws.specs.RuleParts.{HasOwnType, HasRoot}
+use Rattle.isle_check_error_laws.specs.RuleParts.{BindsVariable, HasOwnType, HasRoot}
 use Rattle.isle_check_error_laws.proofs.ExpressionErrors.{expression}
-use Rattle.isle_check_error_laws.proofs.Lists.{all_parts, both_true, choice, here, later, one}
+use Rattle.isle_check_error_laws.proofs.Lists.{all_parts, both_true, choice, here, later, no_element, one}
 use Rattle.isle_check_error_laws.proofs.OwnTypes.{Fits, own_type}
 use Rattle.isle_check_error_laws.proofs.PatternErrors.{arguments, pattern}
-use Rattle.isle_check_error_laws.proofs.RuleSteps.{both_false, map_some, not_false, other_number, then_some, unless_told}
+use Rattle.isle_check_error_laws.proofs.RuleSteps.{IsGood, both_false, map_some, not_false, other_number, then_some, unless_told}
 
 both_some : {X : Type 0} (P Q : X → Type 0) (o : Option X) → IfSome o P → IfSome o Q → IfSome o (λ x. P x × Q x)
 both_some P Q None h k = tt
@@ -66,16 +66,16 @@ module _ (env : EnvironmentNode) (ds : List Definition) (depth : ℕ) where
   abbrev Broken : FaultNode → Type 0
   Broken f = IsBrokenRule env ds f.kind f.pos
 
-  abbrev Good : ProgressNode → Type 0
-  Good s = All Broken s.faults
-
-  abbrev GoodOne : {T : Type 0} → Typing T → Type 0
-  GoodOne m = All Broken m.after.faults
-
-  abbrev GoodAll : {T : Type 0} → Typings T → Type 0
-  GoodAll m = All Broken m.after.faults
-
   module _ (r : RuleDefinition) (among : Contains (rules_in ds) r) (name : Name) (args : PatternList) (t : TermNode) (root : HasRoot env r name args t) where
+    abbrev Good : ProgressNode → Type 0
+    Good s = IsGood Broken (BindsVariable env r) s
+
+    abbrev GoodOne : {T : Type 0} → Typing T → Type 0
+    GoodOne m = IsGood Broken (BindsVariable env r) m.after
+
+    abbrev GoodAll : {T : Type 0} → Typings T → Type 0
+    GoodAll m = IsGood Broken (BindsVariable env r) m.after
+
     matched : (o : Option TypedNode) (e : TypedExpressionNode) (s : ProgressNode) → Good s → GoodOne (matched_by o e s)
     matched None e s good = good
     matched (Some p) e s good = good
@@ -111,7 +111,7 @@ module _ (env : EnvironmentNode) (ds : List Definition) (depth : ℕ) where
         GoodOne (right_by t name.text typed iflets r o s)
     right_side typed iflets None s good = good
     right_side typed iflets (Some e) s good =
-        unless_told Broken (not t.multi || is_none r.prio) kinds.priority_in_multi r.pos s
+        unless_told Broken (BindsVariable env r) (not t.multi || is_none r.prio) kinds.priority_in_multi r.pos s
         (λ no. let both = both_false (not t.multi) (is_none r.prio) no in
         broken.priority_in_multi r name args t among root (not_false t.multi both.0) (some_prio r.prio both.1))
         good
@@ -131,7 +131,7 @@ module _ (env : EnvironmentNode) (ds : List Definition) (depth : ℕ) where
         (arguments env r Broken (λ kind place h. broken.in_pattern r kind place among h) depth
         (pattern env r Broken (λ kind place h. broken.in_pattern r kind place among h) depth)
         args t.args (λ p ty inside. parts.of_root root inside) [] counted
-        (unless_told Broken (length t.args == count_patterns args) (kinds.argument_count name.text (count_patterns args) (length t.args)) r.pos s
+        (unless_told Broken (BindsVariable env r) (length t.args == count_patterns args) (kinds.argument_count name.text (count_patterns args) (length t.args)) r.pos s
         (λ no. broken.argument_count r name args t among root (other_number (length t.args) (count_patterns args) no)) good))
         (λ a _ after.
         then_some GoodAll GoodOne (type_conditions depth env (condition_flags t) r.iflets [] a.after) _
@@ -139,17 +139,18 @@ module _ (env : EnvironmentNode) (ds : List Definition) (depth : ℕ) where
         (λ c _ last. right a.typed c.typed c.after last))
 
   -- the errors of a rule are broken
-  abbrev IsGood : RuleTyping → Type 0
-  IsGood typing = All Broken typing.faults
+  abbrev AreBroken : RuleTyping → Type 0
+  AreBroken typing = All Broken typing.faults
 
   rule : (r : RuleDefinition) → Contains (rules_in ds) r → (name : Name) (args : PatternList) (place : Pos) → r.pattern ≡ term_pattern name args place →
-      (o : Option TermNode) → env.terms name.text ≡ o → IfSome (rule_by depth env o name.text args r) IsGood
+      (o : Option TermNode) → env.terms name.text ≡ o → IfSome (rule_by depth env o name.text args r) AreBroken
   rule r among name args place is None known = All-nil Broken
   rule r among name args place is (Some t) known =
-      map_some GoodOne IsGood (type_sides depth env t name.text args r no_progress) of_sides
-      (sides r among name args t (record { place = place; is_term = is; is_known = known }) no_progress (All-nil Broken)) (λ m good. good)
+      map_some (λ m. IsGood Broken (BindsVariable env r) m.after) AreBroken (type_sides depth env t name.text args r no_progress) of_sides
+      (sides r among name args t (record { place = place; is_term = is; is_known = known }) no_progress
+      (All-nil Broken, λ v none. absurd (no_element v none))) (λ m good. good.0)
 
-  by_root : (r : RuleDefinition) → Contains (rules_in ds) r → (p : PatternNode) → r.pattern ≡ p → IfSome (root_by depth env p r) IsGood
+  by_root : (r : RuleDefinition) → Contains (rules_in ds) r → (p : PatternNode) → r.pattern ≡ p → IfSome (root_by depth env p r) AreBroken
   by_root r among (term_pattern name args place) is = rule r among name args place is (env.terms name.text) refl
   by_root r among (var_pattern _ _) is = All-nil Broken
   by_root r among (bind_pattern _ _ _) is = All-nil Broken
@@ -164,8 +165,8 @@ module _ (env : EnvironmentNode) (ds : List Definition) (depth : ℕ) where
   same_made x y e = cc
 
   -- what comes behind a rule
-  follows : (r : RuleDefinition) (f : RuleTyping → Result RulesTyping Pos) (made : RulesTyping) (o : Option RuleTyping) → IfSome o IsGood →
-      ((typing : RuleTyping) → IsGood typing → f typing ≡ Ok made → All Broken made.faults) → behind r.pos o f ≡ Ok made → All Broken made.faults
+  follows : (r : RuleDefinition) (f : RuleTyping → Result RulesTyping Pos) (made : RulesTyping) (o : Option RuleTyping) → IfSome o AreBroken →
+      ((typing : RuleTyping) → AreBroken typing → f typing ≡ Ok made → All Broken made.faults) → behind r.pos o f ≡ Ok made → All Broken made.faults
   follows r f made None good next h = cc
   follows r f made (Some typing) good next h = next typing good h
 

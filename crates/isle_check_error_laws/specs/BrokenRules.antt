@@ -1,5 +1,5 @@
--- What the errors of rules say of a program. Of the errors of variables it says where the variable is used, and that two types differ;
--- it does not say which variables are known there.
+-- What the errors of rules say of a program. It does not say which variables can be named at a place: of a variable that is
+-- unknown, or bound again, it says that the rule uses the name so at this place.
 use Rattle.std.specs.Prelude.{◌≡◌, ◌≢◌, ℕ, ℤ, List, Bool, true, false, Option, None, Some, Contains, codes, length}
 use Rattle.isle_base_source.specs.declared.pos.Pos.{Pos}
 use Rattle.isle_ast_names.specs.Tree.{Name}
@@ -14,7 +14,7 @@ use Rattle.isle_check_typing.specs.Faults as kinds
 use Rattle.isle_check_typing.specs.PatternTypes.{count_patterns, list_list}
 use Rattle.isle_check_expressions.specs.declared.flags.Flags.{Flags}
 use Rattle.isle_check_expressions.specs.ExpressionTypes.{count_expressions}
-use Rattle.isle_check_error_laws.specs.RuleParts.{HasRoot, IsExpression, IsPattern, LetVariable, let_variables}
+use Rattle.isle_check_error_laws.specs.RuleParts.{BindsVariable, HasRoot, IsExpression, IsPattern, LetVariable, let_variables}
 
 -- a converter from the one type to the other cannot stand in a pattern
 abbrev pub CannotExtract : EnvironmentNode → (inner outer : List ℕ) → Type 0
@@ -41,8 +41,9 @@ pub data IsBrokenPattern (env : EnvironmentNode) (r : RuleDefinition) : kinds.Ki
   -- at a pattern that is named
   variable_bound : (var : Name) (p : PatternNode) (place : Pos) (ty : List ℕ) → IsPattern env r (bind_pattern var p place) ty →
       IsBrokenPattern env r (kinds.variable_bound var.text) place
-  -- at a variable: another type is wanted
-  variable_type : (var : Name) (place : Pos) (ty found : List ℕ) → IsPattern env r (var_pattern var place) ty → found ≢ ty →
+  -- at a variable: the rule binds it with another type than is wanted
+  variable_type : (var : Name) (place : Pos) (ty found : List ℕ) → IsPattern env r (var_pattern var place) ty →
+      BindsVariable env r var.text found → found ≢ ty →
       IsBrokenPattern env r (kinds.variable_type var.text ty found) place
   -- at a term: it is unknown
   term_unknown : (name : Name) (args : PatternList) (place : Pos) (ty : List ℕ) → IsPattern env r (term_pattern name args place) ty →
@@ -86,16 +87,17 @@ pub data IsBrokenExpression (env : EnvironmentNode) (r : RuleDefinition) : kinds
   -- at a variable
   variable_unknown : (flags : Flags) (name : Name) (place : Pos) (wanted : Option (List ℕ)) →
       IsExpression env r flags (var_expression name place) wanted → IsBrokenExpression env r (kinds.variable_unknown name.text) place
-  -- at a variable: another type is wanted, and no converter can be used
+  -- at a variable: the rule binds it with another type than is wanted, and no converter can be used
   variable_type : (flags : Flags) (name : Name) (place : Pos) (ty found : List ℕ) → IsExpression env r flags (var_expression name place) (Some ty) →
-      found ≢ ty → CannotConstruct env found ty → IsBrokenExpression env r (kinds.expression_variable_type name.text ty found) place
+      BindsVariable env r name.text found → found ≢ ty → CannotConstruct env found ty → IsBrokenExpression env r (kinds.expression_variable_type name.text ty found) place
   -- at a `let`: the type of a variable is unknown
   let_type_unknown : (flags : Flags) (defs : LetList) (body : Expression) (place : Pos) (wanted : Option (List ℕ)) (d : LetVariable) →
       IsExpression env r flags (let_expression defs body place) wanted → Contains (let_variables defs) d → env.is_type d.ty.text ≡ false →
       IsBrokenExpression env r (kinds.let_type_unknown d.var.text d.ty.text) place
-  -- at a term: it is unknown
+  -- at a term: it is unknown; and it is the name of a variable that the rule binds, if that is told
   term_unknown : (flags : Flags) (name : Name) (args : ExpressionList) (place : Pos) (wanted : Option (List ℕ)) (is_variable : Bool) →
       IsExpression env r flags (term_expression name args place) wanted → env.terms name.text ≡ None →
+      (is_variable ≡ true → (ty : List ℕ) × BindsVariable env r name.text ty) →
       IsBrokenExpression env r (kinds.expression_term_unknown name.text is_variable) place
   -- at a term: another type is wanted, and no converter can be used
   term_type : (flags : Flags) (name : Name) (args : ExpressionList) (place : Pos) (ty : List ℕ) (t : TermNode) →

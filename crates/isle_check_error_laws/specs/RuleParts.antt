@@ -4,7 +4,7 @@ use Rattle.std.specs.Prelude.{◌≡◌, ◌≢◌, ℕ, List, [], ◌∷◌, Op
 use Rattle.isle_base_source.specs.declared.pos.Pos.{Pos}
 use Rattle.isle_ast_names.specs.Tree.{Name}
 use Rattle.isle_ast_rules.specs.Templates.{plug}
-use Rattle.isle_ast_rules.specs.Tree.{Condition, Expression, ExpressionList, LetList, PatternList, PatternNode, RuleDefinition, and_pattern, bind_pattern, bool_expression, constant_expression, int_expression, let_expression, more_expression, more_let, more_pattern, no_expression, no_let, no_pattern, term_expression, term_pattern, var_expression}
+use Rattle.isle_ast_rules.specs.Tree.{Condition, Expression, ExpressionList, LetList, PatternList, PatternNode, RuleDefinition, and_pattern, bind_pattern, bool_expression, constant_expression, int_expression, let_expression, more_expression, more_let, more_pattern, no_expression, no_let, no_pattern, term_expression, term_pattern, var_expression, var_pattern}
 use Rattle.isle_check_signatures.specs.Environment.{EnvironmentNode}
 use Rattle.isle_check_signatures.specs.Signatures.{TermNode}
 use Rattle.isle_check_typing.specs.PatternTypes.{list_list}
@@ -95,3 +95,12 @@ pub data IsExpression (env : EnvironmentNode) (r : RuleDefinition) : Flags → E
   -- the body of a `let`
   of_body : {flags : Flags} {defs : LetList} {body : Expression} {place : Pos} {wanted : Option (List ℕ)} →
       IsExpression env r flags (let_expression defs body place) wanted → IsExpression env r flags body wanted
+
+-- the rule binds a variable of this name, with this type
+pub data BindsVariable (env : EnvironmentNode) (r : RuleDefinition) : (name ty : List ℕ) → Type 0 where
+  by_mention : {var : Name} {place : Pos} {ty : List ℕ} → IsPattern env r (var_pattern var place) ty → BindsVariable env r var.text ty
+  -- a pattern that is named; it is not said which type it has
+  by_name : {var : Name} {p : PatternNode} {place : Pos} {ty : List ℕ} → IsPattern env r (bind_pattern var p place) ty → (found : List ℕ) →
+      BindsVariable env r var.text found
+  by_let : {flags : Flags} {defs : LetList} {body : Expression} {place : Pos} {wanted : Option (List ℕ)} {d : LetVariable} →
+      IsExpression env r flags (let_expression defs body place) wanted → Contains (let_variables defs) d → BindsVariable env r d.var.text d.ty.text
