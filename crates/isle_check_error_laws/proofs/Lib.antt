@@ -15,3 +15,6 @@ pub mod OwnTypes
 pub mod RuleErrors
 pub mod Cycles
 pub mod RecursionErrors
+pub mod Entries
+pub mod Definitions
+pub mod EnvironmentLaws

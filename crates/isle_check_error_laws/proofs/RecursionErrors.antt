@@ -1,5 +1,5 @@
 -- Each recursion that is told is one.
-use Rattle.std.proofs.Common.{◌≡◌, ◌⊎◌, inl, inr, ℕ, zero, suc, ◌+◌, ◌<◌, List, [], ◌∷◌, ◌++◌, map, Bool, true, false, Option, None, Some, Contains, option_map, option_to_list, refl, ap, sym, ◌∙◌, subst, arith, bytes_eq, length, get_or, slice_get, if◌then◌else◌}
+use Rattle.std.proofs.Common.{◌≡◌, ◌⊎◌, inl, inr, ℕ, zero, suc, ◌+◌, ◌<◌, List, [], ◌∷◌, ◌++◌, map, Bool, true, false, Option, None, Some, Contains, option_map, option_to_list, refl, ap, sym, ◌∙◌, subst, arith, length, get_or, slice_get, if◌then◌else◌}
 use Rattle.std.specs.List.{All, flat_map}
 use Rattle.std.proofs.lemmas.List.{length-map}
 use Rattle.std.proofs.lemmas.List.Concat.{flat_map-append}
@@ -11,36 +11,14 @@ use Rattle.isle_ast_rules.specs.Tree.{ExtractorDefinition, PatternNode}
 use Rattle.isle_ast.specs.Tree.{Declaration, Definition, attr, converter, decl, external, extractor, form, instantiation, model, rule, spec, spec_macro, state, type_def}
 use Rattle.isle_check_cycles.specs.Walks.{ends_from}
 use Rattle.isle_check_environment.specs.Parts.{decls_in, extractor_in}
-use Rattle.isle_check_signatures.specs.Entries.{Entry, entry, or_else, value_of}
+use Rattle.isle_check_signatures.specs.Entries.{Entry, entry, value_of}
 use Rattle.isle_check_signatures.specs.Environment.{environment}
 use Rattle.isle_check_signatures.specs.Signatures.{template_entry}
 use Rattle.isle_check_recursion.specs.Recursion.{RecursionNode, endless_walk, last_template, name_of_number, names, number, numbered, recursion, recursion_to, recursions, recursions_from, used_at, uses, uses_of}
 use Rattle.isle_check_error_laws.specs.BrokenRecursions.{AreLinked, HasTemplate, IsBrokenRecursion, UsesTerm, template_of}
+use Rattle.isle_check_error_laws.proofs.Entries.{entry_of, same_some}
 use Rattle.isle_check_error_laws.proofs.Cycles.{ComesAgain, Goes, comes_again}
 use Rattle.isle_check_error_laws.proofs.Lists.{first_or_later, here, in_part, later, no_element, one, only, part_in}
-use Rattle.isle_check_error_laws.proofs.Names.{same_text}
-
--- entries
-
-abbrev IsEntry : {Y : Type 0} → List (Entry Y) → List ℕ → Y → Type 0
-IsEntry {Y = Y} es text y = (e : Entry Y) × Contains es e × (e.text ≡ text) × (e.value ≡ y)
-
-same_some : {Y : Type 0} (x y : Y) → Some x ≡ Some y → x ≡ y
-same_some x y e = cc
-
-entry_first : {Y : Type 0} (e : Entry Y) (es : List (Entry Y)) (text : List ℕ) (y : Y) (b : Bool) → bytes_eq e.text text ≡ b →
-    (if b then Some e.value else None) ≡ Some y → IsEntry (e ∷ es) text y
-entry_first e es text y true is h = (e, here e es, same_text e.text text is, same_some e.value y h)
-entry_first e es text y false is h = cc
-
-entry_by : {Y : Type 0} (e : Entry Y) (es : List (Entry Y)) (text : List ℕ) (y : Y) (o : Option Y) → value_of es text ≡ o →
-    (value_of es text ≡ Some y → IsEntry es text y) → or_else o (if bytes_eq e.text text then Some e.value else None) ≡ Some y → IsEntry (e ∷ es) text y
-entry_by e es text y None is more h = entry_first e es text y (bytes_eq e.text text) refl h
-entry_by e es text y (Some z) is more h = let at = more (is ∙ h) in (at.0, later e es at.0 at.1, at.2, at.3)
-
-entry_of : {Y : Type 0} (es : List (Entry Y)) (text : List ℕ) (y : Y) → value_of es text ≡ Some y → IsEntry es text y
-entry_of [] text y h = cc
-entry_of (e ∷ es) text y h = entry_by e es text y (value_of es text) refl (entry_of es text y) h
 
 -- templates
 

@@ -8,3 +8,4 @@ pub mod BrokenExterns
 pub mod RuleParts
 pub mod BrokenRules
 pub mod BrokenRecursions
+pub mod Environments

@@ -32,7 +32,7 @@ pub record HasRoot (env : EnvironmentNode) (r : RuleDefinition) (name : Name) (a
   pub is_term : r.pattern ≡ term_pattern name args place
   pub is_known : env.terms name.text ≡ Some t
 
--- an expression that may have any type has this one
+-- an expression of which no type is wanted has this one; of a variable it is not said which
 abbrev pub HasOwnType : EnvironmentNode → Expression → (ty : List ℕ) → Type 0
 HasOwnType env (term_expression name _ _) ty = (t : TermNode) × (env.terms name.text ≡ Some t) × (t.ret ≡ ty)
 HasOwnType env (var_expression _ _) ty = Unit {0}
@@ -83,7 +83,7 @@ pub data IsExpression (env : EnvironmentNode) (r : RuleDefinition) : Flags → E
       env.converters t.ret ty ≡ Some converter →
       IsExpression env r flags
       (term_expression (record { text = converter; pos = place }) (more_expression (term_expression name args place) no_expression) place) (Some ty)
-  -- the converter around a variable of another type
+  -- the converter around a variable of another type; it is not said which
   of_converted_variable : {flags : Flags} {name : Name} {place : Pos} {found ty converter : List ℕ} →
       IsExpression env r flags (var_expression name place) (Some ty) → found ≢ ty → env.converters found ty ≡ Some converter →
       IsExpression env r flags

@@ -1,4 +1,4 @@
-//! Laws of the errors of definitions, which run no code.
+//! Laws of the errors of a program, which run no code.
 
 ghost use Rattle.std.specs.Prelude.{◌≡◌, ℕ, [], List, Ok};
 ghost use Rattle.std.specs.List.{All};
@@ -9,7 +9,7 @@ ghost use Rattle.isle_check_extractors.specs.Converters.{converter_faults};
 ghost use Rattle.isle_check_extractors.specs.Externs.{extern_faults};
 ghost use Rattle.isle_check_extractors.specs.Extractors.{extractor_faults};
 ghost use Rattle.isle_check_extractors.specs.Roots.{root_faults};
-ghost use Rattle.isle_check_signatures.specs.Environment.{EnvironmentNode};
+ghost use Rattle.isle_check_signatures.specs.Environment.{EnvironmentNode, environment};
 ghost use Rattle.isle_check_recursion.specs.Recursion.{recursions};
 ghost use Rattle.isle_check_rules.specs.RuleFaults.{rule_faults};
 ghost use Rattle.isle_check_rules.specs.RuleTypes.{RulesTyping};
@@ -21,6 +21,7 @@ ghost use Rattle.isle_check_error_laws.specs.BrokenRoots.{IsBrokenRoot};
 ghost use Rattle.isle_check_error_laws.specs.BrokenRules.{IsBrokenRule};
 ghost use Rattle.isle_check_error_laws.specs.BrokenTerms.{IsBrokenTerm};
 ghost use Rattle.isle_check_error_laws.specs.BrokenTypes.{IsBrokenType};
+ghost use Rattle.isle_check_error_laws.specs.Environments.{IsTrueOf};
 
 /// A law, which runs no code: each error of the types and the constants of a program names what is
 /// wrong there.
@@ -76,4 +77,10 @@ pub fn errors_of_rules_name_broken_rules()
     ensures { (env : EnvironmentNode) (ds : List Definition) (depth : ℕ) (made : RulesTyping)
         → rule_faults depth env ds ≡ Ok made
         → All (λ f. IsBrokenRule env ds f.kind f.pos) made.faults }
+{}
+
+/// A law, which runs no code: what the environment of a program knows is in the program, and what
+/// it does not know is not. So the errors of rules say what they say of the program's definitions.
+pub fn environments_are_true_of_programs()
+    ensures { (ds : List Definition) → IsTrueOf ds (environment ds) }
 {}
