@@ -1,0 +1,11 @@
+pub mod Named
+pub mod BrokenTypes
+pub mod BrokenTerms
+pub mod BrokenRoots
+pub mod BrokenExtractors
+pub mod BrokenConverters
+pub mod BrokenExterns
+pub mod RuleParts
+pub mod BrokenRules
+pub mod BrokenRecursions
+pub mod Environments
