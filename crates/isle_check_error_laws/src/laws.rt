@@ -51,8 +51,8 @@ pub fn errors_of_extractors_name_broken_extractors()
         → All (λ f. IsBrokenExtractor ds f.kind f.pos) (extractor_faults ds) }
 {}
 
-/// A law, which runs no code: each recursion that is told is one. Its terms have internal extractors
-/// each of which uses the next one, and the last one comes twice.
+/// A law, which runs no code: each recursion that is told is one. Its terms have internal
+/// extractors, each of which uses the next one, and the last one comes twice.
 pub fn recursions_name_cycles_of_extractors()
     ensures { (ds : List Definition)
         → All (λ r. IsBrokenRecursion ds r.path r.pos) (recursions ds) }
