@@ -1,33 +1,12 @@
 //! Places and constraints that the tests are given.
 
 use isle_check_places::{Constrained, Constraint, Equality, Place, Step, begin, step_on};
-use isle_check_signatures::{Environment, Term};
+use isle_check_signatures::Environment;
 use std::alloc::{AllocError, Global};
 
-/// Returns a term of so many arguments.
-fn term(alloc: Global, count: usize) -> Result<Term, AllocError> {
-    let mut args = Vec::new(alloc);
-    for _ in 0..count {
-        args.push(String::new(alloc))?;
-    }
-    Ok(Term {
-        args,
-        ret: String::new(alloc),
-        pure: false,
-        multi: false,
-        partial: false,
-        is_variant: false,
-    })
-}
-
-/// Returns an environment in which `f` has so many arguments, `g` two and `h` one.
-pub fn environment<'a>(alloc: Global, count: usize) -> Result<Environment<'a>, AllocError> {
-    let mut env = Environment::new(alloc, &[])?;
-    for (name, count) in [("f", count), ("g", 2), ("h", 1)] {
-        env.terms
-            .insert(String::from_str(alloc, name)?, term(alloc, count)?)?;
-    }
-    Ok(env)
+/// Returns the environment of a program without definitions.
+pub fn environment<'a>(alloc: Global) -> Result<Environment<'a>, AllocError> {
+    Environment::new(alloc, &[])
 }
 
 /// Returns a constraint of an argument.

@@ -10,5 +10,3 @@ mod overlaps;
 mod places;
 #[cfg(test)]
 mod settling;
-#[cfg(test)]
-mod values;

@@ -2,7 +2,7 @@
 
 use crate::given::{argument, environment, equal, integers};
 use isle_base_source::pos::Pos;
-use isle_check_overlaps::{Comparison, Fault, Kind, MOST_TOLD, Matching, Other, compare};
+use isle_check_overlaps::{Comparison, Fault, Kind, Matching, Other, compare};
 use isle_check_places::{Constrained, Constraint, Settled, clashes};
 use std::alloc::{AllocError, Global};
 
@@ -73,7 +73,7 @@ fn overlaps_are_told_as_stars(rt: HostRuntime) -> Result<(), AllocError> {
     rules.push(rule(alloc, 20, 0, integers(alloc, &[1, 2])?)?)?;
     rules.push(rule(alloc, 30, 0, integers(alloc, &[1])?)?)?;
     rules.push(rule(alloc, 40, 0, integers(alloc, &[])?)?)?;
-    let Comparison { faults: found, .. } = compare(alloc, &environment(alloc, 2)?, &rules)?;
+    let Comparison { faults: found, .. } = compare(alloc, &environment(alloc)?, &rules)?;
     assert_eq!(rt; found.len(), 2);
     // The last two overlap with three rules each. Without the later one, the other has two left.
     assert!(rt; is_star(&found[0], 30, &[10, 20]));
@@ -89,7 +89,7 @@ fn more_general_rules_of_a_higher_priority_hide_others(rt: HostRuntime) -> Resul
     rules.push(rule(alloc, 20, 1, integers(alloc, &[])?)?)?;
     rules.push(rule(alloc, 30, 0, integers(alloc, &[2])?)?)?;
     rules.push(rule(alloc, 40, 2, integers(alloc, &[2])?)?)?;
-    let Comparison { faults: found, .. } = compare(alloc, &environment(alloc, 2)?, &rules)?;
+    let Comparison { faults: found, .. } = compare(alloc, &environment(alloc)?, &rules)?;
     assert_eq!(rt; found.len(), 2);
     assert!(rt; is_shadow(&found[0], 20, &[10, 30]));
     assert!(rt; is_shadow(&found[1], 40, &[30]));
@@ -104,7 +104,7 @@ fn rules_with_equal_places_hide_nothing(rt: HostRuntime) -> Result<(), AllocErro
     high.settled = Settled::Settled(Vec::new(alloc), equal);
     let mut rules = vec![in alloc; high]?;
     rules.push(rule(alloc, 20, 0, integers(alloc, &[1, 2])?)?)?;
-    let found = compare(alloc, &environment(alloc, 2)?, &rules)?;
+    let found = compare(alloc, &environment(alloc)?, &rules)?;
     assert!(rt; found.faults.is_empty());
     Ok(())
 }
@@ -118,7 +118,7 @@ fn rules_of_other_terms_are_not_compared(rt: HostRuntime) -> Result<(), AllocErr
     multi.is_multi = true;
     let mut rules = vec![in alloc; other, multi]?;
     rules.push(rule(alloc, 30, 0, Vec::new(alloc))?)?;
-    let found = compare(alloc, &environment(alloc, 2)?, &rules)?;
+    let found = compare(alloc, &environment(alloc)?, &rules)?;
     assert!(rt; found.faults.is_empty());
     Ok(())
 }
@@ -130,7 +130,7 @@ fn a_rule_that_matches_nothing_is_told_alone(rt: HostRuntime) -> Result<(), Allo
     constraints.push(argument(alloc, 0, Constraint::Const("zero"))?)?;
     let mut rules = vec![in alloc; rule(alloc, 10, 0, Vec::new(alloc))?]?;
     rules.push(rule(alloc, 20, 0, constraints)?)?;
-    let Comparison { faults: found, .. } = compare(alloc, &environment(alloc, 2)?, &rules)?;
+    let Comparison { faults: found, .. } = compare(alloc, &environment(alloc)?, &rules)?;
     assert_eq!(rt; found.len(), 1);
     let Kind::TwoConstraints(first, second) = &found[0].kind else {
         assert!(rt; false);
@@ -149,7 +149,7 @@ fn a_part_of_itself_is_a_warning(rt: HostRuntime) -> Result<(), AllocError> {
     let mut unequal = rule(alloc, 20, 0, Vec::new(alloc))?;
     unequal.settled = Settled::Unequal;
     let rules = vec![in alloc; endless, unequal]?;
-    let found = compare(alloc, &environment(alloc, 2)?, &rules)?;
+    let found = compare(alloc, &environment(alloc)?, &rules)?;
     assert_eq!(rt; (found.faults.len(), found.warnings.len()), (1, 1));
     assert!(rt; matches!(&found.faults[0].kind, Kind::UnequalConstraints));
     assert!(rt; matches!(&found.warnings[0].kind, Kind::PartOfItself));
@@ -157,61 +157,5 @@ fn a_part_of_itself_is_a_warning(rt: HostRuntime) -> Result<(), AllocError> {
         (found.faults[0].pos.offset, found.warnings[0].pos.offset),
         (20, 10)
     );
-    Ok(())
-}
-
-#[test]
-fn an_overlap_is_told_with_a_value_that_both_match(rt: HostRuntime) -> Result<(), AllocError> {
-    let alloc = rt.alloc();
-    let mut rules = vec![in alloc; rule(alloc, 10, 0, integers(alloc, &[1])?)?]?;
-    let second = vec![in alloc; argument(alloc, 1, Constraint::Int(2))?]?;
-    rules.push(rule(alloc, 20, 0, second)?)?;
-    let Comparison { faults: found, .. } = compare(alloc, &environment(alloc, 2)?, &rules)?;
-    let Kind::Overlaps(others, 0) = &found[0].kind else {
-        assert!(rt; false);
-        return Ok(());
-    };
-    assert_eq!(rt; others[0].value.text.as_str(), "(f 1 2)");
-    assert!(rt; others[0].value.is_sure);
-    Ok(())
-}
-
-#[test]
-fn a_value_of_equal_places_is_not_sure(rt: HostRuntime) -> Result<(), AllocError> {
-    let alloc = rt.alloc();
-    let mut same = rule(alloc, 10, 0, Vec::new(alloc))?;
-    let equal = vec![in alloc; equal(alloc, 0, 1)?]?;
-    same.settled = Settled::Settled(Vec::new(alloc), equal);
-    let mut rules = vec![in alloc; same]?;
-    rules.push(rule(alloc, 20, 0, integers(alloc, &[1, 2])?)?)?;
-    let Comparison { faults: found, .. } = compare(alloc, &environment(alloc, 2)?, &rules)?;
-    let Kind::Overlaps(others, 0) = &found[0].kind else {
-        assert!(rt; false);
-        return Ok(());
-    };
-    assert_eq!(rt; others[0].value.text.as_str(), "(f 1 2)");
-    assert!(rt; !others[0].value.is_sure);
-    Ok(())
-}
-
-#[test]
-fn ten_of_the_others_are_told(rt: HostRuntime) -> Result<(), AllocError> {
-    let alloc = rt.alloc();
-    let mut rules = vec![in alloc; rule(alloc, 0, 1, Vec::new(alloc))?]?;
-    for offset in 1..13 {
-        rules.push(rule(alloc, offset, 0, integers(alloc, &[])?)?)?;
-    }
-    let Comparison { faults: found, .. } = compare(alloc, &environment(alloc, 2)?, &rules)?;
-    let Kind::Shadows(hidden, left_out) = &found[0].kind else {
-        assert!(rt; false);
-        return Ok(());
-    };
-    assert_eq!(rt; (hidden.len(), *left_out), (MOST_TOLD, 2));
-    // The last rule overlaps with the eleven before it.
-    let Kind::Overlaps(others, left_out) = &found[found.len() - 1].kind else {
-        assert!(rt; false);
-        return Ok(());
-    };
-    assert_eq!(rt; (others.len(), *left_out), (MOST_TOLD, 1));
     Ok(())
 }
