@@ -1,13 +1,7 @@
 //! Places and constraints that the tests are given.
 
 use isle_check_places::{Constrained, Constraint, Equality, Place, Step, begin, step_on};
-use isle_check_signatures::Environment;
 use std::alloc::{AllocError, Global};
-
-/// Returns the environment of a program without definitions.
-pub fn environment<'a>(alloc: Global) -> Result<Environment<'a>, AllocError> {
-    Environment::new(alloc, &[])
-}
 
 /// Returns a constraint of an argument.
 pub fn argument<'a>(

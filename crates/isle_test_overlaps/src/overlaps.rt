@@ -1,9 +1,10 @@
 //! Tests of rules beside one another.
 
-use crate::given::{argument, environment, equal, integers};
+use crate::given::{argument, equal, integers};
 use isle_base_source::pos::Pos;
 use isle_check_overlaps::{Comparison, Fault, Kind, Matching, Other, compare};
 use isle_check_places::{Constrained, Constraint, Settled, clashes};
+use isle_check_signatures::Environment;
 use std::alloc::{AllocError, Global};
 
 /// Returns what a rule of `f` at an offset matches.
@@ -23,6 +24,13 @@ fn rule<'a>(
         clashes,
         settled,
     })
+}
+
+/// Compares rules, in a program without definitions. The environment is made and dropped here, since
+/// each exit of a function that holds it makes its proof dearer.
+fn compared(alloc: Global, rules: &[Matching]) -> Result<Comparison, AllocError> {
+    let env = Environment::new(alloc, &[])?;
+    compare(alloc, &env, rules)
 }
 
 /// Returns whether rules at these offsets overlap with the rule at the first one.
@@ -73,7 +81,7 @@ fn overlaps_are_told_as_stars(rt: HostRuntime) -> Result<(), AllocError> {
     rules.push(rule(alloc, 20, 0, integers(alloc, &[1, 2])?)?)?;
     rules.push(rule(alloc, 30, 0, integers(alloc, &[1])?)?)?;
     rules.push(rule(alloc, 40, 0, integers(alloc, &[])?)?)?;
-    let Comparison { faults: found, .. } = compare(alloc, &environment(alloc)?, &rules)?;
+    let Comparison { faults: found, .. } = compared(alloc, &rules)?;
     assert_eq!(rt; found.len(), 2);
     // The last two overlap with three rules each. Without the later one, the other has two left.
     assert!(rt; is_star(&found[0], 30, &[10, 20]));
@@ -89,7 +97,7 @@ fn more_general_rules_of_a_higher_priority_hide_others(rt: HostRuntime) -> Resul
     rules.push(rule(alloc, 20, 1, integers(alloc, &[])?)?)?;
     rules.push(rule(alloc, 30, 0, integers(alloc, &[2])?)?)?;
     rules.push(rule(alloc, 40, 2, integers(alloc, &[2])?)?)?;
-    let Comparison { faults: found, .. } = compare(alloc, &environment(alloc)?, &rules)?;
+    let Comparison { faults: found, .. } = compared(alloc, &rules)?;
     assert_eq!(rt; found.len(), 2);
     assert!(rt; is_shadow(&found[0], 20, &[10, 30]));
     assert!(rt; is_shadow(&found[1], 40, &[30]));
@@ -104,7 +112,7 @@ fn rules_with_equal_places_hide_nothing(rt: HostRuntime) -> Result<(), AllocErro
     high.settled = Settled::Settled(Vec::new(alloc), equal);
     let mut rules = vec![in alloc; high]?;
     rules.push(rule(alloc, 20, 0, integers(alloc, &[1, 2])?)?)?;
-    let found = compare(alloc, &environment(alloc)?, &rules)?;
+    let found = compared(alloc, &rules)?;
     assert!(rt; found.faults.is_empty());
     Ok(())
 }
@@ -118,7 +126,7 @@ fn rules_of_other_terms_are_not_compared(rt: HostRuntime) -> Result<(), AllocErr
     multi.is_multi = true;
     let mut rules = vec![in alloc; other, multi]?;
     rules.push(rule(alloc, 30, 0, Vec::new(alloc))?)?;
-    let found = compare(alloc, &environment(alloc)?, &rules)?;
+    let found = compared(alloc, &rules)?;
     assert!(rt; found.faults.is_empty());
     Ok(())
 }
@@ -130,7 +138,7 @@ fn a_rule_that_matches_nothing_is_told_alone(rt: HostRuntime) -> Result<(), Allo
     constraints.push(argument(alloc, 0, Constraint::Const("zero"))?)?;
     let mut rules = vec![in alloc; rule(alloc, 10, 0, Vec::new(alloc))?]?;
     rules.push(rule(alloc, 20, 0, constraints)?)?;
-    let Comparison { faults: found, .. } = compare(alloc, &environment(alloc)?, &rules)?;
+    let Comparison { faults: found, .. } = compared(alloc, &rules)?;
     assert_eq!(rt; found.len(), 1);
     let Kind::TwoConstraints(first, second) = &found[0].kind else {
         assert!(rt; false);
@@ -149,7 +157,7 @@ fn a_part_of_itself_is_a_warning(rt: HostRuntime) -> Result<(), AllocError> {
     let mut unequal = rule(alloc, 20, 0, Vec::new(alloc))?;
     unequal.settled = Settled::Unequal;
     let rules = vec![in alloc; endless, unequal]?;
-    let found = compare(alloc, &environment(alloc)?, &rules)?;
+    let found = compared(alloc, &rules)?;
     assert_eq!(rt; (found.faults.len(), found.warnings.len()), (1, 1));
     assert!(rt; matches!(&found.faults[0].kind, Kind::UnequalConstraints));
     assert!(rt; matches!(&found.warnings[0].kind, Kind::PartOfItself));
