@@ -1,8 +1,7 @@
 //! Copies of nodes, and comparisons with other nodes.
 
-use crate::nodes::{condition, extractor, macro_arg, rule, term, wildcard};
 use crate::trees::{drop_definitions, parsed};
-use isle_syntax::ast::{Def, Pattern, SpecExpr};
+use isle_syntax::ast::{Def, SpecExpr};
 use isle_syntax::lexer::Fault;
 use std::alloc::{AllocError, Global};
 
@@ -66,29 +65,4 @@ pub fn differ_from(alloc: Global, defs: &Vec<Def>, file: usize, text: &str) -> R
     let differ = others != *defs;
     drop_definitions(others);
     Ok(differ)
-}
-
-/// Returns whether a macro's argument is found in a pattern, in a condition with the other pattern,
-/// and in a rule of both.
-fn found(alloc: Global, pattern: Pattern, other: Pattern) -> Result<[bool; 3], AllocError> {
-    let iflet = condition(other);
-    let (in_pattern, in_condition) = (pattern.has_macro_arg(), iflet.has_macro_arg());
-    let rule = rule(alloc, pattern, iflet)?;
-    Ok([in_pattern, in_condition, rule.has_macro_arg()])
-}
-
-/// The same for an argument in neither, in the pattern alone, and in the condition alone.
-pub fn arguments_in_rules(alloc: Global) -> Result<[[bool; 3]; 3], AllocError> {
-    let none = found(alloc, wildcard(), wildcard())?;
-    let in_pattern = found(alloc, term(alloc, "B", macro_arg())?, wildcard())?;
-    let in_condition = found(alloc, wildcard(), term(alloc, "B", macro_arg())?)?;
-    Ok([none, in_pattern, in_condition])
-}
-
-/// Returns whether a macro's argument is found in an extractor, and in its definition.
-pub fn argument_in_extractor(alloc: Global) -> Result<[bool; 2], AllocError> {
-    let extractor = extractor(alloc, macro_arg())?;
-    let in_extractor = extractor.has_macro_arg();
-    let def = Def::Extractor(extractor);
-    Ok([in_extractor, def.has_macro_arg()])
 }

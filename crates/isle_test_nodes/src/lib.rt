@@ -4,6 +4,7 @@
 //! dropped. So test crates pass trees to the calls of `trees` instead.
 #![tactic(auto)]
 
+pub mod arguments;
 pub mod copies;
 pub mod nodes;
 pub mod parts;

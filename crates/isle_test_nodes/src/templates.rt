@@ -1,6 +1,6 @@
 //! Templates of macros, and patterns put in for their arguments.
 
-use crate::nodes::{ident, macro_arg, pos, term, wildcard};
+use crate::nodes::{ident, wildcard};
 use crate::trees::{drop_definitions, drop_pattern, parsed};
 use isle_syntax::ast::{Def, Ident, Pattern};
 use isle_syntax::lexer::{Fault, Pos};
@@ -23,7 +23,7 @@ fn pattern(alloc: Global, text: &str) -> Result<Pattern, Fault> {
 }
 
 /// The names in a text, separated by blanks.
-fn names(alloc: Global, text: &str) -> Result<Vec<Ident>, AllocError> {
+pub fn names(alloc: Global, text: &str) -> Result<Vec<Ident>, AllocError> {
     let mut names = Vec::new(alloc);
     for word in text.split(' ') {
         names.push(ident(alloc, word)?)?;
@@ -32,7 +32,7 @@ fn names(alloc: Global, text: &str) -> Result<Vec<Ident>, AllocError> {
 }
 
 /// The template of a pattern; a failure if the pattern holds the argument of a macro.
-fn filled(alloc: Global, pattern: &Pattern, names: &[Ident]) -> Result<Pattern, Fault> {
+pub fn filled(alloc: Global, pattern: &Pattern, names: &[Ident]) -> Result<Pattern, Fault> {
     if pattern.has_macro_arg() {
         return Err(Fault::Failed);
     }
@@ -66,6 +66,19 @@ fn patterns(alloc: Global, texts: &[String]) -> Result<Vec<Pattern>, Fault> {
     Ok(patterns)
 }
 
+/// The template of a pattern's text with patterns put in; `None` if there are too few of them.
+fn put_in(
+    alloc: Global,
+    text: &str,
+    params: &str,
+    args: &[Pattern],
+) -> Result<Option<Pattern>, Fault> {
+    let template = template(alloc, text, params)?;
+    let put_in = template.subst_macro_args(alloc, args);
+    drop_pattern(template);
+    Ok(put_in?)
+}
+
 /// The print of the template of a pattern's text with patterns put in; `None` if there are too few
 /// of them, or the result has no print.
 pub fn substituted(
@@ -75,10 +88,7 @@ pub fn substituted(
     args: &[String],
 ) -> Result<Option<String>, Fault> {
     let args = patterns(alloc, args)?;
-    let template = template(alloc, text, params)?;
-    let put_in = template.subst_macro_args(alloc, &args);
-    drop_pattern(template);
-    match put_in? {
+    match put_in(alloc, text, params, &args)? {
         Some(pattern) => {
             let text = print_node(alloc, &pattern, usize::MAX).ok();
             drop_pattern(pattern);
@@ -88,56 +98,80 @@ pub fn substituted(
     }
 }
 
-/// Adds a template with a wildcard put in, as Debug shows it.
-fn put_in_wildcard(alloc: Global, template: &Pattern, out: &mut String) -> Result<(), Fault> {
-    let args = vec![in alloc; wildcard()]?;
-    let put_in = template.subst_macro_args(alloc, &args)?;
-    let words = format!(in alloc; "{put_in:?}\n");
+/// Adds a template, and the template with patterns put in, as Debug shows them.
+fn put_both(
+    alloc: Global,
+    template: &Pattern,
+    args: &[Pattern],
+    out: &mut String,
+) -> Result<(), Fault> {
+    let put_in = template.subst_macro_args(alloc, args)?;
+    let words = format!(in alloc; "{template:?}\n{put_in:?}\n");
     drop(put_in);
     Ok(out.push_str(&words?)?)
 }
 
-/// Adds a pattern's template for the name `x`, and the template with a wildcard put in, as Debug
-/// shows them.
-fn put_template(alloc: Global, pattern: &Pattern, out: &mut String) -> Result<(), Fault> {
-    let names = vec![in alloc; ident(alloc, "x")?]?;
-    let template = filled(alloc, pattern, &names)?;
-    let words = format!(in alloc; "{template:?}\n")?;
-    out.push_str(&words)?;
-    put_in_wildcard(alloc, &template, out)
-}
-
 /// Adds the same for the template of each extractor.
-pub fn put_templates(alloc: Global, defs: &[Def], out: &mut String) -> Result<(), Fault> {
+fn put_each(
+    alloc: Global,
+    defs: &[Def],
+    names: &[Ident],
+    args: &[Pattern],
+    out: &mut String,
+) -> Result<(), Fault> {
     for def in defs {
         if let Def::Extractor(extractor) = def {
-            put_template(alloc, &extractor.template, out)?;
+            let template = filled(alloc, &extractor.template, names)?;
+            let put = put_both(alloc, &template, args, out);
+            drop_pattern(template);
+            put?;
         }
     }
     Ok(())
 }
 
-/// Returns whether the name `x` becomes the argument of a macro.
-pub fn becomes_an_argument(alloc: Global) -> Result<bool, AllocError> {
-    let names = vec![in alloc; ident(alloc, "x")?]?;
-    let x = Pattern::Var {
-        var: ident(alloc, "x")?,
-        pos: pos(),
-    };
-    let template = x.make_macro_template(alloc, &names)?;
-    Ok(template == macro_arg())
+/// Adds the template of each extractor for the name `x`, and the same with a wildcard put in, as
+/// Debug shows them.
+pub fn put_templates(alloc: Global, defs: &[Def], out: &mut String) -> Result<(), Fault> {
+    let args = vec![in alloc; wildcard()]?;
+    let names = names(alloc, "x")?;
+    put_each(alloc, defs, &names, &args, out)
+}
+
+/// Returns whether the name `x` becomes the argument of a macro, at its place.
+pub fn becomes_an_argument(alloc: Global) -> Result<bool, Fault> {
+    let template = template(alloc, "x", "x")?;
+    let want = Pos::new(0, 15);
+    let answer = matches!(&template, Pattern::MacroArg { index: 0, pos } if *pos == want);
+    drop_pattern(template);
+    Ok(answer)
+}
+
+/// Returns whether a pattern is the term `B` of these parts, at the place of a template.
+fn is_term_of(pattern: &Pattern, parts: &Vec<Pattern>) -> bool {
+    match pattern {
+        Pattern::Term { sym, args, pos } => {
+            let is_placed = *pos == Pos::new(0, 15) && sym.1 == Pos::new(0, 16);
+            is_placed && sym.0.as_str() == "B" && args == parts
+        }
+        _ => false,
+    }
 }
 
 /// Returns whether `subst_macro_args` leaves a pattern that it has put in as it is, even the
 /// argument of a macro.
-pub fn stays_put_in(alloc: Global) -> Result<bool, AllocError> {
+pub fn stays_put_in(alloc: Global) -> Result<bool, Fault> {
     let arg = Pattern::MacroArg {
         index: 5,
         pos: Pos::new(3, 7),
     };
-    let args = vec![in alloc; arg.clone()?]?;
-    let template = term(alloc, "B", macro_arg())?;
-    let put_in = template.subst_macro_args(alloc, &args)?;
-    let want = term(alloc, "B", arg)?;
-    Ok(put_in == Some(want))
+    let args = vec![in alloc; arg]?;
+    match put_in(alloc, "(B x)", "x", &args)? {
+        Some(pattern) => {
+            let answer = is_term_of(&pattern, &args);
+            drop_pattern(pattern);
+            Ok(answer)
+        }
+        None => Ok(false),
+    }
 }

@@ -1,10 +1,10 @@
 //! Tests of the printer with S-expressions of a caller's own, and with nodes that no text leads to.
 
 use crate::answers::is_text;
+use isle_syntax::lexer::Fault;
 use isle_syntax::printer::{PrintFault, SExpr, ToSExpr, print_node};
-use isle_test_nodes::prints::{
-    condition_is_list, conversion_is_list, print_of_bits, print_of_rules, refused_for_arguments,
-};
+use isle_test_nodes::arguments::{print_of_rules, refused_for_arguments};
+use isle_test_nodes::prints::{is_list, print_of_bits};
 use std::alloc::{AllocError, Global};
 
 /// A node of a caller's own that holds its S-expression.
@@ -75,8 +75,9 @@ fn lays_out_empty_lists(rt: HostRuntime) {
 }
 
 /// Returns whether the S-expression of a conversion is the list of its words.
-fn is_conversion(alloc: Global) -> Result<bool, PrintFault> {
-    conversion_is_list(alloc, &atoms(alloc, &["convert", "A", "B", "c"])?)
+fn is_conversion(alloc: Global) -> Result<bool, Fault> {
+    let want = atoms(alloc, &["convert", "A", "B", "c"])?;
+    is_list(alloc, "(convert A B c)", &want)
 }
 
 #[test]
@@ -84,8 +85,9 @@ fn an_s_expression_of_a_conversion(rt: HostRuntime) {
     assert!(rt; matches!(is_conversion(rt.alloc()), Ok(true)));
 }
 
-fn is_condition(alloc: Global) -> Result<bool, PrintFault> {
-    condition_is_list(alloc, &atoms(alloc, &["if-let", "_", "true"])?)
+fn is_condition(alloc: Global) -> Result<bool, Fault> {
+    let want = atoms(alloc, &["if-let", "_", "true"])?;
+    is_list(alloc, "(rule r 0 _ (if-let _ true) e)", &want)
 }
 
 #[test]
