@@ -21,6 +21,14 @@ def arguments(text, least, most):
     return given
 
 
+def programs(given, built):
+    """The programs that a script runs: those that it is given, and then those that are built. One that is given must be there."""
+    for it in given:
+        if not os.access(it, os.X_OK):
+            reject(f"no program '{it}'")
+    return [os.path.realpath(it) for it in [*given, *built[len(given) :]]]
+
+
 def reject(why):
     """Ends the script, which is called in another way than its help says."""
     name = os.path.basename(sys.argv[0])
