@@ -104,10 +104,13 @@ Errors of rules beside one another:
 Warnings:
   duplicate-constant             a constant is declared twice, and its last type counts
   extractor-parameters           an extractor has more or fewer parameters than its term arguments
+  endless-conversion             a conversion of types does not come to an end
   dropped-pattern                a pattern's extractor has a parameter without an argument
   condition-without-constructor  a term in a condition has no constructor
   multi-extractor                a multi extractor is used in a rule of a term that is not multi
   part-of-itself                 a rule would match a value that is a part of itself
+  shadow-with-equal-values       a rule matches all that others of lower priorities match, which
+                                 ask for equal values
 
 Exit status:
   0  no error was found

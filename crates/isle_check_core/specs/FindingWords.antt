@@ -5,7 +5,7 @@ use Rattle.isle_base_source.specs.declared.pos.Pos.{Pos}
 use Rattle.isle_ast_names.specs.Tree.{Name}
 use Rattle.isle_check_messages.specs.DeclarationWords.{declaration_words}
 use Rattle.isle_check_rules.specs.Warnings as warned
-use Rattle.isle_check_core.specs.Findings.{FindingNode, KindNode, declaration, recursive_extractor, rule, deep_rule, overlap, constant_again, parameter_count, rule_warning}
+use Rattle.isle_check_core.specs.Findings.{FindingNode, KindNode, declaration, recursive_extractor, rule, deep_rule, overlap, constant_again, parameter_count, endless_conversion, rule_warning}
 use Rattle.isle_check_messages.specs.RuleWords.{rule_words}
 use Rattle.isle_check_messages.specs.Notes.{NoteNode, overlap_notes}
 use Rattle.isle_check_messages.specs.OverlapWords.{overlap_words}
@@ -44,6 +44,8 @@ kind_words (constant_again name) =
 kind_words (parameter_count extractor parameters arguments) =
     words (codes "extractor-parameters")
     (codes "Extractor of '" ++ extractor.text ++ codes "' has " ++ decimal parameters ++ codes " parameters, but the term " ++ decimal arguments ++ codes " arguments")
+kind_words (endless_conversion inner outer) =
+    words (codes "endless-conversion") (codes "Conversion from '" ++ inner.text ++ codes "' to '" ++ outer.text ++ codes "' does not come to an end")
 kind_words (rule_warning kind) = warning_words kind
 
 abbrev pub kind_notes : Pos → KindNode → List NoteNode

@@ -4,7 +4,8 @@ use Rattle.std.specs.List.{flat_map, list_any}
 use Rattle.isle_base_source.specs.declared.pos.Pos.{Pos}
 use Rattle.isle_ast_names.specs.Tree.{Name}
 use Rattle.isle_ast_rules.specs.Tree.{ExtractorDefinition}
-use Rattle.isle_ast.specs.Tree.{Definition}
+use Rattle.isle_ast.specs.Tree.{Conversion, Definition}
+use Rattle.isle_check_conversions.specs.Conversions.{endless_conversions}
 use Rattle.isle_check_environment.specs.Names.{has}
 use Rattle.isle_check_environment.specs.Parts.{ConstantNode, constants_in, extractors_in, rules_in}
 use Rattle.isle_check_declarations.specs.Faults as declarations
@@ -27,7 +28,8 @@ use Rattle.isle_check_matchings.specs.Matchings.{rule_overlaps}
 use Rattle.isle_check_overlaps.specs.Faults as overlapping
 
 -- an error of a declaration, that an extractor uses itself, an error of a rule, that a rule is too deep to be checked, or an error of rules
--- beside one another; or a warning: a constant is declared again, an extractor has another number of parameters than its term has arguments, or one of rules
+-- beside one another; or a warning: a constant is declared again, an extractor has another number of parameters than its term has arguments, a
+-- conversion does not come to an end, or one of rules
 pub data KindNode : Type 0 where
   declaration : declarations.KindNode → KindNode
   recursive_extractor : (path : List Name) → KindNode
@@ -36,6 +38,7 @@ pub data KindNode : Type 0 where
   overlap : overlapping.KindNode → KindNode
   constant_again : Name → KindNode
   parameter_count : (extractor : Name) → (parameters arguments : ℕ) → KindNode
+  endless_conversion : (inner outer : Name) → KindNode
   rule_warning : warned.WarningKindNode → KindNode
 
 -- upstream leaves out a pattern whose extractor has a parameter without an argument, and tells no error
@@ -43,9 +46,11 @@ abbrev pub is_rule_error : typing.KindNode → Bool
 is_rule_error (typing.parameter_without_argument _) = false
 is_rule_error _ = true
 
--- upstream ends without an error, or does not end, where a value would be a part of itself
+-- upstream ends without an error, or does not end, where a value would be a part of itself; and it fails later where a rule hides others with
+-- equal values
 abbrev pub is_overlap_error : overlapping.KindNode → Bool
 is_overlap_error overlapping.part_of_itself = false
+is_overlap_error (overlapping.shadows_with_equals _ _) = false
 is_overlap_error _ = true
 
 abbrev pub is_error : KindNode → Bool
@@ -56,6 +61,7 @@ is_error deep_rule = true
 is_error (overlap kind) = is_overlap_error kind
 is_error (constant_again _) = false
 is_error (parameter_count _ _ _) = false
+is_error (endless_conversion _ _) = false
 is_error (rule_warning _) = false
 
 pub record FindingNode : Type 0 where
@@ -109,12 +115,20 @@ wrong_count (Some t) x =
 abbrev pub wrong_counts : EnvironmentNode → List ExtractorDefinition → List FindingNode
 wrong_counts env xs = flat_map (λ x. wrong_count (env.terms x.term.text) x) xs
 
+abbrev pub of_converter : Conversion → FindingNode
+of_converter c = finding (endless_conversion c.inner_ty c.outer_ty) c.pos
+
+-- each conversion comes to an end
+abbrev pub endless_converters : EnvironmentNode → List Definition → List FindingNode
+endless_converters env ds = map of_converter (endless_conversions env.terms ds)
+
 abbrev pub warnings : EnvironmentNode → List TypedRuleNode → List Definition → List FindingNode
 warnings env rules ds =
     doubled_constants [] (constants_in ds)
     ++ (wrong_counts env (extractors_in ds)
+    ++ (endless_converters env ds
     ++ (map of_warning (warned.conditions_without_constructor env (rules_in ds))
-    ++ map of_warning (warned.multi_extractors env rules)))
+    ++ map of_warning (warned.multi_extractors env rules))))
 
 abbrev pub has_error : List FindingNode → Bool
 has_error fs = list_any (λ f. is_error f.kind) fs
@@ -136,9 +150,9 @@ rule_depth = 500
 
 abbrev pub of_rules : EnvironmentNode → List Definition → Result RulesTyping Pos → List FindingNode
 of_rules env ds (Ok made) = with_later (map of_rule_fault made.faults) (after_rules env made.typed ds)
-of_rules env ds (Err place) = finding deep_rule place ∷ []
+of_rules env ds (Err place) = finding deep_rule place ∷ endless_converters env ds
 
--- the errors of rules, or the first rule that is too deep; and warnings where there is no error
+-- the errors of rules, or the first rule that is too deep with the conversions that may make it so; and warnings where there is no error
 abbrev pub rule_findings_by : EnvironmentNode → List Definition → List FindingNode
 rule_findings_by env ds = of_rules env ds (rule_faults rule_depth env ds)
 

@@ -60,7 +60,7 @@ is_overlap_kind text = bytes_eq text (codes "unreachable-rule") || (bytes_eq tex
 
 -- the kinds of warnings
 abbrev pub is_warning_kind : List ℕ → Bool
-is_warning_kind text = bytes_eq text (codes "duplicate-constant") || (bytes_eq text (codes "extractor-parameters") || (bytes_eq text (codes "dropped-pattern") || (bytes_eq text (codes "condition-without-constructor") || (bytes_eq text (codes "multi-extractor") || bytes_eq text (codes "part-of-itself")))))
+is_warning_kind text = bytes_eq text (codes "duplicate-constant") || (bytes_eq text (codes "extractor-parameters") || (bytes_eq text (codes "dropped-pattern") || (bytes_eq text (codes "condition-without-constructor") || (bytes_eq text (codes "multi-extractor") || (bytes_eq text (codes "part-of-itself") || (bytes_eq text (codes "shadow-with-equal-values") || bytes_eq text (codes "endless-conversion")))))))
 
 -- a text is the name of a kind
 abbrev pub is_kind : List ℕ → Bool

@@ -19,6 +19,7 @@ node_of kinds.DeepRule = nodes.deep_rule
 node_of (kinds.Overlap kind) = nodes.overlap (overlaps.kind_of kind)
 node_of (kinds.ConstantAgain name) = nodes.constant_again (name_of name.now)
 node_of (kinds.ParameterCount extractor parameters arguments) = nodes.parameter_count (name_of extractor.now) parameters arguments
+node_of (kinds.EndlessConversion inner outer) = nodes.endless_conversion (name_of inner.now) (name_of outer.now)
 node_of (kinds.RuleWarning kind) = nodes.rule_warning (warning_kind_of kind)
 
 abbrev pub finding_of : Finding → nodes.FindingNode

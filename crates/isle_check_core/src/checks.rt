@@ -4,7 +4,7 @@ ghost use Rattle.std.specs.Prelude.{◌≡◌, ◌++◌, ◌∷◌, [], IfOk, Ok
 ghost use Rattle.isle_ast.specs.MacroArgs.{definitions_have_macro_arg};
 ghost use Rattle.isle_ast.specs.TreeView.{definitions_of};
 ghost use Rattle.isle_check_core.specs.Findings.{after_rules, deep_rule, finding, findings};
-ghost use Rattle.isle_check_core.specs.Findings.{has_error, of_overlap};
+ghost use Rattle.isle_check_core.specs.Findings.{endless_converters, has_error, of_overlap};
 ghost use Rattle.isle_check_core.specs.Findings.{later_findings, of_faults, of_recursion};
 ghost use Rattle.isle_check_core.specs.Findings.{of_rule_fault, of_rules, root_errors};
 ghost use Rattle.isle_check_core.specs.Findings.{root_findings, rule_findings, rule_findings_by};
@@ -18,7 +18,7 @@ ghost use Rattle.isle_check_signatures.specs.Views.{environment_of};
 ghost use Rattle.isle_check_typing.specs.Views as typing;
 
 use crate::finding::{Finding, Kind};
-use crate::warnings::add_warnings;
+use crate::warnings::{add_endless_converters, add_warnings};
 use isle_ast::ast::{Def, Ident};
 use isle_base::lexer::Pos;
 use isle_check_declarations::{Fault, term_faults, type_faults};
@@ -130,7 +130,7 @@ fn rule_findings_by<'a>(
 {
     match rule_faults(alloc, RULE_DEPTH, env, defs) {
         Ok(made) => of_typing(alloc, env, made, defs),
-        Err(RuleRefusal::TooDeep(pos)) => deep_rule(alloc, pos),
+        Err(RuleRefusal::TooDeep(pos)) => deep_rule(alloc, env, pos, defs),
         Err(RuleRefusal::Memory) => Err(AllocError),
     }
 }
@@ -217,15 +217,22 @@ fn has_error(found: &[Finding]) -> bool
     false
 }
 
-fn deep_rule<'a>(alloc: Global, pos: Pos) -> Result<Vec<Finding<'a>>, AllocError>
-    ensures { IfOk result
-        (λ found. findings_of found.items ≡ finding deep_rule pos ∷ []) }
+/// Returns the rule that is too deep, and the conversions that may make it so.
+fn deep_rule<'a>(
+    alloc: Global,
+    env: &Environment,
+    pos: Pos,
+    defs: &'a [Def],
+) -> Result<Vec<Finding<'a>>, AllocError>
+    ensures { IfOk result (λ found. findings_of found.items ≡ finding deep_rule pos
+        ∷ endless_converters (environment_of env.now) (definitions_of defs.now)) }
 {
     let mut found = Vec::new(alloc);
     found.push(Finding {
         kind: Kind::DeepRule,
         pos,
     })?;
+    add_endless_converters(alloc, env, defs, &mut found)?;
     Ok(found)
 }
 

@@ -61,10 +61,10 @@ pub enum Kind<'a> {
     Rule(isle_check_typing::Kind),
     /// An error: more than 500 patterns or expressions of a rule lie in one another once templates
     /// are filled and conversions are written out. It is the first such rule, and no rule is
-    /// checked.
+    /// checked. Behind it come the conversions that do not come to an end.
     DeepRule,
-    /// An error of rules beside one another, except for `PartOfItself`, which is a warning: upstream
-    /// ends without an error, or does not end.
+    /// An error of rules beside one another, except for `PartOfItself` and `ShadowsWithEquals`,
+    /// which are warnings: upstream ends without an error, does not end, or fails later.
     Overlap(isle_check_overlaps::Kind),
     /// A warning: a constant is already declared.
     ConstantAgain(&'a Ident),
@@ -78,6 +78,8 @@ pub enum Kind<'a> {
         /// The number of arguments that are declared.
         arguments: usize,
     },
+    /// A warning: the conversion of the first type to the second one does not come to an end.
+    EndlessConversion(&'a Ident, &'a Ident),
     /// A warning of a rule.
     RuleWarning(WarningKind),
 }
@@ -91,7 +93,10 @@ impl<'a> Kind<'a> {
             Kind::Declaration(_) | Kind::RecursiveExtractor(_) | Kind::DeepRule => true,
             Kind::Rule(kind) => is_rule_error(kind),
             Kind::Overlap(kind) => is_overlap_error(kind),
-            Kind::ConstantAgain(_) | Kind::ParameterCount { .. } | Kind::RuleWarning(_) => false,
+            Kind::ConstantAgain(_)
+            | Kind::ParameterCount { .. }
+            | Kind::EndlessConversion(..)
+            | Kind::RuleWarning(_) => false,
         }
     }
 
@@ -116,6 +121,15 @@ impl<'a> Kind<'a> {
                 parameters,
                 arguments,
             } => count_words(alloc, extractor, *parameters, *arguments),
+            Kind::EndlessConversion(inner, outer) => about_two(
+                alloc,
+                "endless-conversion",
+                "Conversion from '",
+                inner.0.as_str(),
+                "' to '",
+                outer.0.as_str(),
+                "' does not come to an end",
+            ),
             Kind::RuleWarning(kind) => warning_words(alloc, kind),
         }
     }
@@ -132,7 +146,10 @@ fn is_rule_error(kind: &isle_check_typing::Kind) -> bool
 fn is_overlap_error(kind: &isle_check_overlaps::Kind) -> bool
     ensures { result ≡ is_overlap_error (overlaps.kind_of kind.now) }
 {
-    !matches!(kind, isle_check_overlaps::Kind::PartOfItself)
+    !matches!(
+        kind,
+        isle_check_overlaps::Kind::PartOfItself | isle_check_overlaps::Kind::ShadowsWithEquals(..)
+    )
 }
 
 fn recursion_words(alloc: Global, path: &[&Ident]) -> Result<Words, AllocError>

@@ -154,4 +154,6 @@ fn is_warning_kind(text: &str) -> bool
         || text == "condition-without-constructor"
         || text == "multi-extractor"
         || text == "part-of-itself"
+        || text == "shadow-with-equal-values"
+        || text == "endless-conversion"
 }

@@ -4,16 +4,19 @@ ghost use Rattle.std.specs.Prelude.{◌≡◌, ◌++◌, [], List, OnOk, map, op
 ghost use Rattle.isle_ast.specs.TreeView.{definitions_of};
 ghost use Rattle.isle_ast_names.specs.Tree.{Name};
 ghost use Rattle.isle_ast_rules.specs.TreeView.{extractor_of};
-ghost use Rattle.isle_check_core.specs.Findings.{doubled_constant, doubled_constants, of_warning};
+ghost use Rattle.isle_check_core.specs.Findings.{doubled_constant, doubled_constants};
+ghost use Rattle.isle_check_core.specs.Findings.{endless_converters, of_converter, of_warning};
 ghost use Rattle.isle_check_core.specs.Findings.{warnings, wrong_count, wrong_counts};
 ghost use Rattle.isle_check_core.specs.Views.{findings_of};
 ghost use Rattle.isle_check_environment.specs.Names.{Knows};
-ghost use Rattle.isle_check_environment.specs.Views.{constant_of, constants_at, extractors_at};
+ghost use Rattle.isle_check_environment.specs.Views.{constant_of, constants_at};
+ghost use Rattle.isle_check_environment.specs.Views.{converters_at, extractors_at};
 ghost use Rattle.isle_check_rules.specs.Views.{typed_rules_of, warnings_of};
 ghost use Rattle.isle_check_signatures.specs.Views.{environment_of, term_of};
 
 use crate::finding::{Finding, Kind};
-use isle_ast::ast::{Def, Extractor};
+use isle_ast::ast::{Converter, Def, Extractor};
+use isle_check_conversions::endless_conversions;
 use isle_check_environment::names::{Names, add_name, has, no_names};
 use isle_check_environment::parts::{Constant, constants_in, extractors_in};
 use isle_check_rules::{TypedRule, Warning, conditions_without_constructor, multi_extractors};
@@ -37,8 +40,39 @@ pub fn add_warnings<'a>(
     add_doubled_constants(alloc, &constants, found)?;
     let extractors = extractors_in(alloc, defs)?;
     add_wrong_counts(env, &extractors, found)?;
+    add_endless_converters(alloc, env, defs, found)?;
     add_rule_warnings(conditions_without_constructor(alloc, env, defs)?, found)?;
     add_rule_warnings(multi_extractors(alloc, env, rules)?, found)
+}
+
+/// Adds the converters whose conversion does not come to an end.
+pub fn add_endless_converters<'a>(
+    alloc: Global,
+    env: &Environment,
+    defs: &'a [Def],
+    found: &mut Vec<Finding<'a>>,
+) -> Result<(), AllocError>
+    ensures { OnOk result (findings_of found.new.items ≡ findings_of found.old.items
+        ++ endless_converters (environment_of env.now) (definitions_of defs.now)) }
+{
+    let converters = endless_conversions(alloc, env, defs)?;
+    add_converters(&converters, found)
+}
+
+fn add_converters<'a>(
+    converters: &[&'a Converter],
+    found: &mut Vec<Finding<'a>>,
+) -> Result<(), AllocError>
+    ensures { OnOk result (findings_of found.new.items ≡ findings_of found.old.items
+        ++ map of_converter (converters_at converters.now)) }
+{
+    for converter in converters {
+        found.push(Finding {
+            kind: Kind::EndlessConversion(&converter.inner_ty, &converter.outer_ty),
+            pos: converter.pos,
+        })?;
+    }
+    Ok(())
 }
 
 fn add_rule_warnings(warnings: Vec<Warning>, found: &mut Vec<Finding>) -> Result<(), AllocError>

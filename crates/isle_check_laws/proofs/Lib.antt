@@ -17,6 +17,7 @@ pub mod ExpressionValues
 pub mod BareAsks
 pub mod PatternValues
 pub mod RuleValues
+pub mod FollowingLaws
 pub mod HidingLaws
 pub mod SeenVariables
 pub mod ClosedPatterns

@@ -12,7 +12,7 @@ use Rattle.isle_check_matchings.specs.Asks.{TermsNode}
 use Rattle.isle_check_matchings.specs.Matchings.{constraints_of, equalities_of, matching}
 use Rattle.isle_check_matchings.specs.RuleAsks.{rule_asks}
 use Rattle.isle_check_laws.specs.Compared.{IsCompared}
-use Rattle.isle_check_laws.specs.PlaceValues.{valuation, IsMet}
+use Rattle.isle_check_laws.specs.PlaceValues.{valuation, AreEqual, IsMet}
 use Rattle.isle_check_laws.specs.Runs.{Runs}
 use Rattle.isle_check_laws.specs.Valuations.{Satisfies}
 use Rattle.isle_check_laws.specs.Worlds.{World}
@@ -28,6 +28,7 @@ pub record Comes (m : MatchingNode) (c : CandidateNode) : Type 0 where
   pub prio : c.prio ≡ m.prio
   pub no_clash : m.clashes ≡ []
   pub equal : List EqualityNode
+  pub is_equal : c.equal ≡ equal
   pub is_settled : m.settled ≡ settled c.constraints equal
   pub is_plain : c.is_plain ≡ (length equal == 0)
 
@@ -40,7 +41,7 @@ head_is c d h = ap head h where
 comes_settled : (number : ℕ) (m : MatchingNode) (c : CandidateNode) (s : SettledNode) → m.clashes ≡ [] → m.settled ≡ s → candidate_by number m s ≡ c ∷ [] → Comes m c
 comes_settled number m c (settled cs es) none is h =
     let whole : Comes m (candidate number m cs es) =
-    record { term = refl; prio = refl; no_clash = none; equal = es; is_settled = is; is_plain = refl } in
+    record { term = refl; prio = refl; no_clash = none; equal = es; is_equal = refl; is_settled = is; is_plain = refl } in
     subst (Comes m) (head_is (candidate number m cs es) c h) whole
 comes_settled number m c unequal none is h = cc
 comes_settled number m c endless none is h = cc
@@ -75,6 +76,10 @@ module _ {V : Type 0} (k : TermsNode) (w : World V) (input : ℕ → V) where
 
   pub compared_holds : (r : TypedRuleNode) (c : CandidateNode) → IsCompared k r c → Runs k w r input → Satisfies (valuation w input) c.constraints
   compared_holds r c is h = (subst (IsMet w input) ((comes k r c is).is_settled) (settled_law r h)).0
+
+  pub compared_equal : (r : TypedRuleNode) (c : CandidateNode) → IsCompared k r c → Runs k w r input → AreEqual w input c.equal
+  compared_equal r c is h =
+      let from = comes k r c is in subst (AreEqual w input) (sym from.is_equal) ((subst (IsMet w input) from.is_settled (settled_law r h)).1)
 
   pub apart_rules_law : (r s : TypedRuleNode) (a b : CandidateNode) → IsCompared k r a → IsCompared k s b → apart a.constraints b.constraints ≡ true →
       Runs k w r input → Runs k w s input → ⊥

@@ -2,7 +2,7 @@
 use Rattle.std.proofs.Common.{◌≡◌, ℕ, zero, suc, List, [], ◌∷◌, ◌++◌, length, nat_lt, Bool, true, false, Option, Some, None, refl, ◌∙◌, subst, if◌then◌else◌}
 use Rattle.isle_check_places.specs.Clashes.{clashes_after}
 use Rattle.isle_check_places.specs.Places.{Place, ConstraintNode, ConstrainedNode, same_constraint, same_place}
-use Rattle.isle_check_places.specs.Settling.{constraint_at, constrained, EqualityNode, SweepNode, opened, clashing, swept_by, swept, sweep, SettledNode, settled, unequal, endless, most_sweeps, begun, settle}
+use Rattle.isle_check_places.specs.Settling.{constraint_at, constrained, EqualityNode, SweepNode, opened, clashing, swept_by, swept, sweep, SettledNode, settled, unequal, endless, most_equal, begun, settle}
 use Rattle.isle_check_laws.proofs.ClashLaws.{satisfied, clashes_none, append_satisfies, after_counts, here}
 use Rattle.isle_check_laws.proofs.ComparisonLaws.{more_satisfies}
 
@@ -53,7 +53,7 @@ settle_clear zero cs es h = tt
 settle_clear (suc n) cs es h =
     let s = sweep (begun cs) es in
     let m = sweep_clear (begun cs) es h in
-    after_clear (settle n s.constraints s.equal) s s.clashes s.is_opened (nat_lt most_sweeps (length s.equal)) (settle_clear n s.constraints s.equal m) m
+    after_clear (settle n s.constraints s.equal) s s.clashes s.is_opened (nat_lt most_equal (length s.equal)) (settle_clear n s.constraints s.equal m) m
 
 pub settled_clear : (n : ℕ) (cs : List ConstrainedNode) (es : List EqualityNode) (ds : List ConstrainedNode) (fs : List EqualityNode) → clashes_after [] cs ≡ [] →
     settle n cs es ≡ settled ds fs → clashes_after [] ds ≡ []

@@ -2,7 +2,7 @@
 use Rattle.std.proofs.Common.{◌≡◌, ℕ, zero, suc, List, [], ◌∷◌, ◌++◌, length, nat_lt, Bool, true, false, Option, Some, None, refl, ap, sym, ◌∙◌, if◌then◌else◌}
 use Rattle.std.proofs.lemmas.Option.{same_Some}
 use Rattle.isle_check_places.specs.Places.{Place, ConstraintNode, of_variant, of_bool, of_int, of_constant, present, ConstrainedNode, same_constraint, same_place}
-use Rattle.isle_check_places.specs.Settling.{constraint_at, EqualityNode, equal_fields, equal_parts, SweepNode, with_constraint, opened, clashing, swept_by, swept, sweep, SettledNode, settled, unequal, endless, most_sweeps, begun, settle}
+use Rattle.isle_check_places.specs.Settling.{constraint_at, EqualityNode, equal_fields, equal_parts, SweepNode, with_constraint, opened, clashing, swept_by, swept, sweep, SettledNode, settled, unequal, endless, most_equal, begun, settle}
 use Rattle.isle_check_laws.specs.PlaceValues.{value_at, valuation, AreEqual, IsMet}
 use Rattle.isle_check_laws.specs.Valuations.{Satisfies}
 use Rattle.isle_check_laws.specs.Worlds.{World}
@@ -81,5 +81,5 @@ module _ {V : Type 0} (w : World V) (input : ℕ → V) where
   settle_met (suc n) cs es h g =
       let s = sweep (begun cs) es in
       let m = sweep_met (begun cs) es (h, (tt, refl)) g in
-      after_met (settle n s.constraints s.equal) s s.clashes s.is_opened (nat_lt most_sweeps (length s.equal)) m.1.1
+      after_met (settle n s.constraints s.equal) s s.clashes s.is_opened (nat_lt most_equal (length s.equal)) m.1.1
       (settle_met n s.constraints s.equal m.0 m.1.0) m

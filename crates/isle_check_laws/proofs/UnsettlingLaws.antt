@@ -3,7 +3,7 @@ use Rattle.std.proofs.Common.{◌≡◌, ◌≢◌, ◌==◌, ℕ, zero, suc, �
 use Rattle.std.proofs.lemmas.Bool.Decides.{Decides-eqb, not_from_Decides}
 use Rattle.std.proofs.lemmas.Option.{none-some, same_Some}
 use Rattle.isle_check_places.specs.Places.{ConstraintNode, of_variant, of_bool, of_int, of_constant, present, ConstrainedNode, same_constraint, same_place, field}
-use Rattle.isle_check_places.specs.Settling.{constraint_at, EqualityNode, equal_fields, equal_part, equal_parts, SweepNode, opened, clashing, swept_by, swept, sweep, SettledNode, settled, unequal, endless, most_sweeps, begun, settle}
+use Rattle.isle_check_places.specs.Settling.{constraint_at, EqualityNode, equal_fields, equal_part, equal_parts, SweepNode, opened, clashing, swept_by, swept, sweep, SettledNode, settled, unequal, endless, most_equal, begun, settle}
 use Rattle.isle_check_laws.specs.Extensional.{HaveEqualParts, IsExtensional}
 use Rattle.isle_check_laws.specs.PlaceValues.{value_at, valuation, AreEqual}
 use Rattle.isle_check_laws.specs.Valuations.{Satisfies, Holds}
@@ -137,7 +137,7 @@ module _ {V : Type 0} (w : World V) (input : ℕ → V) (looks : IsExtensional w
   settle_back zero cs es h = absurd h
   settle_back (suc n) cs es h =
       let s = sweep (begun cs) es in
-      let m = after_before (settle n s.constraints s.equal) s s.clashes s.is_opened (nat_lt most_sweeps (length s.equal)) refl
+      let m = after_before (settle n s.constraints s.equal) s s.clashes s.is_opened (nat_lt most_equal (length s.equal)) refl
       (λ whole. settle_back n s.constraints s.equal whole) h in
       let b = sweep_before (begun cs) es m in
       (b.0.0, b.1)

@@ -12,7 +12,8 @@ ghost use Rattle.isle_check_places.specs.Places.{ConstrainedNode, ConstraintNode
 ghost use Rattle.isle_check_places.specs.Places.{same_constraint, same_place};
 ghost use Rattle.isle_check_places.specs.Settling.{EqualityNode, settle, settled};
 ghost use Rattle.isle_check_places.specs.Settling.{unequal};
-ghost use Rattle.isle_check_overlaps.specs.Candidates.{CandidateNode, hides, overlap};
+ghost use Rattle.isle_check_overlaps.specs.Candidates.{CandidateNode, hides};
+ghost use Rattle.isle_check_overlaps.specs.Candidates.{hides_with_equals, overlap};
 ghost use Rattle.isle_check_matchings.specs.Asks.{TermsNode};
 ghost use Rattle.isle_check_matchings.specs.Matchings.{constraints_of, equalities_of, matching};
 ghost use Rattle.isle_check_matchings.specs.RuleAsks.{rule_asks};
@@ -146,5 +147,14 @@ pub fn hidden_rules_are_never_taken<V>()
     ensures { (k : TermsNode) (w : World V) (input : ℕ → V) (high low : TypedRuleNode)
         (a b : CandidateNode) → IsExtensional w → IsClosed k high → IsCompared k high a
         → IsCompared k low b → hides a b ≡ true → Runs k w low input
+        → Runs k w high input × ((high.term ≡ low.term) × (int_lt low.prio high.prio ≡ true)) }
+{}
+
+/// A law, which runs no code: a rule that is hidden by one with equal values is never taken, either.
+/// The constraints and the equal places of the one that hides it are its own, or follow from these.
+pub fn rules_hidden_with_equals_are_never_taken<V>()
+    ensures { (k : TermsNode) (w : World V) (input : ℕ → V) (high low : TypedRuleNode)
+        (a b : CandidateNode) → IsExtensional w → IsClosed k high → IsCompared k high a
+        → IsCompared k low b → hides_with_equals a b ≡ true → Runs k w low input
         → Runs k w high input × ((high.term ≡ low.term) × (int_lt low.prio high.prio ≡ true)) }
 {}

@@ -1,7 +1,7 @@
 -- What rules match, rule by rule, and the terms of a program.
-use Rattle.std.proofs.Common.{◌≡◌, ℕ, suc, ◌+◌, ◌<◌, List, [], ◌∷◌, ◌++◌, length, map, drop, get_or, is_some, sym, ap, ◌∙◌, append_assoc, add-one, drop-cons}
+use Rattle.std.proofs.Common.{◌≡◌, ℕ, suc, ◌+◌, ◌<◌, List, [], ◌∷◌, ◌++◌, length, map, drop, get_or, is_some, Bool, true, false, not, ◌&&◌, ◌||◌, ◌==◌, refl, sym, ap, ◌∙◌, arith, eqb-true, append_assoc, add-one, drop-cons, if◌then◌else◌}
 use Rattle.std.proofs.lemmas.List.{map-append}
-use Rattle.std.specs.List.{flat_map}
+use Rattle.std.specs.List.{filter, flat_map, list_any}
 use Rattle.std.specs.declared.alloc.Global.{Global}
 use Rattle.std.specs.declared.string.String.{String}
 use Rattle.std.specs.BTreeMap.{BTreeMap, get_by_text}
@@ -12,6 +12,8 @@ use Rattle.isle_check_signatures.specs.Environment.{EnvironmentNode}
 use Rattle.isle_check_rules.specs.declared.typed.TypedRule.{TypedRule}
 use Rattle.isle_check_rules.specs.TypedRules.{TypedRuleNode}
 use Rattle.isle_check_rules.specs.Views.{typed_rule_of, typed_rules_of}
+use Rattle.isle_check_rules.specs.Warnings.{WarningNode, is_multi, multi_extractors, multi_warning, terms_in_patterns}
+use Rattle.isle_check_rules.specs.Warnings as warned
 use Rattle.isle_check_places.specs.Clashes.{clashes_after}
 use Rattle.isle_check_places.specs.Settling.{most_sweeps, settle}
 use Rattle.isle_check_overlaps.specs.declared.matching.Matching.{Matching}
@@ -19,7 +21,7 @@ use Rattle.isle_check_overlaps.specs.Matchings.{MatchingNode}
 use Rattle.isle_check_overlaps.specs.Views as seen
 use Rattle.isle_check_matchings.specs.Asks.{TermsNode, AskNode}
 use Rattle.isle_check_matchings.specs.Infallible.{infallible_name, program_terms}
-use Rattle.isle_check_matchings.specs.Matchings.{constraints_of, equalities_of, matching_of, multi_by}
+use Rattle.isle_check_matchings.specs.Matchings.{constraints_of, equalities_of, has_several, matching_of, multi_by}
 
 pub matchings_step : (f : TypedRuleNode → MatchingNode) (made after : List Matching) (m : Matching) (rules : List TypedRule) (i : ℕ) (r : TypedRule) (whole : List MatchingNode) →
     i < length rules → r ≡ get_or rules i r → seen.matching_of m ≡ f (typed_rule_of r) → after ≡ made ++ m ∷ [] →
@@ -35,13 +37,40 @@ matchings_step f made after m rules i r whole less is m_is after_is so_far =
     ∙ so_far))))
 
 pub matching_parts : (k : TermsNode) (r : TypedRuleNode) (asks : List AskNode) (m : MatchingNode) →
-    m.term ≡ r.term → m.is_multi ≡ multi_by (k.terms r.term) → m.prio ≡ r.prio → m.pos ≡ r.pos → m.clashes ≡ clashes_after [] (constraints_of asks) →
+    m.term ≡ r.term → m.is_multi ≡ multi_by (k.terms r.term) → m.has_several ≡ has_several k r → m.prio ≡ r.prio → m.pos ≡ r.pos → m.clashes ≡ clashes_after [] (constraints_of asks) →
     m.settled ≡ settle most_sweeps (constraints_of asks) (equalities_of asks) → m ≡ matching_of k r asks
-matching_parts k r asks m term multi prio pos clashes settled =
-    λ i. record { term = term i; is_multi = multi i; prio = prio i; pos = pos i; clashes = clashes i; settled = settled i }
+matching_parts k r asks m term multi several prio pos clashes settled =
+    λ i. record { term = term i; is_multi = multi i; has_several = several i; prio = prio i; pos = pos i; clashes = clashes i; settled = settled i }
 
 abbrev terms_by : EnvironmentNode → BTreeMap (String Global) Pos → TermsNode
 terms_by env names = record { terms = env.terms; infallible = λ text. is_some (get_by_text names text) }
 
 pub terms_known : (env : EnvironmentNode) (ds : List Definition) (names : BTreeMap (String Global) Pos) → Knows names (flat_map infallible_name ds) → terms_by env names ≡ program_terms env ds
 terms_known env ds names known = λ i. record { terms = env.terms; infallible = λ text. is_some (known text i) }
+
+-- some are found exactly if there is one
+not_none : (n : ℕ) (r : Bool) → (suc n == 0) ≡ r → not r ≡ true
+not_none n true h = absurd (omega (arith, eqb-true (suc n) 0 h))
+not_none n false h = refl
+
+one_filtered : (p : List ℕ → Bool) (warning : List ℕ → WarningNode) (f : List ℕ) (fs : List (List ℕ)) (r : Bool) →
+    not (length (map warning (filter p fs) ++ []) == 0) ≡ list_any p fs →
+    not (length (map warning (if r then f ∷ filter p fs else filter p fs) ++ []) == 0) ≡ (r || list_any p fs)
+one_filtered p warning f fs true rest = not_none (length (map warning (filter p fs) ++ [])) (suc (length (map warning (filter p fs) ++ [])) == 0) refl
+one_filtered p warning f fs false rest = rest
+
+some_filtered : (p : List ℕ → Bool) (warning : List ℕ → WarningNode) (fs : List (List ℕ)) → not (length (map warning (filter p fs) ++ []) == 0) ≡ list_any p fs
+some_filtered p warning [] = refl
+some_filtered p warning (f ∷ fs) = one_filtered p warning f fs (p f) (some_filtered p warning fs)
+
+several_by : (env : EnvironmentNode) (r : TypedRuleNode) (multi : Bool) →
+    not (length ((if multi then [] else map (multi_warning r.pos) (filter (is_multi env) (terms_in_patterns r))) ++ []) == 0)
+    ≡ (not multi && list_any (is_multi env) (terms_in_patterns r))
+several_by env r true = refl
+several_by env r false = some_filtered (is_multi env) (multi_warning r.pos) (terms_in_patterns r)
+
+pub several_found : (k : TermsNode) (env : EnvironmentNode) (r : TypedRuleNode) → k.terms ≡ env.terms →
+    not (length (multi_extractors env (r ∷ [])) == 0) ≡ has_several k r
+several_found k env r same =
+    several_by env r (is_multi env r.term)
+    ∙ sym (ap (λ t. not (warned.multi_by (t r.term)) && list_any (λ f. warned.multi_by (t f)) (terms_in_patterns r)) same)

@@ -1,8 +1,9 @@
 -- What typed rules match.
-use Rattle.std.specs.Prelude.{List, [], ◌∷◌, Bool, false, Option, None, Some, map}
-use Rattle.std.specs.List.{flat_map}
+use Rattle.std.specs.Prelude.{List, [], ◌∷◌, Bool, false, ◌&&◌, not, Option, None, Some, map}
+use Rattle.std.specs.List.{flat_map, list_any}
 use Rattle.isle_check_signatures.specs.Signatures.{TermNode}
 use Rattle.isle_check_rules.specs.TypedRules.{TypedRuleNode}
+use Rattle.isle_check_rules.specs.Warnings as warned
 use Rattle.isle_check_places.specs.Places.{ConstrainedNode}
 use Rattle.isle_check_places.specs.Clashes.{clashes_after}
 use Rattle.isle_check_places.specs.Settling.{EqualityNode, constrained, equality, most_sweeps, settle}
@@ -32,11 +33,17 @@ abbrev pub multi_by : Option TermNode → Bool
 multi_by None = false
 multi_by (Some t) = t.multi
 
+-- a multi extractor stands in a pattern of a rule whose term is not multi
+abbrev pub has_several : TermsNode → TypedRuleNode → Bool
+has_several k r =
+    not (warned.multi_by (k.terms r.term)) && list_any (λ f. warned.multi_by (k.terms f)) (warned.terms_in_patterns r)
+
 abbrev pub matching_of : TermsNode → TypedRuleNode → List AskNode → MatchingNode
 matching_of k r asks =
     record {
       term = r.term;
       is_multi = multi_by (k.terms r.term);
+      has_several = has_several k r;
       prio = r.prio;
       pos = r.pos;
       clashes = clashes_after [] (constraints_of asks);

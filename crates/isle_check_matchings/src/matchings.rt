@@ -1,10 +1,11 @@
 //! What typed rules match.
 
-ghost use Rattle.std.specs.Prelude.{◌≡◌, IfOk, option_map};
+ghost use Rattle.std.specs.Prelude.{◌≡◌, ◌==◌, IfOk, length, option_map};
 ghost use Rattle.isle_ast.specs.TreeView.{definitions_of};
 ghost use Rattle.isle_check_matchings.specs.Infallible.{program_terms};
-ghost use Rattle.isle_check_matchings.specs.Matchings.{constraints_of, equalities_of, matching};
-ghost use Rattle.isle_check_matchings.specs.Matchings.{matchings, multi_by, rule_overlaps};
+ghost use Rattle.isle_check_matchings.specs.Matchings.{constraints_of, equalities_of};
+ghost use Rattle.isle_check_matchings.specs.Matchings.{has_several, matching, matchings};
+ghost use Rattle.isle_check_matchings.specs.Matchings.{multi_by, rule_overlaps};
 ghost use Rattle.isle_check_matchings.specs.Views.{asks_of, terms_of};
 ghost use Rattle.isle_check_overlaps.specs.Views.{matching_of, matchings_of, comparison_of};
 ghost use Rattle.isle_check_places.specs.Views.{all_constrained_of, all_equalities_of};
@@ -19,9 +20,10 @@ use crate::values::variable_value;
 use isle_ast::ast::Def;
 use isle_check_overlaps::{Comparison, Matching, compare};
 use isle_check_places::{Constrained, Equality, clashes, copied, settle};
-use isle_check_rules::TypedRule;
+use isle_check_rules::{TypedRule, Warning, multi_extractors};
 use isle_check_signatures::{Environment, Term};
 use std::alloc::{AllocError, Global};
+use std::slice;
 
 /// Returns what is wrong with the typed rules of a program that has no error by itself: rules that
 /// match nothing, in order, and then the rules that overlap with others or hide others, in order.
@@ -77,6 +79,7 @@ fn matching<'a>(
     ensures { IfOk result (λ made. matching_of made
         ≡ matching (terms_of terms.entry) (typed_rule_of rule.now)) }
 {
+    let has_several = has_several(alloc, terms, rule)?;
     let asks = rule_asks(alloc, terms, rule)?;
     let constraints = constraints_of(alloc, &asks)?;
     let equal = equalities_of(alloc, &asks)?;
@@ -85,11 +88,27 @@ fn matching<'a>(
     Ok(Matching {
         term: rule.term.as_str(),
         is_multi: is_multi(terms.env.term(rule.term.as_str())),
+        has_several,
         prio: rule.prio,
         pos: rule.pos,
         clashes,
         settled,
     })
+}
+
+/// Returns whether a multi extractor stands in a pattern of a rule whose term is not multi.
+fn has_several(alloc: Global, terms: Terms, rule: &TypedRule) -> Result<bool, AllocError>
+    ensures { IfOk result (λ several. several
+        ≡ has_several (terms_of terms.entry) (typed_rule_of rule.now)) }
+{
+    let found = multi_extractors(alloc, terms.env, slice::from_ref(rule))?;
+    Ok(!are_none(&found))
+}
+
+fn are_none(found: &Vec<Warning>) -> bool
+    ensures { result ≡ (length found.now.items == 0) }
+{
+    found.is_empty()
 }
 
 fn constraints_of<'a>(alloc: Global, asks: &[Ask<'a>]) -> Result<Vec<Constrained<'a>>, AllocError>

@@ -2,7 +2,7 @@
 use Rattle.std.specs.Prelude.{ℕ, List, [], ◌∷◌, ◌++◌, ◌==◌, codes, if◌then◌else◌, map, string_bytes}
 use Rattle.std.specs.Fmt.{decimal}
 use Rattle.isle_base_source.specs.declared.pos.Pos.{Pos}
-use Rattle.isle_check_overlaps.specs.Faults.{KindNode, OtherNode, two_constraints, unequal_constraints, part_of_itself, overlaps, shadows}
+use Rattle.isle_check_overlaps.specs.Faults.{KindNode, OtherNode, two_constraints, unequal_constraints, part_of_itself, overlaps, shadows, shadows_with_equals}
 use Rattle.isle_check_messages.specs.declared.notes.Note.{Note}
 use Rattle.isle_check_messages.specs.OverlapWords.{both_text}
 
@@ -31,6 +31,7 @@ overlap_notes pos unequal_constraints = []
 overlap_notes pos part_of_itself = []
 overlap_notes pos (overlaps others left_out) = map other_note others ++ left_out_note pos left_out
 overlap_notes pos (shadows hidden left_out) = map hidden_note hidden ++ left_out_note pos left_out
+overlap_notes pos (shadows_with_equals hidden left_out) = map hidden_note hidden ++ left_out_note pos left_out
 
 -- of code
 abbrev pub note_of : Note → NoteNode

@@ -1,7 +1,7 @@
 -- The words of each kind of error of rules beside one another: the name of the kind, and the message.
 use Rattle.std.specs.Prelude.{ℕ, List, [], ◌∷◌, ◌++◌, Bool, true, false, codes}
 use Rattle.isle_check_values.specs.Values.{ValueNode}
-use Rattle.isle_check_overlaps.specs.Faults.{KindNode, OtherNode, two_constraints, unequal_constraints, part_of_itself, overlaps, shadows}
+use Rattle.isle_check_overlaps.specs.Faults.{KindNode, OtherNode, two_constraints, unequal_constraints, part_of_itself, overlaps, shadows, shadows_with_equals}
 use Rattle.isle_check_messages.specs.Words.{WordsNode, words}
 
 abbrev pub match_text : (is_sure : Bool) → List ℕ
@@ -23,3 +23,4 @@ overlap_words unequal_constraints = words (codes "unreachable-rule") (codes "rul
 overlap_words part_of_itself = words (codes "part-of-itself") (codes "rule requires a value that is a part of itself")
 overlap_words (overlaps others _) = words (codes "rule-overlap") (codes "rules are overlapping" ++ first_text others)
 overlap_words (shadows _ _) = words (codes "rule-shadow") (codes "more general higher-priority rule shadows other rules")
+overlap_words (shadows_with_equals _ _) = words (codes "shadow-with-equal-values") (codes "more general higher-priority rule shadows other rules that ask for equal values")

@@ -30,7 +30,7 @@ pub fn overlap_notes(alloc: Global, pos: Pos, kind: &Kind) -> Result<Vec<Note>, 
             add_others(alloc, others, &mut notes)?;
             add_left_out(alloc, pos, *left_out, &mut notes)?;
         }
-        Kind::Shadows(hidden, left_out) => {
+        Kind::Shadows(hidden, left_out) | Kind::ShadowsWithEquals(hidden, left_out) => {
             add_hidden(alloc, hidden, &mut notes)?;
             add_left_out(alloc, pos, *left_out, &mut notes)?;
         }

@@ -12,7 +12,7 @@ use isle_check_overlaps::{Kind, Other};
 use isle_check_values::Value;
 use std::alloc::{AllocError, Global};
 
-/// Returns the words of an error of rules beside one another, or of the warning. An `Err` means out
+/// Returns the words of an error of rules beside one another, or of a warning. An `Err` means out
 /// of memory.
 pub fn overlap_words(alloc: Global, kind: &Kind) -> Result<Words, AllocError>
     ensures { IfOk result (λ made. words_of made ≡ overlap_words (kind_of kind.now)) }
@@ -42,6 +42,11 @@ pub fn overlap_words(alloc: Global, kind: &Kind) -> Result<Words, AllocError>
             alloc,
             "rule-shadow",
             "more general higher-priority rule shadows other rules",
+        ),
+        Kind::ShadowsWithEquals(..) => plain(
+            alloc,
+            "shadow-with-equal-values",
+            "more general higher-priority rule shadows other rules that ask for equal values",
         ),
     }
 }

@@ -10,11 +10,13 @@ use Rattle.std.specs.declared.string.String.{String}
 use Rattle.std.proofs.Math.Bool.{and-false}
 use Rattle.std.proofs.lemmas.Map.Text.{btree_map_updates_text}
 use Rattle.std.proofs.lemmas.Slice.Eq.{bytes_eq-Decides}
+use Rattle.isle_base_source.specs.declared.pos.Pos.{Pos}
 use Rattle.isle_check_places.specs.Comparing.{apart, within}
+use Rattle.isle_check_places.specs.Following.{all_follow}
 use Rattle.isle_check_signatures.specs.Signatures.{TermNode}
 use Rattle.isle_check_overlaps.specs.declared.candidates.Candidate.{Candidate}
-use Rattle.isle_check_overlaps.specs.Candidates.{CandidateNode}
-use Rattle.isle_check_overlaps.specs.Faults.{FaultNode, hidden_by, if_hidden, met_at, shadow_at, star_at}
+use Rattle.isle_check_overlaps.specs.Candidates.{CandidateNode, comes_first_and, hides, hides_with_equals}
+use Rattle.isle_check_overlaps.specs.Faults.{FaultNode, equal_shadow_at, hidden_by, if_hidden, met_at, shadow_at, shadows, shadows_with_equals, star_at}
 use Rattle.isle_check_overlaps.specs.Groups.{AreGroups, group_of, is_of}
 use Rattle.isle_check_overlaps.specs.Stars.{PairNode, StarNode, pair, pairs, pairs_after, pairs_before}
 use Rattle.isle_check_overlaps.specs.Views.{candidate_of, candidates_at, candidates_of}
@@ -52,21 +54,34 @@ other_way xs ys true e h =
 other_way xs ys false e h = refl
 
 -- nor do rules hide those of other terms
-not_hidden : (high low : CandidateNode) → bytes_eq low.term high.term ≡ false → if_hidden high low ≡ []
-not_hidden high low other =
-    ap (λ r. if int_lt low.prio high.prio && (r && (high.is_plain && (low.is_plain && within high.constraints low.constraints))) then low.pos ∷ [] else [])
-    (other_way high.term low.term (bytes_eq high.term low.term) refl other)
-    ∙ ap (λ r. if r then low.pos ∷ [] else []) (and-false (int_lt low.prio high.prio))
+abbrev pub NoneOfOtherTerms : (hiding : CandidateNode → CandidateNode → Bool) → Type 0
+NoneOfOtherTerms hiding = (high low : CandidateNode) → bytes_eq high.term low.term ≡ false → hiding high low ≡ false
 
-kept_hidden : (high low : CandidateNode) (lows : List CandidateNode) (r : Bool) → bytes_eq low.term high.term ≡ r →
-    hidden_by high (filter (is_of high.term) lows) ≡ hidden_by high lows →
-    hidden_by high (if r then low ∷ filter (is_of high.term) lows else filter (is_of high.term) lows) ≡ if_hidden high low ++ hidden_by high lows
-kept_hidden high low lows true same rest = ap (λ ps. if_hidden high low ++ ps) rest
-kept_hidden high low lows false other rest = rest ∙ ap (λ ps. ps ++ hidden_by high lows) (sym (not_hidden high low other))
+not_first : (condition : Bool) (high low : CandidateNode) → bytes_eq high.term low.term ≡ false → comes_first_and condition high low ≡ false
+not_first condition high low other = ap (λ r. int_lt low.prio high.prio && (r && condition)) other ∙ and-false (int_lt low.prio high.prio)
 
-pub same_term_hidden : (high : CandidateNode) (lows : List CandidateNode) → hidden_by high (filter (is_of high.term) lows) ≡ hidden_by high lows
-same_term_hidden high [] = refl
-same_term_hidden high (low ∷ lows) = kept_hidden high low lows (bytes_eq low.term high.term) refl (same_term_hidden high lows)
+pub hides_one_term : NoneOfOtherTerms hides
+hides_one_term high low other = not_first (high.is_plain && (low.is_plain && within high.constraints low.constraints)) high low other
+
+pub hides_one_term_with_equals : NoneOfOtherTerms hides_with_equals
+hides_one_term_with_equals high low other =
+    not_first (not low.is_plain && (not high.has_several && (within high.constraints low.constraints && all_follow high.equal low.equal))) high low other
+
+not_hidden : (hiding : CandidateNode → CandidateNode → Bool) (high low : CandidateNode) → NoneOfOtherTerms hiding → bytes_eq low.term high.term ≡ false →
+    if_hidden hiding high low ≡ []
+not_hidden hiding high low none other =
+    ap (λ r. if r then low.pos ∷ [] else []) (none high low (other_way high.term low.term (bytes_eq high.term low.term) refl other))
+
+kept_hidden : (hiding : CandidateNode → CandidateNode → Bool) (high low : CandidateNode) (lows : List CandidateNode) (r : Bool) → NoneOfOtherTerms hiding →
+    bytes_eq low.term high.term ≡ r → hidden_by hiding high (filter (is_of high.term) lows) ≡ hidden_by hiding high lows →
+    hidden_by hiding high (if r then low ∷ filter (is_of high.term) lows else filter (is_of high.term) lows) ≡ if_hidden hiding high low ++ hidden_by hiding high lows
+kept_hidden hiding high low lows true none same rest = ap (λ ps. if_hidden hiding high low ++ ps) rest
+kept_hidden hiding high low lows false none other rest = rest ∙ ap (λ ps. ps ++ hidden_by hiding high lows) (sym (not_hidden hiding high low none other))
+
+pub same_term_hidden : (hiding : CandidateNode → CandidateNode → Bool) (high : CandidateNode) (lows : List CandidateNode) → NoneOfOtherTerms hiding →
+    hidden_by hiding high (filter (is_of high.term) lows) ≡ hidden_by hiding high lows
+same_term_hidden hiding high [] none = refl
+same_term_hidden hiding high (low ∷ lows) none = kept_hidden hiding high low lows (bytes_eq low.term high.term) none refl (same_term_hidden hiding high lows none)
 
 filter-last : (p : CandidateNode → Bool) (cs : List CandidateNode) (c : CandidateNode) → filter p (cs ++ c ∷ []) ≡ filter p cs ++ (if p c then c ∷ [] else [])
 filter-last p [] c = filter-one (p c) c
@@ -124,7 +139,23 @@ met_step terms groups ss cs xs i c before now all within is held now_is told =
     let n : CandidateNode = candidate_of c in
     let rest : List FaultNode = flat_map (met_at terms ss cs) (candidates_of (drop (i + 1) xs)) in
     ap (λ fs. fs ++ rest) (now_is
-    ∙ ap (λ l. before ++ (flat_map (star_at terms n) ss ++ shadow_at n l)) (ap (hidden_by n) (held c.term.now) ∙ same_term_hidden n cs))
+    ∙ ap (λ l. before ++ (flat_map (star_at terms n) ss ++ shadow_at shadows n l)) (ap (hidden_by hides n) (held c.term.now) ∙ same_term_hidden hides n cs hides_one_term))
     ∙ (append_assoc before (met_at terms ss cs n) rest
     ∙ (ap (λ l. before ++ flat_map (met_at terms ss cs) (candidates_of l)) (sym (drop_more xs i c within is))
+    ∙ told))
+
+-- what is told of one rule more that hides others with equal values
+pub equal_step : (groups : BTreeMap (String Global) (Vec (Bor Candidate) Global)) (cs : List CandidateNode) (xs : List Candidate) (i : ℕ) (c : Candidate) (hidden : List Pos)
+    (before now all : List FaultNode) → i < length xs → c ≡ get_or xs i c → AreGroups groups cs →
+    hidden ≡ hidden_by hides_with_equals (candidate_of c) (group_of (get_by_text groups c.term.now)) →
+    now ≡ before ++ shadow_at shadows_with_equals (candidate_of c) hidden →
+    before ++ flat_map (equal_shadow_at cs) (candidates_of (drop i xs)) ≡ all → now ++ flat_map (equal_shadow_at cs) (candidates_of (drop (i + 1) xs)) ≡ all
+equal_step groups cs xs i c hidden before now all within is held hidden_is now_is told =
+    let n : CandidateNode = candidate_of c in
+    let rest : List FaultNode = flat_map (equal_shadow_at cs) (candidates_of (drop (i + 1) xs)) in
+    ap (λ fs. fs ++ rest) (now_is
+    ∙ ap (λ l. before ++ shadow_at shadows_with_equals n l)
+    (hidden_is ∙ (ap (hidden_by hides_with_equals n) (held c.term.now) ∙ same_term_hidden hides_with_equals n cs hides_one_term_with_equals)))
+    ∙ (append_assoc before (equal_shadow_at cs n) rest
+    ∙ (ap (λ l. before ++ flat_map (equal_shadow_at cs) (candidates_of l)) (sym (drop_more xs i c within is))
     ∙ told))

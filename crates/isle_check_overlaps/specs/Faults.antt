@@ -1,5 +1,5 @@
 -- Rules that match nothing, overlap, or are hidden.
-use Rattle.std.specs.Prelude.{ℕ, ◌-◌, List, [], ◌∷◌, ◌++◌, ◌==◌, Bool, true, false, ◌&&◌, Option, length, map, take, codes, if◌then◌else◌}
+use Rattle.std.specs.Prelude.{ℕ, ◌-◌, List, [], ◌∷◌, ◌++◌, ◌==◌, Bool, true, false, ◌&&◌, not, Option, length, map, take, codes, if◌then◌else◌}
 use Rattle.std.specs.Fmt.{signed_decimal}
 use Rattle.std.specs.List.{flat_map}
 use Rattle.isle_base_source.specs.declared.pos.Pos.{Pos}
@@ -9,7 +9,7 @@ use Rattle.isle_check_places.specs.Settling.{SettledNode, settled, unequal, endl
 use Rattle.isle_check_signatures.specs.Signatures.{TermNode}
 use Rattle.isle_check_values.specs.Values.{ValueNode, value}
 use Rattle.isle_check_overlaps.specs.Matchings.{MatchingNode}
-use Rattle.isle_check_overlaps.specs.Candidates.{CandidateNode, candidates, hides}
+use Rattle.isle_check_overlaps.specs.Candidates.{CandidateNode, candidates, hides, hides_with_equals}
 use Rattle.isle_check_overlaps.specs.Stars.{StarNode, PairNode, pairs, stars}
 
 -- a rule that overlaps with another one, and the value that both match
@@ -18,13 +18,14 @@ pub record OtherNode : Type 0 where
   pub value : ValueNode
 
 -- a place would have two constraints that differ; equal places would; a value would be a part of itself; a rule overlaps with others; a rule
--- hides others. Of the others, so many are left out
+-- hides others; a rule hides others that ask for equal values. Of the others, so many are left out
 pub data KindNode : Type 0 where
   two_constraints : (first second : List ℕ) → KindNode
   unequal_constraints : KindNode
   part_of_itself : KindNode
   overlaps : (others : List OtherNode) → (left_out : ℕ) → KindNode
   shadows : (others : List Pos) → (left_out : ℕ) → KindNode
+  shadows_with_equals : (others : List Pos) → (left_out : ℕ) → KindNode
 
 pub record FaultNode : Type 0 where
   pub kind : KindNode
@@ -70,13 +71,17 @@ endless_rules ms = flat_map (λ m. endless_by m.pos m.settled) ms
 abbrev pub most_told : ℕ
 most_told = 10
 
--- a pattern says nothing of values that must be equal
-abbrev pub sure_if : (are_plain : Bool) → ValueNode → ValueNode
-sure_if are_plain v = record { text = v.text; is_sure = v.is_sure && are_plain }
+-- a rule matches whatever satisfies its constraints
+abbrev pub is_exact : CandidateNode → Bool
+is_exact c = c.is_plain && not c.has_several
+
+-- a pattern says nothing of values that must be equal, nor that there is one of several answers
+abbrev pub sure_if : (are_exact : Bool) → ValueNode → ValueNode
+sure_if are_exact v = record { text = v.text; is_sure = v.is_sure && are_exact }
 
 abbrev pub other : (terms : List ℕ → Option TermNode) → CandidateNode → CandidateNode → OtherNode
 other terms c d =
-    record { pos = d.pos; value = sure_if (c.is_plain && d.is_plain) (value terms c.term c.constraints d.constraints) }
+    record { pos = d.pos; value = sure_if (is_exact c && is_exact d) (value terms c.term c.constraints d.constraints) }
 
 abbrev pub star_of : (terms : List ℕ → Option TermNode) → CandidateNode → (others : List CandidateNode) → FaultNode
 star_of terms c others = fault (overlaps (map (other terms c) (take most_told others)) (length others - most_told)) c.pos
@@ -84,22 +89,30 @@ star_of terms c others = fault (overlaps (map (other terms c) (take most_told ot
 abbrev pub star_at : (terms : List ℕ → Option TermNode) → CandidateNode → StarNode → List FaultNode
 star_at terms c s = if s.center == c.number then star_of terms c s.others ∷ [] else []
 
-abbrev pub if_hidden : CandidateNode → CandidateNode → List Pos
-if_hidden high low = if hides high low then low.pos ∷ [] else []
+abbrev pub if_hidden : (hiding : CandidateNode → CandidateNode → Bool) → CandidateNode → CandidateNode → List Pos
+if_hidden hiding high low = if hiding high low then low.pos ∷ [] else []
 
-abbrev pub hidden_by : CandidateNode → List CandidateNode → List Pos
-hidden_by high cs = flat_map (if_hidden high) cs
+-- those of these rules that a rule hides
+abbrev pub hidden_by : (hiding : CandidateNode → CandidateNode → Bool) → CandidateNode → List CandidateNode → List Pos
+hidden_by hiding high cs = flat_map (if_hidden hiding high) cs
 
-abbrev pub shadow_at : CandidateNode → (hidden : List Pos) → List FaultNode
-shadow_at c [] = []
-shadow_at c (p ∷ ps) = fault (shadows (take most_told (p ∷ ps)) (length (p ∷ ps) - most_told)) c.pos ∷ []
+abbrev pub shadow_at : (kind : List Pos → ℕ → KindNode) → CandidateNode → (hidden : List Pos) → List FaultNode
+shadow_at kind c [] = []
+shadow_at kind c (p ∷ ps) = fault (kind (take most_told (p ∷ ps)) (length (p ∷ ps) - most_told)) c.pos ∷ []
 
 -- what is told of one rule
 abbrev pub met_at : (terms : List ℕ → Option TermNode) → List StarNode → List CandidateNode → CandidateNode → List FaultNode
-met_at terms ss cs c = flat_map (star_at terms c) ss ++ shadow_at c (hidden_by c cs)
+met_at terms ss cs c = flat_map (star_at terms c) ss ++ shadow_at shadows c (hidden_by hides c cs)
 
 abbrev pub meetings_by : (terms : List ℕ → Option TermNode) → List StarNode → List CandidateNode → List FaultNode
 meetings_by terms ss cs = flat_map (met_at terms ss cs) cs
+
+-- rules that hide others that ask for equal values
+abbrev pub equal_shadow_at : List CandidateNode → CandidateNode → List FaultNode
+equal_shadow_at cs c = shadow_at shadows_with_equals c (hidden_by hides_with_equals c cs)
+
+abbrev pub equal_shadows : List CandidateNode → List FaultNode
+equal_shadows cs = flat_map (equal_shadow_at cs) cs
 
 abbrev pub stars_of : (count : ℕ) → List PairNode → List StarNode
 stars_of count ps = stars (length ps) count ps
@@ -117,5 +130,5 @@ abbrev pub comparison_of : (terms : List ℕ → Option TermNode) → List Match
 comparison_of terms ms =
     record {
       faults = unreachable_rules ms ++ meetings terms (length ms) (candidates 0 ms);
-      warnings = endless_rules ms;
+      warnings = endless_rules ms ++ equal_shadows (candidates 0 ms);
     }

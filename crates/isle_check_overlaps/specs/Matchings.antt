@@ -9,6 +9,8 @@ pub record MatchingNode : Type 0 where
   pub term : List ℕ
   -- whether the term is multi
   pub is_multi : Bool
+  -- whether a pattern of the rule looks at each of several answers, of which there may be none
+  pub has_several : Bool
   pub prio : ℤ
   pub pos : Pos
   pub clashes : List ClashNode

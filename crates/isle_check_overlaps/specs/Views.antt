@@ -1,7 +1,7 @@
 -- Rules that are compared, and what is found of them, as pure values.
 use Rattle.std.specs.Prelude.{List, map, string_bytes}
 use Rattle.std.specs.Borrow.{Bor}
-use Rattle.isle_check_places.specs.Views.{all_constrained_of, clashes_of, settled_of}
+use Rattle.isle_check_places.specs.Views.{all_constrained_of, all_equalities_of, clashes_of, settled_of}
 use Rattle.isle_check_overlaps.specs.declared.matching.Matching.{Matching}
 use Rattle.isle_check_overlaps.specs.declared.candidates.Candidate.{Candidate}
 use Rattle.isle_check_overlaps.specs.declared.stars.Pair.{Pair}
@@ -22,6 +22,7 @@ matching_of m =
     record {
       term = m.term.now;
       is_multi = m.is_multi;
+      has_several = m.has_several;
       prio = m.prio;
       pos = m.pos;
       clashes = clashes_of m.clashes.items;
@@ -39,7 +40,9 @@ candidate_of c =
       prio = c.prio;
       pos = c.pos;
       constraints = all_constrained_of c.constraints.now.items;
+      equal = all_equalities_of c.equal.now.items;
       is_plain = c.is_plain;
+      has_several = c.has_several;
     }
 
 abbrev pub candidates_of : List Candidate → List CandidateNode
@@ -73,6 +76,7 @@ kind_of kinds.UnequalConstraints = nodes.unequal_constraints
 kind_of kinds.PartOfItself = nodes.part_of_itself
 kind_of (kinds.Overlaps others left_out) = nodes.overlaps (others_of others.items) left_out
 kind_of (kinds.Shadows others left_out) = nodes.shadows others.items left_out
+kind_of (kinds.ShadowsWithEquals others left_out) = nodes.shadows_with_equals others.items left_out
 
 abbrev pub fault_of : Fault → nodes.FaultNode
 fault_of f = nodes.fault (kind_of f.kind) f.pos

@@ -1,16 +1,17 @@
 //! The rules that are compared with one another.
 
-ghost use Rattle.std.specs.Prelude.{◌≡◌, ◌++◌, IfOk, OnOk};
+ghost use Rattle.std.specs.Prelude.{◌≡◌, ◌++◌, IfOk, OnOk, true};
 ghost use Rattle.std.specs.Str.{bytes_eq};
 ghost use Rattle.isle_check_overlaps.specs.Candidates.{candidate_by, candidate_of, candidates};
-ghost use Rattle.isle_check_overlaps.specs.Candidates.{hides, overlap};
+ghost use Rattle.isle_check_overlaps.specs.Candidates.{comes_first_and, hides};
+ghost use Rattle.isle_check_overlaps.specs.Candidates.{hides_with_equals, overlap};
 ghost use Rattle.isle_check_overlaps.specs.Views as views;
 ghost use Rattle.isle_check_overlaps.specs.Views.{candidates_of, matching_of, matchings_of};
 ghost use Rattle.isle_check_places.specs.Views.{settled_of};
 
 use crate::matching::Matching;
 use isle_base_source::pos::Pos;
-use isle_check_places::{Constrained, Settled, apart, within};
+use isle_check_places::{Constrained, Equality, Settled, all_follow, apart, within};
 use std::alloc::{AllocError, Global};
 
 /// A rule that is compared with others.
@@ -22,8 +23,12 @@ pub struct Candidate<'m, 'a> {
     pub prio: i64,
     pub pos: Pos,
     pub constraints: &'m Vec<Constrained<'a>>,
-    /// Whether it has no equal places without a constraint.
+    /// The equal places without a constraint.
+    pub equal: &'m Vec<Equality<'a>>,
+    /// Whether there are none.
     pub is_plain: bool,
+    /// Whether it looks at each of several answers, of which there may be none.
+    pub has_several: bool,
 }
 
 /// Returns the rules that are compared, in order. An `Err` means out of memory.
@@ -72,7 +77,9 @@ fn add_settled<'m, 'a>(
                 prio: matching.prio,
                 pos: matching.pos,
                 constraints,
+                equal,
                 is_plain: equal.is_empty(),
+                has_several: matching.has_several,
             })?;
             Ok(())
         }
@@ -100,9 +107,35 @@ pub fn overlap(a: &Candidate, b: &Candidate) -> bool
 pub fn hides(high: &Candidate, low: &Candidate) -> bool
     ensures { result ≡ hides (views.candidate_of high.now) (views.candidate_of low.now) }
 {
-    low.prio < high.prio
-        && is_of_one_term(high, low)
+    comes_first(high, low)
         && high.is_plain
         && low.is_plain
         && within(high.constraints, low.constraints)
+}
+
+/// Returns whether the first rule hides the second one, which has equal places without a
+/// constraint. An `Err` means out of memory.
+pub fn hides_with_equals<'c, 'm, 'a>(
+    alloc: Global,
+    high: &'c Candidate<'m, 'a>,
+    low: &'c Candidate<'m, 'a>,
+) -> Result<bool, AllocError>
+    ensures { IfOk result (λ hides. hides
+        ≡ hides_with_equals (views.candidate_of high.now) (views.candidate_of low.now)) }
+{
+    if !comes_first(high, low) || low.is_plain || high.has_several {
+        return Ok(false);
+    }
+    if !within(high.constraints, low.constraints) {
+        return Ok(false);
+    }
+    all_follow(alloc, high.equal, low.equal)
+}
+
+/// Returns whether the first rule is of a higher priority than the second one, and of its term.
+fn comes_first(high: &Candidate, low: &Candidate) -> bool
+    ensures { result
+        ≡ comes_first_and true (views.candidate_of high.now) (views.candidate_of low.now) }
+{
+    low.prio < high.prio && is_of_one_term(high, low)
 }

@@ -27,6 +27,9 @@ pub enum Kind {
     /// The rules at these positions match nothing that this rule does not match, and it has a
     /// higher priority; and so do as many more, which are left out.
     Shadows(Vec<Pos>, usize),
+    /// The rules at these positions ask for equal values, and match nothing that this rule does not
+    /// match, and it has a higher priority; and so do as many more, which are left out.
+    ShadowsWithEquals(Vec<Pos>, usize),
 }
 
 /// A rule that overlaps with another one.
@@ -34,8 +37,9 @@ pub enum Kind {
 pub struct Other {
     /// The position of the rule.
     pub pos: Pos,
-    /// The value that both match. It is sure if neither rule has equal places without a constraint,
-    /// and each value of the pattern satisfies the constraints of both.
+    /// The value that both match. It is sure if neither rule has equal places without a constraint
+    /// or looks at each of several answers, and each value of the pattern satisfies the constraints
+    /// of both.
     pub value: Value,
 }
 
@@ -44,7 +48,7 @@ pub struct Other {
 pub struct Comparison {
     /// The errors.
     pub faults: Vec<Fault>,
-    /// The warnings: the rules that would match a value that is a part of itself. They are not
-    /// compared with others.
+    /// The warnings: the rules that would match a value that is a part of itself, which are not
+    /// compared with others; and then those that hide rules with equal values.
     pub warnings: Vec<Fault>,
 }

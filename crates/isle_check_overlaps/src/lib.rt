@@ -2,6 +2,7 @@
 #![tactic(auto)]
 
 mod candidates;
+mod equal_shadows;
 mod fault;
 mod groups;
 mod matching;

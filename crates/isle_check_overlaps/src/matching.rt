@@ -10,6 +10,8 @@ pub struct Matching<'a> {
     pub term: &'a str,
     /// Whether the term is multi.
     pub is_multi: bool,
+    /// Whether a pattern of the rule looks at each of several answers, of which there may be none.
+    pub has_several: bool,
     /// The priority.
     pub prio: i64,
     /// The position of the rule.

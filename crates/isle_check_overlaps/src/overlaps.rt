@@ -4,7 +4,8 @@ ghost use Rattle.std.specs.Prelude.{◌≡◌, ◌++◌, IfOk, OnOk, map};
 ghost use Rattle.std.specs.BTreeMap.{get_by_text};
 ghost use Rattle.std.specs.List.{flat_map};
 ghost use Rattle.isle_check_overlaps.specs.Faults.{hidden_by, meetings, met_at, comparison_of};
-ghost use Rattle.isle_check_overlaps.specs.Faults.{meetings_by, shadow_at, star_at};
+ghost use Rattle.isle_check_overlaps.specs.Candidates.{hides};
+ghost use Rattle.isle_check_overlaps.specs.Faults.{meetings_by, shadow_at, shadows, star_at};
 ghost use Rattle.isle_check_overlaps.specs.Groups.{AreGroups, group_of};
 ghost use Rattle.isle_check_overlaps.specs.Faults as told;
 ghost use Rattle.isle_check_overlaps.specs.Views as views;
@@ -14,6 +15,7 @@ ghost use Rattle.isle_check_overlaps.specs.Views.{faults_of, other_of, others_of
 ghost use Rattle.isle_check_overlaps.specs.Views.{matchings_of, star_of, stars_of};
 
 use crate::candidates::{Candidate, candidates, hides};
+use crate::equal_shadows::add_equal_shadows;
 use crate::fault::{Comparison, Fault, Kind, Other};
 use crate::groups::{Groups, groups};
 use crate::matching::Matching;
@@ -43,8 +45,17 @@ pub fn compare(
     let mut faults = Vec::new(alloc);
     add_unreachable(alloc, matchings, &mut faults)?;
     let candidates = candidates(alloc, matchings)?;
-    add_meetings(alloc, env, matchings.len(), &candidates, &mut faults)?;
-    let warnings = endless_rules(alloc, matchings)?;
+    let groups = groups(alloc, &candidates)?;
+    add_meetings(
+        alloc,
+        env,
+        matchings.len(),
+        &groups,
+        &candidates,
+        &mut faults,
+    )?;
+    let mut warnings = endless_rules(alloc, matchings)?;
+    add_equal_shadows(alloc, &groups, &candidates, &mut warnings)?;
     Ok(Comparison { faults, warnings })
 }
 
@@ -53,16 +64,17 @@ fn add_meetings(
     alloc: Global,
     env: &Environment,
     count: usize,
+    groups: &Groups,
     candidates: &[Candidate],
     found: &mut Vec<Fault>,
 ) -> Result<(), AllocError>
+    requires { AreGroups groups.now (candidates_of candidates.now) }
     ensures { OnOk result (faults_of found.new.items ≡ faults_of found.old.items
         ++ meetings (environment_of env.now).terms count (candidates_of candidates.now)) }
 {
     let pairs = pairs(alloc, candidates)?;
     let stars = stars(alloc, count, pairs)?;
-    let groups = groups(alloc, candidates)?;
-    add_met_all(alloc, env, &stars, &groups, candidates, found)
+    add_met_all(alloc, env, &stars, groups, candidates, found)
 }
 
 fn add_met_all(
@@ -193,14 +205,21 @@ fn told_other(
         pos: other.pos,
         value: Value {
             text: value.text,
-            is_sure: value.is_sure && candidate.is_plain && other.is_plain,
+            is_sure: value.is_sure && is_exact(candidate) && is_exact(other),
         },
     })
 }
 
+/// Returns whether a rule matches whatever satisfies its constraints.
+fn is_exact(candidate: &Candidate) -> bool
+    ensures { result ≡ told.is_exact (candidate_of candidate.now) }
+{
+    candidate.is_plain && !candidate.has_several
+}
+
 /// Returns the positions of the rules that a rule hides.
 fn hidden_by(alloc: Global, high: &Candidate, groups: &Groups) -> Result<Vec<Pos>, AllocError>
-    ensures { IfOk result (λ made. made.items ≡ hidden_by (candidate_of high.now)
+    ensures { IfOk result (λ made. made.items ≡ hidden_by hides (candidate_of high.now)
         (group_of (get_by_text groups.now high.now.term.now))) }
 {
     let Some(group) = groups.get(high.term) else {
@@ -211,7 +230,7 @@ fn hidden_by(alloc: Global, high: &Candidate, groups: &Groups) -> Result<Vec<Pos
 
 fn hidden_in(alloc: Global, high: &Candidate, group: &[&Candidate]) -> Result<Vec<Pos>, AllocError>
     ensures { IfOk result
-        (λ made. made.items ≡ hidden_by (candidate_of high.now) (candidates_at group.now)) }
+        (λ made. made.items ≡ hidden_by hides (candidate_of high.now) (candidates_at group.now)) }
 {
     let mut hidden = Vec::new(alloc);
     for low in group {
@@ -228,7 +247,7 @@ fn add_shadow(
     found: &mut Vec<Fault>,
 ) -> Result<(), AllocError>
     ensures { OnOk result (faults_of found.new.items ≡ faults_of found.old.items
-        ++ shadow_at (candidate_of candidate.now) hidden.items) }
+        ++ shadow_at shadows (candidate_of candidate.now) hidden.items) }
 {
     if hidden.is_empty() {
         return Ok(());

@@ -211,7 +211,13 @@ pub fn stars<'c, 'm, 'a>(
         ≡ stars (length (pairs_of pairs.entry.items)) count (pairs_of pairs.entry.items)) }
 {
     let mut made = Vec::new(alloc);
-    add_stars(alloc, pairs.len(), count, pairs, &mut made)?;
+    let mut left = pairs;
+    for _step in 0..left.len() {
+        if are_none(&left) {
+            return Ok(made);
+        }
+        left = add_star(alloc, count, &left, &mut made)?;
+    }
     Ok(made)
 }
 
@@ -219,24 +225,6 @@ fn are_none(pairs: &Vec<Pair>) -> bool
     ensures { result ≡ (length pairs.now.items == 0) }
 {
     pairs.is_empty()
-}
-
-/// Adds at most so many stars.
-fn add_stars<'c, 'm, 'a>(
-    alloc: Global,
-    steps: usize,
-    count: usize,
-    pairs: Vec<Pair<'c, 'm, 'a>>,
-    made: &mut Vec<Star<'c, 'm, 'a>>,
-) -> Result<(), AllocError>
-    ensures { OnOk result (stars_of made.new.items
-        ≡ stars_of made.old.items ++ stars steps count (pairs_of pairs.entry.items)) }
-{
-    if steps == 0 || are_none(&pairs) {
-        return Ok(());
-    }
-    let left = add_star(alloc, count, &pairs, made)?;
-    add_stars(alloc, steps - 1, count, left, made)
 }
 
 /// Adds the star of the rule that overlaps with most, and returns the pairs without it.

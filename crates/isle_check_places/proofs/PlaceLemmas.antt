@@ -1,5 +1,5 @@
 -- Places are the same if their last steps are, and what is before these.
-use Rattle.std.proofs.Common.{◌≡◌, List, [], ◌∷◌, ◌++◌, Bool, true, false, ◌&&◌, length, refl, sym, ap, ◌∙◌, arith}
+use Rattle.std.proofs.Common.{◌≡◌, ◌≢◌, suc, List, [], ◌∷◌, ◌++◌, Bool, true, false, ◌&&◌, length, refl, sym, ap, ◌∙◌, arith}
 use Rattle.std.proofs.Math.Bool.{and-false}
 use Rattle.std.proofs.lemmas.List.{map-append}
 use Rattle.isle_check_places.specs.declared.places.Step.{Step}
@@ -39,3 +39,10 @@ pub none_is_other : (left right xs : List Step) (x : Step) → left ≡ xs ++ x 
 none_is_other left [] xs x is_left none =
     sym (ap (λ s. same_place (place_of s) []) is_left ∙ (ap (λ p. same_place p []) (map-append step_of xs (x ∷ [])) ∙ none_behind (place_of xs) (step_of x)))
 none_is_other left (s ∷ right) xs x is_left none = absurd (omega (arith, none))
+
+pub other_lengths : (left right : List Step) → length left ≢ length right → same_place (place_of left) (place_of right) ≡ false
+other_lengths [] [] other = absurd (other refl)
+other_lengths [] (s ∷ right) other = refl
+other_lengths (s ∷ left) [] other = refl
+other_lengths (s ∷ left) (t ∷ right) other =
+    ap (λ r. same_step (step_of s) (step_of t) && r) (other_lengths left right (λ e. other (ap suc e))) ∙ and-false (same_step (step_of s) (step_of t))

@@ -4,4 +4,6 @@ pub mod Clashes
 pub mod Comparing
 pub mod Under
 pub mod UnderView
+pub mod Following
+pub mod JoinView
 pub mod Views

@@ -78,11 +78,14 @@ pub data SettledNode : Type 0 where
   unequal : SettledNode
   endless : SettledNode
 
--- How often equal places are gone over, and how many of them there may be after each time if more can be made of them. Where a value would be
--- a part of itself, equal parts have no end, and exceed this. But so can other rules: those with more than 64 second mentions of variables,
--- or with equal parts that double again and again. Such a rule counts as endless, too: it is told in a warning, and not compared.
+-- How often equal places are gone over. Where a value would be a part of itself, equal parts have no end, and exceed this. But so can a rule whose
+-- equal parts lie more than 64 deep in values: it counts as endless, too. Such a rule is told in a warning, and not compared.
 abbrev pub most_sweeps : ℕ
 most_sweeps = 64
+
+-- how many equal places there may be after each time if more can be made of them. They may double again and again
+abbrev pub most_equal : ℕ
+most_equal = 1024
 
 abbrev pub begun : List ConstrainedNode → SweepNode
 begun cs = record { constraints = cs; equal = []; is_opened = false; clashes = false }
@@ -91,7 +94,7 @@ begun cs = record { constraints = cs; equal = []; is_opened = false; clashes = f
 abbrev pub after : (next : SettledNode) → SweepNode → SettledNode
 after next s =
     if s.clashes then unequal
-    else if s.is_opened then (if nat_lt most_sweeps (length s.equal) then endless else next)
+    else if s.is_opened then (if nat_lt most_equal (length s.equal) then endless else next)
     else settled s.constraints s.equal
 
 abbrev pub settle : (sweeps : ℕ) → List ConstrainedNode → List EqualityNode → SettledNode

@@ -4,12 +4,14 @@
 
 mod clashing;
 mod comparing;
+mod following;
 mod places;
 mod settling;
 mod under;
 
 pub use clashing::{Clash, clashes};
 pub use comparing::{apart, within};
+pub use following::all_follow;
 pub use places::{
     Constrained, Constraint, Place, Step, begin, copied, same_constraint, same_place, step_on,
 };

@@ -60,15 +60,24 @@ pub struct Constrained<'a> {
     pub constraint: Constraint<'a>,
 }
 
-/// Returns whether two places are the same. Most that differ do so at their ends, so it begins there.
+/// Returns whether two places are the same. Most that differ do so in length.
+#[tactic(auto, using(crate::proofs::PlaceLemmas::other_lengths))]
 pub fn same_place(a: &[Step], b: &[Step]) -> bool
+    ensures { result ≡ same_place (place_of a.now) (place_of b.now) }
+{
+    a.len() == b.len() && same_steps(a, b)
+}
+
+/// Returns whether two places have the same steps. Most that differ do so at their ends, so it
+/// begins there.
+fn same_steps(a: &[Step], b: &[Step]) -> bool
     ensures { result ≡ same_place (place_of a.now) (place_of b.now) }
 {
     match a.split_last() {
         None => b.is_empty(),
         Some((step, more)) => match b.split_last() {
             None => false,
-            Some((other, others)) => same_step(step, other) && same_place(more, others),
+            Some((other, others)) => same_step(step, other) && same_steps(more, others),
         },
     }
 }

@@ -3,7 +3,8 @@
 ghost use Rattle.std.specs.Prelude.{◌≡◌, ◌++◌, ◌∷◌, [], IfOk, OnOk, length, nat_lt};
 ghost use Rattle.std.specs.Prelude.{option_map};
 ghost use Rattle.isle_check_places.specs.Settling.{begun, constraint_at, equal_fields};
-ghost use Rattle.isle_check_places.specs.Settling.{equal_part, equal_parts, most_sweeps, settle};
+ghost use Rattle.isle_check_places.specs.Settling.{equal_part, equal_parts, most_equal};
+ghost use Rattle.isle_check_places.specs.Settling.{most_sweeps, settle};
 ghost use Rattle.isle_check_places.specs.Settling.{opened, sweep, swept, swept_by, with_constraint};
 ghost use Rattle.isle_check_places.specs.Views.{all_constrained_of, all_equalities_of};
 ghost use Rattle.isle_check_places.specs.Views.{constraint_of, equality_of, place_of, step_of};
@@ -14,9 +15,12 @@ use crate::places::{
 };
 use std::alloc::{AllocError, Global};
 
-/// How often equal places are gone over, and how many of them there may be after each time if more
-/// can be made of them. A rule that exceeds this counts as endless.
+/// How often equal places are gone over. A rule that exceeds this counts as endless.
 const MOST_SWEEPS: usize = 64;
+
+/// How many equal places there may be after each time if more can be made of them. A rule that
+/// exceeds this counts as endless, too.
+const MOST_EQUAL: usize = 1024;
 
 /// Two places that are equal.
 #[derive(Debug, Drop)]
@@ -45,7 +49,7 @@ pub enum Settled<'a> {
     /// Two constraints of equal places differ.
     Unequal,
     /// There is no end of equal parts within a bound, as where a value would be a part of itself.
-    /// Rules with more than 64 second mentions of variables may exceed it, too.
+    /// Rules with more than 1,024 equal parts may exceed it, too.
     Endless,
 }
 
@@ -101,9 +105,9 @@ fn settle_within<'a>(
 }
 
 fn are_too_many(equal: &Vec<Equality>) -> bool
-    ensures { result ≡ nat_lt most_sweeps (length (all_equalities_of equal.now.items)) }
+    ensures { result ≡ nat_lt most_equal (length (all_equalities_of equal.now.items)) }
 {
-    MOST_SWEEPS < equal.len()
+    MOST_EQUAL < equal.len()
 }
 
 fn sweep_over<'a>(

@@ -19,6 +19,7 @@ fn rule<'a>(
     Ok(Matching {
         term: "f",
         is_multi: false,
+        has_several: false,
         prio,
         pos: Pos::new(0, offset),
         clashes,
