@@ -150,8 +150,8 @@ pub fn hidden_rules_are_never_taken<V>()
         → Runs k w high input × ((high.term ≡ low.term) × (int_lt low.prio high.prio ≡ true)) }
 {}
 
-/// A law, which runs no code: a rule that is hidden by one with equal values is never taken, either.
-/// The constraints and the equal places of the one that hides it are its own, or follow from these.
+/// A law, which runs no code: a rule that is hidden by one with equal values is never taken. The
+/// constraints and the equal places of the one that hides it are its own, or follow from these.
 pub fn rules_hidden_with_equals_are_never_taken<V>()
     ensures { (k : TermsNode) (w : World V) (input : ℕ → V) (high low : TypedRuleNode)
         (a b : CandidateNode) → IsExtensional w → IsClosed k high → IsCompared k high a
