@@ -4,7 +4,7 @@ use Rattle.std.proofs.lemmas.Option.{none-some, same_Some}
 use Rattle.isle_check_places.specs.Places.{ConstraintNode}
 use Rattle.isle_check_laws.specs.Runs.{only_if, is_constraint, is_of, is_value}
 use Rattle.isle_check_laws.specs.Worlds.{World}
-use Rattle.isle_check_laws.proofs.Equality.{constraint_is, constraint_same}
+use Rattle.isle_check_overlaps.proofs.Equality.{constraint_is, constraint_same}
 
 pub only_if_some : {A : Type 0} (b : Bool) (x y : A) → only_if b x ≡ Some y → (b ≡ true) × (x ≡ y)
 only_if_some true x y h = (refl, same_Some x y h)

@@ -5,7 +5,7 @@ use Rattle.isle_check_places.specs.Clashes.{ClashNode, clash, clashes_after}
 use Rattle.isle_check_places.specs.Places.{Place, ConstraintNode, ConstrainedNode, same_constraint, same_place}
 use Rattle.isle_check_places.specs.Settling.{constraint_at}
 use Rattle.isle_check_laws.specs.Valuations.{Valuation, Holds, Satisfies}
-use Rattle.isle_check_laws.proofs.Equality.{constraint_is, constraint_same, place_is, place_same}
+use Rattle.isle_check_overlaps.proofs.Equality.{constraint_is, constraint_same, place_is, place_same}
 
 -- the first of two lists without elements, and the second
 nil_first : {A : Type 0} (xs ys : List A) → xs ++ ys ≡ [] → xs ≡ []

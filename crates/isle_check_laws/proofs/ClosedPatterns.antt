@@ -10,10 +10,10 @@ use Rattle.isle_check_typing.specs.Typed.{TypedNode}
 use Rattle.isle_check_typing.specs.TypedView.{typed_list_of}
 use Rattle.isle_check_judgements.specs.HasType.{HasType, binds, compares, names, is_bool, is_integer, is_constant, is_anything, are_all, extracts, expands, converts, HaveType, no_more, one_more, HaveTypes, no_argument, one_argument, bound_more}
 use Rattle.isle_check_matchings.specs.Asks.{TermsNode}
-use Rattle.isle_check_matchings.specs.Matchings.{multi_by}
+use Rattle.isle_check_rules.specs.Warnings.{list_terms_in, multi_by, terms_in}
 use Rattle.isle_check_laws.specs.Closed.{IsSingle, pattern_variables, list_variables, IsClosedPattern, AreClosedPatterns}
-use Rattle.isle_check_laws.specs.UsedTerms.{AreSingle, pattern_terms, list_terms}
-use Rattle.isle_check_laws.proofs.Booleans.{and_first, and_second, not_true}
+use Rattle.isle_check_laws.specs.UsedTerms.{AreSingle}
+use Rattle.isle_check_overlaps.proofs.Booleans.{and_first, and_second, not_true}
 use Rattle.isle_check_laws.proofs.SeenVariables.{Seen, seen_weaker, seen_more, found_seen, bound_before, bound_last}
 
 module _ (k : TermsNode) where
@@ -38,7 +38,7 @@ module _ (k : TermsNode) where
   module _ (env : EnvironmentNode) (known : (f : List ℕ) → k.terms f ≡ env.terms f) where
     mutual
       pub pattern_closed : (p : PatternNode) (ty : List ℕ) (bound : List VariableNode) (typed : TypedNode) (after : List VariableNode) →
-          HasType env p ty bound typed after → (before : List ℕ) → Seen bound before → AreSingle k (pattern_terms typed) →
+          HasType env p ty bound typed after → (before : List ℕ) → Seen bound before → AreSingle k (terms_in typed) →
           IsClosedPattern k before typed × Seen after (before ++ pattern_variables typed)
       pattern_closed _ _ _ _ _ (binds {var} {ty} {bound} h) before s single =
           (tt, seen_more bound var.text ty (before ++ length bound ∷ []) (seen_weaker bound before (length bound ∷ []) s) (bound_last before (length bound)))
@@ -59,7 +59,7 @@ module _ (k : TermsNode) where
       pattern_closed _ _ _ _ _ (is_anything {bound}) before s single = (tt, subst (Seen bound) (sym (append-nil before)) s)
       pattern_closed _ _ _ _ _ (are_all {subpats} {ty} {bound} {after} {typed} ds) before s single = each_closed subpats ty bound typed after ds before s single
       pattern_closed _ _ _ _ _ (extracts {name} {args} {bound} {after} {typed} {t} found plain ext ds) before s single =
-          let fs = list_terms (typed_list_of typed) in
+          let fs = list_terms_in (typed_list_of typed) in
           let rest = arguments_closed args t.args bound typed after ds before s (single_rest name.text fs single) in
           ((single_head name.text fs t (known name.text ∙ found) single, rest.0), rest.1)
       pattern_closed _ _ _ _ _ (expands {bound} {after} {typed} {t} {filled} found is count puts d) before s single =
@@ -68,23 +68,23 @@ module _ (k : TermsNode) where
           pattern_closed (term_pattern (record { text = converter; pos = place }) (more_pattern (term_pattern name args place) no_pattern) place) ty bound typed after d before s single
 
       each_closed : (ps : PatternList) (ty : List ℕ) (bound : List VariableNode) (typed : List TypedNode) (after : List VariableNode) →
-          HaveType env ps ty bound typed after → (before : List ℕ) → Seen bound before → AreSingle k (list_terms (typed_list_of typed)) →
+          HaveType env ps ty bound typed after → (before : List ℕ) → Seen bound before → AreSingle k (list_terms_in (typed_list_of typed)) →
           AreClosedPatterns k before (typed_list_of typed) × Seen after (before ++ list_variables (typed_list_of typed))
       each_closed _ _ _ _ _ (no_more {bound}) before s single = (tt, subst (Seen bound) (sym (append-nil before)) s)
       each_closed _ _ _ _ _ (one_more {p} {ps} {ty} {bound} {middle} {after} {typed} {rest} d ds) before s single =
-          let fs = pattern_terms typed in
-          let gs = list_terms (typed_list_of rest) in
+          let fs = terms_in typed in
+          let gs = list_terms_in (typed_list_of rest) in
           let one = pattern_closed p ty bound typed middle d before s (single_first fs gs single) in
           let all = each_closed ps ty middle rest after ds (before ++ pattern_variables typed) one.1 (single_second fs gs single) in
           ((one.0, all.0), subst (Seen after) (append_assoc before (pattern_variables typed) (list_variables (typed_list_of rest))) all.1)
 
       pub arguments_closed : (ps : PatternList) (types : List (List ℕ)) (bound : List VariableNode) (typed : List TypedNode) (after : List VariableNode) →
-          HaveTypes env ps types bound typed after → (before : List ℕ) → Seen bound before → AreSingle k (list_terms (typed_list_of typed)) →
+          HaveTypes env ps types bound typed after → (before : List ℕ) → Seen bound before → AreSingle k (list_terms_in (typed_list_of typed)) →
           AreClosedPatterns k before (typed_list_of typed) × Seen after (before ++ list_variables (typed_list_of typed))
       arguments_closed _ _ _ _ _ (no_argument {bound}) before s single = (tt, subst (Seen bound) (sym (append-nil before)) s)
       arguments_closed _ _ _ _ _ (one_argument {p} {ps} {ty} {types} {bound} {middle} {after} {typed} {rest} d ds) before s single =
-          let fs = pattern_terms typed in
-          let gs = list_terms (typed_list_of rest) in
+          let fs = terms_in typed in
+          let gs = list_terms_in (typed_list_of rest) in
           let one = pattern_closed p ty bound typed middle d before s (single_first fs gs single) in
           let all = arguments_closed ps types middle rest after ds (before ++ pattern_variables typed) one.1 (single_second fs gs single) in
           ((one.0, all.0), subst (Seen after) (append_assoc before (pattern_variables typed) (list_variables (typed_list_of rest))) all.1)

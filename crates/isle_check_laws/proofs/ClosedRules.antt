@@ -11,7 +11,8 @@ use Rattle.isle_check_rules.specs.TypedRules.{TypedCondition, TypedRuleNode}
 use Rattle.isle_check_judgements.specs.IsTypedRule.{AreConditions, no_condition, one_condition, IsTypedRule, rewrites}
 use Rattle.isle_check_matchings.specs.Asks.{TermsNode}
 use Rattle.isle_check_laws.specs.Closed.{IsClosed, AreClosedConditions, list_variables, pattern_variables}
-use Rattle.isle_check_laws.specs.UsedTerms.{AreSingle, conditions_terms, expression_terms, list_terms, pattern_terms, rule_terms}
+use Rattle.isle_check_laws.specs.UsedTerms.{AreSingle, conditions_terms, expression_terms, rule_terms}
+use Rattle.isle_check_rules.specs.Warnings.{list_terms_in, terms_in}
 use Rattle.isle_check_laws.proofs.ClosedExpressions.{expression_closed}
 use Rattle.isle_check_laws.proofs.ClosedPatterns.{single_first, single_second, pattern_closed, arguments_closed}
 use Rattle.isle_check_laws.proofs.SeenVariables.{Seen, seen_behind}
@@ -22,7 +23,7 @@ module _ (k : TermsNode) (env : EnvironmentNode) (known : (f : List ℕ) → k.t
   conditions_closed flags _ _ _ _ no_condition before s single = tt
   conditions_closed flags _ _ _ _ (one_condition {c} {cs} {bound} {middle} {behind} {after} {pattern} {expr} {rest} d p ds) before s single =
       let es = expression_terms expr in
-      let ps = pattern_terms pattern in
+      let ps = terms_in pattern in
       let fs = conditions_terms rest in
       let value = expression_closed k env known flags c.expr None bound expr middle d before s (single_first k es (ps ++ fs) single) in
       let tail = single_second k es (ps ++ fs) single in
@@ -31,7 +32,7 @@ module _ (k : TermsNode) (env : EnvironmentNode) (known : (f : List ℕ) → k.t
 
   pub rule_closed : (r : RuleDefinition) (typed : TypedRuleNode) → IsTypedRule env r typed → AreSingle k (rule_terms typed) → IsClosed k typed
   rule_closed _ _ (rewrites {r} {args} {t} {bound} {middle} {left} {iflets} head found ds cs d prio) single =
-      let fs = list_terms (typed_list_of left) in
+      let fs = list_terms_in (typed_list_of left) in
       let gs = conditions_terms iflets in
       let first = arguments_closed k env known args t.args [] left bound ds [] tt (single_first k fs gs single) in
       (first.0, conditions_closed (condition_flags t) r.iflets bound iflets middle cs (list_variables (typed_list_of left)) first.1 (single_second k fs gs single))

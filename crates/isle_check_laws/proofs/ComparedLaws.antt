@@ -11,7 +11,7 @@ use Rattle.isle_check_matchings.specs.Asks.{TermsNode}
 use Rattle.isle_check_matchings.specs.Matchings.{constraints_of, equalities_of}
 use Rattle.isle_check_matchings.specs.RuleAsks.{rule_asks}
 use Rattle.isle_check_laws.specs.Compared.{IsCompared, Meet, Covers}
-use Rattle.isle_check_laws.proofs.Booleans.{and_first, and_second, and_true, not_true, not_false, false_of}
+use Rattle.isle_check_overlaps.proofs.Booleans.{and_first, and_second, and_true, not_true, not_false, false_of}
 use Rattle.isle_check_laws.proofs.ComparisonLaws.{apart_excludes, common, within_law}
 use Rattle.isle_check_laws.proofs.RuleLaws.{comes}
 use Rattle.isle_check_laws.proofs.SettledClashes.{settled_clear}

@@ -7,9 +7,9 @@ use Rattle.isle_check_places.specs.Comparing.{differ, apart, is_in, within}
 use Rattle.isle_check_places.specs.Places.{ConstraintNode, ConstrainedNode, same_constraint, same_place}
 use Rattle.isle_check_places.specs.Settling.{constraint_at}
 use Rattle.isle_check_laws.specs.Valuations.{Valuation, Holds, Satisfies, HaveCommon}
-use Rattle.isle_check_laws.proofs.Booleans.{and_first, and_second, and_true, or_first, or_second, or_false, true_first, true_second}
+use Rattle.isle_check_overlaps.proofs.Booleans.{and_first, and_second, and_true, or_first, or_second, or_false, true_first, true_second}
 use Rattle.isle_check_laws.proofs.ClashLaws.{satisfied, before_counts}
-use Rattle.isle_check_laws.proofs.Equality.{constraint_is, constraint_same, place_is, place_same}
+use Rattle.isle_check_overlaps.proofs.Equality.{constraint_is, constraint_same, place_is, place_same}
 
 -- P holds of each
 abbrev Each : (P : ConstrainedNode → Type 0) → List ConstrainedNode → Type 0

@@ -6,8 +6,8 @@ use Rattle.isle_check_places.specs.Settling.{EqualityNode}
 use Rattle.isle_check_places.specs.Following.{JoinNode, join, stands_for, joins_after, are_joined, all_follow}
 use Rattle.isle_check_laws.specs.PlaceValues.{value_at, AreEqual}
 use Rattle.isle_check_laws.specs.Worlds.{World}
-use Rattle.isle_check_laws.proofs.Booleans.{and_first, and_second}
-use Rattle.isle_check_laws.proofs.Equality.{place_is}
+use Rattle.isle_check_overlaps.proofs.Booleans.{and_first, and_second}
+use Rattle.isle_check_overlaps.proofs.Equality.{place_is}
 
 module _ {V : Type 0} (w : World V) (input : ℕ → V) where
   -- the value at each of these places is that of the one that stands for it

@@ -17,7 +17,7 @@ use Rattle.isle_check_laws.specs.Extensional.{IsExtensional}
 use Rattle.isle_check_laws.specs.PlaceValues.{valuation, AreEqual}
 use Rattle.isle_check_laws.specs.Runs.{Runs}
 use Rattle.isle_check_laws.specs.Worlds.{World}
-use Rattle.isle_check_laws.proofs.Booleans.{and_first, and_second}
+use Rattle.isle_check_overlaps.proofs.Booleans.{and_first, and_second}
 use Rattle.isle_check_laws.proofs.ComparisonLaws.{within_satisfies}
 use Rattle.isle_check_laws.proofs.FollowingLaws.{following_law}
 use Rattle.isle_check_laws.proofs.RuleLaws.{comes, compared_equal, compared_holds}

@@ -1,5 +1,3 @@
-pub mod Booleans
-pub mod Equality
 pub mod ClashLaws
 pub mod ComparisonLaws
 pub mod SettledClashes

@@ -16,7 +16,7 @@ use Rattle.isle_check_laws.specs.PlaceValues.{valuation, AreEqual, IsMet}
 use Rattle.isle_check_laws.specs.Runs.{Runs}
 use Rattle.isle_check_laws.specs.Valuations.{Satisfies}
 use Rattle.isle_check_laws.specs.Worlds.{World}
-use Rattle.isle_check_laws.proofs.Booleans.{and_first}
+use Rattle.isle_check_overlaps.proofs.Booleans.{and_first}
 use Rattle.isle_check_laws.proofs.ClashLaws.{clashes_none}
 use Rattle.isle_check_laws.proofs.ComparisonLaws.{apart_excludes}
 use Rattle.isle_check_laws.proofs.RuleRuns.{run_law}

@@ -9,7 +9,7 @@ use Rattle.isle_check_typing.specs.Progress.{FoundNode, VariableNode, find, find
 use Rattle.isle_check_judgements.specs.HasExpressionType.{bound_behind}
 use Rattle.isle_check_judgements.specs.HasType.{bound_more}
 use Rattle.isle_check_laws.specs.Closed.{IsBound}
-use Rattle.isle_check_laws.proofs.Booleans.{and_first, true_first, true_second}
+use Rattle.isle_check_overlaps.proofs.Booleans.{and_first, true_first, true_second}
 
 -- the number of each variable that may be named is among these, if the first has the number `i`
 abbrev pub SeenFrom : (i : ℕ) → List VariableNode → (before : List ℕ) → Type 0

@@ -7,7 +7,7 @@ use Rattle.isle_check_laws.specs.PlaceValues.{value_at, valuation, AreEqual, IsM
 use Rattle.isle_check_laws.specs.Valuations.{Satisfies}
 use Rattle.isle_check_laws.specs.Worlds.{World}
 use Rattle.isle_check_laws.proofs.ClashLaws.{append_satisfies, found_holds}
-use Rattle.isle_check_laws.proofs.Equality.{constraint_same}
+use Rattle.isle_check_overlaps.proofs.Equality.{constraint_same}
 use Rattle.isle_check_laws.proofs.PlaceValues.{equal_constraint, equal_field, equal_content}
 
 module _ {V : Type 0} (w : World V) (input : ℕ → V) where

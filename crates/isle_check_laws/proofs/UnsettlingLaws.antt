@@ -9,7 +9,7 @@ use Rattle.isle_check_laws.specs.PlaceValues.{value_at, valuation, AreEqual}
 use Rattle.isle_check_laws.specs.Valuations.{Satisfies, Holds}
 use Rattle.isle_check_laws.specs.Worlds.{World}
 use Rattle.isle_check_laws.proofs.ClashLaws.{found_holds}
-use Rattle.isle_check_laws.proofs.Equality.{constraint_is, place_is}
+use Rattle.isle_check_overlaps.proofs.Equality.{constraint_is, place_is}
 use Rattle.isle_check_laws.proofs.PlaceValues.{field_value, content_value}
 
 module _ {V : Type 0} (w : World V) (input : ℕ → V) (looks : IsExtensional w) where

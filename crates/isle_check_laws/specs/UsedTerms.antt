@@ -1,28 +1,11 @@
 -- The terms that a rule uses in its arguments and its conditions.
 use Rattle.std.specs.Prelude.{◌≡◌, ℕ, List, [], ◌∷◌, ◌++◌, true, not}
 use Rattle.std.specs.List.{list_all}
-use Rattle.isle_check_typing.specs.Typed.{TypedNode, typed_bind, typed_var, typed_bool, typed_int, typed_const, typed_term, typed_wildcard, typed_and, TypedList, no_typed, more_typed}
 use Rattle.isle_check_typing.specs.TypedView.{typed_list_of}
 use Rattle.isle_check_expressions.specs.TypedExpressions.{TypedExpressionNode, typed_var_expression, typed_bool_expression, typed_int_expression, typed_const_expression, typed_term_expression, typed_let_expression, TypedExpressionList, no_typed_expression, more_typed_expression, TypedLetList, no_typed_let, more_typed_let}
 use Rattle.isle_check_rules.specs.TypedRules.{TypedCondition, TypedRuleNode}
+use Rattle.isle_check_rules.specs.Warnings.{list_terms_in, multi_by, terms_in}
 use Rattle.isle_check_matchings.specs.Asks.{TermsNode}
-use Rattle.isle_check_matchings.specs.Matchings.{multi_by}
-
--- the terms of a pattern
-abbrev mutual
-  pub pattern_terms : TypedNode → List (List ℕ)
-  pattern_terms (typed_bind _ _ p) = pattern_terms p
-  pattern_terms (typed_var _ _) = []
-  pattern_terms (typed_bool _ _) = []
-  pattern_terms (typed_int _ _) = []
-  pattern_terms (typed_const _ _) = []
-  pattern_terms (typed_term f _ ps) = f ∷ list_terms ps
-  pattern_terms (typed_wildcard _) = []
-  pattern_terms (typed_and _ ps) = list_terms ps
-
-  pub list_terms : TypedList → List (List ℕ)
-  list_terms no_typed = []
-  list_terms (more_typed p ps) = pattern_terms p ++ list_terms ps
 
 -- the terms of an expression
 abbrev mutual
@@ -45,11 +28,11 @@ abbrev mutual
 -- the terms of conditions
 abbrev pub conditions_terms : List TypedCondition → List (List ℕ)
 conditions_terms [] = []
-conditions_terms (c ∷ cs) = expression_terms c.expr ++ (pattern_terms c.pattern ++ conditions_terms cs)
+conditions_terms (c ∷ cs) = expression_terms c.expr ++ (terms_in c.pattern ++ conditions_terms cs)
 
 -- those of a rule, without its right side
 abbrev pub rule_terms : TypedRuleNode → List (List ℕ)
-rule_terms r = list_terms (typed_list_of r.args) ++ conditions_terms r.iflets
+rule_terms r = list_terms_in (typed_list_of r.args) ++ conditions_terms r.iflets
 
 -- none of these terms is multi
 abbrev pub AreSingle : TermsNode → List (List ℕ) → Type 0

@@ -12,8 +12,7 @@ use Rattle.isle_check_signatures.specs.Environment.{EnvironmentNode}
 use Rattle.isle_check_rules.specs.declared.typed.TypedRule.{TypedRule}
 use Rattle.isle_check_rules.specs.TypedRules.{TypedRuleNode}
 use Rattle.isle_check_rules.specs.Views.{typed_rule_of, typed_rules_of}
-use Rattle.isle_check_rules.specs.Warnings.{WarningNode, is_multi, multi_extractors, multi_warning, terms_in_patterns}
-use Rattle.isle_check_rules.specs.Warnings as warned
+use Rattle.isle_check_rules.specs.Warnings.{WarningNode, is_multi, multi_extractors, multi_by, multi_warning, terms_in_patterns}
 use Rattle.isle_check_places.specs.Clashes.{clashes_after}
 use Rattle.isle_check_places.specs.Settling.{most_sweeps, settle}
 use Rattle.isle_check_overlaps.specs.declared.matching.Matching.{Matching}
@@ -21,7 +20,7 @@ use Rattle.isle_check_overlaps.specs.Matchings.{MatchingNode}
 use Rattle.isle_check_overlaps.specs.Views as seen
 use Rattle.isle_check_matchings.specs.Asks.{TermsNode, AskNode}
 use Rattle.isle_check_matchings.specs.Infallible.{infallible_name, program_terms}
-use Rattle.isle_check_matchings.specs.Matchings.{constraints_of, equalities_of, has_several, matching_of, multi_by}
+use Rattle.isle_check_matchings.specs.Matchings.{constraints_of, equalities_of, has_several, matching_of}
 
 pub matchings_step : (f : TypedRuleNode → MatchingNode) (made after : List Matching) (m : Matching) (rules : List TypedRule) (i : ℕ) (r : TypedRule) (whole : List MatchingNode) →
     i < length rules → r ≡ get_or rules i r → seen.matching_of m ≡ f (typed_rule_of r) → after ≡ made ++ m ∷ [] →
@@ -73,4 +72,4 @@ pub several_found : (k : TermsNode) (env : EnvironmentNode) (r : TypedRuleNode) 
     not (length (multi_extractors env (r ∷ [])) == 0) ≡ has_several k r
 several_found k env r same =
     several_by env r (is_multi env r.term)
-    ∙ sym (ap (λ t. not (warned.multi_by (t r.term)) && list_any (λ f. warned.multi_by (t f)) (terms_in_patterns r)) same)
+    ∙ sym (ap (λ t. not (multi_by (t r.term)) && list_any (λ f. multi_by (t f)) (terms_in_patterns r)) same)

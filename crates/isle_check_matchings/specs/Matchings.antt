@@ -1,9 +1,8 @@
 -- What typed rules match.
-use Rattle.std.specs.Prelude.{List, [], ◌∷◌, Bool, false, ◌&&◌, not, Option, None, Some, map}
+use Rattle.std.specs.Prelude.{List, [], ◌∷◌, Bool, ◌&&◌, not, map}
 use Rattle.std.specs.List.{flat_map, list_any}
-use Rattle.isle_check_signatures.specs.Signatures.{TermNode}
 use Rattle.isle_check_rules.specs.TypedRules.{TypedRuleNode}
-use Rattle.isle_check_rules.specs.Warnings as warned
+use Rattle.isle_check_rules.specs.Warnings.{multi_by, terms_in_patterns}
 use Rattle.isle_check_places.specs.Places.{ConstrainedNode}
 use Rattle.isle_check_places.specs.Clashes.{clashes_after}
 use Rattle.isle_check_places.specs.Settling.{EqualityNode, constrained, equality, most_sweeps, settle}
@@ -29,14 +28,10 @@ equality_of known (equals x at) = equality at (variable_value known x).at ∷ []
 abbrev pub equalities_of : List AskNode → List EqualityNode
 equalities_of asks = flat_map (equality_of asks) asks
 
-abbrev pub multi_by : Option TermNode → Bool
-multi_by None = false
-multi_by (Some t) = t.multi
-
 -- a multi extractor stands in a pattern of a rule whose term is not multi
 abbrev pub has_several : TermsNode → TypedRuleNode → Bool
 has_several k r =
-    not (warned.multi_by (k.terms r.term)) && list_any (λ f. warned.multi_by (k.terms f)) (warned.terms_in_patterns r)
+    not (multi_by (k.terms r.term)) && list_any (λ f. multi_by (k.terms f)) (terms_in_patterns r)
 
 abbrev pub matching_of : TermsNode → TypedRuleNode → List AskNode → MatchingNode
 matching_of k r asks =

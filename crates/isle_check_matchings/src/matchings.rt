@@ -5,11 +5,12 @@ ghost use Rattle.isle_ast.specs.TreeView.{definitions_of};
 ghost use Rattle.isle_check_matchings.specs.Infallible.{program_terms};
 ghost use Rattle.isle_check_matchings.specs.Matchings.{constraints_of, equalities_of};
 ghost use Rattle.isle_check_matchings.specs.Matchings.{has_several, matching, matchings};
-ghost use Rattle.isle_check_matchings.specs.Matchings.{multi_by, rule_overlaps};
+ghost use Rattle.isle_check_matchings.specs.Matchings.{rule_overlaps};
 ghost use Rattle.isle_check_matchings.specs.Views.{asks_of, terms_of};
 ghost use Rattle.isle_check_overlaps.specs.Views.{matching_of, matchings_of, comparison_of};
 ghost use Rattle.isle_check_places.specs.Views.{all_constrained_of, all_equalities_of};
 ghost use Rattle.isle_check_rules.specs.Views.{typed_rule_of, typed_rules_of};
+ghost use Rattle.isle_check_rules.specs.Warnings.{multi_by};
 ghost use Rattle.isle_check_signatures.specs.Views.{environment_of, term_of};
 
 use crate::asks::Ask;

@@ -22,7 +22,7 @@ abbrev pub other_note : OtherNode → NoteNode
 other_note o = note o.pos (codes "this rule overlaps with another one: " ++ both_text o.value)
 
 abbrev pub hidden_note : Pos → NoteNode
-hidden_note pos = note pos (codes "this rule is never taken: a more general one has a higher priority")
+hidden_note pos = note pos (codes "this rule is hidden: a more general one has a higher priority")
 
 -- of an error at this position
 abbrev pub overlap_notes : Pos → KindNode → List NoteNode

@@ -77,7 +77,7 @@ fn hidden_note(alloc: Global, pos: Pos) -> Result<Note, AllocError>
 {
     let message = String::from_str(
         alloc,
-        "this rule is never taken: a more general one has a higher priority",
+        "this rule is hidden: a more general one has a higher priority",
     )?;
     Ok(Note { pos, message })
 }

@@ -1,4 +1,8 @@
+pub mod Booleans
+pub mod Equality
 pub mod ListLemmas
+pub mod AskedLemmas
+pub mod MixedLemmas
 pub mod StarLemmas
 pub mod TermLemmas
 pub mod GroupLemmas

@@ -107,9 +107,9 @@ pub fn overlap(a: &Candidate, b: &Candidate) -> bool
 pub fn hides(high: &Candidate, low: &Candidate) -> bool
     ensures { result ≡ hides (views.candidate_of high.now) (views.candidate_of low.now) }
 {
-    comes_first(high, low)
-        && high.is_plain
+    high.is_plain
         && low.is_plain
+        && comes_first(high, low)
         && within(high.constraints, low.constraints)
 }
 
@@ -123,7 +123,7 @@ pub fn hides_with_equals<'c, 'm, 'a>(
     ensures { IfOk result (λ hides. hides
         ≡ hides_with_equals (views.candidate_of high.now) (views.candidate_of low.now)) }
 {
-    if !comes_first(high, low) || low.is_plain || high.has_several {
+    if low.is_plain || high.has_several || !comes_first(high, low) {
         return Ok(false);
     }
     if !within(high.constraints, low.constraints) {

@@ -5,13 +5,13 @@ ghost use Rattle.std.specs.BTreeMap.{get_by_text};
 ghost use Rattle.isle_check_overlaps.specs.Candidates.{hides_with_equals};
 ghost use Rattle.isle_check_overlaps.specs.Faults.{equal_shadows, hidden_by, shadow_at};
 ghost use Rattle.isle_check_overlaps.specs.Faults.{shadows_with_equals};
-ghost use Rattle.isle_check_overlaps.specs.Groups.{AreGroups, group_of};
+ghost use Rattle.isle_check_overlaps.specs.Groups.{AreGroups, near};
 ghost use Rattle.isle_check_overlaps.specs.Views.{candidate_of, candidates_at, candidates_of};
 ghost use Rattle.isle_check_overlaps.specs.Views.{faults_of};
 
 use crate::candidates::{Candidate, hides_with_equals};
 use crate::fault::{Fault, Kind};
-use crate::groups::Groups;
+use crate::groups::{Groups, near};
 use crate::overlaps::MOST_TOLD;
 use isle_base_source::pos::Pos;
 use std::alloc::{AllocError, Global};
@@ -41,12 +41,10 @@ fn hidden_by<'c, 'm, 'a>(
     groups: &Groups<'c, 'm, 'a>,
 ) -> Result<Vec<Pos>, AllocError>
     ensures { IfOk result (λ made. made.items ≡ hidden_by hides_with_equals (candidate_of high.now)
-        (group_of (get_by_text groups.now high.now.term.now))) }
+        (near (get_by_text groups.now high.now.term.now) (candidate_of high.now))) }
 {
-    let Some(group) = groups.get(high.term) else {
-        return Ok(Vec::new(alloc));
-    };
-    hidden_in(alloc, high, group)
+    let near = near(alloc, groups, high)?;
+    hidden_in(alloc, high, &near)
 }
 
 fn hidden_in<'c, 'm, 'a>(

@@ -8,6 +8,7 @@ mod groups;
 mod matching;
 mod overlaps;
 mod stars;
+mod telling;
 mod unreachable;
 
 pub use fault::{Comparison, Fault, Kind, Other};

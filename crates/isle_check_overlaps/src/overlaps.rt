@@ -6,20 +6,21 @@ ghost use Rattle.std.specs.List.{flat_map};
 ghost use Rattle.isle_check_overlaps.specs.Faults.{hidden_by, meetings, met_at, comparison_of};
 ghost use Rattle.isle_check_overlaps.specs.Candidates.{hides};
 ghost use Rattle.isle_check_overlaps.specs.Faults.{meetings_by, shadow_at, shadows, star_at};
-ghost use Rattle.isle_check_overlaps.specs.Groups.{AreGroups, group_of};
+ghost use Rattle.isle_check_overlaps.specs.Groups.{AreGroups, near};
+ghost use Rattle.isle_check_overlaps.specs.Stars.{pairs};
 ghost use Rattle.isle_check_overlaps.specs.Faults as told;
 ghost use Rattle.isle_check_overlaps.specs.Views as views;
 ghost use Rattle.isle_check_signatures.specs.Views.{environment_of};
 ghost use Rattle.isle_check_overlaps.specs.Views.{candidate_of, candidates_at, candidates_of};
 ghost use Rattle.isle_check_overlaps.specs.Views.{faults_of, other_of, others_of};
-ghost use Rattle.isle_check_overlaps.specs.Views.{matchings_of, star_of, stars_of};
+ghost use Rattle.isle_check_overlaps.specs.Views.{matchings_of, pairs_of, star_of, stars_of};
 
 use crate::candidates::{Candidate, candidates, hides};
 use crate::equal_shadows::add_equal_shadows;
 use crate::fault::{Comparison, Fault, Kind, Other};
-use crate::groups::{Groups, groups};
+use crate::groups::{Groups, near};
 use crate::matching::Matching;
-use crate::stars::{Star, pairs, stars};
+use crate::stars::{Pair, Star, grouped, stars};
 use crate::unreachable::{add_unreachable, endless_rules};
 use isle_base_source::pos::Pos;
 use isle_check_signatures::Environment;
@@ -45,11 +46,13 @@ pub fn compare(
     let mut faults = Vec::new(alloc);
     add_unreachable(alloc, matchings, &mut faults)?;
     let candidates = candidates(alloc, matchings)?;
-    let groups = groups(alloc, &candidates)?;
+    let mut pairs = Vec::new(alloc);
+    let groups = grouped(alloc, &candidates, &mut pairs)?;
     add_meetings(
         alloc,
         env,
         matchings.len(),
+        pairs,
         &groups,
         &candidates,
         &mut faults,
@@ -59,30 +62,31 @@ pub fn compare(
     Ok(Comparison { faults, warnings })
 }
 
-/// Adds the rules that overlap with others or hide others, among so many rules.
-fn add_meetings(
+/// Adds the rules that overlap with others, in these pairs, or hide others, among so many rules.
+fn add_meetings<'c, 'm, 'a>(
     alloc: Global,
     env: &Environment,
     count: usize,
-    groups: &Groups,
-    candidates: &[Candidate],
+    overlapping: Vec<Pair<'c, 'm, 'a>>,
+    groups: &Groups<'c, 'm, 'a>,
+    candidates: &'c [Candidate<'m, 'a>],
     found: &mut Vec<Fault>,
 ) -> Result<(), AllocError>
-    requires { AreGroups groups.now (candidates_of candidates.now) }
+    requires are_groups { AreGroups groups.now (candidates_of candidates.now) }
+    requires are_pairs { pairs_of overlapping.items ≡ pairs (candidates_of candidates.now) }
     ensures { OnOk result (faults_of found.new.items ≡ faults_of found.old.items
         ++ meetings (environment_of env.now).terms count (candidates_of candidates.now)) }
 {
-    let pairs = pairs(alloc, candidates)?;
-    let stars = stars(alloc, count, pairs)?;
+    let stars = stars(alloc, count, overlapping)?;
     add_met_all(alloc, env, &stars, groups, candidates, found)
 }
 
-fn add_met_all(
+fn add_met_all<'c, 'm, 'a>(
     alloc: Global,
     env: &Environment,
     stars: &[Star],
-    groups: &Groups,
-    candidates: &[Candidate],
+    groups: &Groups<'c, 'm, 'a>,
+    candidates: &'c [Candidate<'m, 'a>],
     found: &mut Vec<Fault>,
 ) -> Result<(), AllocError>
     requires { AreGroups groups.now (candidates_of candidates.now) }
@@ -96,17 +100,18 @@ fn add_met_all(
     Ok(())
 }
 
-fn add_met(
+fn add_met<'c, 'm, 'a>(
     alloc: Global,
     env: &Environment,
     stars: &[Star],
-    groups: &Groups,
-    candidate: &Candidate,
+    groups: &Groups<'c, 'm, 'a>,
+    candidate: &'c Candidate<'m, 'a>,
     found: &mut Vec<Fault>,
 ) -> Result<(), AllocError>
     ensures { OnOk result (faults_of found.new.items ≡ faults_of found.old.items
         ++ met_at (environment_of env.now).terms (stars_of stars.now)
-        (group_of (get_by_text groups.now candidate.now.term.now)) (candidate_of candidate.now)) }
+        (near (get_by_text groups.now candidate.now.term.now) (candidate_of candidate.now))
+        (candidate_of candidate.now)) }
 {
     add_stars(alloc, env, stars, candidate, found)?;
     let hidden = hidden_by(alloc, candidate, groups)?;
@@ -218,14 +223,16 @@ fn is_exact(candidate: &Candidate) -> bool
 }
 
 /// Returns the positions of the rules that a rule hides.
-fn hidden_by(alloc: Global, high: &Candidate, groups: &Groups) -> Result<Vec<Pos>, AllocError>
+fn hidden_by<'c, 'm, 'a>(
+    alloc: Global,
+    high: &'c Candidate<'m, 'a>,
+    groups: &Groups<'c, 'm, 'a>,
+) -> Result<Vec<Pos>, AllocError>
     ensures { IfOk result (λ made. made.items ≡ hidden_by hides (candidate_of high.now)
-        (group_of (get_by_text groups.now high.now.term.now))) }
+        (near (get_by_text groups.now high.now.term.now) (candidate_of high.now))) }
 {
-    let Some(group) = groups.get(high.term) else {
-        return Ok(Vec::new(alloc));
-    };
-    hidden_in(alloc, high, group)
+    let near = near(alloc, groups, high)?;
+    hidden_in(alloc, high, &near)
 }
 
 fn hidden_in(alloc: Global, high: &Candidate, group: &[&Candidate]) -> Result<Vec<Pos>, AllocError>

@@ -5,15 +5,17 @@ ghost use Rattle.std.specs.Prelude.{get_or, length, map};
 ghost use Rattle.std.specs.BTreeMap.{get_by_text};
 ghost use Rattle.std.specs.List.{filter};
 ghost use Rattle.isle_check_overlaps.specs.Degrees.{AreDegrees, counted, counted_pair};
-ghost use Rattle.isle_check_overlaps.specs.Groups.{group_of};
+ghost use Rattle.isle_check_overlaps.specs.Groups.{AreGroups, near};
 ghost use Rattle.isle_check_overlaps.specs.Stars.{other_than, pair, pairs, pairs_before};
 ghost use Rattle.isle_check_overlaps.specs.Stars.{star, stars, top, touches, without};
 ghost use Rattle.isle_check_overlaps.specs.Views.{candidate_of, candidates_at, candidates_of};
 ghost use Rattle.isle_check_overlaps.specs.Views.{pair_of, pairs_of, star_of, stars_of};
 
 use crate::candidates::{Candidate, overlap};
-use crate::groups::{Groups, add_to_group, no_groups};
+use crate::groups::{Groups, add_to_group, near};
+use crate::telling::terms;
 use std::alloc::{AllocError, Global};
+use std::collections::BTreeMap;
 
 /// Two rules that overlap.
 #[derive(Clone, Copy)]
@@ -29,37 +31,45 @@ pub struct Star<'c, 'm, 'a> {
     pub others: Vec<&'c Candidate<'m, 'a>>,
 }
 
-/// Returns the pairs of rules that overlap. An `Err` means out of memory.
-pub fn pairs<'c, 'm, 'a>(
+/// Returns the rules of each term, and adds the pairs of rules that overlap. An `Err` means out of
+/// memory.
+pub fn grouped<'c, 'm, 'a>(
     alloc: Global,
     candidates: &'c [Candidate<'m, 'a>],
-) -> Result<Vec<Pair<'c, 'm, 'a>>, AllocError>
-    ensures { IfOk result
-        (λ made. pairs_of made.items ≡ pairs (candidates_of candidates.now)) }
+    made: &mut Vec<Pair<'c, 'm, 'a>>,
+) -> Result<Groups<'c, 'm, 'a>, AllocError>
+    ensures groups { IfOk result (λ groups. AreGroups groups (candidates_of candidates.now)) }
+    ensures pairs { IfOk result (λ _. pairs_of made.new.items ≡ pairs_of made.old.items
+        ++ pairs (candidates_of candidates.now)) }
 {
-    let mut earlier = no_groups(alloc);
-    let mut made = Vec::new(alloc);
+    let terms = terms(alloc, candidates)?;
+    let mut groups = no_groups(alloc);
     for candidate in candidates {
-        add_pairs(&earlier, candidate, &mut made)?;
-        add_to_group(alloc, candidate, &mut earlier)?;
+        add_pairs(alloc, &groups, candidate, made)?;
+        add_to_group(alloc, &terms, candidate, &mut groups)?;
     }
-    Ok(made)
+    Ok(groups)
+}
+
+fn no_groups<'c, 'm, 'a>(alloc: Global) -> Groups<'c, 'm, 'a>
+    ensures { AreGroups result [] }
+{
+    BTreeMap::new(alloc)
 }
 
 /// Adds the pairs of a rule with those before it.
 fn add_pairs<'c, 'm, 'a>(
+    alloc: Global,
     earlier: &Groups<'c, 'm, 'a>,
     candidate: &'c Candidate<'m, 'a>,
     made: &mut Vec<Pair<'c, 'm, 'a>>,
 ) -> Result<(), AllocError>
     ensures { OnOk result (pairs_of made.new.items ≡ pairs_of made.old.items
-        ++ pairs_before (group_of (get_by_text earlier.now candidate.now.term.now))
-        (candidate_of candidate.now)) }
+        ++ pairs_before (near (get_by_text earlier.now candidate.now.term.now)
+        (candidate_of candidate.now)) (candidate_of candidate.now)) }
 {
-    let Some(group) = earlier.get(candidate.term) else {
-        return Ok(());
-    };
-    add_pairs_in(group, candidate, made)
+    let near = near(alloc, earlier, candidate)?;
+    add_pairs_in(&near, candidate, made)
 }
 
 fn add_pairs_in<'c, 'm, 'a>(

@@ -57,7 +57,7 @@ fn add_clashes(
 }
 
 /// Returns a constraint as it is written.
-fn shown(alloc: Global, constraint: Constraint) -> Result<String, AllocError>
+pub fn shown(alloc: Global, constraint: Constraint) -> Result<String, AllocError>
     ensures { IfOk result
         (λ text. string_bytes text ≡ shown (constraint_of constraint.entry)) }
 {

@@ -186,8 +186,8 @@ fn handle_message<D: Disk>(
     perform(alloc, server, kept, action, &message, &shown)
 }
 
-/// What the disk shows of a document that an action opens: which file it is. It is not looked at for
-/// another action.
+/// What the disk shows of a document that an action opens: which file it is. It is not looked at
+/// for another action.
 fn opened_view<D: Disk>(
     alloc: Global,
     disk: &mut D,

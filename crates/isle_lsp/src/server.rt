@@ -59,7 +59,8 @@ impl Server {
     }
 }
 
-/// What the server keeps from one message to the next, so that it does less. No answer depends on it.
+/// What the server keeps from one message to the next, so that it does less. No answer depends on
+/// it.
 #[derive(Drop)]
 pub struct Kept {
     /// The index of the program that was asked about last.

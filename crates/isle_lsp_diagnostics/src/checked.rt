@@ -118,8 +118,8 @@ fn checked_diagnostic(alloc: Global, text: &str, told: &Told) -> Result<Diagnost
     })
 }
 
-/// The end of what begins at a byte offset: that of a symbol, and otherwise one byte on, if there is
-/// one.
+/// The end of what begins at a byte offset: that of a symbol, and otherwise one byte on, if there
+/// is one.
 fn part_end(text: &str, start: usize) -> usize
     requires { start ≤ length text.now }
     ensures { result ≡ wanted.part_end text.now start }

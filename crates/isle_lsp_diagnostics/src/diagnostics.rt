@@ -13,8 +13,9 @@ ghost use Rattle.isle_lint_core.specs.Finding.{finding_of};
 ghost use Rattle.isle_lint_core.specs.Lint.{all_lints, is_default};
 ghost use Rattle.isle_lsp_features.specs.Programs.{text_of};
 ghost use Rattle.isle_lsp_diagnostics.specs.Checked.{AreChecked};
-ghost use Rattle.isle_lsp_diagnostics.specs.Diagnostics.{AreMarks, AreMarksOf, AreShallowMarks, AreTreeMarks};
-ghost use Rattle.isle_lsp_diagnostics.specs.Diagnostics.{deep_mark, error_mark, found_mark, found_text, shown};
+ghost use Rattle.isle_lsp_diagnostics.specs.Diagnostics.{AreMarks, AreMarksOf, AreShallowMarks};
+ghost use Rattle.isle_lsp_diagnostics.specs.Diagnostics.{AreTreeMarks, deep_mark, error_mark};
+ghost use Rattle.isle_lsp_diagnostics.specs.Diagnostics.{found_mark, found_text, shown};
 ghost use Rattle.isle_lsp_diagnostics.specs.Marks.{mark_of};
 
 use crate::checked::check_diagnostics;

@@ -27,8 +27,8 @@ fn rule<'a>(
     })
 }
 
-/// Compares rules, in a program without definitions. The environment is made and dropped here, since
-/// each exit of a function that holds it makes its proof dearer.
+/// Compares rules, in a program without definitions. The environment is made and dropped here,
+/// since each exit of a function that holds it makes its proof dearer.
 fn compared(alloc: Global, rules: &[Matching]) -> Result<Comparison, AllocError> {
     let env = Environment::new(alloc, &[])?;
     compare(alloc, &env, rules)

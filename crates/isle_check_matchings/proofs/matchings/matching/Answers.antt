@@ -3,7 +3,8 @@ use Rattle.isle_check_places.specs.Clashes.{clashes_after}
 use Rattle.isle_check_places.specs.Settling.{most_sweeps, settle}
 use Rattle.isle_check_places.specs.Views.{all_constrained_of, all_equalities_of}
 use Rattle.isle_check_rules.specs.Views.{typed_rule_of}
-use Rattle.isle_check_matchings.specs.Matchings.{constraints_of, equalities_of, multi_by}
+use Rattle.isle_check_rules.specs.Warnings.{multi_by}
+use Rattle.isle_check_matchings.specs.Matchings.{constraints_of, equalities_of}
 use Rattle.isle_check_matchings.specs.RuleAsks.{rule_asks}
 use Rattle.isle_check_matchings.specs.Views.{asks_of, terms_of}
 use Rattle.isle_check_matchings.proofs.RuleLemmas.{matching_parts}

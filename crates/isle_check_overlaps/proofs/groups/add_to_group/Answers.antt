@@ -1,14 +1,13 @@
-use Rattle.std.proofs.Common.{◌++◌, ◌∷◌, [], ap, ◌∙◌, string_bytes}
-use Rattle.isle_check_overlaps.specs.Views.{candidate_of, candidates_at}
+use Rattle.std.proofs.Common.{string_bytes}
+use Rattle.std.specs.List.{filter}
+use Rattle.isle_check_overlaps.specs.Groups.{is_of}
+use Rattle.isle_check_overlaps.specs.Views.{candidate_of}
 use Rattle.isle_check_overlaps.proofs.GroupLemmas.{groups_put}
-use Rattle.isle_check_overlaps.proofs.ListLemmas.{map_last}
 use Rattle.isle_check_overlaps.proofs.groups.add_to_group.Goals as goal
 
 pub returns : goal.returns
 returns c = λ cs held.
-    groups_put c.args.groups.now c.taken-group.new.groups c.insert.new.self c.args.candidate.now (string_bytes c.in_ok-from_str.field-0) c.push.new.self cs
-    c.in_ok-from_str.ensures.ok
-    c.taken-group.ensures.left c.in_ok-insert.ensures.updates
-    (ap candidates_at c.in_ok-push.ensures.items
-    ∙ (map_last (λ x. candidate_of x.now) c.taken-group.result.items c.args.candidate
-    ∙ ap (λ g. g ++ candidate_of c.args.candidate.now ∷ []) c.taken-group.ensures.items)) held
+    groups_put c.args.groups.now c.taken.new.groups c.insert.new.self (candidate_of c.args.candidate.now) (string_bytes c.in_ok-from_str.field-0) c.add.new.group cs
+    c.in_ok-from_str.ensures.ok c.taken.ensures.left c.in_ok-insert.ensures.updates
+    (c.in_ok-add.ensures (filter (is_of c.args.candidate.now.term.now) cs)
+    (c.in_ok-group.ensures.group (filter (is_of c.args.candidate.now.term.now) cs) (held c.args.candidate.now.term.now))) held

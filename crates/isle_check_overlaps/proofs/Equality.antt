@@ -6,7 +6,7 @@ use Rattle.std.specs.Prelude.{Decides}
 use Rattle.std.specs.Bool.{beq}
 use Rattle.std.specs.Ordering.{int_eq}
 use Rattle.isle_check_places.specs.Places.{StepNode, argument, field, content, part, each, extracted, computed, bool_value, int_value, constant_value, Place, ConstraintNode, of_variant, of_bool, of_int, of_constant, present, same_step, same_place, same_constraint}
-use Rattle.isle_check_laws.proofs.Booleans.{and_first, and_second, and_true}
+use Rattle.isle_check_overlaps.proofs.Booleans.{and_first, and_second, and_true}
 
 both : (a b : Bool) → (a && b) ≡ true → (a ≡ true) × (b ≡ true)
 both a b h = (and_first a b h, and_second a b h)
@@ -20,7 +20,7 @@ equal_number i = (Decides-eqb i i).1 refl
 same_text : (a b : List ℕ) → bytes_eq a b ≡ true → a ≡ b
 same_text a b h = (bytes_eq-Decides a b).0 h
 
-equal_text : (a : List ℕ) → bytes_eq a a ≡ true
+pub equal_text : (a : List ℕ) → bytes_eq a a ≡ true
 equal_text a = (bytes_eq-Decides a a).1 refl
 
 same_int : (a b : ℤ) → int_eq a b ≡ true → a ≡ b
