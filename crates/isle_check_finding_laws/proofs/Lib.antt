@@ -1,0 +1,13 @@
+pub mod Elements
+pub mod Candidates
+pub mod Pairs
+pub mod Stars
+pub mod Meetings
+pub mod TypedRules
+pub mod Clashes
+pub mod OverlapErrors
+pub mod Groups
+pub mod Warnings
+pub mod Errors
+pub mod EmptyGroups
+pub mod RightPrograms

@@ -1,0 +1,3 @@
+pub mod BrokenOverlaps
+pub mod Broken
+pub mod NoErrors
