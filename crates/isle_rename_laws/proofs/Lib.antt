@@ -1,0 +1,15 @@
+pub mod Accepted
+pub mod Alike
+pub mod Behind
+pub mod Counts
+pub mod Edited
+pub mod Gaps
+pub mod Lexed
+pub mod Numbers
+pub mod Parsed
+pub mod Positions
+pub mod Ranges
+pub mod Rising
+pub mod Tokened
+pub mod Tokens
+pub mod Whole

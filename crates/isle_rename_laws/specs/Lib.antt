@@ -1,0 +1,3 @@
+pub mod EditedTexts
+pub mod Edits
+pub mod Ranges
