@@ -12,7 +12,7 @@ ghost use Rattle.isle_check_overlaps.specs.Views.{faults_of};
 use crate::candidates::{Candidate, hides_with_equals};
 use crate::fault::{Fault, Kind};
 use crate::groups::{Groups, near};
-use crate::overlaps::MOST_TOLD;
+use crate::overlaps::{MOST_TOLD, told_positions};
 use isle_base_source::pos::Pos;
 use std::alloc::{AllocError, Global};
 
@@ -29,7 +29,7 @@ pub fn add_equal_shadows<'c, 'm, 'a>(
 {
     for candidate in candidates {
         let hidden = hidden_by(alloc, candidate, groups)?;
-        add_shadow(candidate, hidden, found)?;
+        add_shadow(alloc, candidate, &hidden, found)?;
     }
     Ok(())
 }
@@ -65,19 +65,19 @@ fn hidden_in<'c, 'm, 'a>(
 }
 
 fn add_shadow(
+    alloc: Global,
     candidate: &Candidate,
-    hidden: Vec<Pos>,
+    hidden: &[Pos],
     found: &mut Vec<Fault>,
 ) -> Result<(), AllocError>
     ensures { OnOk result (faults_of found.new.items ≡ faults_of found.old.items
-        ++ shadow_at shadows_with_equals (candidate_of candidate.now) hidden.items) }
+        ++ shadow_at shadows_with_equals (candidate_of candidate.now) hidden.now) }
 {
     if hidden.is_empty() {
         return Ok(());
     }
+    let told = told_positions(alloc, hidden)?;
     let left_out = hidden.len().saturating_sub(MOST_TOLD);
-    let mut told = hidden;
-    told.truncate(MOST_TOLD);
     found.push(Fault {
         kind: Kind::ShadowsWithEquals(told, left_out),
         pos: candidate.pos,

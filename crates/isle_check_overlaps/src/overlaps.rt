@@ -1,11 +1,11 @@
 //! Rules, compared with one another.
 
-ghost use Rattle.std.specs.Prelude.{◌≡◌, ◌++◌, IfOk, OnOk, map};
+ghost use Rattle.std.specs.Prelude.{◌≡◌, ◌++◌, IfOk, OnOk, map, take};
 ghost use Rattle.std.specs.BTreeMap.{get_by_text};
 ghost use Rattle.std.specs.List.{flat_map};
 ghost use Rattle.isle_check_overlaps.specs.Faults.{hidden_by, meetings, met_at, comparison_of};
 ghost use Rattle.isle_check_overlaps.specs.Candidates.{hides};
-ghost use Rattle.isle_check_overlaps.specs.Faults.{meetings_by, shadow_at, shadows, star_at};
+ghost use Rattle.isle_check_overlaps.specs.Faults.{meetings_by, most_told, shadow_at, shadows, star_at};
 ghost use Rattle.isle_check_overlaps.specs.Groups.{AreGroups, near};
 ghost use Rattle.isle_check_overlaps.specs.Stars.{pairs};
 ghost use Rattle.isle_check_overlaps.specs.Faults as told;
@@ -115,7 +115,7 @@ fn add_met<'c, 'm, 'a>(
 {
     add_stars(alloc, env, stars, candidate, found)?;
     let hidden = hidden_by(alloc, candidate, groups)?;
-    add_shadow(candidate, hidden, found)
+    add_shadow(alloc, candidate, &hidden, found)
 }
 
 fn add_stars(
@@ -249,22 +249,33 @@ fn hidden_in(alloc: Global, high: &Candidate, group: &[&Candidate]) -> Result<Ve
 }
 
 fn add_shadow(
+    alloc: Global,
     candidate: &Candidate,
-    hidden: Vec<Pos>,
+    hidden: &[Pos],
     found: &mut Vec<Fault>,
 ) -> Result<(), AllocError>
     ensures { OnOk result (faults_of found.new.items ≡ faults_of found.old.items
-        ++ shadow_at shadows (candidate_of candidate.now) hidden.items) }
+        ++ shadow_at shadows (candidate_of candidate.now) hidden.now) }
 {
     if hidden.is_empty() {
         return Ok(());
     }
+    let told = told_positions(alloc, hidden)?;
     let left_out = hidden.len().saturating_sub(MOST_TOLD);
-    let mut told = hidden;
-    told.truncate(MOST_TOLD);
     found.push(Fault {
         kind: Kind::Shadows(told, left_out),
         pos: candidate.pos,
     })?;
     Ok(())
+}
+
+/// Returns the positions that are told of these. It has room for no others, since many rules may
+/// hide many.
+pub fn told_positions(alloc: Global, hidden: &[Pos]) -> Result<Vec<Pos>, AllocError>
+    ensures { IfOk result (λ made. made.items ≡ take most_told hidden.now) }
+{
+    let count = hidden.len().min(MOST_TOLD);
+    let mut told = Vec::with_capacity(alloc, count)?;
+    told.extend_from_slice(&hidden[..count])?;
+    Ok(told)
 }

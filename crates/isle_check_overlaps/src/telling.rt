@@ -61,7 +61,8 @@ pub fn telling_place<'c, 'm, 'a>(
     best_place(alloc, &sample(alloc, rules)?)
 }
 
-/// Returns rules from all parts of the list.
+/// Returns rules from all parts of the list: one of each part, at another place in each, so that no
+/// period of the list is met.
 fn sample<'c, 'm, 'a>(
     alloc: Global,
     rules: &[&'c Candidate<'m, 'a>],
@@ -69,7 +70,8 @@ fn sample<'c, 'm, 'a>(
     let step = rules.len() / SAMPLE + 1;
     let mut made = Vec::new(alloc);
     for index in 0..rules.len() {
-        if index % step == 0 {
+        let part = index / step;
+        if index % step == part.saturating_mul(part) % step {
             made.push(rules[index])?;
         }
     }
