@@ -1,0 +1,35 @@
+//! Laws of scopes, which run no code.
+
+ghost use Rattle.std.specs.Prelude.{◌↔◌, List, Some};
+ghost use Rattle.isle_ast.specs.Tree.{Definition};
+ghost use Rattle.isle_ast_names.specs.Tree.{Name};
+ghost use Rattle.isle_index.specs.Scopes.{seen};
+ghost use Rattle.isle_resolve.specs.Events.{events};
+ghost use Rattle.isle_scope_laws.specs.Reads.{IsReadAs, IsUnknown, OccursAs};
+ghost use Rattle.isle_scope_laws.specs.Uses.{HasBinder, HasFirst, HasNoBinder};
+
+/// A law, which runs no code: the unknown variables of a program are exactly the reads without a
+/// binder. A use of a variable, among the events of the definitions, has no binder exactly if an
+/// expression of a rule reads it where nothing in scope has its name.
+pub fn unknown_variables_are_reads_without_a_binder()
+    ensures { (ds : List Definition) (name : Name)
+        → HasNoBinder name (seen (events ds)) ↔ IsUnknown ds name }
+{}
+
+/// A law, which runs no code: what a variable means where it is read. The event that binds it is
+/// about this other name exactly if, in the tree, that is the nearest variable of its text in
+/// scope: the last one that a `let` around it has bound, or else the first of the patterns before
+/// it.
+pub fn reads_mean_the_nearest_variables()
+    ensures { (ds : List Definition) (name binder : Name)
+        → HasBinder name binder (seen (events ds)) ↔ IsReadAs ds name (Some binder) }
+{}
+
+/// A law, which runs no code: what a variable of a pattern means, and a parameter of an extractor.
+/// The event that binds it is about this other name exactly if, in the tree, that is the first
+/// variable of its text in the patterns of the rule, or among the parameters and in the template of
+/// the extractor.
+pub fn patterns_mean_their_first_variables()
+    ensures { (ds : List Definition) (name binder : Name)
+        → HasFirst name binder (seen (events ds)) ↔ OccursAs ds name binder }
+{}
