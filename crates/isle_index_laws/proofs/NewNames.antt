@@ -175,7 +175,7 @@ member-by : (owner m : List ℕ) (ms : List (List ℕ)) (text : List ℕ) → (i
 member-by owner m ms text later true is h = (m, sym (bytes-are (joined owner m) text is))
 member-by owner m ms text later false is h = later h
 
-member-of : (owner : List ℕ) (ms : List (List ℕ)) (text : List ℕ) → is_member owner ms text ≡ true → (member : List ℕ) × (text ≡ joined owner member)
+pub member-of : (owner : List ℕ) (ms : List (List ℕ)) (text : List ℕ) → is_member owner ms text ≡ true → (member : List ℕ) × (text ≡ joined owner member)
 member-of owner [] text h = let never : false ≡ true = h in absurd (cc)
 member-of owner (m ∷ ms) text h = member-by owner m ms text (member-of owner ms text) (bytes_eq (joined owner m) text) refl h
 

@@ -172,7 +172,7 @@ any-cons : (p : Pos) (o : Option Pos) (ps : List Pos) → list_any (same_place p
 any-cons p None ps = refl
 any-cons p (Some q) ps = refl
 
-choose : (C : SeenNode → Bool) (p : Pos) (s : SeenNode) (ss : List SeenNode) (b : Bool) →
+pub choose : (C : SeenNode → Bool) (p : Pos) (s : SeenNode) (ss : List SeenNode) (b : Bool) →
     list_any (same_place p) (filter_map (λ x. position x.event) (cond b (s ∷ filter C ss) (filter C ss)))
     ≡ ((b && is_at p (position s.event)) || list_any (same_place p) (chosen C ss))
 choose C p s ss true = any-cons p (position s.event) (chosen C ss)

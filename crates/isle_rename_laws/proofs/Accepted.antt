@@ -1,15 +1,15 @@
 -- At each position that an accepted renaming changes stands the name, or a variant's with the name at its front.
-use Rattle.std.proofs.Common.{◌≡◌, inl, inr, ℕ, ◌+◌, List, [], ◌∷◌, ◌++◌, Bool, true, false, cond, not, ◌&&◌, ◌||◌, Option, None, Some, bytes_eq, codes, filter, refl, sym, ap, ◌∙◌, append_assoc, if◌then◌else◌}
+use Rattle.std.proofs.Common.{◌≡◌, inl, inr, ℕ, ◌+◌, List, [], ◌∷◌, ◌++◌, Bool, true, false, not, ◌&&◌, ◌||◌, Option, None, Some, bytes_eq, codes, refl, sym, ap, ◌∙◌, append_assoc, if◌then◌else◌}
 use Rattle.std.proofs.lemmas.Bool.{and_parts}
 use Rattle.std.proofs.lemmas.List.{append-nil}
 use Rattle.std.proofs.lemmas.List.Sorted.{list_any-IsPermutation}
-use Rattle.std.specs.List.{cons_option, filter_map, list_any}
+use Rattle.std.specs.List.{list_any}
 use Rattle.isle_base_source.specs.declared.pos.Pos.{Pos}
 use Rattle.isle_ast_names.specs.Tree.{Name}
 use Rattle.isle_resolve.specs.declared.event.Kind.{Kind}
 use Rattle.isle_resolve.specs.declared.event.Kind.TheVariants as kinds
 use Rattle.isle_resolve.specs.Event.{EventNode, binds, closes, defines, defines_variant, ends, occurs, reads, uses}
-use Rattle.isle_index.specs.Names.{NameNode, gives, global, is_number, joined, name_text, variable}
+use Rattle.isle_index.specs.Names.{NameNode, gives, global, is_number, name_text, variable}
 use Rattle.isle_index.specs.Renamed.{same_place}
 use Rattle.isle_index.specs.Renaming.{IsAccepted, changed_places, changes, gives_variant, is_member, is_new_name, members, position, refusal, writes_member, defines_it}
 use Rattle.isle_index.specs.Scopes.{BoundNode, SeenNode, after, binder, seen, seen_from}
@@ -18,6 +18,8 @@ use Rattle.isle_index.proofs.Texts.{bytes-are, or-false}
 use Rattle.isle_index_laws.specs.RenamedTokens.{is_constant}
 use Rattle.isle_index_laws.proofs.Marks.{is_constant_kind}
 use Rattle.isle_index_laws.proofs.KeptNames.{clash}
+use Rattle.isle_index_laws.proofs.NewNames.{member-of}
+use Rattle.isle_index_laws.proofs.RenamedTokens.{choose}
 use Rattle.isle_rename_laws.proofs.Positions.{position_is}
 use Rattle.isle_rename_laws.proofs.Whole.{IsBehind}
 use Rattle.isle_rename_laws.proofs.Tokened.{Has, name_of}
@@ -29,16 +31,6 @@ Named c old p e = (n : Name) × (name_of e ≡ Some (c, n)) × (n.pos ≡ p) × 
 -- one of some events is
 abbrev pub AnyNamed : Bool → List ℕ → Pos → List EventNode → Type 0
 AnyNamed c old p es = (e : EventNode) × Has es e × Named c old p e
-
--- a member of a type has the type's name and a dot in front
-member-by : (owner m : List ℕ) (ms : List (List ℕ)) (text : List ℕ) → (is_member owner ms text ≡ true → (member : List ℕ) × (text ≡ joined owner member)) →
-    (b : Bool) → bytes_eq (joined owner m) text ≡ b → b || is_member owner ms text ≡ true → (member : List ℕ) × (text ≡ joined owner member)
-member-by owner m ms text later true is h = (m, sym (bytes-are (joined owner m) text is))
-member-by owner m ms text later false is h = later h
-
-member-of : (owner : List ℕ) (ms : List (List ℕ)) (text : List ℕ) → is_member owner ms text ≡ true → (member : List ℕ) × (text ≡ joined owner member)
-member-of owner [] text h = let never : false ≡ true = h in absurd (cc)
-member-of owner (m ∷ ms) text h = member-by owner m ms text (member-of owner ms text) (bytes_eq (joined owner m) text) refl h
 
 whole : (old text : List ℕ) → bytes_eq text old ≡ true → (behind : List ℕ) × (text ≡ old ++ behind) × IsBehind behind
 whole old text h = ([], bytes-are text old h ∙ sym (append-nil old), tt)
@@ -123,16 +115,6 @@ event_named ms (variable number old) (reads n) i bound p none h at =
     (n, refl, position_is p n.pos at, whole old n.text (and_parts (is_number number (binder (reads n) i bound)) (bytes_eq n.text old) h).1)
 
 -- the events whose places change
-
-any-cons : (p : Pos) (o : Option Pos) (ps : List Pos) → list_any (same_place p) (cons_option o ps) ≡ (is_at p o || list_any (same_place p) ps)
-any-cons p None ps = refl
-any-cons p (Some q) ps = refl
-
-choose : (C : SeenNode → Bool) (p : Pos) (s : SeenNode) (ss : List SeenNode) (b : Bool) →
-    list_any (same_place p) (filter_map (λ x. position x.event) (cond b (s ∷ filter C ss) (filter C ss)))
-    ≡ ((b && is_at p (position s.event)) || list_any (same_place p) (chosen C ss))
-choose C p s ss true = any-cons p (position s.event) (chosen C ss)
-choose C p s ss false = refl
 
 or-cases : {A : Type 0} (a b : Bool) → a || b ≡ true → (a ≡ true → A) → (b ≡ true → A) → A
 or-cases true b h one other = one refl
