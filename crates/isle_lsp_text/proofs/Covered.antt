@@ -1,12 +1,11 @@
 -- What covers a text, part by part.
-use Rattle.std.proofs.Common.{◌≡◌, ℕ, suc, ◌+◌, ◌-◌, ◌<◌, ◌≤◌, List, [], ◌∷◌, ◌++◌, Bool, true, false, ◌==◌, replicate, length, get_or, take, drop, refl, sym, ◌∙◌, ap, subst, arith, length-drop}
+use Rattle.std.proofs.Common.{◌≡◌, ℕ, suc, ◌+◌, ◌-◌, ◌<◌, ◌≤◌, List, [], ◌∷◌, ◌++◌, true, false, ◌==◌, replicate, length, get_or, take, drop, refl, sym, ◌∙◌, ap, subst, arith, length-drop}
 use Rattle.std.specs.List.{prefix_len}
 use Rattle.std.specs.Prelude.{slice_range}
-use Rattle.std.proofs.lemmas.Bool.{eqb-true}
-use Rattle.std.proofs.lemmas.List.{drop_all, drop_more, drop-drop}
+use Rattle.std.proofs.lemmas.List.{drop_all, drop_more}
 use Rattle.isle_base.specs.Bytes.{left_parenthesis, semicolon}
 use Rattle.isle_base.specs.Skips.{Inside, Longest, in_line, opens}
-use Rattle.isle_base.proofs.Places.{comment_further, opens_here, run_within}
+use Rattle.isle_base.proofs.Places.{opens_here}
 use Rattle.isle_base.proofs.Runs.{longest_from}
 use Rattle.isle_lsp_text.specs.Comments.{Covers, IsCovered, nothing, block_comment, unended, line_comment, byte}
 

@@ -1,13 +1,14 @@
 -- Edits that turn a beginning of the old text into one of the new.
-use Rattle.std.proofs.Common.{◌≡◌, ℕ, zero, suc, ◌+◌, ◌-◌, ◌≤◌, ◌<◌, ◌⊎◌, ◌||◌, nat_lt, false, inl, inr, List, [], ◌∷◌, ◌++◌, length, get_or, take, drop, refl, sym, ◌∙◌, ap, subst, arith, append_assoc, append-nil}
+use Rattle.std.proofs.Common.{◌≡◌, ◌≢◌, ℕ, zero, suc, ◌+◌, ◌-◌, ◌≤◌, ◌<◌, ◌⊎◌, ◌||◌, nat_lt, false, inl, inr, List, [], ◌∷◌, ◌++◌, length, get_or, take, drop, refl, sym, ◌∙◌, ap, subst, arith, append_assoc, append-nil}
+use Rattle.std.proofs.Math.Nat.{eq-or-lt_of_le}
 use Rattle.std.proofs.lemmas.Bool.{cases_Bool}
 use Rattle.std.proofs.lemmas.Bool.Decides.{nat_tests}
-use Rattle.std.proofs.lemmas.List.{take-append-drop, drop-drop}
 use Rattle.std.proofs.lemmas.Grind.{common_steps}
 use Rattle.std.specs.Str.{IsUtf8, IsCharBoundary}
 use Rattle.std.proofs.lemmas.Str.{IsCharBoundary-start, IsCharBoundary-after_ascii}
 use Rattle.isle_lsp_text.specs.declared.edits.Edit.{Edit}
-use Rattle.isle_lsp_text.specs.Edits.{part, applied, changed_only, IsEdit, IsLineStart, AreEdits}
+use Rattle.isle_lsp_text.specs.Edits.{part, applied, changed_only, first_line, IsCut, IsEdit, IsLineStart, IsTrimmed, AreEdits}
+use Rattle.isle_lsp_text.proofs.Parts.{part_none, part_drop, part_part, take_part, length_part, front_differs}
 
 abbrev pub StartsFrom : ℕ → List Edit → Type 0
 StartsFrom at [] = Unit {0}
@@ -26,33 +27,6 @@ after at (e ∷ es) = after (e.end + 1) es
 pub record Turns (old new : List ℕ) (es : List Edit) (i j : ℕ) : Type 0 where
   pub turns : (more : List Edit) → StartsFrom i more → StartsWithin old more → applied 0 (es ++ more) old new ≡ take j new ++ applied i more old new
 
-part_none : (text : List ℕ) (i : ℕ) → part text i i ≡ []
-part_none text i = let z : i - i ≡ 0 = omega arith in rw z refl
-
-take_join : (a b : ℕ) (xs : List ℕ) → take a xs ++ take b (drop a xs) ≡ take (a + b) xs
-take_join zero b xs = let z : 0 + b ≡ b = omega arith in rw z refl
-take_join (suc a) b [] = grind (arith, common_steps)
-take_join (suc a) b (x ∷ xs) = let z : suc a + b ≡ suc (a + b) = omega arith in rw z (ap (λ l. x ∷ l) (take_join a b xs))
-
-drop_on : (text : List ℕ) (i p : ℕ) → i ≤ p → drop (p - i) (drop i text) ≡ drop p text
-drop_on text i p h = let n : i + (p - i) ≡ p = omega arith in drop-drop (p - i) i text ∙ ap (λ x. drop x text) n
-
-part_drop : (text : List ℕ) (i p : ℕ) → i ≤ p → p ≤ length text → part text i p ++ drop p text ≡ drop i text
-part_drop text i p h l = ap (λ x. part text i p ++ x) (sym (drop_on text i p h)) ∙ take-append-drop (p - i) (drop i text)
-
-part_part : (text : List ℕ) (i p q : ℕ) → i ≤ p → p ≤ q → q ≤ length text → part text i p ++ part text p q ≡ part text i q
-part_part text i p q h k l =
-    let n : (p - i) + (q - p) ≡ q - i = omega arith in
-    ap (λ x. part text i p ++ take (q - p) x) (sym (drop_on text i p h)) ∙ take_join (p - i) (q - p) (drop i text) ∙ ap (λ x. take x (drop i text)) n
-
-take_part : (text : List ℕ) (j q : ℕ) → j ≤ q → q ≤ length text → take j text ++ part text j q ≡ take q text
-take_part text j q h l =
-    let n : j + (q - j) ≡ q = omega arith in
-    take_join j (q - j) text ∙ ap (λ x. take x text) n
-
-length_part : (text : List ℕ) (i p : ℕ) → p ≤ length text → length (part text i p) ≡ p - i
-length_part text i p l = grind (arith, common_steps)
-
 none_changed : (a b c d : ℕ) → (nat_lt a b || nat_lt c d) ≡ false → (b ≤ a) × (d ≤ c)
 none_changed a b c d h = grind (arith, nat_tests)
 
@@ -70,6 +44,7 @@ pub record IsInHand (old new : List ℕ) (es : List Edit) (e : Edit) : Type 0 wh
   pub end : IsLineStart old e.end
   pub from : IsLineStart new e.from
   pub to : IsLineStart new e.to
+  pub first : (e.start < e.end) ⊎ (e.from < e.to) → first_line (drop e.start old) ≢ first_line (drop e.from new)
 
 line_start_zero : (text : List ℕ) → IsLineStart text 0
 line_start_zero text = (omega arith, λ m e l. absurd (omega arith))
@@ -85,11 +60,26 @@ hand_start old new = record {
   end = line_start_zero old;
   from = line_start_zero new;
   to = line_start_zero new;
+  first = λ o. absurd (elim o [ inl l ↦ omega arith | inr l ↦ omega arith ]);
 }
 
--- the edit takes more lines
-pub hand_grown : (old new : List ℕ) (es : List Edit) (e : Edit) (end to : ℕ) → IsInHand old new es e → e.end ≤ end → e.to ≤ to → IsLineStart old end → IsLineStart new to → IsInHand old new es record { start = e.start; end = end; from = e.from; to = to }
-hand_grown old new es e end to h p q l m = record {
+is_begun : (a b c d : ℕ) → a ≤ b → c ≤ d → ((a < b) ⊎ (c < d)) ⊎ ((a ≡ b) × (c ≡ d))
+is_begun a b c d h k =
+    elim (eq-or-lt_of_le h) [ inl e ↦ elim (eq-or-lt_of_le k) [ inl f ↦ inr (e, f) | inr l ↦ inl (inr l) ] | inr l ↦ inl (inl l) ]
+
+still_first : (old new : List ℕ) (es : List Edit) (e : Edit) → IsInHand old new es e → first_line (drop e.end old) ≢ first_line (drop e.to new)
+    → first_line (drop e.start old) ≢ first_line (drop e.from new)
+still_first old new es e h d =
+    let begun : ((e.start < e.end) ⊎ (e.from < e.to)) ⊎ ((e.start ≡ e.end) × (e.from ≡ e.to)) = is_begun e.start e.end e.from e.to h.old_order h.new_order in
+    elim begun [
+      | inl o ↦ h.first o
+      | inr s ↦ λ same. d (ap (λ i. first_line (drop i old)) (sym s.0) ∙ same ∙ ap (λ i. first_line (drop i new)) s.1)
+    ]
+
+-- the edit takes more lines, where those at its ends differ
+pub hand_grown : (old new : List ℕ) (es : List Edit) (e : Edit) (end to : ℕ) → IsInHand old new es e → e.end ≤ end → e.to ≤ to → IsLineStart old end → IsLineStart new to
+    → first_line (drop e.end old) ≢ first_line (drop e.to new) → IsInHand old new es record { start = e.start; end = end; from = e.from; to = to }
+hand_grown old new es e end to h p q l m d = record {
   turns = h.turns;
   edits = h.edits;
   after_all = h.after_all;
@@ -99,6 +89,7 @@ hand_grown old new es e end to h p q l m = record {
   end = l;
   from = h.from;
   to = m;
+  first = λ _. still_first old new es e h d;
 }
 
 starts_before : (i p : ℕ) (more : List Edit) → i ≤ p → StartsFrom p more → StartsFrom i more
@@ -131,9 +122,9 @@ turns_edited old new es e t h l k m = record {
       ∙ ap (λ x. x ++ applied e.end more old new) (take_part new e.from e.to k m);
 }
 
-are_more : (old new : List ℕ) (at : ℕ) (es : List Edit) (e : Edit) → AreEdits at es old new → after at es ≤ e.start → e.start ≤ e.end → e.from ≤ e.to → IsLineStart old e.start → IsLineStart old e.end → IsLineStart new e.from → IsLineStart new e.to → AreEdits at (es ++ e ∷ []) old new
-are_more old new at [] e a f h k s t u v = (f, h, k, s, t, u, v, tt)
-are_more old new at (d ∷ es) e a f h k s t u v = (a.0, a.1, a.2, a.3, a.4, a.5, a.6, are_more old new (d.end + 1) es e a.7 f h k s t u v)
+are_more : (old new : List ℕ) (at : ℕ) (es : List Edit) (e : Edit) → AreEdits at es old new → after at es ≤ e.start → e.start ≤ e.end → e.from ≤ e.to → IsLineStart old e.start → IsLineStart old e.end → IsLineStart new e.from → IsLineStart new e.to → IsTrimmed old new e → AreEdits at (es ++ e ∷ []) old new
+are_more old new at [] e a f h k s t u v w = (f, h, k, s, t, u, v, w, tt)
+are_more old new at (d ∷ es) e a f h k s t u v w = (a.0, a.1, a.2, a.3, a.4, a.5, a.6, a.7, are_more old new (d.end + 1) es e a.8 f h k s t u v w)
 
 after_more : (at : ℕ) (es : List Edit) (e : Edit) → after at (es ++ e ∷ []) ≡ e.end + 1
 after_more at [] e = refl
@@ -156,16 +147,48 @@ unpushed old new es e h g =
       after_all = subst (λ x. after 0 x ≤ e.end + 1) n (omega (arith, h.after_all, h.old_order));
     }
 
-pub pushed : (old new : List ℕ) (es : List Edit) (e : Edit) → IsInHand old new es e → Pushed old new es (changed_only e) e
-pushed old new es e h =
+pushed : (old new : List ℕ) (es : List Edit) (e : Edit) → IsInHand old new es e → IsTrimmed old new e → Pushed old new es (changed_only e) e
+pushed old new es e h w =
     elim (cases_Bool (nat_lt e.start e.end || nat_lt e.from e.to)) [
       | inl t ↦ rw t (record {
         turns = turns_edited old new es e h.turns h.old_order h.start.0 h.new_order h.to.0;
-        edits = are_more old new 0 es e h.edits h.after_all h.old_order h.new_order h.start h.end h.from h.to;
+        edits = are_more old new 0 es e h.edits h.after_all h.old_order h.new_order h.start h.end h.from h.to w;
         after_all = rw (after_more 0 es e) (omega arith);
       })
       | inr t ↦ rw t (unpushed old new es e h (none_changed _ _ _ _ t))
     ]
+
+trimmed : (old new : List ℕ) (es : List Edit) (e cut : Edit) → IsInHand old new es e → IsCut old new e cut → IsTrimmed old new cut
+trimmed old new es e cut h c = record {
+  front = λ end to a b k d l m.
+      let n : first_line (drop cut.start old) ≢ first_line (drop cut.from new) = rw (c.start, c.from) (h.first (inl (omega (arith, c.start, c.old_order.1)))) in
+      front_differs old new cut.start end cut.from to n a k l m;
+  back = c.back;
+}
+
+hand_cut : (old new : List ℕ) (es : List Edit) (e cut : Edit) → IsInHand old new es e → IsCut old new e cut → IsInHand old new es cut
+hand_cut old new es e cut h c = record {
+  turns = rw (c.start, c.from) h.turns;
+  edits = h.edits;
+  after_all = rw c.start h.after_all;
+  old_order = c.old_order.0;
+  new_order = c.new_order.0;
+  start = rw c.start h.start;
+  end = c.end;
+  from = rw c.from h.from;
+  to = c.to;
+  first = λ o. rw (c.start, c.from) (h.first (elim o [ inl l ↦ inl (omega (arith, c.start, c.old_order.1)) | inr l ↦ inr (omega (arith, c.from, c.new_order.1)) ]));
+}
+
+-- the edit in hand counts, without the lines at its end that are the same
+pub pushed_cut : (old new : List ℕ) (es : List Edit) (e cut : Edit) → IsInHand old new es e → IsCut old new e cut → Pushed old new es (changed_only cut) e
+pushed_cut old new es e cut h c =
+    let p = pushed old new es cut (hand_cut old new es e cut h c) (trimmed old new es e cut h c) in
+    record {
+      turns = turns_kept old new (es ++ changed_only cut) cut.end cut.to e.end e.to p.turns c.old_order.1 h.end.0 c.new_order.1 h.to.0 c.same;
+      edits = p.edits;
+      after_all = omega (arith, p.after_all, c.old_order.1);
+    }
 
 -- equal lines after the edit in hand
 pub hand_next : (old new : List ℕ) (es more : List Edit) (e : Edit) (end to : ℕ) → Pushed old new es more e → e.end < end → end ≤ length old → e.to ≤ to → to ≤ length new → part old e.end end ≡ part new e.to to → IsLineStart old end → IsLineStart new to → IsInHand old new (es ++ more) record { start = end; end = end; from = to; to = to }
@@ -179,6 +202,7 @@ hand_next old new es more e end to g h l k m q s t = record {
   end = s;
   from = t;
   to = t;
+  first = λ o. absurd (elim o [ inl w ↦ omega arith | inr w ↦ omega arith ]);
 }
 
 -- at the ends of both texts
@@ -201,7 +225,7 @@ less_left end to p q n m a b c d o = elim o [ inl l ↦ omega arith | inr l ↦ 
 pub edit_at : (old new : List ℕ) (at : ℕ) (es : List Edit) (i : ℕ) (d : Edit) → AreEdits at es old new → i < length es → IsEdit old new (get_or es i d)
 edit_at old new at [] i d a h = absurd (omega arith)
 edit_at old new at (e ∷ es) zero d a h = record { old_order = a.1; new_order = a.2; from = a.5; to = a.6 }
-edit_at old new at (e ∷ es) (suc i) d a h = edit_at old new (e.end + 1) es i d a.7 (omega arith)
+edit_at old new at (e ∷ es) (suc i) d a h = edit_at old new (e.end + 1) es i d a.8 (omega arith)
 
 -- a text may be cut where a line begins
 pub line_start_boundary : (text : List ℕ) (n : ℕ) → IsUtf8 text → IsLineStart text n → IsCharBoundary text n

@@ -1,8 +1,9 @@
 //! The edits that turn one text into another, one for each run of changed lines.
 
-ghost use Rattle.std.specs.Prelude.{◌≡◌, ◌≢◌, ◌<◌, ◌≤◌, ◌++◌, [], IfOk, OnOk, length, true, false};
-ghost use Rattle.isle_lsp_text.specs.Edits.{AreEdits, IsLineStart, applied, changed_only};
-ghost use Rattle.isle_lsp_text.specs.Edits.{part};
+ghost use Rattle.std.specs.Prelude.{◌≡◌, ◌≢◌, ◌<◌, ◌≤◌, ◌++◌, [], IfOk, OnOk, ℕ, drop, length};
+ghost use Rattle.std.specs.Prelude.{true, false};
+ghost use Rattle.isle_lsp_text.specs.Edits.{AreEdits, IsCut, IsLineStart, applied, changed_only};
+ghost use Rattle.isle_lsp_text.specs.Edits.{first_line, part};
 
 use std::alloc::{AllocError, Global};
 
@@ -23,7 +24,8 @@ pub struct Edit {
 ///
 /// Lines are compared one after another. A blank line of the old text is dropped if the new text
 /// goes on with another line. So the edits are small if lines change in place or blank lines go, as
-/// in formatting, and they are correct for any two texts.
+/// in formatting, and they are correct for any two texts. No edit begins or ends with lines that it
+/// leaves as they are.
 pub fn edits(alloc: Global, old: &str, new: &str) -> Result<Vec<Edit>, AllocError>
     ensures gives { IfOk result (λ edits. applied 0 edits.items old.now new.now ≡ new.now) }
     ensures lines { IfOk result (λ edits. AreEdits 0 edits.items old.now new.now) }
@@ -53,7 +55,7 @@ fn line_edits(alloc: Global, old: &str, new: &str) -> Result<Vec<Edit>, AllocErr
         let old_line = &old[edit.end..end];
         let new_line = &new[edit.to..to];
         if are_equal(old_line, new_line) {
-            push_changed(&mut edits, edit)?;
+            push_changed(&mut edits, cut(old, new, edit))?;
             edit = Edit {
                 start: end,
                 end,
@@ -67,7 +69,7 @@ fn line_edits(alloc: Global, old: &str, new: &str) -> Result<Vec<Edit>, AllocErr
             }
         }
     }
-    push_changed(&mut edits, edit)?;
+    push_changed(&mut edits, cut(old, new, edit))?;
     Ok(edits)
 }
 
@@ -78,13 +80,57 @@ fn next_line(text: &[u8], start: usize) -> usize
     ensures within { result ≤ length text.now }
     ensures on { start < length text.now → start < result }
     ensures line { IsLineStart text.now result }
+    ensures first { part text.now start result ≡ first_line (drop start text.now) }
 {
-    for (i, byte) in text.iter().enumerate().skip(start) {
-        if *byte == b'\n' {
-            return i + 1;
+    let mut end = start;
+    while end < text.len() {
+        let byte = text[end];
+        end += 1;
+        if byte == b'\n' {
+            return end;
         }
     }
     text.len()
+}
+
+/// The offset where the last line of `text[start..end]` begins.
+fn last_line(text: &[u8], start: usize, end: usize) -> usize
+    requires order { start < end }
+    requires within { end ≤ length text.now }
+    requires line { IsLineStart text.now start }
+    ensures order { start ≤ result }
+    ensures before { result < end }
+    ensures line { IsLineStart text.now result }
+    ensures last { (m : ℕ) → result < m → m < end → IsLineStart text.now m → ⊥ }
+{
+    let mut at = end - 1;
+    while at > start && text[at - 1] != b'\n' {
+        at -= 1;
+    }
+    at
+}
+
+/// The edit without the lines at its end that are the same in both texts.
+fn cut(old: &[u8], new: &[u8], edit: Edit) -> Edit
+    requires old_order { edit.start ≤ edit.end }
+    requires new_order { edit.from ≤ edit.to }
+    requires start { IsLineStart old.now edit.start }
+    requires end { IsLineStart old.now edit.end }
+    requires from { IsLineStart new.now edit.from }
+    requires to { IsLineStart new.now edit.to }
+    ensures { IsCut old.now new.now edit result }
+{
+    let mut cut = edit;
+    while cut.start < cut.end && cut.from < cut.to {
+        let end = last_line(old, cut.start, cut.end);
+        let to = last_line(new, cut.from, cut.to);
+        if !are_equal(&old[end..cut.end], &new[to..cut.to]) {
+            return cut;
+        }
+        cut.end = end;
+        cut.to = to;
+    }
+    cut
 }
 
 fn are_equal(old_line: &[u8], new_line: &[u8]) -> bool

@@ -1,5 +1,5 @@
-use Rattle.std.proofs.Common.{◌<◌, ◌⊎◌, length, inl, inr}
-use Rattle.isle_lsp_text.proofs.EditSteps.{hand_next, pushed, goes_on}
+use Rattle.std.proofs.Common.{◌≡◌, ◌<◌, ◌⊎◌, length, inl, inr, arith}
+use Rattle.isle_lsp_text.proofs.EditSteps.{all_turned, hand_next, pushed_cut, goes_on}
 use Rattle.isle_lsp_text.proofs.edits.line_edits.Goals as goal
 use Rattle.isle_lsp_text.proofs.edits.line_edits.Goals.{then-edit-old, else-edit-old+then-edit-new}
 
@@ -13,11 +13,22 @@ loop-edit-preserved-then-are_equal c =
     let p = c.next_line-end.ensures in
     let q = c.next_line-to.ensures in
     let grows = goes_on old new e.end e.to c.next_line-end.result c.next_line-to.result p.order p.within q.order q.within p.on q.on same o in
-    rw c.in_ok-push_changed.ensures (hand_next old new _ _ e _ _ (pushed old new _ e c.loop-edit.invariant) grows p.within q.order q.within same p.line q.line)
+    rw c.in_ok-push_changed.ensures (hand_next old new _ _ e _ _ (pushed_cut old new _ e _ c.loop-edit.invariant c.cut.ensures) grows p.within q.order q.within same p.line q.line)
 
 pub returns-clause-lines : goal.returns-clause-lines
 returns-clause-lines c =
     let old = c.as_bytes-old.result.now in
     let new = c.as_bytes-new.result.now in
-    let g = pushed old new _ c.loop-edit.edit c.loop-edit.invariant in
+    let g = pushed_cut old new _ c.loop-edit.edit _ c.loop-edit.invariant c.cut-2.ensures in
     rw (c.in_ok-push_changed-2.ensures, ← c.as_bytes-old.ensures.value, ← c.as_bytes-new.ensures.value) g.edits
+
+pub returns-clause-gives : goal.returns-clause-gives
+returns-clause-gives c =
+    let old = c.as_bytes-old.result.now in
+    let new = c.as_bytes-new.result.now in
+    let e = c.loop-edit.edit in
+    let h = c.loop-edit.invariant in
+    let g = pushed_cut old new _ e _ h c.cut-2.ensures in
+    let p : e.end ≡ length old = omega (arith, h.end.0, c.if-edit-old.false) in
+    let q : e.to ≡ length new = omega (arith, h.to.0, c.if-edit-new.false) in
+    rw (c.in_ok-push_changed-2.ensures, ← c.as_bytes-old.ensures.value, ← c.as_bytes-new.ensures.value) (all_turned old new _ e.end e.to g.turns p q)
