@@ -1,3 +1,4 @@
+pub mod Depths
 pub mod Results
 pub mod Reporting
 pub mod Talks

@@ -1,3 +1,4 @@
+pub mod Depths
 pub mod Readings
 pub mod Sent
 pub mod Tokens

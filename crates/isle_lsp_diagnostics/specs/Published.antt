@@ -1,12 +1,13 @@
 -- The diagnostics of a document.
 use Rattle.std.specs.Prelude.{◌≡◌, ℕ, List, codes, map, Option, None, Some}
 use Rattle.serde_json.specs.Data.{Data, array, member, no_items, no_members, object, string}
+use Rattle.serde_json.specs.Read.{read}
 use Rattle.serde_json.specs.View.{items_of}
 use Rattle.isle_lint_core.specs.Lint.{name}
 use Rattle.isle_lsp_diagnostics.specs.Diagnostics.{AreMarks}
 use Rattle.isle_lsp_diagnostics.specs.Marks.{Finder, Mark, check, lint, parser}
 use Rattle.isle_lsp_features.specs.Programs.{Text}
-use Rattle.isle_lsp_protocol.specs.Replies.{IsTextOf, publishing}
+use Rattle.isle_lsp_protocol.specs.Replies.{publishing}
 use Rattle.isle_lsp_protocol.specs.Results.{checked_data, error_data, warning_data}
 use Rattle.isle_lsp_text.specs.Positions.{position_at}
 use Rattle.isle_lsp_text.specs.declared.positions.Range.{Range}
@@ -38,4 +39,4 @@ parameters_data uri diagnostics = object (member (codes "diagnostics") diagnosti
 
 -- the notification for a document, which is this file of the programs, with its text, or for one that is not open
 abbrev pub IsPublished : (uri : List ℕ) → (programs : List (List Text)) → (file : List ℕ) → Option (List ℕ) → List ℕ → Type 0
-IsPublished uri programs file text sent = (d : Data) × AreDiagnostics programs file text d × IsTextOf (publishing uri d) sent
+IsPublished uri programs file text sent = (d : Data) × AreDiagnostics programs file text d × (read sent ≡ Some (publishing uri d))

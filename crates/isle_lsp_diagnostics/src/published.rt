@@ -1,13 +1,14 @@
 //! The notification that publishes the diagnostics of a document.
 
-ghost use Rattle.std.specs.Prelude.{◌≡◌, ◌++◌, ◌∷◌, IfErr, IfOk, OnOk, codes, map, option_map};
+ghost use Rattle.std.specs.Prelude.{◌≡◌, ◌++◌, ◌∷◌, IfErr, IfOk, OnOk, Some, codes, map, option_map};
 ghost use Rattle.std.specs.Prelude.{string_bytes};
 ghost use Rattle.json.specs.Token.{key};
 ghost use Rattle.json.specs.Tree.{json_tokens};
+ghost use Rattle.serde_json.specs.Read.{read};
 ghost use Rattle.serde_json.specs.Written.{outline};
 ghost use Rattle.isle_cli.specs.declared.failure.Failure.TheVariants.{Memory};
 ghost use Rattle.isle_lsp_features.specs.Programs.{text_of};
-ghost use Rattle.isle_lsp_protocol.specs.Replies.{IsTextOf, publishing};
+ghost use Rattle.isle_lsp_protocol.specs.Replies.{publishing};
 ghost use Rattle.isle_lsp_text.specs.Positions.{IsPlace};
 ghost use Rattle.isle_lsp_diagnostics.specs.Marks.{finder_of, mark_of};
 ghost use Rattle.isle_lsp_diagnostics.specs.Published.{IsPublished, diagnostics_data, mark_data};
@@ -53,8 +54,8 @@ fn notification(
     text: &str,
     diagnostics: &[Diagnostic],
 ) -> Result<String, AllocError>
-    ensures { IfOk result (λ sent. IsTextOf (publishing uri.now
-        (diagnostics_data text.now (map mark_of diagnostics.now))) (string_bytes sent)) }
+    ensures { IfOk result (λ sent. read (string_bytes sent) ≡ Some (publishing uri.now
+        (diagnostics_data text.now (map mark_of diagnostics.now)))) }
 {
     let mut out = Writer::new(Vec::new(alloc));
     put_notification(&mut out, uri, text, diagnostics)?;

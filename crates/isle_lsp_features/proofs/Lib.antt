@@ -1,5 +1,6 @@
 pub mod Changing
 pub mod Completing
+pub mod Depths
 pub mod Gathering
 pub mod Letters
 pub mod Lists

@@ -1,4 +1,5 @@
 pub mod Changes
+pub mod Depths
 pub mod Folders
 pub mod Ids
 pub mod Listings

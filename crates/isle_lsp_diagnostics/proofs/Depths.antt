@@ -1,0 +1,20 @@
+-- How deep the diagnostics of a document nest.
+use Rattle.std.proofs.Common.{ℕ, ◌≤◌, List, arith}
+use Rattle.serde_json.specs.Data.{depth}
+use Rattle.isle_lsp_text.specs.declared.positions.Range.{Range}
+use Rattle.isle_lint_core.specs.Lint.{name}
+use Rattle.isle_lsp_protocol.proofs.Depths.{checked_depth, error_depth, items_shallow, map_shallow, publishing_depth, warning_depth}
+use Rattle.isle_lsp_protocol.specs.Replies.{publishing}
+use Rattle.isle_lsp_diagnostics.specs.Marks.{Finder, Mark, check, lint, parser}
+use Rattle.isle_lsp_diagnostics.specs.Published.{diagnostic_data_at, diagnostics_data, mark_data}
+
+finding_depth : (range : Range) (finder : Finder) (message : List ℕ) → depth (diagnostic_data_at range finder message) ≤ 4
+finding_depth range parser message = error_depth range message
+finding_depth range (lint it) message = warning_depth range (name it) message
+finding_depth range (check is_error kind) message = checked_depth range is_error kind message
+
+told_depth : (text : List ℕ) (marks : List Mark) → depth (diagnostics_data text marks) ≤ 5
+told_depth text marks = omega (arith, items_shallow 4 _ (map_shallow 4 (mark_data text) marks (λ m. finding_depth _ m.finder m.message)))
+
+pub published_depth : (uri text : List ℕ) (marks : List Mark) → depth (publishing uri (diagnostics_data text marks)) ≤ 127
+published_depth uri text marks = omega (arith, publishing_depth uri (diagnostics_data text marks) (omega (arith, told_depth text marks)))
