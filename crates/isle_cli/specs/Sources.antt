@@ -1,6 +1,7 @@
 -- What is read of what a command line names.
-use Rattle.std.specs.Prelude.{◌≡◌, ◌≢◌, ◌⊎◌, ℕ, List, [], ◌++◌, Contains, Option, codes, string_bytes}
+use Rattle.std.specs.Prelude.{◌≡◌, ◌≢◌, ◌⊎◌, ℕ, List, [], ◌∷◌, ◌++◌, Contains, Option, codes, string_bytes}
 use Rattle.std.specs.Fmt.{decimal}
+use Rattle.std.specs.List.{flat_map}
 use Rattle.std.specs.Io.KnownBytes.{Keeps}
 use Rattle.isle_base_source.specs.Source as files
 use Rattle.isle_base.specs.Diagnostics.{only_file}
@@ -32,14 +33,73 @@ fault_line program name fault = program.name.now ++ codes ": " ++ name ++ codes 
 abbrev pub empty_line : Program → (name : List ℕ) → List ℕ
 empty_line program name = program.name.now ++ (codes ": no .isle file in '" ++ (name ++ codes "'\n"))
 
--- Standard input was read whole, and is one source more; or it gave no text, which is one fault more.
-abbrev pub ReadsInput : (stdin_name : List ℕ) → Program → (input input' : Option (List ℕ)) → (sources : List files.Source) → (faults : List ℕ) → (sources' : List files.Source) → (faults' : List ℕ) → Type 0
-ReadsInput stdin_name program input input' sources faults sources' faults' =
-    (ReadsText input input' (λ text. sources' ≡ sources ++ only_file stdin_name text) × (faults' ≡ faults))
-    ⊎ ((fault : ReadFault) × IsStreamFault input input' fault × (sources' ≡ sources) × (faults' ≡ faults ++ fault_line program stdin_name fault))
+-- each of these lines says why a path can't be read
+abbrev pub AreFaultLines : Program → (lines : List ℕ) → Type 0
+AreFaultLines program lines =
+    (each : List (List ℕ × ReadFault)) × (lines ≡ flat_map (λ line. fault_line program line.0 line.1) each)
 
--- What is read of the names of a command line: without one, standard input alone. Where others are named but `-` isn't,
--- standard input isn't read.
+-- the lines so far grow by such lines
+abbrev pub TellsFaults : Program → (lines lines' : List ℕ) → Type 0
+TellsFaults program lines lines' = (told : List ℕ) × AreFaultLines program told × (lines' ≡ lines ++ told)
+
+-- What the name of a file or a folder is found to stand for: files, and lines about what can't be read, one of either at
+-- least; or it is a folder without an ISLE file, as one line says.
+abbrev pub IsListing : Program → (name : List ℕ) → (paths : List (List ℕ)) → (told : List ℕ) → Type 0
+IsListing program name paths told =
+    (AreFaultLines program told × (paths ≡ [] → told ≢ [])) ⊎ ((paths ≡ []) × (told ≡ empty_line program name))
+
+-- What standard input gives: it is read whole, and is one text; or it gives no text, and one line says why.
+abbrev pub GivesInput : (stdin_name : List ℕ) → Program → (input input' : Option (List ℕ)) → (sources : List files.Source) → (lines : List ℕ) → Type 0
+GivesInput stdin_name program input input' sources lines =
+    (ReadsText input input' (λ text. sources ≡ only_file stdin_name text) × (lines ≡ []))
+    ⊎ ((fault : ReadFault) × IsStreamFault input input' fault × (sources ≡ []) × (lines ≡ fault_line program stdin_name fault))
+
+-- What a file gives: a text of its path, or one line that says why there is none.
+abbrev pub GivesFile : Program → (path : List ℕ) → (sources : List files.Source) → (lines : List ℕ) → Type 0
+GivesFile program path sources lines =
+    ((text : List ℕ) × (sources ≡ only_file path text) × (lines ≡ []))
+    ⊎ ((fault : ReadFault) × (sources ≡ []) × (lines ≡ fault_line program path fault))
+
+-- what files give, one after another
+abbrev pub GiveFiles : Program → (paths : List (List ℕ)) → (sources : List files.Source) → (lines : List ℕ) → Type 0
+GiveFiles program [] sources lines = (sources ≡ []) × (lines ≡ [])
+GiveFiles program (path ∷ paths) sources lines =
+    (first : List files.Source) × (more : List files.Source) × (told : List ℕ) × (further : List ℕ)
+    × GivesFile program path first told × GiveFiles program paths more further
+    × (sources ≡ first ++ more) × (lines ≡ told ++ further)
+
+-- What the name of a file or a folder gives: what each file gives that it stands for, behind the lines about others.
+pub record GivesPath (program : Program) (name : List ℕ) (sources : List files.Source) (lines : List ℕ) : Type 0 where
+  pub paths : List (List ℕ)
+  pub told : List ℕ
+  pub further : List ℕ
+  pub listing : IsListing program name paths told
+  pub each : GiveFiles program paths sources further
+  pub is : lines ≡ told ++ further
+
+-- What a name gives: `-` stands for standard input, which no other name reads.
+abbrev pub GivesName : (stdin_name : List ℕ) → Program → (name : List ℕ) → (input input' : Option (List ℕ)) → (sources : List files.Source) → (lines : List ℕ) → Type 0
+GivesName stdin_name program name input input' sources lines =
+    ((name ≡ codes "-") × GivesInput stdin_name program input input' sources lines)
+    ⊎ ((name ≢ codes "-") × Keeps input input' × GivesPath program name sources lines)
+
+-- What names give, one after another. So a second `-` reads what the first one left, which is nothing, and is an empty
+-- text.
+abbrev pub GiveNames : (stdin_name : List ℕ) → Program → (names : List (List ℕ)) → (input input' : Option (List ℕ)) → (sources : List files.Source) → (lines : List ℕ) → Type 0
+GiveNames stdin_name program [] input input' sources lines = (input' ≡ input) × (sources ≡ []) × (lines ≡ [])
+GiveNames stdin_name program (name ∷ names) input input' sources lines =
+    (mid : Option (List ℕ)) × (first : List files.Source) × (more : List files.Source) × (told : List ℕ) × (further : List ℕ)
+    × GivesName stdin_name program name input mid first told × GiveNames stdin_name program names mid input' more further
+    × (sources ≡ first ++ more) × (lines ≡ told ++ further)
+
+-- What is read of the names of a command line, in order: without one, standard input alone. Where others are named but
+-- `-` isn't, standard input isn't read.
 pub record IsReadFrom (names : List (List ℕ)) (stdin_name : List ℕ) (program : Program) (input input' : Option (List ℕ)) (sources : List files.Source) (faults : List ℕ) : Type 0 where
-  pub alone : names ≡ [] → ReadsInput stdin_name program input input' [] [] sources faults
+  pub alone : names ≡ [] → GivesInput stdin_name program input input' sources faults
+  pub each : names ≢ [] → GiveNames stdin_name program names input input' sources faults
   pub unread : names ≢ [] → ¬ (Contains names (codes "-")) → Keeps input input'
+
+-- the texts and the lines so far grow by what is given
+abbrev pub Adds : (sources sources' : List files.Source) → (lines lines' : List ℕ) → (Given : List files.Source → List ℕ → Type 0) → Type 0
+Adds sources sources' lines lines' Given =
+    (more : List files.Source) × (told : List ℕ) × Given more told × (sources' ≡ sources ++ more) × (lines' ≡ lines ++ told)

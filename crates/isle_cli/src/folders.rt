@@ -1,5 +1,8 @@
 //! The files below a folder.
 
+ghost use Rattle.std.specs.Prelude.{◌≡◌, ◌++◌, List, ℕ, IfOk, OnOk, map, string_bytes};
+ghost use Rattle.isle_cli.specs.Sources.{IsListing, TellsFaults, fault_line};
+
 use crate::program::Program;
 use crate::sources::{empty_line, fault_line};
 use crate::streams::{ReadFault, fault_of};
@@ -24,7 +27,11 @@ pub fn files_named<R: Files + AllocGlobal + Clone + Drop>(
     program: &Program,
     name: &str,
     faults: &mut String,
-) -> Result<Vec<String>, AllocError> {
+) -> Result<Vec<String>, AllocError>
+    ensures { IfOk result (λ files. (told : List ℕ)
+        × IsListing program.now name.now (map string_bytes files.items) told
+        × (string_bytes faults.new ≡ string_bytes faults.old ++ told)) }
+{
     let told = faults.len();
     let files = files_of(rt, program, name, faults)?;
     if files.is_empty() && faults.len() == told {
@@ -44,7 +51,10 @@ pub fn files_of<R: Files + AllocGlobal + Clone + Drop>(
     program: &Program,
     name: &str,
     faults: &mut String,
-) -> Result<Vec<String>, AllocError> {
+) -> Result<Vec<String>, AllocError>
+    ensures { OnOk result
+        (TellsFaults program.now (string_bytes faults.old) (string_bytes faults.new)) }
+{
     let mut files = Vec::new(rt.alloc());
     let is_folder = match rt.metadata(name) {
         Ok(metadata) => metadata.is_dir(),
@@ -74,7 +84,10 @@ fn push_entries<R: Files + AllocGlobal + Clone + Drop>(
     folder: &str,
     pending: &mut Vec<Entry>,
     faults: &mut String,
-) -> Result<(), AllocError> {
+) -> Result<(), AllocError>
+    ensures { OnOk result
+        (TellsFaults program.now (string_bytes faults.old) (string_bytes faults.new)) }
+{
     let entries = match read_dir(rt, folder) {
         Ok(entries) => entries,
         Err(error) => return push_fault(rt, program, folder, error, faults),
@@ -114,7 +127,10 @@ fn push_fault<R: Files + AllocGlobal>(
     name: &str,
     error: io::Error,
     faults: &mut String,
-) -> Result<(), AllocError> {
+) -> Result<(), AllocError>
+    ensures { OnOk result ((fault : ReadFault) × (string_bytes faults.new
+        ≡ string_bytes faults.old ++ fault_line program.now name.now fault)) }
+{
     match fault_of(error) {
         ReadFault::Memory => Err(AllocError),
         fault => {

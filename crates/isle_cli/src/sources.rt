@@ -2,8 +2,9 @@
 
 ghost use Rattle.std.specs.Prelude.{◌≡◌, ◌++◌, [], IfOk, OnOk, map, string_bytes};
 ghost use Rattle.isle_base.specs.Diagnostics.{only_file};
-ghost use Rattle.isle_cli.specs.Sources.{IsReadFrom, ReadsInput, empty_line, fault_line};
-ghost use Rattle.isle_cli.specs.Sources.{reason_of, source_of};
+ghost use Rattle.isle_cli.specs.Sources.{Adds, GiveFiles, GivesFile, GivesInput, GivesName};
+ghost use Rattle.isle_cli.specs.Sources.{GivesPath, IsReadFrom, empty_line, fault_line, reason_of};
+ghost use Rattle.isle_cli.specs.Sources.{source_of};
 
 use crate::folders::files_named;
 use crate::program::Program;
@@ -54,11 +55,7 @@ pub fn read_sources<R: Files + AllocGlobal + Clone + Drop, I: Read>(
         return Ok(read);
     }
     for name in names {
-        if name.as_str() == "-" {
-            read_input(rt.alloc(), program, stdin_name, input, &mut read)?;
-        } else {
-            read_path(rt, program, name.as_str(), &mut read)?;
-        }
+        read_name(rt, program, name.as_str(), stdin_name, input, &mut read)?;
     }
     Ok(read)
 }
@@ -104,6 +101,28 @@ impl Sources {
     }
 }
 
+/// Adds standard input, a file, or the files below a folder.
+fn read_name<R: Files + AllocGlobal + Clone + Drop, I: Read>(
+    rt: &R,
+    program: &Program,
+    name: &str,
+    stdin_name: &str,
+    input: &mut I,
+    read: &mut Sources,
+) -> Result<(), AllocError>
+    ensures { OnOk result (Adds (map source_of read.old.list.items)
+        (map source_of read.new.list.items)
+        (string_bytes read.old.faults) (string_bytes read.new.faults)
+        (GivesName stdin_name.now program.now name.now
+        (I.remaining input.old) (I.remaining input.new))) }
+{
+    if name == "-" {
+        read_input(rt.alloc(), program, stdin_name, input, read)
+    } else {
+        read_path(rt, program, name, read)
+    }
+}
+
 /// Adds standard input.
 fn read_input<I: Read>(
     alloc: Global,
@@ -112,10 +131,10 @@ fn read_input<I: Read>(
     input: &mut I,
     read: &mut Sources,
 ) -> Result<(), AllocError>
-    ensures { OnOk result (ReadsInput stdin_name.now program.now
-        (I.remaining input.old) (I.remaining input.new)
-        (map source_of read.old.list.items) (string_bytes read.old.faults)
-        (map source_of read.new.list.items) (string_bytes read.new.faults)) }
+    ensures { OnOk result (Adds (map source_of read.old.list.items)
+        (map source_of read.new.list.items)
+        (string_bytes read.old.faults) (string_bytes read.new.faults)
+        (GivesInput stdin_name.now program.now (I.remaining input.old) (I.remaining input.new))) }
 {
     match read_text(alloc, input) {
         Ok(text) => read.push(alloc, stdin_name, text),
@@ -130,15 +149,51 @@ fn read_path<R: Files + AllocGlobal + Clone + Drop>(
     program: &Program,
     name: &str,
     read: &mut Sources,
-) -> Result<(), AllocError> {
-    for file in files_named(rt, program, name, &mut read.faults)? {
-        match read_file(rt, file.as_str()) {
-            Ok(text) => read.push(rt.alloc(), file.as_str(), text)?,
-            Err(ReadFault::Memory) => return Err(AllocError),
-            Err(fault) => read.push_fault(rt.alloc(), program, file.as_str(), fault)?,
-        }
+) -> Result<(), AllocError>
+    ensures { OnOk result (Adds (map source_of read.old.list.items)
+        (map source_of read.new.list.items)
+        (string_bytes read.old.faults) (string_bytes read.new.faults)
+        (GivesPath program.now name.now)) }
+{
+    let files = files_named(rt, program, name, &mut read.faults)?;
+    read_files(rt, program, &files, read)
+}
+
+/// Adds files.
+fn read_files<R: Files + AllocGlobal>(
+    rt: &R,
+    program: &Program,
+    paths: &[String],
+    read: &mut Sources,
+) -> Result<(), AllocError>
+    ensures { OnOk result (Adds (map source_of read.old.list.items)
+        (map source_of read.new.list.items)
+        (string_bytes read.old.faults) (string_bytes read.new.faults)
+        (GiveFiles program.now (map string_bytes paths.now))) }
+{
+    for path in paths {
+        read_one(rt, program, path.as_str(), read)?;
     }
     Ok(())
+}
+
+/// Adds a file.
+fn read_one<R: Files + AllocGlobal>(
+    rt: &R,
+    program: &Program,
+    path: &str,
+    read: &mut Sources,
+) -> Result<(), AllocError>
+    ensures { OnOk result (Adds (map source_of read.old.list.items)
+        (map source_of read.new.list.items)
+        (string_bytes read.old.faults) (string_bytes read.new.faults)
+        (GivesFile program.now path.now)) }
+{
+    match read_file(rt, path) {
+        Ok(text) => read.push(rt.alloc(), path, text),
+        Err(ReadFault::Memory) => Err(AllocError),
+        Err(fault) => read.push_fault(rt.alloc(), program, path, fault),
+    }
 }
 
 /// Reads a file in UTF-8.

@@ -1,9 +1,13 @@
--- Without a name `-` the input isn't read.
-use Rattle.std.proofs.Common.{map, string_bytes, codes}
+-- What the names so far gave. Without a name `-` the input isn't read.
+use Rattle.std.proofs.Common.{map, string_bytes, codes, take}
 use Rattle.std.specs.Prelude.{Contains}
 use Rattle.std.specs.Io.KnownBytes.{Keeps}
+use Rattle.isle_cli.specs.Sources.{GiveNames, source_of}
 use Rattle.isle_cli.proofs.sources.read_sources.Given as goal
 
 abbrev pub invariant-loop-name : goal.invariant-loop-name
-invariant-loop-name g l =
-    ¬ (Contains (map string_bytes l.names) (codes "-")) → Keeps (g.I.Read.remaining l.initial.input) (g.I.Read.remaining l.input)
+invariant-loop-name g l = record {
+  given : GiveNames l.stdin_name l.program (map string_bytes (take l.name-index l.names)) (g.I.Read.remaining l.initial.input) (g.I.Read.remaining l.input)
+      (map source_of l.read.list.items) (string_bytes l.read.faults);
+  unread : ¬ (Contains (map string_bytes l.names) (codes "-")) → Keeps (g.I.Read.remaining l.initial.input) (g.I.Read.remaining l.input);
+}
