@@ -4,6 +4,8 @@
                 error (writes to standard error), file (open, read, write, fchmod, fsync, chown, rename and unlink, of files)
    AT=N         the Nth of them fails; with ON=1 each one after it too; with KILL=1 the process is killed there instead
    BYTE=1       each read of standard input and each write to standard output or standard error moves one byte
+   INTERRUPT=1  each of them is interrupted three times before it is made
+   ERROR=N      what fails has this number in errno, in place of EIO or ENOMEM
    LOG=FILE     gets an x for each call that fails, or without AT for each that is counted; and a - where memory was refused and the
                 next request is for no more: a growth ahead of need is done without
 
@@ -50,7 +52,7 @@ static int fails(const char *kind, int error)
     if (at != 0 && kills)
         kill(getpid(), SIGKILL);
     log_byte("x");
-    errno = error;
+    errno = number("ERROR") ? (int)number("ERROR") : error;
     return at != 0;
 }
 
@@ -76,14 +78,29 @@ int posix_memalign(void **room, size_t alignment, size_t size)
     return found ? (*room = found, 0) : ENOMEM;
 }
 
+/* Returns whether a call on a standard stream is interrupted: three of four are. */
+static int interrupts(int file)
+{
+    static int turns[3];
+    if (file < 0 || file > 2 || !number("INTERRUPT"))
+        return 0;
+    turns[file] = (turns[file] + 1) % 4;
+    errno = EINTR;
+    return turns[file] != 0;
+}
+
 ssize_t read(int file, void *bytes, size_t count)
 {
+    if (interrupts(file))
+        return -1;
     count = file == 0 && count > 1 && number("BYTE") ? 1 : count;
     return fails(file == 0 ? "read" : "file", EIO) ? -1 : syscall(SYS_read, file, bytes, count);
 }
 
 ssize_t write(int file, const void *bytes, size_t count)
 {
+    if (interrupts(file))
+        return -1;
     const char *kind = file == 1 ? "write" : file == 2 ? "error" : "file";
     count = (file == 1 || file == 2) && count > 1 && number("BYTE") ? 1 : count;
     return fails(kind, EIO) ? -1 : syscall(SYS_write, file, bytes, count);

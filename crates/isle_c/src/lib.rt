@@ -287,6 +287,3 @@ pub extern "C" fn isle_c_version() -> Version
         patch: 1,
     }
 }
-
-#[cfg(test)]
-mod tests;

@@ -135,6 +135,3 @@ fn answer_to(alloc: Global, text: &str, width: usize) -> Result<String, Failure>
         Err(Fault::Memory) => Err(Failure::Memory),
     }
 }
-
-#[cfg(test)]
-mod tests;
