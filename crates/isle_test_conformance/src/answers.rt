@@ -1,9 +1,12 @@
 //! The answers of cases.
 
 use crate::case::Case;
-use crate::errors::{line_map, overlap_error, parse_errors, refusal, shadowed_error};
+use crate::errors::{accepts, line_map, overlap_error, parse_errors, refusal, shadowed_error};
+use crate::files::files;
+use crate::lexers::{copied, kinds, unknown};
 use crate::nodes::nodes;
 use crate::requests::request;
+use crate::shared::of_shared;
 use crate::terms::{substitute, template, terms};
 use crate::texts::{beginnings, damaged};
 use crate::trees::of_trees;
@@ -12,7 +15,9 @@ use isle_syntax::format;
 use isle_syntax::lexer::{Fault, Lexer, Pos, Token};
 use isle_syntax::parser::{Parser, parse, parse_without_pos};
 use isle_syntax::printer::{Looks, PrintFault, ToSExpr, fits};
+use isle_test_nodes::prints::shape;
 use isle_test_nodes::trees::{drop_definitions, next_word, read, show_definitions};
+use isle_test_syntax::prints::own_print;
 use isle_tidy_core::tidy;
 use std::alloc::{AllocError, Global};
 use std::fmt::Debug;
@@ -25,7 +30,7 @@ pub fn shown<T: Debug + Drop>(alloc: Global, value: T) -> Result<String, AllocEr
 }
 
 /// A tree, or the fault, as Debug shows it. The tree is dropped.
-fn shown_tree(alloc: Global, answer: Result<Vec<Def>, Fault>) -> Result<String, AllocError> {
+pub fn shown_tree(alloc: Global, answer: Result<Vec<Def>, Fault>) -> Result<String, AllocError> {
     let text = show_definitions(alloc, answer)?;
     placed(alloc, &text)
 }
@@ -63,6 +68,13 @@ pub fn answer(alloc: Global, case: &Case, program: &str) -> Result<String, Alloc
         "overlap_error" => shown(alloc, overlap_error(alloc, case)?),
         "shadowed_error" => shown(alloc, shadowed_error(alloc, case)?),
         "line_map" => line_map(alloc, case),
+        "accepts" => shown(alloc, accepts(alloc, case)?),
+        "files" => files(alloc, case),
+        "unknown" => unknown(alloc, case),
+        "kinds" => kinds(alloc, case),
+        "copied" => copied(alloc, case),
+        "shape" => shown(alloc, shape(alloc, case.text(0))),
+        "own_print" => shown(alloc, own_print(alloc, case.text(0), case.number(0))),
         "fits" => shown(alloc, fitting(alloc, case)),
         "nodes" => nodes(alloc, case),
         "terms" => terms(alloc, case),
@@ -74,13 +86,14 @@ pub fn answer(alloc: Global, case: &Case, program: &str) -> Result<String, Alloc
         | "index_candidates"
         | "index_rename"
         | "index_can_rename" => request(alloc, case, program),
+        "entries" | "expanded" | "programs_with" | "unflushed" => of_shared(alloc, case),
         _ => of_trees(alloc, case),
     }
 }
 
 /// A lexer for the first text, in the file of the first number, after as many calls of `next` as
 /// the second number says.
-fn lexer<'a>(alloc: Global, case: &'a Case) -> Result<Lexer<'a>, Fault> {
+pub fn lexer<'a>(alloc: Global, case: &'a Case) -> Result<Lexer<'a>, Fault> {
     let mut lexer = Lexer::new(alloc, case.number(0), case.text(0))?;
     for _ in 0..case.number(1) {
         drop(lexer.next(alloc));
@@ -98,7 +111,7 @@ fn parsed_without_pos(alloc: Global, case: &Case) -> Result<Vec<Def>, Fault> {
 }
 
 /// A lexer's state in brackets: its position, and whether it has failed or is at its end.
-fn state(alloc: Global, lexer: &Lexer) -> Result<String, AllocError> {
+pub fn state(alloc: Global, lexer: &Lexer) -> Result<String, AllocError> {
     let pos = lexer.pos();
     let state = match (lexer.peek().is_some(), lexer.eof()) {
         (true, false) => "",
@@ -110,7 +123,10 @@ fn state(alloc: Global, lexer: &Lexer) -> Result<String, AllocError> {
 }
 
 /// An answer of `next`.
-fn step(alloc: Global, next: Result<Option<(Pos, Token)>, Fault>) -> Result<String, AllocError> {
+pub fn step(
+    alloc: Global,
+    next: Result<Option<(Pos, Token)>, Fault>,
+) -> Result<String, AllocError> {
     match next {
         Ok(Some(next)) => {
             let words = format!(in alloc; "{:?} {:?}", next.0, next.1);

@@ -88,6 +88,32 @@ pub fn shadowed_error(alloc: Global, case: &Case) -> Result<String, AllocError> 
     display(alloc, vec![in alloc; error]?, case.text(0), case.text(1))
 }
 
+/// Whether parse errors at the offsets after the first two numbers, in the file of the second one,
+/// are accepted with as many files as the first one says.
+pub fn accepts(alloc: Global, case: &Case) -> Result<bool, AllocError> {
+    let mut errors = Vec::new(alloc);
+    for offset in case.numbers.get(2..).unwrap_or(&[]) {
+        let (from, to) = (*offset, offset.saturating_add(1));
+        errors.push(Error::ParseError {
+            msg: "m".to_string(alloc)?,
+            span: Span {
+                from: Pos::new(case.number(1), from),
+                to: Pos::new(case.number(1), to),
+            },
+        })?;
+    }
+    Ok(Errors::accepts(&errors, &some_files(alloc, case.number(0))?))
+}
+
+/// As many files, each with the same text.
+fn some_files(alloc: Global, count: usize) -> Result<Files, AllocError> {
+    let mut pairs = Vec::new(alloc);
+    for _ in 0..count {
+        pairs.push(("a.isle".to_string(alloc)?, "(A)".to_string(alloc)?))?;
+    }
+    Files::from_names_and_contents(alloc, pairs)
+}
+
 /// The line of each offset in the first text, and the line map of the text.
 pub fn line_map(alloc: Global, case: &Case) -> Result<String, AllocError> {
     let map = LineMap::from_str(alloc, case.text(0))?;

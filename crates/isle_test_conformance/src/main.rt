@@ -1,4 +1,5 @@
-//! Answers calls of the syntax layer and of the index, one a line, so that their tests are data.
+//! Answers calls of the syntax layer, of the index and of what the programs share, one a line, so
+//! that their tests are data.
 //!
 //! Each line of standard input is answered by a line of standard output. A line that is empty or
 //! begins with `#` is repeated. Any other line is a case: a call, then its numbers and texts. A
@@ -30,9 +31,19 @@
 //! - `shadowed_error MASK OFFSET.. NAME TEXT`: rules at these places that another one shadows, as
 //!   Display shows them
 //! - `line_map OFFSET.. TEXT`: the line of each place, and the line map
+//! - `accepts COUNT FILE OFFSET..`: whether parse errors at these places of a file are accepted with
+//!   so many files
+//! - `files OFFSET NAME TEXT`: the name, the text and the line map of a file, each beside that of a
+//!   second one, which is not there; and the line of the offset
+//! - `unknown FILE OFFSET`: the position, and whether it is unknown
+//! - `kinds TEXT`: whether the first token is a symbol, an integer, and equal to its copy
+//! - `copied FILE READ TEXT`: what the copy of a lexer answers to `next`, between its states; and the
+//!   state of the lexer
+//! - `shape TEXT`: the S-expression of a conversion, or of a rule's one condition
+//! - `own_print WIDTH KIND`: the print of a caller's node: `binding`, `nested` or `empty`
 //! - `fits ROOM TEXT`: whether the S-expression of each definition fits the room
 //! - `writable TEXT`: whether the tree is writable
-//! - `built KIND NUMBER.. WORD..`: whether the tree of this kind (see `isle_test_trees`) is
+//! - `built KIND NUMBER.. WORD..`: whether the tree of this kind (see `isle_test_syntax`) is
 //!   writable; an error if its print parses as the tree and it isn't, or the other way round, at
 //!   any of four widths
 //! - `built_alone KIND NUMBER.. WORD..`: whether each of its definitions is writable, without
@@ -45,7 +56,7 @@
 //!   the template
 //! - `substitute PATTERN NAMES PATTERN..`: the text of the template with the patterns after the
 //!   names put in
-//! - `by_hand NAME`: what `isle_test_trees` asks of trees by hand under this name
+//! - `by_hand NAME`: what `isle_test_syntax` asks under this name
 //! - `is_identifier TEXT`: whether the text is an identifier
 //! - `begins_identifier TEXT`, `continues_identifier TEXT`: whether its first character begins an
 //!   identifier, or continues one
@@ -68,13 +79,22 @@
 //! - `index_can_rename OFFSET`: whether the name there can be renamed at all
 //! - `index_rename OFFSET NAME`: the places that change when the name there is renamed, or why it
 //!   can't be renamed
+//! - `entries TEXT`: what tidying adds for each of the first nine entries, followed by a `|`
+//! - `expanded TEXT`: the tree of the expansion, with its positions
+//! - `programs_with FILE PATHS..`: the numbers of the programs with the file, and all their paths.
+//!   The paths of each program are separated by blanks
+//! - `unflushed TEXT`: what writing a text answers if the writer can't be flushed, and whether the
+//!   writer holds the text
 #![tactic(auto)]
 
 mod answers;
 mod case;
 mod errors;
+mod files;
+mod lexers;
 mod nodes;
 mod requests;
+mod shared;
 mod terms;
 mod texts;
 mod trees;

@@ -5,11 +5,11 @@ use crate::case::Case;
 use isle_syntax::ast::writable;
 use isle_syntax::lexer::Fault;
 use isle_test_nodes::trees::drop_definitions;
-use isle_test_trees::by_hand::told_by_hand;
-use isle_test_trees::names::{full_name, is_of_identifiers, order_of};
-use isle_test_trees::told_of_built;
-use isle_test_trees::walks::told_of_rule;
-use isle_test_trees::whole::holds;
+use isle_test_syntax::by_hand::told_by_hand;
+use isle_test_syntax::names::{full_name, is_of_identifiers, order_of};
+use isle_test_syntax::told_of_built;
+use isle_test_syntax::walks::told_of_rule;
+use isle_test_syntax::whole::holds;
 use std::alloc::{AllocError, Global};
 
 /// The answer of a call about a tree, or about the names in one.

@@ -196,15 +196,22 @@ fn builders(builder: ErrorsBuilder, errors: Vec<Error>, files: Rc<Files>) -> boo
 struct Fixed {
     bytes: [u8; 256],
     len: usize,
-    left: usize,
+    /// The length after each write.
+    ends: [usize; 64],
+    count: usize,
+    room: usize,
+    refused: usize,
 }
 
 impl Fixed {
-    fn new(left: usize) -> Fixed {
+    fn new(room: usize) -> Fixed {
         Fixed {
             bytes: [0; 256],
             len: 0,
-            left,
+            ends: [0; 64],
+            count: 0,
+            room,
+            refused: 0,
         }
     }
 
@@ -215,7 +222,10 @@ impl Fixed {
 
 impl Write for Fixed {
     fn write_str(&mut self, piece: &str) -> fmt::Result {
-        self.left = self.left.checked_sub(1).ok_or(fmt::Error)?;
+        if self.count >= self.room {
+            self.refused = self.refused.saturating_add(1);
+            return Err(fmt::Error);
+        }
         for byte in piece.bytes() {
             match self.bytes.get_mut(self.len) {
                 Some(place) => *place = byte,
@@ -223,12 +233,24 @@ impl Write for Fixed {
             }
             self.len = self.len.saturating_add(1);
         }
+        if let Some(end) = self.ends.get_mut(self.count) {
+            *end = self.len;
+        }
+        self.count = self.count.saturating_add(1);
         Ok(())
     }
 }
 
 /// The beginning of the message, up to the source line.
 const SHOWN: &[u8] = b"parse error: first\nb.isle:1:3: ";
+
+/// Returns whether nothing follows the first write that fails, and the writer then holds the first
+/// `length` bytes of the whole message.
+fn is_cut(errors: &Errors, whole: &Fixed, room: usize, length: usize) -> bool {
+    let mut part = Fixed::new(room);
+    let is_refused = write!(part, "{errors}").is_err() && part.refused == 1;
+    is_refused && part.len == length && whole.written().starts_with(part.written())
+}
 
 /// Display of the errors into a fixed buffer, and with each write failing in turn.
 fn displays(builder: ErrorsBuilder, errors: Vec<Error>, files: Rc<Files>) -> bool {
@@ -239,13 +261,10 @@ fn displays(builder: ErrorsBuilder, errors: Vec<Error>, files: Rc<Files>) -> boo
     let errors = builder.build();
     let mut whole = Fixed::new(usize::MAX);
     let mut is_right = write!(whole, "{errors}").is_ok() && whole.written().starts_with(SHOWN);
-    let taken = usize::MAX.saturating_sub(whole.left);
-    let mut before = 0;
-    for left in 0..taken {
-        let mut part = Fixed::new(left);
-        is_right &= write!(part, "{errors}").is_err() && part.left == 0;
-        is_right &= whole.written().starts_with(part.written()) && before <= part.len;
-        before = part.len;
+    let mut length = 0;
+    for room in 0..whole.count {
+        is_right &= is_cut(&errors, &whole, room, length);
+        length = whole.ends.get(room).copied().unwrap_or(0);
     }
-    is_right && before < whole.len
+    is_right && length == whole.len
 }

@@ -4,36 +4,35 @@ use crate::nodes::pos;
 use crate::trees::{drop_definitions, read};
 use isle_syntax::ast::{Def, SpecExpr};
 use isle_syntax::lexer::Fault;
-use isle_syntax::printer::{PrintFault, SExpr, ToSExpr, print_node};
+use isle_syntax::printer::{PrintFault, ToSExpr, print_node};
 use std::alloc::Global;
 
-/// Returns whether the S-expression of a node is this one.
-fn is_of_node<N: ToSExpr>(alloc: Global, node: &N, want: &SExpr) -> bool {
+/// The S-expression of a node as Debug shows it.
+fn shape_of_node<N: ToSExpr>(alloc: Global, node: &N) -> Result<String, Fault> {
     match node.to_sexpr(alloc) {
-        Ok(sexpr) => sexpr == *want,
-        Err(_) => false,
+        Ok(sexpr) => Ok(format!(in alloc; "{sexpr:?}")?),
+        Err(_) => Err(Fault::Failed),
     }
 }
 
-/// Returns whether the S-expression of a conversion, or of a rule's one condition, is this one.
-fn is_of_definitions(alloc: Global, defs: &[Def], want: &SExpr) -> bool {
+/// The same of a conversion, or of a rule's one condition.
+fn shape_of(alloc: Global, defs: &[Def]) -> Result<String, Fault> {
     match defs {
-        [Def::Converter(converter)] => is_of_node(alloc, converter, want),
+        [Def::Converter(converter)] => shape_of_node(alloc, converter),
         [Def::Rule(rule)] => match rule.iflets.as_slice() {
-            [iflet] => is_of_node(alloc, iflet, want),
-            _ => false,
+            [iflet] => shape_of_node(alloc, iflet),
+            _ => Err(Fault::Failed),
         },
-        _ => false,
+        _ => Err(Fault::Failed),
     }
 }
 
-/// Returns whether a text is a conversion, or a rule with one condition, whose S-expression is this
-/// one.
-pub fn is_list(alloc: Global, text: &str, want: &SExpr) -> Result<bool, Fault> {
+/// The same of a text that is a conversion, or a rule with one condition.
+pub fn shape(alloc: Global, text: &str) -> Result<String, Fault> {
     let defs = read(alloc, text)?;
-    let answer = is_of_definitions(alloc, &defs, want);
+    let shape = shape_of(alloc, &defs);
     drop_definitions(defs);
-    Ok(answer)
+    shape
 }
 
 /// The print of a bit vector.

@@ -1,4 +1,4 @@
-//! Tests of the ends of symbols, blanks and line comments, at each place of short and long texts.
+//! The ends of symbols, blanks and line comments, at each place of short and long texts.
 
 ghost use Rattle.std.specs.Prelude.{◌≤◌, length};
 
@@ -69,28 +69,16 @@ fn run_with(
     Ok(bytes)
 }
 
-#[test]
-fn ends_of_symbols(rt: HostRuntime) {
-    let ends = [
+/// The ends of two symbols, of two runs of blanks, and of two line comments.
+pub fn ends() -> [usize; 6] {
+    [
         symbol_end(b"iadd.x y", 0),
         symbol_end(b"a\0\x0b\x80\xff\x0cb", 0),
-    ];
-    assert!(rt; ends == [6, 5]);
-}
-
-#[test]
-fn ends_of_blanks(rt: HostRuntime) {
-    let ends = [blank_end(b"x \t\r\n(y)", 1), blank_end(b"\x0c", 0)];
-    assert!(rt; ends == [5, 0]);
-}
-
-#[test]
-fn ends_of_line_comments(rt: HostRuntime) {
-    let ends = [
+        blank_end(b"x \t\r\n(y)", 1),
+        blank_end(b"\x0c", 0),
         line_comment_end(b"; (x)\x0c @\r\ny", 0),
         line_comment_end(b"x\n", 1),
-    ];
-    assert!(rt; ends == [8, 1]);
+    ]
 }
 
 /// Returns whether the run ends at `at` from each place up to there, and at the end of the bytes
@@ -115,7 +103,8 @@ fn ends_at_each_place(alloc: Global, run: Run, length: usize) -> Result<bool, Al
     Ok(true)
 }
 
-fn each_run_ends_at_each_place(alloc: Global) -> Result<bool, AllocError> {
+/// Returns whether each run ends where it should, at each place of short and long texts.
+pub fn each_run_ends_at_each_place(alloc: Global) -> Result<bool, AllocError> {
     for length in [0, 1, 31, 32, 33, 64, 65] {
         for run in RUNS {
             if !ends_at_each_place(alloc, run, length)? {
@@ -124,11 +113,6 @@ fn each_run_ends_at_each_place(alloc: Global) -> Result<bool, AllocError> {
         }
     }
     Ok(true)
-}
-
-#[test]
-fn ends_at_each_place_from_each_place(rt: HostRuntime) {
-    assert!(rt; matches!(each_run_ends_at_each_place(rt.alloc()), Ok(true)));
 }
 
 /// Returns whether the byte ends the run if it should: at the beginning, within lanes, and in the
@@ -143,7 +127,8 @@ fn ends_at_byte(alloc: Global, run: Run, byte: u8) -> Result<bool, AllocError> {
     Ok(true)
 }
 
-fn each_run_ends_at_its_bytes(alloc: Global) -> Result<bool, AllocError> {
+/// Returns whether each run ends at the bytes that end it, and at no others.
+pub fn each_run_ends_at_its_bytes(alloc: Global) -> Result<bool, AllocError> {
     for byte in 0..=255 {
         for run in RUNS {
             if !ends_at_byte(alloc, run, byte)? {
@@ -152,9 +137,4 @@ fn each_run_ends_at_its_bytes(alloc: Global) -> Result<bool, AllocError> {
         }
     }
     Ok(true)
-}
-
-#[test]
-fn ends_at_each_byte_that_ends_it(rt: HostRuntime) {
-    assert!(rt; matches!(each_run_ends_at_its_bytes(rt.alloc()), Ok(true)));
 }

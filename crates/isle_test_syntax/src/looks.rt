@@ -1,4 +1,4 @@
-//! Tests of the number of looks that fitting and printing take.
+//! The number of looks that fitting and printing take.
 //!
 //! Running code can't read that number, so contracts of the functions here state it.
 
@@ -9,7 +9,6 @@ ghost use Rattle.isle_printer_layout.specs.SexpView.{sexp_of};
 ghost use Rattle.isle_ast.specs.TreeView.{definition_of};
 ghost use Rattle.isle_printer.specs.PrintedNodes.{nodes_of_definition};
 
-use crate::answers::is_text;
 use isle_syntax::ast::{Decl, Def};
 use isle_syntax::printer::{Looks, PrintFault, SExpr, fits, print_counted};
 use isle_test_nodes::nodes::{ident, pos};
@@ -45,7 +44,7 @@ fn empty_atoms(alloc: Global, count: usize) -> Result<SExpr, AllocError>
 }
 
 /// `(a b)` fits a room of 5, which takes 3 looks.
-fn pair_fits(alloc: Global, looks: &mut Looks) -> Result<bool, AllocError>
+pub fn pair_fits(alloc: Global, looks: &mut Looks) -> Result<bool, AllocError>
     ensures fits { IfOk result (λ fits. fits ≡ true) }
     ensures looks { OnOk result (looks.new.count ≡ looks.old.count + 3) }
 {
@@ -53,7 +52,7 @@ fn pair_fits(alloc: Global, looks: &mut Looks) -> Result<bool, AllocError>
 }
 
 /// A list of a hundred empty atoms doesn't fit a room of 3, which takes at most 4 looks.
-fn hundred_fit(alloc: Global, looks: &mut Looks) -> Result<bool, AllocError>
+pub fn hundred_fit(alloc: Global, looks: &mut Looks) -> Result<bool, AllocError>
     ensures fits { IfOk result (λ fits. fits ≡ false) }
     ensures looks { OnOk result (looks.new.count ≤ looks.old.count + 4) }
 {
@@ -78,7 +77,11 @@ fn declaration(alloc: Global) -> Result<Def, AllocError>
 }
 
 /// Printing `(decl foo (A) B)` takes 6 to 12 looks, at any width.
-fn declaration_looks(alloc: Global, width: usize, looks: &mut Looks) -> Result<String, PrintFault>
+pub fn declaration_looks(
+    alloc: Global,
+    width: usize,
+    looks: &mut Looks,
+) -> Result<String, PrintFault>
     ensures at_least { IfOk result (λ _. looks.old.count + 6 ≤ looks.new.count) }
     ensures at_most { looks.new.count ≤ looks.old.count + 12 }
 {
@@ -89,7 +92,7 @@ fn declaration_looks(alloc: Global, width: usize, looks: &mut Looks) -> Result<S
 }
 
 /// Returns whether S-expressions fit rooms of their counted lengths, and smaller ones.
-fn fit_their_rooms(alloc: Global) -> Result<[bool; 5], AllocError> {
+pub fn fit_their_rooms(alloc: Global) -> Result<[bool; 5], AllocError> {
     let mut looks = Looks::new();
     let pair = pair(alloc)?;
     let hundred = empty_atoms(alloc, 100)?;
@@ -100,26 +103,4 @@ fn fit_their_rooms(alloc: Global) -> Result<[bool; 5], AllocError> {
         fits(&hundred, 100, &mut looks),
         fits(&hundred, 101, &mut looks),
     ])
-}
-
-#[test]
-fn fits_a_room_of_its_counted_length(rt: HostRuntime) {
-    let want = [true, false, false, false, true];
-    assert!(rt; matches!(fit_their_rooms(rt.alloc()), Ok(fit) if fit == want));
-}
-
-#[test]
-fn three_looks_tell_of_a_pair(rt: HostRuntime) {
-    assert!(rt; matches!(pair_fits(rt.alloc(), &mut Looks::new()), Ok(true)));
-}
-
-#[test]
-fn looks_no_further_than_the_room(rt: HostRuntime) {
-    assert!(rt; matches!(hundred_fit(rt.alloc(), &mut Looks::new()), Ok(false)));
-}
-
-#[test]
-fn looks_at_each_node_of_a_declaration(rt: HostRuntime) {
-    let shown = declaration_looks(rt.alloc(), 78, &mut Looks::new());
-    assert!(rt; is_text(&shown, "(decl foo (A) B)\n"));
 }

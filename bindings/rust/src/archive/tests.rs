@@ -11,6 +11,10 @@ const BROKEN: &[u8] = b"(decl\n    foo\n    (A)\n    B\n)\n";
 
 const REFUSED: &[u8] = b"(decl f () T)\n(decl pure () T)\n";
 
+const UNTIDY: &[u8] = b"(rule   (f x) ; why\n      x )";
+
+const TIDY: &[u8] = b"(rule   (f x) ; why\n        x)\n";
+
 const NO_UTF8: &[u8] = b"(decl foo (A) \xff)";
 
 /// Makes a call with a slice of each length up to two past the answer's. It is too short as long as
@@ -100,6 +104,7 @@ fn tidies_into_a_slice_of_every_length() {
     at_every_length(b"a ; b\n", |into| tidy(b"a; b  ", into));
     at_every_length(b"(a\n b)\n", |into| tidy(b"(a\r\n b )", into));
     at_every_length(b"", |into| tidy(b" \n", into));
+    at_every_length(TIDY, |into| tidy(UNTIDY, into));
 }
 
 #[test]
@@ -112,6 +117,10 @@ fn tells_why_a_text_is_not_tidied_into_a_slice_of_every_length() {
         assert_eq!((place.line_begin, place.line_end), (2, 9));
         told
     });
+    at_every_length(b"unmatched ')'", |into| {
+        tidy_refusal(b"a\n b)", into, &mut place)
+    });
+    assert_eq!((place.offset, place.line, place.column), (4, 2, 3));
     at_every_length(b"unterminated block comment", |into| {
         tidy_refusal(b"a (; b", into, &mut place)
     });
@@ -121,7 +130,9 @@ fn tells_why_a_text_is_not_tidied_into_a_slice_of_every_length() {
 fn tells_whether_a_text_is_tidy() {
     assert_eq!(is_tidy(b""), Told::Accepted);
     assert_eq!(is_tidy(b"a ; b\n"), Told::Accepted);
+    assert_eq!(is_tidy(TIDY), Told::Accepted);
     assert_eq!(is_tidy(b"a ; b"), Told::Untidy);
+    assert_eq!(is_tidy(UNTIDY), Told::Untidy);
     assert_eq!(is_tidy(b"a)"), Told::Refused);
     assert_eq!(is_tidy(NO_UTF8), Told::NotUtf8);
 }
