@@ -84,10 +84,13 @@ impl Write for Unflushed {
     }
 }
 
-/// The kind of the error of writing a text to it, and whether it holds the text.
+/// The error of writing a text to it, and whether it then holds the text.
 fn unflushed(alloc: Global, text: &str) -> Result<String, AllocError> {
     let mut writer = Unflushed(Vec::new(alloc));
-    let kind = write_whole(&mut writer, text.as_bytes()).map_err(|error| error.kind());
+    let written = write_whole(&mut writer, text.as_bytes());
     let is_held = writer.0.as_slice() == text.as_bytes();
-    format!(in alloc; "{kind:?} {is_held}")
+    match written {
+        Ok(()) => format!(in alloc; "written {is_held}"),
+        Err(error) => format!(in alloc; "{:?} {is_held}", error.kind()),
+    }
 }

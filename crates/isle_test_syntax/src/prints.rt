@@ -28,22 +28,31 @@ fn list(alloc: Global) -> Result<SExpr, AllocError> {
     Ok(SExpr::List(vec![in alloc; name, variable]?))
 }
 
+/// `x @ (B c)`
+fn binding(alloc: Global) -> Result<SExpr, AllocError> {
+    let bound = Box::new(alloc, list(alloc)?)?;
+    Ok(SExpr::Binding("x".to_string(alloc)?, bound))
+}
+
+/// `(())`
+fn nested(alloc: Global) -> Result<SExpr, AllocError> {
+    let empty = SExpr::List(Vec::new(alloc));
+    Ok(SExpr::List(vec![in alloc; empty]?))
+}
+
 /// `x @ (B c)`, `(())` or `()`, by the name of its kind.
 fn sexpr(alloc: Global, kind: &str) -> Result<SExpr, AllocError> {
-    let empty = SExpr::List(Vec::new(alloc));
     match kind {
-        "binding" => {
-            let bound = Box::new(alloc, list(alloc)?)?;
-            Ok(SExpr::Binding("x".to_string(alloc)?, bound))
-        }
-        "nested" => Ok(SExpr::List(vec![in alloc; empty]?)),
-        _ => Ok(empty),
+        "binding" => binding(alloc),
+        "nested" => nested(alloc),
+        _ => Ok(SExpr::List(Vec::new(alloc))),
     }
 }
 
 /// The print of a caller's node of a kind, at a width.
 pub fn own_print(alloc: Global, kind: &str, width: usize) -> Result<String, PrintFault> {
-    print_node(alloc, &Fixed(sexpr(alloc, kind)?), width)
+    let node = Fixed(sexpr(alloc, kind)?);
+    print_node(alloc, &node, width)
 }
 
 /// Returns whether a bit vector of 8,001 bits is printed with all of them.
