@@ -88,7 +88,7 @@ record Segment (es : List EventNode) (vs : List Name) : Type 0 where
   pub found : (name b : Name) (all scope rest names : List Name) → Agree names scope → all ≡ (scope ++ vs) ++ rest → HasOccurrence name b names es → IsAmong all vs name b
   pub back : (name b : Name) (all scope rest names : List Name) → Agree names scope → all ≡ (scope ++ vs) ++ rest → IsAmong all vs name b → HasOccurrence name b names es
 
-no_element : {A : Type 0} (x : A) → Contains [] x → ⊥
+pub no_element : {A : Type 0} (x : A) → Contains [] x → ⊥
 no_element x has = omega (arith, has.1)
 
 none_there : (es : List EventNode) → ((names : List Name) → steps es names ≡ names) → AreNoPattern es → Segment es []

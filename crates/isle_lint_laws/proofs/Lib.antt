@@ -1,0 +1,6 @@
+mod Names
+mod Uses
+mod Lets
+mod Rules
+mod Patterns
+mod Finds

@@ -1,0 +1,4 @@
+pub mod Rules
+pub mod Lets
+pub mod Patterns
+pub mod Finds

@@ -1,0 +1,52 @@
+//! Laws of lints, which run no code.
+
+ghost use Rattle.std.specs.Prelude.{◌↔◌, List, Contains};
+ghost use Rattle.isle_ast.specs.Tree.{Definition};
+ghost use Rattle.isle_ast_names.specs.Tree.{Name};
+ghost use Rattle.isle_ast_rules.specs.Tree.{Expression, RuleDefinition};
+ghost use Rattle.isle_lint_core.specs.Finding.{Found};
+ghost use Rattle.isle_lint_core.specs.Findings.{findings_in};
+ghost use Rattle.isle_lint_core.specs.Shadowed.{shadowed_variables};
+ghost use Rattle.isle_lint_core.specs.Unused.{rule_idle, unused_lets};
+ghost use Rattle.isle_lint_core.specs.declared.lint.Lint.{Lint};
+ghost use Rattle.isle_lint_core.specs.declared.patterns.Wanted.{Wanted};
+ghost use Rattle.isle_lint_laws.specs.Finds.{IsFinding};
+ghost use Rattle.isle_lint_laws.specs.Lets.{IsShadowing, IsUnusedLet};
+ghost use Rattle.isle_lint_laws.specs.Patterns.{IsIdle};
+ghost use Rattle.isle_lint_laws.specs.Rules.{HasExpression};
+ghost use Rattle.isle_scope_laws.specs.Reads.{Reads, RuleReads};
+
+/// A law, which runs no code: what a rule reads is what its expressions read, each in its scope.
+pub fn reads_of_rules_are_those_of_expressions()
+    ensures { (r : RuleDefinition) (name : Name) (visible : List Name)
+        → RuleReads r name visible ↔ ((x : Expression) × (scope : List Name)
+        × HasExpression r x scope × Reads scope x name visible) }
+{}
+
+/// A law, which runs no code: a variable is among the unused ones of `let`s exactly if a `let` in
+/// the rule binds it, and nothing behind its definition reads it.
+pub fn unused_lets_are_never_read()
+    ensures { (r : RuleDefinition) (name : Name)
+        → Contains (unused_lets r) name ↔ IsUnusedLet r name }
+{}
+
+/// A law, which runs no code: a variable is among the unused ones of patterns exactly if it is
+/// one of the wanted kind, occurs once in the patterns of the rule, and nothing reads it.
+pub fn unused_pattern_variables_are_never_read()
+    ensures { (w : Wanted) (r : RuleDefinition) (name : Name)
+        → Contains (rule_idle w r) name ↔ IsIdle w r name }
+{}
+
+/// A law, which runs no code: a variable is among the shadowed ones exactly if a `let` in the rule
+/// binds it where its text means another variable.
+pub fn shadowed_variables_hide_others()
+    ensures { (r : RuleDefinition) (name : Name)
+        → Contains (shadowed_variables r) name ↔ IsShadowing r name }
+{}
+
+/// A law, which runs no code: what the lints find in definitions is what they look for, and all of
+/// it, but for names that begin with `_`.
+pub fn lints_find_what_they_look_for()
+    ensures { (ls : List Lint) (ds : List Definition) (f : Found)
+        → Contains (findings_in ls ds) f ↔ (Contains ls f.lint × IsFinding ds f) }
+{}
