@@ -34,7 +34,7 @@ joined f (x ∷ xs) y h =
     (λ later. let one = joined f xs y later in (one.0, Contains-append_right (x ∷ []) xs one.0 one.1, one.2))
     (Contains-append_cases (f x) (flat_map f xs) y h)
 
-join : {A B : Type 0} (f : A → List B) (xs : List A) (y : B) (x : A) → Contains xs x → Contains (f x) y → Contains (flat_map f xs) y
+pub join : {A B : Type 0} (f : A → List B) (xs : List A) (y : B) (x : A) → Contains xs x → Contains (f x) y → Contains (flat_map f xs) y
 join f [] y x has h = absurd (no_element x has)
 join f (z ∷ xs) y x has h =
     ⊎_elim
@@ -76,7 +76,7 @@ of_one f P name one (instantiation t) h = absurd (no_element name h)
 of_one f P name one (external e) h = absurd (no_element name h)
 of_one f P name one (converter c) h = absurd (no_element name h)
 
-of_all : (f : RuleDefinition → List Name) (P : RuleDefinition → Type 0) (ds : List Definition) (name : Name) → ((r : RuleDefinition) → Contains (f r) name ↔ P r) →
+pub of_all : (f : RuleDefinition → List Name) (P : RuleDefinition → Type 0) (ds : List Definition) (name : Name) → ((r : RuleDefinition) → Contains (f r) name ↔ P r) →
     Contains (of_rules f ds) name ↔ OfRule ds P
 of_all f P ds name both = (
   λ h.

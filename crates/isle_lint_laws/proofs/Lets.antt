@@ -1,6 +1,5 @@
 -- The variables of `let`s in expressions: those that the lint finds, and those of the relation.
-use Rattle.std.proofs.Common.{◌≡◌, List, [], ◌∷◌, ◌++◌, true, false, not, Contains, sym, ap, subst, ◌∙◌, append_assoc, ⊎_elim}
-use Rattle.std.proofs.lemmas.Bool.{not-true}
+use Rattle.std.proofs.Common.{refl, Bool, not, ◌≡◌, List, [], ◌∷◌, ◌++◌, true, Contains, sym, ap, subst, ◌∙◌, append_assoc, ⊎_elim}
 use Rattle.std.proofs.lemmas.List.{append-nil}
 use Rattle.std.proofs.lemmas.List.Elements.{Contains-append_cases, Contains-append_left, Contains-append_right}
 use Rattle.isle_base_source.specs.declared.pos.Pos.{Pos}
@@ -22,85 +21,124 @@ FoundBy B P = (around : List Name) × (behind : Expression) × B around behind �
 more : (B C P : List Name → Expression → Type 0) → ((around : List Name) (behind : Expression) → B around behind → C around behind) → FoundBy B P → FoundBy C P
 more B C P f found = (found.0, found.1, f found.0 found.1 found.2, found.3)
 
--- unused
+-- the variables of the `let`s in an expression, by whether something behind uses them
 
-abbrev pub NotUsed : Name → List Name → Expression → Type 0
-NotUsed name around behind = uses behind name.text ≡ false
+abbrev mutual
+  pub lets_by : (keep : Bool → Bool) → Expression → List Name
+  lets_by keep (term_expression _ args _) = list_lets_by keep args
+  lets_by keep (var_expression _ _) = []
+  lets_by keep (bool_expression _ _) = []
+  lets_by keep (int_expression _ _) = []
+  lets_by keep (constant_expression _ _) = []
+  lets_by keep (let_expression defs body _) = let_lets_by keep defs body ++ lets_by keep body
 
-mutual
-  pub unused_found : (x : Expression) (scope : List Name) (name : Name) → Contains (unused x) name → FoundBy (Binds scope x name) (NotUsed name)
-  unused_found (term_expression f args place) scope name h =
-      more (Bind scope args name) (Binds scope (term_expression f args place) name) (NotUsed name) (λ around behind b. binds_in_argument b) (list_unused_found args scope name h)
-  unused_found (var_expression n place) scope name h = absurd (no_element name h)
-  unused_found (bool_expression val place) scope name h = absurd (no_element name h)
-  unused_found (int_expression val place) scope name h = absurd (no_element name h)
-  unused_found (constant_expression val place) scope name h = absurd (no_element name h)
-  unused_found (let_expression defs body place) scope name h =
-      ⊎_elim
-      (λ own.
-      more (LetBinds scope defs body place name) (Binds scope (let_expression defs body place) name) (NotUsed name) (λ around behind b. binds_in_let b)
-      (let_unused_found defs body place scope name own))
-      (λ inside.
-      more (Binds (with_lets scope defs) body name) (Binds scope (let_expression defs body place) name) (NotUsed name) (λ around behind b. binds_in_body b)
-      (unused_found body (with_lets scope defs) name inside))
-      (Contains-append_cases (let_unused defs (uses body)) (unused body) name h)
+  pub list_lets_by : (keep : Bool → Bool) → ExpressionList → List Name
+  list_lets_by keep no_expression = []
+  list_lets_by keep (more_expression x xs) = lets_by keep x ++ list_lets_by keep xs
 
-  list_unused_found : (xs : ExpressionList) (scope : List Name) (name : Name) → Contains (list_unused xs) name → FoundBy (Bind scope xs name) (NotUsed name)
-  list_unused_found no_expression scope name h = absurd (no_element name h)
-  list_unused_found (more_expression x xs) scope name h =
-      ⊎_elim
-      (λ first. more (Binds scope x name) (Bind scope (more_expression x xs) name) (NotUsed name) (λ around behind b. binds_in_first b) (unused_found x scope name first))
-      (λ later. more (Bind scope xs name) (Bind scope (more_expression x xs) name) (NotUsed name) (λ around behind b. binds_in_later b) (list_unused_found xs scope name later))
-      (Contains-append_cases (unused x) (list_unused xs) name h)
-
-  let_unused_found : (ds : LetList) (body : Expression) (place : Pos) (scope : List Name) (name : Name) → Contains (let_unused ds (uses body)) name →
-      FoundBy (LetBinds scope ds body place name) (NotUsed name)
-  let_unused_found no_let body place scope name h = absurd (no_element name h)
-  let_unused_found (more_let var ty val at ds) body place scope name h =
-      ⊎_elim
-      (λ front. ⊎_elim
-      (λ own.
-      let is = kept_is (not (let_uses ds var.text (uses body var.text))) var name own in
-      subst (λ n. FoundBy (LetBinds scope (more_let var ty val at ds) body place n) (NotUsed n)) is.1
-      (scope, let_expression ds body place, binds_this, not-true (let_uses ds var.text (uses body var.text)) is.0))
-      (λ value.
-      more (Binds scope val name) (LetBinds scope (more_let var ty val at ds) body place name) (NotUsed name) (λ around behind b. binds_in_value b)
-      (unused_found val scope name value))
-      (Contains-append_cases (kept_if (not (let_uses ds var.text (uses body var.text))) var) (unused val) name front))
-      (λ later.
-      more (LetBinds (var ∷ scope) ds body place name) (LetBinds scope (more_let var ty val at ds) body place name) (NotUsed name) (λ around behind b. binds_next b)
-      (let_unused_found ds body place (var ∷ scope) name later))
-      (Contains-append_cases (kept_if (not (let_uses ds var.text (uses body var.text))) var ++ unused val) (let_unused ds (uses body)) name h)
+  pub let_lets_by : (keep : Bool → Bool) → LetList → (body : Expression) → List Name
+  let_lets_by keep no_let body = []
+  let_lets_by keep (more_let var _ val _ ds) body =
+      kept_if (keep (let_uses ds var.text (uses body var.text))) var ++ lets_by keep val ++ let_lets_by keep ds body
 
 mutual
-  pub found_unused : (scope : List Name) (x : Expression) (name : Name) (around : List Name) (behind : Expression) → Binds scope x name around behind →
-      NotUsed name around behind → Contains (unused x) name
-  found_unused _ _ _ _ _ (binds_in_argument {scope} {around} {term} {var} {args} {place} {behind} b) idle = found_list_unused scope args var around behind b idle
-  found_unused _ _ _ _ _ (binds_in_body {scope} {around} {defs} {body} {behind} {place} {var} b) idle =
-      Contains-append_right (let_unused defs (uses body)) (unused body) var (found_unused (with_lets scope defs) body var around behind b idle)
-  found_unused _ _ _ _ _ (binds_in_let {scope} {around} {defs} {body} {behind} {place} {var} b) idle =
-      Contains-append_left (let_unused defs (uses body)) (unused body) var (found_let_unused scope defs body place var around behind b idle)
+  pub unused_are : (x : Expression) → unused x ≡ lets_by not x
+  unused_are (term_expression f args place) = list_unused_are args
+  unused_are (var_expression n place) = refl
+  unused_are (bool_expression val place) = refl
+  unused_are (int_expression val place) = refl
+  unused_are (constant_expression val place) = refl
+  unused_are (let_expression defs body place) =
+      ap (λ ns. ns ++ unused body) (let_unused_are defs body) ∙ ap (λ ns. let_lets_by not defs body ++ ns) (unused_are body)
 
-  found_list_unused : (scope : List Name) (xs : ExpressionList) (name : Name) (around : List Name) (behind : Expression) → Bind scope xs name around behind →
-      NotUsed name around behind → Contains (list_unused xs) name
-  found_list_unused _ _ _ _ _ (binds_in_first {scope} {around} {x} {behind} {xs} {var} b) idle =
-      Contains-append_left (unused x) (list_unused xs) var (found_unused scope x var around behind b idle)
-  found_list_unused _ _ _ _ _ (binds_in_later {scope} {around} {x} {behind} {xs} {var} b) idle =
-      Contains-append_right (unused x) (list_unused xs) var (found_list_unused scope xs var around behind b idle)
+  list_unused_are : (xs : ExpressionList) → list_unused xs ≡ list_lets_by not xs
+  list_unused_are no_expression = refl
+  list_unused_are (more_expression x xs) = ap (λ ns. ns ++ list_unused xs) (unused_are x) ∙ ap (λ ns. lets_by not x ++ ns) (list_unused_are xs)
 
-  found_let_unused : (scope : List Name) (ds : LetList) (body : Expression) (place : Pos) (name : Name) (around : List Name) (behind : Expression) →
-      LetBinds scope ds body place name around behind → NotUsed name around behind → Contains (let_unused ds (uses body)) name
-  found_let_unused _ _ _ _ _ _ _ (binds_this {scope} {var} {ty} {val} {body} {at} {place} {ds}) idle =
+  let_unused_are : (ds : LetList) (body : Expression) → let_unused ds (uses body) ≡ let_lets_by not ds body
+  let_unused_are no_let body = refl
+  let_unused_are (more_let var ty val place ds) body =
       let own : List Name = kept_if (not (let_uses ds var.text (uses body var.text))) var in
-      Contains-append_left (own ++ unused val) (let_unused ds (uses body)) var
-      (Contains-append_left own (unused val) var (kept (not (let_uses ds var.text (uses body var.text))) var (ap not idle)))
-  found_let_unused _ _ _ _ _ _ _ (binds_in_value {scope} {around} {n} {ty} {var} {val} {body} {behind} {at} {place} {ds} b) idle =
-      let own : List Name = kept_if (not (let_uses ds n.text (uses body n.text))) n in
-      Contains-append_left (own ++ unused val) (let_unused ds (uses body)) var
-      (Contains-append_right own (unused val) var (found_unused scope val var around behind b idle))
-  found_let_unused _ _ _ _ _ _ _ (binds_next {scope} {around} {n} {ty} {var} {val} {body} {behind} {at} {place} {ds} b) idle =
-      let own : List Name = kept_if (not (let_uses ds n.text (uses body n.text))) n in
-      Contains-append_right (own ++ unused val) (let_unused ds (uses body)) var (found_let_unused (n ∷ scope) ds body place var around behind b idle)
+      ap (λ ns. (own ++ ns) ++ let_unused ds (uses body)) (unused_are val) ∙ ap (λ ns. (own ++ lets_by not val) ++ ns) (let_unused_are ds body)
+
+abbrev pub IsBy : (keep : Bool → Bool) → Name → List Name → Expression → Type 0
+IsBy keep name around behind = keep (uses behind name.text) ≡ true
+
+module _ (keep : Bool → Bool) where
+  mutual
+    pub lets_found : (x : Expression) (scope : List Name) (name : Name) → Contains (lets_by keep x) name → FoundBy (Binds scope x name) (IsBy keep name)
+    lets_found (term_expression f args place) scope name h =
+        more (Bind scope args name) (Binds scope (term_expression f args place) name) (IsBy keep name) (λ around behind b. binds_in_argument b) (list_lets_found args scope name h)
+    lets_found (var_expression n place) scope name h = absurd (no_element name h)
+    lets_found (bool_expression val place) scope name h = absurd (no_element name h)
+    lets_found (int_expression val place) scope name h = absurd (no_element name h)
+    lets_found (constant_expression val place) scope name h = absurd (no_element name h)
+    lets_found (let_expression defs body place) scope name h =
+        ⊎_elim
+        (λ own.
+        more (LetBinds scope defs body place name) (Binds scope (let_expression defs body place) name) (IsBy keep name) (λ around behind b. binds_in_let b)
+        (let_lets_found defs body place scope name own))
+        (λ inside.
+        more (Binds (with_lets scope defs) body name) (Binds scope (let_expression defs body place) name) (IsBy keep name) (λ around behind b. binds_in_body b)
+        (lets_found body (with_lets scope defs) name inside))
+        (Contains-append_cases (let_lets_by keep defs body) (lets_by keep body) name h)
+
+    list_lets_found : (xs : ExpressionList) (scope : List Name) (name : Name) → Contains (list_lets_by keep xs) name → FoundBy (Bind scope xs name) (IsBy keep name)
+    list_lets_found no_expression scope name h = absurd (no_element name h)
+    list_lets_found (more_expression x xs) scope name h =
+        ⊎_elim
+        (λ first. more (Binds scope x name) (Bind scope (more_expression x xs) name) (IsBy keep name) (λ around behind b. binds_in_first b) (lets_found x scope name first))
+        (λ later. more (Bind scope xs name) (Bind scope (more_expression x xs) name) (IsBy keep name) (λ around behind b. binds_in_later b) (list_lets_found xs scope name later))
+        (Contains-append_cases (lets_by keep x) (list_lets_by keep xs) name h)
+
+    let_lets_found : (ds : LetList) (body : Expression) (place : Pos) (scope : List Name) (name : Name) → Contains (let_lets_by keep ds body) name →
+        FoundBy (LetBinds scope ds body place name) (IsBy keep name)
+    let_lets_found no_let body place scope name h = absurd (no_element name h)
+    let_lets_found (more_let var ty val at ds) body place scope name h =
+        ⊎_elim
+        (λ front. ⊎_elim
+        (λ own.
+        let is = kept_is (keep (let_uses ds var.text (uses body var.text))) var name own in
+        subst (λ n. FoundBy (LetBinds scope (more_let var ty val at ds) body place n) (IsBy keep n)) is.1
+        (scope, let_expression ds body place, binds_this, is.0))
+        (λ value.
+        more (Binds scope val name) (LetBinds scope (more_let var ty val at ds) body place name) (IsBy keep name) (λ around behind b. binds_in_value b)
+        (lets_found val scope name value))
+        (Contains-append_cases (kept_if (keep (let_uses ds var.text (uses body var.text))) var) (lets_by keep val) name front))
+        (λ later.
+        more (LetBinds (var ∷ scope) ds body place name) (LetBinds scope (more_let var ty val at ds) body place name) (IsBy keep name) (λ around behind b. binds_next b)
+        (let_lets_found ds body place (var ∷ scope) name later))
+        (Contains-append_cases (kept_if (keep (let_uses ds var.text (uses body var.text))) var ++ lets_by keep val) (let_lets_by keep ds body) name h)
+
+  mutual
+    pub found_lets : (scope : List Name) (x : Expression) (name : Name) (around : List Name) (behind : Expression) → Binds scope x name around behind →
+        IsBy keep name around behind → Contains (lets_by keep x) name
+    found_lets _ _ _ _ _ (binds_in_argument {scope} {around} {term} {var} {args} {place} {behind} b) idle = found_list_lets scope args var around behind b idle
+    found_lets _ _ _ _ _ (binds_in_body {scope} {around} {defs} {body} {behind} {place} {var} b) idle =
+        Contains-append_right (let_lets_by keep defs body) (lets_by keep body) var (found_lets (with_lets scope defs) body var around behind b idle)
+    found_lets _ _ _ _ _ (binds_in_let {scope} {around} {defs} {body} {behind} {place} {var} b) idle =
+        Contains-append_left (let_lets_by keep defs body) (lets_by keep body) var (found_let_lets scope defs body place var around behind b idle)
+
+    found_list_lets : (scope : List Name) (xs : ExpressionList) (name : Name) (around : List Name) (behind : Expression) → Bind scope xs name around behind →
+        IsBy keep name around behind → Contains (list_lets_by keep xs) name
+    found_list_lets _ _ _ _ _ (binds_in_first {scope} {around} {x} {behind} {xs} {var} b) idle =
+        Contains-append_left (lets_by keep x) (list_lets_by keep xs) var (found_lets scope x var around behind b idle)
+    found_list_lets _ _ _ _ _ (binds_in_later {scope} {around} {x} {behind} {xs} {var} b) idle =
+        Contains-append_right (lets_by keep x) (list_lets_by keep xs) var (found_list_lets scope xs var around behind b idle)
+
+    found_let_lets : (scope : List Name) (ds : LetList) (body : Expression) (place : Pos) (name : Name) (around : List Name) (behind : Expression) →
+        LetBinds scope ds body place name around behind → IsBy keep name around behind → Contains (let_lets_by keep ds body) name
+    found_let_lets _ _ _ _ _ _ _ (binds_this {scope} {var} {ty} {val} {body} {at} {place} {ds}) idle =
+        let own : List Name = kept_if (keep (let_uses ds var.text (uses body var.text))) var in
+        Contains-append_left (own ++ lets_by keep val) (let_lets_by keep ds body) var
+        (Contains-append_left own (lets_by keep val) var (kept (keep (let_uses ds var.text (uses body var.text))) var idle))
+    found_let_lets _ _ _ _ _ _ _ (binds_in_value {scope} {around} {n} {ty} {var} {val} {body} {behind} {at} {place} {ds} b) idle =
+        let own : List Name = kept_if (keep (let_uses ds n.text (uses body n.text))) n in
+        Contains-append_left (own ++ lets_by keep val) (let_lets_by keep ds body) var
+        (Contains-append_right own (lets_by keep val) var (found_lets scope val var around behind b idle))
+    found_let_lets _ _ _ _ _ _ _ (binds_next {scope} {around} {n} {ty} {var} {val} {body} {behind} {at} {place} {ds} b) idle =
+        let own : List Name = kept_if (keep (let_uses ds n.text (uses body n.text))) n in
+        Contains-append_right (own ++ lets_by keep val) (let_lets_by keep ds body) var (found_let_lets (n ∷ scope) ds body place var around behind b idle)
 
 -- shadowed
 

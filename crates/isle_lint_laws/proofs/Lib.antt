@@ -4,3 +4,6 @@ mod Lets
 mod Rules
 mod Patterns
 mod Finds
+mod Counted
+mod Meanings
+mod Unread

@@ -73,6 +73,33 @@ twice test xs ys n a b e one =
     let is : sum_by f (xs ++ ys) ≡ 1 = one in
     omega (arith, all, first, second, is)
 
+-- and where one is counted, two are the same
+pub single : (test : Name → Bool) (ns : List Name) (m n : Name) → count_by test ns ≡ 1 → Contains ns m → Contains ns n → test m ≡ true → test n ≡ true → m ≡ n
+single test [] m n one a b e f = absurd (no_element m a)
+single test (x ∷ xs) m n one a b e f =
+    let score : Name → ℕ = λ y. cond (test y) 1 0 in
+    let all : sum_by score (x ∷ xs) ≡ sum_by score (x ∷ []) + sum_by score xs = sum_by-append score (x ∷ []) xs in
+    let is : sum_by score (x ∷ xs) ≡ 1 = one in
+    ⊎_elim
+    (λ first. ⊎_elim
+    (λ also. sym (alone x m first) ∙ alone x n also)
+    (λ later.
+    let front : 1 ≤ sum_by score (x ∷ []) = once test (x ∷ []) m first e in
+    let back : 1 ≤ sum_by score xs = once test xs n later f in
+    absurd (omega (arith, all, is, front, back)))
+    (Contains-append_cases (x ∷ []) xs n b))
+    (λ later. ⊎_elim
+    (λ first.
+    let front : 1 ≤ sum_by score (x ∷ []) = once test (x ∷ []) n first f in
+    let back : 1 ≤ sum_by score xs = once test xs m later e in
+    absurd (omega (arith, all, is, front, back)))
+    (λ also.
+    let back : 1 ≤ sum_by score xs = once test xs m later e in
+    let rest : sum_by score xs ≡ 1 = omega (arith, all, is, back) in
+    single test xs m n rest later also e f)
+    (Contains-append_cases (x ∷ []) xs n b))
+    (Contains-append_cases (x ∷ []) xs m a)
+
 -- lists that have the same texts
 
 abbrev pub SameTexts : (xs ys : List Name) → Type 0

@@ -14,7 +14,7 @@ use Rattle.isle_lint_core.specs.Uses.{uses, uses_after}
 use Rattle.isle_lint_core.specs.Variables.{list_variables, variables}
 use Rattle.isle_lint_core.specs.Variables as lint
 use Rattle.isle_lint_core.specs.declared.patterns.Wanted.{Wanted}
-use Rattle.isle_lint_laws.specs.Patterns.{IsIdle, IsReadInRule}
+use Rattle.isle_lint_laws.specs.Patterns.{IsIdle, IsReadInRule, wanted_variables}
 use Rattle.isle_lint_laws.specs.Rules.{HasExpression, of_condition, of_rule, HaveExpression, in_first_condition, in_later_condition}
 use Rattle.isle_lint_laws.proofs.Names.{filtered, kept_is, passed, twice}
 use Rattle.isle_lint_laws.proofs.Rules.{all_rule_variables}
@@ -53,6 +53,13 @@ wanted_conditions w (c ∷ cs) n h =
     (λ first. Contains-append_left (pattern_variables c.pattern) (condition_variables cs) n (wanted_is w c.pattern n first))
     (λ later. Contains-append_right (pattern_variables c.pattern) (condition_variables cs) n (wanted_conditions w cs n later))
     (Contains-append_cases (variables w c.pattern) (flat_map (λ d. variables w d.pattern) cs) n h)
+
+pub wanted_in_rule : (w : Wanted) (r : RuleDefinition) (n : Name) → Contains (wanted_variables w r) n → Contains (rule_variables r) n
+wanted_in_rule w r n h =
+    ⊎_elim
+    (λ first. Contains-append_left (pattern_variables r.pattern) (condition_variables r.iflets) n (wanted_is w r.pattern n first))
+    (λ later. Contains-append_right (pattern_variables r.pattern) (condition_variables r.iflets) n (wanted_conditions w r.iflets n later))
+    (Contains-append_cases (variables w r.pattern) (flat_map (λ c. variables w c.pattern) r.iflets) n h)
 
 -- no expression that has the variable in scope uses it
 

@@ -1,6 +1,6 @@
 -- The variables of `let`s in rules: those that the lint finds, and those of the relation.
-use Rattle.std.proofs.Common.{◌≡◌, ◌↔◌, List, [], ◌∷◌, ◌++◌, true, false, Contains, refl, sym, ap, subst, ◌∙◌, ⊎_elim}
-use Rattle.std.proofs.lemmas.Bool.{false_from_ne_true}
+use Rattle.std.proofs.Common.{Bool, not, ◌≡◌, ◌↔◌, List, [], ◌∷◌, ◌++◌, true, false, Contains, refl, sym, ap, subst, ◌∙◌, ⊎_elim}
+use Rattle.std.proofs.lemmas.Bool.{false_from_ne_true, not-true}
 use Rattle.std.proofs.lemmas.List.Elements.{Contains-append_cases, Contains-append_left, Contains-append_right}
 use Rattle.std.specs.List.{flat_map}
 use Rattle.isle_ast_names.specs.Tree.{Name}
@@ -16,7 +16,7 @@ use Rattle.isle_lint_core.specs.Variables.{all, condition_variables, list_variab
 use Rattle.isle_lint_core.specs.Variables as lint
 use Rattle.isle_lint_laws.specs.Rules.{HasExpression, of_condition, of_rule, HaveExpression, in_first_condition, in_later_condition}
 use Rattle.isle_lint_laws.specs.Lets.{Binds, IsShadowing, IsUnusedLet}
-use Rattle.isle_lint_laws.proofs.Lets.{FoundBy, IsHad, NotUsed, found_shadowed, found_unused, shadowed_found, unused_found}
+use Rattle.isle_lint_laws.proofs.Lets.{FoundBy, IsBy, IsHad, found_lets, found_shadowed, lets_by, lets_found, shadowed_found, unused_are}
 use Rattle.isle_lint_laws.proofs.Names.{SameTexts, had_meant, meant_had, same_more}
 use Rattle.isle_lint_laws.proofs.Uses.{not_read, used}
 
@@ -84,48 +84,66 @@ all_rule_variables r =
 abbrev Somewhere : RuleDefinition → Name → (P : List Name → Expression → Type 0) → Type 0
 Somewhere r name P = (x : Expression) × (scope : List Name) × HasExpression r x scope × FoundBy (Binds scope x name) P
 
+-- by whether something behind uses them
+
+abbrev pub rule_lets_by : (keep : Bool → Bool) → RuleDefinition → List Name
+rule_lets_by keep r = flat_map (λ c. lets_by keep c.expr) r.iflets ++ lets_by keep r.expr
+
+conditions_unused_are : (cs : List Condition) → flat_map (λ c. unused c.expr) cs ≡ flat_map (λ c. lets_by not c.expr) cs
+conditions_unused_are [] = refl
+conditions_unused_are (c ∷ cs) =
+    ap (λ ns. ns ++ flat_map (λ d. unused d.expr) cs) (unused_are c.expr) ∙ ap (λ ns. lets_by not c.expr ++ ns) (conditions_unused_are cs)
+
+pub rule_unused_are : (r : RuleDefinition) → unused_lets r ≡ rule_lets_by not r
+rule_unused_are r =
+    ap (λ ns. ns ++ unused r.expr) (conditions_unused_are r.iflets) ∙ ap (λ ns. flat_map (λ c. lets_by not c.expr) r.iflets ++ ns) (unused_are r.expr)
+
+module _ (keep : Bool → Bool) where
+  lets_somewhere : (cs : List Condition) (scope : List Name) (name : Name) → Contains (flat_map (λ c. lets_by keep c.expr) cs) name →
+      (x : Expression) × (there : List Name) × HaveExpression scope cs x there × Contains (lets_by keep x) name
+  lets_somewhere [] scope name h = absurd (no_element name h)
+  lets_somewhere (c ∷ cs) scope name h =
+      ⊎_elim
+      (λ first. (c.expr, scope, in_first_condition, first))
+      (λ later.
+      let found = lets_somewhere cs (scope ++ pattern_variables c.pattern) name later in
+      (found.0, found.1, in_later_condition found.2, found.3))
+      (Contains-append_cases (lets_by keep c.expr) (flat_map (λ d. lets_by keep d.expr) cs) name h)
+
+  somewhere_lets : (scope : List Name) (cs : List Condition) (x : Expression) (there : List Name) → HaveExpression scope cs x there →
+      (name : Name) → Contains (lets_by keep x) name → Contains (flat_map (λ c. lets_by keep c.expr) cs) name
+  somewhere_lets _ _ _ _ (in_first_condition {scope} {c} {cs}) name h = Contains-append_left (lets_by keep c.expr) (flat_map (λ d. lets_by keep d.expr) cs) name h
+  somewhere_lets _ _ _ _ (in_later_condition {scope} {there} {c} {cs} {x} has) name h =
+      Contains-append_right (lets_by keep c.expr) (flat_map (λ d. lets_by keep d.expr) cs) name (somewhere_lets (scope ++ pattern_variables c.pattern) cs x there has name h)
+
+  lets_in_rule : (r : RuleDefinition) (name : Name) → Contains (rule_lets_by keep r) name → Somewhere r name (IsBy keep name)
+  lets_in_rule r name h =
+      ⊎_elim
+      (λ conditions.
+      let found = lets_somewhere r.iflets (pattern_variables r.pattern) name conditions in
+      (found.0, found.1, of_condition found.2, lets_found keep found.0 found.1 name found.3))
+      (λ right. (r.expr, rule_variables r, of_rule, lets_found keep r.expr (rule_variables r) name right))
+      (Contains-append_cases (flat_map (λ c. lets_by keep c.expr) r.iflets) (lets_by keep r.expr) name h)
+
+  pub in_rule_lets : (r : RuleDefinition) (x : Expression) (scope : List Name) → HasExpression r x scope → (name : Name) → Contains (lets_by keep x) name →
+      Contains (rule_lets_by keep r) name
+  in_rule_lets _ _ _ (of_condition {r} {x} {scope} has) name h =
+      Contains-append_left (flat_map (λ c. lets_by keep c.expr) r.iflets) (lets_by keep r.expr) name (somewhere_lets (pattern_variables r.pattern) r.iflets x scope has name h)
+  in_rule_lets _ _ _ (of_rule {r}) name h = Contains-append_right (flat_map (λ c. lets_by keep c.expr) r.iflets) (lets_by keep r.expr) name h
+
 -- unused
-
-unused_somewhere : (cs : List Condition) (scope : List Name) (name : Name) → Contains (flat_map (λ c. unused c.expr) cs) name →
-    (x : Expression) × (there : List Name) × HaveExpression scope cs x there × Contains (unused x) name
-unused_somewhere [] scope name h = absurd (no_element name h)
-unused_somewhere (c ∷ cs) scope name h =
-    ⊎_elim
-    (λ first. (c.expr, scope, in_first_condition, first))
-    (λ later.
-    let found = unused_somewhere cs (scope ++ pattern_variables c.pattern) name later in
-    (found.0, found.1, in_later_condition found.2, found.3))
-    (Contains-append_cases (unused c.expr) (flat_map (λ d. unused d.expr) cs) name h)
-
-somewhere_unused : (scope : List Name) (cs : List Condition) (x : Expression) (there : List Name) → HaveExpression scope cs x there →
-    (name : Name) → Contains (unused x) name → Contains (flat_map (λ c. unused c.expr) cs) name
-somewhere_unused _ _ _ _ (in_first_condition {scope} {c} {cs}) name h = Contains-append_left (unused c.expr) (flat_map (λ d. unused d.expr) cs) name h
-somewhere_unused _ _ _ _ (in_later_condition {scope} {there} {c} {cs} {x} has) name h =
-    Contains-append_right (unused c.expr) (flat_map (λ d. unused d.expr) cs) name (somewhere_unused (scope ++ pattern_variables c.pattern) cs x there has name h)
-
-unused_in_rule : (r : RuleDefinition) (name : Name) → Contains (unused_lets r) name → Somewhere r name (NotUsed name)
-unused_in_rule r name h =
-    ⊎_elim
-    (λ conditions.
-    let found = unused_somewhere r.iflets (pattern_variables r.pattern) name conditions in
-    (found.0, found.1, of_condition found.2, unused_found found.0 found.1 name found.3))
-    (λ right. (r.expr, rule_variables r, of_rule, unused_found r.expr (rule_variables r) name right))
-    (Contains-append_cases (flat_map (λ c. unused c.expr) r.iflets) (unused r.expr) name h)
-
-in_rule_unused : (r : RuleDefinition) (x : Expression) (scope : List Name) → HasExpression r x scope → (name : Name) → Contains (unused x) name → Contains (unused_lets r) name
-in_rule_unused _ _ _ (of_condition {r} {x} {scope} has) name h =
-    Contains-append_left (flat_map (λ c. unused c.expr) r.iflets) (unused r.expr) name (somewhere_unused (pattern_variables r.pattern) r.iflets x scope has name h)
-in_rule_unused _ _ _ (of_rule {r}) name h = Contains-append_right (flat_map (λ c. unused c.expr) r.iflets) (unused r.expr) name h
 
 pub unused_variables : (r : RuleDefinition) (name : Name) → Contains (unused_lets r) name ↔ IsUnusedLet r name
 unused_variables r name = (
   λ h.
-      let found = unused_in_rule r name h in
-      (found.3.0, found.3.1, (found.0, found.1, found.2, found.3.2), not_read found.3.1 (name ∷ found.3.0) name.text found.3.3),
+      let found = lets_in_rule not r name (subst (λ ns. Contains ns name) (rule_unused_are r) h) in
+      let idle : uses found.3.1 name.text ≡ false = not-true (uses found.3.1 name.text) found.3.3 in
+      (found.3.0, found.3.1, (found.0, found.1, found.2, found.3.2), not_read found.3.1 (name ∷ found.3.0) name.text idle),
   λ h.
       let place = h.2 in
       let idle : uses h.1 name.text ≡ false = false_from_ne_true (uses h.1 name.text) (λ yes. h.3 (used h.1 (name ∷ h.0) name.text yes)) in
-      in_rule_unused r place.0 place.1 place.2 name (found_unused place.1 place.0 name h.0 h.1 place.3 idle),
+      subst (λ ns. Contains ns name) (sym (rule_unused_are r))
+      (in_rule_lets not r place.0 place.1 place.2 name (found_lets not place.1 place.0 name h.0 h.1 place.3 (ap not idle))),
 )
 
 -- shadowed

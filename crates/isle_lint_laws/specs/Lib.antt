@@ -2,3 +2,4 @@ pub mod Rules
 pub mod Lets
 pub mod Patterns
 pub mod Finds
+pub mod Unread

@@ -5,7 +5,7 @@ ghost use Rattle.isle_ast.specs.Tree.{Definition};
 ghost use Rattle.isle_ast_names.specs.Tree.{Name};
 ghost use Rattle.isle_ast_rules.specs.Tree.{Expression, RuleDefinition};
 ghost use Rattle.isle_lint_core.specs.Finding.{Found};
-ghost use Rattle.isle_lint_core.specs.Findings.{findings_in};
+ghost use Rattle.isle_lint_core.specs.Findings.{findings_in, of_rules};
 ghost use Rattle.isle_lint_core.specs.Shadowed.{shadowed_variables};
 ghost use Rattle.isle_lint_core.specs.Unused.{rule_idle, unused_lets};
 ghost use Rattle.isle_lint_core.specs.declared.lint.Lint.{Lint};
@@ -14,6 +14,7 @@ ghost use Rattle.isle_lint_laws.specs.Finds.{IsFinding};
 ghost use Rattle.isle_lint_laws.specs.Lets.{IsShadowing, IsUnusedLet};
 ghost use Rattle.isle_lint_laws.specs.Patterns.{IsIdle};
 ghost use Rattle.isle_lint_laws.specs.Rules.{HasExpression};
+ghost use Rattle.isle_lint_laws.specs.Unread.{HasNamesApart, IsOfLet, IsUnread, IsWrittenOnce};
 ghost use Rattle.isle_scope_laws.specs.Reads.{Reads, RuleReads};
 
 /// A law, which runs no code: what a rule reads is what its expressions read, each in its scope.
@@ -49,4 +50,21 @@ pub fn shadowed_variables_hide_others()
 pub fn lints_find_what_they_look_for()
     ensures { (ls : List Lint) (ds : List Definition) (f : Found)
         → Contains (findings_in ls ds) f ↔ (Contains ls f.lint × IsFinding ds f) }
+{}
+
+/// A law, which runs no code: in a program whose names stand apart, `unused-let` finds a name
+/// exactly if a `let` in a rule binds it and no rule reads a variable that means it. The names of
+/// every program that is parsed stand apart.
+pub fn unused_lets_are_those_that_no_rule_reads()
+    ensures { (ds : List Definition) (name : Name) → HasNamesApart ds
+        → Contains (of_rules unused_lets ds) name ↔ (IsOfLet ds name × IsUnread ds name) }
+{}
+
+/// A law, which runs no code: in such a program the lints of pattern variables find a name exactly
+/// if it is a wanted one, occurs once in the patterns of its rule, and no rule reads a variable
+/// that means it.
+pub fn unused_pattern_variables_are_those_that_no_rule_reads()
+    ensures { (w : Wanted) (ds : List Definition) (name : Name) → HasNamesApart ds
+        → Contains (of_rules (rule_idle w) ds) name
+        ↔ (IsWrittenOnce w ds name × IsUnread ds name) }
 {}
