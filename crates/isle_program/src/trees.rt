@@ -1,7 +1,9 @@
 //! Parsing the texts of a program.
 
-ghost use Rattle.std.specs.Prelude.{◌≡◌, ◌++◌, ◌∷◌, [], IfErr, IfOk, length, map, min, string_bytes};
+ghost use Rattle.std.specs.Prelude.{◌≡◌, ◌≢◌, ◌++◌, ◌∷◌, [], Err, IfErr, IfOk, length, map, min};
+ghost use Rattle.std.specs.Prelude.{string_bytes};
 ghost use Rattle.isle_base.specs.Place.{in_file};
+ghost use Rattle.isle_base.specs.declared.fault.Fault.TheVariants.{Failed};
 ghost use Rattle.isle_ast.specs.TreeView.{definitions_of};
 ghost use Rattle.isle_cli.specs.Sources.{source_of};
 ghost use Rattle.isle_cli.specs.declared.failure.Failure.TheVariants.{Memory};
@@ -112,9 +114,10 @@ pub fn refused_count(refusals: &[Option<Error>]) -> usize
 }
 
 /// Parses a text as the file with this number, unless it nests too deeply. Then the error is at the
-/// first token that does.
+/// first token that does. It is never `Failed`.
 pub fn read_shallow_defs(alloc: Global, file: usize, text: &str) -> Result<Vec<Def>, Fault>
-    ensures { IsWellReadAs file text.now result }
+    ensures read { IsWellReadAs file text.now result }
+    ensures never_failed { result ≢ Err Failed }
 {
     match deep_list(alloc, text)? {
         Some(offset) => Err(Fault::Error(too_deep(alloc, file, text, offset)?)),
@@ -134,8 +137,10 @@ fn too_deep(alloc: Global, file: usize, text: &str, offset: usize) -> Result<Err
 }
 
 /// Parses a text as the file with this number. Nested lists take stack, so call `deep_list` first.
+/// Returns `Error` if the text does not parse and `Memory` if memory runs out, and never `Failed`.
 pub fn read_defs(alloc: Global, file: usize, text: &str) -> Result<Vec<Def>, Fault>
-    ensures { IsReadAs file text.now result }
+    ensures read { IsReadAs file text.now result }
+    ensures never_failed { result ≢ Err Failed }
 {
     let lexer = Lexer::new(alloc, file, text)?;
     parse(alloc, lexer)
