@@ -70,27 +70,28 @@ IsFailureTextOf words status text =
     (program : Program) × (own : Options) × (all : Options) × IsProgram program × AreOptions own × AreAllOptions all
     × IsDiagnosticOf program own all words status text
 
--- What was read of what the arguments name, and what is to be told of it; Holds is said of the faults of reading, and of
--- what is told.
+-- What was read of what the arguments name, and what is to be told of it; Holds is said of the lines about what can't be
+-- read, and of what is told.
 pub record Looks (given : List Given) (input input' : Option (List ℕ)) (Holds : List ℕ → List ℕ → Type 0) : Type 0 where
   pub usable : are_usable given ≡ true
   pub program : Program
   pub is_program : IsProgram program
   pub sources : List Source
-  pub faults : List ℕ
-  pub read : IsReadFrom (name_list given) (stdin_name given) program input input' sources faults
+  pub lines : List ℕ
+  pub read : IsReadFrom (name_list given) (stdin_name given) program input input' sources lines
   pub shown : List ℕ
   pub report : IsReport (lints_on given) sources shown
-  pub holds : Holds faults shown
+  pub holds : Holds lines shown
 
--- it is told, and this is the status
-abbrev pub Tells : List Given → ℕ → (input input' output output' : Option (List ℕ)) → Type 0
-Tells given status input input' output output' =
-    Looks given input input' (λ faults shown. (status ≡ told_status (is_empty faults) (is_empty shown)) × Appends output output' shown)
+-- It is told, and this is the status; standard error got the lines about what can't be read, as far as it took them.
+abbrev pub Tells : List Given → ℕ → (input input' output output' faults faults' : Option (List ℕ)) → Type 0
+Tells given status input input' output output' faults faults' =
+    Looks given input input' (λ lines shown. (status ≡ told_status (is_empty lines) (is_empty shown)) × Appends output output' shown
+    × AppendsBeginning faults faults' lines)
 
 -- the output got a beginning of it
 abbrev pub Cuts : List Given → (input input' output output' : Option (List ℕ)) → Type 0
-Cuts given input input' output output' = Looks given input input' (λ faults shown. AppendsBeginning output output' shown)
+Cuts given input input' output output' = Looks given input input' (λ lines shown. AppendsBeginning output output' shown)
 
 -- what a failure says of the input and the output
 abbrev pub Explains : Failure → List Given → (input input' output output' : Option (List ℕ)) → Type 0
@@ -109,10 +110,12 @@ abbrev pub AsAsked : List (List ℕ) → (Asked → Type 0) → Type 0
 AsAsked words P = (what : Asked) × Ask words (Some what) × P what
 
 -- what is asked for is done, with this status
-abbrev pub Does : Asked → ℕ → (input input' output output' : Option (List ℕ)) → Type 0
-Does help_asked status input input' output output' = (status ≡ 0) × Keeps input input' × Appends output output' HELP.now
-Does version_asked status input input' output output' = (status ≡ 0) × Keeps input input' × Appends output output' VERSION.now
-Does (work_asked given) status input input' output output' = Tells given status input input' output output'
+abbrev pub Does : Asked → ℕ → (input input' output output' faults faults' : Option (List ℕ)) → Type 0
+Does help_asked status input input' output output' faults faults' =
+    (status ≡ 0) × Keeps input input' × Appends output output' HELP.now × Keeps faults faults'
+Does version_asked status input input' output output' faults faults' =
+    (status ≡ 0) × Keeps input input' × Appends output output' VERSION.now × Keeps faults faults'
+Does (work_asked given) status input input' output output' faults faults' = Tells given status input input' output output' faults faults'
 
 -- the output got a beginning of what is asked for
 abbrev pub CutsAsked : Asked → (input input' output output' : Option (List ℕ)) → Type 0
