@@ -1,4 +1,5 @@
 pub mod FileLemmas
+pub mod NameLemmas
 pub mod PieceLemmas
 pub mod StreamLemmas
 pub mod WordLemmas

@@ -3,6 +3,7 @@ use Rattle.std.specs.Prelude.{◌≡◌, ◌≢◌, ◌≤◌, ◌⊎◌, ◌==�
 use Rattle.std.specs.Io.KnownBytes.{Appends, Keeps}
 use Rattle.isle_base_source.specs.declared.error.Error.{Error}
 use Rattle.isle_cli.specs.Arguments.{Given, Asked, help_asked, version_asked, work_asked, gives_flag, is_among, name_list, stdin_name}
+use Rattle.isle_cli.specs.Failure.{IsDiagnostic}
 use Rattle.isle_cli.specs.Messages.{counted, error_line}
 use Rattle.isle_cli.specs.Streams.{AppendsBeginning, ReadsText, Writes, WritesBeginning}
 use Rattle.isle_cli.specs.declared.failure.Failure.{Failure}
@@ -162,10 +163,43 @@ abbrev pub greatest : List ℕ → ℕ
 greatest [] = 0
 greatest (status ∷ statuses) = max status (greatest statuses)
 
--- What comes of files, one or several: the status is the greatest of theirs.
-abbrev pub RunsOnFiles : Bool → (status : ℕ) → (output output' faults faults' : Option (List ℕ)) → Type 0
-RunsOnFiles check status output output' faults faults' =
-    (statuses : List ℕ) × (status ≡ greatest statuses) × EndFiles check statuses output output' faults faults'
+-- What comes of files, of which there are this many at least: the status is the greatest of theirs.
+abbrev pub RunsOnFiles : Bool → (least status : ℕ) → (output output' faults faults' : Option (List ℕ)) → Type 0
+RunsOnFiles check least status output output' faults faults' =
+    (statuses : List ℕ) × (least ≤ length statuses) × (status ≡ greatest statuses) × EndFiles check statuses output output' faults faults'
+
+-- What comes of standard input: a status, and what this says of the input, the output and standard error.
+pub record EndsInput (program : Program) (check : Bool) (name : List ℕ) (status : ℕ) (input input' output output' faults faults' : Option (List ℕ)) : Type 0 where
+  pub known : status ≤ 5
+  pub used : status ≢ 2
+  pub done : status ≡ 0 → DoesInput check name input input' output output'
+  pub found : status ≡ 1 → FindsInput check name input input' output output' faults faults'
+  pub cut : status ≡ 5 → CutsInput check name input input' output output'
+  pub unwritten : 2 ≤ status → status ≢ 5 → Keeps output output'
+  pub quiet : status ≡ 0 → Keeps faults faults'
+  pub told : 2 ≤ status → WritesBeginning faults faults' (IsDiagnostic program status)
+
+-- What comes of a name: `-` stands for standard input, and any other name for a file, or for the files below a folder,
+-- one at least. A folder that can't be read, or has no ISLE file, counts as one that can't be read.
+abbrev pub EndsName : Program → Bool → (stdin_name name : List ℕ) → (status : ℕ) → (input input' output output' faults faults' : Option (List ℕ)) → Type 0
+EndsName program check stdin_name name status input input' output output' faults faults' =
+    ((name ≡ codes "-") × EndsInput program check stdin_name status input input' output output' faults faults')
+    ⊎ ((name ≢ codes "-") × Keeps input input' × RunsOnFiles check 1 status output output' faults faults')
+
+-- names end with these statuses, one for each, one after another
+abbrev pub EndNames : Program → Bool → (stdin_name : List ℕ) → (names : List (List ℕ)) → (statuses : List ℕ) → (input input' output output' faults faults' : Option (List ℕ)) → Type 0
+EndNames program check stdin_name [] [] input input' output output' faults faults' = (input' ≡ input) × (output' ≡ output) × (faults' ≡ faults)
+EndNames program check stdin_name [] (_ ∷ _) input input' output output' faults faults' = ⊥
+EndNames program check stdin_name (_ ∷ _) [] input input' output output' faults faults' = ⊥
+EndNames program check stdin_name (name ∷ names) (status ∷ statuses) input input' output output' faults faults' =
+    (left : Option (List ℕ)) × (mid : Option (List ℕ)) × (said : Option (List ℕ))
+    × EndsName program check stdin_name name status input left output mid faults said
+    × EndNames program check stdin_name names statuses left input' mid output' said faults'
+
+-- What comes of names: the status is the greatest of theirs.
+abbrev pub RunsOnNames : Program → Bool → (stdin_name : List ℕ) → (names : List (List ℕ)) → (status : ℕ) → (input input' output output' faults faults' : Option (List ℕ)) → Type 0
+RunsOnNames program check stdin_name names status input input' output output' faults faults' =
+    (statuses : List ℕ) × (status ≡ greatest statuses) × EndNames program check stdin_name names statuses input input' output output' faults faults'
 
 -- where files alone are named, without `--check`, the output gets nothing
 abbrev pub LeavesOutput : Asked → (output output' : Option (List ℕ)) → Type 0
@@ -179,10 +213,23 @@ LeavesOutput (work_asked list) output output' =
 abbrev pub EndsPrograms : Bool → (status : ℕ) → (output output' : Option (List ℕ)) → Type 0
 EndsPrograms check status output output' =
     ((2 ≤ status) × (status ≤ 4) × Keeps output output')
-    ⊎ ((faults : Option (List ℕ)) × (faults' : Option (List ℕ)) × RunsOnFiles check status output output' faults faults')
+    ⊎ ((faults : Option (List ℕ)) × (faults' : Option (List ℕ)) × RunsOnFiles check 0 status output output' faults faults')
 
 -- what is told of files that would change, as many as these
 abbrev pub changes_text : Program → (untidy : ℕ) → List ℕ
 changes_text program untidy =
     if untidy == 0 then []
     else program.name.now ++ (codes ": " ++ (counted untidy (codes "file") ++ codes " would change; run the same command without --check\n"))
+
+-- What comes of names; and at the end standard error gets how many files would change, as far as it takes that.
+abbrev pub RunsAndTells : Program → Bool → (stdin_name : List ℕ) → (names : List (List ℕ)) → (status : ℕ) → (input input' output output' faults faults' : Option (List ℕ)) → Type 0
+RunsAndTells program check stdin_name names status input input' output output' faults faults' =
+    (said : Option (List ℕ)) × (untidy : ℕ)
+    × RunsOnNames program check stdin_name names status input input' output output' faults said × AppendsBeginning said faults' (changes_text program untidy)
+
+-- the same of what is asked for, where it has names
+abbrev pub RunsOnAsked : Program → Asked → (status : ℕ) → (input input' output output' faults faults' : Option (List ℕ)) → Type 0
+RunsOnAsked program help_asked status input input' output output' faults faults' = Unit {0}
+RunsOnAsked program version_asked status input input' output output' faults faults' = Unit {0}
+RunsOnAsked program (work_asked list) status input input' output output' faults faults' =
+    name_list list ≢ [] → RunsAndTells program (checks list) (stdin_name list) (name_list list) status input input' output output' faults faults'

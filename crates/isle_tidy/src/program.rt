@@ -1,7 +1,7 @@
 //! The program, for any files, reader and writers.
 
 ghost use Rattle.std.specs.Prelude.{◌≡◌, ◌≢◌, ◌≤◌, ◌⊎◌, ◌++◌, [], IfErr, IfOk, OnOk, codes};
-ghost use Rattle.std.specs.Prelude.{false, map, string_bytes, true};
+ghost use Rattle.std.specs.Prelude.{false, length, map, string_bytes, true};
 ghost use Rattle.std.specs.Io.KnownBytes.{Appends, Keeps};
 ghost use Rattle.isle_cli.specs.Arguments.{given_of, is_among, name_list, stdin_name};
 ghost use Rattle.isle_cli.specs.Failure as frame;
@@ -10,10 +10,11 @@ ghost use Rattle.isle_cli.specs.Sources.{fault_line};
 ghost use Rattle.isle_cli.specs.Streams.{AppendsBeginning, ReadsText, WritesBeginning};
 ghost use Rattle.isle_cli.specs.declared.failure.Failure.TheVariants.{Output};
 ghost use Rattle.isle_tidy_core.specs.Tidied.{IsTidyTextOf};
-ghost use Rattle.isle_tidy.specs.Doing.{Cuts, CutsInput, Does, DoesInput, DoesTask, Explains};
-ghost use Rattle.isle_tidy.specs.Doing.{Finds, FindsInput, HandlesFiles};
+ghost use Rattle.isle_tidy.specs.Doing.{Cuts, CutsInput, Does, DoesInput, DoesTask, EndsFile};
+ghost use Rattle.isle_tidy.specs.Doing.{EndsName, Explains, Finds, FindsInput, HandlesFiles};
 ghost use Rattle.isle_tidy.specs.Doing.{IsInputFailure, IsJudged, IsTidyFailure, Judges};
-ghost use Rattle.isle_tidy.specs.Doing.{LeavesOutput, RunsOnFiles, Tells, TidiesInput};
+ghost use Rattle.isle_tidy.specs.Doing.{LeavesOutput, RunsAndTells, RunsOnAsked, RunsOnFiles};
+ghost use Rattle.isle_tidy.specs.Doing.{RunsOnNames, Tells, TidiesInput};
 ghost use Rattle.isle_tidy.specs.Doing.{changes_text, checks, names_input};
 ghost use Rattle.isle_tidy.specs.Program.{AreOwn, AsAsked, AskForNothing, HaveNames, IsDiagnostic};
 ghost use Rattle.isle_tidy.specs.Program.{IsThis};
@@ -143,6 +144,16 @@ pub fn run<R: Files + AllocGlobal + Clone + Drop, I: Read, W: Write, E: Write>(
         (W.contents streams.old.output) (W.contents streams.new.output)
         (E.contents streams.old.faults) (E.contents streams.new.faults)) }
 
+    // Each name has its status, in order; or memory was refused before the first one.
+    ensures named { result ≢ 2 → (result ≡ 4)
+        × Keeps (I.remaining streams.old.input) (I.remaining streams.new.input)
+        × Keeps (W.contents streams.old.output) (W.contents streams.new.output)
+        ⊎ AsAsked (map string_bytes words.now)
+        (λ program request. RunsOnAsked program request result
+        (I.remaining streams.old.input) (I.remaining streams.new.input)
+        (W.contents streams.old.output) (W.contents streams.new.output)
+        (E.contents streams.old.faults) (E.contents streams.new.faults)) }
+
     // Tidying files in place leaves the output alone.
     ensures in_place { Keeps (W.contents streams.old.output) (W.contents streams.new.output)
         ⊎ AsAsked (map string_bytes words.now)
@@ -227,6 +238,14 @@ fn work<R: Files + AllocGlobal + Clone + Drop, I: Read, W: Write, E: Write>(
         (W.contents streams.old.output) (W.contents streams.new.output) }
     ensures found { result ≡ 1 → name_list (map given_of arguments.now) ≡ []
         → FindsInput (checks (map given_of arguments.now)) (stdin_name (map given_of arguments.now))
+        (I.remaining streams.old.input) (I.remaining streams.new.input)
+        (W.contents streams.old.output) (W.contents streams.new.output)
+        (E.contents streams.old.faults) (E.contents streams.new.faults) }
+    ensures named { name_list (map given_of arguments.now) ≢ [] → (result ≡ 4)
+        × Keeps (I.remaining streams.old.input) (I.remaining streams.new.input)
+        × Keeps (W.contents streams.old.output) (W.contents streams.new.output)
+        ⊎ RunsAndTells program.now (checks (map given_of arguments.now))
+        (stdin_name (map given_of arguments.now)) (name_list (map given_of arguments.now)) result
         (I.remaining streams.old.input) (I.remaining streams.new.input)
         (W.contents streams.old.output) (W.contents streams.new.output)
         (E.contents streams.old.faults) (E.contents streams.new.faults) }
@@ -370,16 +389,6 @@ fn put_line<W: Write>(output: &mut W, text: &str) -> Result<(), Failure>
     put(output, "\n")
 }
 
-/// Returns whether `-` is among the names.
-fn names_stdin(names: &[String]) -> bool
-    ensures { result ≡ is_among (map string_bytes names.now) (codes "-") }
-{
-    match names {
-        [] => false,
-        [first, others @ ..] => first.as_str() == "-" || names_stdin(others),
-    }
-}
-
 /// Tidies the inputs of these names in turn. The status is the greatest of theirs. With `check` a
 /// line says how many files would change, if any would.
 fn run_on_names<R: Files + AllocGlobal + Clone + Drop, I: Read, W: Write, E: Write>(
@@ -399,6 +408,11 @@ fn run_on_names<R: Files + AllocGlobal + Clone + Drop, I: Read, W: Write, E: Wri
         → Keeps (W.contents streams.old.output) (W.contents streams.new.output) }
     ensures quiet { result ≡ 0
         → Keeps (E.contents streams.old.faults) (E.contents streams.new.faults) }
+    ensures named { RunsAndTells task.now.program.now task.now.check task.now.stdin_name.now
+        (map string_bytes names.now) result
+        (I.remaining streams.old.input) (I.remaining streams.new.input)
+        (W.contents streams.old.output) (W.contents streams.new.output)
+        (E.contents streams.old.faults) (E.contents streams.new.faults) }
 {
     let mut untidy = 0;
     let status = run_on_each(rt, task, names, streams, &mut untidy);
@@ -455,38 +469,11 @@ fn run_on_each<R: Files + AllocGlobal + Clone + Drop, I: Read, W: Write, E: Writ
     streams: &mut Streams<I, W, E>,
     untidy: &mut usize,
 ) -> u8
-    ensures statuses { result ≤ 5 }
-    ensures used { result ≢ 2 }
-    ensures unread { is_among (map string_bytes names.now) (codes "-") ≡ false
-        → Keeps (I.remaining streams.old.input) (I.remaining streams.new.input) }
-    ensures unwritten { result ≡ 0 → is_among (map string_bytes names.now) (codes "-") ≡ false
-        → Keeps (W.contents streams.old.output) (W.contents streams.new.output) }
-    ensures in_place { is_among (map string_bytes names.now) (codes "-") ≡ false
-        → task.now.check ≡ false
-        → Keeps (W.contents streams.old.output) (W.contents streams.new.output) }
-    ensures quiet { result ≡ 0
-        → Keeps (E.contents streams.old.faults) (E.contents streams.new.faults) }
-{
-    if names_stdin(names) {
-        run_on_all(rt, task, names, streams, untidy)
-    } else {
-        let (output, faults) = (&mut streams.output, &mut streams.faults);
-        run_on_paths(rt, task, names, output, faults, untidy)
-    }
-}
-
-/// Tidies standard input and files.
-fn run_on_all<R: Files + AllocGlobal + Clone + Drop, I: Read, W: Write, E: Write>(
-    rt: &R,
-    task: &Task<'_>,
-    names: &[String],
-    streams: &mut Streams<I, W, E>,
-    untidy: &mut usize,
-) -> u8
-    ensures statuses { result ≤ 5 }
-    ensures used { result ≢ 2 }
-    ensures quiet { result ≡ 0
-        → Keeps (E.contents streams.old.faults) (E.contents streams.new.faults) }
+    ensures { RunsOnNames task.now.program.now task.now.check task.now.stdin_name.now
+        (map string_bytes names.now) result
+        (I.remaining streams.old.input) (I.remaining streams.new.input)
+        (W.contents streams.old.output) (W.contents streams.new.output)
+        (E.contents streams.old.faults) (E.contents streams.new.faults) }
 {
     let mut status: u8 = 0;
     for name in names {
@@ -504,10 +491,10 @@ fn run_on_name<R: Files + AllocGlobal + Clone + Drop, I: Read, W: Write, E: Writ
     streams: &mut Streams<I, W, E>,
     untidy: &mut usize,
 ) -> u8
-    ensures statuses { result ≤ 5 }
-    ensures used { result ≢ 2 }
-    ensures quiet { result ≡ 0
-        → Keeps (E.contents streams.old.faults) (E.contents streams.new.faults) }
+    ensures { EndsName task.now.program.now task.now.check task.now.stdin_name.now name.now result
+        (I.remaining streams.old.input) (I.remaining streams.new.input)
+        (W.contents streams.old.output) (W.contents streams.new.output)
+        (E.contents streams.old.faults) (E.contents streams.new.faults) }
 {
     if name == "-" {
         run_on_input(rt.alloc(), task, streams)
@@ -532,7 +519,8 @@ pub fn run_on_paths<R: Files + AllocGlobal + Clone + Drop, W: Write, E: Write>(
     faults: &mut E,
     untidy: &mut usize,
 ) -> u8
-    ensures { RunsOnFiles task.now.check result (W.contents output.old) (W.contents output.new)
+    ensures { RunsOnFiles task.now.check (length names.now) result
+        (W.contents output.old) (W.contents output.new)
         (E.contents faults.old) (E.contents faults.new) }
 {
     let mut status: u8 = 0;
@@ -552,7 +540,8 @@ fn run_on_path<R: Files + AllocGlobal + Clone + Drop, W: Write, E: Write>(
     faults: &mut E,
     untidy: &mut usize,
 ) -> u8
-    ensures { RunsOnFiles task.now.check result (W.contents output.old) (W.contents output.new)
+    ensures { RunsOnFiles task.now.check 1 result
+        (W.contents output.old) (W.contents output.new)
         (E.contents faults.old) (E.contents faults.new) }
 {
     let mut lines = String::new(rt.alloc());
@@ -575,7 +564,8 @@ fn run_on_files<R: Files + AllocGlobal, W: Write, E: Write>(
     faults: &mut E,
     untidy: &mut usize,
 ) -> u8
-    ensures { RunsOnFiles task.now.check result (W.contents output.old) (W.contents output.new)
+    ensures { RunsOnFiles task.now.check (length names.now) result
+        (W.contents output.old) (W.contents output.new)
         (E.contents faults.old) (E.contents faults.new) }
 {
     let mut status: u8 = 0;
@@ -595,7 +585,7 @@ fn run_on_file<R: Files + AllocGlobal, W: Write, E: Write>(
     faults: &mut E,
     untidy: &mut usize,
 ) -> u8
-    ensures { RunsOnFiles task.now.check result (W.contents output.old) (W.contents output.new)
+    ensures { EndsFile task.now.check result (W.contents output.old) (W.contents output.new)
         (E.contents faults.old) (E.contents faults.new) }
 {
     match read_regular(rt, name) {
@@ -614,7 +604,7 @@ fn run_on_text<R: Files + AllocGlobal, W: Write, E: Write>(
     faults: &mut E,
     untidy: &mut usize,
 ) -> u8
-    ensures { RunsOnFiles task.now.check result (W.contents output.old) (W.contents output.new)
+    ensures { EndsFile task.now.check result (W.contents output.old) (W.contents output.new)
         (E.contents faults.old) (E.contents faults.new) }
 {
     match tidy_file(rt, name, file, task.check) {

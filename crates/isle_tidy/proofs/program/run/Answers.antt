@@ -1,5 +1,6 @@
-use Rattle.std.proofs.Common.{ap, map, refl, ◌∙◌}
-use Rattle.isle_cli.specs.Arguments.{given_of, name_list}
+use Rattle.std.proofs.Common.{ap, inl, inr, map, refl, ⊎_elim, ◌∙◌}
+use Rattle.isle_cli.specs.Arguments.{given_of, name_list, work_asked}
+use Rattle.isle_tidy.proofs.NameLemmas.{asked-named}
 use Rattle.isle_tidy.proofs.StreamLemmas.{without-names}
 use Rattle.isle_tidy.proofs.WordLemmas.{asked-told, past-two, words-told-here}
 use Rattle.isle_tidy.proofs.program.run.Goals as goal
@@ -18,6 +19,15 @@ returns-in-Ok-Work-clause-told g c =
     let empty = without-names _ (map given_of c.in-Ok-Work.arguments.items) is (λ of. none (c.this_program-program.result, c.own_options-options.result, c.this_program-program.ensures, c.own_options-options.ensures, of)) in
     let told = c.work.ensures.told past (ap (λ items. name_list (map given_of items)) (rw c.in-Ok-Work.field-0-is at c.deref.ensures.value) ∙ empty) in
     asked-told c.this_program-program.result c.own_options-options.result _ _ c.work.result _ _ c.this_program-program.ensures c.own_options-options.ensures is told
+
+pub returns-in-Ok-Work-clause-named : goal.returns-in-Ok-Work-clause-named
+returns-in-Ok-Work-clause-named g c =
+    λ used.
+    let is = rw c.in-Ok-Work.field-0-is at c.in-Ok-Work.ensures.ok in
+    let same = rw c.in-Ok-Work.field-0-is at c.deref.ensures.value in
+    ⊎_elim (λ starved. inl starved)
+    (λ runs. inr (c.this_program-program.result, c.own_options-options.result, c.this_program-program.ensures, c.own_options-options.ensures, (work_asked (map given_of c.in-Ok-Work.arguments.items), is, runs)))
+    (asked-named c.this_program-program.result _ c.in-Ok-Work.arguments.items c.work.result _ _ _ _ _ _ same c.work.ensures.named)
 
 pub returns-in-Ok-Help-clause-told : goal.returns-in-Ok-Help-clause-told
 returns-in-Ok-Help-clause-told g c =

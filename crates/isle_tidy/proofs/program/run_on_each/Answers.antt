@@ -1,17 +1,8 @@
-use Rattle.isle_tidy.proofs.FileLemmas.{runs-end}
+use Rattle.isle_tidy.proofs.NameLemmas.{one-name-on}
 use Rattle.isle_tidy.proofs.program.run_on_each.Goals as goal
 
-pub returns-else-names_stdin-clause-statuses : goal.returns-else-names_stdin-clause-statuses
-returns-else-names_stdin-clause-statuses g c = (runs-end c.args.task.now.check _ _ _ _ _ c.run_on_paths.ensures).known
-
-pub returns-else-names_stdin-clause-used : goal.returns-else-names_stdin-clause-used
-returns-else-names_stdin-clause-used g c = (runs-end c.args.task.now.check _ _ _ _ _ c.run_on_paths.ensures).used
-
-pub returns-else-names_stdin-clause-unwritten : goal.returns-else-names_stdin-clause-unwritten
-returns-else-names_stdin-clause-unwritten g c = λ zero _. (runs-end c.args.task.now.check _ _ _ _ _ c.run_on_paths.ensures).unwritten zero
-
-pub returns-else-names_stdin-clause-in_place : goal.returns-else-names_stdin-clause-in_place
-returns-else-names_stdin-clause-in_place g c = λ _ off. (runs-end c.args.task.now.check _ _ _ _ _ c.run_on_paths.ensures).in_place off
-
-pub returns-else-names_stdin-clause-quiet : goal.returns-else-names_stdin-clause-quiet
-returns-else-names_stdin-clause-quiet g c = (runs-end c.args.task.now.check _ _ _ _ _ c.run_on_paths.ensures).quiet
+pub loop-name-preserved : goal.loop-name-preserved
+loop-name-preserved g c =
+    one-name-on c.args.task.now.program.now c.args.task.now.check c.args.task.now.stdin_name.now c.args.names.now c.loop-name.name-index c.name-item.result
+    c.loop-name.status c.run_on_name-done.result c.max-status.result _ _ _ _ _ _ _ _ _ c.loop-name-test.true c.name-item.is c.loop-name.invariant
+    (rw c.as_str.ensures.value at c.run_on_name-done.ensures) c.max-status.ensures

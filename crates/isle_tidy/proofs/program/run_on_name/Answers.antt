@@ -1,11 +1,26 @@
-use Rattle.isle_tidy.proofs.FileLemmas.{runs-end}
+use Rattle.std.proofs.Common.{codes, inl, inr, sym, ◌∙◌}
+use Rattle.std.proofs.KnownBytes.{Keeps-refl}
+use Rattle.std.proofs.lemmas.Slice.Eq.{bytes_eq-Decides}
+use Rattle.isle_tidy.proofs.NameLemmas.{other-than}
 use Rattle.isle_tidy.proofs.program.run_on_name.Goals as goal
 
-pub returns-else-eq-clause-statuses : goal.returns-else-eq-clause-statuses
-returns-else-eq-clause-statuses g c = (runs-end c.args.task.now.check _ _ _ _ _ c.run_on_path.ensures).known
+pub returns-then-eq : goal.returns-then-eq
+returns-then-eq g c =
+    let ends = c.run_on_input.ensures in
+    inl (
+      (bytes_eq-Decides c.args.name.now (codes "-")).0 (sym c.eq.ensures ∙ c.if-eq.true),
+      record {
+        known = ends.statuses;
+        used = ends.used;
+        done = ends.done;
+        found = ends.found;
+        cut = ends.cut;
+        unwritten = ends.unwritten;
+        quiet = ends.quiet;
+        told = ends.told;
+      },
+    )
 
-pub returns-else-eq-clause-used : goal.returns-else-eq-clause-used
-returns-else-eq-clause-used g c = (runs-end c.args.task.now.check _ _ _ _ _ c.run_on_path.ensures).used
-
-pub returns-else-eq-clause-quiet : goal.returns-else-eq-clause-quiet
-returns-else-eq-clause-quiet g c = (runs-end c.args.task.now.check _ _ _ _ _ c.run_on_path.ensures).quiet
+pub returns-else-eq : goal.returns-else-eq
+returns-else-eq g c =
+    inr (other-than c.args.name.now (codes "-") (sym c.eq.ensures ∙ c.if-eq.false), Keeps-refl _, c.run_on_path.ensures)
