@@ -61,10 +61,10 @@ pub asks-what : (options : Options) (words : List (List ℕ)) (what : Asked) →
 asks-what options words what asks are = (options, are, asks)
 
 -- equal lists of arguments give the same
-pub tells-same : (xs ys : List Argument) (status : ℕ) (input input' output output' : Option (List ℕ)) → xs ≡ ys →
-    Tells (map given_of xs) status input input' output output' → Tells (map given_of ys) status input input' output output'
-tells-same xs ys status input input' output output' same told =
-    let Of : List Argument → Type 0 = λ list. Tells (map given_of list) status input input' output output' in
+pub tells-same : (xs ys : List Argument) (status : ℕ) (input input' output output' faults faults' : Option (List ℕ)) → xs ≡ ys →
+    Tells (map given_of xs) status input input' output output' faults faults' → Tells (map given_of ys) status input input' output output' faults faults'
+tells-same xs ys status input input' output output' faults faults' same told =
+    let Of : List Argument → Type 0 = λ list. Tells (map given_of list) status input input' output output' faults faults' in
     subst Of same told
 
 pub cuts-same : (xs ys : List Argument) (input input' output output' : Option (List ℕ)) → xs ≡ ys →

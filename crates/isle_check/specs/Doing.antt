@@ -49,29 +49,30 @@ IsFailureTextOf words status text =
     (program : Program) × (own : Options) × (all : Options) × IsProgram program × AreOptions own × AreAllOptions all
     × IsDiagnosticOf program own all words status text
 
--- What was read of what the arguments name; Holds is said of the faults of reading, and of the texts.
+-- What was read of what the arguments name; Holds is said of the lines about what can't be read, and of the texts.
 pub record Reads (given : List Given) (input input' : Option (List ℕ)) (Holds : List ℕ → List Source → Type 0) : Type 0 where
   pub usable : are_usable given ≡ true
   pub program : Program
   pub is_program : IsProgram program
   pub sources : List Source
-  pub faults : List ℕ
-  pub read : IsReadFrom (name_list given) (stdin_name given) program input input' sources faults
-  pub holds : Holds faults sources
+  pub lines : List ℕ
+  pub read : IsReadFrom (name_list given) (stdin_name given) program input input' sources lines
+  pub holds : Holds lines sources
 
--- some text can't be read, and nothing is told; or the report is told, and this is its status
-abbrev pub Told : List Given → ℕ → (output output' : Option (List ℕ)) → List ℕ → List Source → Type 0
-Told given status output output' faults sources =
-    ((0 < length faults) × (status ≡ 3) × Keeps output output')
-    ⊎ ((length faults ≡ 0) × (report : ReportNode) × IsReport given sources report × (status ≡ told_status report.errors) × Appends output output' report.text)
+-- Some text can't be read, and standard error got the lines that say so, as far as it took them, and the output nothing;
+-- or the report is told, and this is its status.
+abbrev pub Told : List Given → ℕ → (output output' faults faults' : Option (List ℕ)) → List ℕ → List Source → Type 0
+Told given status output output' faults faults' lines sources =
+    ((0 < length lines) × (status ≡ 3) × Keeps output output' × AppendsBeginning faults faults' lines)
+    ⊎ ((length lines ≡ 0) × (report : ReportNode) × IsReport given sources report × (status ≡ told_status report.errors) × Appends output output' report.text)
 
-abbrev pub Tells : List Given → ℕ → (input input' output output' : Option (List ℕ)) → Type 0
-Tells given status input input' output output' = Reads given input input' (Told given status output output')
+abbrev pub Tells : List Given → ℕ → (input input' output output' faults faults' : Option (List ℕ)) → Type 0
+Tells given status input input' output output' faults faults' = Reads given input input' (Told given status output output' faults faults')
 
 -- the output got a beginning of the report
 abbrev pub IsCut : List Given → (output output' : Option (List ℕ)) → List ℕ → List Source → Type 0
-IsCut given output output' faults sources =
-    (length faults ≡ 0) × (report : ReportNode) × IsReport given sources report × AppendsBeginning output output' report.text
+IsCut given output output' lines sources =
+    (length lines ≡ 0) × (report : ReportNode) × IsReport given sources report × AppendsBeginning output output' report.text
 
 abbrev pub Cuts : List Given → (input input' output output' : Option (List ℕ)) → Type 0
 Cuts given input input' output output' = Reads given input input' (IsCut given output output')
@@ -93,10 +94,12 @@ abbrev pub AsAsked : List (List ℕ) → (Asked → Type 0) → Type 0
 AsAsked words P = (what : Asked) × Ask words (Some what) × P what
 
 -- what is asked for is done, with this status
-abbrev pub Does : Asked → ℕ → (input input' output output' : Option (List ℕ)) → Type 0
-Does help_asked status input input' output output' = (status ≡ 0) × Keeps input input' × Appends output output' HELP.now
-Does version_asked status input input' output output' = (status ≡ 0) × Keeps input input' × Appends output output' VERSION.now
-Does (work_asked given) status input input' output output' = Tells given status input input' output output'
+abbrev pub Does : Asked → ℕ → (input input' output output' faults faults' : Option (List ℕ)) → Type 0
+Does help_asked status input input' output output' faults faults' =
+    (status ≡ 0) × Keeps input input' × Appends output output' HELP.now × Keeps faults faults'
+Does version_asked status input input' output output' faults faults' =
+    (status ≡ 0) × Keeps input input' × Appends output output' VERSION.now × Keeps faults faults'
+Does (work_asked given) status input input' output output' faults faults' = Tells given status input input' output output' faults faults'
 
 -- the output got a beginning of what is asked for
 abbrev pub CutsAsked : Asked → (input input' output output' : Option (List ℕ)) → Type 0

@@ -63,10 +63,12 @@ pub fn run<R: Files + AllocGlobal + Clone + Drop, I: Read, W: Write, E: Write>(
     ensures unread { result ≡ 2
         → Keeps (I.remaining streams.old.input) (I.remaining streams.new.input) }
 
-    // With status 0, 1 or 3 the request is done, as far as texts can be read.
+    // With status 0, 1 or 3 the request is done, as far as texts can be read; with 3 standard error
+    // gets a line for each text that can't be read, or a beginning of these lines.
     ensures done { result ≢ 2 → result ≢ 4 → result ≢ 5 → AsAsked (map string_bytes words.now)
         (λ what. Does what result (I.remaining streams.old.input) (I.remaining streams.new.input)
-        (W.contents streams.old.output) (W.contents streams.new.output)) }
+        (W.contents streams.old.output) (W.contents streams.new.output)
+        (E.contents streams.old.faults) (E.contents streams.new.faults)) }
 
     // The output is left alone, or has a beginning.
     ensures unwritten { result ≡ 2 ⊎ result ≡ 4
@@ -75,8 +77,7 @@ pub fn run<R: Files + AllocGlobal + Clone + Drop, I: Read, W: Write, E: Write>(
         (I.remaining streams.old.input) (I.remaining streams.new.input)
         (W.contents streams.old.output) (W.contents streams.new.output)) }
 
-    // Standard error gets nothing, a line for each text that can't be read, or the message of the
-    // status.
+    // Else standard error gets nothing, or the message of the status.
     ensures quiet { result ≤ 1
         → Keeps (E.contents streams.old.faults) (E.contents streams.new.faults) }
     ensures told { 2 ≤ result → result ≢ 3 → WritesBeginning (E.contents streams.old.faults)
@@ -124,7 +125,8 @@ fn work<R: Files + AllocGlobal + Clone + Drop, I: Read, W: Write, E: Write>(
         × Keeps (I.remaining streams.old.input) (I.remaining streams.new.input) }
     ensures done { result ≢ 2 → result ≢ 4 → result ≢ 5 → Tells (map given_of arguments.now) result
         (I.remaining streams.old.input) (I.remaining streams.new.input)
-        (W.contents streams.old.output) (W.contents streams.new.output) }
+        (W.contents streams.old.output) (W.contents streams.new.output)
+        (E.contents streams.old.faults) (E.contents streams.new.faults) }
     ensures unwritten { result ≡ 2 ⊎ result ≡ 4
         → Keeps (W.contents streams.old.output) (W.contents streams.new.output) }
     ensures cut { result ≡ 5 → Cuts (map given_of arguments.now)
@@ -149,7 +151,8 @@ fn check_files<R: Files + AllocGlobal + Clone + Drop, I: Read, W: Write, E: Writ
 ) -> Result<u8, Failure>
     ensures ok { IfOk result (λ status. Tells (map given_of arguments.now) status
         (I.remaining streams.old.input) (I.remaining streams.new.input)
-        (W.contents streams.old.output) (W.contents streams.new.output)) }
+        (W.contents streams.old.output) (W.contents streams.new.output)
+        (E.contents streams.old.faults) (E.contents streams.new.faults)) }
     ensures err { IfErr result (λ failure. Explains failure (map given_of arguments.now)
         (I.remaining streams.old.input) (I.remaining streams.new.input)
         (W.contents streams.old.output) (W.contents streams.new.output)) }

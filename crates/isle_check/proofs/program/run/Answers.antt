@@ -30,7 +30,7 @@ pub returns-in-Ok-Work-clause-done : goal.returns-in-Ok-Work-clause-done
 returns-in-Ok-Work-clause-done g c = λ two four five.
     let items : Vec Argument → List Argument = λ list. list.items in
     let asks = rw c.in-Ok-Work.field-0-is at c.in-Ok-Work.ensures.ok in
-    (work_asked (map given_of c.in-Ok-Work.arguments.items), asks-what _ _ _ asks (refl, refl), tells-same _ _ _ _ _ _ _ (c.deref.ensures.value ∙ ap items c.in-Ok-Work.arguments-is) (c.work.ensures.done two four five))
+    (work_asked (map given_of c.in-Ok-Work.arguments.items), asks-what _ _ _ asks (refl, refl), tells-same _ _ _ _ _ _ _ _ _ (c.deref.ensures.value ∙ ap items c.in-Ok-Work.arguments-is) (c.work.ensures.done two four five))
 
 pub returns-in-Ok-Work-clause-cut : goal.returns-in-Ok-Work-clause-cut
 returns-in-Ok-Work-clause-cut g c = λ five.
