@@ -68,13 +68,6 @@ pub fn answer(alloc: Global, case: &Case, program: &str) -> Result<String, Alloc
         "overlap_error" => shown(alloc, overlap_error(alloc, case)?),
         "shadowed_error" => shown(alloc, shadowed_error(alloc, case)?),
         "line_map" => line_map(alloc, case),
-        "accepts" => shown(alloc, accepts(alloc, case)?),
-        "files" => files(alloc, case),
-        "unknown" => unknown(alloc, case),
-        "kinds" => kinds(alloc, case),
-        "copied" => copied(alloc, case),
-        "shape" => shown(alloc, shape(alloc, case.text(0))),
-        "own_print" => shown(alloc, own_print(alloc, case.text(0), case.number(0))),
         "fits" => shown(alloc, fitting(alloc, case)),
         "nodes" => nodes(alloc, case),
         "terms" => terms(alloc, case),
@@ -87,6 +80,20 @@ pub fn answer(alloc: Global, case: &Case, program: &str) -> Result<String, Alloc
         | "index_rename"
         | "index_can_rename" => request(alloc, case, program),
         "entries" | "expanded" | "programs_with" | "unflushed" => of_shared(alloc, case),
+        _ => of_parts(alloc, case),
+    }
+}
+
+/// The answer of a call of files, lexers or S-expressions, or of a call about a tree.
+fn of_parts(alloc: Global, case: &Case) -> Result<String, AllocError> {
+    match case.call.as_str() {
+        "accepts" => shown(alloc, accepts(alloc, case)?),
+        "files" => files(alloc, case),
+        "unknown" => unknown(alloc, case),
+        "kinds" => kinds(alloc, case),
+        "copied" => copied(alloc, case),
+        "shape" => shown(alloc, shape(alloc, case.text(0))),
+        "own_print" => shown(alloc, own_print(alloc, case.text(0), case.number(0))),
         _ => of_trees(alloc, case),
     }
 }

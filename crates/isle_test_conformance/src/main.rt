@@ -31,14 +31,14 @@
 //! - `shadowed_error MASK OFFSET.. NAME TEXT`: rules at these places that another one shadows, as
 //!   Display shows them
 //! - `line_map OFFSET.. TEXT`: the line of each place, and the line map
-//! - `accepts COUNT FILE OFFSET..`: whether parse errors at these places of a file are accepted with
-//!   so many files
+//! - `accepts COUNT FILE OFFSET..`: whether parse errors at these places of a file are accepted
+//!   with so many files
 //! - `files OFFSET NAME TEXT`: the name, the text and the line map of a file, each beside that of a
 //!   second one, which is not there; and the line of the offset
 //! - `unknown FILE OFFSET`: the position, and whether it is unknown
 //! - `kinds TEXT`: whether the first token is a symbol, an integer, and equal to its copy
-//! - `copied FILE READ TEXT`: what the copy of a lexer answers to `next`, between its states; and the
-//!   state of the lexer
+//! - `copied FILE READ TEXT`: what the copy of a lexer answers to `next`, between its states; and
+//!   the state of the lexer
 //! - `shape TEXT`: the S-expression of a conversion, or of a rule's one condition
 //! - `own_print WIDTH KIND`: the print of a caller's node: `binding`, `nested` or `empty`
 //! - `fits ROOM TEXT`: whether the S-expression of each definition fits the room

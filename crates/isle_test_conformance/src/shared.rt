@@ -21,7 +21,7 @@ pub fn of_shared(alloc: Global, case: &Case) -> Result<String, AllocError> {
         "entries" => shown(alloc, entries(alloc, case.text(0))),
         "expanded" => shown_tree(alloc, expanded(alloc, case.text(0))),
         "programs_with" => programs(alloc, case),
-        _ => unflushed(alloc, case.text(0)),
+        _ => write_unflushed(alloc, case.text(0)),
     }
 }
 
@@ -85,7 +85,7 @@ impl Write for Unflushed {
 }
 
 /// The error of writing a text to it, and whether it then holds the text.
-fn unflushed(alloc: Global, text: &str) -> Result<String, AllocError> {
+fn write_unflushed(alloc: Global, text: &str) -> Result<String, AllocError> {
     let mut writer = Unflushed(Vec::new(alloc));
     let written = write_whole(&mut writer, text.as_bytes());
     let is_held = writer.0.as_slice() == text.as_bytes();

@@ -1,5 +1,5 @@
-//! Checks by their names: of nodes that no text leads to, such as the argument of a macro by itself,
-//! in rules and in extractors; of templates; of operators; and of the calls of other modules here.
+//! Checks by their names: of nodes that no text leads to, such as the argument of a macro by
+//! itself, in rules and in extractors; of templates; of operators; and of other modules here.
 
 use crate::errors::{
     faults, last_error, last_errors, one_for_two, print_faults, shown_with_options,

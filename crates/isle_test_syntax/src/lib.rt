@@ -1,5 +1,5 @@
-//! Checks of the syntax layer, for the cases of `isle_test_conformance`: of trees that no text leads
-//! to, whether they are writable and their prints parse as the tree again; of trees of texts,
+//! Checks of the syntax layer, for the cases of `isle_test_conformance`: of trees that no text
+//! leads to, whether they are writable and their prints parse as the tree again; of trees of texts,
 //! copies, comparisons and walks over terms; of names; and of what takes neither tree nor text.
 //!
 //! A tree that no text leads to is the tree of a text with an edit, or a model's constant made by
