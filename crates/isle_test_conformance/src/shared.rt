@@ -45,7 +45,10 @@ fn expanded(alloc: Global, text: &str) -> Result<Vec<Def>, Fault> {
     drop_definitions(defs);
     match outcome {
         Ok(defs) => Ok(defs),
-        Err(_) => Err(Fault::Failed),
+        Err(fault) => {
+            drop(fault);
+            Err(Fault::Failed)
+        }
     }
 }
 
