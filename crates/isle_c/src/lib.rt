@@ -287,3 +287,6 @@ pub extern "C" fn isle_c_version() -> Version
         patch: 1,
     }
 }
+
+#[cfg(test)]
+mod tests;

@@ -3,6 +3,8 @@ use Rattle.std.proofs.Common.{◌≡◌, ℕ, ◌≤◌, ◌⊎◌, inl, inr, Li
 use Rattle.serde_json.specs.Data.{Data, depth}
 use Rattle.serde_json.specs.Read.{read}
 use Rattle.serde_json.proofs.Nesting.{depth-read}
+use Rattle.isle_lsp_diagnostics.specs.Published.{range_of}
+use Rattle.isle_lsp_text.specs.Edits.{part}
 use Rattle.isle_lsp_text.specs.declared.edits.Edit.{Edit}
 use Rattle.isle_lsp_files.specs.Disks.{View}
 use Rattle.isle_lsp_files.specs.Texts.{program_of}
@@ -25,11 +27,11 @@ within : (n : ℕ) (o p : Outcome) → o ≡ p → IsWithin n p → IsWithin n o
 within n o p same h = subst (IsWithin n) (sym same) h
 
 edits_depth : (old new : List ℕ) (es : List Edit) → depth (edits_data old new es) ≤ 126
-edits_depth old new es = omega (arith, items_shallow 4 _ (map_shallow 4 (edit_data old new) es (λ e. text_edit_depth _ _)))
+edits_depth old new es = omega (arith, items_shallow 4 _ (map_shallow 4 (edit_data old new) es (λ e. text_edit_depth (range_of old e.start e.end) (part new e.from e.to))))
 
 formatting_depth : (text : List ℕ) (d : Data) → IsFormatting text d → depth d ≤ 126
 formatting_depth text d (inl h) = subst (λ x. depth x ≤ 126) (sym h.1) (omega arith)
-formatting_depth text d (inr (tidy, is_tidy, es, make, is)) = subst (λ x. depth x ≤ 126) (sym is) (edits_depth text tidy es)
+formatting_depth text d (inr (tidy, is_tidy, change)) = subst (λ x. depth x ≤ 126) (sym change.2) (edits_depth text tidy change.0)
 
 formatted_within : (text : Option (List ℕ)) (o : Outcome) → IsFormattingOf text o → IsWithin 126 o
 formatted_within None o h = within 126 o _ h tt
