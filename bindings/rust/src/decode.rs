@@ -123,7 +123,7 @@ impl<'a> Reader<'a> {
     }
 
     /// A number of more than one digit.
-    #[inline]
+    #[inline(always)]
     fn longer_number(&mut self) -> Read<usize> {
         // Nearly all have up to four digits, which are read together.
         let bytes = self.text.as_bytes().get(self.at..).unwrap_or_default();
@@ -144,6 +144,7 @@ impl<'a> Reader<'a> {
     }
 
     /// A number of any length.
+    #[cold]
     fn long_number(&mut self) -> Read<usize> {
         let first = self.byte()?;
         self.more_digits(first)
@@ -199,10 +200,13 @@ impl<'a> Reader<'a> {
         }
     }
 
-    #[inline]
+    /// A position: the number of its file, and its offset.
+    #[inline(always)]
     fn pos(&mut self) -> Read<Pos> {
-        let file = self.number()?;
-        let offset = self.number()?;
+        let (file, offset) = match self.short_pos() {
+            Some(pos) => pos,
+            None => (self.number()?, self.number()?),
+        };
         Ok(if self.has_pos {
             Pos { file, offset }
         } else {
@@ -210,13 +214,41 @@ impl<'a> Reader<'a> {
         })
     }
 
-    #[inline]
+    /// A position whose file has one digit, and whose offset has up to four, if it is such a one. All
+    /// digits are read together. Else nothing is read.
+    #[inline(always)]
+    fn short_pos(&mut self) -> Option<(usize, usize)> {
+        let eight = self.text.as_bytes().get(self.at..)?.first_chunk()?;
+        let file_first = u64::from_le_bytes(*eight);
+        // Zeros below the bit by which the offset's last digit is known.
+        let last = (!file_first & 0x40_4040_4000).trailing_zeros();
+        if last == u64::BITS {
+            return None;
+        }
+        // The last digit's byte ends with the bit after this one.
+        let digits = file_first & (u64::MAX >> (62 - last));
+        if digits & 0x80_8080_80C0 != 0 {
+            return None;
+        }
+        self.at += last as usize / 8 + 1;
+        let file = digits & 0x3F;
+        let low = digits >> 8 & 0x3F | digits >> 10 & 0xFC0;
+        let high = digits >> 12 & 0x3_F000 | digits >> 14 & 0xFC_0000;
+        Some((file as usize, (low | high) as usize))
+    }
+
+    /// A name: its text, and then its position.
+    #[inline(always)]
     fn name(&mut self) -> Read<Ident> {
         let len = self.number()?;
         let end = self.at.checked_add(len).ok_or(Broken)?;
         let text = self.text.get(self.at..end).ok_or(Broken)?;
+        let text = match self.text.as_bytes()[self.at..].first_chunk() {
+            Some(beginning) if len <= SHORT => short(beginning, text)?,
+            _ => owned(text)?,
+        };
         self.at = end;
-        Ok(Ident(owned(text)?, self.pos()?))
+        Ok(Ident(text, self.pos()?))
     }
 
     fn names(&mut self) -> Read<Vec<Ident>> {
@@ -272,8 +304,21 @@ fn room<T>(len: usize) -> Read<Vec<T>> {
     Ok(unsafe { Vec::from_raw_parts(place(len)?, 0, len) })
 }
 
+/// How many bytes a short text has at most. No smaller memory is cheaper: the C library gives 24.
+const SHORT: usize = 16;
+
+/// A short text of its own, by the bytes from its beginning on. So many bytes are copied without a
+/// call, which takes less time than one for the bytes of the text.
+#[inline(always)]
+fn short(beginning: &[u8; SHORT], text: &str) -> Read<String> {
+    let mut bytes = room(SHORT)?;
+    bytes.extend_from_slice(beginning);
+    bytes.truncate(text.len());
+    // SAFETY: the bytes are those of the text, which `beginning` begins with.
+    Ok(unsafe { String::from_utf8_unchecked(bytes) })
+}
+
 /// A text of its own.
-#[inline]
 fn owned(text: &str) -> Read<String> {
     let mut bytes = room(text.len())?;
     bytes.extend_from_slice(text.as_bytes());

@@ -89,6 +89,63 @@ fn numbers_past_their_types_are_broken() {
 }
 
 #[test]
+fn positions_of_each_length() {
+    // With bytes behind them they can be read together, without them not.
+    for behind in [0, 1, 7, 8] {
+        for (file, offset) in [
+            (0, 0),
+            (1, 63),
+            (63, 64),
+            (64, 4095),
+            (0, 4096),
+            (0, 0xFF_FFFF),
+            (0, 0x100_0000),
+            (4096, usize::MAX),
+        ] {
+            let mut bytes = [digits(file), digits(offset)].concat();
+            let len = bytes.len();
+            bytes.extend(vec![0; behind]);
+            let text = String::from_utf8(bytes).unwrap();
+            let mut reader = reader(&text);
+            assert_eq!(reader.pos(), Ok(Pos { file, offset }), "with {behind}");
+            assert_eq!(reader.at, len);
+        }
+    }
+}
+
+/// A number's digits, as the library writes them.
+fn digits(mut number: usize) -> Vec<u8> {
+    let mut bytes = Vec::new();
+    while number > 63 {
+        bytes.push(64 + (number % 64) as u8);
+        number /= 64;
+    }
+    bytes.push(number as u8);
+    bytes
+}
+
+#[test]
+fn names_of_each_length() {
+    for len in 0..40 {
+        for behind in [0, 1, 8, 16, 40] {
+            let name = "é-abcdefghijklmnopqrstuvwxyz0123456789ABC";
+            let Some(name) = name.get(..len) else {
+                continue;
+            };
+            let bytes = [&[len as u8], name.as_bytes(), &[1, 5], &vec![0; behind]].concat();
+            let text = String::from_utf8(bytes).unwrap();
+            let mut reader = reader(&text);
+            let wanted = Ident(name.to_string(), Pos { file: 1, offset: 5 });
+            assert_eq!(reader.name(), Ok(wanted), "with {behind}");
+            assert_eq!(reader.at, len + 3);
+        }
+    }
+    // A text that ends within a character.
+    let text = String::from_utf8([&[1], "é".as_bytes(), &[0; 20]].concat()).unwrap();
+    assert_eq!(reader(&text).name(), Err(Broken));
+}
+
+#[test]
 fn integers_at_their_bounds() {
     let read = |negative: u8, last: u8| {
         let mut bytes = vec![negative];
