@@ -214,8 +214,8 @@ impl<'a> Reader<'a> {
         })
     }
 
-    /// A position whose file has one digit, and whose offset has up to four, if it is such a one. All
-    /// digits are read together. Else nothing is read.
+    /// A position whose file has one digit, and whose offset has up to four: all are read together.
+    /// Of any other nothing is read.
     #[inline(always)]
     fn short_pos(&mut self) -> Option<(usize, usize)> {
         let eight = self.text.as_bytes().get(self.at..)?.first_chunk()?;
