@@ -51,8 +51,8 @@ locations_shallow : (number : ℕ) (program : List Text) (own : Bool) (found : L
 locations_shallow number [] own found = tt
 locations_shallow number (s ∷ ss) own found =
     append_shallow 4 (flat_map (location_in number s own) found) (locations_from (number + 1) ss own found)
-      (flat_map_shallow 4 (location_in number s own) found (location_shallow number s own))
-      (locations_shallow (number + 1) ss own found)
+    (flat_map_shallow 4 (location_in number s own) found (location_shallow number s own))
+    (locations_shallow (number + 1) ss own found)
 
 definition_depth : (program : List Text) (name : Option NameNode) (all : List SeenNode) (d : Data) → IsDefinition program name all d → depth d ≤ 5
 definition_depth program None all d h = at_most 5 _ _ h (omega arith)
@@ -91,8 +91,8 @@ symbols_shallow : (file : ℕ) (letters : List ℕ) (program : List Text) (all :
 symbols_shallow file letters [] all = tt
 symbols_shallow file letters (s ∷ ss) all =
     append_shallow 5 (flat_map (symbol_in letters s) (symbols file all)) (symbols_from (file + 1) letters ss all)
-      (flat_map_shallow 5 (symbol_in letters s) (symbols file all) (symbol_shallow letters s))
-      (symbols_shallow (file + 1) letters ss all)
+    (flat_map_shallow 5 (symbol_in letters s) (symbols file all) (symbol_shallow letters s))
+    (symbols_shallow (file + 1) letters ss all)
 
 workspace_depth : (letters : List ℕ) (program : List Text) (all : List SeenNode) → depth (workspace_symbols letters program all) ≤ 6
 workspace_depth letters program all = array_depth 5 _ (symbols_shallow 0 letters program all)
@@ -132,8 +132,8 @@ changes_shallow : (file : ℕ) (program : List Text) (name : NameNode) (new : Li
 changes_shallow file [] name new places = tt
 changes_shallow file (s ∷ ss) name new places =
     append_shallow 7 (renamed.change_in file s name new places) (renamed.changes_from (file + 1) ss name new places)
-      (change_shallow s new _)
-      (changes_shallow (file + 1) ss name new places)
+    (change_shallow s new _)
+    (changes_shallow (file + 1) ss name new places)
 
 put_change_depth : (s : Text) (new : List ℕ) (ranges : List Range) (changes : Members) → members_depth changes ≤ 5 → members_depth (renamed.with_change s new ranges changes) ≤ 5
 put_change_depth s new [] changes h = h
@@ -219,11 +219,11 @@ answer_of_within DocumentHighlight q program all a n m h =
     found_within DocumentHighlight program all (place_in q program) q.message a (λ x d f. omega (arith, highlights_depth x.pos.file x.text (name_at x.pos all) all d f)) h
 answer_of_within PrepareRename q program all a n m h =
     found_within PrepareRename program all (place_in q program) q.message a
-      (λ x d f. at_most 6 d _ f (omega (arith, prepared_depth x.text (renamed.renamable (name_at x.pos all) all) (occurrence_at x.pos all)))) h
+    (λ x d f. at_most 6 d _ f (omega (arith, prepared_depth x.text (renamed.renamable (name_at x.pos all) all) (occurrence_at x.pos all)))) h
 answer_of_within Rename q program all a n m h = wider 9 126 a (omega arith) (renaming_at_within q program all (place_in q program) a h)
 answer_of_within Hover q program all a n m h =
     found_within Hover program all (place_in q program) q.message a
-      (λ x d f. omega (arith, shown_depth program x.text (name_at x.pos all) (occurrence_at x.pos all) all d f)) h
+    (λ x d f. omega (arith, shown_depth program x.text (name_at x.pos all) (occurrence_at x.pos all) all d f)) h
 answer_of_within Completion q program all a n m h =
     found_within Completion program all (place_in q program) q.message a (λ x d f. completions_depth x.pos x.text all d f) h
 answer_of_within ResolveCompletion q program all a n m h = resolution_within program all (item_of q.message) a (item_at_most 127 q.message m) h
