@@ -4,3 +4,4 @@ pub mod Programs
 pub mod Numbered
 pub mod Binders
 pub mod Occurrences
+pub mod Owners

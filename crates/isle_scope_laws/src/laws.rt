@@ -1,10 +1,13 @@
 //! Laws of scopes, which run no code.
 
-ghost use Rattle.std.specs.Prelude.{◌↔◌, List, Some};
+ghost use Rattle.std.specs.Prelude.{◌↔◌, ◌≡◌, ◌∷◌, [], List, Some};
 ghost use Rattle.isle_ast.specs.Tree.{Definition};
 ghost use Rattle.isle_ast_names.specs.Tree.{Name};
+ghost use Rattle.isle_index.specs.Names.{NameNode};
+ghost use Rattle.isle_index.specs.Occurrences.{definitions};
 ghost use Rattle.isle_index.specs.Scopes.{seen};
 ghost use Rattle.isle_resolve.specs.Events.{events};
+ghost use Rattle.isle_scope_laws.specs.Definitions.{IsKnownAs, definition_at};
 ghost use Rattle.isle_scope_laws.specs.Reads.{IsReadAs, IsUnknown, OccursAs};
 ghost use Rattle.isle_scope_laws.specs.Uses.{HasBinder, HasFirst, HasNoBinder};
 
@@ -32,4 +35,13 @@ pub fn reads_mean_the_nearest_variables()
 pub fn patterns_mean_their_first_variables()
     ensures { (ds : List Definition) (name binder : Name)
         → HasFirst name binder (seen (events ds)) ↔ OccursAs ds name binder }
+{}
+
+/// A law, which runs no code: the index finds just one definition of a variable that is read, and
+/// that is the variable that it means in the tree. So an editor that asks for the definition of a
+/// variable in an expression is led to the `let` or the pattern that binds it there.
+pub fn definitions_of_reads_are_their_variables()
+    ensures { (ds : List Definition) (read binder : Name) → IsReadAs ds read (Some binder)
+        → (name : NameNode) × IsKnownAs read name (seen (events ds))
+        × (definitions name (seen (events ds)) ≡ definition_at binder ∷ []) }
 {}
