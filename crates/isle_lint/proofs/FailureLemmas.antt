@@ -1,5 +1,5 @@
 -- What standard error gets of a failure, and what the words ask.
-use Rattle.std.proofs.Common.{◌≡◌, ◌≤◌, ◌⊎◌, inl, inr, ℕ, List, [], ◌∷◌, Option, None, Some, arith, map, refl, subst}
+use Rattle.std.proofs.Common.{◌≡◌, ◌≤◌, ◌⊎◌, inl, inr, ℕ, List, [], ◌∷◌, Option, None, Some, arith, map, refl, subst, sym, append-nil}
 use Rattle.std.specs.Io.KnownBytes.{Keeps}
 use Rattle.std.specs.Prelude.{codes}
 use Rattle.isle_cli.proofs.FailureLemmas.{first-told-text, program_of}
@@ -59,6 +59,11 @@ past-two status (inr five) two = five
 -- what the words ask of this program
 pub asks-what : (options : Options) (words : List (List ℕ)) (what : Asked) → asked options words ≡ Some what → AreOptions options → Ask words (Some what)
 asks-what options words what asks are = (options, are, asks)
+
+-- nothing is a beginning of any text
+pub none_begun : (kept : Option (List ℕ)) (lines : List ℕ) → AppendsBeginning kept kept lines
+none_begun None lines = (0, tt)
+none_begun (Some bytes) lines = (0, sym (append-nil bytes))
 
 -- equal lists of arguments give the same
 pub tells-same : (xs ys : List Argument) (status : ℕ) (input input' output output' faults faults' : Option (List ℕ)) → xs ≡ ys →
