@@ -7,7 +7,6 @@ use Rattle.isle_lsp_diagnostics.specs.Published.{range_of}
 use Rattle.isle_lsp_text.specs.Edits.{part}
 use Rattle.isle_lsp_text.specs.declared.edits.Edit.{Edit}
 use Rattle.isle_lsp_files.specs.Disks.{View}
-use Rattle.isle_lsp_files.specs.Texts.{program_of}
 use Rattle.isle_lsp_protocol.specs.Decoding.{Decodes}
 use Rattle.isle_lsp_protocol.specs.Replies.{IsTextOf, Outcome, done, failed, reply, reply_id}
 use Rattle.isle_lsp_protocol.specs.declared.machine.ErrorCode.{ErrorCode}
@@ -16,12 +15,17 @@ use Rattle.isle_lsp_protocol.specs.declared.machine.Request.TheVariants.{Initial
 use Rattle.isle_lsp_protocol.proofs.Depths.{IsWithin, initialized_depth, items_shallow, map_shallow, reply_depth, text_edit_depth}
 use Rattle.isle_lsp_features.proofs.Depths.{IsAboutNames, answer_within}
 use Rattle.isle_lsp.specs.Formatted.{IsFormatting, edit_data, edits_data}
-use Rattle.isle_lsp.specs.Serving.{Held, IsFormattingOf, IsNamed, IsReply, IsResult, IsResultOf, IsShallow, document_in, question}
+use Rattle.isle_lsp.specs.Serving.{Held, IsFormattingOf, IsNamed, IsReply, IsResult, IsResultOf, document_in, question}
+
+-- the message nests no deeper than JSON is read, if there is one
+abbrev IsShallow : Option Data → Type 0
+IsShallow None = Unit {0}
+IsShallow (Some d) = depth d ≤ 127
 
 -- what was decoded nests no deeper than JSON is read
-pub decoded : (body : List ℕ) (json : Option Data) → Decodes body json → IsShallow json
+decoded : (body : List ℕ) (json : Option Data) → Decodes body json → IsShallow json
 decoded body None d = tt
-decoded body (Some x) d = depth-read _ x d.1
+decoded body (Some x) d = omega (arith, depth-read _ x d.1)
 
 within : (n : ℕ) (o p : Outcome) → o ≡ p → IsWithin n p → IsWithin n o
 within n o p same h = subst (IsWithin n) (sym same) h
@@ -60,9 +64,13 @@ outcome_within : (request : requests.Request) (d : Option Data) (held : Held) (v
 outcome_within request None held view o m h = within 126 o _ h tt
 outcome_within request (Some d) held view o m h = result_within request d held view o m h
 
-pub replied : (request : requests.Request) (d : Option Data) (held : Held) (view : View) (o : Outcome) (text : List ℕ) → IsResultOf request d held view o
-    → IsTextOf (reply (reply_id d) o) text → IsShallow d → IsReply request d held view text
-replied request d held view o text h is m = (o, h, is (reply_depth d o 126 (omega arith) (outcome_within request d held view o m h)))
+-- a reply to a message that was decoded reads back as it is defined
+pub reply_reads : (body : List ℕ) (request : requests.Request) (json : Option Data) (held : Held) (view : View) (text : List ℕ) → Decodes body json
+    → IsReply request json held view text → (o : Outcome) × IsResultOf request json held view o × (read text ≡ Some (reply (reply_id json) o))
+reply_reads body request json held view text decodes (o, result, is) =
+    (o, result, is (reply_depth json o 126 (omega arith) (outcome_within request json held view o (decoded body json decodes) result)))
 
-pub rejected : (d : Option Data) (c : ErrorCode) (reason text : List ℕ) → IsTextOf (reply (reply_id d) (failed c reason)) text → read text ≡ Some (reply (reply_id d) (failed c reason))
-rejected d c reason text is = is (omega (arith, reply_depth d (failed c reason) 2 (omega arith) tt))
+-- and so does a rejection
+pub rejection_reads : (json : Option Data) (c : ErrorCode) (reason text : List ℕ) → IsTextOf (reply (reply_id json) (failed c reason)) text
+    → read text ≡ Some (reply (reply_id json) (failed c reason))
+rejection_reads json c reason text is = is (omega (arith, reply_depth json (failed c reason) 2 (omega arith) tt))

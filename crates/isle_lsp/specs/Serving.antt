@@ -1,7 +1,6 @@
 -- The server's handling of a message.
-use Rattle.std.specs.Prelude.{◌≡◌, ◌≤◌, ℕ, List, [], ◌∷◌, ◌++◌, Bool, ◌&&◌, not, Option, None, Some, bytes_eq, filter, is_some, map, option_and_then, string_bytes}
-use Rattle.serde_json.specs.Data.{Data, depth, null}
-use Rattle.serde_json.specs.Read.{read}
+use Rattle.std.specs.Prelude.{◌≡◌, ℕ, List, [], ◌∷◌, ◌++◌, Bool, ◌&&◌, not, Option, None, Some, bytes_eq, filter, is_some, map, option_and_then, string_bytes}
+use Rattle.serde_json.specs.Data.{Data, null}
 use Rattle.isle_lsp_files.specs.Disks.{Asked, Moment, View, no_view}
 use Rattle.isle_lsp_files.specs.Documents.{Document, document, document_at, document_of, text_of, without}
 use Rattle.isle_lsp_files.specs.Texts.{is_together, program_of, programs_of}
@@ -15,7 +14,7 @@ use Rattle.isle_lsp_protocol.specs.declared.machine.Action as actions
 use Rattle.isle_lsp_protocol.specs.declared.machine.Action.TheVariants.{Ignore, Answer, Reject, Handle}
 use Rattle.isle_lsp_protocol.specs.Parameters as parameters
 use Rattle.isle_lsp_protocol.specs.Replies as replies
-use Rattle.isle_lsp_protocol.specs.Replies.{Outcome, done, error_outcome, reason_of, reply, reply_id}
+use Rattle.isle_lsp_protocol.specs.Replies.{IsTextOf, Outcome, done, error_outcome, reason_of, reply, reply_id}
 use Rattle.isle_lsp_protocol.specs.Capabilities.{initialize_result}
 use Rattle.isle_lsp_features.specs.Answers as names
 use Rattle.isle_lsp_features.specs.Programs.{Question}
@@ -191,18 +190,13 @@ ReportsNamed notification (Some uri) docs view sent = Reports notification uri d
 
 -- ---- messages to the client
 
--- a message that was read from JSON nests no deeper than this
-abbrev pub IsShallow : Option Data → Type 0
-IsShallow None = Unit {0}
-IsShallow (Some d) = depth d ≤ 127
-
 -- the text replies to a request
 abbrev pub IsReply : requests.Request → Option Data → Held → View → (text : List ℕ) → Type 0
-IsReply request d held view text = (o : Outcome) × IsResultOf request d held view o × (read text ≡ Some (reply (reply_id d) o))
+IsReply request d held view text = (o : Outcome) × IsResultOf request d held view o × IsTextOf (reply (reply_id d) o) text
 
 -- the messages that an action sends, with the state after it and what the disk showed
 abbrev pub Sends : actions.Action → Option Data → Held → View → List (List ℕ) → Type 0
 Sends Ignore d held view sent = sent ≡ []
-Sends (Reject c) d held view sent = (text : List ℕ) × (sent ≡ text ∷ []) × (read text ≡ Some (replies.error_response (reply_id d) c (reason_of c)))
+Sends (Reject c) d held view sent = (text : List ℕ) × (sent ≡ text ∷ []) × IsTextOf (replies.error_response (reply_id d) c (reason_of c)) text
 Sends (Answer request) d held view sent = (text : List ℕ) × (sent ≡ text ∷ []) × IsReply request d held view text
 Sends (Handle notification) d held view sent = ReportsNamed notification (option_and_then parameters.uri_of d) held.documents view sent
