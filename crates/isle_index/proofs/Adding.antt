@@ -10,7 +10,7 @@ use Rattle.isle_index.specs.declared.entries.Entry.TheVariants as entries
 use Rattle.isle_index.specs.declared.entries.Spot.{Spot}
 use Rattle.isle_index.specs.Entries.{or_no_bytes, unpacked, unpacked_from, with_binder, word_at}
 use Rattle.isle_index.specs.Held.{Extends, HasText, HasTexts, IsEntryOf, IsSpotOf}
-use Rattle.isle_index.specs.Scopes.{BoundNode, SeenNode, after, binder, seen_from}
+use Rattle.isle_resolve.specs.Scopes.{BoundNode, SeenNode, after, binder, seen_from}
 
 -- a word is read as it was written
 pub word_is : (texts : List (String Global)) (n : Name) (s : Spot) → IsSpotOf texts n s → word_at texts s ≡ n

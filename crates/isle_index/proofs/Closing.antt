@@ -8,7 +8,7 @@ use Rattle.isle_resolve.specs.declared.event.Kind.TheVariants as kinds
 use Rattle.isle_resolve.specs.declared.event.Role.TheVariants as roles
 use Rattle.isle_resolve.specs.Event.{EventNode, defines, uses, defines_variant, occurs, binds, reads, closes, ends}
 use Rattle.isle_resolve.specs.Events.{pattern_events, expression_events, condition_events, field_events, variant_events, content_events, target_events, model_events, extern_events, definition_events, events}
-use Rattle.isle_index.specs.Scopes.{BoundNode, after, binder, seen, seen_from}
+use Rattle.isle_resolve.specs.Scopes.{BoundNode, after, binder, seen, seen_from}
 
 -- the variables that are bound after events
 abbrev pub bound_after : ℕ → List BoundNode → List EventNode → List BoundNode

@@ -9,7 +9,7 @@ use Rattle.isle_resolve.specs.Event.{EventNode}
 use Rattle.isle_resolve.specs.Events.{definition_events, events}
 use Rattle.isle_index.specs.declared.Index.{Index}
 use Rattle.isle_index.specs.Held.{Adds, IsIndexOf}
-use Rattle.isle_index.specs.Scopes.{seen, seen_from}
+use Rattle.isle_resolve.specs.Scopes.{seen, seen_from}
 use Rattle.isle_index.proofs.Adding.{length-unpacked}
 use Rattle.isle_index.proofs.Closing.{length-seen, seen-more}
 

@@ -1,10 +1,6 @@
 pub mod Texts
-pub mod Keeps
-pub mod Law
 pub mod Sorting
 pub mod Places
-pub mod Owners
-pub mod Replaced
 pub mod Adding
 pub mod Closing
 pub mod Growing

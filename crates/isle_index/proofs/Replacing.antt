@@ -11,7 +11,7 @@ use Rattle.isle_index.specs.declared.Index.{Index}
 use Rattle.isle_index.specs.declared.entries.Entry.{Entry}
 use Rattle.isle_index.specs.Entries.{moved, unpacked, unpacked_from}
 use Rattle.isle_index.specs.Held.{HasTexts, IsIndexOf, event_count}
-use Rattle.isle_index.specs.Scopes.{BoundNode, after, binder, seen_from}
+use Rattle.isle_resolve.specs.Scopes.{BoundNode, after, binder, seen_from}
 use Rattle.isle_index.proofs.Adding.{length-unpacked}
 use Rattle.isle_index.proofs.Closing.{bound_after, definitions_end, length-seen, seen-append}
 use Rattle.isle_index.proofs.Shifting.{moved-are, moved-have}

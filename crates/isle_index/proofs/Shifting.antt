@@ -10,7 +10,7 @@ use Rattle.isle_index.specs.declared.entries.Entry.{Entry}
 use Rattle.isle_index.specs.declared.entries.Entry.TheVariants as entries
 use Rattle.isle_index.specs.Entries.{moved, moved_number, unpacked, unpacked_from, with_binder, word_at}
 use Rattle.isle_index.specs.Held.{HasTexts}
-use Rattle.isle_index.specs.Scopes.{BoundNode, after, binder, bound_more, last_bound, or_else, seen_from}
+use Rattle.isle_resolve.specs.Scopes.{BoundNode, after, binder, bound_more, last_bound, or_else, seen_from}
 
 -- a bound variable, whose number counts from another one
 abbrev at_one : ℕ → BoundNode → BoundNode

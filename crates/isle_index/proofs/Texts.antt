@@ -1,30 +1,10 @@
--- Texts that are told apart, and those that are changed in some places.
-use Rattle.std.proofs.Common.{◌≡◌, ◌≢◌, Bor, MatchOption, subst, ℕ, List, [], ◌∷◌, ◌++◌, Bool, true, false, cond, not, ◌&&◌, ◌||◌, Option, None, Some, bytes_eq, eq-eqb, length, drop, refl, sym, ap, ◌∙◌, if◌then◌else◌, codes, append_assoc}
+-- Texts that are changed in some places.
+use Rattle.std.proofs.Common.{◌≡◌, ℕ, List, [], ◌∷◌, ◌++◌, Bool, true, false, cond, not, ◌||◌, bytes_eq, length, drop, refl, sym, ap, ◌∙◌, if◌then◌else◌, codes, append_assoc}
 use Rattle.std.proofs.Math.Seq.{drop-append_seam}
-use Rattle.std.proofs.lemmas.Slice.Eq.{bytes_eq-Decides}
-use Rattle.isle_index.specs.Names.{joined}
+use Rattle.isle_resolve.proofs.Texts.{bytes-are, bytes-differ, bytes-false, bytes-true, same_front}
+use Rattle.isle_resolve.specs.Names.{joined}
 use Rattle.isle_index.specs.Renamed.{with_front}
 use Rattle.isle_index.specs.Renaming.{is_member}
-
-pub bytes-are : (xs ys : List ℕ) → bytes_eq xs ys ≡ true → xs ≡ ys
-bytes-are xs ys e = (bytes_eq-Decides xs ys).0 e
-
-pub bytes-true : (xs ys : List ℕ) → xs ≡ ys → bytes_eq xs ys ≡ true
-bytes-true xs ys e = (bytes_eq-Decides xs ys).1 e
-
-false-at : (xs ys : List ℕ) (b : Bool) → bytes_eq xs ys ≡ b → (xs ≡ ys → ⊥) → b ≡ false
-false-at xs ys true is h = absurd (h (bytes-are xs ys is))
-false-at xs ys false is h = refl
-
-pub bytes-false : (xs ys : List ℕ) → (xs ≡ ys → ⊥) → bytes_eq xs ys ≡ false
-bytes-false xs ys h = false-at xs ys (bytes_eq xs ys) refl h
-
-pub bytes-differ : (xs ys : List ℕ) → bytes_eq xs ys ≡ false → xs ≡ ys → ⊥
-bytes-differ xs ys unequal e = let yes : bytes_eq xs ys ≡ true = bytes-true xs ys e in cc
-
-pub same_front : (first last rest : List ℕ) → bytes_eq (first ++ last) (first ++ rest) ≡ bytes_eq last rest
-same_front [] last rest = refl
-same_front (x ∷ first) last rest = ap (λ b. b && bytes_eq (first ++ last) (first ++ rest)) (eq-eqb x x refl) ∙ same_front first last rest
 
 pub or-false : (a b : Bool) → a || b ≡ false → (a ≡ false) × (b ≡ false)
 or-false true b e = let never : true ≡ false = e in absurd (cc)
@@ -94,11 +74,3 @@ pub fronts-same : (old new : List ℕ) (ms : List (List ℕ)) (x y : List ℕ) �
     (is_member old ms x ≡ true → with_front old new x ≡ y → ⊥) → (is_member old ms y ≡ true → with_front old new y ≡ x → ⊥) →
     bytes_eq (if is_member old ms x then with_front old new x else x) (if is_member old ms y then with_front old new y else y) ≡ bytes_eq x y
 fronts-same old new ms x y h k = fronts old new ms x y (is_member old ms x) (is_member old ms y) refl refl h k
-
--- what `strip_prefix` leaves, and what there is where it leaves nothing
-pub behind : (bytes part : List ℕ) (r : Option (Bor (List ℕ))) (x : Bor (List ℕ)) → MatchOption r ((rest : List ℕ) → bytes ≢ part ++ rest) (λ y. bytes ≡ part ++ y.now) → r ≡ Some x → bytes ≡ part ++ x.now
-behind bytes part r x h is =
-    let found : MatchOption (Some x) ((rest : List ℕ) → bytes ≢ part ++ rest) (λ y. bytes ≡ part ++ y.now) = subst (λ o. MatchOption o ((rest : List ℕ) → bytes ≢ part ++ rest) (λ y. bytes ≡ part ++ y.now)) is h in found
-
-pub nothing_behind : (bytes part : List ℕ) (r : Option (Bor (List ℕ))) → MatchOption r ((rest : List ℕ) → bytes ≢ part ++ rest) (λ y. bytes ≡ part ++ y.now) → r ≡ None → (rest : List ℕ) → bytes ≢ part ++ rest
-nothing_behind bytes part r h is = subst (λ o. MatchOption o ((rest : List ℕ) → bytes ≢ part ++ rest) (λ y. bytes ≡ part ++ y.now)) is h

@@ -2,7 +2,7 @@
 use Rattle.std.specs.Prelude.{ℕ, List, [], ◌∷◌, ◌++◌, Bool, true, ◌&&◌, Option, None, Some, map, filter, codes, string_bytes, nat_le, nat_eq, ◌==◌, if◌then◌else◌}
 use Rattle.std.specs.List.{filter_map, starts_with}
 use Rattle.isle_base_source.specs.declared.pos.Pos.{Pos}
-use Rattle.isle_index.specs.Scopes.{SeenNode, BoundNode, after}
+use Rattle.isle_resolve.specs.Scopes.{SeenNode, BoundNode, after}
 use Rattle.isle_index.specs.Occurrences.{occurrence}
 use Rattle.isle_index.specs.Symbols.{SymbolNode, symbol}
 use Rattle.isle_index.specs.declared.occurrences.Occurrence.{Occurrence}

@@ -10,7 +10,7 @@ use Rattle.isle_index.specs.declared.entries.Entries.{Entries}
 use Rattle.isle_index.specs.declared.entries.Entry.{Entry}
 use Rattle.isle_index.specs.declared.entries.Entry.TheVariants as entries
 use Rattle.isle_index.specs.declared.entries.Spot.{Spot}
-use Rattle.isle_index.specs.Scopes.{SeenNode}
+use Rattle.isle_resolve.specs.Scopes.{SeenNode}
 
 -- the text of a number, if there is one
 abbrev pub text_in : List (String Global) → ℕ → Option (List ℕ)

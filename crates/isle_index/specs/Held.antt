@@ -11,7 +11,7 @@ use Rattle.isle_index.specs.declared.entries.Entry.{Entry}
 use Rattle.isle_index.specs.declared.entries.Entry.TheVariants as entries
 use Rattle.isle_index.specs.declared.entries.Spot.{Spot}
 use Rattle.isle_index.specs.Entries.{text_in, unpacked, unpacked_from}
-use Rattle.isle_index.specs.Scopes.{SeenNode, seen}
+use Rattle.isle_resolve.specs.Scopes.{SeenNode, seen}
 
 -- all events of an index, in order
 abbrev pub all_in : Index → List SeenNode

@@ -1,7 +1,5 @@
-pub mod Scopes
 pub mod Entries
 pub mod Held
-pub mod Names
 pub mod Occurrences
 pub mod Symbols
 pub mod Candidates

@@ -6,8 +6,8 @@ use Rattle.isle_ast_names.specs.Tree.{Name}
 use Rattle.isle_resolve.specs.declared.event.Kind.{Kind}
 use Rattle.isle_resolve.specs.declared.event.Kind.TheVariants as kinds
 use Rattle.isle_resolve.specs.Event.{EventNode, defines, uses, defines_variant, occurs, binds, reads, closes, ends}
-use Rattle.isle_index.specs.Scopes.{SeenNode}
-use Rattle.isle_index.specs.Names.{NameNode, is_of, is_number, meaning}
+use Rattle.isle_resolve.specs.Scopes.{SeenNode}
+use Rattle.isle_resolve.specs.Names.{NameNode, is_of, is_number, meaning}
 use Rattle.isle_index.specs.declared.occurrences.Occurrence.{Occurrence}
 
 -- the length of a name in the source: a constant has a `$`

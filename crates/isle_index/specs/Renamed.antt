@@ -8,8 +8,8 @@ use Rattle.isle_resolve.specs.declared.event.Kind.{Kind}
 use Rattle.isle_resolve.specs.declared.event.Kind.TheVariants as kinds
 use Rattle.isle_resolve.specs.Event.{EventNode, defines, uses, defines_variant, occurs, binds, reads, closes, ends}
 use Rattle.isle_resolve.specs.Mapped.{map_event}
-use Rattle.isle_index.specs.Scopes.{SeenNode}
-use Rattle.isle_index.specs.Names.{NameNode, global, variable, name_text}
+use Rattle.isle_resolve.specs.Scopes.{SeenNode}
+use Rattle.isle_resolve.specs.Names.{NameNode, global, variable, name_text}
 use Rattle.isle_index.specs.Renaming.{is_member, members, position, renamed_variable}
 
 -- the text with its first bytes replaced

@@ -14,8 +14,8 @@ use Rattle.isle_resolve.specs.declared.event.Kind.TheVariants as kinds
 use Rattle.isle_resolve.specs.declared.event.Role.{Role}
 use Rattle.isle_resolve.specs.declared.event.Role.TheVariants as roles
 use Rattle.isle_resolve.specs.Event.{EventNode, defines, uses, defines_variant, occurs, binds, reads, closes, ends}
-use Rattle.isle_index.specs.Scopes.{SeenNode, seen}
-use Rattle.isle_index.specs.Names.{NameNode, global, variable, gives, is_of, is_number, joined, name_text, same_kind}
+use Rattle.isle_resolve.specs.Scopes.{SeenNode, seen}
+use Rattle.isle_resolve.specs.Names.{NameNode, global, variable, gives, is_of, is_number, joined, name_text, same_kind}
 use Rattle.isle_index.specs.declared.rename.Refusal.{Refusal}
 use Rattle.isle_index.specs.declared.rename.Refusal.TheVariants as refusals
 

@@ -5,8 +5,8 @@ use Rattle.isle_base_source.specs.declared.pos.Pos.{Pos}
 use Rattle.isle_resolve.specs.declared.event.Kind.{Kind}
 use Rattle.isle_resolve.specs.declared.event.Kind.TheVariants as kinds
 use Rattle.isle_resolve.specs.Event.{EventNode, defines, uses, defines_variant, occurs, binds, reads, closes, ends}
-use Rattle.isle_index.specs.Scopes.{SeenNode}
-use Rattle.isle_index.specs.Names.{joined}
+use Rattle.isle_resolve.specs.Scopes.{SeenNode}
+use Rattle.isle_resolve.specs.Names.{joined}
 use Rattle.isle_index.specs.Occurrences.{written_len}
 use Rattle.isle_index.specs.declared.symbols.Symbol.{Symbol}
 use Rattle.isle_index.specs.declared.symbols.SymbolKind.{SymbolKind}

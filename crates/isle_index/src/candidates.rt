@@ -6,14 +6,14 @@ ghost use Rattle.isle_index.specs.Candidates.{begins_with, bound_at, candidate_o
 ghost use Rattle.isle_index.specs.Candidates.{global_candidate, is_behind, is_nearer, nearer_by};
 ghost use Rattle.isle_index.specs.Candidates.{nearest, variable_candidate, visible, written};
 ghost use Rattle.isle_index.specs.Entries.{all_of};
-ghost use Rattle.isle_index.specs.Scopes.{bounds_of};
+ghost use Rattle.isle_resolve.specs.Scopes.{bounds_of};
 ghost use Rattle.isle_index.specs.Symbols.{symbol};
 
 use crate::entries::Entries;
 use crate::occurrences::{Occurrence, occurrence_in};
-use crate::scopes::{Bound, bind};
 use crate::symbols::{SymbolKind, defined_symbol};
 use isle_base::lexer::Pos;
+use isle_resolve::scopes::{Bound, bind};
 use std::alloc::{AllocError, Global};
 
 /// A name that can be written at a position.

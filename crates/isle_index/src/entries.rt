@@ -3,12 +3,12 @@
 
 ghost use Rattle.std.specs.Prelude.{◌≡◌};
 ghost use Rattle.isle_index.specs.Entries.{text_at, unpacked, word_at};
-ghost use Rattle.isle_index.specs.Scopes.{seen_of};
+ghost use Rattle.isle_resolve.specs.Scopes.{seen_of};
 ghost use Rattle.isle_resolve.specs.EventView.{word_of};
 
-use crate::scopes::Seen;
 use isle_base::lexer::Pos;
 use isle_resolve::event::{Event, Kind, Role, Word};
+use isle_resolve::scopes::Seen;
 
 /// A name as it occurs in the source, packed.
 #[derive(Clone, Copy, Debug)]

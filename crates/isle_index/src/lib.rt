@@ -16,22 +16,19 @@ ghost use Rattle.isle_base_source.specs.PositionOrder.{position_cmp};
 ghost use Rattle.isle_index.specs.Candidates.{candidate_of, candidates};
 ghost use Rattle.isle_index.specs.Entries.{all_of};
 ghost use Rattle.isle_index.specs.Held.{Adds, IsIndexOf, all_in, event_count};
-ghost use Rattle.isle_index.specs.Names.{named_of};
+ghost use Rattle.isle_resolve.specs.Names.{named_of};
 ghost use Rattle.isle_index.specs.Occurrences.{definitions, name_at, occurrence_at, occurrences};
 ghost use Rattle.isle_index.specs.Renaming.{IsAnswer, can_be_renamed};
-ghost use Rattle.isle_index.specs.Scopes.{seen_from};
+ghost use Rattle.isle_resolve.specs.Scopes.{seen_from};
 ghost use Rattle.isle_index.specs.Symbols.{symbol_of, symbols};
 ghost use Rattle.isle_resolve.specs.EventView.{events_of};
 
 mod candidates;
 mod entries;
-pub mod laws;
 mod moving;
-mod names;
 mod numbers;
 mod occurrences;
 mod rename;
-mod scopes;
 mod symbols;
 
 pub use candidates::Candidate;
@@ -42,15 +39,15 @@ use isle_base::lexer::Pos;
 use isle_resolve::event::Event;
 pub use isle_resolve::event::Kind;
 use isle_resolve::events;
+pub use isle_resolve::names::Name;
+use isle_resolve::names::meaning;
+use isle_resolve::scopes::bind;
 use moving::{add_moved, split};
-pub use names::Name;
-use names::meaning;
 use numbers::Texts;
 pub use occurrences::Occurrence;
 use occurrences::{event_at, occurrence_in};
 pub use rename::Refusal;
 use rename::{can_be_renamed, changed_places, refusal_for};
-use scopes::bind;
 use std::alloc::{AllocError, Global};
 use std::slice;
 use symbols::defined_symbol;
@@ -111,9 +108,9 @@ impl Index {
         self.entries.len()
     }
 
-    /// Moves the definitions at the end of the index, those of the events from number `end` on, to
-    /// where those of the events `start..stop` are, which are dropped. Texts of names stay. An
-    /// `Err` means out of memory: drop the index then.
+    /// Moves the definitions at the end of the index, those of the events from number `end` on,
+    /// into the place of those of the events `start..stop`, which are dropped. Texts of names stay.
+    /// An `Err` means out of memory: drop the index then.
     pub fn replace(
         &mut self,
         alloc: Global,

@@ -31,7 +31,7 @@ pub fn add_moved(entries: &mut Vec<Entry>, more: &[Entry], from: usize) -> Resul
     Ok(())
 }
 
-/// The entry, where the number `from` becomes `to`, and each later one follows.
+/// The entry after the number `from` has become `to`, and each later one has followed.
 fn moved(entry: &Entry, from: usize, to: usize) -> Result<Entry, AllocError>
     ensures { IfOk result (λ other. other ≡ moved from to entry.now) }
 {

@@ -3,12 +3,12 @@
 ghost use Rattle.std.specs.Prelude.{◌≡◌, [], IfOk, IfSome, OnOk, Some};
 ghost use Rattle.isle_index.specs.Entries.{text_in, with_binder};
 ghost use Rattle.isle_index.specs.Held.{Extends, IsEntryOf, IsSpotOf};
-ghost use Rattle.isle_index.specs.Scopes.{binder, bounds_of};
+ghost use Rattle.isle_resolve.specs.Scopes.{binder, bounds_of};
 ghost use Rattle.isle_resolve.specs.EventView.{event_of, word_of};
 
 use crate::entries::{Entry, Spot};
-use crate::scopes::{Bound, last_binder};
 use isle_resolve::event::{Event, Word};
+use isle_resolve::scopes::{Bound, last_binder};
 use std::alloc::{AllocError, Global};
 use std::collections::HashMap;
 use std::hash::{DefaultHasher, Hasher};

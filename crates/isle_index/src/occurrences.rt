@@ -2,17 +2,17 @@
 
 ghost use Rattle.std.specs.Prelude.{◌≡◌, IfOk, option_map};
 ghost use Rattle.isle_index.specs.Entries.{all_of};
-ghost use Rattle.isle_index.specs.Names.{named_of};
+ghost use Rattle.isle_resolve.specs.Names.{named_of};
 ghost use Rattle.isle_index.specs.Occurrences.{covers, definitions, is_covered, occurrence};
 ghost use Rattle.isle_index.specs.Occurrences.{occurrences, place, seen_at, written_len};
-ghost use Rattle.isle_index.specs.Scopes.{seen_of};
+ghost use Rattle.isle_resolve.specs.Scopes.{seen_of};
 ghost use Rattle.isle_resolve.specs.EventView.{word_of};
 
 use crate::entries::Entries;
-use crate::names::{Name, is_number};
-use crate::scopes::Seen;
 use isle_base::lexer::Pos;
 use isle_resolve::event::{Event, Kind, Word};
+use isle_resolve::names::{Name, is_number};
+use isle_resolve::scopes::Seen;
 use std::alloc::{AllocError, Global};
 
 /// A name as it occurs in the source. Occurrences are ordered by position.

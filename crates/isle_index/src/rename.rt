@@ -3,7 +3,7 @@
 ghost use Rattle.std.specs.Prelude.{◌≡◌, IfOk, map, option_map};
 ghost use Rattle.std.specs.List.{list_any};
 ghost use Rattle.isle_index.specs.Entries.{all_of};
-ghost use Rattle.isle_index.specs.Names.{is_number, named_of};
+ghost use Rattle.isle_resolve.specs.Names.{is_number, named_of};
 ghost use Rattle.isle_index.specs.Renaming.{can_be_renamed, changed_places, changes, defines_it};
 ghost use Rattle.isle_index.specs.Renaming.{has_left, is_fixed, is_left, leaves};
 ghost use Rattle.isle_index.specs.Renaming.{gives_variant, has, has_member, is_captured};
@@ -12,15 +12,15 @@ ghost use Rattle.isle_index.specs.Renaming.{type_is_taken, variable_text};
 ghost use Rattle.isle_index.specs.Renaming.{is_new_name, is_reserved, is_taken, member_of, members};
 ghost use Rattle.isle_index.specs.Renaming.{position, refusal, renamed_variable, same_binder};
 ghost use Rattle.isle_index.specs.Renaming.{same_binders, with_text, writes_member};
-ghost use Rattle.isle_index.specs.Scopes.{seen, seen_of};
+ghost use Rattle.isle_resolve.specs.Scopes.{seen, seen_of};
 ghost use Rattle.isle_resolve.specs.EventView.{event_of};
 
 use crate::entries::Entries;
-use crate::names::{Name, full_name, gives, is_full_name, is_number};
-use crate::scopes::{Seen, bind, binder};
 use isle_ast_names::identifier::is_identifier;
 use isle_base::lexer::Pos;
 use isle_resolve::event::{Event, Kind, Role, Word};
+use isle_resolve::names::{Name, full_name, gives, is_full_name, is_number};
+use isle_resolve::scopes::{Seen, bind, binder};
 use std::alloc::{AllocError, Global};
 
 /// Why a name cannot be renamed.

@@ -4,10 +4,10 @@ ghost use Rattle.std.specs.Prelude.{◌≡◌, IfOk, option_map};
 ghost use Rattle.isle_index.specs.Symbols.{kind_of, symbol, symbol_of};
 ghost use Rattle.isle_resolve.specs.EventView.{event_of};
 
-use crate::names::full_name;
 use crate::occurrences::written_len;
 use isle_base::lexer::Pos;
 use isle_resolve::event::{Event, Kind};
+use isle_resolve::names::full_name;
 use std::alloc::{AllocError, Global};
 
 /// The kind of a symbol or a candidate.

@@ -11,7 +11,7 @@ use Rattle.isle_ast.specs.Tree.{Definition}
 use Rattle.isle_resolve.specs.Event.{EventNode}
 use Rattle.isle_resolve.specs.Events.{definition_events, events}
 use Rattle.isle_index.specs.Renamed.{are_apart, places_of, same_place}
-use Rattle.isle_index.specs.Scopes.{seen}
+use Rattle.isle_resolve.specs.Scopes.{seen}
 use Rattle.isle_index_laws.specs.RenamedTokens.{positions}
 use Rattle.isle_index_laws.specs.SpeltTexts.{AreSpelt, SpeltText, definitions_of}
 use Rattle.isle_index_laws.proofs.Marks.{events_at, events_in_turn, one_if}

@@ -24,7 +24,7 @@ use Rattle.isle_resolve.specs.Event.{EventNode, binds, ends, occurs, reads, uses
 use Rattle.isle_resolve.specs.Events.{condition_events, expression_events, expression_list_events, extractor_events, let_ends, let_events, named, pattern_events, pattern_list_events, rule_events}
 use Rattle.isle_resolve.specs.Mapped.{map_condition, map_expression, map_expression_list, map_extractor, map_lets, map_pattern, map_pattern_list, map_rule}
 use Rattle.isle_index.specs.Renaming.{is_reserved}
-use Rattle.isle_index.proofs.Texts.{bytes-false}
+use Rattle.isle_resolve.proofs.Texts.{bytes-false}
 use Rattle.isle_index_laws.specs.Kept.{AreKept, CanReplace, IsKeptName}
 use Rattle.isle_index_laws.proofs.Marks.{SameEvents, events_at, events_in_turn, exchanged, wanted}
 use Rattle.isle_index_laws.proofs.Follows.{Follow, KeepsPlaces, at, behind_word, chain, each_follows, each_one_follows, in_parentheses, one_constant, one_name, remade, split, still}

@@ -6,7 +6,7 @@ use Rattle.isle_ast_names.specs.Words.{demands, is_dollar}
 use Rattle.isle_ast_names.specs.Writable.{IsNot}
 use Rattle.isle_ast_rules.specs.Writable.{HasNoDollar, IsPatternVariable, IsExpressionVariable}
 use Rattle.isle_index.specs.Renaming.{is_reserved}
-use Rattle.isle_index.proofs.Texts.{bytes-false}
+use Rattle.isle_resolve.proofs.Texts.{bytes-false}
 use Rattle.isle_index_laws.specs.Kept.{CanReplace}
 
 pub clash : {A : Type 0} (b : Bool) → b ≡ true → b ≡ false → A

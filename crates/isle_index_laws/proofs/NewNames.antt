@@ -12,10 +12,11 @@ use Rattle.isle_ast_names.specs.Identifier.{are_identifier, begins_identifier, c
 use Rattle.isle_ast_names.specs.Words.{is_dollar}
 use Rattle.isle_resolve.specs.declared.event.Kind.{Kind}
 use Rattle.isle_resolve.specs.declared.event.Kind.TheVariants as kinds
-use Rattle.isle_index.specs.Names.{joined}
+use Rattle.isle_resolve.specs.Names.{joined}
 use Rattle.isle_index.specs.Renamed.{new_text, with_front}
 use Rattle.isle_index.specs.Renaming.{is_member, is_new_name, is_reserved}
-use Rattle.isle_index.proofs.Texts.{bytes-are, bytes-false, or-right, with_front-is}
+use Rattle.isle_resolve.proofs.Texts.{bytes-are, bytes-false}
+use Rattle.isle_index.proofs.Texts.{or-right, with_front-is}
 use Rattle.isle_index_laws.specs.Kept.{CanReplace}
 use Rattle.isle_index_laws.proofs.KeptNames.{clash}
 
@@ -45,7 +46,7 @@ taken_apart : (text : List ℕ) → is_identifier text ≡ true → IsUtf8 text 
 unfolding is_identifier
 taken_apart text h = let p = and_parts (is_utf8 text) (are_identifier (chars text)) h in (IsUtf8-from_is_utf8 text p.0, p.1)
 
-put_together : (text : List ℕ) → IsUtf8 text → are_identifier (chars text) ≡ true → is_identifier text ≡ true
+pub put_together : (text : List ℕ) → IsUtf8 text → are_identifier (chars text) ≡ true → is_identifier text ≡ true
 unfolding is_identifier
 put_together text u h = and_from (is_utf8 text) (are_identifier (chars text)) (is_utf8-from_IsUtf8 text u) h
 
@@ -119,7 +120,7 @@ has-dot (b ∷ front) behind = or-right (is_dot b) (list_any is_dot (joined fron
 other : (text word : List ℕ) → list_any is_dot text ≡ true → list_any is_dot word ≡ false → bytes_eq text word ≡ false
 other text word holds fails = bytes-false text word (λ e. clash (list_any is_dot text) holds (ap (list_any is_dot) e ∙ fails))
 
-neither : (a b : Bool) → a ≡ false → b ≡ false → a || b ≡ false
+pub neither : (a b : Bool) → a ≡ false → b ≡ false → a || b ≡ false
 neither a b p q = ap (λ x. x || b) p ∙ q
 
 no_reserved : (text : List ℕ) → list_any is_dot text ≡ true → is_reserved text ≡ false

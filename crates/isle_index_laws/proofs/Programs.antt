@@ -8,10 +8,10 @@ use Rattle.isle_base_source.specs.declared.pos.Pos.{Pos}
 use Rattle.isle_ast_names.specs.Tree.{Name}
 use Rattle.isle_resolve.specs.Event.{EventNode}
 use Rattle.isle_resolve.specs.Events.{events}
-use Rattle.isle_index.specs.Names.{NameNode, name_text}
+use Rattle.isle_resolve.specs.Names.{NameNode, name_text}
 use Rattle.isle_index.specs.Renamed.{replaced, same_place}
 use Rattle.isle_index.specs.Renaming.{IsAccepted}
-use Rattle.isle_index.specs.Scopes.{seen}
+use Rattle.isle_resolve.specs.Scopes.{seen}
 use Rattle.isle_index_laws.specs.Kept.{AreKept}
 use Rattle.isle_index_laws.specs.RenamedTokens.{is_constant, positions, renamed_tokens}
 use Rattle.isle_index_laws.specs.SpeltTexts.{AreSpelt, AreSpeltWith, SpeltText, definitions_of}

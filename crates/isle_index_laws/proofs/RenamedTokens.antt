@@ -17,10 +17,10 @@ use Rattle.isle_resolve.specs.declared.event.Kind.TheVariants as kinds
 use Rattle.isle_resolve.specs.Event.{EventNode, binds, closes, defines, defines_variant, ends, occurs, reads, uses}
 use Rattle.isle_resolve.specs.Events.{events}
 use Rattle.isle_resolve.specs.Mapped.{map_definitions}
-use Rattle.isle_index.specs.Names.{NameNode, gives, global, name_text, variable}
+use Rattle.isle_resolve.specs.Names.{NameNode, gives, global, name_text, variable}
 use Rattle.isle_index.specs.Renamed.{are_apart, places_of, replaced, same_place, stands_at, with_front}
 use Rattle.isle_index.specs.Renaming.{IsAccepted, changed_places, changes, members, position, writes_member}
-use Rattle.isle_index.specs.Scopes.{BoundNode, SeenNode, after, binder, seen, seen_from}
+use Rattle.isle_resolve.specs.Scopes.{BoundNode, SeenNode, after, binder, seen, seen_from}
 use Rattle.isle_index.proofs.Places.{chosen, is_at}
 use Rattle.isle_index.proofs.Texts.{or-false}
 use Rattle.isle_index_laws.specs.Kept.{AreKept}

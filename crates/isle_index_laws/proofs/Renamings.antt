@@ -10,11 +10,11 @@ use Rattle.isle_resolve.specs.declared.event.Kind.TheVariants as kinds
 use Rattle.isle_resolve.specs.Event.{EventNode, defines, uses, defines_variant, occurs, binds, reads, closes, ends}
 use Rattle.isle_resolve.specs.Events.{events}
 use Rattle.isle_resolve.specs.Mapped.{map_definitions, map_event}
-use Rattle.isle_index.specs.Names.{NameNode, global, variable, name_text}
+use Rattle.isle_resolve.specs.Names.{NameNode, global, variable, name_text}
 use Rattle.isle_index.specs.Renamed.{Renames, are_apart, new_event, places_of, renamed, renamed_by, replaced}
 use Rattle.isle_index.specs.Renaming.{IsAccepted, is_new_name, is_variable, members, refusal, with_text}
-use Rattle.isle_index.specs.Scopes.{BoundNode, SeenNode, after, binder, seen, seen_from}
-use Rattle.isle_index.proofs.Replaced.{replacing_renames}
+use Rattle.isle_resolve.specs.Scopes.{BoundNode, SeenNode, after, binder, seen, seen_from}
+use Rattle.isle_index_laws.proofs.Replaced.{replacing_renames}
 use Rattle.isle_index_laws.specs.Kept.{AreKept, CanReplace, IsKept}
 use Rattle.isle_index_laws.proofs.KeptTrees.{definitions_kept}
 use Rattle.isle_index_laws.proofs.NewNames.{new_text_fits, renamed_text_fits, same_text}

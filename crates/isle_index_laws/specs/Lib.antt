@@ -1,3 +1,4 @@
+pub mod Fresh
 pub mod Kept
 pub mod RenamedTokens
 pub mod SpeltTexts

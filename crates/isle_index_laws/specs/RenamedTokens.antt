@@ -6,7 +6,7 @@ use Rattle.isle_base.specs.Place.{Placed}
 use Rattle.isle_base.specs.Token.{Tok, at_sign, integer, lparen, rparen, symbol}
 use Rattle.isle_base_source.specs.declared.pos.Pos.{Pos}
 use Rattle.isle_resolve.specs.declared.event.Kind.TheVariants as kinds
-use Rattle.isle_index.specs.Names.{NameNode, global, name_text, variable}
+use Rattle.isle_resolve.specs.Names.{NameNode, global, name_text, variable}
 use Rattle.isle_index.specs.Renamed.{same_place, with_front}
 
 abbrev pub is_constant : NameNode → Bool

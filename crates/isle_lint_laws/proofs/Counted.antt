@@ -1,19 +1,19 @@
 -- How many variables stand at a position, by the lists of variables that rules bind and by the events of trees.
-use Rattle.std.proofs.Common.{◌≡◌, ℕ, ◌+◌, ◌≤◌, List, [], ◌∷◌, ◌++◌, Bool, true, false, not, ◌==◌, Contains, refl, ap, ◌∙◌, arith, ⊎_elim}
+use Rattle.std.proofs.Common.{◌≡◌, ℕ, ◌+◌, ◌≤◌, List, [], ◌∷◌, ◌++◌, Bool, true, false, not, ◌==◌, Contains, inl, inr, refl, sym, ap, subst, ◌∙◌, arith, ⊎_elim}
 use Rattle.std.proofs.lemmas.Bool.{and_from, eq-eqb}
 use Rattle.std.proofs.lemmas.List.Elements.{Contains-append_cases}
 use Rattle.std.specs.List.{flat_map}
 use Rattle.isle_base_source.specs.declared.pos.Pos.{Pos}
 use Rattle.isle_ast_names.specs.Tree.{Name}
 use Rattle.isle_ast_rules.specs.Tree.{PatternNode, var_pattern, bind_pattern, bool_pattern, int_pattern, constant_pattern, term_pattern, wildcard_pattern, and_pattern, macro_arg_pattern, PatternList, no_pattern, more_pattern, Expression, term_expression, var_expression, bool_expression, int_expression, constant_expression, let_expression, ExpressionList, no_expression, more_expression, LetList, no_let, more_let, Condition, RuleDefinition}
-use Rattle.isle_ast.specs.Tree.{Definition, type_def, rule, extractor, decl, attr, spec, spec_macro, model, state, form, instantiation, external, converter}
+use Rattle.isle_ast.specs.Tree.{Definition, rule}
 use Rattle.isle_resolve.specs.declared.event.Kind.TheVariants as kinds
 use Rattle.isle_resolve.specs.declared.event.Role.{Role}
 use Rattle.isle_resolve.specs.declared.event.Role.TheVariants as roles
 use Rattle.isle_resolve.specs.Event.{EventNode, defines, uses, defines_variant, occurs, binds, reads, closes, ends}
 use Rattle.isle_resolve.specs.Events.{pattern_events, pattern_list_events, expression_events, expression_list_events, let_events, let_ends, condition_events, rule_events, definition_events, events}
 use Rattle.isle_index.specs.Renamed.{places_of, same_place}
-use Rattle.isle_index.specs.Scopes.{BoundNode, after, seen, seen_from}
+use Rattle.isle_resolve.specs.Scopes.{BoundNode, after, seen, seen_from}
 use Rattle.isle_index_laws.proofs.Marks.{one_if}
 use Rattle.isle_index_laws.proofs.RenamedTokens.{once, places_at}
 use Rattle.isle_scope_laws.specs.Reads.{condition_variables, pattern_list_variables, pattern_variables, rule_variables}
@@ -24,6 +24,7 @@ use Rattle.isle_lint_core.specs.Names.{kept_if}
 use Rattle.isle_lint_core.specs.Unused.{unused_lets}
 use Rattle.isle_lint_core.specs.Uses as lint
 use Rattle.isle_lint_laws.specs.Unread.{HasNamesApart}
+use Rattle.isle_lint_laws.proofs.Definitions.{rule_or_other}
 use Rattle.isle_lint_laws.proofs.Lets.{let_lets_by, lets_by, list_lets_by}
 use Rattle.isle_lint_laws.proofs.Rules.{rule_lets_by, rule_unused_are}
 
@@ -196,23 +197,25 @@ rule_bound p r =
 abbrev pub used_lets : RuleDefinition → List Name
 used_lets r = rule_lets_by itself r
 
-definition_bound : (p : Pos) (d : Definition) → at p (of_rule unused_lets d) + at p (of_rule used_lets d) + at p (of_rule rule_variables d) ≤ bound_at p (definition_events d)
-definition_bound p (rule r) =
+abbrev IsBound : Pos → Definition → Type 0
+IsBound p d = at p (of_rule unused_lets d) + at p (of_rule used_lets d) + at p (of_rule rule_variables d) ≤ bound_at p (definition_events d)
+
+rule_is_bound : (p : Pos) (r : RuleDefinition) → IsBound p (rule r)
+rule_is_bound p r =
     let all = rule_bound p r in
     let same : at p (unused_lets r) ≡ at p (rule_lets_by not r) = ap (at p) (rule_unused_are r) in
     omega (arith, all, same)
-definition_bound p (type_def t) = omega arith
-definition_bound p (extractor e) = omega arith
-definition_bound p (decl d) = omega arith
-definition_bound p (attr a) = omega arith
-definition_bound p (spec s) = omega arith
-definition_bound p (spec_macro m) = omega arith
-definition_bound p (model m) = omega arith
-definition_bound p (state s) = omega arith
-definition_bound p (form g) = omega arith
-definition_bound p (instantiation t) = omega arith
-definition_bound p (external e) = omega arith
-definition_bound p (converter c) = omega arith
+
+definition_bound : (p : Pos) (d : Definition) → IsBound p d
+definition_bound p d =
+    elim (rule_or_other d) [
+      | inl this ↦ subst (IsBound p) (sym this.1) (rule_is_bound p this.0)
+      | inr other ↦
+          let unused : at p (of_rule unused_lets d) ≡ 0 = ap (at p) (other.found unused_lets) in
+          let used : at p (of_rule used_lets d) ≡ 0 = ap (at p) (other.found used_lets) in
+          let variables : at p (of_rule rule_variables d) ≡ 0 = ap (at p) (other.found rule_variables) in
+          omega (arith, unused, used, variables)
+    ]
 
 program_bound : (p : Pos) (ds : List Definition) → at p (of_rules unused_lets ds) + at p (of_rules used_lets ds) + at p (of_rules rule_variables ds) ≤ bound_at p (events ds)
 program_bound p [] = omega arith

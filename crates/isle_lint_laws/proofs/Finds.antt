@@ -5,7 +5,7 @@ use Rattle.std.proofs.lemmas.List.Elements.{Contains-append_cases, Contains-appe
 use Rattle.std.specs.List.{cons_option, filter, flat_map}
 use Rattle.isle_ast_names.specs.Tree.{Name}
 use Rattle.isle_ast_rules.specs.Tree.{RuleDefinition}
-use Rattle.isle_ast.specs.Tree.{Definition, type_def, rule, extractor, decl, attr, spec, spec_macro, model, state, form, instantiation, external, converter}
+use Rattle.isle_ast.specs.Tree.{Definition, rule}
 use Rattle.isle_scope_laws.proofs.Occurrences.{no_element}
 use Rattle.isle_scope_laws.proofs.Programs.{alone, here}
 use Rattle.isle_lint_core.specs.Finding.{Found, all_found, found}
@@ -19,6 +19,7 @@ use Rattle.isle_lint_core.specs.Unused.{rule_idle, unused_lets}
 use Rattle.isle_lint_laws.specs.Finds.{IsFinding, IsRepeated, IsSought, OfRule, name_found}
 use Rattle.isle_lint_laws.specs.Lets.{IsShadowing, IsUnusedLet}
 use Rattle.isle_lint_laws.specs.Patterns.{IsIdle}
+use Rattle.isle_lint_laws.proofs.Definitions.{rule_or_other}
 use Rattle.isle_lint_laws.proofs.Names.{filtered, kept, kept_is, passed}
 use Rattle.isle_lint_laws.proofs.Patterns.{idle_variables}
 use Rattle.isle_lint_laws.proofs.Rules.{shadowing_variables, unused_variables}
@@ -62,19 +63,11 @@ map_has f (z ∷ xs) x has =
 
 of_one : (f : RuleDefinition → List Name) (P : RuleDefinition → Type 0) (name : Name) → ((r : RuleDefinition) → Contains (f r) name → P r) →
     (d : Definition) → Contains (of_rule f d) name → (r : RuleDefinition) × (d ≡ rule r) × P r
-of_one f P name one (rule r) h = (r, refl, one r h)
-of_one f P name one (type_def t) h = absurd (no_element name h)
-of_one f P name one (extractor e) h = absurd (no_element name h)
-of_one f P name one (decl d) h = absurd (no_element name h)
-of_one f P name one (attr a) h = absurd (no_element name h)
-of_one f P name one (spec s) h = absurd (no_element name h)
-of_one f P name one (spec_macro m) h = absurd (no_element name h)
-of_one f P name one (model m) h = absurd (no_element name h)
-of_one f P name one (state s) h = absurd (no_element name h)
-of_one f P name one (form g) h = absurd (no_element name h)
-of_one f P name one (instantiation t) h = absurd (no_element name h)
-of_one f P name one (external e) h = absurd (no_element name h)
-of_one f P name one (converter c) h = absurd (no_element name h)
+of_one f P name one d h =
+    elim (rule_or_other d) [
+      | inl this ↦ (this.0, this.1, one this.0 (subst (λ e. Contains (of_rule f e) name) this.1 h))
+      | inr other ↦ absurd (no_element name (subst (λ ns. Contains ns name) (other.found f) h))
+    ]
 
 pub of_all : (f : RuleDefinition → List Name) (P : RuleDefinition → Type 0) (ds : List Definition) (name : Name) → ((r : RuleDefinition) → Contains (f r) name ↔ P r) →
     Contains (of_rules f ds) name ↔ OfRule ds P
@@ -89,19 +82,11 @@ of_all f P ds name both = (
 -- names of rules
 
 rule_named : (d : Definition) (n : Name) → rule_name d ≡ Some n → (r : RuleDefinition) × (d ≡ rule r) × (r.name ≡ Some n)
-rule_named (rule r) n e = (r, refl, e)
-rule_named (type_def t) n e = absurd (cc)
-rule_named (extractor x) n e = absurd (cc)
-rule_named (decl d) n e = absurd (cc)
-rule_named (attr a) n e = absurd (cc)
-rule_named (spec s) n e = absurd (cc)
-rule_named (spec_macro m) n e = absurd (cc)
-rule_named (model m) n e = absurd (cc)
-rule_named (state s) n e = absurd (cc)
-rule_named (form g) n e = absurd (cc)
-rule_named (instantiation t) n e = absurd (cc)
-rule_named (external x) n e = absurd (cc)
-rule_named (converter c) n e = absurd (cc)
+rule_named d n e =
+    elim (rule_or_other d) [
+      | inl this ↦ (this.0, this.1, ap rule_name (sym this.1) ∙ e)
+      | inr other ↦ let never : None ≡ Some n = sym other.unnamed ∙ e in absurd (cc)
+    ]
 
 -- one of these definitions is a rule with a name of this text
 abbrev HasNamed : List Definition → (text : List ℕ) → Type 0

@@ -1,3 +1,4 @@
+mod Definitions
 mod Names
 mod Uses
 mod Lets

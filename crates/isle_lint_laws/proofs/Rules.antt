@@ -5,7 +5,7 @@ use Rattle.std.proofs.lemmas.List.Elements.{Contains-append_cases, Contains-appe
 use Rattle.std.specs.List.{flat_map}
 use Rattle.isle_ast_names.specs.Tree.{Name}
 use Rattle.isle_ast_rules.specs.Tree.{PatternNode, var_pattern, bind_pattern, bool_pattern, int_pattern, constant_pattern, term_pattern, wildcard_pattern, and_pattern, macro_arg_pattern, PatternList, no_pattern, more_pattern, Expression, Condition, RuleDefinition}
-use Rattle.isle_scope_laws.specs.Reads.{Reads, ConditionsRead, in_condition, in_later_condition as in_a_later, RuleReads, in_conditions, in_right_side, meant, pattern_list_variables, pattern_variables, rule_variables}
+use Rattle.isle_scope_laws.specs.Reads.{Reads, ConditionsRead, in_condition, in_later_condition as in_a_later, RuleReads, in_conditions, in_right_side, pattern_list_variables, pattern_variables, rule_variables}
 use Rattle.isle_scope_laws.specs.Reads as scopes
 use Rattle.isle_scope_laws.proofs.Occurrences.{no_element}
 use Rattle.isle_lint_core.specs.Names.{has}

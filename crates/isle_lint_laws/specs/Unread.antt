@@ -5,7 +5,7 @@ use Rattle.isle_ast_rules.specs.Tree.{Expression}
 use Rattle.isle_ast.specs.Tree.{Definition}
 use Rattle.isle_resolve.specs.Events.{events}
 use Rattle.isle_index.specs.Renamed.{are_apart, places_of}
-use Rattle.isle_index.specs.Scopes.{seen}
+use Rattle.isle_resolve.specs.Scopes.{seen}
 use Rattle.isle_scope_laws.specs.Reads.{IsReadAs}
 use Rattle.isle_lint_core.specs.declared.patterns.Wanted.{Wanted}
 use Rattle.isle_lint_laws.specs.Finds.{OfRule}

@@ -25,7 +25,7 @@ pub fn reads_of_rules_are_those_of_expressions()
 {}
 
 /// A law, which runs no code: a variable is among the unused ones of `let`s exactly if a `let` in
-/// the rule binds it, and nothing behind its definition reads it.
+/// the rule binds it, and nothing after its definition reads it.
 pub fn unused_lets_are_never_read()
     ensures { (r : RuleDefinition) (name : Name)
         → Contains (unused_lets r) name ↔ IsUnusedLet r name }

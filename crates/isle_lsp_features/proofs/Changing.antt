@@ -3,7 +3,7 @@ use Rattle.std.proofs.Common.{◌≡◌, ◌≢◌, ℕ, ◌+◌, ◌<◌, List,
 use Rattle.std.specs.List.{flat_map}
 use Rattle.serde_json.specs.Data.{Members, no_members}
 use Rattle.isle_base_source.specs.declared.pos.Pos.{Pos}
-use Rattle.isle_index.specs.Names.{NameNode}
+use Rattle.isle_resolve.specs.Names.{NameNode}
 use Rattle.isle_lsp_protocol.specs.Items as lists
 use Rattle.isle_lsp_protocol.specs.declared.items.Item.{Item}
 use Rattle.isle_lsp_features.specs.Programs.{text_of}

@@ -1,38 +1,35 @@
 -- How deep the answers about names nest.
-use Rattle.std.proofs.Common.{◌≡◌, ℕ, ◌≤◌, ◌+◌, ◌-◌, min, length, ◌&&◌, ◌||◌, ◌==◌, not, ◌⊎◌, inl, inr, List, [], ◌∷◌, ◌++◌, Bool, true, false, Option, None, Some, Result, Ok, Err, if◌then◌else◌, flat_map, map, refl, subst, sym, arith}
+use Rattle.std.proofs.Common.{ℕ, ◌≤◌, ◌+◌, ◌-◌, min, length, inl, inr, List, [], ◌∷◌, Bool, true, false, Option, None, Some, Result, Ok, Err, if◌then◌else◌, flat_map, map, arith}
 use Rattle.std.specs.Global.{Vec}
-use Rattle.serde_json.specs.Data.{Data, Members, array, depth, members_depth, no_members, object}
+use Rattle.serde_json.specs.Data.{Data, Members, array, depth, members_depth, no_members}
 use Rattle.serde_json.specs.View.{items_of}
 use Rattle.isle_base_source.specs.declared.pos.Pos.{Pos}
-use Rattle.isle_index.specs.Candidates.{CandidateNode, candidate_of}
-use Rattle.isle_index.specs.Names.{NameNode}
+use Rattle.isle_index.specs.Candidates.{candidate_of}
+use Rattle.isle_resolve.specs.Names.{NameNode}
 use Rattle.isle_index.specs.Occurrences.{name_at, occurrence_at}
-use Rattle.isle_index.specs.Scopes.{SeenNode}
+use Rattle.isle_resolve.specs.Scopes.{SeenNode}
 use Rattle.isle_index.specs.Symbols.{SymbolNode, symbols}
 use Rattle.isle_index.specs.declared.occurrences.Occurrence.{Occurrence}
 use Rattle.isle_index.specs.declared.rename.Refusal.{Refusal}
+use Rattle.isle_lsp_text.specs.Ranges.{range_at}
+use Rattle.isle_lsp_text.specs.Wholes.{whole_of}
 use Rattle.isle_lsp_text.specs.declared.lists.ListSpan.{ListSpan}
 use Rattle.isle_lsp_text.specs.declared.positions.Range.{Range}
-use Rattle.isle_lsp_protocol.proofs.Depths.{AreShallow, IsAtMost, IsWithin, append_shallow, completion_depth, document_edits_depth, documented_depth, edits_depth, flat_map_shallow, hover_depth, item_at_most, items_shallow, location_depth, map_shallow, put_depth, range_depth, ranged_depth, symbol_depth, workspace_symbol_depth}
+use Rattle.isle_lsp_protocol.proofs.Depths.{AreShallow, IsAtMost, IsWithin, append_shallow, at_most, completion_depth, document_edits_depth, documented_depth, edits_depth, flat_map_shallow, hover_depth, item_at_most, items_shallow, location_depth, map_shallow, put_depth, range_depth, ranged_depth, symbol_depth, within, workspace_symbol_depth}
 use Rattle.isle_lsp_protocol.specs.declared.machine.Request as requests
 use Rattle.isle_lsp_protocol.specs.declared.machine.Request.TheVariants.{Definition as AskDefinition, References, DocumentHighlight, DocumentSymbol, WorkspaceSymbol, Hover, Completion, ResolveCompletion, PrepareRename, Rename, Initialize, Shutdown, Formatting, Unknown}
 use Rattle.isle_lsp_protocol.specs.Items.{edits_data}
 use Rattle.isle_lsp_protocol.specs.Parameters.{item_of, new_name_of, query_of, wants_definitions}
 use Rattle.isle_lsp_protocol.specs.Replies.{Outcome, done, failed}
-use Rattle.isle_lsp_protocol.specs.Results as results
-use Rattle.isle_lsp_features.specs.Answers.{AreSymbols, FindsAt, IsAnswer, IsAnswerAt, IsAnswerOf, IsFoundAt, IsRenaming, IsRenamingAt, IsRenamingBy, IsRenamingOf, IsResolution, refused}
+use Rattle.isle_lsp_features.specs.Answers.{AreSymbols, FindsAt, IsAnswer, IsAnswerOf, IsFoundAt, IsRenamingAt, IsRenamingBy, IsRenamingOf, IsResolution, refused}
 use Rattle.isle_lsp_features.specs.Completed as completed
 use Rattle.isle_lsp_features.specs.Completed.{AreCompletions, item_name, once, range_before}
 use Rattle.isle_lsp_features.specs.Defined.{AreDocumentSymbols, is_variant, letters_of, number_of, range_of, symbol_data, symbol_in, symbols_from, workspace_symbols}
 use Rattle.isle_lsp_features.specs.Located.{AreHighlights, AreReferences, IsDefinition, highlight_of, location_in, locations_from}
-use Rattle.isle_lsp_features.specs.Places.{File, Place, file_in, place_in, range_at}
+use Rattle.isle_lsp_features.specs.Places.{File, Place, file_in, place_in}
 use Rattle.isle_lsp_features.specs.Programs.{Question, Text}
 use Rattle.isle_lsp_features.specs.Renamed as renamed
 use Rattle.isle_lsp_features.specs.Shown.{IsHover, IsResolved, hover_data, resolved_data}
-use Rattle.isle_lsp_features.specs.Wholes.{whole_of}
-
-at_most : (n : ℕ) (d e : Data) → d ≡ e → depth e ≤ n → depth d ≤ n
-at_most n d e same h = subst (λ x. depth x ≤ n) (sym same) h
 
 array_depth : (n : ℕ) (ds : List Data) → AreShallow n ds → depth (array (items_of ds)) ≤ n + 1
 array_depth n ds s = omega (arith, items_shallow n ds s)
@@ -152,9 +149,6 @@ changes_depth false program name new places = omega (arith, put_changes_depth 0 
 either_within : (n : ℕ) (b : Bool) (x y : Outcome) → IsWithin n x → IsWithin n y → IsWithin n (if b then x else y)
 either_within n true x y h k = h
 either_within n false x y h k = k
-
-within : (n : ℕ) (a o : Outcome) → a ≡ o → IsWithin n o → IsWithin n a
-within n a o same h = subst (IsWithin n) (sym same) h
 
 renaming_within : (takes : Bool) (program : List Text) (name : NameNode) (new : List ℕ) (answer : Result (Vec Pos) Refusal) (a : Outcome) → IsRenamingBy takes program name new answer a → IsWithin 9 a
 renaming_within takes program name new (Ok places) a h =

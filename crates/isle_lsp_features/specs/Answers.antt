@@ -4,11 +4,11 @@ use Rattle.std.specs.Global.{Vec}
 use Rattle.serde_json.specs.Data.{Data, null}
 use Rattle.isle_lsp_features.specs.Programs.{Question, Text}
 use Rattle.isle_base_source.specs.declared.pos.Pos.{Pos}
-use Rattle.isle_index.specs.Names.{NameNode}
+use Rattle.isle_resolve.specs.Names.{NameNode}
 use Rattle.isle_index.specs.Occurrences.{name_at, occurrence_at}
 use Rattle.isle_index.specs.Renaming as renaming
 use Rattle.isle_index.specs.declared.rename.Refusal.{Refusal}
-use Rattle.isle_index.specs.Scopes.{SeenNode, seen}
+use Rattle.isle_resolve.specs.Scopes.{SeenNode, seen}
 use Rattle.isle_index.specs.Symbols.{symbols}
 use Rattle.isle_resolve.specs.Events.{events}
 use Rattle.isle_lsp_protocol.specs.declared.machine.Request as requests
@@ -64,7 +64,7 @@ FindsAt Completion program all p message d = AreCompletions p.pos p.text all d
 FindsAt _ program all p message d = Unit {0}
 
 -- The outcome of renaming, from the index's answer. A text that other programs share is not edited: they would miss the new name. Nor is a name
--- edited that stands right behind a number: the new one could become a part of it.
+-- edited that directly follows a number: the new one could become a part of it.
 abbrev pub IsRenamingBy : (takes : Bool) → List Text → NameNode → List ℕ → Result (Vec Pos) Refusal → Outcome → Type 0
 IsRenamingBy takes program name new (Ok places) a =
     a ≡ (if renamed.are_shared program places.items then refused renamed.shared_reason

@@ -8,17 +8,17 @@ use Rattle.serde_json.specs.Data.{Data, array}
 use Rattle.serde_json.specs.View.{items_of}
 use Rattle.isle_base_source.specs.declared.pos.Pos.{Pos}
 use Rattle.isle_index.specs.Candidates.{CandidateNode, candidate_of, candidates}
-use Rattle.isle_index.specs.Names.{NameNode, global}
-use Rattle.isle_index.specs.Scopes.{SeenNode}
+use Rattle.isle_resolve.specs.Names.{NameNode, global}
+use Rattle.isle_resolve.specs.Scopes.{SeenNode}
 use Rattle.isle_index.specs.declared.candidates.Candidate.{Candidate}
 use Rattle.isle_index.specs.declared.symbols.SymbolKind.{SymbolKind}
 use Rattle.isle_index.specs.declared.symbols.SymbolKind.TheVariants as symbol_kinds
 use Rattle.isle_resolve.specs.declared.event.Kind.TheVariants as kinds
 use Rattle.isle_lsp_protocol.specs.Parameters.{kind_of, label_of}
 use Rattle.isle_lsp_protocol.specs.Results.{completion_item}
-use Rattle.isle_lsp_features.specs.Places.{range_between}
 use Rattle.isle_lsp_text.specs.Lists.{AreLists, outer_list}
 use Rattle.isle_lsp_text.specs.Names.{name_before}
+use Rattle.isle_lsp_text.specs.Ranges.{range_between}
 use Rattle.isle_lsp_text.specs.declared.lists.ListSpan.{ListSpan}
 use Rattle.isle_lsp_text.specs.declared.positions.Range.{Range}
 

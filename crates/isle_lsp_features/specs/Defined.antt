@@ -5,17 +5,17 @@ use Rattle.std.specs.List.{flat_map}
 use Rattle.serde_json.specs.Data.{Data, array}
 use Rattle.serde_json.specs.View.{items_of}
 use Rattle.isle_lsp_features.specs.Programs.{Text}
-use Rattle.isle_index.specs.Scopes.{SeenNode}
+use Rattle.isle_resolve.specs.Scopes.{SeenNode}
 use Rattle.isle_index.specs.Symbols.{SymbolNode, symbols}
 use Rattle.isle_index.specs.declared.symbols.SymbolKind.{SymbolKind}
 use Rattle.isle_index.specs.declared.symbols.SymbolKind.TheVariants as kinds
 use Rattle.isle_lsp_protocol.specs.Results as results
-use Rattle.isle_lsp_features.specs.Places.{range_at, range_between}
-use Rattle.isle_lsp_features.specs.Wholes.{whole_of}
 use Rattle.isle_lsp_text.specs.Lists.{AreLists}
+use Rattle.isle_lsp_text.specs.Ranges.{range_at, range_between}
+use Rattle.isle_lsp_text.specs.Wholes.{whole_of}
 use Rattle.isle_lsp_text.specs.declared.lists.ListSpan.{ListSpan}
-use Rattle.isle_lsp_features.specs.declared.wholes.Part.{Part}
 use Rattle.isle_lsp_text.specs.declared.positions.Range.{Range}
+use Rattle.isle_lsp_text.specs.declared.wholes.Part.{Part}
 
 -- the protocol's number of a kind
 abbrev pub number_of : SymbolKind → ℕ

@@ -7,4 +7,3 @@ pub mod Places
 pub mod Programs
 pub mod Renamed
 pub mod Shown
-pub mod Wholes

@@ -6,12 +6,12 @@ use Rattle.serde_json.specs.Data.{Data, null, array}
 use Rattle.serde_json.specs.View.{items_of}
 use Rattle.isle_base_source.specs.PositionOrder.{position_cmp}
 use Rattle.isle_lsp_features.specs.Programs.{Text}
-use Rattle.isle_index.specs.Names.{NameNode}
+use Rattle.isle_resolve.specs.Names.{NameNode}
 use Rattle.isle_index.specs.Occurrences.{definitions, occurrences}
-use Rattle.isle_index.specs.Scopes.{SeenNode}
+use Rattle.isle_resolve.specs.Scopes.{SeenNode}
 use Rattle.isle_index.specs.declared.occurrences.Occurrence.{Occurrence}
 use Rattle.isle_lsp_protocol.specs.Results as results
-use Rattle.isle_lsp_features.specs.Places.{range_at}
+use Rattle.isle_lsp_text.specs.Ranges.{range_at}
 
 -- these occurrences, each once, in order of position
 pub record InOrder (all found : List Occurrence) : Type 0 where

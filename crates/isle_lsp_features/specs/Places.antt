@@ -1,13 +1,12 @@
 -- Places in the texts of a program.
-use Rattle.std.specs.Prelude.{ℕ, ◌+◌, ◌-◌, List, [], ◌∷◌, Option, None, Some, length, min, bytes_eq, if◌then◌else◌}
+use Rattle.std.specs.Prelude.{ℕ, ◌+◌, ◌-◌, List, [], ◌∷◌, Option, None, Some, bytes_eq, if◌then◌else◌}
 use Rattle.isle_lsp_features.specs.Programs.{Question, Text}
 use Rattle.isle_base_source.specs.declared.pos.Pos.{Pos}
 use Rattle.isle_lsp_protocol.specs.Parameters.{position_of}
 use Rattle.isle_lsp_features.specs.declared.places.File.{File as CodeFile}
 use Rattle.isle_lsp_features.specs.declared.places.Place.{Place as CodePlace}
-use Rattle.isle_lsp_text.specs.Positions.{offset_at, position_at}
+use Rattle.isle_lsp_text.specs.Positions.{offset_at}
 use Rattle.isle_lsp_text.specs.declared.positions.Position.{Position}
-use Rattle.isle_lsp_text.specs.declared.positions.Range.{Range}
 
 -- a text of a program, by its number
 pub record File : Type 0 where
@@ -45,13 +44,3 @@ position_in (Some f) (Some p) = Some record { pos = record { file = f.number; of
 -- the place that a request is about
 abbrev pub place_in : Question → List Text → Option Place
 place_in q program = position_in (file_in q program) (position_of q.message)
-
--- the range of `len` bytes from an offset on, cut at the end of the text
-abbrev pub range_at : List ℕ → (offset len : ℕ) → Range
-range_at text offset len =
-    let start : ℕ = min offset (length text) in
-    record { start = position_at start text; end = position_at (start + min len (length text - start)) text }
-
--- the range from one offset to another, cut at the end of the text
-abbrev pub range_between : List ℕ → (from to : ℕ) → Range
-range_between text from to = record { start = position_at from text; end = position_at to text }

@@ -1,22 +1,21 @@
 -- The edits that rename a name, as JSON.
 use Rattle.std.specs.Prelude.{ℕ, ◌+◌, ◌-◌, List, [], ◌∷◌, ◌++◌, ◌==◌, ◌||◌, Bool, true, false, Option, None, Some, codes, length, min, slice_get, if◌then◌else◌}
-use Rattle.std.specs.Char.{is_ascii_alphanumeric}
 use Rattle.std.specs.List.{flat_map}
 use Rattle.serde_json.specs.Data.{Data, Members, null, array, no_members, put}
 use Rattle.serde_json.specs.View.{items_of}
 use Rattle.isle_lsp_features.specs.Programs.{Text}
 use Rattle.isle_base_source.specs.declared.pos.Pos.{Pos}
-use Rattle.isle_base.specs.Bytes.{underscore}
-use Rattle.isle_index.specs.Names.{NameNode, global, variable, name_text}
+use Rattle.isle_resolve.specs.Names.{NameNode, global, variable, name_text}
 use Rattle.isle_index.specs.Renaming.{can_be_renamed}
-use Rattle.isle_index.specs.Scopes.{SeenNode}
+use Rattle.isle_resolve.specs.Scopes.{SeenNode}
 use Rattle.isle_index.specs.declared.occurrences.Occurrence.{Occurrence}
 use Rattle.isle_index.specs.declared.rename.Refusal.{Refusal}
 use Rattle.isle_index.specs.declared.rename.Refusal.TheVariants.{NotAName, Undefined, Variant, Taken, Captured}
 use Rattle.isle_resolve.specs.declared.event.Kind.TheVariants as kinds
 use Rattle.isle_lsp_protocol.specs.Items.{edits_data}
 use Rattle.isle_lsp_protocol.specs.Results.{document_edits, plain_edit, range_data, workspace_edit}
-use Rattle.isle_lsp_features.specs.Places.{range_at}
+use Rattle.isle_lsp_text.specs.Numbers.{is_behind_number}
+use Rattle.isle_lsp_text.specs.Ranges.{range_at}
 use Rattle.isle_lsp_text.specs.declared.positions.Range.{Range}
 
 -- the number of bytes in front of the text of a name where it occurs: the `$` of a constant
@@ -41,19 +40,7 @@ are_shared program (p ∷ ps) = is_shared_at program p || are_shared program ps
 abbrev pub shared_reason : List ℕ
 shared_reason = codes "the name is used in a file that other programs share: rename it there"
 
--- a byte with which a number can end: a letter, a digit or `_`
-abbrev pub ends_number : (byte : ℕ) → Bool
-ends_number byte = is_ascii_alphanumeric byte || byte == underscore
-
-abbrev pub ends_number_at : Option ℕ → Bool
-ends_number_at None = false
-ends_number_at (Some byte) = ends_number byte
-
--- whether such a byte stands right before an offset
-abbrev pub is_behind_number : List ℕ → (offset : ℕ) → Bool
-is_behind_number text offset = if offset == 0 then false else ends_number_at (slice_get text (offset - 1))
-
--- whether the text of a name that is at an offset does so
+-- whether the text of a name that is at an offset directly follows a number
 abbrev pub is_glued_in : List ℕ → NameNode → (offset : ℕ) → Bool
 is_glued_in text name offset = is_behind_number text (min offset (length text) + prefix_len name)
 
@@ -61,7 +48,7 @@ abbrev pub is_glued_text : Option Text → NameNode → (offset : ℕ) → Bool
 is_glued_text None name offset = false
 is_glued_text (Some s) name offset = is_glued_in s.text name offset
 
--- whether the text of a name stands right behind a number at a position
+-- whether the text of a name directly follows a number at a position
 abbrev pub is_glued_at : List Text → NameNode → Pos → Bool
 is_glued_at program name p = is_glued_text (slice_get program p.file) name p.offset
 
@@ -71,7 +58,7 @@ are_glued program name [] = false
 are_glued program name (p ∷ ps) = is_glued_at program name p || are_glued program name ps
 
 abbrev pub glued_reason : List ℕ
-glued_reason = codes "the name stands right behind a number in a text: put a space between them"
+glued_reason = codes "a use of the name directly follows a number: put a space between them"
 
 -- the message of a refusal
 abbrev pub reason_of : Refusal → List ℕ

@@ -2,18 +2,18 @@
 use Rattle.std.specs.Prelude.{◌≡◌, ℕ, ◌≤◌, List, ◌++◌, Option, None, Some, codes, length, nat_lt, slice_get, slice_range, IsCharBoundary}
 use Rattle.serde_json.specs.Data.{Data, null}
 use Rattle.isle_lsp_features.specs.Programs.{Text}
-use Rattle.isle_index.specs.Names.{NameNode, name_text}
+use Rattle.isle_resolve.specs.Names.{NameNode, name_text}
 use Rattle.isle_index.specs.Occurrences.{definitions}
-use Rattle.isle_index.specs.Scopes.{SeenNode}
+use Rattle.isle_resolve.specs.Scopes.{SeenNode}
 use Rattle.isle_index.specs.declared.occurrences.Occurrence.{Occurrence}
 use Rattle.isle_lsp_protocol.specs.Results as results
 use Rattle.isle_lsp_features.specs.Located.{InOrder}
-use Rattle.isle_lsp_features.specs.Places.{range_at}
-use Rattle.isle_lsp_features.specs.Wholes.{whole_of}
-use Rattle.isle_lsp_features.specs.declared.wholes.Part.{Part}
 use Rattle.isle_lsp_text.specs.Comments.{IsCommentsStart}
 use Rattle.isle_lsp_text.specs.Lists.{AreLists}
+use Rattle.isle_lsp_text.specs.Ranges.{range_at}
+use Rattle.isle_lsp_text.specs.Wholes.{whole_of}
 use Rattle.isle_lsp_text.specs.declared.lists.ListSpan.{ListSpan}
+use Rattle.isle_lsp_text.specs.declared.wholes.Part.{Part}
 
 -- the text from one offset to another, unless that splits a character
 abbrev pub IsCut : List ℕ → (from to : ℕ) → List ℕ → Type 0

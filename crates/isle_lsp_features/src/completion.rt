@@ -4,13 +4,13 @@ ghost use Rattle.std.specs.Prelude.{◌≡◌, IfOk, Some, map, option_map, stri
 ghost use Rattle.std.specs.List.Sorted.{IsPermutation, IsSortedByKey};
 ghost use Rattle.isle_index.specs.Candidates.{candidate_of, candidates};
 ghost use Rattle.isle_index.specs.Held.{all_in};
-ghost use Rattle.isle_index.specs.Names.{global, named_of};
+ghost use Rattle.isle_resolve.specs.Names.{global, named_of};
 ghost use Rattle.serde_json.specs.View.{view};
 ghost use Rattle.isle_lsp_protocol.specs.Items.{item_data, items_data};
 ghost use Rattle.isle_lsp_features.specs.Completed as wanted;
 ghost use Rattle.isle_lsp_features.specs.Completed.{AreCompletions};
 
-use crate::places::{Place, range_between};
+use crate::places::Place;
 use isle_base::lexer::Pos;
 use isle_index::{Candidate, Index, Kind, Name, SymbolKind};
 use isle_lsp_protocol::items::Item;
@@ -18,6 +18,7 @@ use isle_lsp_protocol::parameters::{kind_of, label_of};
 use isle_lsp_text::lists::{ListSpan, lists, outer_list};
 use isle_lsp_text::names::name_before;
 use isle_lsp_text::positions::{Range, START};
+use isle_lsp_text::ranges::range_between;
 use serde_json::Value;
 use std::alloc::{AllocError, Global};
 
@@ -159,7 +160,6 @@ fn constant(alloc: Global, label: &str) -> Result<Option<Name>, AllocError>
     }
 }
 
-/// A global name.
 fn global(alloc: Global, kind: Kind, text: &str) -> Result<Option<Name>, AllocError>
     ensures { IfOk result (λ name. option_map named_of name ≡ Some (global kind text.now)) }
 {

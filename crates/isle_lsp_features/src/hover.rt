@@ -3,7 +3,7 @@
 ghost use Rattle.std.specs.Prelude.{◌≡◌, IfOk, Some, map, option_map, slice_get, string_bytes};
 ghost use Rattle.serde_json.specs.View.{view};
 ghost use Rattle.isle_lsp_features.specs.Programs.{text_of};
-ghost use Rattle.isle_index.specs.Names.{named_of};
+ghost use Rattle.isle_resolve.specs.Names.{named_of};
 ghost use Rattle.isle_index.specs.Occurrences.{name_at, occurrence_at};
 ghost use Rattle.isle_index.specs.Held.{all_in};
 ghost use Rattle.isle_lsp_features.specs.Completed.{item_name};
@@ -13,12 +13,13 @@ ghost use Rattle.isle_lsp_features.specs.Shown.{IsShownOf};
 
 use crate::Text;
 use crate::completion::item_name;
-use crate::places::{Place, range_at};
-use crate::wholes::whole_of;
+use crate::places::Place;
 use isle_index::{Index, Name, Occurrence};
 use isle_lsp_protocol::results::{hover_value, with_documentation};
 use isle_lsp_text::comments::comments_start;
 use isle_lsp_text::lists::lists;
+use isle_lsp_text::ranges::range_at;
+use isle_lsp_text::wholes::whole_of;
 use serde_json::Value;
 use std::alloc::{AllocError, Global};
 

@@ -22,7 +22,6 @@ mod locations;
 pub mod places;
 mod renaming;
 mod symbols;
-mod wholes;
 
 pub use gathered::Gathered;
 use isle_cli::failure::Failure;

@@ -12,10 +12,11 @@ ghost use Rattle.isle_lsp_text.specs.Positions.{IsPlace};
 ghost use Rattle.isle_lsp_features.specs.Located.{AreHighlights, AreReferences, IsDefinition};
 
 use crate::Text;
-use crate::places::{Place, range_near};
+use crate::places::Place;
 use isle_index::{Index, Occurrence};
 use isle_lsp_protocol::items::Item;
 use isle_lsp_text::positions::{Place as TextPlace, START};
+use isle_lsp_text::ranges::range_near;
 use std::alloc::{AllocError, Global};
 
 /// The definitions of the name at a place, or `None` if there is no name.

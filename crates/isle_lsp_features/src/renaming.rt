@@ -6,7 +6,7 @@ ghost use Rattle.serde_json.specs.Data.{Members};
 ghost use Rattle.serde_json.specs.View.{view};
 ghost use Rattle.std.specs.List.{flat_map};
 ghost use Rattle.isle_lsp_features.specs.Programs.{text_of};
-ghost use Rattle.isle_index.specs.Names.{named_of};
+ghost use Rattle.isle_resolve.specs.Names.{named_of};
 ghost use Rattle.isle_index.specs.Occurrences.{name_at, occurrence_at};
 ghost use Rattle.isle_index.specs.Held.{all_in};
 ghost use Rattle.isle_lsp_features.specs.Answers.{IsRenaming, IsRenamingOf};
@@ -19,7 +19,7 @@ ghost use Rattle.isle_lsp_protocol.specs.Results.{workspace_edit};
 ghost use Rattle.isle_lsp_text.specs.Positions.{IsPlace};
 
 use crate::hover::source_at;
-use crate::places::{Place, range_at, range_near};
+use crate::places::Place;
 use crate::{Question, Text};
 use isle_base::lexer::Pos;
 use isle_index::{Index, Kind, Name, Occurrence, Refusal};
@@ -28,15 +28,17 @@ use isle_lsp_protocol::machine::ErrorCode;
 use isle_lsp_protocol::parameters::new_name_of;
 use isle_lsp_protocol::replies::{Outcome, error_outcome};
 use isle_lsp_protocol::results::range_value;
+use isle_lsp_text::numbers::is_behind_number;
 use isle_lsp_text::positions::{Place as TextPlace, Range, START};
+use isle_lsp_text::ranges::{range_at, range_near};
 use serde_json::Value;
 use std::alloc::{AllocError, Global};
 
-/// The message where a rename would edit a text that other programs share.
+/// The message if a rename would edit a text that other programs share.
 const SHARED: &str = "the name is used in a file that other programs share: rename it there";
 
-/// The message where a rename would edit a name that stands right behind a number.
-const GLUED: &str = "the name stands right behind a number in a text: put a space between them";
+/// The message if a rename would edit a name that directly follows a number.
+const GLUED: &str = "a use of the name directly follows a number: put a space between them";
 
 /// The range of the name at a place, or null if there is none that can be renamed.
 pub fn prepare(alloc: Global, index: &Index, place: Place) -> Result<Value, AllocError>
@@ -177,7 +179,7 @@ fn is_shared_at(program: &[Text], pos: Pos) -> bool
     }
 }
 
-/// Returns whether the text of a name stands right behind a number at one of the positions.
+/// Returns whether the text of a name directly follows a number at one of the positions.
 fn are_glued(program: &[Text], name: &Name, places: &[Pos]) -> bool
     ensures { result
         ≡ wanted.are_glued (map text_of program.now) (named_of name.now) places.now }
@@ -190,14 +192,14 @@ fn are_glued(program: &[Text], name: &Name, places: &[Pos]) -> bool
     false
 }
 
-/// Returns whether the text of a name stands right behind a number at a position.
+/// Returns whether the text of a name directly follows a number at a position.
 fn is_glued_at(program: &[Text], name: &Name, pos: Pos) -> bool
     ensures { result ≡ wanted.is_glued_at (map text_of program.now) (named_of name.now) pos }
 {
     is_glued_text(source_at(program, pos.file), name, pos.offset)
 }
 
-/// Returns whether the text of a name that is at an offset of a text stands right behind a number.
+/// Returns whether the text of a name that is at an offset of a text directly follows a number.
 fn is_glued_text(source: Option<&Text>, name: &Name, offset: usize) -> bool
     ensures { result ≡ wanted.is_glued_text (option_map (λ s. text_of s.now) source.entry)
         (named_of name.now) offset }
@@ -208,31 +210,11 @@ fn is_glued_text(source: Option<&Text>, name: &Name, offset: usize) -> bool
     }
 }
 
-/// Returns whether the text of a name that is at an offset stands right behind a number.
+/// Returns whether the text of a name that is at an offset directly follows a number.
 fn is_glued_in(text: &str, name: &Name, offset: usize) -> bool
     ensures { result ≡ wanted.is_glued_in text.now (named_of name.now) offset }
 {
     is_behind_number(text, offset.min(text.len()) + prefix_len(name))
-}
-
-/// Returns whether a byte with which a number can end stands right before an offset.
-fn is_behind_number(text: &str, offset: usize) -> bool
-    ensures { result ≡ wanted.is_behind_number text.now offset }
-{
-    if offset == 0 {
-        return false;
-    }
-    match text.as_bytes().get(offset - 1) {
-        Some(byte) => ends_number(*byte),
-        None => false,
-    }
-}
-
-/// Returns whether a number can end with a byte.
-fn ends_number(byte: u8) -> bool
-    ensures { result ≡ wanted.ends_number byte }
-{
-    byte.is_ascii_alphanumeric() || byte == b'_'
 }
 
 /// Changes as the client takes them.

@@ -13,12 +13,13 @@ ghost use Rattle.isle_lsp_features.specs.Defined.{AreDocumentSymbols};
 ghost use Rattle.isle_lsp_text.specs.Positions.{IsPlace};
 
 use crate::Text;
-use crate::places::{File, range_between, range_near};
-use crate::wholes::whole_of;
+use crate::places::File;
 use isle_index::{Index, Symbol, SymbolKind};
 use isle_lsp_protocol::items::Item;
 use isle_lsp_text::lists::{ListSpan, lists};
 use isle_lsp_text::positions::{Place as TextPlace, START};
+use isle_lsp_text::ranges::{range_between, range_near};
+use isle_lsp_text::wholes::whole_of;
 use std::alloc::{AllocError, Global};
 
 /// The definitions in a text of a program, in order.

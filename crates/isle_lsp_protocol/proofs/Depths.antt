@@ -1,6 +1,6 @@
 -- How deep the data nests that the server sends.
-use Rattle.std.proofs.Common.{◌≡◌, ℕ, ℤ, ◌≤◌, ◌+◌, ◌-◌, subst, Bool, true, false, List, [], ◌∷◌, ◌++◌, codes, flat_map, Option, None, Some, map, arith, Ordering, Less, Equal, Greater}
-use Rattle.serde_json.specs.Data.{Data, null, boolean, number, unsigned, string, array, object, Items, no_items, item, Members, no_members, member, put, depth, items_depth, members_depth}
+use Rattle.std.proofs.Common.{◌≡◌, ℕ, ℤ, ◌≤◌, ◌+◌, ◌-◌, subst, sym, Bool, List, [], ◌∷◌, ◌++◌, codes, flat_map, Option, None, Some, map, arith, Ordering, Less, Equal, Greater}
+use Rattle.serde_json.specs.Data.{Data, null, boolean, number, string, array, object, Members, no_members, member, put, depth, items_depth, members_depth}
 use Rattle.serde_json.specs.View.{items_of}
 use Rattle.serde_json.specs.Find.{get, get_member}
 use Rattle.isle_lsp_text.specs.declared.positions.Position.{Position}
@@ -8,8 +8,12 @@ use Rattle.isle_lsp_text.specs.declared.positions.Range.{Range}
 use Rattle.isle_lsp_protocol.specs.Capabilities.{initialize_result}
 use Rattle.isle_lsp_protocol.specs.Items.{edits_data}
 use Rattle.isle_lsp_protocol.specs.Parameters.{if_object, item_of}
-use Rattle.isle_lsp_protocol.specs.Replies.{Outcome, done, error_response, failed, publishing, reply, reply_id, response, usable_id}
-use Rattle.isle_lsp_protocol.specs.Results.{checked_data, completion_item, document_edits, document_symbol, error_data, hover, location, markdown, plain_edit, position_data, range_data, ranged, text_edit, version_data, warning_data, with_documentation, workspace_edit, workspace_symbol}
+use Rattle.isle_lsp_protocol.specs.Replies.{Outcome, done, failed, publishing, reply, reply_id, usable_id}
+use Rattle.isle_lsp_protocol.specs.Results.{checked_data, completion_item, document_edits, document_symbol, error_data, hover, location, markdown, position_data, range_data, ranged, text_edit, version_data, warning_data, with_documentation, workspace_symbol}
+
+-- data that is equal to other data is no deeper
+pub at_most : (n : ℕ) (d e : Data) → d ≡ e → depth e ≤ n → depth d ≤ n
+at_most n d e same h = subst (λ x. depth x ≤ n) (sym same) h
 
 pub position_depth : (p : Position) → depth (position_data p) ≤ 2
 position_depth p = omega arith
@@ -163,6 +167,9 @@ reply_id_depth (Some d) = usable_depth (get (codes "id") d)
 abbrev pub IsWithin : ℕ → Outcome → Type 0
 IsWithin n (done d) = depth d ≤ n
 IsWithin n (failed c reason) = Unit {0}
+
+pub within : (n : ℕ) (o p : Outcome) → o ≡ p → IsWithin n p → IsWithin n o
+within n o p same h = subst (IsWithin n) (sym same) h
 
 -- a reply that fails is no deeper than this, nor one with a result that leaves room for the reply around it
 pub reply_depth : (d : Option Data) (o : Outcome) (n : ℕ) → 2 ≤ n → IsWithin n o → depth (reply (reply_id d) o) ≤ n + 1

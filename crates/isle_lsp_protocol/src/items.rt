@@ -102,7 +102,7 @@ pub fn put_list(out: &mut Writer, items: &[Item], are_changes: bool) -> Result<(
     }
 }
 
-/// The changes to the documents of the items, without versions. Of two items with one URI the last
+/// The changes to the documents of the items, without versions. If two items have one URI, the last
 /// counts.
 pub fn plain_changes(alloc: Global, items: &[Item]) -> Result<Value, AllocError>
     ensures { IfOk result (λ value. view value ≡ lists.plain_changes items.now) }

@@ -51,7 +51,7 @@ pub fn put_error(out: &mut Writer, range: Range, message: &str) -> Result<(), Al
     out.end_object()
 }
 
-/// Writes the diagnostic of what the check of a program tells. Its code is the name of its kind.
+/// Writes a diagnostic of the check of a program. Its code is the name of its kind.
 #[tactic(auto, using(crate::proofs::Tokens::appended))]
 pub fn put_checked(
     out: &mut Writer,

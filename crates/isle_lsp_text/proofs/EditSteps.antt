@@ -159,35 +159,36 @@ pushed old new es e h w =
     ]
 
 trimmed : (old new : List ℕ) (es : List Edit) (e cut : Edit) → IsInHand old new es e → IsCut old new e cut → IsTrimmed old new cut
-trimmed old new es e cut h c = record {
+trimmed old new es e cut h c = let s = c.shorter in record {
   front = λ end to a b k d l m.
-      let n : first_line (drop cut.start old) ≢ first_line (drop cut.from new) = rw (c.start, c.from) (h.first (inl (omega (arith, c.start, c.old_order.1)))) in
+      let n : first_line (drop cut.start old) ≢ first_line (drop cut.from new) = rw (s.start, s.from) (h.first (inl (omega (arith, s.start, s.old_order.1)))) in
       front_differs old new cut.start end cut.from to n a k l m;
   back = c.back;
 }
 
 hand_cut : (old new : List ℕ) (es : List Edit) (e cut : Edit) → IsInHand old new es e → IsCut old new e cut → IsInHand old new es cut
-hand_cut old new es e cut h c = record {
-  turns = rw (c.start, c.from) h.turns;
+hand_cut old new es e cut h c = let s = c.shorter in record {
+  turns = rw (s.start, s.from) h.turns;
   edits = h.edits;
-  after_all = rw c.start h.after_all;
-  old_order = c.old_order.0;
-  new_order = c.new_order.0;
-  start = rw c.start h.start;
-  end = c.end;
-  from = rw c.from h.from;
-  to = c.to;
-  first = λ o. rw (c.start, c.from) (h.first (elim o [ inl l ↦ inl (omega (arith, c.start, c.old_order.1)) | inr l ↦ inr (omega (arith, c.from, c.new_order.1)) ]));
+  after_all = rw s.start h.after_all;
+  old_order = s.old_order.0;
+  new_order = s.new_order.0;
+  start = rw s.start h.start;
+  end = s.end;
+  from = rw s.from h.from;
+  to = s.to;
+  first = λ o. rw (s.start, s.from) (h.first (elim o [ inl l ↦ inl (omega (arith, s.start, s.old_order.1)) | inr l ↦ inr (omega (arith, s.from, s.new_order.1)) ]));
 }
 
 -- the edit in hand counts, without the lines at its end that are the same
 pub pushed_cut : (old new : List ℕ) (es : List Edit) (e cut : Edit) → IsInHand old new es e → IsCut old new e cut → Pushed old new es (changed_only cut) e
 pushed_cut old new es e cut h c =
+    let s = c.shorter in
     let p = pushed old new es cut (hand_cut old new es e cut h c) (trimmed old new es e cut h c) in
     record {
-      turns = turns_kept old new (es ++ changed_only cut) cut.end cut.to e.end e.to p.turns c.old_order.1 h.end.0 c.new_order.1 h.to.0 c.same;
+      turns = turns_kept old new (es ++ changed_only cut) cut.end cut.to e.end e.to p.turns s.old_order.1 h.end.0 s.new_order.1 h.to.0 s.same;
       edits = p.edits;
-      after_all = omega (arith, p.after_all, c.old_order.1);
+      after_all = omega (arith, p.after_all, s.old_order.1);
     }
 
 -- equal lines after the edit in hand

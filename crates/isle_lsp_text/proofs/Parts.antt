@@ -6,7 +6,7 @@ use Rattle.std.proofs.lemmas.Bool.Decides.{nat_tests}
 use Rattle.std.proofs.lemmas.List.{take-append-drop, drop-drop, drop-take, drop_more, get_or-drop, get_or-take}
 use Rattle.std.proofs.lemmas.Grind.{common_steps}
 use Rattle.isle_lsp_text.specs.declared.edits.Edit.{Edit}
-use Rattle.isle_lsp_text.specs.Edits.{part, first_line, IsCut, IsLineStart}
+use Rattle.isle_lsp_text.specs.Edits.{part, first_line, IsCut, IsLineStart, IsShorter}
 
 pub part_none : (text : List ℕ) (i : ℕ) → part text i i ≡ []
 part_none text i = let z : i - i ≡ 0 = omega arith in rw z refl
@@ -172,27 +172,6 @@ back_differs old new s e r f t q d w x a b lr lq nr nq h k ls lf same =
 
 -- ---- an edit without lines at its end
 
--- an edit without some of the lines that are the same in both texts
-pub record IsShorter (old new : List ℕ) (e cut : Edit) : Type 0 where
-  pub start : cut.start ≡ e.start
-  pub from : cut.from ≡ e.from
-  pub old_order : (cut.start ≤ cut.end) × (cut.end ≤ e.end)
-  pub new_order : (cut.from ≤ cut.to) × (cut.to ≤ e.to)
-  pub end : IsLineStart old cut.end
-  pub to : IsLineStart new cut.to
-  pub same : part old cut.end e.end ≡ part new cut.to e.to
-
-pub shorter_start : (old new : List ℕ) (e : Edit) → e.start ≤ e.end → e.from ≤ e.to → IsLineStart old e.end → IsLineStart new e.to → IsShorter old new e e
-shorter_start old new e h k l m = record {
-  start = refl;
-  from = refl;
-  old_order = (h, omega arith);
-  new_order = (k, omega arith);
-  end = l;
-  to = m;
-  same = part_none old e.end ∙ sym (part_none new e.to);
-}
-
 pub shorter_next : (old new : List ℕ) (e cut : Edit) (end to : ℕ) → IsShorter old new e cut → e.end ≤ length old → e.to ≤ length new
     → cut.start ≤ end → end < cut.end → cut.from ≤ to → to < cut.to → IsLineStart old end → IsLineStart new to → part old end cut.end ≡ part new to cut.to
     → IsShorter old new e record { start = cut.start; end = end; from = cut.from; to = to }
@@ -210,20 +189,13 @@ shorter_next old new e cut end to s w x a b c d l m same = record {
       ∙ part_part new to cut.to e.to (omega arith) s.new_order.1 x;
 }
 
-pub cut_done : (old new : List ℕ) (e cut : Edit) → IsShorter old new e cut
-    → ((start from : ℕ) → cut.start ≤ start → start < cut.end → cut.from ≤ from → from < cut.to → IsLineStart old start → IsLineStart new from → part old start cut.end ≢ part new from cut.to)
-    → IsCut old new e cut
-cut_done old new e cut s b = record { start = s.start; from = s.from; old_order = s.old_order; new_order = s.new_order; end = s.end; to = s.to; same = s.same; back = b }
-
--- no old line is left, or no new one
-pub cut_empty : (old new : List ℕ) (e cut : Edit) → IsShorter old new e cut → (cut.end ≤ cut.start) ⊎ (cut.to ≤ cut.from) → IsCut old new e cut
-cut_empty old new e cut s h = cut_done old new e cut s (λ start from a b c d l m same. elim h [ inl x ↦ absurd (omega arith) | inr x ↦ absurd (omega arith) ])
-
 -- the last lines differ
 pub cut_differs : (old new : List ℕ) (e cut : Edit) (end to : ℕ) → IsShorter old new e cut → e.end ≤ length old → e.to ≤ length new
     → end < cut.end → to < cut.to → IsLineStart old end → IsLineStart new to
     → ((m : ℕ) → end < m → m < cut.end → IsLineStart old m → ⊥) → ((m : ℕ) → to < m → m < cut.to → IsLineStart new m → ⊥)
     → part old end cut.end ≢ part new to cut.to → IsCut old new e cut
-cut_differs old new e cut end to s w x a b l m n o d =
-    cut_done old new e cut s (λ start from _ h _ k ls lf.
-    back_differs old new start cut.end end from cut.to to d (omega (arith, s.old_order.1)) (omega (arith, s.new_order.1)) a b l m n o h k ls lf)
+cut_differs old new e cut end to s w x a b l m n o d = record {
+  shorter = s;
+  back = λ start from _ h _ k ls lf.
+      back_differs old new start cut.end end from cut.to to d (omega (arith, s.old_order.1)) (omega (arith, s.new_order.1)) a b l m n o h k ls lf;
+}

@@ -35,8 +35,8 @@ abbrev pub first_line : List ℕ → List ℕ
 first_line [] = []
 first_line (b ∷ bs) = b ∷ (if b == 10 then [] else first_line bs)
 
--- the edit without lines at its end that are the same in both texts
-pub record IsCut (old new : List ℕ) (e cut : Edit) : Type 0 where
+-- the edit without some of the lines at its end that are the same in both texts
+pub record IsShorter (old new : List ℕ) (e cut : Edit) : Type 0 where
   pub start : cut.start ≡ e.start
   pub from : cut.from ≡ e.from
   pub old_order : (cut.start ≤ cut.end) × (cut.end ≤ e.end)
@@ -44,6 +44,10 @@ pub record IsCut (old new : List ℕ) (e cut : Edit) : Type 0 where
   pub end : IsLineStart old cut.end
   pub to : IsLineStart new cut.to
   pub same : part old cut.end e.end ≡ part new cut.to e.to
+
+-- the edit without all of them
+pub record IsCut (old new : List ℕ) (e cut : Edit) : Type 0 where
+  pub shorter : IsShorter old new e cut
   pub back : (start from : ℕ) → cut.start ≤ start → start < cut.end → cut.from ≤ from → from < cut.to → IsLineStart old start → IsLineStart new from
       → part old start cut.end ≢ part new from cut.to
 

@@ -3,4 +3,7 @@ pub mod Comments
 pub mod Edits
 pub mod Lists
 pub mod Names
+pub mod Numbers
 pub mod Positions
+pub mod Ranges
+pub mod Wholes

@@ -1,6 +1,6 @@
 //! Names that are only partly written.
 
-ghost use Rattle.std.specs.Prelude.{◌≡◌, ◌≤◌, drop, length, min, take};
+ghost use Rattle.std.specs.Prelude.{◌≡◌, ◌≤◌, drop, length, min};
 ghost use Rattle.isle_lsp_text.specs.Names.{is_name_byte, name_before, name_end};
 
 /// The part of a name right before a byte offset: the longest run of ASCII letters and digits, `_`,

@@ -9,12 +9,13 @@ use Rattle.isle_ast_names.specs.Tree.{Name}
 use Rattle.isle_resolve.specs.declared.event.Kind.{Kind}
 use Rattle.isle_resolve.specs.declared.event.Kind.TheVariants as kinds
 use Rattle.isle_resolve.specs.Event.{EventNode, binds, closes, defines, defines_variant, ends, occurs, reads, uses}
-use Rattle.isle_index.specs.Names.{NameNode, gives, global, is_number, name_text, variable}
+use Rattle.isle_resolve.specs.Names.{NameNode, gives, global, is_number, name_text, variable}
 use Rattle.isle_index.specs.Renamed.{same_place}
 use Rattle.isle_index.specs.Renaming.{IsAccepted, changed_places, changes, gives_variant, is_member, is_new_name, members, position, refusal, writes_member, defines_it}
-use Rattle.isle_index.specs.Scopes.{BoundNode, SeenNode, after, binder, seen, seen_from}
+use Rattle.isle_resolve.specs.Scopes.{BoundNode, SeenNode, after, binder, seen, seen_from}
 use Rattle.isle_index.proofs.Places.{chosen, is_at}
-use Rattle.isle_index.proofs.Texts.{bytes-are, or-false}
+use Rattle.isle_resolve.proofs.Texts.{bytes-are}
+use Rattle.isle_index.proofs.Texts.{or-false}
 use Rattle.isle_index_laws.specs.RenamedTokens.{is_constant}
 use Rattle.isle_index_laws.proofs.Marks.{is_constant_kind}
 use Rattle.isle_index_laws.proofs.KeptNames.{clash}

@@ -7,7 +7,7 @@ use Rattle.std.proofs.lemmas.List.{take-append-drop}
 use Rattle.std.proofs.lemmas.Option.{slice_get-get_or}
 use Rattle.std.specs.List.{list_all, slice_get}
 use Rattle.isle_base.specs.Literals.{Literal, behind_minus, has_minus, in_literal, prefix_radix, radix_at}
-use Rattle.isle_rename_laws.specs.Edits.{ends_number, ends_number_at, is_behind_number}
+use Rattle.isle_lsp_text.specs.Numbers.{ends_number, ends_number_at, is_behind_number}
 use Rattle.isle_rename_laws.proofs.Numbers.{has_run}
 
 digit_ends : (b : ℕ) → in_literal b ≡ true → ends_number b ≡ true

@@ -16,13 +16,14 @@ use Rattle.isle_ast_names.proofs.IdentifierBytes.{identifier_begins_symbol, iden
 use Rattle.isle_ast_names.specs.Erased.{erase_token, erase_tokens}
 use Rattle.isle_ast_names.specs.Identifier.{is_identifier}
 use Rattle.isle_ast_names.specs.Words.{is_dollar}
-use Rattle.isle_index.specs.Names.{NameNode, name_text}
+use Rattle.isle_resolve.specs.Names.{NameNode, name_text}
 use Rattle.isle_index.specs.Renamed.{are_apart, same_place}
 use Rattle.isle_index.specs.Renaming.{is_new_name, is_reserved}
 use Rattle.isle_index.proofs.Texts.{or-right}
 use Rattle.isle_index_laws.specs.RenamedTokens.{as_written, is_constant, positions, renamed_token, renamed_tokens, with_new_front}
 use Rattle.isle_rename_laws.specs.EditedTexts.{AreNamed, AreNotGlued, BeginsWith, edited_text, edited_token, edited_tokens, edits_before, moved, offsets_in}
-use Rattle.isle_rename_laws.specs.Edits.{edited, is_behind_number, sign_length}
+use Rattle.isle_lsp_text.specs.Numbers.{is_behind_number}
+use Rattle.isle_rename_laws.specs.Edits.{edited, sign_length}
 use Rattle.isle_rename_laws.proofs.Counts.{below, edits_below, later_is}
 use Rattle.isle_rename_laws.proofs.Lexed.{Apart, IsFront, Written, changed, count, edits_lex, later, shifted, starts}
 use Rattle.isle_rename_laws.proofs.Rising.{Found, are_marked, has, is_marked, places_rise, starts_are, tokens_rise}

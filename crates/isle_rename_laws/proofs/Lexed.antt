@@ -18,7 +18,8 @@ use Rattle.isle_index.specs.Renamed.{with_front}
 use Rattle.isle_index_laws.specs.RenamedTokens.{as_written, with_new_front}
 use Rattle.isle_index_laws.proofs.Marks.{one_if}
 use Rattle.isle_rename_laws.specs.EditedTexts.{BeginsWith}
-use Rattle.isle_rename_laws.specs.Edits.{edited, edited_at, is_behind_number, sign_length}
+use Rattle.isle_lsp_text.specs.Numbers.{is_behind_number}
+use Rattle.isle_rename_laws.specs.Edits.{edited, edited_at, sign_length}
 use Rattle.isle_rename_laws.proofs.Behind.{behind_digits, digits}
 use Rattle.isle_rename_laws.proofs.Gaps.{Gap, gap}
 use Rattle.isle_index_laws.proofs.KeptNames.{clash}

@@ -23,10 +23,10 @@ use Rattle.isle_ast.proofs.Lawful.Definitions.{definitions_lawful}
 use Rattle.isle_resolve.specs.Event.{EventNode}
 use Rattle.isle_resolve.specs.Events.{events}
 use Rattle.isle_resolve.specs.Mapped.{map_definitions}
-use Rattle.isle_index.specs.Names.{NameNode, name_text}
+use Rattle.isle_resolve.specs.Names.{NameNode, name_text}
 use Rattle.isle_index.specs.Renamed.{are_apart, places_of, replaced, same_place}
 use Rattle.isle_index.specs.Renaming.{IsAccepted, changed_places, changes, is_new_name, members, position}
-use Rattle.isle_index.specs.Scopes.{SeenNode, seen}
+use Rattle.isle_resolve.specs.Scopes.{SeenNode, seen}
 use Rattle.isle_index.proofs.Texts.{or-left, or-right}
 use Rattle.isle_index_laws.specs.RenamedTokens.{as_written, is_constant, positions, renamed_tokens}
 use Rattle.isle_index_laws.specs.SpeltTexts.{AreSpelt, AreSpeltWith, SpeltText, definitions_of}

@@ -9,10 +9,10 @@ use Rattle.isle_base_source.specs.declared.pos.Pos.{Pos}
 use Rattle.isle_ast.specs.Grammar.{SpellsDefinitions}
 use Rattle.isle_ast.specs.Tree.{Definition}
 use Rattle.isle_resolve.specs.Events.{events}
-use Rattle.isle_index.specs.Names.{NameNode, name_text}
+use Rattle.isle_resolve.specs.Names.{NameNode, name_text}
 use Rattle.isle_index.specs.Renamed.{same_place}
 use Rattle.isle_index.specs.Renaming.{IsAccepted}
-use Rattle.isle_index.specs.Scopes.{seen}
+use Rattle.isle_resolve.specs.Scopes.{seen}
 use Rattle.isle_index_laws.specs.RenamedTokens.{as_written, is_constant}
 use Rattle.isle_index_laws.specs.SpeltTexts.{AreSpelt, SpeltText, definitions_of}
 use Rattle.isle_index_laws.proofs.Apart.{tokens_apart}

@@ -21,7 +21,7 @@ use Rattle.isle_resolve.specs.Mapped.{map_definitions, map_event}
 use Rattle.isle_resolve.proofs.MappedLemmas.{events_follow}
 use Rattle.isle_index.specs.Renamed.{are_apart, same_place}
 use Rattle.isle_index.specs.Renaming.{is_new_name, is_reserved}
-use Rattle.isle_index.proofs.Texts.{bytes-are, bytes-true}
+use Rattle.isle_resolve.proofs.Texts.{bytes-are, bytes-true}
 use Rattle.isle_index_laws.specs.Kept.{AreKept, CanReplace, IsKeptName}
 use Rattle.isle_index_laws.specs.RenamedTokens.{as_written, positions}
 use Rattle.isle_index_laws.proofs.FollowedDefinitions.{definitions_follow}

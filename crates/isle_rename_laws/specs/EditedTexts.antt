@@ -8,11 +8,12 @@ use Rattle.isle_ast.specs.Erased.{erase}
 use Rattle.isle_ast.specs.Spelt.{IsSpelt}
 use Rattle.isle_ast.specs.Tree.{Definition}
 use Rattle.isle_resolve.specs.Mapped.{map_definitions}
-use Rattle.isle_index.specs.Names.{NameNode, name_text}
+use Rattle.isle_resolve.specs.Names.{NameNode, name_text}
 use Rattle.isle_index.specs.Renamed.{replaced, same_place}
 use Rattle.isle_index_laws.specs.RenamedTokens.{as_written, is_constant, positions, renamed_token}
 use Rattle.isle_index_laws.specs.SpeltTexts.{SpeltText}
-use Rattle.isle_rename_laws.specs.Edits.{edited, is_behind_number, sign_length}
+use Rattle.isle_lsp_text.specs.Numbers.{is_behind_number}
+use Rattle.isle_rename_laws.specs.Edits.{edited, sign_length}
 
 -- where in a file the text of a name begins that is at these positions: behind the `$` of a constant
 abbrev pub offsets_in : ℕ → (of_constant : Bool) → List Pos → List ℕ
@@ -44,7 +45,7 @@ edited_token file places name new x =
 abbrev pub edited_tokens : ℕ → List Pos → NameNode → List ℕ → List Lexeme → List Lexeme
 edited_tokens file places name new xs = map (edited_token file places name new) xs
 
--- no text of the name stands right behind a number
+-- no text of the name directly follows a number
 abbrev pub AreNotGlued : ℕ → List Pos → NameNode → List ℕ → Type 0
 AreNotGlued file places name text =
     AllByRecursion (λ offset. is_behind_number text offset ≡ false) (offsets_in file (is_constant name) places)
@@ -64,7 +65,7 @@ abbrev pub SpellsUpToPositions : (ℕ → Pos) → List ℕ → List Definition 
 SpellsUpToPositions place text ds = (es : List Definition) × IsSpelt place text es × (erase es ≡ erase ds)
 
 -- each text with the new text of the name at these positions spells its definitions with the new text there, up to
--- positions, unless such a name stands right behind a number. The files are numbered from this number on
+-- positions, unless such a name directly follows a number. The files are numbered from this number on
 abbrev pub AreSpeltEdited : List Pos → NameNode → List ℕ → ℕ → List SpeltText → Type 0
 AreSpeltEdited places name new file [] = Unit {0}
 AreSpeltEdited places name new file (t ∷ ts) =

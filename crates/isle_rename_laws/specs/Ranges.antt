@@ -2,7 +2,7 @@
 use Rattle.std.specs.Prelude.{◌≡◌, ℕ, ◌+◌, ◌≤◌, List, [], ◌∷◌, IsUtf8, length}
 use Rattle.std.specs.List.{AllByRecursion}
 use Rattle.isle_base_source.specs.declared.pos.Pos.{Pos}
-use Rattle.isle_index.specs.Names.{NameNode, name_text}
+use Rattle.isle_resolve.specs.Names.{NameNode, name_text}
 use Rattle.isle_index_laws.specs.RenamedTokens.{is_constant}
 use Rattle.isle_index_laws.specs.SpeltTexts.{SpeltText}
 use Rattle.isle_lsp_text.specs.Positions.{offset_at, position_at}

@@ -9,10 +9,10 @@ ghost use Rattle.isle_base.specs.Place.{in_file, placed};
 ghost use Rattle.isle_base.specs.Token.{Lexeme, end};
 ghost use Rattle.isle_base_source.specs.PositionOrder.{position_cmp};
 ghost use Rattle.isle_base_source.specs.declared.pos.Pos.{Pos};
-ghost use Rattle.isle_index.specs.Names.{NameNode, name_text};
+ghost use Rattle.isle_resolve.specs.Names.{NameNode, name_text};
 ghost use Rattle.isle_index.specs.Renamed.{are_apart, replaced};
 ghost use Rattle.isle_index.specs.Renaming.{IsAccepted, is_new_name};
-ghost use Rattle.isle_index.specs.Scopes.{seen};
+ghost use Rattle.isle_resolve.specs.Scopes.{seen};
 ghost use Rattle.isle_index_laws.specs.SpeltTexts.{AreSpelt, SpeltText, definitions_of};
 ghost use Rattle.isle_rename_laws.specs.EditedTexts.{AreNamed, AreNotGlued, AreSpeltEdited};
 ghost use Rattle.isle_rename_laws.specs.EditedTexts.{SpellsUpToPositions, edited_text};
@@ -21,10 +21,10 @@ ghost use Rattle.isle_rename_laws.specs.Ranges.{AreRanges};
 ghost use Rattle.isle_resolve.specs.Events.{events};
 ghost use Rattle.isle_resolve.specs.Mapped.{map_definitions};
 
-/// A law, which runs no code: an edited text lexes to the edited tokens. Where a text lexes to its
+/// A law, which runs no code: an edited text lexes to the edited tokens. If a text lexes to its
 /// end, and at some positions stand tokens that begin with a name, the text with a new name there
 /// lexes to its tokens with the new name there, each at its new offsets. No name that changes may
-/// stand right behind a number.
+/// directly follow a number.
 pub fn edited_texts_lex_to_edited_tokens()
     ensures { (file : ℕ) (places : List Pos) (text : List ℕ) (tokens : List Lexeme)
         (name : NameNode) (new : List ℕ) → lexes text tokens end → is_new_name new ≡ true
@@ -35,7 +35,7 @@ pub fn edited_texts_lex_to_edited_tokens()
         (edited_tokens file places name new tokens) end }
 {}
 
-/// A law, which runs no code: where a text spells definitions, the text with the new name at the
+/// A law, which runs no code: if a text spells definitions, the text with the new name at the
 /// positions that `Index::rename` returns spells the definitions with the new name there, up to
 /// their positions. So it is parsed as them.
 pub fn edited_texts_spell_renamed_definitions()

@@ -1,1 +1,2 @@
 pub mod MappedLemmas
+pub mod Texts

@@ -64,7 +64,7 @@ fn add_parameters<'a>(parameters: &'a [Ident], found: &mut Vec<Event<'a>>) -> Re
     Ok(())
 }
 
-/// The role of a variable before an `@`, where those that stand alone have the role `alone`.
+/// The role of a variable before an `@`, if those that stand alone have the role `alone`.
 fn named(alone: Role) -> Role
     ensures { result ≡ named alone }
 {

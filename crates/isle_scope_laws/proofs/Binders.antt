@@ -5,7 +5,7 @@ use Rattle.isle_ast_names.specs.Tree.{Name}
 use Rattle.isle_ast.specs.Tree.{Definition}
 use Rattle.isle_resolve.specs.Event.{EventNode}
 use Rattle.isle_resolve.specs.Events.{events}
-use Rattle.isle_index.specs.Scopes.{BoundNode, SeenNode, after, binder, seen, seen_from}
+use Rattle.isle_resolve.specs.Scopes.{BoundNode, SeenNode, after, binder, seen, seen_from}
 use Rattle.isle_scope_laws.specs.Reads.{IsReadAs, IsUnknown, OccursAs}
 use Rattle.isle_scope_laws.specs.Uses.{HasBinder, HasFirst, HasNoBinder, variable_of}
 use Rattle.isle_scope_laws.proofs.Numbered.{AnyOf, AreNumbered, IsKnown, IsLost, IsOccurrence, is_occurrence, occurrence_is, known_is_read, lost_is_read, numbered_seen, read_is_known, read_is_lost, has_seen, seen_has}

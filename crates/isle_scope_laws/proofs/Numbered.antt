@@ -5,8 +5,8 @@ use Rattle.std.proofs.lemmas.List.Elements.{Contains-append_cases}
 use Rattle.isle_ast_names.specs.Tree.{Name}
 use Rattle.isle_resolve.specs.declared.event.Role.{Role}
 use Rattle.isle_resolve.specs.Event.{EventNode, defines, uses, defines_variant, occurs, binds, reads, closes, ends}
-use Rattle.isle_index.specs.Scopes.{BoundNode, SeenNode, after, binder, bound_more, last_bound, seen_from}
-use Rattle.isle_index.specs.Scopes as scopes
+use Rattle.isle_resolve.specs.Scopes.{BoundNode, SeenNode, after, binder, bound_more, last_bound, seen_from}
+use Rattle.isle_resolve.specs.Scopes as scopes
 use Rattle.isle_scope_laws.specs.Uses.{variable_of}
 use Rattle.isle_scope_laws.proofs.Programs.{alone}
 use Rattle.isle_scope_laws.proofs.Scoped.{HasBy, IsOccurrenceOf, IsRead, last, named, or_else, step}

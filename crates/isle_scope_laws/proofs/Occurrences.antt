@@ -1,5 +1,5 @@
 -- What variables of patterns mean, by their events and by their trees.
-use Rattle.std.proofs.Common.{◌≡◌, inl, inr, ◌↔◌, List, [], ◌∷◌, ◌++◌, Bool, true, false, Option, None, Some, Contains, bytes_eq, map, refl, sym, ap, subst, ◌∙◌, append_assoc, arith, ⊎_elim, if◌then◌else◌}
+use Rattle.std.proofs.Common.{◌≡◌, inl, ◌↔◌, List, [], ◌∷◌, ◌++◌, Bool, true, false, Option, None, Some, Contains, bytes_eq, map, refl, sym, ap, subst, ◌∙◌, append_assoc, arith, ⊎_elim, if◌then◌else◌}
 use Rattle.std.proofs.lemmas.List.{append-nil}
 use Rattle.std.proofs.lemmas.List.Elements.{Contains-append_cases, Contains-append_left, Contains-append_right}
 use Rattle.std.specs.List.{AllByRecursion, flat_map}
@@ -12,11 +12,11 @@ use Rattle.isle_resolve.specs.declared.event.Role.{Role}
 use Rattle.isle_resolve.specs.declared.event.Role.TheVariants as roles
 use Rattle.isle_resolve.specs.Event.{EventNode, defines, uses, defines_variant, occurs, binds, reads, closes, ends}
 use Rattle.isle_resolve.specs.Events.{named, pattern_events, pattern_list_events, expression_events, expression_list_events, let_events, let_ends, condition_events, definition_events, events}
-use Rattle.isle_index.proofs.Texts.{bytes-true}
+use Rattle.isle_resolve.proofs.Texts.{bytes-true}
 use Rattle.isle_scope_laws.specs.Reads.{OccursAs, condition_variables, meant, own_variables, pattern_list_variables, pattern_variables, rule_variables}
-use Rattle.isle_scope_laws.proofs.Scoped.{Agree, HasOccurrence, IsOccurrenceOf, agree_occurrence, behind_by, cut_by, in_front_by, last, meant-append, or_else, step, steps, steps-append}
+use Rattle.isle_scope_laws.proofs.Scoped.{Agree, HasOccurrence, IsOccurrenceOf, behind_by, cut_by, in_front_by, last, meant-append, none_by, or_else, steps}
 use Rattle.isle_scope_laws.proofs.Expressions.{kept}
-use Rattle.isle_scope_laws.proofs.Programs.{AreGlobal, alone, closed, global_content, global_extern, global_model, global_target, global_types, here, is_global, join}
+use Rattle.isle_scope_laws.proofs.Programs.{AreGlobal, Binds, alone, binds_both, binds_none, binds_one, closed, global_content, global_extern, global_model, global_target, global_types, here, is_global, join}
 
 -- events of no patterns
 
@@ -34,9 +34,8 @@ abbrev AreNoPattern : List EventNode → Type 0
 AreNoPattern es = AllByRecursion (λ e. is_in_pattern e ≡ false) es
 
 never : (name b : Name) (es : List EventNode) (names : List Name) → AreNoPattern es → HasOccurrence name b names es → ⊥
-never name b [] names are h = h
-never name b (e ∷ es) names are (inl h) = let no : true ≡ false = sym (ap is_in_pattern h.1) ∙ are.0 in absurd (cc)
-never name b (e ∷ es) names are (inr h) = never name b es (step e names) are.1 h
+never name b es names are h =
+    none_by (λ e. is_in_pattern e ≡ false) (IsOccurrenceOf name b) (λ e ns quiet this. let no : true ≡ false = sym (ap is_in_pattern this.1) ∙ quiet in absurd (cc)) es names are h
 
 both : (xs ys : List EventNode) → AreNoPattern xs → AreNoPattern ys → AreNoPattern (xs ++ ys)
 both xs ys a b = join (λ e. is_in_pattern e ≡ false) xs ys a b
@@ -84,7 +83,7 @@ abbrev pub IsAmong : (all vs : List Name) → (name b : Name) → Type 0
 IsAmong all vs name b = Contains vs name × (meant all name.text ≡ Some b)
 
 record Segment (es : List EventNode) (vs : List Name) : Type 0 where
-  pub agrees : (names scope : List Name) → Agree names scope → Agree (steps es names) (scope ++ vs)
+  pub agrees : Binds es vs
   pub found : (name b : Name) (all scope rest names : List Name) → Agree names scope → all ≡ (scope ++ vs) ++ rest → HasOccurrence name b names es → IsAmong all vs name b
   pub back : (name b : Name) (all scope rest names : List Name) → Agree names scope → all ≡ (scope ++ vs) ++ rest → IsAmong all vs name b → HasOccurrence name b names es
 
@@ -93,8 +92,7 @@ no_element x has = omega (arith, has.1)
 
 none_there : (es : List EventNode) → ((names : List Name) → steps es names ≡ names) → AreNoPattern es → Segment es []
 none_there es keeps are = record {
-  agrees = λ names scope agree.
-      subst (λ ns. Agree ns (scope ++ [])) (sym (keeps names)) (subst (Agree names) (sym (append-nil scope)) agree);
+  agrees = binds_none es keeps;
   found = λ name b all scope rest names agree is h. absurd (never name b es names are h);
   back = λ name b all scope rest names agree is h. absurd (no_element name h.0);
 }
@@ -114,7 +112,7 @@ first_is n all scope rest names agree is =
 
 one_there : (role : Role) (n : Name) → Segment (occurs role n ∷ []) (n ∷ [])
 one_there role n = record {
-  agrees = λ names scope agree. agree_occurrence names scope n agree;
+  agrees = binds_one role n;
   found = λ name b all scope rest names agree is h.
       ⊎_elim
       (λ this.
@@ -140,10 +138,7 @@ one_there role n = record {
 
 together : (xs ys : List EventNode) (vs ws : List Name) → Segment xs vs → Segment ys ws → Segment (xs ++ ys) (vs ++ ws)
 together xs ys vs ws first second = record {
-  agrees = λ names scope agree.
-      subst (λ ns. Agree ns (scope ++ (vs ++ ws))) (sym (steps-append xs ys names))
-      (subst (Agree (steps ys (steps xs names))) (append_assoc scope vs ws)
-      (second.agrees (steps xs names) (scope ++ vs) (first.agrees names scope agree)));
+  agrees = binds_both xs ys vs ws first.agrees second.agrees;
   found = λ name b all scope rest names agree is h.
       ⊎_elim
       (λ front.

@@ -8,9 +8,9 @@ use Rattle.isle_ast_names.specs.Tree.{Name}
 use Rattle.isle_ast.specs.Tree.{Definition}
 use Rattle.isle_resolve.specs.Events.{events}
 use Rattle.isle_resolve.specs.Event.{EventNode, defines, uses, defines_variant, occurs, binds, reads, closes, ends}
-use Rattle.isle_index.specs.Names.{NameNode, is_of, meaning, variable}
+use Rattle.isle_resolve.specs.Names.{NameNode, is_of, meaning, variable}
 use Rattle.isle_index.specs.Occurrences.{definitions, occurrence, occurrence_of, place}
-use Rattle.isle_index.specs.Scopes.{BoundNode, SeenNode, after, binder, bound_more, last_bound, or_else, seen, seen_from}
+use Rattle.isle_resolve.specs.Scopes.{BoundNode, SeenNode, after, binder, bound_more, last_bound, or_else, seen, seen_from}
 use Rattle.isle_index.specs.declared.occurrences.Occurrence.{Occurrence}
 use Rattle.isle_scope_laws.specs.Definitions.{IsKnownAs, definition_at}
 use Rattle.isle_scope_laws.specs.Reads.{IsReadAs}

@@ -1,5 +1,5 @@
 -- What rules and programs read, by their events and by their trees.
-use Rattle.std.proofs.Common.{◌≡◌, inl, inr, List, [], ◌∷◌, ◌++◌, Bool, true, false, Option, Contains, map, refl, sym, ap, subst, ◌∙◌, append_assoc, arith, zero, suc, ⊎_elim}
+use Rattle.std.proofs.Common.{◌≡◌, List, [], ◌∷◌, ◌++◌, Bool, true, false, Option, Contains, map, refl, sym, ap, subst, ◌∙◌, append_assoc, arith, zero, suc, ⊎_elim}
 use Rattle.std.proofs.lemmas.List.{append-nil}
 use Rattle.std.proofs.lemmas.List.Elements.{Contains-append_cases, Contains-append_right}
 use Rattle.std.specs.List.{AllByRecursion, flat_map}
@@ -10,9 +10,9 @@ use Rattle.isle_resolve.specs.declared.event.Kind.TheVariants as kinds
 use Rattle.isle_resolve.specs.declared.event.Role.{Role}
 use Rattle.isle_resolve.specs.declared.event.Role.TheVariants as roles
 use Rattle.isle_resolve.specs.Event.{EventNode, defines, uses, defines_variant, occurs, binds, reads, closes, ends}
-use Rattle.isle_resolve.specs.Events.{pattern_events, pattern_list_events, expression_events, condition_events, rule_events, extractor_events, field_events, variant_events, content_events, target_events, model_events, extern_events, definition_events, events}
+use Rattle.isle_resolve.specs.Events.{named, pattern_events, pattern_list_events, expression_events, condition_events, rule_events, extractor_events, field_events, variant_events, content_events, target_events, model_events, extern_events, definition_events, events}
 use Rattle.isle_scope_laws.specs.Reads.{ConditionsRead, in_condition, in_later_condition, IsReadAs, RuleReads, in_conditions, in_right_side, condition_variables, meant, pattern_list_variables, pattern_variables}
-use Rattle.isle_scope_laws.proofs.Scoped.{Agree, HasRead, agree_occurrence, behind, cut, in_front, step, steps, steps-append}
+use Rattle.isle_scope_laws.proofs.Scoped.{Agree, HasRead, IsRead, agree_occurrence, behind, cut, in_front, none_by, steps, steps-append}
 use Rattle.isle_scope_laws.proofs.Expressions.{Found, found_reads, kept, reads_found}
 
 -- events that do not read
@@ -31,9 +31,8 @@ abbrev DoNotRead : List EventNode → Type 0
 DoNotRead es = AllByRecursion (λ e. is_read e ≡ false) es
 
 silent : (name : Name) (w : Option Name) (es : List EventNode) (names : List Name) → DoNotRead es → HasRead name w names es → ⊥
-silent name w [] names are h = h
-silent name w (e ∷ es) names are (inl h) = let never : true ≡ false = sym (ap is_read h.0) ∙ are.0 in absurd (cc)
-silent name w (e ∷ es) names are (inr h) = silent name w es (step e names) are.1 h
+silent name w es names are h =
+    none_by (λ e. is_read e ≡ false) (IsRead name w) (λ e ns quiet this. let never : true ≡ false = sym (ap is_read this.0) ∙ quiet in absurd (cc)) es names are h
 
 pub join : (P : EventNode → Type 0) (xs ys : List EventNode) → AllByRecursion P xs → AllByRecursion P ys → AllByRecursion P (xs ++ ys)
 join P [] ys a b = b
@@ -55,53 +54,56 @@ mutual
   pattern_list_silent role no_pattern = tt
   pattern_list_silent role (more_pattern p ps) = join (λ e. is_read e ≡ false) (pattern_events role p) (pattern_list_events role ps) (pattern_silent role p) (pattern_list_silent role ps)
 
--- the scope behind a pattern
+-- events that bind these variables behind those in scope
 
-wider : (names scope vs ws : List Name) → Agree names ((scope ++ vs) ++ ws) → Agree names (scope ++ (vs ++ ws))
-wider names scope vs ws agree = subst (Agree names) (append_assoc scope vs ws) agree
+abbrev pub Binds : List EventNode → List Name → Type 0
+Binds es vs = (names scope : List Name) → Agree names scope → Agree (steps es names) (scope ++ vs)
 
-no_wider : (names scope : List Name) → Agree names scope → Agree names (scope ++ [])
-no_wider names scope agree = subst (Agree names) (sym (append-nil scope)) agree
+pub binds_none : (es : List EventNode) → ((names : List Name) → steps es names ≡ names) → Binds es []
+binds_none es keeps names scope agree =
+    subst (λ ns. Agree ns (scope ++ [])) (sym (keeps names)) (subst (Agree names) (sym (append-nil scope)) agree)
+
+pub binds_one : (role : Role) (n : Name) → Binds (occurs role n ∷ []) (n ∷ [])
+binds_one role n names scope agree = agree_occurrence names scope n agree
+
+pub binds_both : (xs ys : List EventNode) (vs ws : List Name) → Binds xs vs → Binds ys ws → Binds (xs ++ ys) (vs ++ ws)
+binds_both xs ys vs ws first second names scope agree =
+    subst (λ ns. Agree ns (scope ++ (vs ++ ws))) (sym (steps-append xs ys names))
+    (subst (Agree (steps ys (steps xs names))) (append_assoc scope vs ws)
+    (second (steps xs names) (scope ++ vs) (first names scope agree)))
+
+nothing_binds : Binds [] []
+nothing_binds = binds_none [] (λ names. refl)
 
 mutual
-  agree_pattern : (role : Role) (p : PatternNode) (names scope : List Name) → Agree names scope → Agree (steps (pattern_events role p) names) (scope ++ pattern_variables p)
-  agree_pattern role (var_pattern var place) names scope agree = agree_occurrence names scope var agree
-  agree_pattern role (bind_pattern var subpat place) names scope agree =
-      wider (steps (pattern_events role subpat) (step (occurs role var) names)) scope (var ∷ []) (pattern_variables subpat)
-      (agree_pattern role subpat (step (occurs role var) names) (scope ++ var ∷ []) (agree_occurrence names scope var agree))
-  agree_pattern role (bool_pattern val place) names scope agree = no_wider names scope agree
-  agree_pattern role (int_pattern val place) names scope agree = no_wider names scope agree
-  agree_pattern role (constant_pattern val place) names scope agree = no_wider names scope agree
-  agree_pattern role (term_pattern f args place) names scope agree = agree_patterns role args names scope agree
-  agree_pattern role (wildcard_pattern place) names scope agree = no_wider names scope agree
-  agree_pattern role (and_pattern subpats place) names scope agree = agree_patterns role subpats names scope agree
-  agree_pattern role (macro_arg_pattern index place) names scope agree = no_wider names scope agree
+  pattern_binds : (role : Role) (p : PatternNode) → Binds (pattern_events role p) (pattern_variables p)
+  pattern_binds role (var_pattern var place) = binds_one role var
+  pattern_binds role (bind_pattern var subpat place) =
+      binds_both (occurs (named role) var ∷ []) (pattern_events role subpat) (var ∷ []) (pattern_variables subpat) (binds_one (named role) var) (pattern_binds role subpat)
+  pattern_binds role (bool_pattern val place) = nothing_binds
+  pattern_binds role (int_pattern val place) = nothing_binds
+  pattern_binds role (constant_pattern val place) = binds_none (uses kinds.Constant val ∷ []) (λ names. refl)
+  pattern_binds role (term_pattern f args place) = pattern_list_binds role args
+  pattern_binds role (wildcard_pattern place) = nothing_binds
+  pattern_binds role (and_pattern subpats place) = pattern_list_binds role subpats
+  pattern_binds role (macro_arg_pattern index place) = nothing_binds
 
-  agree_patterns : (role : Role) (ps : PatternList) (names scope : List Name) → Agree names scope →
-      Agree (steps (pattern_list_events role ps) names) (scope ++ pattern_list_variables ps)
-  agree_patterns role no_pattern names scope agree = no_wider names scope agree
-  agree_patterns role (more_pattern p ps) names scope agree =
-      subst (λ ns. Agree ns (scope ++ (pattern_variables p ++ pattern_list_variables ps))) (sym (steps-append (pattern_events role p) (pattern_list_events role ps) names))
-      (wider (steps (pattern_list_events role ps) (steps (pattern_events role p) names)) scope (pattern_variables p) (pattern_list_variables ps)
-      (agree_patterns role ps (steps (pattern_events role p) names) (scope ++ pattern_variables p) (agree_pattern role p names scope agree)))
+  pattern_list_binds : (role : Role) (ps : PatternList) → Binds (pattern_list_events role ps) (pattern_list_variables ps)
+  pattern_list_binds role no_pattern = nothing_binds
+  pattern_list_binds role (more_pattern p ps) =
+      binds_both (pattern_events role p) (pattern_list_events role ps) (pattern_variables p) (pattern_list_variables ps) (pattern_binds role p) (pattern_list_binds role ps)
 
 -- conditions
 
-behind_condition : (c : Condition) (names : List Name) → steps (condition_events c) names ≡ steps (pattern_events roles.Plain c.pattern) names
-behind_condition c names =
-    steps-append (expression_events c.expr) (pattern_events roles.Plain c.pattern) names ∙ ap (steps (pattern_events roles.Plain c.pattern)) (kept c.expr names)
+condition_binds : (c : Condition) → Binds (condition_events c) (pattern_variables c.pattern)
+condition_binds c =
+    binds_both (expression_events c.expr) (pattern_events roles.Plain c.pattern) [] (pattern_variables c.pattern)
+    (binds_none (expression_events c.expr) (kept c.expr)) (pattern_binds roles.Plain c.pattern)
 
-agree_condition : (c : Condition) (names scope : List Name) → Agree names scope → Agree (steps (condition_events c) names) (scope ++ pattern_variables c.pattern)
-agree_condition c names scope agree =
-    subst (λ ns. Agree ns (scope ++ pattern_variables c.pattern)) (sym (behind_condition c names)) (agree_pattern roles.Plain c.pattern names scope agree)
-
-agree_conditions : (cs : List Condition) (names scope : List Name) → Agree names scope →
-    Agree (steps (flat_map condition_events cs) names) (scope ++ condition_variables cs)
-agree_conditions [] names scope agree = no_wider names scope agree
-agree_conditions (c ∷ cs) names scope agree =
-    subst (λ ns. Agree ns (scope ++ (pattern_variables c.pattern ++ condition_variables cs))) (sym (steps-append (condition_events c) (flat_map condition_events cs) names))
-    (wider (steps (flat_map condition_events cs) (steps (condition_events c) names)) scope (pattern_variables c.pattern) (condition_variables cs)
-    (agree_conditions cs (steps (condition_events c) names) (scope ++ pattern_variables c.pattern) (agree_condition c names scope agree)))
+conditions_bind : (cs : List Condition) → Binds (flat_map condition_events cs) (condition_variables cs)
+conditions_bind [] = nothing_binds
+conditions_bind (c ∷ cs) =
+    binds_both (condition_events c) (flat_map condition_events cs) (pattern_variables c.pattern) (condition_variables cs) (condition_binds c) (conditions_bind cs)
 
 conditions_found : (cs : List Condition) (name : Name) (w : Option Name) (names scope : List Name) → Agree names scope → HasRead name w names (flat_map condition_events cs) →
     Found (ConditionsRead scope cs name) name w
@@ -113,7 +115,7 @@ conditions_found (c ∷ cs) name w names scope agree h =
     (λ p. absurd (silent name w (pattern_events roles.Plain c.pattern) _ (pattern_silent roles.Plain c.pattern) p))
     (cut name w (expression_events c.expr) (pattern_events roles.Plain c.pattern) names front))
     (λ back.
-    let found = conditions_found cs name w (steps (condition_events c) names) (scope ++ pattern_variables c.pattern) (agree_condition c names scope agree) back in
+    let found = conditions_found cs name w (steps (condition_events c) names) (scope ++ pattern_variables c.pattern) (condition_binds c names scope agree) back in
     (found.0, in_later_condition found.1, found.2))
     (cut name w (condition_events c) (flat_map condition_events cs) names h)
 
@@ -124,7 +126,7 @@ found_conditions _ _ _ _ (in_condition {scope} {visible} {c} {cs} {name} h) w na
     (in_front name w (expression_events c.expr) (pattern_events roles.Plain c.pattern) names (found_reads scope c.expr name visible h w names agree is))
 found_conditions _ _ _ _ (in_later_condition {scope} {visible} {c} {cs} {name} h) w names agree is =
     behind name w (condition_events c) (flat_map condition_events cs) names
-    (found_conditions (scope ++ pattern_variables c.pattern) cs name visible h w (steps (condition_events c) names) (agree_condition c names scope agree) is)
+    (found_conditions (scope ++ pattern_variables c.pattern) cs name visible h w (steps (condition_events c) names) (condition_binds c names scope agree) is)
 
 -- rules
 
@@ -132,13 +134,13 @@ nothing_bound : Agree [] []
 nothing_bound text = refl
 
 agree_left : (r : RuleDefinition) → Agree (steps (pattern_events roles.Plain r.pattern) []) (pattern_variables r.pattern)
-agree_left r = agree_pattern roles.Plain r.pattern [] [] nothing_bound
+agree_left r = pattern_binds roles.Plain r.pattern [] [] nothing_bound
 
 agree_right : (r : RuleDefinition) →
     Agree (steps (pattern_events roles.Plain r.pattern ++ flat_map condition_events r.iflets) []) (pattern_variables r.pattern ++ condition_variables r.iflets)
 agree_right r =
-    subst (λ ns. Agree ns (pattern_variables r.pattern ++ condition_variables r.iflets)) (sym (steps-append (pattern_events roles.Plain r.pattern) (flat_map condition_events r.iflets) []))
-    (agree_conditions r.iflets (steps (pattern_events roles.Plain r.pattern) []) (pattern_variables r.pattern) (agree_left r))
+    binds_both (pattern_events roles.Plain r.pattern) (flat_map condition_events r.iflets) (pattern_variables r.pattern) (condition_variables r.iflets)
+    (pattern_binds roles.Plain r.pattern) (conditions_bind r.iflets) [] [] nothing_bound
 
 rule_found : (r : RuleDefinition) (name : Name) (w : Option Name) → HasRead name w [] (rule_events r) → Found (RuleReads r name) name w
 rule_found r name w h =

@@ -1,10 +1,11 @@
 -- Events with the names that are in scope, in place of numbers.
 use Rattle.std.proofs.Common.{◌≡◌, ◌⊎◌, inl, inr, ℕ, ◌-◌, List, [], ◌∷◌, ◌++◌, Bool, true, false, Option, None, Some, bytes_eq, length, take, refl, sym, ap, ◌∙◌, if◌then◌else◌}
+use Rattle.std.specs.List.{AllByRecursion}
 use Rattle.std.specs.Option.{is_some}
 use Rattle.isle_ast_names.specs.Tree.{Name}
 use Rattle.isle_resolve.specs.declared.event.Role.{Role}
 use Rattle.isle_resolve.specs.Event.{EventNode, defines, uses, defines_variant, occurs, binds, reads, closes, ends}
-use Rattle.isle_index.proofs.Texts.{bytes-are}
+use Rattle.isle_resolve.proofs.Texts.{bytes-are}
 use Rattle.isle_scope_laws.specs.Reads.{meant}
 
 -- the first, and otherwise the second
@@ -53,6 +54,13 @@ HasOccurrence name b names es = HasBy (IsOccurrenceOf name b) names es
 
 abbrev pub HasRead : Name → Option Name → List Name → List EventNode → Type 0
 HasRead name w names es = HasBy (IsRead name w) names es
+
+-- no event has it, if none can
+pub none_by : (P : EventNode → Type 0) (Q : List Name → EventNode → Type 0) → ((e : EventNode) (names : List Name) → P e → Q names e → ⊥) → (es : List EventNode) (names : List Name) →
+    AllByRecursion P es → HasBy Q names es → ⊥
+none_by P Q never [] names are h = h
+none_by P Q never (e ∷ es) names are (inl h) = never e names are.0 h
+none_by P Q never (e ∷ es) names are (inr h) = none_by P Q never es (step e names) are.1 h
 
 pub steps-append : (xs ys : List EventNode) (names : List Name) → steps (xs ++ ys) names ≡ steps ys (steps xs names)
 steps-append [] ys names = refl

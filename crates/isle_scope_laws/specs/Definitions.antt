@@ -2,8 +2,8 @@
 use Rattle.std.specs.Prelude.{◌≡◌, List, Some, Contains, length, true}
 use Rattle.isle_ast_names.specs.Tree.{Name}
 use Rattle.isle_resolve.specs.Event.{reads}
-use Rattle.isle_index.specs.Names.{NameNode, meaning}
-use Rattle.isle_index.specs.Scopes.{SeenNode}
+use Rattle.isle_resolve.specs.Names.{NameNode, meaning}
+use Rattle.isle_resolve.specs.Scopes.{SeenNode}
 use Rattle.isle_index.specs.declared.occurrences.Occurrence.{Occurrence}
 
 -- one of the events reads this variable, and the index knows it there by this name

@@ -3,9 +3,9 @@
 ghost use Rattle.std.specs.Prelude.{◌↔◌, ◌≡◌, ◌∷◌, [], List, Some};
 ghost use Rattle.isle_ast.specs.Tree.{Definition};
 ghost use Rattle.isle_ast_names.specs.Tree.{Name};
-ghost use Rattle.isle_index.specs.Names.{NameNode};
+ghost use Rattle.isle_resolve.specs.Names.{NameNode};
 ghost use Rattle.isle_index.specs.Occurrences.{definitions};
-ghost use Rattle.isle_index.specs.Scopes.{seen};
+ghost use Rattle.isle_resolve.specs.Scopes.{seen};
 ghost use Rattle.isle_resolve.specs.Events.{events};
 ghost use Rattle.isle_scope_laws.specs.Definitions.{IsKnownAs, definition_at};
 ghost use Rattle.isle_scope_laws.specs.Reads.{IsReadAs, IsUnknown, OccursAs};

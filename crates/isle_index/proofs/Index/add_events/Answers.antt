@@ -2,7 +2,7 @@ use Rattle.std.proofs.Common.{◌+◌, drop, ap, ◌∙◌}
 use Rattle.std.proofs.lemmas.List.{at_drop_more}
 use Rattle.isle_ast_names.proofs.ListComparison.{count}
 use Rattle.isle_resolve.specs.EventView.{events_of}
-use Rattle.isle_index.specs.Scopes.{bounds_of}
+use Rattle.isle_resolve.specs.Scopes.{bounds_of}
 use Rattle.isle_index.proofs.Adding.{added_by}
 use Rattle.isle_index.proofs.Index.add_events.Goals as goal
 

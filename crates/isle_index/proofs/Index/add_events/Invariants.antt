@@ -1,6 +1,6 @@
 use Rattle.std.proofs.Common.{◌≡◌, ◌++◌, [], drop, length}
 use Rattle.isle_index.specs.Held.{IsWhole, all_in}
-use Rattle.isle_index.specs.Scopes.{bounds_of, seen_from}
+use Rattle.isle_resolve.specs.Scopes.{bounds_of, seen_from}
 use Rattle.isle_resolve.specs.EventView.{events_of}
 use Rattle.isle_index.proofs.Index.add_events.Given as goal
 

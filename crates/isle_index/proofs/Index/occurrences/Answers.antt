@@ -1,7 +1,7 @@
 use Rattle.std.proofs.Common.{List, ap, ◌∙◌, subst}
 use Rattle.std.specs.List.Sorted.{IsPermutation}
 use Rattle.isle_index.specs.declared.occurrences.Occurrence.{Occurrence}
-use Rattle.isle_index.specs.Names.{named_of}
+use Rattle.isle_resolve.specs.Names.{named_of}
 use Rattle.isle_index.specs.Occurrences.{occurrences}
 use Rattle.isle_index.proofs.Sorting.{first-not_less}
 use Rattle.isle_index.proofs.Index.occurrences.Goals as goal

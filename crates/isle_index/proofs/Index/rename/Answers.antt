@@ -1,7 +1,7 @@
 use Rattle.std.proofs.Common.{List, rules, subst}
-use Rattle.isle_index.specs.Names.{named_of}
+use Rattle.isle_resolve.specs.Names.{named_of}
 use Rattle.isle_index.specs.Renaming.{IsAccepted}
-use Rattle.isle_index.specs.Scopes.{SeenNode}
+use Rattle.isle_resolve.specs.Scopes.{SeenNode}
 use Rattle.isle_index.proofs.Index.rename.Goals as goal
 
 pub returns-in_ok-sort-in-None : goal.returns-in_ok-sort-in-None

@@ -1,6 +1,6 @@
 use Rattle.std.proofs.Common.{◌≡◌, ◌++◌, drop, filter, map}
 use Rattle.isle_index.specs.Candidates.{begins_with, candidate_of, variable_candidate}
-use Rattle.isle_index.specs.Scopes.{bounds_of}
+use Rattle.isle_resolve.specs.Scopes.{bounds_of}
 use Rattle.isle_index.proofs.candidates.add_variables.Given as goal
 
 abbrev pub invariant-loop-variable : goal.invariant-loop-variable

@@ -1,7 +1,7 @@
 use Rattle.std.proofs.Common.{◌≡◌, [], drop}
 use Rattle.isle_index.specs.Entries.{all_of, unpacked_from}
 use Rattle.isle_index.specs.Candidates.{bound_at}
-use Rattle.isle_index.specs.Scopes.{bounds_of}
+use Rattle.isle_resolve.specs.Scopes.{bounds_of}
 use Rattle.isle_index.proofs.candidates.variables_at.Given as goal
 
 abbrev pub invariant-loop-index : goal.invariant-loop-index

@@ -1,6 +1,6 @@
 use Rattle.std.proofs.Common.{◌≡◌, ◌++◌, drop}
 use Rattle.isle_index.specs.Entries.{all_of, unpacked_from}
-use Rattle.isle_index.specs.Names.{named_of}
+use Rattle.isle_resolve.specs.Names.{named_of}
 use Rattle.isle_index.specs.Occurrences.{occurrences}
 use Rattle.isle_index.proofs.occurrences.occurrences.Given as goal
 

@@ -1,7 +1,7 @@
 use Rattle.std.proofs.Common.{◌≡◌, ◌++◌, drop, map, filter}
 use Rattle.std.specs.List.{filter_map}
 use Rattle.isle_index.specs.Entries.{all_of, unpacked_from}
-use Rattle.isle_index.specs.Names.{named_of}
+use Rattle.isle_resolve.specs.Names.{named_of}
 use Rattle.isle_index.specs.Renaming.{changes, position}
 use Rattle.isle_index.proofs.rename.changed_places.Given as goal
 

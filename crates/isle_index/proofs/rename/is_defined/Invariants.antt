@@ -1,7 +1,7 @@
 use Rattle.std.proofs.Common.{◌≡◌, drop}
 use Rattle.std.specs.List.{list_any}
 use Rattle.isle_index.specs.Entries.{all_of, unpacked_from}
-use Rattle.isle_index.specs.Names.{named_of}
+use Rattle.isle_resolve.specs.Names.{named_of}
 use Rattle.isle_index.specs.Renaming.{defines_it}
 use Rattle.isle_index.proofs.rename.is_defined.Given as goal
 

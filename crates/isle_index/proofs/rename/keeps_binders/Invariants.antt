@@ -1,7 +1,7 @@
 use Rattle.std.proofs.Common.{◌≡◌, drop, map}
 use Rattle.isle_index.specs.Entries.{all_of, unpacked_from}
 use Rattle.isle_index.specs.Renaming.{renamed_variable, same_binders}
-use Rattle.isle_index.specs.Scopes.{bounds_of, seen, seen_from}
+use Rattle.isle_resolve.specs.Scopes.{bounds_of, seen, seen_from}
 use Rattle.isle_index.proofs.rename.keeps_binders.Given as goal
 
 abbrev pub invariant-loop-number : goal.invariant-loop-number

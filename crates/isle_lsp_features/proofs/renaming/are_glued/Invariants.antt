@@ -1,5 +1,5 @@
 use Rattle.std.proofs.Common.{◌≡◌, drop, map}
-use Rattle.isle_index.specs.Names.{named_of}
+use Rattle.isle_resolve.specs.Names.{named_of}
 use Rattle.isle_lsp_features.specs.Programs.{text_of}
 use Rattle.isle_lsp_features.specs.Renamed.{are_glued}
 use Rattle.isle_lsp_features.proofs.renaming.are_glued.Given as goal

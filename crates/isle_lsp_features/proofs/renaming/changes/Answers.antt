@@ -1,7 +1,7 @@
 use Rattle.std.proofs.Common.{◌≡◌, ◌+◌, ◌++◌, List, map, drop, arith, ap, append-nil, option_to_list, subst, sym, ◌∙◌}
 use Rattle.std.proofs.lemmas.Grind.{common_steps}
 use Rattle.serde_json.specs.Data.{Members, no_members}
-use Rattle.isle_index.specs.Names.{named_of}
+use Rattle.isle_resolve.specs.Names.{named_of}
 use Rattle.isle_lsp_protocol.specs.Items.{with_changes}
 use Rattle.isle_lsp_protocol.specs.declared.items.Item.{Item}
 use Rattle.isle_lsp_features.specs.Programs.{text_of}

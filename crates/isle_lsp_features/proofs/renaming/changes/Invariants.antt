@@ -1,7 +1,7 @@
 use Rattle.std.proofs.Common.{◌≡◌, ◌++◌, map, drop}
 use Rattle.serde_json.specs.Data.{no_members}
 use Rattle.isle_lsp_features.specs.Programs.{text_of}
-use Rattle.isle_index.specs.Names.{named_of}
+use Rattle.isle_resolve.specs.Names.{named_of}
 use Rattle.isle_lsp_protocol.specs.Items.{item_data, with_changes}
 use Rattle.isle_lsp_features.specs.Renamed as wanted
 use Rattle.isle_lsp_features.proofs.renaming.changes.Given as goal

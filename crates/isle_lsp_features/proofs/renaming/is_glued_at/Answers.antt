@@ -1,5 +1,5 @@
 use Rattle.std.proofs.Common.{ap, ◌∙◌}
-use Rattle.isle_index.specs.Names.{named_of}
+use Rattle.isle_resolve.specs.Names.{named_of}
 use Rattle.isle_lsp_features.specs.Renamed.{is_glued_text}
 use Rattle.isle_lsp_features.proofs.renaming.is_glued_at.Goals as goal
 

@@ -1,6 +1,6 @@
 use Rattle.std.proofs.Common.{◌≡◌, take}
 use Rattle.std.specs.List.{flat_map}
-use Rattle.isle_index.specs.Names.{named_of}
+use Rattle.isle_resolve.specs.Names.{named_of}
 use Rattle.isle_lsp_features.specs.Renamed.{range_in}
 use Rattle.isle_lsp_text.specs.Positions.{IsPlace}
 use Rattle.isle_lsp_features.proofs.renaming.ranges_in.Given as goal

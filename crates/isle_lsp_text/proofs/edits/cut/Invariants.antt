@@ -1,5 +1,5 @@
 use Rattle.std.proofs.Common.{◌-◌}
-use Rattle.isle_lsp_text.proofs.Parts.{IsShorter}
+use Rattle.isle_lsp_text.specs.Edits.{IsShorter}
 use Rattle.isle_lsp_text.proofs.edits.cut.Given as goal
 
 abbrev pub invariant-loop-cut : goal.invariant-loop-cut

@@ -1,7 +1,7 @@
 use Rattle.std.proofs.Common.{◌≡◌, Some, ap, option_map, string_bytes, sym, ◌∙◌}
 use Rattle.std.proofs.lemmas.Option.{slice_get-get_or}
 use Rattle.isle_index.specs.Entries.{text_in}
-use Rattle.isle_index.proofs.Texts.{bytes-are}
+use Rattle.isle_resolve.proofs.Texts.{bytes-are}
 use Rattle.isle_index.proofs.numbers.Texts.find.Goals as goal
 
 pub returns-in-Some : goal.returns-in-Some

@@ -1,5 +1,0 @@
-use Rattle.isle_index.proofs.Replaced.{replacing_renames}
-use Rattle.isle_index.proofs.laws.places_are_those_of_the_name.Goals as goal
-
-pub returns : goal.returns
-returns c = replacing_renames
