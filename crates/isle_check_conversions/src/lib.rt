@@ -1,22 +1,29 @@
 //! Conversions that do not come to an end.
 #![tactic(auto)]
 
-ghost use Rattle.std.specs.Prelude.{◌≡◌, ◌++◌, ◌&&◌, IfOk, OnOk, bytes_eq, false, get_or, map};
+ghost use Rattle.std.specs.Prelude.{◌≡◌, ◌++◌, ◌∷◌, ◌+◌, ℕ, IfOk, List, OnOk, false, get_or, map};
 ghost use Rattle.std.specs.Prelude.{option_map};
+ghost use Rattle.isle_ast.specs.Tree.{Conversion};
 ghost use Rattle.isle_ast.specs.TreeView.{conversion_of, definitions_of};
 ghost use Rattle.isle_check_conversions.specs.Conversions.{endless_among, endless_conversions};
 ghost use Rattle.isle_check_conversions.specs.Conversions.{endless_from, if_endless, needed};
-ghost use Rattle.isle_check_conversions.specs.Conversions.{needed_before, needs_by, needs_of};
-ghost use Rattle.isle_check_conversions.specs.Conversions.{number_from};
+ghost use Rattle.isle_check_conversions.specs.Conversions.{needed_before, needs, needs_by};
+ghost use Rattle.isle_check_conversions.specs.Conversions.{needs_of, number_from};
 ghost use Rattle.isle_check_cycles.specs.Walks.{AreEnds};
 ghost use Rattle.isle_check_environment.specs.Views.{converters_at};
+ghost use Rattle.isle_check_signatures.specs.ByTexts.{get_by_texts};
 ghost use Rattle.isle_check_signatures.specs.Views.{environment_of, term_of};
 
 use isle_ast::ast::{Converter, Def};
 use isle_check_cycles::ends;
 use isle_check_environment::parts::converters_in;
+use isle_check_signatures::by_texts::{ByTexts, put_value, value_at};
 use isle_check_signatures::{Environment, Term};
 use std::alloc::{AllocError, Global};
+use std::collections::BTreeMap;
+
+/// The numbers of converters, by the inner and the outer type.
+type Numbers = ByTexts<usize>;
 
 /// Returns the converters of a program whose conversion does not come to an end, in order: it needs
 /// itself, or another one that does. Upstream then overflows its stack where a rule needs it.
@@ -45,7 +52,7 @@ fn endless_among<'a>(
     ensures { IfOk result (λ found. converters_at found.items
         ≡ endless_among (environment_of env.now).terms (converters_at converters.now)) }
 {
-    let needs = needs_of(alloc, env, converters)?;
+    let needs = needs(alloc, env, converters)?;
     let ends = ends(alloc, &needs)?;
     collected(alloc, converters, &needs, &ends)
 }
@@ -94,18 +101,62 @@ fn is_set(flags: &[bool], number: usize) -> bool
 }
 
 /// Returns, for each converter, the numbers of those that its conversion needs.
-fn needs_of(
+fn needs(
     alloc: Global,
     env: &Environment,
     converters: &[&Converter],
 ) -> Result<Vec<Vec<usize>>, AllocError>
     ensures { IfOk result (λ found. map (λ v. v.items) found.items
-        ≡ needs_of (environment_of env.now).terms (converters_at converters.now)) }
+        ≡ needs (environment_of env.now).terms (converters_at converters.now)) }
+{
+    let numbers = numbers(alloc, converters)?;
+    needs_of(alloc, env, &numbers, converters)
+}
+
+/// Returns the number of the first converter of each two types.
+fn numbers(alloc: Global, converters: &[&Converter]) -> Result<Numbers, AllocError>
+    ensures { IfOk result (λ numbers. (inner outer : List ℕ) → get_by_texts numbers inner outer
+        ≡ number_from 0 (converters_at converters.now) inner outer) }
+{
+    let mut numbers = BTreeMap::new(alloc);
+    for number in (0..converters.len()).rev() {
+        put_number(alloc, converters[number], number, &mut numbers)?;
+    }
+    Ok(numbers)
+}
+
+/// Puts the number of a converter in place of that of a later one.
+fn put_number(
+    alloc: Global,
+    converter: &Converter,
+    number: usize,
+    numbers: &mut Numbers,
+) -> Result<(), AllocError>
+    ensures { OnOk result ((later : List Conversion)
+        → ((inner outer : List ℕ) → get_by_texts numbers.old inner outer
+        ≡ number_from (number + 1) later inner outer)
+        → (inner outer : List ℕ) → get_by_texts numbers.new inner outer
+        ≡ number_from number (conversion_of converter.now ∷ later) inner outer) }
+{
+    let inner = converter.inner_ty.0.clone()?;
+    let outer = converter.outer_ty.0.clone()?;
+    put_value(alloc, numbers, inner, outer, number)
+}
+
+fn needs_of(
+    alloc: Global,
+    env: &Environment,
+    numbers: &Numbers,
+    converters: &[&Converter],
+) -> Result<Vec<Vec<usize>>, AllocError>
+    ensures { IfOk result (λ found. map (λ v. v.items) found.items
+        ≡ needs_of (get_by_texts numbers.now) (environment_of env.now).terms
+        (converters_at converters.now)) }
 {
     let mut found = Vec::with_capacity(alloc, converters.len())?;
     for converter in converters {
         let term = env.term(converter.term.0.as_str());
-        found.push(needs_by(alloc, converters, converter, term)?)?;
+        found.push(needs_by(alloc, numbers, converter, term)?)?;
     }
     Ok(found)
 }
@@ -113,20 +164,20 @@ fn needs_of(
 /// Returns the numbers of those that a conversion by a term needs.
 fn needs_by(
     alloc: Global,
-    converters: &[&Converter],
+    numbers: &Numbers,
     converter: &Converter,
     term: Option<&Term>,
 ) -> Result<Vec<usize>, AllocError>
-    ensures { IfOk result (λ found. found.items ≡ needs_by (converters_at converters.now)
+    ensures { IfOk result (λ found. found.items ≡ needs_by (get_by_texts numbers.now)
         (conversion_of converter.now) (option_map (λ t. term_of t.now) term.entry)) }
 {
     let mut found = Vec::new(alloc);
     let Some(term) = term else {
         return Ok(found);
     };
-    add_needed_before(converters, converter.inner_ty.0.as_str(), term, &mut found)?;
+    add_needed_before(numbers, converter.inner_ty.0.as_str(), term, &mut found)?;
     add_needed(
-        converters,
+        numbers,
         term.ret.as_str(),
         converter.outer_ty.0.as_str(),
         &mut found,
@@ -136,54 +187,35 @@ fn needs_by(
 
 /// Adds the converter of a type to that of a term's first argument.
 fn add_needed_before(
-    converters: &[&Converter],
+    numbers: &Numbers,
     inner: &str,
     term: &Term,
     found: &mut Vec<usize>,
 ) -> Result<(), AllocError>
     ensures { OnOk result (found.new.items ≡ found.old.items
-        ++ needed_before (converters_at converters.now) inner.now (term_of term.now).args) }
+        ++ needed_before (get_by_texts numbers.now) inner.now (term_of term.now).args) }
 {
     match term.args.first() {
-        Some(arg) => add_needed(converters, inner, arg.as_str(), found),
+        Some(arg) => add_needed(numbers, inner, arg.as_str(), found),
         None => Ok(()),
     }
 }
 
 /// Adds the converter of two types, if they differ and there is one.
 fn add_needed(
-    converters: &[&Converter],
+    numbers: &Numbers,
     inner: &str,
     outer: &str,
     found: &mut Vec<usize>,
 ) -> Result<(), AllocError>
     ensures { OnOk result (found.new.items ≡ found.old.items
-        ++ needed (converters_at converters.now) inner.now outer.now) }
+        ++ needed (get_by_texts numbers.now) inner.now outer.now) }
 {
     if inner == outer {
         return Ok(());
     }
-    if let Some(number) = number_of(converters, inner, outer) {
+    if let Some(number) = value_at(numbers, inner, outer).copied() {
         found.push(number)?;
     }
     Ok(())
-}
-
-/// Returns the number of the first converter of two types.
-fn number_of(converters: &[&Converter], inner: &str, outer: &str) -> Option<usize>
-    ensures { result ≡ number_from 0 (converters_at converters.now) inner.now outer.now }
-{
-    for number in 0..converters.len() {
-        if is_of(converters[number], inner, outer) {
-            return Some(number);
-        }
-    }
-    None
-}
-
-fn is_of(converter: &Converter, inner: &str, outer: &str) -> bool
-    ensures { result ≡ (bytes_eq (conversion_of converter.now).inner_ty.text inner.now
-        && bytes_eq (conversion_of converter.now).outer_ty.text outer.now) }
-{
-    converter.inner_ty.0.as_str() == inner && converter.outer_ty.0.as_str() == outer
 }

@@ -11,10 +11,11 @@ use Rattle.isle_check_environment.specs.Parts.{ConstantNode, constants_in, extra
 use Rattle.isle_check_declarations.specs.Faults as declarations
 use Rattle.isle_check_declarations.specs.TypeFaults.{type_faults}
 use Rattle.isle_check_declarations.specs.TermFaults.{term_faults}
-use Rattle.isle_check_extractors.specs.Converters.{converter_faults}
-use Rattle.isle_check_extractors.specs.Externs.{extern_faults}
-use Rattle.isle_check_extractors.specs.Extractors.{extractor_faults}
-use Rattle.isle_check_extractors.specs.Roots.{root_faults}
+use Rattle.isle_check_declarations.specs.Terms as named
+use Rattle.isle_check_extractors.specs.Converters.{converter_faults_by}
+use Rattle.isle_check_extractors.specs.Externs.{extern_faults_by}
+use Rattle.isle_check_extractors.specs.Extractors.{extractor_faults_by}
+use Rattle.isle_check_extractors.specs.Roots.{root_faults_by}
 use Rattle.isle_check_recursion.specs.Recursion.{RecursionNode, recursions}
 use Rattle.isle_check_signatures.specs.Environment.{EnvironmentNode, environment}
 use Rattle.isle_check_signatures.specs.Signatures.{TermNode}
@@ -94,9 +95,13 @@ abbrev pub or_next : (group later : List FindingNode) → List FindingNode
 or_next [] later = later
 or_next (f ∷ fs) later = f ∷ fs
 
--- rules name declared terms, extractors are right, and none uses itself
+-- rules name declared terms, extractors are right, and none uses itself. `terms` says what a text means as the name of a term
+abbrev pub root_errors_by : (terms : List ℕ → named.TermNode) → List Definition → List FindingNode
+root_errors_by terms ds =
+    of_faults (root_faults_by terms ds) ++ (of_faults (extractor_faults_by terms ds) ++ map of_recursion (recursions ds))
+
 abbrev pub root_errors : List Definition → List FindingNode
-root_errors ds = of_faults (root_faults ds) ++ (of_faults (extractor_faults ds) ++ map of_recursion (recursions ds))
+root_errors ds = root_errors_by (named.terms ds) ds
 
 -- a constant is declared once
 abbrev pub doubled_constant : List Name → ConstantNode → List FindingNode
@@ -160,11 +165,18 @@ abbrev pub rule_findings : List Definition → List FindingNode
 rule_findings ds = rule_findings_by (environment ds) ds
 
 -- the errors of the first group that has any: types, terms, rules' roots and extractors, converters, external definitions, rules
+abbrev pub later_findings_by : (terms : List ℕ → named.TermNode) → EnvironmentNode → List Definition → List FindingNode
+later_findings_by terms env ds =
+    or_next (of_faults (converter_faults_by terms ds)) (or_next (of_faults (extern_faults_by terms ds)) (rule_findings_by env ds))
+
 abbrev pub later_findings : List Definition → List FindingNode
-later_findings ds = or_next (of_faults (converter_faults ds)) (or_next (of_faults (extern_faults ds)) (rule_findings ds))
+later_findings ds = later_findings_by (named.terms ds) (environment ds) ds
+
+abbrev pub root_findings_by : (terms : List ℕ → named.TermNode) → EnvironmentNode → List Definition → List FindingNode
+root_findings_by terms env ds = or_next (root_errors_by terms ds) (later_findings_by terms env ds)
 
 abbrev pub root_findings : List Definition → List FindingNode
-root_findings ds = or_next (root_errors ds) (later_findings ds)
+root_findings ds = root_findings_by (named.terms ds) (environment ds) ds
 
 abbrev pub findings : List Definition → List FindingNode
 findings ds = or_next (of_faults (type_faults ds)) (or_next (of_faults (term_faults ds)) (root_findings ds))

@@ -5,11 +5,12 @@ ghost use Rattle.isle_ast.specs.MacroArgs.{definitions_have_macro_arg};
 ghost use Rattle.isle_ast.specs.TreeView.{definitions_of};
 ghost use Rattle.isle_check_core.specs.Findings.{after_rules, deep_rule, finding, findings};
 ghost use Rattle.isle_check_core.specs.Findings.{endless_converters, has_error, of_overlap};
-ghost use Rattle.isle_check_core.specs.Findings.{later_findings, of_faults, of_recursion};
-ghost use Rattle.isle_check_core.specs.Findings.{of_rule_fault, of_rules, root_errors};
-ghost use Rattle.isle_check_core.specs.Findings.{root_findings, rule_findings, rule_findings_by};
+ghost use Rattle.isle_check_core.specs.Findings.{later_findings_by, of_faults, of_recursion};
+ghost use Rattle.isle_check_core.specs.Findings.{of_rule_fault, of_rules, root_errors_by};
+ghost use Rattle.isle_check_core.specs.Findings.{root_findings, root_findings_by};
+ghost use Rattle.isle_check_core.specs.Findings.{rule_findings_by};
 ghost use Rattle.isle_check_core.specs.Views.{findings_of};
-ghost use Rattle.isle_check_declarations.specs.Views.{faults_of};
+ghost use Rattle.isle_check_declarations.specs.Views.{faults_of, term_in};
 ghost use Rattle.isle_check_overlaps.specs.Views as overlaps;
 ghost use Rattle.isle_check_recursion.specs.Views.{names_at, recursions_at};
 ghost use Rattle.isle_check_rules.specs.Views.{rules_typing_of, typed_rules_of};
@@ -21,6 +22,7 @@ use crate::finding::{Finding, Kind};
 use crate::warnings::{add_endless_converters, add_warnings};
 use isle_ast::ast::{Def, Ident};
 use isle_base::lexer::Pos;
+use isle_check_declarations::lookup::TermLookup;
 use isle_check_declarations::{Fault, term_faults, type_faults};
 use isle_check_extractors::{converter_faults, extern_faults, extractor_faults, root_faults};
 use isle_check_matchings::rule_overlaps;
@@ -66,41 +68,45 @@ fn root_findings(alloc: Global, defs: &[Def]) -> Result<Vec<Finding<'_>>, AllocE
         (λ found. findings_of found.items ≡ root_findings (definitions_of defs.now)) }
 {
     let env = Environment::new(alloc, defs)?;
-    findings_in(alloc, &env, defs)
+    let terms = TermLookup::new(alloc, defs)?;
+    root_findings_by(alloc, &env, &terms, defs)
 }
 
 #[tactic(auto, using(crate::proofs::GroupLemmas::group_told, crate::proofs::GroupLemmas::group_passed))]
-fn findings_in<'a>(
+fn root_findings_by<'a>(
     alloc: Global,
     env: &Environment,
+    terms: &TermLookup,
     defs: &'a [Def],
 ) -> Result<Vec<Finding<'a>>, AllocError>
     requires { environment_of env.now ≡ environment (definitions_of defs.now) }
-    ensures { IfOk result
-        (λ found. findings_of found.items ≡ root_findings (definitions_of defs.now)) }
+    ensures { IfOk result (λ found. findings_of found.items
+        ≡ root_findings_by (term_in terms.now) (environment_of env.now)
+        (definitions_of defs.now)) }
 {
-    let found = root_errors(alloc, env, defs)?;
+    let found = root_errors(alloc, env, terms, defs)?;
     if !found.is_empty() {
         return Ok(found);
     }
-    later_findings(alloc, env, defs)
+    later_findings(alloc, env, terms, defs)
 }
 
 #[tactic(auto, using(crate::proofs::GroupLemmas::group_told, crate::proofs::GroupLemmas::group_passed))]
 fn later_findings<'a>(
     alloc: Global,
     env: &Environment,
+    terms: &TermLookup,
     defs: &'a [Def],
 ) -> Result<Vec<Finding<'a>>, AllocError>
-    requires { environment_of env.now ≡ environment (definitions_of defs.now) }
-    ensures { IfOk result
-        (λ found. findings_of found.items ≡ later_findings (definitions_of defs.now)) }
+    ensures { IfOk result (λ found. findings_of found.items
+        ≡ later_findings_by (term_in terms.now) (environment_of env.now)
+        (definitions_of defs.now)) }
 {
-    let found = of_faults(alloc, &converter_faults(alloc, defs)?)?;
+    let found = of_faults(alloc, &converter_faults(alloc, terms, defs)?)?;
     if !found.is_empty() {
         return Ok(found);
     }
-    let found = of_faults(alloc, &extern_faults(alloc, defs)?)?;
+    let found = of_faults(alloc, &extern_faults(alloc, terms, defs)?)?;
     if !found.is_empty() {
         return Ok(found);
     }
@@ -109,18 +115,6 @@ fn later_findings<'a>(
 
 /// Returns the errors of rules, or the first rule that is too deep, or the warnings.
 fn rule_findings<'a>(
-    alloc: Global,
-    env: &Environment,
-    defs: &'a [Def],
-) -> Result<Vec<Finding<'a>>, AllocError>
-    requires { environment_of env.now ≡ environment (definitions_of defs.now) }
-    ensures { IfOk result
-        (λ found. findings_of found.items ≡ rule_findings (definitions_of defs.now)) }
-{
-    rule_findings_by(alloc, env, defs)
-}
-
-fn rule_findings_by<'a>(
     alloc: Global,
     env: &Environment,
     defs: &'a [Def],
@@ -240,14 +234,15 @@ fn deep_rule<'a>(
 fn root_errors<'a>(
     alloc: Global,
     env: &Environment,
+    terms: &TermLookup,
     defs: &'a [Def],
 ) -> Result<Vec<Finding<'a>>, AllocError>
     requires { environment_of env.now ≡ environment (definitions_of defs.now) }
-    ensures { IfOk result
-        (λ found. findings_of found.items ≡ root_errors (definitions_of defs.now)) }
+    ensures { IfOk result (λ found. findings_of found.items
+        ≡ root_errors_by (term_in terms.now) (definitions_of defs.now)) }
 {
-    let mut found = of_faults(alloc, &root_faults(alloc, defs)?)?;
-    add_faults(&extractor_faults(alloc, defs)?, &mut found)?;
+    let mut found = of_faults(alloc, &root_faults(alloc, terms, defs)?)?;
+    add_faults(&extractor_faults(alloc, terms, defs)?, &mut found)?;
     add_recursions(alloc, &recursions(alloc, env, defs)?, &mut found)?;
     Ok(found)
 }

@@ -49,5 +49,8 @@ wrong_converters known terms earlier (c ∷ cs) =
     wrong_converter known terms earlier c ++ wrong_converters known terms (earlier ++ counted known terms c) cs
 
 -- the errors of a program's converters
+abbrev pub converter_faults_by : (List ℕ → TermNode) → List Definition → List FaultNode
+converter_faults_by terms ds = wrong_converters (is_type (type_names (types_in ds))) terms [] (converters_in ds)
+
 abbrev pub converter_faults : List Definition → List FaultNode
-converter_faults ds = wrong_converters (is_type (type_names (types_in ds))) (terms ds) [] (converters_in ds)
+converter_faults ds = converter_faults_by (terms ds) ds

@@ -1,4 +1,5 @@
--- The errors of external constructors and extractors.
+-- The errors of external constructors and extractors. `terms` says what a text means as the name of
+-- a term.
 use Rattle.std.specs.Prelude.{ℕ, List, [], ◌∷◌, ◌++◌, Bool, Option, None, Some, if◌then◌else◌}
 use Rattle.std.specs.List.{flat_map}
 use Rattle.isle_base_source.specs.declared.pos.Pos.{Pos}
@@ -18,13 +19,16 @@ pub record KnownNode : Type 0 where
   pub ruled : List ℕ → Bool
   pub templates : List ℕ → Option Pos
 
-abbrev pub known : List Definition → KnownNode
-known ds =
+abbrev pub known_by : (List ℕ → TermNode) → List Definition → KnownNode
+known_by terms ds =
     record {
-      terms = terms ds;
+      terms = terms;
       ruled = has (flat_map ruled_name ds);
-      templates = place_of (template_names (terms ds) [] (reached (terms ds) (extractors_in ds)));
+      templates = place_of (template_names terms [] (reached terms (extractors_in ds)));
     }
+
+abbrev pub known : List Definition → KnownNode
+known ds = known_by (terms ds) ds
 
 -- a term with an external constructor is declared, and has neither rules nor an earlier one
 abbrev pub constructor_kind_of : TermNode → (ruled again : Bool) → Name → Option KindNode
@@ -106,5 +110,8 @@ wrong_externs k constructors extractors (x ∷ xs) =
     ++ wrong_externs k (with_extern_constructor k constructors x) (with_extern_extractor k extractors x) xs
 
 -- the errors of a program's external constructors and extractors
+abbrev pub extern_faults_by : (List ℕ → TermNode) → List Definition → List FaultNode
+extern_faults_by terms ds = wrong_externs (known_by terms ds) [] [] (externs_in ds)
+
 abbrev pub extern_faults : List Definition → List FaultNode
-extern_faults ds = wrong_externs (known ds) [] [] (externs_in ds)
+extern_faults ds = extern_faults_by (terms ds) ds

@@ -67,5 +67,8 @@ template_names terms earlier [] = earlier
 template_names terms earlier (x ∷ xs) = template_names terms (with_template terms earlier x) xs
 
 -- the errors of a program's internal extractors
+abbrev pub extractor_faults_by : (List ℕ → TermNode) → List Definition → List FaultNode
+extractor_faults_by terms ds = wrong_extractors terms [] (reached terms (extractors_in ds))
+
 abbrev pub extractor_faults : List Definition → List FaultNode
-extractor_faults ds = wrong_extractors (terms ds) [] (reached (terms ds) (extractors_in ds))
+extractor_faults ds = extractor_faults_by (terms ds) ds

@@ -27,5 +27,8 @@ abbrev pub wrong_roots : (List ℕ → TermNode) → List RuleDefinition → Lis
 wrong_roots terms rs = flat_map (wrong_root terms) rs
 
 -- the errors of the left sides of a program's rules
+abbrev pub root_faults_by : (List ℕ → TermNode) → List Definition → List FaultNode
+root_faults_by terms ds = wrong_roots terms (rules_in ds)
+
 abbrev pub root_faults : List Definition → List FaultNode
-root_faults ds = wrong_roots (terms ds) (rules_in ds)
+root_faults ds = root_faults_by (terms ds) ds

@@ -15,7 +15,7 @@ use Rattle.isle_check_extractors.specs.Externs.{KnownNode}
 abbrev pub known_of : Known → KnownNode
 known_of k =
     record {
-      terms = term_in k.terms;
+      terms = term_in k.terms.now;
       ruled = λ text. is_some (get_by_text k.ruled text);
       templates = get_by_text k.templates;
     }

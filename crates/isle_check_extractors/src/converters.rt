@@ -7,7 +7,7 @@ ghost use Rattle.isle_ast.specs.TreeView.{conversion_of, definitions_of};
 ghost use Rattle.isle_check_environment.specs.Types.{is_type_in};
 ghost use Rattle.isle_check_environment.specs.Views.{converters_at};
 ghost use Rattle.isle_check_declarations.specs.Views.{fault_of, faults_of, term_in};
-ghost use Rattle.isle_check_extractors.specs.Converters.{converter_faults, counted};
+ghost use Rattle.isle_check_extractors.specs.Converters.{converter_faults_by, counted};
 ghost use Rattle.isle_check_extractors.specs.Converters.{doubled_converter, has_pair, unknown_name};
 ghost use Rattle.isle_check_extractors.specs.Converters.{wrong_converter, wrong_converters};
 ghost use Rattle.isle_check_extractors.specs.Views.{KnowsPairs};
@@ -25,16 +25,19 @@ use std::collections::BTreeSet;
 type Pairs<'a> = BTreeSet<(&'a str, &'a str)>;
 
 /// Returns the errors of converters: their types and terms are known, and a pair of types has one
-/// converter. An `Err` means out of memory.
-pub fn converter_faults(alloc: Global, defs: &[Def]) -> Result<Vec<Fault<'_>>, AllocError>
-    ensures { IfOk result
-        (λ found. faults_of found.items ≡ converter_faults (definitions_of defs.now)) }
+/// converter. `terms` are those of the program. An `Err` means out of memory.
+pub fn converter_faults<'a>(
+    alloc: Global,
+    terms: &TermLookup,
+    defs: &'a [Def],
+) -> Result<Vec<Fault<'a>>, AllocError>
+    ensures { IfOk result (λ found. faults_of found.items
+        ≡ converter_faults_by (term_in terms.now) (definitions_of defs.now)) }
 {
     let types = types_in(alloc, defs)?;
     let known = type_names(alloc, &types)?;
-    let terms = TermLookup::new(alloc, defs)?;
     let converters = converters_in(alloc, defs)?;
-    wrong_converters(alloc, &known, &terms, &converters)
+    wrong_converters(alloc, &known, terms, &converters)
 }
 
 fn wrong_converters<'a>(

@@ -7,9 +7,9 @@ ghost use Rattle.isle_ast_names.specs.Tree.{Name};
 ghost use Rattle.isle_ast_names.specs.TreeView.{name_of};
 ghost use Rattle.isle_check_environment.specs.Names.{Knows, has, place_of};
 ghost use Rattle.isle_check_environment.specs.Views.{externs_at};
-ghost use Rattle.isle_check_declarations.specs.Views.{faults_of, kind_of, term_of};
+ghost use Rattle.isle_check_declarations.specs.Views.{faults_of, kind_of, term_in, term_of};
 ghost use Rattle.isle_check_extractors.specs.Externs.{constructor_kind, doubled_external};
-ghost use Rattle.isle_check_extractors.specs.Externs.{extern_faults, known, new_external};
+ghost use Rattle.isle_check_extractors.specs.Externs.{extern_faults_by, known_by, new_external};
 ghost use Rattle.isle_check_extractors.specs.Externs.{with_constructor, with_extern_constructor};
 ghost use Rattle.isle_check_extractors.specs.Externs.{with_extern_extractor, with_extractor};
 ghost use Rattle.isle_check_extractors.specs.Externs.{wrong_constructor, wrong_extern};
@@ -28,9 +28,9 @@ use std::alloc::{AllocError, Global};
 
 /// What external definitions are checked by.
 #[derive(Drop)]
-pub struct Known<'a> {
+pub struct Known<'t, 'a> {
     /// The terms.
-    pub terms: TermLookup<'a>,
+    pub terms: &'t TermLookup<'a>,
     /// The terms that have rules.
     pub ruled: Names,
     /// The terms that have an internal extractor, each at its template.
@@ -39,26 +39,34 @@ pub struct Known<'a> {
 
 /// Returns the errors of external constructors and extractors: their terms are declared, a term
 /// with a constructor has neither rules nor another one, and a term with an extractor has no other
-/// one, internal or external. An `Err` means out of memory.
-pub fn extern_faults(alloc: Global, defs: &[Def]) -> Result<Vec<Fault<'_>>, AllocError>
-    ensures { IfOk result
-        (λ found. faults_of found.items ≡ extern_faults (definitions_of defs.now)) }
+/// one, internal or external. `terms` are those of the program. An `Err` means out of memory.
+pub fn extern_faults<'a>(
+    alloc: Global,
+    terms: &TermLookup,
+    defs: &'a [Def],
+) -> Result<Vec<Fault<'a>>, AllocError>
+    ensures { IfOk result (λ found. faults_of found.items
+        ≡ extern_faults_by (term_in terms.now) (definitions_of defs.now)) }
 {
-    let known = gathered(alloc, defs)?;
+    let known = gathered(alloc, terms, defs)?;
     let externs = externs_in(alloc, defs)?;
     wrong_externs(alloc, &known, &externs)
 }
 
-fn gathered(alloc: Global, defs: &[Def]) -> Result<Known<'_>, AllocError>
-    ensures { IfOk result (λ k. known_of k ≡ known (definitions_of defs.now)) }
+fn gathered<'t, 'a>(
+    alloc: Global,
+    terms: &'t TermLookup<'a>,
+    defs: &[Def],
+) -> Result<Known<'t, 'a>, AllocError>
+    ensures { IfOk result
+        (λ k. known_of k ≡ known_by (term_in terms.now) (definitions_of defs.now)) }
 {
-    let terms = TermLookup::new(alloc, defs)?;
     let ruled = ruled_terms(alloc, defs)?;
     let given = extractors_in(alloc, defs)?;
-    let extractors = reached(alloc, &terms, &given)?;
+    let extractors = reached(alloc, terms, &given)?;
     let mut templates = no_names(alloc);
     let mut found = Vec::new(alloc);
-    add_wrong_extractors(&terms, &extractors, &mut templates, &mut found)?;
+    add_wrong_extractors(terms, &extractors, &mut templates, &mut found)?;
     Ok(Known {
         terms,
         ruled,

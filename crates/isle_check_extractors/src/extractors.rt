@@ -7,7 +7,7 @@ ghost use Rattle.isle_ast_rules.specs.TreeView.{extractor_of};
 ghost use Rattle.isle_check_environment.specs.Names.{Knows, place_of};
 ghost use Rattle.isle_check_environment.specs.Views.{extractors_at};
 ghost use Rattle.isle_check_declarations.specs.Views.{faults_of, term_in, term_of};
-ghost use Rattle.isle_check_extractors.specs.Extractors.{doubled_extractor, extractor_faults};
+ghost use Rattle.isle_check_extractors.specs.Extractors.{doubled_extractor, extractor_faults_by};
 ghost use Rattle.isle_check_extractors.specs.Extractors.{new_template, reached, template_names};
 ghost use Rattle.isle_check_extractors.specs.Extractors.{with_template, with_template_of};
 ghost use Rattle.isle_check_extractors.specs.Extractors.{wrong_extractor, wrong_extractors};
@@ -22,18 +22,21 @@ use isle_check_environment::parts::extractors_in;
 use std::alloc::{AllocError, Global};
 
 /// Returns the errors of internal extractors, up to the first whose term is not known: the term is
-/// declared and not multi, it has no other extractor, and the terms of the template are known. An
-/// `Err` means out of memory.
-pub fn extractor_faults(alloc: Global, defs: &[Def]) -> Result<Vec<Fault<'_>>, AllocError>
-    ensures { IfOk result
-        (λ found. faults_of found.items ≡ extractor_faults (definitions_of defs.now)) }
+/// declared and not multi, it has no other extractor, and the terms of the template are known.
+/// `terms` are those of the program. An `Err` means out of memory.
+pub fn extractor_faults<'a>(
+    alloc: Global,
+    terms: &TermLookup,
+    defs: &'a [Def],
+) -> Result<Vec<Fault<'a>>, AllocError>
+    ensures { IfOk result (λ found. faults_of found.items
+        ≡ extractor_faults_by (term_in terms.now) (definitions_of defs.now)) }
 {
-    let terms = TermLookup::new(alloc, defs)?;
     let given = extractors_in(alloc, defs)?;
-    let extractors = reached(alloc, &terms, &given)?;
+    let extractors = reached(alloc, terms, &given)?;
     let mut templates = no_names(alloc);
     let mut found = Vec::new(alloc);
-    add_wrong_extractors(&terms, &extractors, &mut templates, &mut found)?;
+    add_wrong_extractors(terms, &extractors, &mut templates, &mut found)?;
     Ok(found)
 }
 

@@ -6,7 +6,7 @@ ghost use Rattle.isle_ast_names.specs.TreeView.{name_of};
 ghost use Rattle.isle_ast_rules.specs.TreeView.{rule_of};
 ghost use Rattle.isle_check_environment.specs.Views.{rules_at};
 ghost use Rattle.isle_check_declarations.specs.Views.{faults_of, term_in, term_of};
-ghost use Rattle.isle_check_extractors.specs.Roots.{root_faults, wrong_root, wrong_root_term};
+ghost use Rattle.isle_check_extractors.specs.Roots.{root_faults_by, wrong_root, wrong_root_term};
 ghost use Rattle.isle_check_extractors.specs.Roots.{wrong_roots};
 
 use isle_ast::ast::{Def, Ident, Rule};
@@ -17,15 +17,18 @@ use isle_check_environment::parts::rules_in;
 use std::alloc::{AllocError, Global};
 
 /// Returns the errors of the left sides of rules: each is a term that is declared, not a variant.
-/// An `Err` means out of memory.
-pub fn root_faults(alloc: Global, defs: &[Def]) -> Result<Vec<Fault<'_>>, AllocError>
-    ensures { IfOk result
-        (λ found. faults_of found.items ≡ root_faults (definitions_of defs.now)) }
+/// `terms` are those of the program. An `Err` means out of memory.
+pub fn root_faults<'a>(
+    alloc: Global,
+    terms: &TermLookup,
+    defs: &'a [Def],
+) -> Result<Vec<Fault<'a>>, AllocError>
+    ensures { IfOk result (λ found. faults_of found.items
+        ≡ root_faults_by (term_in terms.now) (definitions_of defs.now)) }
 {
-    let terms = TermLookup::new(alloc, defs)?;
     let rules = rules_in(alloc, defs)?;
     let mut found = Vec::new(alloc);
-    add_wrong_roots(&terms, &rules, &mut found)?;
+    add_wrong_roots(terms, &rules, &mut found)?;
     Ok(found)
 }
 

@@ -21,7 +21,7 @@ value_of-last (k ∷ ks) e text =
     first-or_else (bytes_eq e.text text) e.value (value_of ks text) (if bytes_eq k.text text then Some k.value else None)
     ∙ ap (λ x. or_else x (if bytes_eq k.text text then Some k.value else None)) (value_of-last ks e text)
 
-map-cond : {V Y : Type 0} (view : V → Y) (b : Bool) (v : V) (x : Option V) →
+pub map-cond : {V Y : Type 0} (view : V → Y) (b : Bool) (v : V) (x : Option V) →
     option_map view (cond b (Some v) x) ≡ cond b (Some (view v)) (option_map view x)
 map-cond view true v x = refl
 map-cond view false v x = refl

@@ -1,2 +1,4 @@
 pub mod EntryLemmas
+pub mod ByTextsLemmas
+pub mod ConverterLemmas
 pub mod Adding

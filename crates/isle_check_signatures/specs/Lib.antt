@@ -1,4 +1,5 @@
 pub mod Entries
+pub mod ByTexts
 pub mod Signatures
 pub mod Environment
 pub mod Views

@@ -4,7 +4,7 @@ use Rattle.isle_ast_names.specs.Tree.{Name}
 use Rattle.isle_ast_rules.specs.Templates.{replace}
 use Rattle.isle_ast_rules.specs.Tree.{PatternNode, macro_arg_pattern}
 use Rattle.isle_ast.specs.Roots.{full_name}
-use Rattle.isle_ast.specs.Tree.{Declaration, NamedField, IndexedField, FieldList, unit_fields, struct_fields, tuple_fields, EnumVariant, TypeContent, primitive_type, enum_type, TypeDefinition, ExternDefinition, extern_extractor, extern_constructor, extern_const, Definition, type_def, extractor, decl, external}
+use Rattle.isle_ast.specs.Tree.{Declaration, NamedField, IndexedField, FieldList, unit_fields, struct_fields, tuple_fields, EnumVariant, TypeContent, primitive_type, enum_type, ExternDefinition, extern_extractor, extern_constructor, extern_const, Definition, type_def, extractor, decl, external}
 use Rattle.isle_check_signatures.specs.Entries.{Entry, entry}
 
 abbrev pub text_of : Name → List ℕ

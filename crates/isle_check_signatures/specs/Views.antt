@@ -1,11 +1,15 @@
 -- The terms and the environment of code, as pure values.
-use Rattle.std.specs.Prelude.{ℕ, List, ◌||◌, is_some, map, option_map, string_bytes}
-use Rattle.std.specs.BTreeMap.{get_by_text}
+use Rattle.std.specs.Prelude.{◌≡◌, ℕ, List, ◌||◌, is_some, map, option_map, string_bytes}
+use Rattle.std.specs.Borrow.{Bor}
+use Rattle.std.specs.BTreeMap.{BTreeMap, get_by_text}
+use Rattle.std.specs.declared.alloc.Global.{Global}
+use Rattle.std.specs.declared.string.String.{String}
+use Rattle.isle_ast.specs.Tree.{Conversion}
 use Rattle.isle_ast_rules.specs.TreeView.{pattern_of}
 use Rattle.isle_check_environment.specs.Types.{is_integer_type, is_type_in}
-use Rattle.isle_check_environment.specs.Views.{converters_at}
 use Rattle.isle_check_signatures.specs.declared.environment.Environment.{Environment}
 use Rattle.isle_check_signatures.specs.declared.terms.Term.{Term}
+use Rattle.isle_check_signatures.specs.ByTexts.{get_by_texts}
 use Rattle.isle_check_signatures.specs.Environment.{EnvironmentNode, converting}
 use Rattle.isle_check_signatures.specs.Signatures.{TermNode}
 
@@ -20,6 +24,10 @@ term_of t =
       is_variant = t.is_variant;
     }
 
+-- the map has the terms of these converters and no others, of two types that of the first one
+abbrev pub Converts : BTreeMap (String Global) (BTreeMap (String Global) (Bor (String Global))) → List Conversion → Type 0
+Converts terms cs = (inner outer : List ℕ) → option_map (λ t. string_bytes t.now) (get_by_texts terms inner outer) ≡ converting cs inner outer
+
 abbrev pub environment_of : Environment → EnvironmentNode
 environment_of e =
     record {
@@ -28,7 +36,7 @@ environment_of e =
       constants = λ text. option_map string_bytes (get_by_text e.constants text);
       terms = λ text. option_map term_of (get_by_text e.terms text);
       templates = λ text. option_map pattern_of (get_by_text e.templates text);
-      converters = converting (converters_at e.converters.items);
+      converters = λ inner outer. option_map (λ t. string_bytes t.now) (get_by_texts e.converters inner outer);
       has_constructor = λ text.
           is_some (get_by_text e.sorts.variants text)
           || (is_some (get_by_text e.sorts.ruled text) || is_some (get_by_text e.constructors text));

@@ -7,14 +7,16 @@ ghost use Rattle.isle_ast_rules.specs.TreeView.{pattern_of};
 ghost use Rattle.isle_check_signatures.specs.Environment.{environment};
 ghost use Rattle.isle_check_signatures.specs.Views.{environment_of, term_of};
 
+use crate::by_texts::value_at;
 use crate::constants::constants;
+use crate::converters::{Converters, converters};
 use crate::externals::{constructors, extractors};
 use crate::templates::templates;
 use crate::terms::{Term, terms_by_text};
 use crate::types::primitives;
-use isle_ast::ast::{Converter, Def, Pattern};
+use isle_ast::ast::{Def, Pattern};
 use isle_check_environment::names::{Names, has};
-use isle_check_environment::parts::{converters_in, types_in};
+use isle_check_environment::parts::types_in;
 use isle_check_environment::terms::{Terms, known_terms};
 use isle_check_environment::types::{is_integer_type, is_type, type_names};
 use std::alloc::{AllocError, Global};
@@ -39,8 +41,8 @@ pub struct Environment<'a> {
     pub extractors: Names,
     /// The terms with an external constructor.
     pub constructors: Names,
-    /// The converters, in order.
-    pub converters: Vec<&'a Converter>,
+    /// The terms that convert, by the inner and the outer type.
+    pub converters: Converters<'a>,
 }
 
 impl<'a> Environment<'a> {
@@ -61,7 +63,7 @@ impl<'a> Environment<'a> {
         let templates = templates(alloc, defs)?;
         let extractors = extractors(alloc, defs)?;
         let constructors = constructors(alloc, defs)?;
-        let converters = converters_in(alloc, defs)?;
+        let converters = converters(alloc, defs)?;
         Ok(Environment {
             types,
             primitives,
@@ -120,12 +122,7 @@ impl<'a> Environment<'a> {
         ensures { option_map (λ t. string_bytes t.now) result
             ≡ (environment_of self.now).converters inner.now outer.now }
     {
-        for converter in &self.converters {
-            if converter.inner_ty.0.as_str() == inner && converter.outer_ty.0.as_str() == outer {
-                return Some(&converter.term.0);
-            }
-        }
-        None
+        value_at(&self.converters, inner, outer).copied()
     }
 
     /// Returns whether a term may stand in an expression: it is a variant, the root of a rule, or

@@ -1,8 +1,10 @@
 //! What the definitions of a program declare for the typing of its rules, by text: types,
-//! constants, terms, templates and converters. Lookups of all but converters take logarithmic time.
+//! constants, terms, templates and converters. Lookups take logarithmic time.
 #![tactic(auto)]
 
+pub mod by_texts;
 mod constants;
+mod converters;
 mod environment;
 mod externals;
 mod templates;

@@ -15,8 +15,8 @@ pub returns-in-Declared : goal.returns-in-Declared
 returns-in-Declared c =
     let name = name_of c.args.term.now in
     let declared : TermNode = declared_term (declaration_of c.in-Declared.field-0.now) in
-    let term : TermNode = term_in c.args.known.now.terms name.text in
-    let its : declared ≡ term = c.in-Declared.ensures ∙ ap (λ bs. term_in c.args.known.now.terms bs) c.as_str.ensures.value in
+    let term : TermNode = term_in c.args.known.now.terms.now name.text in
+    let its : declared ≡ term = c.in-Declared.ensures ∙ ap (λ bs. term_in c.args.known.now.terms.now bs) c.as_str.ensures.value in
     let internal = c.place_of-internal.ensures.looked_up ∙ ap (λ bs. get_by_text c.args.known.now.templates bs) c.as_str-in-Declared.ensures.value in
     let Known : List Name → Type 0 = Knows c.add_external.new.extractors in
     IfOk-weaker c.add_external.result _ _

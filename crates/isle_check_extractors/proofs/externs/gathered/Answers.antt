@@ -1,7 +1,5 @@
 use Rattle.std.proofs.Common.{[], ap, ◌∙◌, is_some}
-use Rattle.isle_ast.specs.TreeView.{definitions_of}
 use Rattle.isle_check_environment.specs.Names.{place_of}
-use Rattle.isle_check_environment.specs.Parts.{extractors_in}
 use Rattle.isle_check_environment.specs.Views.{extractors_at}
 use Rattle.isle_check_declarations.specs.Views.{term_in}
 use Rattle.isle_check_extractors.specs.Extractors.{reached, template_names}
@@ -9,14 +7,13 @@ use Rattle.isle_check_extractors.proofs.externs.gathered.Goals as goal
 
 pub returns : goal.returns
 returns c =
-    let found = term_in c.in_ok-terms.terms in
+    let terms = term_in c.args.terms.now in
     let held = (c.in_ok-add_wrong_extractors.ensures [] c.no_names-templates.ensures).0 in λ i. record {
-      terms = c.in_ok-terms.ensures i;
+      terms = terms;
       ruled = λ text. is_some (c.in_ok-ruled.ensures text i);
       templates = λ text. (
           held text
-          ∙ ap (λ xs. place_of (template_names found [] xs) text) (ap extractors_at c.deref-2.ensures.value ∙ c.in_ok-extractors.ensures)
-          ∙ ap (λ xs. place_of (template_names found [] (reached found xs)) text) (ap extractors_at c.deref.ensures.value ∙ c.in_ok-given.ensures)
-          ∙ ap (λ t. place_of (template_names t [] (reached t (extractors_in (definitions_of c.args.defs.now)))) text) c.in_ok-terms.ensures
+          ∙ ap (λ xs. place_of (template_names terms [] xs) text) (ap extractors_at c.deref-2.ensures.value ∙ c.in_ok-extractors.ensures)
+          ∙ ap (λ xs. place_of (template_names terms [] (reached terms xs)) text) (ap extractors_at c.deref.ensures.value ∙ c.in_ok-given.ensures)
           ) i;
     }

@@ -2,7 +2,6 @@ use Rattle.std.proofs.Common.{ap, ◌∙◌}
 use Rattle.isle_ast.specs.TreeView.{definitions_of}
 use Rattle.isle_check_environment.specs.Parts.{rules_in}
 use Rattle.isle_check_environment.specs.Views.{rules_at}
-use Rattle.isle_check_declarations.specs.Terms.{terms}
 use Rattle.isle_check_declarations.specs.Views.{term_in}
 use Rattle.isle_check_extractors.specs.Roots.{wrong_roots}
 use Rattle.isle_check_extractors.proofs.Collecting.{collected}
@@ -10,6 +9,6 @@ use Rattle.isle_check_extractors.proofs.roots.root_faults.Goals as goal
 
 pub returns : goal.returns
 returns c =
-    let ds = definitions_of c.args.defs.now in
-    collected wrong_roots c.new-found.result.items c.add_wrong_roots.new.found.items (term_in c.in_ok-terms.terms) (terms ds) (rules_at c.deref.result.now) (rules_in ds)
-    c.new-found.ensures.items c.in_ok-add_wrong_roots.ensures c.in_ok-terms.ensures (ap rules_at c.deref.ensures.value ∙ c.in_ok-rules.ensures)
+    collected (wrong_roots (term_in c.args.terms.now)) c.new-found.result.items c.add_wrong_roots.new.found.items (rules_at c.deref.result.now)
+    (rules_in (definitions_of c.args.defs.now)) c.new-found.ensures.items c.in_ok-add_wrong_roots.ensures
+    (ap rules_at c.deref.ensures.value ∙ c.in_ok-rules.ensures)

@@ -1,8 +1,7 @@
-use Rattle.std.proofs.Common.{◌≡◌, ◌||◌, is_some, ap, ◌∙◌}
+use Rattle.std.proofs.Common.{◌||◌, is_some, ap, ◌∙◌}
 use Rattle.isle_check_environment.specs.Parts.{type_names}
 use Rattle.isle_check_environment.specs.Types.{is_integer_type, is_type}
 use Rattle.isle_check_environment.specs.Views.{types_at}
-use Rattle.isle_check_signatures.specs.Environment.{converting}
 use Rattle.isle_check_signatures.proofs.environment.Environment.new.Goals as goal
 
 pub returns : goal.returns
@@ -17,7 +16,7 @@ returns c =
       constants = λ text. c.in_ok-constants.ensures text i;
       terms = λ text. c.in_ok-terms.ensures text i;
       templates = λ text. c.in_ok-templates.ensures text i;
-      converters = λ inner outer. converting (c.in_ok-converters.ensures i) inner outer;
+      converters = λ inner outer. c.in_ok-converters.ensures inner outer i;
       has_constructor = λ text.
           is_some ((c.in_ok-sorts.ensures i).variants text)
           || (is_some ((c.in_ok-sorts.ensures i).ruled text) || is_some (c.in_ok-constructors.ensures text i));
