@@ -1,3 +1,4 @@
 pub mod FailureLemmas
 pub mod EndLemmas
 pub mod DoingLemmas
+pub mod ProgramLemmas

@@ -24,16 +24,18 @@ told_status errors = if errors == 0 then 0 else 1
 abbrev pub IsProgram : Program → Type 0
 IsProgram program =
     (program.name.now ≡ codes "isle-check")
-    × (program.usage.now ≡ codes "usage: isle-check [--allow KIND] [--stdin-name NAME] [--program NAME] [--all-programs] [FILE ..]\n")
+    × (program.usage.now ≡ codes "usage: isle-check [--allow KIND] [--warn KIND] [--deny KIND] [--message-format FORMAT] [--stdin-name NAME] [--program NAME] [--all-programs] [FILE ..]\n")
 
 abbrev pub AreOptions : Options → Type 0
-AreOptions options = (map (λ flag. flag.now) options.flags.now ≡ []) × (map (λ setting. setting.now) options.settings.now ≡ codes "--allow" ∷ [])
+AreOptions options =
+    (map (λ flag. flag.now) options.flags.now ≡ [])
+    × (map (λ setting. setting.now) options.settings.now ≡ codes "--allow" ∷ codes "--warn" ∷ codes "--deny" ∷ codes "--message-format" ∷ [])
 
 -- its options, and those that are about the programs of a manifest
 abbrev pub AreAllOptions : Options → Type 0
 AreAllOptions options =
     (map (λ flag. flag.now) options.flags.now ≡ codes "--print-programs" ∷ codes "--all-programs" ∷ [])
-    × (map (λ setting. setting.now) options.settings.now ≡ codes "--allow" ∷ codes "--program" ∷ [])
+    × (map (λ setting. setting.now) options.settings.now ≡ codes "--allow" ∷ codes "--warn" ∷ codes "--deny" ∷ codes "--message-format" ∷ codes "--program" ∷ [])
 
 -- the words ask this of the program
 abbrev pub Ask : List (List ℕ) → Option Asked → Type 0
@@ -85,7 +87,7 @@ Explains failures.Input given input input' output output' = ⊥
 Explains failures.Memory given input input' output output' = Keeps output output'
 Explains failures.Output given input input' output output' = Cuts given input input' output output'
 
--- the words are none of the usage, or allow a kind that there is none of
+-- the words are none of the usage, or name a kind or a format that there is none of
 abbrev pub IsMisuse : List (List ℕ) → Type 0
 IsMisuse words = Ask words None ⊎ ((given : List Given) × Ask words (Some (work_asked given)) × (are_usable given ≡ false))
 

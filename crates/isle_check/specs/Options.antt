@@ -1,23 +1,40 @@
 -- Which kinds of findings a command line allows.
-use Rattle.std.specs.Prelude.{ℕ, List, Bool, false, true, not, ◌&&◌, ◌||◌, codes}
+use Rattle.std.specs.Prelude.{ℕ, List, [], ◌∷◌, Bool, false, true, not, ◌&&◌, ◌||◌, codes, if◌then◌else◌}
 use Rattle.std.specs.List.{list_all, list_any}
 use Rattle.std.specs.Str.{bytes_eq}
 use Rattle.isle_cli.specs.Arguments.{Given, flag_given, setting_given, name_given}
 use Rattle.isle_check_core.specs.Kinds.{is_kind}
+use Rattle.isle_program_messages.specs.Formats.{is_format_usable}
 
--- an argument allows this kind
-abbrev pub is_allowing : List ℕ → Given → Bool
-is_allowing kind (flag_given _) = false
-is_allowing kind (setting_given o value) = bytes_eq o (codes "--allow") && bytes_eq value kind
-is_allowing kind (name_given _) = false
+-- an argument is this option with this kind
+abbrev pub is_naming : (option kind : List ℕ) → Given → Bool
+is_naming option kind (flag_given _) = false
+is_naming option kind (setting_given o value) = bytes_eq o option && bytes_eq value kind
+is_naming option kind (name_given _) = false
 
 abbrev pub is_allowed : List Given → List ℕ → Bool
-is_allowed given kind = list_any (is_allowing kind) given
+is_allowed given kind = list_any (is_naming (codes "--allow") kind) given
 
--- the values of `--allow` are names of kinds
+-- findings of a kind are errors as the last one of `--warn` and `--deny` says that names it, or else as they are by themselves
+abbrev pub counts_after : (kind : List ℕ) → (before : Bool) → Given → Bool
+counts_after kind before given =
+    if is_naming (codes "--warn") kind given then false else if is_naming (codes "--deny") kind given then true else before
+
+abbrev pub counts_as_error : (before : Bool) → List Given → (kind : List ℕ) → Bool
+counts_as_error before [] kind = before
+counts_as_error before (given ∷ more) kind = counts_as_error (counts_after kind before given) more kind
+
+-- the options whose values are names of kinds
+abbrev pub is_kind_option : List ℕ → Bool
+is_kind_option option = bytes_eq option (codes "--allow") || bytes_eq option (codes "--warn") || bytes_eq option (codes "--deny")
+
+abbrev pub is_kind_usable : (option value : List ℕ) → Bool
+is_kind_usable option value = not (is_kind_option option) || is_kind value
+
+-- the values of `--message-format` are names of formats
 abbrev pub is_usable : Given → Bool
 is_usable (flag_given _) = true
-is_usable (setting_given o value) = not (bytes_eq o (codes "--allow")) || is_kind value
+is_usable (setting_given o value) = is_kind_usable o value && is_format_usable o value
 is_usable (name_given _) = true
 
 abbrev pub are_usable : List Given → Bool

@@ -1,13 +1,14 @@
 -- What is told of several programs, which may share texts.
-use Rattle.std.specs.Prelude.{◌≡◌, ℕ, ◌+◌, ◌==◌, List, [], ◌∷◌, ◌++◌, Bool, true, false, Option, if◌then◌else◌, slice_get, unwrap_or}
+use Rattle.std.specs.Prelude.{◌≡◌, ℕ, ◌+◌, List, [], ◌∷◌, ◌++◌, Bool, true, false, not, ◌&&◌, Option, filter, if◌then◌else◌, is_some, slice_get, unwrap_or}
 use Rattle.std.specs.List.{list_any}
 use Rattle.std.specs.Str.{bytes_eq}
 use Rattle.isle_base_source.specs.Source.{Source}
 use Rattle.isle_base_source.specs.declared.error.Error.{Error}
 use Rattle.isle_ast.specs.Tree.{Definition}
 use Rattle.isle_cli.specs.Arguments.{Given}
-use Rattle.isle_check.specs.Report.{LineNode, ReportNode, lines_of, refused, rendered}
-use Rattle.isle_program.specs.Reading.{IsReading, refused_count}
+use Rattle.isle_check.specs.Report.{LineNode, ReportNode, lines_of, refused_lines, rendered}
+use Rattle.isle_program.specs.Reading.{IsReading}
+use Rattle.isle_program_messages.specs.Formats.{format_in}
 
 -- the text of this number is the program's
 abbrev pub is_own : (has : List Bool) → ℕ → Bool
@@ -43,18 +44,21 @@ AreAdded given sources lines [] all = all ≡ lines
 AreAdded given sources lines (has ∷ parts) all =
     (own_lines : List LineNode) × AreLines given (own has 0 sources) own_lines × AreAdded given sources (all_added lines own_lines) parts all
 
--- this is told of programs whose texts spell trees, or some of which spell none
-abbrev pub IsChecked : List Given → List Source → List (List Bool) → ReportNode → Type 0
-IsChecked given sources parts report =
-    (lines : List LineNode) × AreAdded given sources [] parts lines × (report ≡ rendered lines)
+-- each text of the program that is among these, from this number on, spells a tree
+abbrev pub is_read : List (Option Error) → (number : ℕ) → (has : List Bool) → Bool
+is_read [] number has = true
+is_read (refusal ∷ refusals) number has = not (is_own has number && is_some refusal) && is_read refusals (number + 1) has
 
-abbrev pub IsTold : Bool → List Given → List Source → List (List Bool) → List (Option Error) → ReportNode → Type 0
-IsTold true given sources parts refusals report = IsChecked given sources parts report
-IsTold false given sources parts refusals report = report ≡ refused sources refusals
+-- these are the lines that are told: one for each text that spells no tree, and then those of each program whose own texts spell trees
+abbrev pub AreTold : List Given → List Source → (parts : List (List Bool)) → List (Option Error) → List LineNode → Type 0
+AreTold given sources parts refusals lines =
+    AreAdded given sources (refused_lines (format_in given) 0 sources refusals) (filter (is_read refusals 0) parts) lines
 
 -- this is told of the programs that have these texts
 pub record IsProgramsReport (given : List Given) (sources : List Source) (parts : List (List Bool)) (report : ReportNode) : Type 0 where
   pub definitions : List Definition
   pub refusals : List (Option Error)
   pub read : IsReading sources definitions refusals
-  pub told : IsTold (refused_count refusals == 0) given sources parts refusals report
+  pub lines : List LineNode
+  pub told : AreTold given sources parts refusals lines
+  pub is : report ≡ rendered (format_in given) lines

@@ -1,19 +1,24 @@
 -- What is told of a program: a line for each text that spells no tree, or else for each finding.
-use Rattle.std.specs.Prelude.{◌≡◌, ℕ, ◌==◌, List, [], ◌∷◌, ◌++◌, Bool, true, false, Option, if◌then◌else◌, codes, count_by, map}
+use Rattle.std.specs.Prelude.{◌≡◌, ℕ, ◌+◌, ◌==◌, List, [], ◌∷◌, ◌++◌, Bool, true, false, Option, None, Some, if◌then◌else◌, count_by, map, slice_get}
 use Rattle.std.specs.List.{flat_map}
 use Rattle.isle_base_source.specs.Lines.{line_ends}
 use Rattle.isle_base_source.specs.Source.{Source}
 use Rattle.isle_base_source.specs.declared.error.Error.{Error}
+use Rattle.isle_base_source.specs.declared.pos.Pos.{Pos}
 use Rattle.isle_ast.specs.Tree.{Definition}
 use Rattle.isle_cli.specs.Arguments.{Given}
-use Rattle.isle_cli.specs.Messages.{count_text}
 use Rattle.isle_check_core.specs.Findings.{FindingNode, findings, is_error}
 use Rattle.isle_check_core.specs.FindingWords.{finding_notes, kind_words}
 use Rattle.isle_check_messages.specs.Notes.{NoteNode}
-use Rattle.isle_check_messages.specs.Words.{WordsNode}
-use Rattle.isle_check.specs.Options.{is_allowed}
-use Rattle.isle_program.specs.Messages.{line_at, refusal_lines}
+use Rattle.isle_check.specs.Options.{counts_as_error, is_allowed}
 use Rattle.isle_program.specs.Reading.{IsReading, refused_count}
+use Rattle.isle_program_messages.specs.Formats.{format_in}
+use Rattle.isle_program_messages.specs.Lines.{told_line}
+use Rattle.isle_program_messages.specs.Messages.{MessageNode}
+use Rattle.isle_program_messages.specs.Refusals.{is_refused, told_count, told_refusal_of}
+use Rattle.isle_program_messages.specs.declared.format.Format.{Format}
+use Rattle.isle_program_messages.specs.declared.message.Severity.{Severity}
+use Rattle.isle_program_messages.specs.declared.message.Severity.TheVariants as severities
 
 -- a finding's line and those of its notes, each with its newline, and whether it tells an error
 pub record LineNode : Type 0 where
@@ -25,22 +30,39 @@ pub record ReportNode : Type 0 where
   -- how many lines tell errors
   pub errors : ℕ
 
-abbrev pub severity : Bool → List ℕ
-severity true = codes "error"
-severity false = codes "warning"
+-- the line of a message about a position, if there is its text
+abbrev pub told_of : Format → Option Source → (offset : ℕ) → MessageNode → List ℕ
+told_of format None offset m = []
+told_of format (Some source) offset m = told_line format source offset m
 
-abbrev pub message_text : WordsNode → List ℕ
-message_text words = words.message ++ codes " [" ++ words.name ++ codes "]"
+abbrev pub told_at : Format → List Source → Pos → MessageNode → List ℕ
+told_at format sources pos m = told_of format (slice_get sources pos.file) pos.offset m
 
-abbrev pub note_line : List Source → NoteNode → List ℕ
-note_line sources n = line_at sources n.pos (codes "note") n.message
+abbrev pub severity : Bool → Severity
+severity true = severities.Error
+severity false = severities.Warning
 
-abbrev pub finding_line : List Source → FindingNode → LineNode
-finding_line sources f =
+abbrev pub finding_message : (is_error : Bool) → FindingNode → MessageNode
+finding_message is_error f =
+    record { severity = severity is_error; kind = (kind_words f.kind).name; text = (kind_words f.kind).message; programs = [] }
+
+-- a note has no kind
+abbrev pub note_message : NoteNode → MessageNode
+note_message n = record { severity = severities.Note; kind = []; text = n.message; programs = [] }
+
+abbrev pub note_line : Format → List Source → NoteNode → List ℕ
+note_line format sources n = told_at format sources n.pos (note_message n)
+
+abbrev pub finding_line : Format → (is_error : Bool) → List Source → FindingNode → LineNode
+finding_line format is_error sources f =
     record {
-      is_error = is_error f.kind;
-      text = line_at sources f.pos (severity (is_error f.kind)) (message_text (kind_words f.kind)) ++ flat_map (note_line sources) (finding_notes f);
+      is_error = is_error;
+      text = told_at format sources f.pos (finding_message is_error f) ++ flat_map (note_line format sources) (finding_notes f);
     }
+
+-- a finding is told as an error
+abbrev pub is_told_as_error : List Given → FindingNode → Bool
+is_told_as_error given f = counts_as_error (is_error f.kind) given (kind_words f.kind).name
 
 -- where the lines of each text end
 abbrev pub line_maps : List Source → List (List ℕ)
@@ -48,7 +70,7 @@ line_maps sources = map (λ s. line_ends s.text) sources
 
 -- the line of a finding whose kind isn't allowed
 abbrev pub line_for : List Given → List Source → FindingNode → List LineNode
-line_for given sources f = if is_allowed given (kind_words f.kind).name then [] else finding_line sources f ∷ []
+line_for given sources f = if is_allowed given (kind_words f.kind).name then [] else finding_line (format_in given) (is_told_as_error given f) sources f ∷ []
 
 abbrev pub finding_lines : List Given → List Source → List FindingNode → List LineNode
 finding_lines given sources fs = flat_map (line_for given sources) fs
@@ -69,24 +91,31 @@ abbrev pub joined : List LineNode → List ℕ
 joined lines = flat_map (λ line. line.text) lines
 
 -- the report that has these lines
-abbrev pub rendered : List LineNode → ReportNode
-rendered lines =
+abbrev pub rendered : Format → List LineNode → ReportNode
+rendered format lines =
     record {
-      text = joined lines ++ count_text (count_of true lines) (count_of false lines);
+      text = joined lines ++ told_count format (count_of true lines) (count_of false lines);
       errors = count_of true lines;
     }
 
+-- the line of a text that spells no tree
+abbrev pub refused_line : Format → Source → Option (Option Error) → List LineNode
+refused_line format source refusal =
+    if is_refused refusal then record { is_error = true; text = told_refusal_of format source refusal } ∷ [] else []
+
+-- the lines of those among the texts from this number on
+abbrev pub refused_lines : Format → ℕ → List Source → List (Option Error) → List LineNode
+refused_lines format file [] refusals = []
+refused_lines format file (source ∷ sources) refusals =
+    refused_line format source (slice_get refusals file) ++ refused_lines format (file + 1) sources refusals
+
 -- the report on texts some of which spell no tree
-abbrev pub refused : List Source → List (Option Error) → ReportNode
-refused sources refusals =
-    record {
-      text = refusal_lines 0 sources refusals ++ count_text (refused_count refusals) 0;
-      errors = refused_count refusals;
-    }
+abbrev pub refused : Format → List Source → List (Option Error) → ReportNode
+refused format sources refusals = rendered format (refused_lines format 0 sources refusals)
 
 abbrev pub report_in : List Given → List Source → List Definition → List (Option Error) → ReportNode
 report_in given sources ds refusals =
-    if refused_count refusals == 0 then rendered (lines_of given sources ds) else refused sources refusals
+    if refused_count refusals == 0 then rendered (format_in given) (lines_of given sources ds) else refused (format_in given) sources refusals
 
 -- this is told of the program that the texts are
 pub record IsReport (given : List Given) (sources : List Source) (report : ReportNode) : Type 0 where

@@ -18,6 +18,7 @@ use isle_program_manifest::asking::{
 };
 use isle_program_manifest::choice::{Chosen, missing_notes};
 use isle_program_manifest::membership::has_file;
+use isle_program_messages::format::FORMAT_OPTION;
 use std::alloc::{AllocError, Global};
 use std::env::Env;
 use std::fs::Files;
@@ -26,15 +27,16 @@ use std::io::Write;
 /// The options with those that ask for programs of a manifest.
 pub const OPTIONS: Options = Options {
     flags: &[ALL_OPTION],
-    settings: &["--allow", NAME_OPTION],
+    settings: &["--allow", "--warn", "--deny", FORMAT_OPTION, NAME_OPTION],
 };
 
 /// Checks programs of the nearest manifest, each by itself, writes the findings to the output, and
 /// returns the exit status, which is that of `run`; it is 2 for a manifest with a mistake, and 3
 /// without a manifest.
 ///
-/// Standard error also gets a line for each entry without a file. No contract can say which files
-/// there are. For those that are read it says what is written.
+/// Standard error also gets a line for each entry without a file, and for each program that has
+/// one: it is not checked, since it would lack what its missing files declare. No contract can say
+/// which files there are. For those that are read it says what is written.
 pub fn run_programs<R: Files + Env + AllocGlobal + Clone + Drop, I, W: Write, E: Write>(
     rt: &R,
     arguments: &[Argument],
@@ -74,7 +76,8 @@ fn check_programs<R: Files + Env + AllocGlobal + Clone + Drop, I, W: Write, E: W
             return Ok(status);
         }
     };
-    let notes = missing_notes(rt, &PROGRAM, &programs)?;
+    let mut notes = missing_notes(rt, &PROGRAM, &programs)?;
+    notes.push_str(unchecked_notes(rt.alloc(), &programs)?.as_str())?;
     let texts = read_texts(rt, &PROGRAM, &programs)?;
     let _ = write_whole(&mut streams.faults, notes.as_bytes());
     if !texts.faults.is_empty() {
@@ -89,16 +92,43 @@ fn check_programs<R: Files + Env + AllocGlobal + Clone + Drop, I, W: Write, E: W
     }
 }
 
-/// Returns the programs, each by which of the texts are its own.
+/// Returns a line for each program that lacks files.
+fn unchecked_notes(alloc: Global, programs: &[Chosen]) -> Result<String, AllocError> {
+    let mut notes = String::new(alloc);
+    for program in programs {
+        if !is_whole(program) {
+            let tool = PROGRAM.name;
+            let name = program.name.as_str();
+            let note = format!(in alloc;
+                "{tool}: note: program '{name}' lacks files: not checked\n"
+            )?;
+            notes.push_str(note.as_str())?;
+        }
+    }
+    Ok(notes)
+}
+
+/// Returns whether each entry of a program stands for a file.
+fn is_whole(program: &Chosen) -> bool {
+    program.listed.missing.is_empty()
+}
+
+/// Returns the programs that lack no files, each by which of the texts are its own.
 fn parts_of(alloc: Global, programs: &[Chosen], texts: &[Source]) -> Result<Vec<Part>, AllocError> {
     let mut parts = Vec::new(alloc);
     for program in programs {
-        let paths = &program.listed.paths;
-        let mut has = Vec::new(alloc);
-        for text in texts {
-            has.push(has_file(paths, text.name.as_str()))?;
+        if is_whole(program) {
+            parts.push(part_of(alloc, program, texts)?)?;
         }
-        parts.push(Part { has })?;
     }
     Ok(parts)
+}
+
+/// Returns a program by which of the texts are its own.
+fn part_of(alloc: Global, program: &Chosen, texts: &[Source]) -> Result<Part, AllocError> {
+    let mut has = Vec::new(alloc);
+    for text in texts {
+        has.push(has_file(&program.listed.paths, text.name.as_str()))?;
+    }
+    Ok(Part { has })
 }

@@ -2,18 +2,21 @@
 
 ghost use Rattle.std.specs.Prelude.{◌≡◌, codes, map};
 ghost use Rattle.isle_cli.specs.Arguments.{given_of};
-ghost use Rattle.isle_check.specs.Options.{are_usable, is_allowed, is_allowing, is_usable};
+ghost use Rattle.isle_check.specs.Options.{are_usable, counts_after, counts_as_error, is_allowed};
+ghost use Rattle.isle_check.specs.Options.{is_kind_option, is_kind_usable, is_naming, is_usable};
 
 use isle_check_core::is_kind;
 use isle_cli::arguments::Argument;
 use isle_cli::version;
+use isle_program_messages::format::is_format_usable;
 
 /// The version.
 pub const VERSION: &str = version!("isle-check");
 
 /// The help.
 pub const HELP: &str = "\
-usage: isle-check [--allow KIND] [--stdin-name NAME] [--program NAME] [--all-programs] [FILE ..]
+usage: isle-check [--allow KIND] [--warn KIND] [--deny KIND] [--message-format FORMAT]
+                  [--stdin-name NAME] [--program NAME] [--all-programs] [FILE ..]
 
 Checks a complete ISLE program, as the compiler does before it makes code. All files are one
 program. A folder stands for every .isle file below it, and - for standard input. With no FILE,
@@ -26,14 +29,21 @@ With --program or --all-programs, programs of the nearest isle.toml are checked,
 is looked for in the current folder and above it, or in the one folder that is given.
 
 Options:
-  --allow KIND       leave out findings of this kind; may be repeated
-  --stdin-name NAME  use NAME for standard input in messages
-  --program NAME     check this program of isle.toml; may be repeated
-  --all-programs     check all programs of isle.toml
-  --print-programs   check nothing, but print each program of isle.toml with its files
-  --                 treat all later arguments as files
-  -h, --help         print this help
-  -V, --version      print the version
+  --allow KIND             leave out findings of this kind; may be repeated
+  --warn KIND              report errors of this kind as warnings; may be repeated
+  --deny KIND              report warnings of this kind as errors, also after --warn;
+                           may be repeated
+  --message-format FORMAT  write findings as human (the default), json or github
+  --stdin-name NAME        use NAME for standard input in messages
+  --program NAME           check this program of isle.toml; may be repeated
+  --all-programs           check all programs of isle.toml
+  --print-programs         check nothing, but print each program of isle.toml with its files
+  --                       treat all later arguments as files
+  -h, --help               print this help
+  -V, --version            print the version
+
+With json, each line is an object with the file, line, column, severity, kind and message. With
+github, it is a workflow command that makes GitHub annotate the line.
 
 Errors of types and constants:
   duplicate-type           a type has the name of an earlier one, or of a built-in type
@@ -121,7 +131,7 @@ Exit status:
   5  the output cannot be written
 ";
 
-/// Returns whether each `--allow` names a kind of finding.
+/// Returns whether each option for kinds names one, and each `--message-format` a format.
 pub fn are_usable(arguments: &[Argument]) -> bool
     ensures { result ≡ are_usable (map given_of arguments.now) }
 {
@@ -133,15 +143,55 @@ pub fn are_usable(arguments: &[Argument]) -> bool
     true
 }
 
+/// Returns whether an argument names a kind or a format, if it has to.
 fn is_usable(argument: &Argument) -> bool
     ensures { result ≡ is_usable (given_of argument.now) }
 {
     match argument {
         Argument::Setting(option, value) => {
-            option.as_str() != "--allow" || is_kind(value.as_str())
+            is_kind_usable(option.as_str(), value.as_str())
+                && is_format_usable(option.as_str(), value.as_str())
         }
         Argument::Flag(_) | Argument::Name(_) => true,
     }
+}
+
+/// Returns whether the value of an option names a kind, if it has to.
+fn is_kind_usable(option: &str, value: &str) -> bool
+    ensures { result ≡ is_kind_usable option.now value.now }
+{
+    !is_kind_option(option) || is_kind(value)
+}
+
+fn is_kind_option(option: &str) -> bool
+    ensures { result ≡ is_kind_option option.now }
+{
+    option == "--allow" || option == "--warn" || option == "--deny"
+}
+
+/// Returns whether findings of this kind are errors, if they are by themselves, or not: the last
+/// one of `--warn` and `--deny` that names it counts.
+pub fn counts_as_error(arguments: &[Argument], kind: &str, is_error: bool) -> bool
+    ensures { result ≡ counts_as_error is_error (map given_of arguments.now) kind.now }
+{
+    let mut counts = is_error;
+    for argument in arguments {
+        counts = counts_after(argument, kind, counts);
+    }
+    counts
+}
+
+/// The same after an argument, if they are errors before it, or not.
+fn counts_after(argument: &Argument, kind: &str, before: bool) -> bool
+    ensures { result ≡ counts_after kind.now before (given_of argument.now) }
+{
+    if is_naming(argument, "--warn", kind) {
+        return false;
+    }
+    if is_naming(argument, "--deny", kind) {
+        return true;
+    }
+    before
 }
 
 /// Returns whether `--allow` names this kind of finding.
@@ -149,20 +199,19 @@ pub fn is_allowed(arguments: &[Argument], kind: &str) -> bool
     ensures { result ≡ is_allowed (map given_of arguments.now) kind.now }
 {
     for argument in arguments {
-        if is_allowing(argument, kind) {
+        if is_naming(argument, "--allow", kind) {
             return true;
         }
     }
     false
 }
 
-fn is_allowing(argument: &Argument, kind: &str) -> bool
-    ensures { result ≡ is_allowing kind.now (given_of argument.now) }
+/// Returns whether an argument is this option with this kind.
+fn is_naming(argument: &Argument, option: &str, kind: &str) -> bool
+    ensures { result ≡ is_naming option.now kind.now (given_of argument.now) }
 {
     match argument {
-        Argument::Setting(option, value) => {
-            option.as_str() == "--allow" && value.as_str() == kind
-        }
+        Argument::Setting(given, value) => given.as_str() == option && value.as_str() == kind,
         Argument::Flag(_) | Argument::Name(_) => false,
     }
 }

@@ -19,14 +19,16 @@ use isle_cli::program::{Program, put, report, tell};
 use isle_cli::sources::read_sources;
 use isle_cli::streams::{Streams, write_whole};
 use isle_cli::usage::report_words;
+use isle_program_messages::format::FORMAT_OPTION;
 use std::fs::Files;
 use std::io::{Read, Write};
 
 /// This program.
 pub const PROGRAM: Program = Program {
     name: "isle-check",
-    usage: "usage: isle-check [--allow KIND] [--stdin-name NAME] \
-            [--program NAME] [--all-programs] [FILE ..]\n",
+    usage: "usage: isle-check [--allow KIND] [--warn KIND] [--deny KIND] \
+            [--message-format FORMAT] [--stdin-name NAME] [--program NAME] [--all-programs] \
+            [FILE ..]\n",
     help: HELP,
     version: VERSION,
 };
@@ -34,7 +36,7 @@ pub const PROGRAM: Program = Program {
 /// Its options.
 pub const OPTIONS: Options = Options {
     flags: &[],
-    settings: &["--allow"],
+    settings: &["--allow", "--warn", "--deny", FORMAT_OPTION],
 };
 
 /// | Status | When |
@@ -49,8 +51,8 @@ pub const OPTIONS: Options = Options {
 /// With status 3 standard error gets a line for each.
 ///
 /// With status 0 and 1 the output gets a line for each text that does not parse, or else a line for
-/// each finding, and a line that counts them; with status 5 a beginning of that. With status 2, 3
-/// and 4 it gets nothing.
+/// each finding, in the format that is asked for, and for people a line that counts them; with
+/// status 5 a beginning of that. With status 2, 3 and 4 it gets nothing.
 ///
 /// Errors of standard error do not change the status.
 pub fn run<R: Files + AllocGlobal + Clone + Drop, I: Read, W: Write, E: Write>(

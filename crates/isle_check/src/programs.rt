@@ -1,22 +1,22 @@
 //! The report on several programs, which may share texts.
 
-ghost use Rattle.std.specs.Prelude.{◌≡◌, ◌==◌, [], IfErr, IfOk, OnOk, map};
+ghost use Rattle.std.specs.Prelude.{◌≡◌, IfErr, IfOk, OnOk, map};
 ghost use Rattle.isle_ast.specs.TreeView.{definitions_of};
 ghost use Rattle.isle_cli.specs.Arguments.{given_of};
 ghost use Rattle.isle_cli.specs.Sources.{source_of};
 ghost use Rattle.isle_cli.specs.declared.failure.Failure.TheVariants.{Memory};
 ghost use Rattle.isle_check.specs.Programs as Programs;
-ghost use Rattle.isle_check.specs.Programs.{AreAdded, AreLines, IsChecked, IsProgramsReport};
-ghost use Rattle.isle_check.specs.Programs.{IsTold};
+ghost use Rattle.isle_check.specs.Programs.{AreLines, AreTold, IsProgramsReport};
 ghost use Rattle.isle_check.specs.ReportView.{has_of, line_at, lines_at, report_of};
-ghost use Rattle.isle_program.specs.Reading.{IsReading, refused_count};
+ghost use Rattle.isle_program.specs.Reading.{IsReading};
 
-use crate::report::{Line, Report, lines_of, refused_report, rendered};
+use crate::report::{Line, Report, lines_of, refused_lines, rendered};
 use isle_base_source::error::Error;
 use isle_cli::arguments::Argument;
 use isle_cli::failure::Failure;
 use isle_cli::sources::Source;
-use isle_program::trees::{Reading, drop_reading, read_all, refused_count};
+use isle_program::trees::{Reading, drop_reading, read_all};
+use isle_program_messages::format::format_of;
 use std::alloc::{AllocError, Global};
 
 /// A program among texts.
@@ -26,9 +26,9 @@ pub struct Part {
     pub has: Vec<bool>,
 }
 
-/// Returns the report on several programs: a line for each text that does not parse, or else one
-/// for each finding, program by program. Each program is checked by itself, and a line that several
-/// of them give stands once. The only failure is `Memory`.
+/// Returns the report on several programs: a line for each text that does not parse, and then one
+/// for each finding, program by program. Each program whose own texts parse is checked by itself,
+/// and a line that several of them give stands once. The only failure is `Memory`.
 pub fn report_on_programs(
     alloc: Global,
     sources: &[Source],
@@ -59,61 +59,44 @@ fn report_on_reading(
         (map source_of sources.now) (map has_of parts.now) (report_of report)) }
     ensures err { IfErr result (λ failure. failure ≡ Memory) }
 {
-    told(alloc, sources, parts, arguments, &reading.refusals)
+    let lines = told_lines(alloc, sources, parts, arguments, &reading.refusals)?;
+    Ok(rendered(alloc, format_of(arguments), &lines)?)
 }
 
-fn told(
+/// Returns the lines about the texts that do not parse, and then those of the findings in the
+/// programs whose own texts do, each line once.
+fn told_lines(
     alloc: Global,
     sources: &[Source],
     parts: &[Part],
     arguments: &[Argument],
     refusals: &[Option<Error>],
-) -> Result<Report, Failure>
-    ensures ok { IfOk result (λ report. IsTold (refused_count refusals.now == 0)
-        (map given_of arguments.now) (map source_of sources.now) (map has_of parts.now)
-        refusals.now (report_of report)) }
-    ensures err { IfErr result (λ failure. failure ≡ Memory) }
-{
-    if refused_count(refusals) == 0 {
-        checked_report(alloc, sources, parts, arguments)
-    } else {
-        Ok(refused_report(alloc, sources, refusals)?)
-    }
-}
-
-/// Returns the report on several programs, each of whose texts parses.
-fn checked_report(
-    alloc: Global,
-    sources: &[Source],
-    parts: &[Part],
-    arguments: &[Argument],
-) -> Result<Report, Failure>
-    ensures ok { IfOk result (λ report. IsChecked (map given_of arguments.now)
-        (map source_of sources.now) (map has_of parts.now) (report_of report)) }
-    ensures err { IfErr result (λ failure. failure ≡ Memory) }
-{
-    let lines = programs_lines(alloc, sources, parts, arguments)?;
-    Ok(rendered(alloc, &lines)?)
-}
-
-/// Returns the lines of the findings in the programs, each line once.
-fn programs_lines(
-    alloc: Global,
-    sources: &[Source],
-    parts: &[Part],
-    arguments: &[Argument],
 ) -> Result<Vec<Line>, Failure>
-    ensures ok { IfOk result (λ lines. AreAdded (map given_of arguments.now)
-        (map source_of sources.now) [] (map has_of parts.now) (lines_at lines.items)) }
+    ensures ok { IfOk result (λ lines. AreTold (map given_of arguments.now)
+        (map source_of sources.now) (map has_of parts.now) refusals.now (lines_at lines.items)) }
     ensures err { IfErr result (λ failure. failure ≡ Memory) }
 {
-    let mut lines = Vec::new(alloc);
+    let mut lines = refused_lines(alloc, format_of(arguments), sources, refusals)?;
     for part in parts {
-        let own = own_texts(alloc, sources, &part.has)?;
-        let more = program_lines(alloc, &own, arguments)?;
-        add_each_once(&mut lines, more)?;
+        if is_read(refusals, &part.has) {
+            let own = own_texts(alloc, sources, &part.has)?;
+            let more = program_lines(alloc, &own, arguments)?;
+            add_each_once(&mut lines, more)?;
+        }
     }
     Ok(lines)
+}
+
+/// Returns whether each text that is the program's parses.
+fn is_read(refusals: &[Option<Error>], has: &[bool]) -> bool
+    ensures { result ≡ Programs.is_read refusals.now 0 has.now }
+{
+    for (number, refusal) in refusals.iter().enumerate() {
+        if is_own(has, number) && refusal.is_some() {
+            return false;
+        }
+    }
+    true
 }
 
 /// Returns the lines of the findings in one program.

@@ -11,12 +11,14 @@ ghost use Rattle.isle_cli.specs.declared.failure.Failure.TheVariants.{Memory};
 ghost use Rattle.isle_check_core.specs.Views.{finding_of, findings_of};
 ghost use Rattle.isle_check.specs.Report.{IsReport, count_of, finding_lines, joined};
 ghost use Rattle.isle_check.specs.Report.{line_for, line_maps, lines_of, refused, rendered};
-ghost use Rattle.isle_check.specs.Report.{note_line, report_in};
+ghost use Rattle.isle_check.specs.Report.{refused_lines};
+ghost use Rattle.isle_check.specs.Report.{severity};
+ghost use Rattle.isle_check.specs.Report.{note_line, report_in, told_at};
 ghost use Rattle.isle_check.specs.ReportView.{lines_at, report_of};
-ghost use Rattle.isle_program.specs.Messages.{line_at};
 ghost use Rattle.isle_program.specs.Reading.{IsReading};
+ghost use Rattle.isle_program_messages.specs.Messages.{message_of};
 
-use crate::options::is_allowed;
+use crate::options::{counts_as_error, is_allowed};
 use isle_ast::ast::Def;
 use isle_base::lexer::Pos;
 use isle_base_source::error::Error;
@@ -24,10 +26,12 @@ use isle_base_source::files::LineMap;
 use isle_check_core::{Finding, Note, check};
 use isle_cli::arguments::Argument;
 use isle_cli::failure::Failure;
-use isle_cli::messages::count_line;
 use isle_cli::sources::Source;
-use isle_program::messages::{place_line, refusal_lines};
 use isle_program::trees::{Reading, drop_reading, read_all, refused_count};
+use isle_program_messages::format::{Format, format_of};
+use isle_program_messages::lines::told_line;
+use isle_program_messages::message::{Message, Severity};
+use isle_program_messages::refusals::{is_refused, told_count, told_refusal_of};
 use std::alloc::{AllocError, Global};
 
 /// A line of a report.
@@ -42,14 +46,15 @@ pub struct Line {
 /// A report.
 #[derive(Debug, Drop)]
 pub struct Report {
-    /// The lines, and one that counts them. It is empty if there are none.
+    /// The lines, and for people one that counts them. It is empty if there are none.
     pub text: String,
     /// How many lines tell errors.
     pub errors: usize,
 }
 
 /// Returns the report on a program: a line for each text that does not parse, or else one for each
-/// finding, in order, without the kinds that `--allow` names. The only failure is `Memory`.
+/// finding, in order, without the kinds that `--allow` names, in the format that
+/// `--message-format` names. The only failure is `Memory`.
 pub fn report_on(
     alloc: Global,
     sources: &[Source],
@@ -91,27 +96,49 @@ fn report_in(
         ≡ report_in (map given_of arguments.now) (map source_of sources.now)
         (definitions_of reading.now.defs.items) reading.now.refusals.items) }
 {
+    let format = format_of(arguments);
     if refused_count(&reading.refusals) != 0 {
-        return refused_report(alloc, sources, &reading.refusals);
+        return refused_report(alloc, format, sources, &reading.refusals);
     }
     let lines = lines_of(alloc, sources, arguments, &reading.defs)?;
-    rendered(alloc, &lines)
+    rendered(alloc, format, &lines)
 }
 
 /// Returns the report on texts some of which do not parse.
 pub fn refused_report(
     alloc: Global,
+    format: Format,
     sources: &[Source],
     refusals: &[Option<Error>],
 ) -> Result<Report, AllocError>
     ensures { IfOk result
-        (λ report. report_of report ≡ refused (map source_of sources.now) refusals.now) }
+        (λ report. report_of report ≡ refused format (map source_of sources.now) refusals.now) }
 {
-    let errors = refused_count(refusals);
-    let mut text = refusal_lines(alloc, sources, refusals)?;
-    let count = count_line(alloc, errors, 0)?;
-    text.push_str(count.as_str())?;
-    Ok(Report { text, errors })
+    let lines = refused_lines(alloc, format, sources, refusals)?;
+    rendered(alloc, format, &lines)
+}
+
+/// Returns a line for each text that does not parse, in order.
+pub fn refused_lines(
+    alloc: Global,
+    format: Format,
+    sources: &[Source],
+    refusals: &[Option<Error>],
+) -> Result<Vec<Line>, AllocError>
+    ensures { IfOk result (λ lines. lines_at lines.items
+        ≡ refused_lines format 0 (map source_of sources.now) refusals.now) }
+{
+    let mut lines = Vec::new(alloc);
+    for (file, source) in sources.iter().enumerate() {
+        if is_refused(refusals, file) {
+            let text = told_refusal_of(alloc, format, source, file, refusals)?;
+            lines.push(Line {
+                is_error: true,
+                text,
+            })?;
+        }
+    }
+    Ok(lines)
 }
 
 /// Returns the lines of the findings in these definitions.
@@ -180,25 +207,36 @@ fn add_line(
     if is_allowed(arguments, words.name) {
         return Ok(());
     }
-    let is_error = finding.kind.is_error();
-    let severity = if is_error { "error" } else { "warning" };
-    let message = format!(in alloc; "{} [{}]", words.message, words.name)?;
-    let mut text = line_at(
-        alloc,
-        sources,
-        maps,
-        finding.pos,
-        severity,
-        message.as_str(),
-    )?;
-    add_notes(alloc, sources, maps, &finding.notes(alloc)?, &mut text)?;
+    let format = format_of(arguments);
+    let is_error = counts_as_error(arguments, words.name, finding.kind.is_error());
+    let message = Message {
+        severity: severity_of(is_error),
+        kind: words.name,
+        text: words.message.as_str(),
+        programs: "",
+    };
+    let mut text = told_at(alloc, format, sources, maps, finding.pos, &message)?;
+    let notes = finding.notes(alloc)?;
+    add_notes(alloc, format, sources, maps, &notes, &mut text)?;
     lines.push(Line { is_error, text })?;
     Ok(())
+}
+
+/// The severity of a finding.
+fn severity_of(is_error: bool) -> Severity
+    ensures { result ≡ severity is_error }
+{
+    if is_error {
+        Severity::Error
+    } else {
+        Severity::Warning
+    }
 }
 
 /// Adds a line for each note. `maps` are the line maps of the texts.
 fn add_notes(
     alloc: Global,
+    format: Format,
     sources: &[Source],
     maps: &[LineMap],
     notes: &[Note],
@@ -206,17 +244,16 @@ fn add_notes(
 ) -> Result<(), AllocError>
     requires { maps.now ≡ line_maps (map source_of sources.now) }
     ensures { OnOk result (string_bytes text.new ≡ string_bytes text.old
-        ++ flat_map (note_line (map source_of sources.now)) (notes_of notes.now)) }
+        ++ flat_map (note_line format (map source_of sources.now)) (notes_of notes.now)) }
 {
     for note in notes {
-        let line = line_at(
-            alloc,
-            sources,
-            maps,
-            note.pos,
-            "note",
-            note.message.as_str(),
-        )?;
+        let message = Message {
+            severity: Severity::Note,
+            kind: "",
+            text: note.message.as_str(),
+            programs: "",
+        };
+        let line = told_at(alloc, format, sources, maps, note.pos, &message)?;
         text.push_str(line.as_str())?;
     }
     Ok(())
@@ -224,33 +261,33 @@ fn add_notes(
 
 /// Returns the line of a message about a position; empty if no text has the number of its file.
 /// `maps` are the line maps of the texts.
-fn line_at(
+fn told_at(
     alloc: Global,
+    format: Format,
     sources: &[Source],
     maps: &[LineMap],
     pos: Pos,
-    severity: &str,
-    message: &str,
+    message: &Message,
 ) -> Result<String, AllocError>
     requires { maps.now ≡ line_maps (map source_of sources.now) }
     ensures { IfOk result (λ line. string_bytes line
-        ≡ line_at (map source_of sources.now) pos severity.now message.now) }
+        ≡ told_at format (map source_of sources.now) pos (message_of message.now)) }
 {
     if pos.file >= sources.len() {
         return Ok(String::new(alloc));
     }
     let source = &sources[pos.file];
     let lines = &maps[pos.file];
-    place_line(alloc, source, lines, pos.offset, severity, message)
+    told_line(alloc, format, source, lines, pos.offset, message)
 }
 
 /// Returns the report of these lines.
-pub fn rendered(alloc: Global, lines: &[Line]) -> Result<Report, AllocError>
-    ensures { IfOk result (λ report. report_of report ≡ rendered (lines_at lines.now)) }
+pub fn rendered(alloc: Global, format: Format, lines: &[Line]) -> Result<Report, AllocError>
+    ensures { IfOk result (λ report. report_of report ≡ rendered format (lines_at lines.now)) }
 {
     let errors = count_of(lines, true);
     let mut text = joined(alloc, lines)?;
-    let count = count_line(alloc, errors, count_of(lines, false))?;
+    let count = told_count(alloc, format, errors, count_of(lines, false))?;
     text.push_str(count.as_str())?;
     Ok(Report { text, errors })
 }

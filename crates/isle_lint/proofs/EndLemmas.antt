@@ -1,11 +1,11 @@
 -- How a run over the programs of a manifest ends.
-use Rattle.std.proofs.Common.{◌≡◌, ◌⊎◌, ℕ, ◌≤◌, List, Bool, true, false, Option, inl, inr, sym, ◌∙◌, subst, arith}
+use Rattle.std.proofs.Common.{◌≡◌, ◌⊎◌, ℕ, ◌≤◌, List, Bool, true, false, Option, inl, inr, sym, subst, arith}
 use Rattle.std.specs.Io.KnownBytes.{Keeps}
 use Rattle.isle_cli.specs.Arguments.{Given}
 use Rattle.isle_cli.specs.Failure.{status_of}
 use Rattle.isle_cli.specs.declared.failure.Failure.{Failure}
 use Rattle.isle_cli.specs.declared.failure.Failure.TheVariants as failures
-use Rattle.isle_lint.specs.Doing.{CutsPrograms, Ends, ExplainsEnd, TellsPrograms, is_empty, told_status}
+use Rattle.isle_lint.specs.Doing.{CutsPrograms, Ends, ExplainsEnd, TellsPrograms, told_status}
 
 -- what is told has status 0, 1 or 3
 told-status : (is_read is_clean : Bool) → (told_status is_read is_clean ≤ 1) ⊎ (told_status is_read is_clean ≡ 3)
@@ -18,7 +18,7 @@ module _ (given : List Given) (output output' : Option (List ℕ)) where
   told-ends : (status : ℕ) → TellsPrograms given status output output' → (status ≤ 1) ⊎ (status ≡ 3)
   told-ends status told =
       let P : ℕ → Type 0 = λ n. (n ≤ 1) ⊎ (n ≡ 3) in
-      subst P (sym told.ends) (told-status told.is_read (is_empty told.shown))
+      subst P (sym told.ends) (told-status told.is_read told.report.is_clean)
 
   pub ends-statuses : (status : ℕ) → Ends given status output output' → status ≤ 5
   ends-statuses status (inl (inl two, _)) = omega arith

@@ -1,3 +1,4 @@
+pub mod DoingLemmas
 pub mod EndLemmas
 pub mod FailureLemmas
 pub mod ProgramLemmas

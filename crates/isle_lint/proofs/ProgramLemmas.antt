@@ -1,5 +1,5 @@
 -- Programs that are linted one after another.
-use Rattle.std.proofs.Common.{◌≡◌, ℕ, ◌+◌, ◌<◌, List, [], ◌∷◌, ◌++◌, length, get_or, take, map, refl, sym, ap, subst, ◌∙◌}
+use Rattle.std.proofs.Common.{◌≡◌, ℕ, ◌+◌, ◌<◌, List, [], ◌∷◌, ◌++◌, length, get_or, take, map, sym, ap, subst, ◌∙◌}
 use Rattle.std.proofs.lemmas.List.{map-append, take_more}
 use Rattle.isle_base_source.specs.Source.{Source}
 use Rattle.isle_lint_core.specs.declared.lint.Lint.{Lint}
@@ -29,7 +29,3 @@ one_linted lints sources parts i part linted more l within is grown before named
     ap (map part_of) (take_more parts i part within ∙ ap (λ p. take i parts ++ p ∷ []) (sym is)) ∙ map-append part_of (take i parts) (part ∷ []) in
     let longer : map linted_of more ≡ map linted_of linted ++ linted_of l ∷ [] = ap (map linted_of) grown ∙ map-append linted_of linted (l ∷ []) in
     subst P (sym fewer) (subst Q (sym longer) (linted-last lints sources (map part_of (take i parts)) (part_of part) (map linted_of linted) (linted_of l) before named has told))
-
--- two parts of a text, each in other words
-pub both_parts : (texts texts' count count' whole : List ℕ) → whole ≡ texts ++ count → texts ≡ texts' → count ≡ count' → whole ≡ texts' ++ count'
-both_parts texts texts' count count' whole is first second = is ∙ (ap (λ t. t ++ count) first ∙ ap (λ t. texts' ++ t) second)

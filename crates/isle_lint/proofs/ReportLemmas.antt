@@ -1,6 +1,6 @@
 -- What is shown of a reading, from what its parts say.
 use Rattle.std.proofs.Common.{◌≡◌, ℕ, ◌+◌, ◌<◌, ◌≤◌, List, [], ◌∷◌, ◌++◌, Bool, true, false, cond, Option, length, get_or, drop, map, refl, sym, ap, subst, ◌∙◌, append_assoc}
-use Rattle.std.proofs.lemmas.List.{append-nil, at_drop_more, drop_all, drop_more, length-map}
+use Rattle.std.proofs.lemmas.List.{append-nil, at_drop_more, drop_all, drop_more}
 use Rattle.std.specs.List.Sorted.{IsPermutation}
 use Rattle.isle_base_source.specs.Source.{Source}
 use Rattle.isle_base_source.specs.declared.error.Error.{Error}
@@ -10,22 +10,17 @@ use Rattle.isle_lint_core.specs.Finding.{Found, finding_of}
 use Rattle.isle_lint_core.specs.Findings.{findings_in}
 use Rattle.isle_lint_core.specs.declared.finding.Finding.{Finding}
 use Rattle.isle_lint_core.specs.declared.lint.Lint.{Lint}
-use Rattle.isle_cli.specs.Messages.{count_text}
+use Rattle.isle_cli.specs.Arguments.{Given}
 use Rattle.isle_cli.specs.Sources.{source_of}
 use Rattle.isle_cli.specs.declared.sources.Source as source_code
-use Rattle.isle_lint.specs.Report.{AreTold, is_told, kept_if, sources_text, told_in}
+use Rattle.isle_lint.specs.Report.{AreTold, ReportNode, is_told, kept_if, report_in, told_in}
 use Rattle.isle_program.specs.Allowances.{Allowance, AreAllowances}
-use Rattle.isle_program.specs.Reading.{refused_count}
 
-pub shown-as : (sources : List Source) (given refusals : List (Option Error)) (kept : List Finding) (all : List Found) (shown : List ℕ) →
-    given ≡ refusals → map finding_of kept ≡ all →
-    shown ≡ sources_text 0 sources given (map finding_of kept) ++ count_text (refused_count given) (length kept) →
-    shown ≡ sources_text 0 sources refusals all ++ count_text (refused_count refusals) (length all)
-shown-as sources given refusals kept all shown same told is =
-    is
-    ∙ ap (λ r. sources_text 0 sources r (map finding_of kept) ++ count_text (refused_count r) (length kept)) same
-    ∙ ap (λ n. sources_text 0 sources refusals (map finding_of kept) ++ count_text (refused_count refusals) n) (sym (length-map kept finding_of))
-    ∙ ap (λ fs. sources_text 0 sources refusals fs ++ count_text (refused_count refusals) (length fs)) told
+-- the report on refusals and findings, in other words
+pub reported-as : (given : List Given) (sources : List Source) (refused refusals : List (Option Error)) (found all : List Found) (report : ReportNode) →
+    refused ≡ refusals → found ≡ all → report ≡ report_in given sources refused found → report ≡ report_in given sources refusals all
+reported-as given sources refused refusals found all report same told is =
+    is ∙ ap (λ r. report_in given sources r found) same ∙ ap (λ fs. report_in given sources refusals fs) told
 
 pub found-as : (lints : List Lint) (defs own : List Def) (found : List Found) → defs ≡ own →
     IsPermutation (findings_in lints (definitions_of defs)) found → IsPermutation (findings_in lints (definitions_of own)) found

@@ -1,5 +1,5 @@
 -- What the program tells.
-use Rattle.std.specs.Prelude.{◌≡◌, ◌⊎◌, ℕ, ◌==◌, List, [], ◌∷◌, ◌++◌, Bool, true, false, ◌&&◌, if◌then◌else◌, Option, None, Some, codes, length, map}
+use Rattle.std.specs.Prelude.{◌≡◌, ◌⊎◌, ℕ, ◌==◌, List, [], ◌∷◌, Bool, true, false, if◌then◌else◌, Option, None, Some, codes, length, map}
 use Rattle.std.specs.Io.KnownBytes.{Appends, Keeps}
 use Rattle.isle_base_source.specs.Source.{Source}
 use Rattle.isle_base_source.specs.declared.error.Error.{Error}
@@ -8,34 +8,33 @@ use Rattle.isle_lint_core.specs.Finding.{Found}
 use Rattle.isle_lint_core.specs.declared.lint.Lint.{Lint}
 use Rattle.isle_cli.specs.Arguments.{Asked, Given, asked, help_asked, name_list, stdin_name, version_asked, work_asked}
 use Rattle.isle_cli.specs.Failure.{IsDiagnostic}
-use Rattle.isle_cli.specs.Messages.{count_text}
 use Rattle.isle_cli.specs.Sources.{IsReadFrom}
 use Rattle.isle_cli.specs.Streams.{AppendsBeginning}
 use Rattle.isle_cli.specs.Usage.{IsDiagnosticOf}
 use Rattle.isle_cli.specs.declared.failure.Failure.{Failure}
 use Rattle.isle_cli.specs.declared.failure.Failure.TheVariants as failures
 use Rattle.isle_lint.specs.Options.{are_usable, lints_on}
-use Rattle.isle_program.specs.Reading.{IsReading, refused_count}
+use Rattle.isle_program.specs.Reading.{IsReading}
 use Rattle.isle_cli.specs.declared.arguments.Options.{Options}
 use Rattle.isle_cli.specs.declared.program.Program.{Program}
 use Rattle.isle_lint.specs.declared.options.TheConstants.{HELP, VERSION}
 use Rattle.isle_lint.specs.Programs.{IsProgramsReport, Part}
-use Rattle.isle_lint.specs.Report.{AreToldIn, sources_text}
+use Rattle.isle_lint.specs.Report.{AreToldIn, ReportNode, report_in}
 
 -- What is shown is what these lints find in the trees of the texts, each finding once, in order of place, but for what
--- comments turn off; and which texts spell no tree; and how many there are of both.
-pub record IsReport (lints : List Lint) (sources : List Source) (shown : List ℕ) : Type 0 where
+-- comments turn off; and which texts spell no tree; and for people how many there are of both. It is known whether any counts.
+pub record IsReport (given : List Given) (lints : List Lint) (sources : List Source) (report : ReportNode) : Type 0 where
   pub definitions : List Definition
   pub refusals : List (Option Error)
   pub read : IsReading sources definitions refusals
   pub told : List Found
   pub are_told : AreToldIn lints sources definitions told
-  pub is : shown ≡ sources_text 0 sources refusals told ++ count_text (refused_count refusals) (length told)
+  pub is : report ≡ report_in given sources refusals told
 
 abbrev pub is_empty : List ℕ → Bool
 is_empty text = length text == 0
 
--- the status where all could be read, or not, and nothing is told, or something
+-- the status where all could be read, or not, and nothing is told that counts, or something
 abbrev pub told_status : Bool → Bool → ℕ
 told_status is_read is_clean = if is_read then (if is_clean then 0 else 1) else 3
 
@@ -43,18 +42,18 @@ told_status is_read is_clean = if is_read then (if is_clean then 0 else 1) else 
 abbrev pub IsProgram : Program → Type 0
 IsProgram program =
     (program.name.now ≡ codes "isle-lint")
-    × (program.usage.now ≡ codes "usage: isle-lint [--all] [--lint NAME] [--allow NAME] [--stdin-name NAME] [--program NAME] [--all-programs] [FILE ..]\n")
+    × (program.usage.now ≡ codes "usage: isle-lint [--all] [--lint NAME] [--allow NAME] [--warn NAME] [--deny NAME] [--message-format FORMAT] [--stdin-name NAME] [--program NAME] [--all-programs] [FILE ..]\n")
 
 abbrev pub AreOptions : Options → Type 0
 AreOptions options =
     (map (λ flag. flag.now) options.flags.now ≡ codes "--all" ∷ [])
-    × (map (λ setting. setting.now) options.settings.now ≡ codes "--lint" ∷ codes "--allow" ∷ [])
+    × (map (λ setting. setting.now) options.settings.now ≡ codes "--lint" ∷ codes "--allow" ∷ codes "--warn" ∷ codes "--deny" ∷ codes "--message-format" ∷ [])
 
 -- its options, and those that ask for programs of a manifest
 abbrev pub AreAllOptions : Options → Type 0
 AreAllOptions options =
     (map (λ flag. flag.now) options.flags.now ≡ codes "--all" ∷ codes "--all-programs" ∷ [])
-    × (map (λ setting. setting.now) options.settings.now ≡ codes "--lint" ∷ codes "--allow" ∷ codes "--program" ∷ [])
+    × (map (λ setting. setting.now) options.settings.now ≡ codes "--lint" ∷ codes "--allow" ∷ codes "--warn" ∷ codes "--deny" ∷ codes "--message-format" ∷ codes "--program" ∷ [])
 
 -- the words ask this of the program
 abbrev pub Ask : List (List ℕ) → Option Asked → Type 0
@@ -72,26 +71,26 @@ IsFailureTextOf words status text =
 
 -- What was read of what the arguments name, and what is to be told of it; Holds is said of the lines about what can't be
 -- read, and of what is told.
-pub record Looks (given : List Given) (input input' : Option (List ℕ)) (Holds : List ℕ → List ℕ → Type 0) : Type 0 where
+pub record Looks (given : List Given) (input input' : Option (List ℕ)) (Holds : List ℕ → ReportNode → Type 0) : Type 0 where
   pub usable : are_usable given ≡ true
   pub program : Program
   pub is_program : IsProgram program
   pub sources : List Source
   pub lines : List ℕ
   pub read : IsReadFrom (name_list given) (stdin_name given) program input input' sources lines
-  pub shown : List ℕ
-  pub report : IsReport (lints_on given) sources shown
-  pub holds : Holds lines shown
+  pub report : ReportNode
+  pub is_report : IsReport given (lints_on given) sources report
+  pub holds : Holds lines report
 
 -- It is told, and this is the status; standard error got the lines about what can't be read, as far as it took them.
 abbrev pub Tells : List Given → ℕ → (input input' output output' faults faults' : Option (List ℕ)) → Type 0
 Tells given status input input' output output' faults faults' =
-    Looks given input input' (λ lines shown. (status ≡ told_status (is_empty lines) (is_empty shown)) × Appends output output' shown
+    Looks given input input' (λ lines report. (status ≡ told_status (is_empty lines) report.is_clean) × Appends output output' report.text
     × AppendsBeginning faults faults' lines)
 
 -- the output got a beginning of it
 abbrev pub Cuts : List Given → (input input' output output' : Option (List ℕ)) → Type 0
-Cuts given input input' output output' = Looks given input input' (λ lines shown. AppendsBeginning output output' shown)
+Cuts given input input' output output' = Looks given input input' (λ lines report. AppendsBeginning output output' report.text)
 
 -- what a failure says of the input and the output
 abbrev pub Explains : Failure → List Given → (input input' output output' : Option (List ℕ)) → Type 0
@@ -101,7 +100,7 @@ Explains failures.Input given input input' output output' = ⊥
 Explains failures.Memory given input input' output output' = Keeps output output'
 Explains failures.Output given input input' output output' = Cuts given input input' output output'
 
--- the words are none of the usage, or name a lint that there is none of
+-- the words are none of the usage, or name a lint or a format that there is none of
 abbrev pub IsMisuse : List (List ℕ) → Type 0
 IsMisuse words = Ask words None ⊎ ((given : List Given) × Ask words (Some (work_asked given)) × (are_usable given ≡ false))
 
@@ -127,19 +126,19 @@ CutsAsked (work_asked given) input input' output output' = Cuts given input inpu
 pub record TellsPrograms (given : List Given) (status : ℕ) (output output' : Option (List ℕ)) : Type 0 where
   pub sources : List Source
   pub parts : List Part
-  pub shown : List ℕ
-  pub report : IsProgramsReport (lints_on given) sources parts shown
+  pub report : ReportNode
+  pub is_report : IsProgramsReport given (lints_on given) sources parts report
   pub is_read : Bool
-  pub ends : status ≡ told_status is_read (is_empty shown)
-  pub written : Appends output output' shown
+  pub ends : status ≡ told_status is_read report.is_clean
+  pub written : Appends output output' report.text
 
 -- the output got a beginning of it
 pub record CutsPrograms (given : List Given) (output output' : Option (List ℕ)) : Type 0 where
   pub sources : List Source
   pub parts : List Part
-  pub shown : List ℕ
-  pub report : IsProgramsReport (lints_on given) sources parts shown
-  pub begun : AppendsBeginning output output' shown
+  pub report : ReportNode
+  pub is_report : IsProgramsReport given (lints_on given) sources parts report
+  pub begun : AppendsBeginning output output' report.text
 
 -- nothing is told of programs, since there is no manifest, or it has a mistake; or what is in them is told
 abbrev pub Ends : List Given → ℕ → (output output' : Option (List ℕ)) → Type 0

@@ -1,4 +1,5 @@
 pub mod Options
 pub mod Report
+pub mod ReportView
 pub mod Programs
 pub mod Doing

@@ -1,11 +1,12 @@
 -- Which lints a command line turns on.
-use Rattle.std.specs.Prelude.{ℕ, List, Bool, false, true, not, ◌&&◌, ◌||◌, codes, filter}
+use Rattle.std.specs.Prelude.{ℕ, List, [], ◌∷◌, Bool, false, true, not, ◌&&◌, ◌||◌, codes, filter, if◌then◌else◌}
 use Rattle.std.specs.List.{find, list_all, list_any}
 use Rattle.std.specs.Option.{is_some}
 use Rattle.std.specs.Str.{bytes_eq}
 use Rattle.isle_cli.specs.Arguments.{Given, flag_given, setting_given, name_given, gives_flag}
 use Rattle.isle_lint_core.specs.Lint.{all_lints, is_default, name}
 use Rattle.isle_lint_core.specs.declared.lint.Lint.{Lint}
+use Rattle.isle_program_messages.specs.Formats.{is_format_usable}
 
 -- an option with a value names a lint
 abbrev pub is_naming : List ℕ → Lint → Given → Bool
@@ -16,21 +17,46 @@ is_naming option lint (name_given _) = false
 abbrev pub names_lint : List ℕ → Lint → List Given → Bool
 names_lint option lint given = list_any (is_naming option lint) given
 
+-- an option that enables lints names it
+abbrev pub is_asked_for : List Given → Lint → Bool
+is_asked_for given lint =
+    names_lint (codes "--lint") lint given || names_lint (codes "--warn") lint given || names_lint (codes "--deny") lint given
+
 -- a lint isn't allowed, and it is asked for, or on by default
 abbrev pub is_on : List Given → Lint → Bool
 is_on given lint =
     not (names_lint (codes "--allow") lint given)
-    && (names_lint (codes "--lint") lint given
+    && (is_asked_for given lint
     || (is_default lint || gives_flag (codes "--all") given))
 
 abbrev pub lints_on : List Given → List Lint
 lints_on given = filter (is_on given) all_lints
 
--- the values of `--lint` and `--allow` are names of lints
+-- the last of `--warn` and `--deny` that names a lint is `--warn`
+abbrev pub warned_after : Lint → (before : Bool) → Given → Bool
+warned_after lint before given =
+    if is_naming (codes "--warn") lint given then true else if is_naming (codes "--deny") lint given then false else before
+
+abbrev pub warned_from : (before : Bool) → List Given → Lint → Bool
+warned_from before [] lint = before
+warned_from before (given ∷ more) lint = warned_from (warned_after lint before given) more lint
+
+abbrev pub is_warned : List Given → Lint → Bool
+is_warned given lint = warned_from false given lint
+
+-- the options whose values are names of lints
+abbrev pub is_lint_option : List ℕ → Bool
+is_lint_option option =
+    bytes_eq option (codes "--lint") || bytes_eq option (codes "--allow") || bytes_eq option (codes "--warn") || bytes_eq option (codes "--deny")
+
+abbrev pub is_lint_usable : (option value : List ℕ) → Bool
+is_lint_usable option value =
+    not (is_lint_option option) || is_some (find (λ lint. bytes_eq (name lint) value) all_lints)
+
+-- that of `--message-format` is the name of a format
 abbrev pub is_usable : Given → Bool
 is_usable (flag_given _) = true
-is_usable (setting_given o value) =
-    not (bytes_eq o (codes "--lint") || bytes_eq o (codes "--allow")) || is_some (find (λ lint. bytes_eq (name lint) value) all_lints)
+is_usable (setting_given o value) = is_lint_usable o value && is_format_usable o value
 is_usable (name_given _) = true
 
 abbrev pub are_usable : List Given → Bool

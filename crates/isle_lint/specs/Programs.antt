@@ -7,14 +7,16 @@ use Rattle.std.specs.Str.{bytes_eq}
 use Rattle.isle_base_source.specs.Source.{Source}
 use Rattle.isle_base_source.specs.declared.error.Error.{Error}
 use Rattle.isle_ast.specs.Tree.{Definition}
-use Rattle.isle_cli.specs.Messages.{count_text, message_line}
+use Rattle.isle_cli.specs.Arguments.{Given}
 use Rattle.isle_lint_core.specs.Finding.{Found, finding_cmp, finding_of}
 use Rattle.isle_lint_core.specs.Lint.{name}
 use Rattle.isle_lint_core.specs.declared.finding.Finding.{Finding}
 use Rattle.isle_lint_core.specs.declared.lint.Lint.{Lint}
-use Rattle.isle_program.specs.Messages.{refusal_text, shown_offset}
 use Rattle.isle_program.specs.Reading.{IsReading, refused_count}
-use Rattle.isle_lint.specs.Report.{AreToldIn, message_text}
+use Rattle.isle_program_messages.specs.Formats.{format_in}
+use Rattle.isle_program_messages.specs.Refusals.{told_count, told_refusal_of}
+use Rattle.isle_program_messages.specs.declared.format.Format.{Format}
+use Rattle.isle_lint.specs.Report.{AreToldIn, ReportNode, finding_line, is_clean}
 use Rattle.isle_lint.specs.declared.programs.Told.{Told}
 use Rattle.isle_lint.specs.declared.programs.Linted as linted_code
 use Rattle.isle_lint.specs.declared.programs.Part as part_code
@@ -103,33 +105,42 @@ abbrev pub tag : Found → List Linted → List ℕ
 tag f linted = if list_any (lacks f) linted then codes " [" ++ (names_after [] f linted ++ codes "]") else []
 
 -- the line of a finding
-abbrev pub tagged_line : List Linted → Source → Found → List ℕ
-tagged_line linted source f = message_line source (shown_offset f.pos.offset) (codes "warning") (message_text f ++ tag f linted)
+abbrev pub tagged_line : Format → List Linted → Source → Found → List ℕ
+tagged_line format linted source f = finding_line format (tag f linted) source f
 
 -- the lines of the file of this number
-abbrev pub tagged_text : List Linted → ℕ → Source → List (Option Error) → List Found → List ℕ
-tagged_text linted file source refusals found =
-    refusal_text source (slice_get refusals file) ++ flat_map (tagged_line linted source) (filter (λ f. f.pos.file == file) found)
+abbrev pub tagged_text : Format → List Linted → ℕ → Source → List (Option Error) → List Found → List ℕ
+tagged_text format linted file source refusals found =
+    told_refusal_of format source (slice_get refusals file) ++ flat_map (tagged_line format linted source) (filter (λ f. f.pos.file == file) found)
 
 -- those of the files from this number on
-abbrev pub tagged_texts : List Linted → ℕ → List Source → List (Option Error) → List Found → List ℕ
-tagged_texts linted file [] refusals found = []
-tagged_texts linted file (source ∷ sources) refusals found =
-    tagged_text linted file source refusals found ++ tagged_texts linted (file + 1) sources refusals found
+abbrev pub tagged_texts : Format → List Linted → ℕ → List Source → List (Option Error) → List Found → List ℕ
+tagged_texts format linted file [] refusals found = []
+tagged_texts format linted file (source ∷ sources) refusals found =
+    tagged_text format linted file source refusals found ++ tagged_texts format linted (file + 1) sources refusals found
+
+-- all lines, and for people how many there are
+abbrev pub tagged_report : Format → List Linted → List Source → List (Option Error) → List Finding → List ℕ
+tagged_report format linted sources refusals found =
+    tagged_texts format linted 0 sources refusals (map finding_of found) ++ told_count format (refused_count refusals) (length found)
+
+abbrev pub programs_report : List Given → List Linted → List Source → List (Option Error) → List Finding → ReportNode
+programs_report given linted sources refusals found =
+    record { text = tagged_report (format_in given) linted sources refusals found; is_clean = is_clean given refusals (map finding_of found) }
 
 -- What is shown of programs that are linted: a line for each text that spells no tree, and for each finding of a program,
--- once, however many programs have it, in order of place; and how many there are of both.
-pub record IsShown (sources : List Source) (linted : List Linted) (refusals : List (Option Error)) (shown : List ℕ) : Type 0 where
+-- once, however many programs have it, in order of place; and for people how many there are of both. It is known whether any counts.
+pub record IsShown (given : List Given) (sources : List Source) (linted : List Linted) (refusals : List (Option Error)) (report : ReportNode) : Type 0 where
   pub found : List Finding
   pub exact : IsPermutation (each_once [] linted) (map finding_of found)
   pub in_order : IsSortedByKey finding_of finding_cmp found
-  pub is : shown ≡ tagged_texts linted 0 sources refusals (map finding_of found) ++ count_text (refused_count refusals) (length found)
+  pub is : report ≡ programs_report given linted sources refusals found
 
 -- each program is linted by itself, and this is shown
-pub record IsProgramsReport (lints : List Lint) (sources : List Source) (parts : List Part) (shown : List ℕ) : Type 0 where
+pub record IsProgramsReport (given : List Given) (lints : List Lint) (sources : List Source) (parts : List Part) (report : ReportNode) : Type 0 where
   pub linted : List Linted
   pub each : AreLinted lints sources parts linted
   pub definitions : List Definition
   pub refusals : List (Option Error)
   pub read : IsReading sources definitions refusals
-  pub is : IsShown sources linted refusals shown
+  pub is : IsShown given sources linted refusals report

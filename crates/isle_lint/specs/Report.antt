@@ -1,19 +1,26 @@
 -- What is told of a program: a line for each text that spells no tree, and for each finding.
-use Rattle.std.specs.Prelude.{◌≡◌, ℕ, ◌+◌, ◌==◌, List, [], ◌∷◌, ◌++◌, Bool, not, ◌&&◌, if◌then◌else◌, Option, codes, filter, map, slice_get}
-use Rattle.std.specs.List.{flat_map}
+use Rattle.std.specs.Prelude.{◌≡◌, ℕ, ◌+◌, ◌==◌, List, [], ◌∷◌, ◌++◌, Bool, not, ◌&&◌, if◌then◌else◌, Option, codes, filter, length, map, slice_get}
+use Rattle.std.specs.List.{flat_map, list_all}
 use Rattle.std.specs.List.Sorted.{IsPermutation, IsSortedByKey}
 use Rattle.isle_base_source.specs.PositionOrder.{position_cmp}
 use Rattle.isle_base_source.specs.Source.{Source}
 use Rattle.isle_base_source.specs.declared.error.Error.{Error}
 use Rattle.isle_ast.specs.Tree.{Definition}
-use Rattle.isle_cli.specs.Messages.{message_line}
+use Rattle.isle_cli.specs.Arguments.{Given}
 use Rattle.isle_lint_core.specs.Finding.{Found, finding_of}
 use Rattle.isle_lint_core.specs.Findings.{findings_in}
 use Rattle.isle_lint_core.specs.declared.finding.Finding.{Finding}
 use Rattle.isle_lint_core.specs.Lint.{message, name}
 use Rattle.isle_lint_core.specs.declared.lint.Lint.{Lint}
+use Rattle.isle_lint.specs.Options.{is_warned}
 use Rattle.isle_program.specs.Allowances.{Allowance, AreAllowances, is_allowed}
-use Rattle.isle_program.specs.Messages.{refusal_text, shown_offset}
+use Rattle.isle_program.specs.Reading.{refused_count}
+use Rattle.isle_program_messages.specs.Formats.{format_in}
+use Rattle.isle_program_messages.specs.Lines.{told_line}
+use Rattle.isle_program_messages.specs.Messages.{MessageNode}
+use Rattle.isle_program_messages.specs.Refusals.{told_count, told_refusal_of}
+use Rattle.isle_program_messages.specs.declared.format.Format.{Format}
+use Rattle.isle_program_messages.specs.declared.message.Severity.TheVariants.{Warning}
 
 -- a finding is in the file of this number, and no comment turns it off
 abbrev pub is_told : ℕ → List Allowance → Found → Bool
@@ -21,6 +28,18 @@ is_told file allowances f = (f.pos.file == file) && not (is_allowed allowances f
 
 abbrev pub told_in : ℕ → List Allowance → List Found → List Found
 told_in file allowances found = filter (is_told file allowances) found
+
+-- the findings are of lints that are warned of
+abbrev pub are_warned : List Given → List Found → Bool
+are_warned given found = list_all (λ f. is_warned given f.lint) found
+
+-- nothing is told that counts: each text spells a tree, and the lint of each finding is warned of
+abbrev pub is_clean : List Given → List (Option Error) → List Found → Bool
+is_clean given refusals found = (refused_count refusals == 0) && are_warned given found
+
+pub record ReportNode : Type 0 where
+  pub text : List ℕ
+  pub is_clean : Bool
 
 -- a finding, where it counts
 abbrev pub kept_if : Bool → Found → List Found
@@ -42,17 +61,31 @@ pub record AreToldIn (lints : List Lint) (sources : List Source) (ds : List Defi
   pub are : AreTold 0 sources (map finding_of found) told
 
 abbrev pub message_text : Found → List ℕ
-message_text f = message f.lint ++ codes " '" ++ f.name ++ codes "' [" ++ name f.lint ++ codes "]"
+message_text f = message f.lint ++ codes " '" ++ f.name ++ codes "'"
 
-abbrev pub finding_line : Source → Found → List ℕ
-finding_line source f = message_line source (shown_offset f.pos.offset) (codes "warning") (message_text f)
+-- a finding as a message, which is told of these programs
+abbrev pub finding_message : (programs : List ℕ) → Found → MessageNode
+finding_message programs f = record { severity = Warning; kind = name f.lint; text = message_text f; programs = programs }
+
+abbrev pub finding_line : Format → (programs : List ℕ) → Source → Found → List ℕ
+finding_line format programs source f = told_line format source f.pos.offset (finding_message programs f)
 
 -- the lines of the file of this number
-abbrev pub source_text : ℕ → Source → List (Option Error) → List Found → List ℕ
-source_text file source refusals found =
-    refusal_text source (slice_get refusals file) ++ flat_map (finding_line source) (filter (λ f. f.pos.file == file) found)
+abbrev pub source_text : Format → ℕ → Source → List (Option Error) → List Found → List ℕ
+source_text format file source refusals found =
+    told_refusal_of format source (slice_get refusals file) ++ flat_map (finding_line format [] source) (filter (λ f. f.pos.file == file) found)
 
 -- those of the files from this number on
-abbrev pub sources_text : ℕ → List Source → List (Option Error) → List Found → List ℕ
-sources_text file [] refusals found = []
-sources_text file (source ∷ sources) refusals found = source_text file source refusals found ++ sources_text (file + 1) sources refusals found
+abbrev pub sources_text : Format → ℕ → List Source → List (Option Error) → List Found → List ℕ
+sources_text format file [] refusals found = []
+sources_text format file (source ∷ sources) refusals found =
+    source_text format file source refusals found ++ sources_text format (file + 1) sources refusals found
+
+-- all lines, and for people how many there are
+abbrev pub report_text : Format → List Source → List (Option Error) → List Found → List ℕ
+report_text format sources refusals found =
+    sources_text format 0 sources refusals found ++ told_count format (refused_count refusals) (length found)
+
+abbrev pub report_in : List Given → List Source → List (Option Error) → List Found → ReportNode
+report_in given sources refusals found =
+    record { text = report_text (format_in given) sources refusals found; is_clean = is_clean given refusals found }

@@ -18,6 +18,7 @@ use isle_program_manifest::asking::{
 };
 use isle_program_manifest::choice::{Chosen, missing_notes};
 use isle_program_manifest::membership::has_file;
+use isle_program_messages::format::FORMAT_OPTION;
 use std::alloc::{AllocError, Global};
 use std::env::Env;
 use std::fs::Files;
@@ -26,7 +27,14 @@ use std::io::Write;
 /// The options with those that ask for programs of a manifest.
 pub const OPTIONS: Options = Options {
     flags: &["--all", ALL_OPTION],
-    settings: &["--lint", "--allow", NAME_OPTION],
+    settings: &[
+        "--lint",
+        "--allow",
+        "--warn",
+        "--deny",
+        FORMAT_OPTION,
+        NAME_OPTION,
+    ],
 };
 
 /// Lints programs of the nearest manifest, each by itself, writes the findings to the output, and
@@ -78,14 +86,14 @@ fn lint_programs<R: Files + Env + AllocGlobal + Clone + Drop, I, W: Write, E: Wr
     let notes = missing_notes(rt, &PROGRAM, &programs)?;
     let texts = read_texts(rt, &PROGRAM, &programs)?;
     let parts = parts_of(rt.alloc(), &programs, &texts.list)?;
-    let told = report_on_programs(rt.alloc(), &texts.list, &parts, &lints)?;
+    let told = report_on_programs(rt.alloc(), arguments, &texts.list, &parts, &lints)?;
     let _ = write_whole(&mut streams.faults, notes.as_bytes());
-    match put(&mut streams.output, told.as_str()) {
+    match put(&mut streams.output, told.text.as_str()) {
         Ok(()) => {}
         Err(_) => return Err(Failure::Output),
     }
     let _ = write_whole(&mut streams.faults, texts.faults.as_bytes());
-    Ok(status_of(texts.faults.is_empty(), told.is_empty()))
+    Ok(status_of(texts.faults.is_empty(), told.is_clean))
 }
 
 /// The programs among the texts that could be read.

@@ -1,17 +1,18 @@
 //! The command line: the help, and the lints that the options enable.
 
-ghost use Rattle.std.specs.Prelude.{◌≡◌, ◌⊎◌, ◌||◌, IfErr, IfOk, OnOk, codes, false};
+ghost use Rattle.std.specs.Prelude.{◌≡◌, ◌⊎◌, IfErr, IfOk, OnOk, false};
 ghost use Rattle.std.specs.Prelude.{filter, map, true};
-ghost use Rattle.std.specs.Str.{bytes_eq};
 ghost use Rattle.isle_cli.specs.Arguments.{given_of};
 ghost use Rattle.isle_cli.specs.declared.failure.Failure.TheVariants.{Memory, Usage};
-ghost use Rattle.isle_lint.specs.Options.{are_usable, is_naming, is_on, is_usable, lints_on};
-ghost use Rattle.isle_lint.specs.Options.{names_lint};
+ghost use Rattle.isle_lint.specs.Options.{are_usable, is_asked_for, is_lint_option};
+ghost use Rattle.isle_lint.specs.Options.{is_lint_usable, is_naming, is_on, is_usable, is_warned};
+ghost use Rattle.isle_lint.specs.Options.{lints_on, names_lint, warned_after};
 
 use isle_cli::arguments::{Argument, has_flag};
 use isle_cli::failure::Failure;
 use isle_cli::version;
 use isle_lint_core::Lint;
+use isle_program_messages::format::is_format_usable;
 use std::alloc::{AllocError, Global};
 
 /// The version.
@@ -19,8 +20,9 @@ pub const VERSION: &str = version!("isle-lint");
 
 /// The help.
 pub const HELP: &str = "\
-usage: isle-lint [--all] [--lint NAME] [--allow NAME] [--stdin-name NAME]
-                 [--program NAME] [--all-programs] [FILE ..]
+usage: isle-lint [--all] [--lint NAME] [--allow NAME] [--warn NAME] [--deny NAME]
+                 [--message-format FORMAT] [--stdin-name NAME] [--program NAME]
+                 [--all-programs] [FILE ..]
 
 Lints ISLE source: finds what the compiler accepts but is likely a mistake. For what it rejects, use
 isle-check.
@@ -32,15 +34,23 @@ With --program or --all-programs, programs of the nearest isle.toml are linted, 
 is looked for in the current folder and above it, or in the one folder that is given.
 
 Options:
-  --all              enable all lints
-  --lint NAME        enable a lint; may be repeated
-  --allow NAME       disable a lint; may be repeated, and takes precedence over --lint
-  --stdin-name NAME  use NAME for standard input in messages
-  --program NAME     lint this program of isle.toml; may be repeated
-  --all-programs     lint all programs of isle.toml
-  --                 treat all later arguments as files
-  -h, --help         print this help
-  -V, --version      print the version
+  --all                    enable all lints
+  --lint NAME              enable a lint; may be repeated
+  --allow NAME             disable a lint; may be repeated, and takes precedence over the others
+  --warn NAME              enable a lint, but let its findings leave the exit status at 0;
+                           may be repeated
+  --deny NAME              enable a lint, and let its findings count, also after --warn;
+                           may be repeated
+  --message-format FORMAT  write findings as human (the default), json or github
+  --stdin-name NAME        use NAME for standard input in messages
+  --program NAME           lint this program of isle.toml; may be repeated
+  --all-programs           lint all programs of isle.toml
+  --                       treat all later arguments as files
+  -h, --help               print this help
+  -V, --version            print the version
+
+With json, each line is an object with the file, line, column, severity, kind and message. With
+github, it is a workflow command that makes GitHub annotate the line.
 
 The comment `; isle-lint: allow NAME` above a definition disables a lint for it.
 
@@ -53,8 +63,8 @@ Other lints:
   shadowed-variable        a variable of a let hides another of the same name
 
 Exit status:
-  0  nothing was found
-  1  something was found, or an input does not parse
+  0  nothing was found, or only what --warn names
+  1  something else was found, or an input does not parse
   2  usage error, or a mistake in isle.toml
   3  an input cannot be read, or is not UTF-8, or a folder has no .isle file
   4  out of memory
@@ -63,7 +73,8 @@ Exit status:
 
 /// The lints that the arguments enable.
 ///
-/// It fails with `Usage` if `--lint` or `--allow` names no lint, and with `Memory`.
+/// It fails with `Usage` if `--lint`, `--allow`, `--warn` or `--deny` names no lint, or
+/// `--message-format` no format, and with `Memory`.
 pub fn lints_of(alloc: Global, arguments: &[Argument]) -> Result<Vec<Lint>, Failure>
     ensures ok { IfOk result (λ lints. lints.items ≡ lints_on (map given_of arguments.now)) }
     ensures usable { OnOk result (are_usable (map given_of arguments.now) ≡ true) }
@@ -90,7 +101,7 @@ fn on_among(alloc: Global, arguments: &[Argument], lints: &[Lint]) -> Result<Vec
     Ok(on)
 }
 
-/// Returns whether each `--lint` and `--allow` names a lint.
+/// Returns whether each option for lints names one, and each `--message-format` a format.
 fn are_usable(arguments: &[Argument]) -> bool
     ensures { result ≡ are_usable (map given_of arguments.now) }
 {
@@ -102,38 +113,79 @@ fn are_usable(arguments: &[Argument]) -> bool
     true
 }
 
-/// Returns whether an argument names a lint, if it has to.
+/// Returns whether an argument names a lint or a format, if it has to.
 fn is_usable(argument: &Argument) -> bool
     ensures { result ≡ is_usable (given_of argument.now) }
 {
     match argument {
         Argument::Setting(option, value) => {
-            !is_lint_option(option.as_str()) || Lint::named(value.as_str()).is_some()
+            is_lint_usable(option.as_str(), value.as_str())
+                && is_format_usable(option.as_str(), value.as_str())
         }
         Argument::Flag(_) | Argument::Name(_) => true,
     }
 }
 
-/// Returns whether the value of an option names a lint.
-fn is_lint_option(option: &str) -> bool
-    ensures { result
-        ≡ (bytes_eq option.now (codes "--lint") || bytes_eq option.now (codes "--allow")) }
+/// Returns whether the value of an option names a lint, if it has to.
+fn is_lint_usable(option: &str, value: &str) -> bool
+    ensures { result ≡ is_lint_usable option.now value.now }
 {
-    option == "--lint" || option == "--allow"
+    !is_lint_option(option) || Lint::named(value).is_some()
 }
 
-/// Returns whether a lint is enabled: `--allow` does not name it, and `--lint`, `--all` or the
-/// default enable it.
+/// Returns whether the value of an option names a lint.
+fn is_lint_option(option: &str) -> bool
+    ensures { result ≡ is_lint_option option.now }
+{
+    option == "--lint" || option == "--allow" || option == "--warn" || option == "--deny"
+}
+
+/// Returns whether a lint is enabled: `--allow` does not name it, and `--lint`, `--warn`, `--deny`,
+/// `--all` or the default enable it.
 fn is_on(arguments: &[Argument], lint: Lint) -> bool
     ensures { result ≡ is_on (map given_of arguments.now) lint }
 {
     if names_lint(arguments, "--allow", lint) {
         return false;
     }
-    if names_lint(arguments, "--lint", lint) {
+    if is_asked_for(arguments, lint) {
         return true;
     }
     lint.is_default() || has_flag(arguments, "--all")
+}
+
+/// Returns whether an option that enables a lint names this one.
+fn is_asked_for(arguments: &[Argument], lint: Lint) -> bool
+    ensures { result ≡ is_asked_for (map given_of arguments.now) lint }
+{
+    names_lint(arguments, "--lint", lint)
+        || names_lint(arguments, "--warn", lint)
+        || names_lint(arguments, "--deny", lint)
+}
+
+/// Returns whether the findings of a lint leave the exit status at 0: of `--warn` and `--deny`, the
+/// last one that names it is `--warn`.
+pub fn is_warned(arguments: &[Argument], lint: Lint) -> bool
+    ensures { result ≡ is_warned (map given_of arguments.now) lint }
+{
+    let mut is_warned = false;
+    for argument in arguments {
+        is_warned = warned_after(argument, lint, is_warned);
+    }
+    is_warned
+}
+
+/// Returns whether a lint is warned of after an argument, if it is before it, or not.
+fn warned_after(argument: &Argument, lint: Lint, before: bool) -> bool
+    ensures { result ≡ warned_after lint before (given_of argument.now) }
+{
+    if is_naming(argument, "--warn", lint) {
+        return true;
+    }
+    if is_naming(argument, "--deny", lint) {
+        return false;
+    }
+    before
 }
 
 /// Returns whether some argument is this option with this lint.

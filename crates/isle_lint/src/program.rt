@@ -19,14 +19,15 @@ use isle_cli::program::{Program, put, report, tell};
 use isle_cli::sources::read_sources;
 use isle_cli::streams::{Streams, write_whole};
 use isle_cli::usage::report_words;
+use isle_program_messages::format::FORMAT_OPTION;
 use std::fs::Files;
 use std::io::{Read, Write};
 
 /// This program.
 pub const PROGRAM: Program = Program {
     name: "isle-lint",
-    usage: "usage: isle-lint [--all] [--lint NAME] [--allow NAME] [--stdin-name NAME] \
-            [--program NAME] [--all-programs] [FILE ..]\n",
+    usage: "usage: isle-lint [--all] [--lint NAME] [--allow NAME] [--warn NAME] [--deny NAME] \
+            [--message-format FORMAT] [--stdin-name NAME] [--program NAME] [--all-programs] [FILE ..]\n",
     help: HELP,
     version: VERSION,
 };
@@ -34,15 +35,15 @@ pub const PROGRAM: Program = Program {
 /// Its options.
 pub const OPTIONS: Options = Options {
     flags: &["--all"],
-    settings: &["--lint", "--allow"],
+    settings: &["--lint", "--allow", "--warn", "--deny", FORMAT_OPTION],
 };
 
 /// Lints a program, writes the findings to the output, and returns the exit status.
 ///
 /// | Status | When |
 /// |---|---|
-/// | 0 | nothing is found, or the help or the version is printed |
-/// | 1 | something is found, or a text does not parse |
+/// | 0 | nothing is found, or only what `--warn` names, or the help or the version is printed |
+/// | 1 | something else is found, or a text does not parse |
 /// | 2 | usage error; standard error gets the unknown option, if one is unknown, and the usage |
 /// | 3 | an input can't be read or isn't UTF-8, or a folder has no ISLE file |
 /// | 4 | `isle-lint: out of memory` |
@@ -50,9 +51,9 @@ pub const OPTIONS: Options = Options {
 ///
 /// With status 3 standard error gets a line for each.
 ///
-/// With status 1 and 3 the output gets a line for each finding and each text that does not parse,
-/// in order of file and position, and a line that counts them; with status 5 a beginning of that.
-/// With status 2 and 4 it gets nothing.
+/// With status 0, 1 and 3 the output gets a line for each finding and each text that does not parse,
+/// in order of file and position, in the format that is asked for, and for people a line that
+/// counts them; with status 5 a beginning of that. With status 2 and 4 it gets nothing.
 ///
 /// Errors of standard error do not change the status.
 pub fn run<R: Files + AllocGlobal + Clone + Drop, I: Read, W: Write, E: Write>(
@@ -167,8 +168,8 @@ fn lint<R: Files + AllocGlobal + Clone + Drop, I: Read, W: Write, E: Write>(
     let names = names_of(rt.alloc(), arguments)?;
     let stdin_name = stdin_name_of(arguments);
     let sources = read_sources(rt, &PROGRAM, &names, stdin_name, &mut streams.input)?;
-    let told = report_on(rt.alloc(), &sources.list, &lints)?;
-    match put(&mut streams.output, told.as_str()) {
+    let told = report_on(rt.alloc(), arguments, &sources.list, &lints)?;
+    match put(&mut streams.output, told.text.as_str()) {
         Ok(()) => {}
         Err(_) => return Err(Failure::Output),
     }
@@ -176,10 +177,10 @@ fn lint<R: Files + AllocGlobal + Clone + Drop, I: Read, W: Write, E: Write>(
     if !is_read {
         let _ = write_whole(&mut streams.faults, sources.faults.as_bytes());
     }
-    Ok(status_of(is_read, told.is_empty()))
+    Ok(status_of(is_read, told.is_clean))
 }
 
-/// The exit status if all could be read, or not, and nothing was found, or something.
+/// The exit status if all could be read, or not, and nothing was found that counts, or something.
 pub fn status_of(is_read: bool, is_clean: bool) -> u8
     ensures { result ≡ told_status is_read is_clean }
 {

@@ -4,24 +4,27 @@ ghost use Rattle.std.specs.Prelude.{◌≡◌, [], IfErr, IfOk, OnOk, map, strin
 ghost use Rattle.std.specs.List.{list_any};
 ghost use Rattle.isle_base_source.specs.Lines.{line_ends};
 ghost use Rattle.isle_ast.specs.TreeView.{definitions_of};
+ghost use Rattle.isle_cli.specs.Arguments.{given_of};
 ghost use Rattle.isle_cli.specs.Sources.{source_of};
 ghost use Rattle.isle_cli.specs.declared.failure.Failure.TheVariants.{Memory};
 ghost use Rattle.isle_lint_core.specs.Finding.{finding_of};
 ghost use Rattle.isle_lint.specs.Programs as Programs;
 ghost use Rattle.isle_lint.specs.Programs.{AreLinted, IsProgramsReport, IsShown, IsToldIn};
 ghost use Rattle.isle_lint.specs.Programs.{found_of, linted_of, part_of};
+ghost use Rattle.isle_lint.specs.ReportView.{report_of};
 ghost use Rattle.isle_program.specs.Reading.{IsReading};
 
-use crate::report::{message_of, told_in_reading};
+use crate::report::{Report, finding_line, is_clean, told_in_reading};
 use isle_base::lexer::Pos;
 use isle_base_source::error::Error;
 use isle_base_source::files::LineMap;
+use isle_cli::arguments::Argument;
 use isle_cli::failure::Failure;
-use isle_cli::messages::count_line;
 use isle_cli::sources::Source;
 use isle_lint_core::{Finding, Lint};
-use isle_program::messages::{place_line, refusal_line};
 use isle_program::trees::{Reading, drop_reading, read_all, refused_count};
+use isle_program_messages::format::{Format, format_of};
+use isle_program_messages::refusals::{told_count, told_refusal};
 use std::alloc::{AllocError, Global};
 
 /// A program among texts.
@@ -49,24 +52,24 @@ struct Linted {
 }
 
 /// The report of these lints on several programs: a line for each text that does not parse, and
-/// for each finding, in order of file and position, and a line that counts them. It is empty if
-/// there are none.
+/// for each finding, in order of file and position, and for people a line that counts them.
 ///
 /// Each program is linted by itself, as `report_on` does it. A finding of several programs is told
 /// once; where a program has its file but not the finding, the names of the others follow it.
 pub fn report_on_programs(
     alloc: Global,
+    arguments: &[Argument],
     sources: &[Source],
     parts: &[Part],
     lints: &[Lint],
-) -> Result<String, Failure>
-    ensures ok { IfOk result (λ report. IsProgramsReport lints.now (map source_of sources.now)
-        (map part_of parts.now) (string_bytes report)) }
+) -> Result<Report, Failure>
+    ensures ok { IfOk result (λ report. IsProgramsReport (map given_of arguments.now) lints.now
+        (map source_of sources.now) (map part_of parts.now) (report_of report)) }
     ensures err { IfErr result (λ failure. failure ≡ Memory) }
 {
     let linted = lint_all(alloc, sources, parts, lints)?;
     let reading = read_all(alloc, sources)?;
-    let report = report_on_linted(alloc, sources, &linted, &reading.refusals);
+    let report = report_on_linted(alloc, arguments, sources, &linted, &reading.refusals);
     drop_reading(reading);
     Ok(report?)
 }
@@ -176,17 +179,52 @@ fn copied(alloc: Global, told: &[Finding]) -> Result<Vec<Told>, AllocError>
 /// The report on the findings of these programs, and on the texts that do not parse.
 fn report_on_linted(
     alloc: Global,
+    arguments: &[Argument],
     sources: &[Source],
     linted: &[Linted],
     refusals: &[Option<Error>],
-) -> Result<String, AllocError>
-    ensures { IfOk result (λ report. IsShown (map source_of sources.now) (map linted_of linted.now)
-        refusals.now (string_bytes report)) }
+) -> Result<Report, AllocError>
+    ensures { IfOk result (λ report. IsShown (map given_of arguments.now)
+        (map source_of sources.now) (map linted_of linted.now) refusals.now (report_of report)) }
 {
     let mut found = each_once(alloc, linted)?;
     found.sort()?;
-    let mut report = tagged_texts(alloc, sources, linted, refusals, &found)?;
-    let count = count_line(alloc, refused_count(refusals), found.len())?;
+    programs_report(alloc, arguments, sources, linted, refusals, &found)
+}
+
+/// The report on these findings of programs, and on the texts that do not parse.
+fn programs_report(
+    alloc: Global,
+    arguments: &[Argument],
+    sources: &[Source],
+    linted: &[Linted],
+    refusals: &[Option<Error>],
+    found: &[Finding],
+) -> Result<Report, AllocError>
+    ensures { IfOk result (λ report. report_of report
+        ≡ Programs.programs_report (map given_of arguments.now) (map linted_of linted.now)
+        (map source_of sources.now) refusals.now found.now) }
+{
+    let format = format_of(arguments);
+    let text = tagged_report(alloc, format, sources, linted, refusals, found)?;
+    let is_clean = is_clean(arguments, refusals, found);
+    Ok(Report { text, is_clean })
+}
+
+/// Its text.
+fn tagged_report(
+    alloc: Global,
+    format: Format,
+    sources: &[Source],
+    linted: &[Linted],
+    refusals: &[Option<Error>],
+    found: &[Finding],
+) -> Result<String, AllocError>
+    ensures { IfOk result (λ text. string_bytes text ≡ Programs.tagged_report format
+        (map linted_of linted.now) (map source_of sources.now) refusals.now found.now) }
+{
+    let mut report = tagged_texts(alloc, format, sources, linted, refusals, found)?;
+    let count = told_count(alloc, format, refused_count(refusals), found.len())?;
     report.push_str(count.as_str())?;
     Ok(report)
 }
@@ -265,18 +303,19 @@ fn is_same(a: &Finding, b: &Finding) -> bool
 /// The lines of the parse errors and of the findings.
 fn tagged_texts(
     alloc: Global,
+    format: Format,
     sources: &[Source],
     linted: &[Linted],
     refusals: &[Option<Error>],
     found: &[Finding],
 ) -> Result<String, AllocError>
-    ensures { IfOk result (λ text. string_bytes text ≡ Programs.tagged_texts
+    ensures { IfOk result (λ text. string_bytes text ≡ Programs.tagged_texts format
         (map linted_of linted.now) 0 (map source_of sources.now) refusals.now
         (map finding_of found.now)) }
 {
     let mut report = String::new(alloc);
     for (file, source) in sources.iter().enumerate() {
-        let text = tagged_text(alloc, linted, file, source, refusals, found)?;
+        let text = tagged_text(alloc, format, linted, file, source, refusals, found)?;
         report.push_str(text.as_str())?;
     }
     Ok(report)
@@ -285,24 +324,25 @@ fn tagged_texts(
 /// The lines of the file with this number.
 fn tagged_text(
     alloc: Global,
+    format: Format,
     linted: &[Linted],
     file: usize,
     source: &Source,
     refusals: &[Option<Error>],
     found: &[Finding],
 ) -> Result<String, AllocError>
-    ensures { IfOk result (λ text. string_bytes text ≡ Programs.tagged_text
+    ensures { IfOk result (λ text. string_bytes text ≡ Programs.tagged_text format
         (map linted_of linted.now) file (source_of source.now) refusals.now
         (map finding_of found.now)) }
 {
     let lines = LineMap::from_str(alloc, source.text.as_str())?;
     let mut report = match refusals.get(file) {
-        Some(Some(error)) => refusal_line(alloc, source, &lines, error)?,
+        Some(Some(error)) => told_refusal(alloc, format, source, &lines, error)?,
         _ => String::new(alloc),
     };
     for finding in found {
         if finding.pos.file == file {
-            let line = tagged_line(alloc, linted, source, &lines, finding)?;
+            let line = tagged_line(alloc, format, linted, source, &lines, finding)?;
             report.push_str(line.as_str())?;
         }
     }
@@ -312,20 +352,18 @@ fn tagged_text(
 /// The line of a finding.
 fn tagged_line(
     alloc: Global,
+    format: Format,
     linted: &[Linted],
     source: &Source,
     lines: &LineMap,
     finding: &Finding,
 ) -> Result<String, AllocError>
     requires { lines.now ≡ line_ends (string_bytes source.now.text) }
-    ensures { IfOk result (λ line. string_bytes line ≡ Programs.tagged_line
+    ensures { IfOk result (λ line. string_bytes line ≡ Programs.tagged_line format
         (map linted_of linted.now) (source_of source.now) (finding_of finding.now)) }
 {
-    let mut message = message_of(alloc, finding)?;
     let tag = tag(alloc, linted, finding)?;
-    message.push_str(tag.as_str())?;
-    let text = message.as_str();
-    place_line(alloc, source, lines, finding.pos.offset, "warning", text)
+    finding_line(alloc, format, source, lines, finding, tag.as_str())
 }
 
 /// The names of the programs that have a finding, in brackets; nothing if each program that has its

@@ -7,11 +7,11 @@ use isle_base_source::files::LineMap;
 use isle_cli::messages::message_line;
 use isle_cli::program::Program;
 use isle_cli::sources::{fault_line, read_file};
-use isle_cli::streams::ReadFault;
+use isle_cli::streams::{ReadFault, fault_of};
 use std::alloc::{AllocError, AllocFailed};
 use std::env;
 use std::env::Env;
-use std::fs::Files;
+use std::fs::{Files, canonicalize};
 
 /// A program that is asked for.
 #[derive(Debug, Drop)]
@@ -26,7 +26,7 @@ pub struct Chosen {
 pub enum ChoiceFault {
     /// Out of memory.
     Memory,
-    /// There is no manifest, or it can't be read: the line that says so.
+    /// There is no manifest or no such folder, or one can't be read: the line that says so.
     Unread(String),
     /// The manifest has a mistake, or no program of a name: the line that says so.
     Mistaken(String),
@@ -54,7 +54,7 @@ pub fn choose<R: Files + Env + AllocGlobal + Clone + Drop>(
     folder: Option<&str>,
     names: &[&str],
 ) -> Result<Vec<Chosen>, ChoiceFault> {
-    let top = match manifest_folder(rt, folder)? {
+    let top = match manifest_folder(rt, tool, folder)? {
         Some(top) => top,
         None => {
             let line = format!(in rt.alloc(); "{}: no {FILE_NAME} here or above\n", tool.name)?;
@@ -163,12 +163,12 @@ fn is_wanted(names: &[&str], name: &str) -> bool {
 /// The folder of the nearest manifest, as it is shown; the current folder is empty.
 fn manifest_folder<R: Files + Env + AllocGlobal + Clone + Drop>(
     rt: &R,
+    tool: &Program,
     folder: Option<&str>,
-) -> Result<Option<String>, AllocError> {
+) -> Result<Option<String>, ChoiceFault> {
     let current = current_folder(rt)?;
     let from = match folder {
-        Some(folder) if folder.starts_with('/') => String::from_str(rt.alloc(), folder)?,
-        Some(folder) => in_folder(rt, current.as_str(), folder.trim_start_matches("./"))?,
+        Some(folder) => real_folder(rt, tool, folder)?,
         None => current.clone()?,
     };
     match find(rt, from.as_str())? {
@@ -177,6 +177,24 @@ fn manifest_folder<R: Files + Env + AllocGlobal + Clone + Drop>(
             Ok(Some(shown(rt, current.as_str(), top)?))
         }
         None => Ok(None),
+    }
+}
+
+/// The path of a folder without links and `..`, so that what is above it is a beginning of it.
+fn real_folder<R: Files + AllocGlobal>(
+    rt: &R,
+    tool: &Program,
+    folder: &str,
+) -> Result<String, ChoiceFault> {
+    match canonicalize(rt, folder) {
+        Ok(path) => Ok(String::from_str(rt.alloc(), path.as_str())?),
+        Err(error) => match fault_of(error) {
+            ReadFault::Memory => Err(ChoiceFault::Memory),
+            fault => {
+                let line = fault_line(rt.alloc(), tool, folder, fault)?;
+                Err(ChoiceFault::Unread(line))
+            }
+        },
     }
 }
 

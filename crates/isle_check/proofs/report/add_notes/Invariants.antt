@@ -7,5 +7,5 @@ use Rattle.isle_check.proofs.report.add_notes.Given as goal
 
 abbrev pub invariant-loop-note : goal.invariant-loop-note
 invariant-loop-note l =
-    string_bytes l.text ++ flat_map (note_line (map source_of l.sources)) (notes_of (drop l.note-index l.notes))
-    ≡ string_bytes l.fn.text ++ flat_map (note_line (map source_of l.sources)) (notes_of l.notes)
+    string_bytes l.text ++ flat_map (note_line l.format (map source_of l.sources)) (notes_of (drop l.note-index l.notes))
+    ≡ string_bytes l.fn.text ++ flat_map (note_line l.format (map source_of l.sources)) (notes_of l.notes)

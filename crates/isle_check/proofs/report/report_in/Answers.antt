@@ -3,6 +3,7 @@ use Rattle.isle_ast.specs.TreeView.{definitions_of}
 use Rattle.isle_cli.specs.Arguments.{given_of}
 use Rattle.isle_cli.specs.Sources.{source_of}
 use Rattle.isle_program.specs.Reading.{refused_count}
+use Rattle.isle_program_messages.specs.Formats.{format_in}
 use Rattle.isle_check.specs.Report.{lines_of, refused, rendered}
 use Rattle.isle_check.specs.ReportView.{lines_at, report_of}
 use Rattle.isle_check.proofs.report.report_in.Goals as goal
@@ -22,5 +23,6 @@ returns c =
     let lines : lines_at c.deref-3.result.now ≡ lines_of given sources ds =
     ap lines_at c.deref-3.ensures.value ∙ c.in_ok-lines.ensures ∙ ap (λ defs. lines_of given sources (definitions_of defs)) c.deref-2.ensures.value in
     subst (λ r. IfOk c.rendered.result (λ report. report_of report ≡ r))
-    (ap rendered lines ∙ sym (chosen (refused_count refusals == 0) (rendered (lines_of given sources ds)) (refused sources refusals) none))
+    (ap (rendered c.format_of-format.result) lines ∙ ap (λ f. rendered f (lines_of given sources ds)) c.format_of-format.ensures
+    ∙ sym (chosen (refused_count refusals == 0) (rendered (format_in given) (lines_of given sources ds)) (refused (format_in given) sources refusals) none))
     c.rendered.ensures

@@ -7,5 +7,5 @@ use Rattle.isle_lint.proofs.programs.tagged_texts.Given as goal
 
 abbrev pub invariant-loop-file : goal.invariant-loop-file
 invariant-loop-file l =
-    string_bytes l.report ++ tagged_texts (map linted_of l.linted) l.file (map source_of (drop l.file l.sources)) l.refusals (map finding_of l.found)
-    ≡ tagged_texts (map linted_of l.linted) 0 (map source_of l.sources) l.refusals (map finding_of l.found)
+    string_bytes l.report ++ tagged_texts l.format (map linted_of l.linted) l.file (map source_of (drop l.file l.sources)) l.refusals (map finding_of l.found)
+    ≡ tagged_texts l.format (map linted_of l.linted) 0 (map source_of l.sources) l.refusals (map finding_of l.found)

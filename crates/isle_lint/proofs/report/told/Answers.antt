@@ -1,4 +1,4 @@
-use Rattle.std.proofs.Common.{arith, map, ◌∙◌}
+use Rattle.std.proofs.Common.{arith, map}
 use Rattle.isle_lint_core.specs.Finding.{finding_of}
 use Rattle.isle_lint.proofs.ReportLemmas.{told-all, told-file}
 use Rattle.isle_lint.proofs.report.told.Goals as goal

@@ -1,0 +1,17 @@
+//! What a program tells of places in texts: lines for people, JSON objects, or annotations that
+//! GitHub shows beside the code.
+//!
+//! | To | Call |
+//! |---|---|
+//! | know the format that a command line asks for | `format::format_of` |
+//! | write a message about a place | `lines::told_line` |
+//! | write the errors of texts that do not parse | `refusals::told_refusals` |
+//! | write the line that counts errors and warnings | `refusals::told_count` |
+#![tactic(auto)]
+
+mod annotations;
+pub mod format;
+pub mod lines;
+pub mod message;
+mod objects;
+pub mod refusals;
