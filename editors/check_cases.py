@@ -8,6 +8,7 @@ DECLARED = TYPES + "(decl foo (T) T)\n(decl made () U)\n(extern constructor made
 RIGHT, WRONG = "(rule (foo x) x)\n", "(rule (foo x) (made))\n"
 WRONG_TYPE = "error 1:15 term-type Mismatched types: expression expects type 'T' but term has return type 'U'"
 GONE = "error 1:15 unknown-term Unknown term in expression: 'made'"
+NO_FOO = "error 1:7 rule-for-unknown-term Rule LHS root term is not defined"
 ARGUMENTS = "(rule (lower x) (shared x x))\n"
 COUNT = "error 2:17 argument-count Incorrect argument count for term 'shared': got 2, expect 1"
 LOWER = "(decl lower (T) T)\n"
@@ -69,6 +70,34 @@ CHECKED = [
             ("open", "a.isle", DECLARED),
             ("diagnostics", "b.isle", WRONG_TYPE),
         ],
+    ),
+    Case(
+        "checking: a document that is closed and was never on the disk",
+        {"b.isle": WRONG},
+        [
+            ("open", "b.isle"),
+            ("open", "new.isle", DECLARED),
+            ("diagnostics", "b.isle", WRONG_TYPE),
+            ("close", "new.isle"),
+            ("diagnostics", "b.isle", NO_FOO),
+        ],
+    ),
+    Case(
+        "checking: a file that is open under two names counts once",
+        {"a.isle": DECLARED, "b.isle": RIGHT, "link.isle": ("a.isle",)},
+        [
+            ("open", "b.isle"),
+            ("open", "a.isle"),
+            ("open", "link.isle"),
+            ("diagnostics", "link.isle"),
+            ("diagnostics", "a.isle"),
+            ("diagnostics", "b.isle"),
+        ],
+    ),
+    Case(
+        "checking: a hidden file that is open",
+        {".a.isle": DECLARED, "b.isle": WRONG},
+        [("open", "b.isle"), ("diagnostics", "b.isle", WRONG_TYPE), ("open", ".a.isle"), ("diagnostics", "b.isle", WRONG_TYPE)],
     ),
     Case(
         "checking: an open file of two programs, of which one changes",

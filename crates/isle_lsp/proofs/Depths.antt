@@ -1,5 +1,5 @@
 -- No response nests deeper than JSON is read, so each reads back as it is defined.
-use Rattle.std.proofs.Common.{◌≡◌, ℕ, ◌≤◌, ◌⊎◌, inl, inr, List, Option, None, Some, map, refl, sym, subst, arith}
+use Rattle.std.proofs.Common.{◌≡◌, ℕ, ◌≤◌, inl, inr, List, Option, None, Some, arith}
 use Rattle.serde_json.specs.Data.{Data, depth}
 use Rattle.serde_json.specs.Read.{read}
 use Rattle.serde_json.proofs.Nesting.{depth-read}
@@ -8,34 +8,26 @@ use Rattle.isle_lsp_text.specs.Edits.{part}
 use Rattle.isle_lsp_text.specs.declared.edits.Edit.{Edit}
 use Rattle.isle_lsp_files.specs.Disks.{View}
 use Rattle.isle_lsp_protocol.specs.Decoding.{Decodes}
-use Rattle.isle_lsp_protocol.specs.Replies.{IsTextOf, Outcome, done, failed, reply, reply_id}
+use Rattle.isle_lsp_protocol.specs.Replies.{IsTextOf, Outcome, error_response, failed, reply, reply_id}
 use Rattle.isle_lsp_protocol.specs.declared.machine.ErrorCode.{ErrorCode}
 use Rattle.isle_lsp_protocol.specs.declared.machine.Request as requests
 use Rattle.isle_lsp_protocol.specs.declared.machine.Request.TheVariants.{Initialize, Shutdown, Formatting, DocumentSymbol, WorkspaceSymbol, Definition, References, DocumentHighlight, Hover, Completion, ResolveCompletion, PrepareRename, Rename, Unknown}
-use Rattle.isle_lsp_protocol.proofs.Depths.{IsWithin, initialized_depth, items_shallow, map_shallow, reply_depth, text_edit_depth}
+use Rattle.isle_lsp_protocol.proofs.Depths.{IsWithin, at_most, initialized_depth, items_shallow, map_shallow, reply_depth, text_edit_depth, within}
 use Rattle.isle_lsp_features.proofs.Depths.{IsAboutNames, answer_within}
 use Rattle.isle_lsp.specs.Formatted.{IsFormatting, edit_data, edits_data}
-use Rattle.isle_lsp.specs.Serving.{Held, IsFormattingOf, IsNamed, IsReply, IsResult, IsResultOf, document_in, question}
-
--- the message nests no deeper than JSON is read, if there is one
-abbrev IsShallow : Option Data → Type 0
-IsShallow None = Unit {0}
-IsShallow (Some d) = depth d ≤ 127
+use Rattle.isle_lsp.specs.Serving.{Held, IsFormattingOf, IsNamed, IsResult, IsResultOf, IsShallow, document_in, question}
 
 -- what was decoded nests no deeper than JSON is read
-decoded : (body : List ℕ) (json : Option Data) → Decodes body json → IsShallow json
+pub decoded : (body : List ℕ) (json : Option Data) → Decodes body json → IsShallow json
 decoded body None d = tt
 decoded body (Some x) d = omega (arith, depth-read _ x d.1)
-
-within : (n : ℕ) (o p : Outcome) → o ≡ p → IsWithin n p → IsWithin n o
-within n o p same h = subst (IsWithin n) (sym same) h
 
 edits_depth : (old new : List ℕ) (es : List Edit) → depth (edits_data old new es) ≤ 126
 edits_depth old new es = omega (arith, items_shallow 4 _ (map_shallow 4 (edit_data old new) es (λ e. text_edit_depth (range_of old e.start e.end) (part new e.from e.to))))
 
 formatting_depth : (text : List ℕ) (d : Data) → IsFormatting text d → depth d ≤ 126
-formatting_depth text d (inl h) = subst (λ x. depth x ≤ 126) (sym h.1) (omega arith)
-formatting_depth text d (inr (tidy, is_tidy, change)) = subst (λ x. depth x ≤ 126) (sym change.2) (edits_depth text tidy change.0)
+formatting_depth text d (inl h) = at_most 126 _ _ h.1 (omega arith)
+formatting_depth text d (inr (tidy, is_tidy, change)) = at_most 126 _ _ change.2 (edits_depth text tidy change.0)
 
 formatted_within : (text : Option (List ℕ)) (o : Outcome) → IsFormattingOf text o → IsWithin 126 o
 formatted_within None o h = within 126 o _ h tt
@@ -64,13 +56,13 @@ outcome_within : (request : requests.Request) (d : Option Data) (held : Held) (v
 outcome_within request None held view o m h = within 126 o _ h tt
 outcome_within request (Some d) held view o m h = result_within request d held view o m h
 
--- a reply to a message that was decoded reads back as it is defined
-pub reply_reads : (body : List ℕ) (request : requests.Request) (json : Option Data) (held : Held) (view : View) (text : List ℕ) → Decodes body json
-    → IsReply request json held view text → (o : Outcome) × IsResultOf request json held view o × (read text ≡ Some (reply (reply_id json) o))
-reply_reads body request json held view text decodes (o, result, is) =
-    (o, result, is (reply_depth json o 126 (omega arith) (outcome_within request json held view o (decoded body json decodes) result)))
+-- a reply reads back as it is defined
+pub reply_reads : (request : requests.Request) (json : Option Data) (held : Held) (view : View) (o : Outcome) (text : List ℕ) → IsShallow json
+    → IsResultOf request json held view o → IsTextOf (reply (reply_id json) o) text → read text ≡ Some (reply (reply_id json) o)
+reply_reads request json held view o text shallow result is =
+    is (reply_depth json o 126 (omega arith) (outcome_within request json held view o shallow result))
 
 -- and so does a rejection
-pub rejection_reads : (json : Option Data) (c : ErrorCode) (reason text : List ℕ) → IsTextOf (reply (reply_id json) (failed c reason)) text
-    → read text ≡ Some (reply (reply_id json) (failed c reason))
+pub rejection_reads : (json : Option Data) (c : ErrorCode) (reason text : List ℕ) → IsTextOf (error_response (reply_id json) c reason) text
+    → read text ≡ Some (error_response (reply_id json) c reason)
 rejection_reads json c reason text is = is (omega (arith, reply_depth json (failed c reason) 2 (omega arith) tt))

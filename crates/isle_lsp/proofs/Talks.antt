@@ -1,5 +1,5 @@
 -- One message more of a conversation.
-use Rattle.std.proofs.Common.{◌≡◌, ◌≢◌, ◌≤◌, ℕ, ◌+◌, drop, List, [], ◌∷◌, ◌++◌, length, true, false, Option, None, Some, Result, Ok, Err, IfOk, OnOk, String, map, string_bytes, refl, sym, ◌∙◌, ap, subst, inl, inr, ◌⊎◌, arith, append_assoc, append-nil}
+use Rattle.std.proofs.Common.{◌≡◌, ◌≢◌, ◌≤◌, ℕ, ◌+◌, drop, List, [], ◌∷◌, ◌++◌, length, true, false, Option, None, Some, Result, Ok, Err, IfOk, String, map, string_bytes, refl, sym, ◌∙◌, ap, subst, inl, inr, ◌⊎◌, arith, append_assoc, append-nil}
 use Rattle.std.specs.Global.{Vec}
 use Rattle.std.specs.Io.KnownBytes.{Appends}
 use Rattle.std.proofs.KnownBytes.{Appends-trans}
@@ -22,7 +22,7 @@ use Rattle.isle_lsp_protocol.specs.declared.machine.Action.{Action}
 use Rattle.isle_lsp_protocol.specs.Decoding.{Decodes, message_in}
 use Rattle.isle_lsp_files.specs.Disks.{Moment, View}
 use Rattle.isle_lsp.specs.Serving.{Held, Sends, Shows, asked, asked_first, documents_after, folders_after, takes_after}
-use Rattle.isle_lsp.specs.Conversations.{Answers, AnswersAs, AnswersWithin, Conversation, Converses, EndsAs, Explains, FromFault, IsCut, IsEarly, IsOver, IsRefusal, IsShort, Ran, ShowsWithin, StopsAt, World, answered, begun, frames, has_exited, nothing}
+use Rattle.isle_lsp.specs.Conversations.{AnswersAs, AnswersWithin, Conversation, Converses, EndsAs, Explains, FromFault, IsCut, IsEarly, IsOver, IsRefusal, IsShort, Ran, ShowsWithin, StopsAt, World, answered, begun, frames, has_exited, nothing}
 
 frames-append : (xs ys : List (List ℕ)) → frames (xs ++ ys) ≡ frames xs ++ frames ys
 frames-append [] ys = refl

@@ -1,6 +1,7 @@
 -- The server's handling of a message.
-use Rattle.std.specs.Prelude.{◌≡◌, ℕ, List, [], ◌∷◌, ◌++◌, Bool, ◌&&◌, not, Option, None, Some, bytes_eq, filter, is_some, map, option_and_then, string_bytes}
-use Rattle.serde_json.specs.Data.{Data, null}
+use Rattle.std.specs.Prelude.{◌≡◌, ◌≤◌, ℕ, List, [], ◌∷◌, ◌++◌, Bool, false, true, ◌&&◌, ◌||◌, not, Option, None, Some, bytes_eq, filter, is_some, map, option_and_then, string_bytes}
+use Rattle.serde_json.specs.Data.{Data, depth, null}
+use Rattle.serde_json.specs.Read.{read}
 use Rattle.isle_lsp_files.specs.Disks.{Asked, Moment, View, no_view}
 use Rattle.isle_lsp_files.specs.Documents.{Document, document, document_at, document_of, text_of, without}
 use Rattle.isle_lsp_files.specs.Texts.{is_together, program_of, programs_of}
@@ -14,7 +15,7 @@ use Rattle.isle_lsp_protocol.specs.declared.machine.Action as actions
 use Rattle.isle_lsp_protocol.specs.declared.machine.Action.TheVariants.{Ignore, Answer, Reject, Handle}
 use Rattle.isle_lsp_protocol.specs.Parameters as parameters
 use Rattle.isle_lsp_protocol.specs.Replies as replies
-use Rattle.isle_lsp_protocol.specs.Replies.{IsTextOf, Outcome, done, error_outcome, reason_of, reply, reply_id}
+use Rattle.isle_lsp_protocol.specs.Replies.{Outcome, done, error_outcome, reason_of, reply, reply_id}
 use Rattle.isle_lsp_protocol.specs.Capabilities.{initialize_result}
 use Rattle.isle_lsp_features.specs.Answers as names
 use Rattle.isle_lsp_features.specs.Programs.{Question}
@@ -159,12 +160,12 @@ takes_after action d takes = takes
 abbrev pub IsReport : List Document → View → (uri file text : List ℕ) → Type 0
 IsReport docs view uri file text = IsPublished uri (programs_of docs view file) file (text_of uri docs) text
 
--- the other open documents that are in a program with the file of the one that a message names
-abbrev pub is_other : (uri : List ℕ) → View → Document → Bool
-is_other uri view d = not (bytes_eq d.uri uri) && is_together view d.file
+-- the other open documents: all of them, or those that are in a program with the file of the one that a message names
+abbrev pub is_other : (all : Bool) → (uri : List ℕ) → View → Document → Bool
+is_other all uri view d = not (bytes_eq d.uri uri) && (all || is_together view d.file)
 
-abbrev pub others : (uri : List ℕ) → View → List Document → List Document
-others uri view docs = filter (is_other uri view) docs
+abbrev pub others : (all : Bool) → (uri : List ℕ) → View → List Document → List Document
+others all uri view docs = filter (is_other all uri view) docs
 
 -- the diagnostics of each of these documents are published
 abbrev pub AreReports : List Document → View → (reported : List Document) → (sent : List (List ℕ)) → Type 0
@@ -173,15 +174,16 @@ AreReports docs view (d ∷ ds) sent =
     (text : List ℕ) × (more : List (List ℕ)) × (sent ≡ text ∷ more) × IsReport docs view d.uri d.file text × AreReports docs view ds more
 
 -- the diagnostics of the document that a message names are published, and then those of the others
-abbrev pub Publishes : List ℕ → List Document → View → List (List ℕ) → Type 0
-Publishes uri docs view sent =
+abbrev pub Publishes : (all : Bool) → List ℕ → List Document → View → List (List ℕ) → Type 0
+Publishes all uri docs view sent =
     (text : List ℕ) × (more : List (List ℕ)) × (sent ≡ text ∷ more) × IsReport docs view uri view.file text
-    × AreReports docs view (others uri view docs) more
+    × AreReports docs view (others all uri view docs) more
 
+-- A closed document may be on no disk, and then in no program: so after it those of all others are published.
 abbrev pub Reports : notifications.Notification → List ℕ → List Document → View → List (List ℕ) → Type 0
-Reports DidOpen uri docs view sent = Publishes uri docs view sent
-Reports DidChange uri docs view sent = Publishes uri docs view sent
-Reports DidClose uri docs view sent = Publishes uri docs view sent
+Reports DidOpen uri docs view sent = Publishes false uri docs view sent
+Reports DidChange uri docs view sent = Publishes false uri docs view sent
+Reports DidClose uri docs view sent = Publishes true uri docs view sent
 Reports _ uri docs view sent = sent ≡ []
 
 abbrev pub ReportsNamed : notifications.Notification → Option (List ℕ) → List Document → View → List (List ℕ) → Type 0
@@ -190,13 +192,18 @@ ReportsNamed notification (Some uri) docs view sent = Reports notification uri d
 
 -- ---- messages to the client
 
+-- the message nests no deeper than JSON is read, if there is one
+abbrev pub IsShallow : Option Data → Type 0
+IsShallow None = Unit {0}
+IsShallow (Some d) = depth d ≤ 127
+
 -- the text replies to a request
 abbrev pub IsReply : requests.Request → Option Data → Held → View → (text : List ℕ) → Type 0
-IsReply request d held view text = (o : Outcome) × IsResultOf request d held view o × IsTextOf (reply (reply_id d) o) text
+IsReply request d held view text = (o : Outcome) × IsResultOf request d held view o × (read text ≡ Some (reply (reply_id d) o))
 
 -- the messages that an action sends, with the state after it and what the disk showed
 abbrev pub Sends : actions.Action → Option Data → Held → View → List (List ℕ) → Type 0
 Sends Ignore d held view sent = sent ≡ []
-Sends (Reject c) d held view sent = (text : List ℕ) × (sent ≡ text ∷ []) × IsTextOf (replies.error_response (reply_id d) c (reason_of c)) text
+Sends (Reject c) d held view sent = (text : List ℕ) × (sent ≡ text ∷ []) × (read text ≡ Some (replies.error_response (reply_id d) c (reason_of c)))
 Sends (Answer request) d held view sent = (text : List ℕ) × (sent ≡ text ∷ []) × IsReply request d held view text
 Sends (Handle notification) d held view sent = ReportsNamed notification (option_and_then parameters.uri_of d) held.documents view sent

@@ -1,7 +1,8 @@
 //! The diagnostics that are sent after a notification: those of the document that it names, and
-//! those of the other open documents that are in a program with its file.
+//! those of the other open documents that are in a program with its file. After a document is
+//! closed they are those of all others, since its file may be in no program any more.
 
-ghost use Rattle.std.specs.Prelude.{◌≡◌, ◌&&◌, IfErr, IfOk, map, not, option_and_then, option_map};
+ghost use Rattle.std.specs.Prelude.{◌≡◌, ◌&&◌, ◌||◌, IfErr, IfOk, map, not, option_and_then, option_map};
 ghost use Rattle.std.specs.Prelude.{string_bytes};
 ghost use Rattle.serde_json.specs.View.{view};
 ghost use Rattle.isle_cli.specs.declared.failure.Failure.TheVariants.{Memory};
@@ -58,9 +59,10 @@ fn report(
     ensures err { IfErr result (λ failure. failure ≡ Memory) }
 {
     match notification {
-        Notification::DidOpen | Notification::DidChange | Notification::DidClose => {
-            publish_all(alloc, checks, documents, uri, shown)
+        Notification::DidOpen | Notification::DidChange => {
+            publish_all(alloc, checks, documents, false, uri, shown)
         }
+        Notification::DidClose => publish_all(alloc, checks, documents, true, uri, shown),
         Notification::Initialized
         | Notification::Exit
         | Notification::DidChangeWorkspaceFolders
@@ -68,44 +70,47 @@ fn report(
     }
 }
 
-/// The notifications with the diagnostics of a document and of the others.
+/// The notifications with the diagnostics of a document and of the others, all of them or those
+/// that are in a program with its file.
 fn publish_all(
     alloc: Global,
     checks: &mut Checks,
     documents: &[Document],
+    all: bool,
     uri: &str,
     shown: &View,
 ) -> Result<Vec<String>, Failure>
-    ensures ok { IfOk result (λ sent. Publishes uri.now (map document_of documents.now)
+    ensures ok { IfOk result (λ sent. Publishes all uri.now (map document_of documents.now)
         (view_of shown.now) (map string_bytes sent.items)) }
     ensures err { IfErr result (λ failure. failure ≡ Memory) }
 {
     checks.renew(alloc);
     let named = publish(alloc, checks, documents, uri, shown.file.as_str(), shown)?;
-    let mut others = publish_others(alloc, checks, documents, uri, shown)?;
+    let mut others = publish_others(alloc, checks, documents, all, uri, shown)?;
     let mut sent = Vec::new(alloc);
     sent.push(named)?;
     sent.append(&mut others)?;
     Ok(sent)
 }
 
-/// The notifications with the diagnostics of the other open documents that are in a program with
-/// the view's file.
+/// The notifications with the diagnostics of the other open documents, all of them or those that
+/// are in a program with the view's file.
 fn publish_others(
     alloc: Global,
     checks: &mut Checks,
     documents: &[Document],
+    all: bool,
     uri: &str,
     shown: &View,
 ) -> Result<Vec<String>, Failure>
     ensures ok { IfOk result (λ sent. AreReports (map document_of documents.now)
-        (view_of shown.now) (serving.others uri.now (view_of shown.now)
+        (view_of shown.now) (serving.others all uri.now (view_of shown.now)
         (map document_of documents.now)) (map string_bytes sent.items)) }
     ensures err { IfErr result (λ failure. failure ≡ Memory) }
 {
     let mut sent = Vec::new(alloc);
     for document in documents {
-        if is_other(document, uri, shown) {
+        if is_other(document, all, uri, shown) {
             let (uri, file) = (document.uri.as_str(), document.file.as_str());
             let text = publish(alloc, checks, documents, uri, file, shown)?;
             sent.push(text)?;
@@ -114,11 +119,13 @@ fn publish_others(
     Ok(sent)
 }
 
-/// Returns whether a document is not that of a URI, but in a program with the view's file.
-fn is_other(document: &Document, uri: &str, shown: &View) -> bool
-    ensures { result ≡ serving.is_other uri.now (view_of shown.now) (document_of document.now) }
+/// Returns whether a document is not that of a URI, but, unless all are wanted, in a program with
+/// the view's file.
+fn is_other(document: &Document, all: bool, uri: &str, shown: &View) -> bool
+    ensures { result
+        ≡ serving.is_other all uri.now (view_of shown.now) (document_of document.now) }
 {
-    document.uri.as_str() != uri && is_together(shown, document.file.as_str())
+    document.uri.as_str() != uri && (all || is_together(shown, document.file.as_str()))
 }
 
 /// The text of the notification with the diagnostics of a document, which is this file.

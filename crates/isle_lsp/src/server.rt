@@ -1,18 +1,19 @@
 //! The state of the server, and its handlers of messages.
 
-ghost use Rattle.std.specs.Prelude.{◌≡◌, ◌∷◌, [], IfErr, IfOk, OnOk, map, option_map};
+ghost use Rattle.std.specs.Prelude.{◌≡◌, ◌∷◌, [], IfErr, IfOk, OnOk, Some, map, option_map};
 ghost use Rattle.std.specs.Prelude.{string_bytes};
+ghost use Rattle.serde_json.specs.Read.{read};
 ghost use Rattle.serde_json.specs.View.{view};
 ghost use Rattle.isle_cli.specs.declared.failure.Failure.TheVariants.{Memory};
 ghost use Rattle.isle_lsp_files.specs.Disks.{view_of};
 ghost use Rattle.isle_lsp_files.specs.Documents as wanted;
 ghost use Rattle.isle_lsp_files.specs.Documents.{document_of};
-ghost use Rattle.isle_lsp_protocol.specs.Replies.{IsTextOf, outcome_of};
+ghost use Rattle.isle_lsp_protocol.specs.Replies.{outcome_of};
 ghost use Rattle.isle_lsp_protocol.specs.Parameters as parameters_of;
 ghost use Rattle.isle_lsp_protocol.specs.Replies as replies_of;
 ghost use Rattle.isle_lsp.specs.Conversations.{nothing};
 ghost use Rattle.isle_lsp.specs.Serving as serving;
-ghost use Rattle.isle_lsp.specs.Serving.{IsNamed, IsReply, IsResult, IsResultOf, Sends};
+ghost use Rattle.isle_lsp.specs.Serving.{IsNamed, IsReply, IsResult, IsResultOf, IsShallow, Sends};
 ghost use Rattle.isle_lsp.specs.Serving.{document_in, documents_after, documents_noted, held_of};
 ghost use Rattle.isle_lsp.specs.Serving.{documents_after_notification, folders_after, takes_after};
 
@@ -122,8 +123,10 @@ pub fn perform(
     message: &Option<Value>,
     shown: &View,
 ) -> Result<Vec<String>, Failure>
-    ensures sends { IfOk result (λ sent. Sends action (option_map view message.now)
-        (held_of server.now) (view_of shown.now) (map string_bytes sent.items)) }
+    // A message that was decoded is shallow.
+    ensures sends { IsShallow (option_map view message.now) → IfOk result (λ sent. Sends action
+        (option_map view message.now) (held_of server.now) (view_of shown.now)
+        (map string_bytes sent.items)) }
     ensures err { IfErr result (λ failure. failure ≡ Memory) }
 {
     match action {
@@ -181,9 +184,8 @@ fn error_response(
     message: &Option<Value>,
     code: ErrorCode,
 ) -> Result<String, AllocError>
-    ensures { IfOk result (λ text. IsTextOf (replies_of.error_response
-        (replies_of.reply_id (option_map view message.now)) code (replies_of.reason_of code))
-        (string_bytes text)) }
+    ensures { IfOk result (λ text. read (string_bytes text) ≡ Some (replies_of.error_response
+        (replies_of.reply_id (option_map view message.now)) code (replies_of.reason_of code))) }
 {
     let id = reply_id(message)?;
     replies::error_response(alloc, id, code, reason_of(code))
@@ -302,8 +304,9 @@ fn response(
     message: &Option<Value>,
     shown: &View,
 ) -> Result<String, Failure>
-    ensures ok { IfOk result (λ text. IsReply request (option_map view message.now)
-        (held_of server.now) (view_of shown.now) (string_bytes text)) }
+    ensures ok { IsShallow (option_map view message.now) → IfOk result (λ text. IsReply request
+        (option_map view message.now) (held_of server.now) (view_of shown.now)
+        (string_bytes text)) }
     ensures err { IfErr result (λ failure. failure ≡ Memory) }
 {
     let id = reply_id(message)?;

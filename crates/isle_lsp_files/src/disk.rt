@@ -48,8 +48,8 @@ pub trait Disk {
     /// The moments at which it is looked at from here on, if they are known.
     ghost moments: { Self → Option (List Moment) } = { λ _. None };
 
-    /// Looks at the files of folders, which are given by their URIs, and at the file that the URI of
-    /// a document names. Open documents are files, too, whether they are on the disk or not. A
+    /// Looks at the files of folders, which are given by their URIs, and at the file that the URI
+    /// of a document names. Open documents are files, too, whether they are on the disk or not. A
     /// folder or a file that can't be read shows nothing.
     fn look(
         &mut self,

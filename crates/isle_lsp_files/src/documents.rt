@@ -3,8 +3,8 @@
 ghost use Rattle.std.specs.Prelude.{◌≡◌, ◌<◌, ◌++◌, ◌∷◌, [], IfSome, OnOk, length, map};
 ghost use Rattle.std.specs.Prelude.{option_map, string_bytes};
 ghost use Rattle.std.specs.List.{remove};
-ghost use Rattle.isle_lsp_files.specs.Documents.{document, document_at, document_of, has_file, text_of};
-ghost use Rattle.isle_lsp_files.specs.Documents.{without};
+ghost use Rattle.isle_lsp_files.specs.Documents.{document, document_at, document_of, has_file};
+ghost use Rattle.isle_lsp_files.specs.Documents.{text_of, without};
 
 use std::alloc::{AllocError, Global};
 

@@ -3,10 +3,9 @@
 use crate::disk::{Disk, File, View};
 use crate::documents::{Document, document_at};
 use isle_cli::folders::files_of;
-use isle_cli::program::Program;
 use isle_cli::sources::{SourceFault, read_file};
 use isle_lsp_escapes::uris::{path_of, uri_of};
-use isle_program_manifest::disk::{find, paths_of};
+use isle_program_manifest::disk::{NOBODY, find, paths_of};
 use isle_program_manifest::manifest::{Manifest, ManifestFault, ProgramFiles, manifest_of};
 use isle_program_manifest::membership::has_file;
 use isle_program_manifest::patterns::covers;
@@ -14,14 +13,6 @@ use std::alloc::{AllocError, Global};
 use std::collections::HashMap;
 use std::fs::{Files, canonicalize};
 use std::io::ErrorKind;
-
-/// Whom `files_of` names in its messages, which nobody reads.
-const NOBODY: Program = Program {
-    name: "",
-    usage: "",
-    help: "",
-    version: "",
-};
 
 /// The words that may stand between `(decl` and the name that it declares.
 const DECLARATION_WORDS: [&str; 4] = ["pure", "multi", "partial", "rec"];
@@ -86,7 +77,7 @@ fn file_of<R: Files + AllocGlobal>(rt: &R, uri: &str) -> Result<String, AllocErr
     }
 }
 
-/// The path without links. Of a file that is not there, it is the path in the real one of the
+/// The path without links. For a file that is not there, it begins with the real path of the
 /// deepest folder that is.
 fn real_path<R: Files + AllocGlobal>(rt: &R, path: &str) -> Result<String, AllocError> {
     let mut folder = path;
@@ -325,8 +316,8 @@ struct FolderText<'a> {
     text: &'a str,
 }
 
-/// The files of a folder as they are now, without those in hidden folders. An open document need not
-/// be on the disk.
+/// The files of a folder as they are now, each once, without those in hidden folders. An open
+/// document need not be on the disk. Of two documents of one file the later one counts.
 fn folder_texts<'a>(
     alloc: Global,
     folder: &str,
@@ -334,24 +325,26 @@ fn folder_texts<'a>(
     documents: &'a [Document],
 ) -> Result<Vec<FolderText<'a>>, AllocError> {
     let mut texts = Vec::new(alloc);
-    for document in documents {
+    for document in documents.iter().rev() {
         let path = document.file.as_str();
-        if is_visible(folder, path) {
+        if is_visible(folder, path) && !has_path(&texts, path) {
             let text = document.text.as_str();
             texts.push(FolderText { path, text })?;
         }
     }
     for file in files {
         let path = file.path.as_str();
-        if !documents
-            .iter()
-            .any(|document| document.file.as_str() == path)
-        {
+        if !has_path(&texts, path) {
             let text = file.text.as_str();
             texts.push(FolderText { path, text })?;
         }
     }
     Ok(texts)
+}
+
+/// Returns whether a file is among these.
+fn has_path(texts: &[FolderText], path: &str) -> bool {
+    texts.iter().any(|text| text.path == path)
 }
 
 /// Adds the programs of a folder: one of all its files, unless they declare a term twice. Then the
@@ -403,7 +396,6 @@ fn all_paths(alloc: Global, texts: &[FolderText]) -> Result<Vec<String>, AllocEr
     Ok(paths)
 }
 
-/// The folder of a path.
 fn folder_of(path: &str) -> &str {
     match path.rsplit_once('/') {
         Some((folder, _)) => folder,
@@ -421,8 +413,8 @@ fn is_above(folder: &str, other: &str) -> bool {
 
 /// Returns whether a path is below a folder, and in no hidden folder there.
 fn is_visible(folder: &str, path: &str) -> bool {
-    match path.strip_prefix(folder) {
-        Some(rest) => rest.starts_with('/') && !rest.contains("/."),
+    match folder_of(path).strip_prefix(folder) {
+        Some(rest) => (rest.is_empty() || rest.starts_with('/')) && !rest.contains("/."),
         None => false,
     }
 }
@@ -444,8 +436,8 @@ fn declares_twice(alloc: Global, texts: &[FolderText]) -> Result<bool, AllocErro
     Ok(false)
 }
 
-/// Notes that a file of a folder declares a term. Of each term the deepest such folder so far is
-/// held. Returns whether that is the same folder as this one, or above it, or below it.
+/// Notes that a file of a folder declares a term. The deepest such folder so far is kept for each
+/// term. Returns whether that is the same folder as this one, or above it, or below it.
 fn is_declared_in<'a>(
     folders: &mut HashMap<&'a str, &'a str>,
     name: &'a str,
@@ -461,7 +453,6 @@ fn is_declared_in<'a>(
     }
 }
 
-/// The name that a line declares.
 fn declared_name(line: &str) -> Option<&str> {
     let words = line.strip_prefix("(decl ")?;
     let word = words

@@ -15,8 +15,8 @@ use isle_program_manifest::membership;
 use isle_program_manifest::membership::union_with;
 use std::alloc::{AllocError, Global};
 
-/// The texts that a request is about: those of the programs that have the file that it names, or all
-/// if it names none.
+/// The texts that a request is about: those of the programs that have the file that it names, or
+/// all if it names none.
 pub fn program_of<'a>(
     alloc: Global,
     documents: &'a [Document],

@@ -190,10 +190,14 @@ fn is_at_end<R: BufRead>(input: &mut R) -> Result<bool, FrameFault>
     ensures more { result ≡ Ok false → IfSome (R.remaining input.old) (λ bytes. 0 < length bytes) }
     ensures err { IfErr result (λ fault. fault ≡ FrameFault.Unreadable) }
 {
-    match input.fill_buf() {
-        Ok(bytes) => Ok(bytes.is_empty()),
-        Err(_) => Err(FrameFault::Unreadable),
+    for _ in 0..u64::MAX {
+        match input.fill_buf() {
+            Ok(bytes) => return Ok(bytes.is_empty()),
+            Err(error) if error.kind() == ErrorKind::Interrupted => {}
+            Err(_) => return Err(FrameFault::Unreadable),
+        }
     }
+    Err(FrameFault::Unreadable)
 }
 
 /// Reads a byte, or returns `None` at the end of the input.

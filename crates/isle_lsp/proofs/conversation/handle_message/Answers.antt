@@ -1,6 +1,7 @@
 use Rattle.std.proofs.Common.{option_map, ◌∙◌, ap}
 use Rattle.serde_json.specs.View.{view}
 use Rattle.isle_lsp_protocol.specs.Machine.{next_state, action_of}
+use Rattle.isle_lsp.proofs.Depths.{decoded}
 use Rattle.isle_lsp.proofs.Talks.{prepared}
 use Rattle.isle_lsp.proofs.conversation.handle_message.Goals as goal
 
@@ -14,4 +15,4 @@ returns-clause-ok g c = λ moments e.
     (c.in_ok-opened.ensures moments e)
     c.in_ok-note.ensures.state c.in_ok-note.ensures.documents c.in_ok-note.ensures.folders c.in_ok-note.ensures.takes
     c.in_ok-shown.ensures
-    c.perform.ensures.sends
+    (c.perform.ensures.sends (decoded c.args.body.items (option_map view c.in_ok-message.message) (rw c.as_slice.ensures.value at c.in_ok-message.ensures.ok)))
