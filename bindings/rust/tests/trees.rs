@@ -7,7 +7,7 @@ use common::text;
 use conformance::{cases, shown};
 use isle_syntax::ast::{Def, Pos};
 use isle_syntax::printer::print;
-use isle_syntax::{check, format, parse, parse_each, parse_file, try_parse};
+use isle_syntax::{check, format, parse, parse_each, parse_file, try_parse, with_stack};
 use std::thread;
 
 /// How many texts are generated.
@@ -36,6 +36,13 @@ fn parses_to_the_trees_that_the_cases_state() {
 
 #[test]
 fn prints_as_the_formatter_does() {
+    // Some cases nest deeper than the stack of a test's thread bears.
+    let printed = with_stack(64 << 20, printed_texts).unwrap();
+    assert!(printed > 700, "{printed} texts");
+}
+
+/// Compares the prints of all texts with what the formatter makes, and counts them.
+fn printed_texts() -> u64 {
     let mut printed = 0;
     let cases = ["parse", "format", "nodes"].into_iter().flat_map(cases);
     let cases = cases.filter_map(|it| it.texts.into_iter().next());
@@ -53,7 +60,7 @@ fn prints_as_the_formatter_does() {
             Err(refusal) => assert_eq!(check(&text), Err(refusal), "of {text}"),
         }
     }
-    assert!(printed > 700, "{printed} texts");
+    printed
 }
 
 #[test]
