@@ -7,4 +7,5 @@ pub mod NameOrders
 pub mod Parts
 pub mod ListComparison
 pub mod SpeltWords
+pub mod Texts
 pub mod Writable

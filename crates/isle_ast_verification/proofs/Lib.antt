@@ -4,5 +4,4 @@ pub mod Lawful
 pub mod Parts
 pub mod Same
 pub mod SpecLets
-pub mod Texts
 pub mod Writable

@@ -1,11 +1,9 @@
 -- The conditions on writable models of types and specs, as tests.
-use Rattle.std.specs.Prelude.{ℕ, ◌^◌, nat_lt, Bool, true, ◌&&◌, Option, None, Some, nat_le, List, [], ◌∷◌, false, not, ◌==◌, codes}
-use Rattle.std.specs.List.{list_all, list_any}
-use Rattle.std.specs.Str.{bytes_eq}
-use Rattle.isle_base.specs.Bytes.{dot}
+use Rattle.std.specs.Prelude.{ℕ, ◌^◌, nat_lt, Bool, true, ◌&&◌, Option, None, Some, nat_le, false, not}
+use Rattle.std.specs.List.{list_all}
 use Rattle.isle_ast_verification.specs.TreeView.{SingleModelField, SingleArm, SingleFieldInit, spec_list_of}
 use Rattle.isle_ast_verification.specs.Tree.{TypeModel, unspecified_model, auto_model, int_model, bool_model, unit_model, bit_vector_model, struct_model, named_model, ModelFieldList, no_model_field, model_field, SpecNode, int_spec, bit_vector_spec, bool_spec, var_spec, as_spec, field_spec, discriminator_spec, op_spec, match_spec, let_spec, with_spec, macro_spec, expand_spec, pair_spec, enum_spec, struct_spec, SpecList, no_spec, more_spec, ArmList, no_arm, more_arm, SpecLetList, no_spec_let, more_spec_let, FieldInitList, no_field_init, more_field_init, ModifiedState, SpecDefinition, SpecMacroDefinition, StateDefinition}
-use Rattle.isle_ast_names.specs.WritableDeciders.{is_name, are_names, is_optional_name, is_word, is_bool_name, is_signed}
+use Rattle.isle_ast_names.specs.WritableDeciders.{is_name, are_names, is_optional_name, is_bool_name, is_signed, is_writable_variant_name}
 use Rattle.isle_ast_verification.specs.declared.spec.SpecOp.{SpecOp}
 use Rattle.isle_ast_names.specs.Tree.{Name}
 use Rattle.isle_ast_verification.specs.declared.spec.SpecOp.TheVariants as op
@@ -40,26 +38,6 @@ is_spec_variable n = is_name n && not (is_bool_name n)
 abbrev pub is_writable_bit_vector : ℕ → ℕ → Bool
 is_writable_bit_vector val width =
     (nat_le 1 width && nat_lt val (2 ^ width)) && (nat_lt val (2 ^ 128) && nat_lt width (2 ^ 64))
-
-abbrev pub has_dot : List ℕ → Bool
-has_dot text = list_any (λ byte. byte == dot) text
-
--- the names of the operators on floats, after `fp.`
-abbrev pub float_names : List (List ℕ)
-float_names =
-    codes "eq" ∷ codes "ne" ∷ codes "lt" ∷ codes "gt" ∷ codes "le" ∷ codes "ge" ∷ codes "+oo" ∷ codes "-oo" ∷
-    codes "+zero" ∷ codes "-zero" ∷ codes "NaN" ∷ codes "add" ∷ codes "sub" ∷ codes "mul" ∷ codes "div" ∷
-    codes "min" ∷ codes "max" ∷ codes "neg" ∷ codes "ceil" ∷ codes "floor" ∷ codes "sqrt" ∷ codes "trunc" ∷
-    codes "nearest" ∷ codes "isZero" ∷ codes "isInfinite" ∷ codes "isNaN" ∷ codes "isNegative" ∷
-    codes "isPositive" ∷ codes "to_ubv" ∷ codes "to_sbv" ∷ []
-
-abbrev pub is_float_name : List ℕ → Bool
-is_float_name text = list_any (bytes_eq text) float_names
-
--- the name of the enum has no dot, and with the variant's name it is no operator
-abbrev pub is_writable_variant_name : Name → Name → Bool
-is_writable_variant_name enum case =
-    ((is_name enum && is_name case) && not (has_dot enum.text)) && not (is_word (codes "fp") enum && is_float_name case.text)
 
 -- a `switch` has cases, and any other operator has arguments
 abbrev pub by_operator : SpecOp → Bool → Bool → Bool

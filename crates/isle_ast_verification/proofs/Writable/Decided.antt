@@ -7,8 +7,8 @@ use Rattle.std.proofs.lemmas.Bool.{false≢true, not-true, and_parts, and_from, 
 use Rattle.std.proofs.lemmas.Slice.Eq.{bytes_eq-Decides}
 use Rattle.isle_ast_verification.specs.Tree.{TypeModel, unspecified_model, auto_model, int_model, bool_model, unit_model, bit_vector_model, struct_model, named_model, ModelFieldList, no_model_field, model_field, SpecNode, int_spec, bit_vector_spec, bool_spec, var_spec, as_spec, field_spec, discriminator_spec, op_spec, match_spec, let_spec, with_spec, macro_spec, expand_spec, pair_spec, enum_spec, struct_spec, SpecList, no_spec, more_spec, ArmList, no_arm, more_arm, SpecLetList, no_spec_let, more_spec_let, FieldInitList, no_field_init, more_field_init, ModifiedState, SpecDefinition, SpecMacroDefinition, StateDefinition}
 use Rattle.isle_ast_verification.specs.Writable.{IsWritableModel, AreWritableModelFields, IsSpecVariable, IsWritableBitVector, IsWritableVariantName, IsWritableSpec, AreWritableSpecs, AreWritableCases, AreWritablePairs, AreWritableArms, AreWritableSpecLets, AreWritableFieldInits, IsWritableModified, IsWritableSpecDefinition, IsWritableSpecMacro, IsWritableState}
-use Rattle.isle_ast_names.specs.WritableDeciders.{is_name, are_names, is_optional_name, is_word, is_bool_name}
-use Rattle.isle_ast_verification.specs.WritableDeciders.{is_optional_width, is_writable_model, are_writable_model_fields, is_spec_variable, is_writable_bit_vector, has_dot, is_float_name, is_writable_variant_name, by_operator, is_writable_spec, are_writable_specs, are_writable_cases, are_writable_pairs, are_writable_arms, are_writable_spec_lets, are_writable_field_inits, is_writable_modified, is_writable_spec_definition, is_writable_spec_macro, is_writable_state}
+use Rattle.isle_ast_names.specs.WritableDeciders.{is_name, are_names, is_optional_name, is_word, is_bool_name, has_dot, is_float_name, is_writable_variant_name}
+use Rattle.isle_ast_verification.specs.WritableDeciders.{is_optional_width, is_writable_model, are_writable_model_fields, is_spec_variable, is_writable_bit_vector, by_operator, is_writable_spec, are_writable_specs, are_writable_cases, are_writable_pairs, are_writable_arms, are_writable_spec_lets, are_writable_field_inits, is_writable_modified, is_writable_spec_definition, is_writable_spec_macro, is_writable_state}
 use Rattle.isle_ast_names.proofs.Writable.Decided.{always, three, name_decided, never, four, each_decided, names_decided, optional_name_decided, word_decided, no_bool_decided, signed_decided}
 use Rattle.isle_ast_verification.specs.declared.spec.SpecOp.{SpecOp}
 use Rattle.isle_ast_verification.specs.Operators.{operator_text, operators, is_operator_text}

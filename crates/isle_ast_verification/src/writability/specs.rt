@@ -1,8 +1,7 @@
 //! The specs that can be written as text and read back.
 
-ghost use Rattle.std.specs.Prelude.{◌≡◌, map, string_bytes};
+ghost use Rattle.std.specs.Prelude.{◌≡◌, map};
 ghost use Rattle.std.specs.List.{list_all};
-ghost use Rattle.isle_ast_names.specs.TreeView.{name_of};
 ghost use Rattle.isle_ast_verification.specs.TreeView.{arm_list_of, field_init_list_of};
 ghost use Rattle.isle_ast_verification.specs.TreeView.{modified_of};
 ghost use Rattle.isle_ast_verification.specs.TreeView.{single_arm_of, single_arms_of};
@@ -15,7 +14,6 @@ ghost use Rattle.isle_ast_verification.specs.WritableDeciders.{are_writable_case
 ghost use Rattle.isle_ast_verification.specs.WritableDeciders.{are_writable_field_inits};
 ghost use Rattle.isle_ast_verification.specs.WritableDeciders.{are_writable_spec_lets};
 ghost use Rattle.isle_ast_verification.specs.WritableDeciders.{are_writable_specs};
-ghost use Rattle.isle_ast_verification.specs.WritableDeciders.{has_dot, is_float_name};
 ghost use Rattle.isle_ast_verification.specs.WritableDeciders.{is_writable_bit_vector};
 ghost use Rattle.isle_ast_verification.specs.WritableDeciders.{is_writable_modified};
 ghost use Rattle.isle_ast_verification.specs.WritableDeciders.{is_writable_pair};
@@ -25,13 +23,11 @@ ghost use Rattle.isle_ast_verification.specs.WritableDeciders.{is_writable_spec}
 ghost use Rattle.isle_ast_verification.specs.WritableDeciders.{is_writable_spec_definition};
 ghost use Rattle.isle_ast_verification.specs.WritableDeciders.{is_writable_spec_macro};
 ghost use Rattle.isle_ast_verification.specs.WritableDeciders.{is_writable_state};
-ghost use Rattle.isle_ast_verification.specs.WritableDeciders.{is_writable_variant_name};
 
 use crate::writability::models::is_writable_model;
 use crate::{Arm, FieldInit, Modifies, Spec, SpecExpr, SpecMacro, SpecOp, State};
-use isle_ast_names::Ident;
 use isle_ast_names::writability::{
-    are_names, is_bool_name, is_name, is_optional_name, is_whole_number,
+    are_names, is_bool_name, is_name, is_optional_name, is_variant_name, is_whole_number,
 };
 
 /// Returns whether a spec expression is writable.
@@ -168,64 +164,6 @@ fn is_bit_vector(val: u128, width: usize) -> bool
     ensures { result ≡ is_writable_bit_vector val width }
 {
     width >= 1 && (width >= 128 || val < 1 << width)
-}
-
-/// Returns whether the names of an enum and its variant are writable: the enum's name has no dot,
-/// and the two together are no operator.
-fn is_variant_name(name: &Ident, variant: &Ident) -> bool
-    ensures { result ≡ is_writable_variant_name (name_of name.now) (name_of variant.now) }
-{
-    is_name(name)
-        && is_name(variant)
-        && !has_dot(name)
-        && !(name.0.as_str() == "fp" && is_float_name(&variant.0))
-}
-
-fn has_dot(name: &Ident) -> bool
-    ensures { result ≡ has_dot (string_bytes name.now.0) }
-{
-    name.0.as_bytes().contains(&b'.')
-}
-
-/// The names of the operators on floats, after `fp.`.
-const FLOAT_NAMES: [&str; 30] = [
-    "eq",
-    "ne",
-    "lt",
-    "gt",
-    "le",
-    "ge",
-    "+oo",
-    "-oo",
-    "+zero",
-    "-zero",
-    "NaN",
-    "add",
-    "sub",
-    "mul",
-    "div",
-    "min",
-    "max",
-    "neg",
-    "ceil",
-    "floor",
-    "sqrt",
-    "trunc",
-    "nearest",
-    "isZero",
-    "isInfinite",
-    "isNaN",
-    "isNegative",
-    "isPositive",
-    "to_ubv",
-    "to_sbv",
-];
-
-/// Returns whether an operator has this name after `fp.`.
-fn is_float_name(name: &str) -> bool
-    ensures { result ≡ is_float_name name.now }
-{
-    FLOAT_NAMES.contains(&name)
 }
 
 /// Returns whether the specification of a term is writable.
