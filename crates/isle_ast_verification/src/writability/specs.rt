@@ -26,6 +26,7 @@ ghost use Rattle.isle_ast_verification.specs.WritableDeciders.{is_writable_state
 
 use crate::writability::models::is_writable_model;
 use crate::{Arm, FieldInit, Modifies, Spec, SpecExpr, SpecMacro, SpecOp, State};
+use isle_ast_names::Ident;
 use isle_ast_names::writability::{
     are_names, is_bool_name, is_name, is_optional_name, is_variant_name, is_whole_number,
 };
