@@ -1,5 +1,6 @@
 -- What is read of the names of a command line.
-use Rattle.std.proofs.Common.{◌≡◌, ◌<◌, ◌+◌, ◌++◌, [], ◌∷◌, ℕ, List, Option, Result, Ok, Err, OnOk, IsUtf8, codes, get_or, inl, inr, length, map, take, string_bytes, subst, refl, sym, ap, ap₂, ◌∙◌, append_assoc, arith}
+use Rattle.std.proofs.Common.{◌≡◌, ◌&&◌, true, ◌<◌, ◌+◌, ◌++◌, [], ◌∷◌, ℕ, List, Option, Result, Ok, Err, OnOk, IsUtf8, codes, get_or, inl, inr, length, map, take, string_bytes, subst, refl, sym, true, ap, ap₂, ◌∙◌, append_assoc, arith}
+use Rattle.std.proofs.lemmas.Bool.{and_from, and_parts}
 use Rattle.std.proofs.KnownBytes.{Keeps-trans}
 use Rattle.std.proofs.lemmas.List.{append-nil, get_or-map, length-append, length-map, map-append, nil_from_length, take_more}
 use Rattle.std.proofs.lemmas.List.Concat.{flat_map-append}
@@ -9,7 +10,7 @@ use Rattle.std.specs.declared.alloc.Global.{Global}
 use Rattle.std.specs.declared.string.String.{String}
 use Rattle.isle_base_source.specs.Source.{Source}
 use Rattle.isle_base.specs.Diagnostics.{only_file}
-use Rattle.isle_cli.specs.Sources.{Adds, GiveFiles, GiveNames, GivesFile, GivesInput, GivesName, GivesPath, IsListing, TellsFaults, empty_line, fault_line}
+use Rattle.isle_cli.specs.Sources.{Adds, GiveFiles, GiveNames, GivesFile, GivesInput, GivesName, GivesPath, IsListing, TellsFaults, are_taken, empty_line, fault_line, is_taken}
 use Rattle.isle_cli.specs.Streams.{IsStreamFault}
 use Rattle.isle_cli.specs.declared.program.Program.{Program}
 use Rattle.isle_cli.specs.declared.streams.ReadFault.{ReadFault}
@@ -70,16 +71,24 @@ pub one_told : {E : Type 0} (program : Program) (path : List ℕ) (a b : List �
 one_told program path a b (Ok _) (fault, grown) = tells_one program path fault a b grown
 one_told program path a b (Err _) told = tt
 
+-- one file more
+pub taken_more : (excluded : List (List ℕ)) (name : List ℕ) (paths : List (String Global)) (path : String Global) → are_taken excluded name (map string_bytes paths) ≡ true → is_taken excluded name (string_bytes path) ≡ true
+    → are_taken excluded name (map string_bytes (paths ++ path ∷ [])) ≡ true
+taken_more excluded name [] path so_far this = ap (λ b. b && true) this
+taken_more excluded name (p ∷ paths) path so_far this =
+    let both = and_parts (is_taken excluded name (string_bytes p)) (are_taken excluded name (map string_bytes paths)) so_far in
+    and_from (is_taken excluded name (string_bytes p)) (are_taken excluded name (map string_bytes (paths ++ path ∷ []))) both.0 (taken_more excluded name paths path both.1 this)
+
 -- files are found, or something is told of
-pub some_listed : (program : Program) (name : List ℕ) (paths : List (String Global)) (a b : List ℕ) → TellsFaults program a b → ¬ ((paths ≡ []) × (b ≡ a))
-    → (told : List ℕ) × IsListing program name (map string_bytes paths) told × (b ≡ a ++ told)
-some_listed program name paths a b tells some =
-    (tells.0, inl (tells.1, λ none silent. some (no_paths paths none, tells.2 ∙ ap (λ t. a ++ t) silent ∙ append-nil a)), tells.2)
+pub some_listed : (excluded : List (List ℕ)) (program : Program) (name : List ℕ) (paths : List (String Global)) (a b : List ℕ) → TellsFaults program a b → are_taken excluded name (map string_bytes paths) ≡ true
+    → ¬ ((paths ≡ []) × (b ≡ a)) → (told : List ℕ) × IsListing program excluded name (map string_bytes paths) told × (b ≡ a ++ told)
+some_listed excluded program name paths a b tells taken some =
+    (tells.0, inl (tells.1, taken, λ none silent. some (no_paths paths none, tells.2 ∙ ap (λ t. a ++ t) silent ∙ append-nil a)), tells.2)
 
 -- nothing is, but that the folder is empty
-pub none_listed : (program : Program) (name : List ℕ) (paths : List (String Global)) (a b c : List ℕ) → TellsFaults program a b → paths ≡ [] → length b ≡ length a → c ≡ b ++ empty_line program name
-    → (told : List ℕ) × IsListing program name (map string_bytes paths) told × (c ≡ a ++ told)
-none_listed program name paths a b c tells none same grown =
+pub none_listed : (excluded : List (List ℕ)) (program : Program) (name : List ℕ) (paths : List (String Global)) (a b c : List ℕ) → TellsFaults program a b → paths ≡ [] → length b ≡ length a → c ≡ b ++ empty_line program name
+    → (told : List ℕ) × IsListing program excluded name (map string_bytes paths) told × (c ≡ a ++ told)
+none_listed excluded program name paths a b c tells none same grown =
     let silent : tells.0 ≡ [] = nil_from_length tells.0 (omega (arith, same, ap length tells.2, length-append a tells.0)) in
     (empty_line program name, inr (ap (map string_bytes) none, refl), grown ∙ ap (λ xs. xs ++ empty_line program name) (tells.2 ∙ ap (λ t. a ++ t) silent ∙ append-nil a))
 
@@ -122,10 +131,10 @@ module _ (program : Program) where
   )
 
   -- what the name of a file or a folder gives
-  path_given : (name : List ℕ) (paths : List (String Global)) (a b : List Source) (x y z : List ℕ)
-      → (told : List ℕ) × IsListing program name (map string_bytes paths) told × (y ≡ x ++ told)
-      → Adds a b y z (GiveFiles program (map string_bytes paths)) → Adds a b x z (GivesPath program name)
-  path_given name paths a b x y z (told, listing, grown) (ss, ls, each, texts, lines) = (
+  path_given : (excluded : List (List ℕ)) (name : List ℕ) (paths : List (String Global)) (a b : List Source) (x y z : List ℕ)
+      → (told : List ℕ) × IsListing program excluded name (map string_bytes paths) told × (y ≡ x ++ told)
+      → Adds a b y z (GiveFiles program (map string_bytes paths)) → Adds a b x z (GivesPath excluded program name)
+  path_given excluded name paths a b x y z (told, listing, grown) (ss, ls, each, texts, lines) = (
     ss,
     told ++ ls,
     record { paths = map string_bytes paths; told = told; further = ls; listing = listing; each = each; is = refl },
@@ -133,24 +142,24 @@ module _ (program : Program) where
     lines ∙ ap (λ xs. xs ++ ls) grown ∙ append_assoc x told ls,
   )
 
-  pub path_given_ok : {E : Type 0} (name : List ℕ) (paths : List (String Global)) (a b : List Source) (x y z : List ℕ) (result : Result (Unit {0}) E)
-      → (told : List ℕ) × IsListing program name (map string_bytes paths) told × (y ≡ x ++ told)
-      → OnOk result (Adds a b y z (GiveFiles program (map string_bytes paths))) → OnOk result (Adds a b x z (GivesPath program name))
-  path_given_ok name paths a b x y z (Ok _) listed each = path_given name paths a b x y z listed each
-  path_given_ok name paths a b x y z (Err _) listed each = tt
+  pub path_given_ok : {E : Type 0} (excluded : List (List ℕ)) (name : List ℕ) (paths : List (String Global)) (a b : List Source) (x y z : List ℕ) (result : Result (Unit {0}) E)
+      → (told : List ℕ) × IsListing program excluded name (map string_bytes paths) told × (y ≡ x ++ told)
+      → OnOk result (Adds a b y z (GiveFiles program (map string_bytes paths))) → OnOk result (Adds a b x z (GivesPath excluded program name))
+  path_given_ok excluded name paths a b x y z (Ok _) listed each = path_given excluded name paths a b x y z listed each
+  path_given_ok excluded name paths a b x y z (Err _) listed each = tt
 
 -- Names, one after another.
 
-module _ (stdin_name : List ℕ) (program : Program) where
+module _ (excluded : List (List ℕ)) (stdin_name : List ℕ) (program : Program) where
   names-last : (names : List (List ℕ)) (name : List ℕ) (a b c : Option (List ℕ)) (ss : List Source) (ls : List ℕ) (more : List Source) (told : List ℕ)
-      → GiveNames stdin_name program names a b ss ls → GivesName stdin_name program name b c more told → GiveNames stdin_name program (names ++ name ∷ []) a c (ss ++ more) (ls ++ told)
+      → GiveNames excluded stdin_name program names a b ss ls → GivesName excluded stdin_name program name b c more told → GiveNames excluded stdin_name program (names ++ name ∷ []) a c (ss ++ more) (ls ++ told)
   names-last [] name a b c ss ls more told none last = (
     c,
     more,
     [],
     told,
     [],
-    subst (λ i. GivesName stdin_name program name i c more told) none.0 last,
+    subst (λ i. GivesName excluded stdin_name program name i c more told) none.0 last,
     (refl, refl, refl),
     ap (λ xs. xs ++ more) none.1 ∙ sym (append-nil more),
     ap (λ xs. xs ++ told) none.2 ∙ sym (append-nil told),
@@ -169,13 +178,13 @@ module _ (stdin_name : List ℕ) (program : Program) where
 
   pub one_name_on : (names : List (String Global)) (i : ℕ) (name : String Global) (a b c : Option (List ℕ)) (ss ss' : List Source) (ls ls' : List ℕ)
       → i < length names → name ≡ get_or names i name
-      → GiveNames stdin_name program (map string_bytes (take i names)) a b ss ls → Adds ss ss' ls ls' (GivesName stdin_name program (string_bytes name) b c)
-      → GiveNames stdin_name program (map string_bytes (take (i + 1) names)) a c ss' ls'
+      → GiveNames excluded stdin_name program (map string_bytes (take i names)) a b ss ls → Adds ss ss' ls ls' (GivesName excluded stdin_name program (string_bytes name) b c)
+      → GiveNames excluded stdin_name program (map string_bytes (take (i + 1) names)) a c ss' ls'
   one_name_on names i name a b c ss ss' ls ls' within is so_far (more, told, last, texts, lines) =
       let all = names-last (map string_bytes (take i names)) (string_bytes name) a b c ss ls more told so_far last in
-      let named = subst (λ ns. GiveNames stdin_name program ns a c (ss ++ more) (ls ++ told)) (front-more string_bytes names i name within is) all in
-      let listed = subst (λ xs. GiveNames stdin_name program (map string_bytes (take (i + 1) names)) a c xs (ls ++ told)) (sym texts) named in
-      subst (λ xs. GiveNames stdin_name program (map string_bytes (take (i + 1) names)) a c ss' xs) (sym lines) listed
+      let named = subst (λ ns. GiveNames excluded stdin_name program ns a c (ss ++ more) (ls ++ told)) (front-more string_bytes names i name within is) all in
+      let listed = subst (λ xs. GiveNames excluded stdin_name program (map string_bytes (take (i + 1) names)) a c xs (ls ++ told)) (sym texts) named in
+      subst (λ xs. GiveNames excluded stdin_name program (map string_bytes (take (i + 1) names)) a c ss' xs) (sym lines) listed
 
 -- a name that is `-` is among the names
 pub names_input : (names : List (String Global)) (i : ℕ) (name : String Global) → i < length names → name ≡ get_or names i name → string_bytes name ≡ codes "-" → Contains (map string_bytes names) (codes "-")
@@ -183,10 +192,10 @@ names_input names i name within is dash =
     (i, subst (λ n. i < n) (sym (length-map names string_bytes)) within, get_or-map string_bytes names i name (codes "-") within ∙ ap string_bytes (sym is) ∙ dash)
 
 -- where none is, the input isn't read
-pub unread_on : (stdin_name : List ℕ) (program : Program) (names : List (String Global)) (i : ℕ) (name : String Global) (a b c : Option (List ℕ)) (ss ss' : List Source) (ls ls' : List ℕ)
+pub unread_on : (excluded : List (List ℕ)) (stdin_name : List ℕ) (program : Program) (names : List (String Global)) (i : ℕ) (name : String Global) (a b c : Option (List ℕ)) (ss ss' : List Source) (ls ls' : List ℕ)
     → i < length names → name ≡ get_or names i name → (¬ (Contains (map string_bytes names) (codes "-")) → Keeps a b)
-    → Adds ss ss' ls ls' (GivesName stdin_name program (string_bytes name) b c) → ¬ (Contains (map string_bytes names) (codes "-")) → Keeps a c
-unread_on stdin_name program names i name a b c ss ss' ls ls' within is so_far (more, told, inl (dash, _), _, _) none =
+    → Adds ss ss' ls ls' (GivesName excluded stdin_name program (string_bytes name) b c) → ¬ (Contains (map string_bytes names) (codes "-")) → Keeps a c
+unread_on excluded stdin_name program names i name a b c ss ss' ls ls' within is so_far (more, told, inl (dash, _), _, _) none =
     absurd (none (names_input names i name within is dash))
-unread_on stdin_name program names i name a b c ss ss' ls ls' within is so_far (more, told, inr (_, kept, _), _, _) none =
+unread_on excluded stdin_name program names i name a b c ss ss' ls ls' within is so_far (more, told, inr (_, kept, _), _, _) none =
     Keeps-trans a b c (so_far none) kept

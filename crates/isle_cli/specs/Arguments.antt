@@ -109,6 +109,17 @@ last_setting option before (setting_given o value ∷ more) =
 last_setting option before (name_given _ ∷ more) = last_setting option before more
 
 -- the names, in order
+abbrev pub setting_list : (option : List ℕ) → List Given → List (List ℕ)
+setting_list option [] = []
+setting_list option (flag_given _ ∷ more) = setting_list option more
+setting_list option (setting_given o value ∷ more) =
+    if bytes_eq o option then value ∷ setting_list option more else setting_list option more
+setting_list option (name_given _ ∷ more) = setting_list option more
+
+-- the patterns of files and folders that folders are to be read without
+abbrev pub excluded : List Given → List (List ℕ)
+excluded list = setting_list (codes "--exclude") list
+
 abbrev pub name_list : List Given → List (List ℕ)
 name_list [] = []
 name_list (flag_given _ ∷ more) = name_list more

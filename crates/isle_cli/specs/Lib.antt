@@ -1,6 +1,7 @@
 pub mod Arguments
 pub mod Failure
 pub mod Messages
+pub mod Patterns
 pub mod Sources
 pub mod Streams
 pub mod Usage

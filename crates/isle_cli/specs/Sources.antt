@@ -1,10 +1,12 @@
 -- What is read of what a command line names.
-use Rattle.std.specs.Prelude.{◌≡◌, ◌≢◌, ◌⊎◌, ℕ, List, [], ◌∷◌, ◌++◌, Contains, Option, codes, string_bytes}
+use Rattle.std.specs.Prelude.{◌≡◌, ◌≢◌, ◌⊎◌, ℕ, List, [], ◌∷◌, ◌++◌, Bool, Contains, Option, not, ◌||◌, codes, string_bytes, true}
 use Rattle.std.specs.Fmt.{decimal}
-use Rattle.std.specs.List.{flat_map}
+use Rattle.std.specs.List.{flat_map, list_all}
+use Rattle.std.specs.Str.{bytes_eq}
 use Rattle.std.specs.Io.KnownBytes.{Keeps}
 use Rattle.isle_base_source.specs.Source as files
 use Rattle.isle_base.specs.Diagnostics.{only_file}
+use Rattle.isle_cli.specs.Patterns.{is_excluded}
 use Rattle.isle_cli.specs.Streams.{IsStreamFault, ReadsText}
 use Rattle.isle_cli.specs.declared.program.Program.{Program}
 use Rattle.isle_cli.specs.declared.sources.Source.{Source}
@@ -42,11 +44,19 @@ AreFaultLines program lines =
 abbrev pub TellsFaults : Program → (lines lines' : List ℕ) → Type 0
 TellsFaults program lines lines' = (told : List ℕ) × AreFaultLines program told × (lines' ≡ lines ++ told)
 
--- What the name of a file or a folder is found to stand for: files, and lines about what can't be read, one of either at
--- least; or it is a folder without an ISLE file, as one line says.
-abbrev pub IsListing : Program → (name : List ℕ) → (paths : List (List ℕ)) → (told : List ℕ) → Type 0
-IsListing program name paths told =
-    (AreFaultLines program told × (paths ≡ [] → told ≢ [])) ⊎ ((paths ≡ []) × (told ≡ empty_line program name))
+-- a path counts below this name: it is the name, or no pattern excludes it
+abbrev pub is_taken : (excluded : List (List ℕ)) → (name path : List ℕ) → Bool
+is_taken excluded name path = bytes_eq path name || not (is_excluded excluded path)
+
+abbrev pub are_taken : (excluded : List (List ℕ)) → (name : List ℕ) → (paths : List (List ℕ)) → Bool
+are_taken excluded name paths = list_all (is_taken excluded name) paths
+
+-- What the name of a file or a folder is found to stand for: files that no pattern excludes, but for the name itself, and
+-- lines about what can't be read, one of either at least; or it is a folder without an ISLE file, as one line says.
+abbrev pub IsListing : Program → (excluded : List (List ℕ)) → (name : List ℕ) → (paths : List (List ℕ)) → (told : List ℕ) → Type 0
+IsListing program excluded name paths told =
+    (AreFaultLines program told × (are_taken excluded name paths ≡ true) × (paths ≡ [] → told ≢ []))
+    ⊎ ((paths ≡ []) × (told ≡ empty_line program name))
 
 -- What standard input gives: it is read whole, and is one text; or it gives no text, and one line says why.
 abbrev pub GivesInput : (stdin_name : List ℕ) → Program → (input input' : Option (List ℕ)) → (sources : List files.Source) → (lines : List ℕ) → Type 0
@@ -69,34 +79,34 @@ GiveFiles program (path ∷ paths) sources lines =
     × (sources ≡ first ++ more) × (lines ≡ told ++ further)
 
 -- What the name of a file or a folder gives: what each file gives that it stands for, behind the lines about others.
-pub record GivesPath (program : Program) (name : List ℕ) (sources : List files.Source) (lines : List ℕ) : Type 0 where
+pub record GivesPath (excluded : List (List ℕ)) (program : Program) (name : List ℕ) (sources : List files.Source) (lines : List ℕ) : Type 0 where
   pub paths : List (List ℕ)
   pub told : List ℕ
   pub further : List ℕ
-  pub listing : IsListing program name paths told
+  pub listing : IsListing program excluded name paths told
   pub each : GiveFiles program paths sources further
   pub is : lines ≡ told ++ further
 
 -- What a name gives: `-` stands for standard input, which no other name reads.
-abbrev pub GivesName : (stdin_name : List ℕ) → Program → (name : List ℕ) → (input input' : Option (List ℕ)) → (sources : List files.Source) → (lines : List ℕ) → Type 0
-GivesName stdin_name program name input input' sources lines =
+abbrev pub GivesName : (excluded : List (List ℕ)) → (stdin_name : List ℕ) → Program → (name : List ℕ) → (input input' : Option (List ℕ)) → (sources : List files.Source) → (lines : List ℕ) → Type 0
+GivesName excluded stdin_name program name input input' sources lines =
     ((name ≡ codes "-") × GivesInput stdin_name program input input' sources lines)
-    ⊎ ((name ≢ codes "-") × Keeps input input' × GivesPath program name sources lines)
+    ⊎ ((name ≢ codes "-") × Keeps input input' × GivesPath excluded program name sources lines)
 
 -- What names give, one after another. So a second `-` reads what the first one left, which is nothing, and is an empty
 -- text.
-abbrev pub GiveNames : (stdin_name : List ℕ) → Program → (names : List (List ℕ)) → (input input' : Option (List ℕ)) → (sources : List files.Source) → (lines : List ℕ) → Type 0
-GiveNames stdin_name program [] input input' sources lines = (input' ≡ input) × (sources ≡ []) × (lines ≡ [])
-GiveNames stdin_name program (name ∷ names) input input' sources lines =
+abbrev pub GiveNames : (excluded : List (List ℕ)) → (stdin_name : List ℕ) → Program → (names : List (List ℕ)) → (input input' : Option (List ℕ)) → (sources : List files.Source) → (lines : List ℕ) → Type 0
+GiveNames excluded stdin_name program [] input input' sources lines = (input' ≡ input) × (sources ≡ []) × (lines ≡ [])
+GiveNames excluded stdin_name program (name ∷ names) input input' sources lines =
     (mid : Option (List ℕ)) × (first : List files.Source) × (more : List files.Source) × (told : List ℕ) × (further : List ℕ)
-    × GivesName stdin_name program name input mid first told × GiveNames stdin_name program names mid input' more further
+    × GivesName excluded stdin_name program name input mid first told × GiveNames excluded stdin_name program names mid input' more further
     × (sources ≡ first ++ more) × (lines ≡ told ++ further)
 
 -- What is read of the names of a command line, in order: without one, standard input alone. Where others are named but
 -- `-` isn't, standard input isn't read.
-pub record IsReadFrom (names : List (List ℕ)) (stdin_name : List ℕ) (program : Program) (input input' : Option (List ℕ)) (sources : List files.Source) (faults : List ℕ) : Type 0 where
+pub record IsReadFrom (names excluded : List (List ℕ)) (stdin_name : List ℕ) (program : Program) (input input' : Option (List ℕ)) (sources : List files.Source) (faults : List ℕ) : Type 0 where
   pub alone : names ≡ [] → GivesInput stdin_name program input input' sources faults
-  pub each : names ≢ [] → GiveNames stdin_name program names input input' sources faults
+  pub each : names ≢ [] → GiveNames excluded stdin_name program names input input' sources faults
   pub unread : names ≢ [] → ¬ (Contains names (codes "-")) → Keeps input input'
 
 -- the texts and the lines so far grow by what is given

@@ -6,8 +6,9 @@ ghost use Rattle.std.specs.Option.{option_copied, option_map};
 ghost use Rattle.isle_cli.specs.Arguments.{anything_awaited, asked, awaited_of, given};
 ghost use Rattle.isle_cli.specs.Arguments.{given_of, gives_either, gives_flag, is_among};
 ghost use Rattle.isle_cli.specs.Arguments.{is_flag, is_name, is_setting, is_this_flag};
-ghost use Rattle.isle_cli.specs.Arguments.{joined_setting, last_setting, name_list};
-ghost use Rattle.isle_cli.specs.Arguments.{parts_at_equals, request_of, stdin_name, taken, taken_of};
+ghost use Rattle.isle_cli.specs.Arguments.{excluded, joined_setting, last_setting, name_list};
+ghost use Rattle.isle_cli.specs.Arguments.{parts_at_equals, request_of, setting_list, stdin_name};
+ghost use Rattle.isle_cli.specs.Arguments.{taken, taken_of};
 ghost use Rattle.isle_cli.specs.declared.failure.Failure.TheVariants.{Memory, Usage};
 
 use crate::failure::Failure;
@@ -15,6 +16,10 @@ use std::alloc::{AllocError, Global};
 
 /// The name that stands for standard input.
 pub const INPUT_NAME: &str = "<stdin>";
+
+/// The option that leaves files and folders out of the folders of the command line; it may be
+/// repeated.
+pub const EXCLUDE_OPTION: &str = "--exclude";
 
 /// The options of a program, besides `--help` and `-h`, `--version` and `-V`, and
 /// `--stdin-name NAME`, which every program accepts.
@@ -297,6 +302,34 @@ pub fn stdin_name_of(arguments: &[Argument]) -> &str
     ensures { result.now ≡ stdin_name (map given_of arguments.now) }
 {
     setting_of(arguments, "--stdin-name").unwrap_or(INPUT_NAME)
+}
+
+/// The patterns of `--exclude`, in order.
+pub fn excluded_of(alloc: Global, arguments: &[Argument]) -> Result<Vec<String>, AllocError>
+    ensures { IfOk result (λ patterns. map string_bytes patterns.items
+        ≡ excluded (map given_of arguments.now)) }
+{
+    settings_of(alloc, arguments, EXCLUDE_OPTION)
+}
+
+/// The values of an option, in order.
+pub fn settings_of(
+    alloc: Global,
+    arguments: &[Argument],
+    option: &str,
+) -> Result<Vec<String>, AllocError>
+    ensures { IfOk result (λ values. map string_bytes values.items
+        ≡ setting_list option.now (map given_of arguments.now)) }
+{
+    let mut values = Vec::new(alloc);
+    for argument in arguments {
+        if let Argument::Setting(name, value) = argument {
+            if name.as_str() == option {
+                values.push(value.clone()?)?;
+            }
+        }
+    }
+    Ok(values)
 }
 
 /// The names, in order.

@@ -1,8 +1,9 @@
 //! The files below a folder.
 
-ghost use Rattle.std.specs.Prelude.{◌≡◌, ◌++◌, List, ℕ, IfOk, OnOk, map, string_bytes};
-ghost use Rattle.isle_cli.specs.Sources.{IsListing, TellsFaults, fault_line};
+ghost use Rattle.std.specs.Prelude.{◌≡◌, ◌++◌, List, ℕ, IfOk, OnOk, map, string_bytes, true};
+ghost use Rattle.isle_cli.specs.Sources.{IsListing, TellsFaults, are_taken, fault_line, is_taken};
 
+use crate::patterns::is_excluded;
 use crate::program::Program;
 use crate::sources::{empty_line, fault_line};
 use crate::streams::{ReadFault, fault_of};
@@ -26,14 +27,16 @@ pub fn files_named<R: Files + AllocGlobal + Clone + Drop>(
     rt: &R,
     program: &Program,
     name: &str,
+    excluded: &[String],
     faults: &mut String,
 ) -> Result<Vec<String>, AllocError>
     ensures { IfOk result (λ files. (told : List ℕ)
-        × IsListing program.now name.now (map string_bytes files.items) told
+        × IsListing program.now (map string_bytes excluded.now) name.now
+        (map string_bytes files.items) told
         × (string_bytes faults.new ≡ string_bytes faults.old ++ told)) }
 {
     let told = faults.len();
-    let files = files_of(rt, program, name, faults)?;
+    let files = files_of(rt, program, name, excluded, faults)?;
     if files.is_empty() && faults.len() == told {
         let line = empty_line(rt.alloc(), program, name)?;
         faults.push_str(line.as_str())?;
@@ -44,16 +47,20 @@ pub fn files_named<R: Files + AllocGlobal + Clone + Drop>(
 /// The names of the files that a name stands for: itself, or, if it is a folder, each file below it
 /// whose name ends in `.isle`, in order of name.
 ///
-/// Below a folder, hidden folders and links are left out. A line is added to `faults` for each file
-/// or folder that can't be read, and the other files are returned all the same.
+/// Below a folder, hidden folders and links are left out, and what one of the patterns excludes. A
+/// line is added to `faults` for each file or folder that can't be read, and the other files are
+/// returned all the same.
 pub fn files_of<R: Files + AllocGlobal + Clone + Drop>(
     rt: &R,
     program: &Program,
     name: &str,
+    excluded: &[String],
     faults: &mut String,
 ) -> Result<Vec<String>, AllocError>
-    ensures { OnOk result
+    ensures told { OnOk result
         (TellsFaults program.now (string_bytes faults.old) (string_bytes faults.new)) }
+    ensures taken { IfOk result (λ files. are_taken (map string_bytes excluded.now) name.now
+        (map string_bytes files.items) ≡ true) }
 {
     let mut files = Vec::new(rt.alloc());
     let is_folder = match rt.metadata(name) {
@@ -68,6 +75,7 @@ pub fn files_of<R: Files + AllocGlobal + Clone + Drop>(
     for _ in 0..u64::MAX {
         match pending.pop() {
             None => return Ok(files),
+            Some(entry) if !is_taken(excluded, name, entry.path.as_str()) => {}
             Some(entry) if entry.is_folder => {
                 push_entries(rt, program, entry.path.as_str(), &mut pending, faults)?;
             }
@@ -75,6 +83,13 @@ pub fn files_of<R: Files + AllocGlobal + Clone + Drop>(
         }
     }
     Ok(files)
+}
+
+/// Returns whether a path counts below this name: it is the name, or no pattern excludes it.
+fn is_taken(excluded: &[String], name: &str, path: &str) -> bool
+    ensures { result ≡ is_taken (map string_bytes excluded.now) name.now path.now }
+{
+    path == name || !is_excluded(excluded, path)
 }
 
 /// Puts the entries of a folder on top of the pending ones, the first name last.

@@ -6,6 +6,7 @@ pub mod arguments;
 pub mod failure;
 pub mod folders;
 pub mod messages;
+pub mod patterns;
 pub mod program;
 pub mod sources;
 pub mod streams;

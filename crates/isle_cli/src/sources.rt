@@ -34,7 +34,7 @@ pub struct Sources {
 }
 
 /// Reads the texts that the names of a command line stand for: standard input for `-`, the files
-/// that `files_named` finds below a folder, or a file. Without names it reads standard input.
+/// that `files_named` finds below a folder without what `excluded` excludes, or a file. Without names it reads standard input.
 ///
 /// A line is added to `faults` for each text that can't be read and each folder without an ISLE
 /// file, and the others are read all the same.
@@ -42,11 +42,12 @@ pub fn read_sources<R: Files + AllocGlobal + Clone + Drop, I: Read>(
     rt: &R,
     program: &Program,
     names: &[String],
+    excluded: &[String],
     stdin_name: &str,
     input: &mut I,
 ) -> Result<Sources, AllocError>
-    ensures { IfOk result (λ read. IsReadFrom (map string_bytes names.now) stdin_name.now
-        program.now (I.remaining input.old) (I.remaining input.new)
+    ensures { IfOk result (λ read. IsReadFrom (map string_bytes names.now)
+        (map string_bytes excluded.now) stdin_name.now program.now (I.remaining input.old) (I.remaining input.new)
         (map source_of read.list.items) (string_bytes read.faults)) }
 {
     let mut read = Sources::none(rt.alloc());
@@ -55,7 +56,15 @@ pub fn read_sources<R: Files + AllocGlobal + Clone + Drop, I: Read>(
         return Ok(read);
     }
     for name in names {
-        read_name(rt, program, name.as_str(), stdin_name, input, &mut read)?;
+        read_name(
+            rt,
+            program,
+            name.as_str(),
+            excluded,
+            stdin_name,
+            input,
+            &mut read,
+        )?;
     }
     Ok(read)
 }
@@ -106,6 +115,7 @@ fn read_name<R: Files + AllocGlobal + Clone + Drop, I: Read>(
     rt: &R,
     program: &Program,
     name: &str,
+    excluded: &[String],
     stdin_name: &str,
     input: &mut I,
     read: &mut Sources,
@@ -113,13 +123,13 @@ fn read_name<R: Files + AllocGlobal + Clone + Drop, I: Read>(
     ensures { OnOk result (Adds (map source_of read.old.list.items)
         (map source_of read.new.list.items)
         (string_bytes read.old.faults) (string_bytes read.new.faults)
-        (GivesName stdin_name.now program.now name.now
+        (GivesName (map string_bytes excluded.now) stdin_name.now program.now name.now
         (I.remaining input.old) (I.remaining input.new))) }
 {
     if name == "-" {
         read_input(rt.alloc(), program, stdin_name, input, read)
     } else {
-        read_path(rt, program, name, read)
+        read_path(rt, program, name, excluded, read)
     }
 }
 
@@ -148,14 +158,15 @@ fn read_path<R: Files + AllocGlobal + Clone + Drop>(
     rt: &R,
     program: &Program,
     name: &str,
+    excluded: &[String],
     read: &mut Sources,
 ) -> Result<(), AllocError>
     ensures { OnOk result (Adds (map source_of read.old.list.items)
         (map source_of read.new.list.items)
         (string_bytes read.old.faults) (string_bytes read.new.faults)
-        (GivesPath program.now name.now)) }
+        (GivesPath (map string_bytes excluded.now) program.now name.now)) }
 {
-    let files = files_named(rt, program, name, &mut read.faults)?;
+    let files = files_named(rt, program, name, excluded, &mut read.faults)?;
     read_files(rt, program, &files, read)
 }
 

@@ -2,5 +2,4 @@ pub mod Paths
 pub mod Places
 pub mod Mistakes
 pub mod Manifest
-pub mod Patterns
 pub mod Membership

@@ -7,7 +7,7 @@ use Rattle.isle_cli.proofs.sources.read_sources.Given as goal
 
 abbrev pub invariant-loop-name : goal.invariant-loop-name
 invariant-loop-name g l = record {
-  given : GiveNames l.stdin_name l.program (map string_bytes (take l.name-index l.names)) (g.I.Read.remaining l.initial.input) (g.I.Read.remaining l.input)
+  given : GiveNames (map string_bytes l.excluded) l.stdin_name l.program (map string_bytes (take l.name-index l.names)) (g.I.Read.remaining l.initial.input) (g.I.Read.remaining l.input)
       (map source_of l.read.list.items) (string_bytes l.read.faults);
   unread : ¬ (Contains (map string_bytes l.names) (codes "-")) → Keeps (g.I.Read.remaining l.initial.input) (g.I.Read.remaining l.input);
 }

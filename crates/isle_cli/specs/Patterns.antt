@@ -1,5 +1,6 @@
 -- Which names a pattern matches.
 use Rattle.std.specs.Prelude.{ℕ, ◌==◌, List, [], ◌∷◌, Bool, true, false, not, ◌&&◌, ◌||◌, if◌then◌else◌}
+use Rattle.std.specs.List.{list_any}
 
 -- what is left of a name fits, perhaps after some of its bytes, none of them `/`
 abbrev pub after_some : (fits : List ℕ → Bool) → List ℕ → Bool
@@ -28,3 +29,16 @@ matches pattern name = fits false pattern name
 -- a pattern matches a path, or a folder above it
 abbrev pub covers : (pattern path : List ℕ) → Bool
 covers pattern path = fits true pattern path
+
+-- a pattern matches what follows a `/` in a path
+abbrev pub excludes_behind : (pattern path : List ℕ) → Bool
+excludes_behind pattern [] = false
+excludes_behind pattern (b ∷ path) = (b == 47 && matches pattern path) || excludes_behind pattern path
+
+-- a pattern matches a path, or what follows a `/` in it
+abbrev pub excludes : (pattern path : List ℕ) → Bool
+excludes pattern path = matches pattern path || excludes_behind pattern path
+
+-- one of the patterns leaves a path out of the folders above it
+abbrev pub is_excluded : (patterns : List (List ℕ)) → (path : List ℕ) → Bool
+is_excluded patterns path = list_any (λ pattern. excludes pattern path) patterns

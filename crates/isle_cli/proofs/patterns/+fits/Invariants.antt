@@ -1,5 +1,5 @@
 use Rattle.std.proofs.Common.{◌+◌, length}
-use Rattle.isle_program_manifest.proofs.patterns.+fits.Given as goal
+use Rattle.isle_cli.proofs.patterns.+fits.Given as goal
 
 abbrev pub decreases-fits : goal.decreases-fits
 decreases-fits l = length l.pattern.now + length l.name.now
