@@ -58,7 +58,7 @@ pub record Reads (given : List Given) (input input' : Option (List ℕ)) (Holds 
   pub is_program : IsProgram program
   pub sources : List Source
   pub lines : List ℕ
-  pub read : IsReadFrom (name_list given) (stdin_name given) program input input' sources lines
+  pub read : IsReadFrom given program input input' sources lines
   pub holds : Holds lines sources
 
 -- Some text can't be read, and standard error got the lines that say so, as far as it took them, and the output nothing;

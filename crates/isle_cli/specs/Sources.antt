@@ -6,6 +6,7 @@ use Rattle.std.specs.Str.{bytes_eq}
 use Rattle.std.specs.Io.KnownBytes.{Keeps}
 use Rattle.isle_base_source.specs.Source as files
 use Rattle.isle_base.specs.Diagnostics.{only_file}
+use Rattle.isle_cli.specs.Arguments.{Given, excluded, name_list, stdin_name}
 use Rattle.isle_cli.specs.Patterns.{is_excluded}
 use Rattle.isle_cli.specs.Streams.{IsStreamFault, ReadsText}
 use Rattle.isle_cli.specs.declared.program.Program.{Program}
@@ -102,12 +103,17 @@ GiveNames excluded stdin_name program (name ∷ names) input input' sources line
     × GivesName excluded stdin_name program name input mid first told × GiveNames excluded stdin_name program names mid input' more further
     × (sources ≡ first ++ more) × (lines ≡ told ++ further)
 
--- What is read of the names of a command line, in order: without one, standard input alone. Where others are named but
--- `-` isn't, standard input isn't read.
-pub record IsReadFrom (names excluded : List (List ℕ)) (stdin_name : List ℕ) (program : Program) (input input' : Option (List ℕ)) (sources : List files.Source) (faults : List ℕ) : Type 0 where
+-- What is read of names, in order: without one, standard input alone. Where others are named but `-` isn't, standard input
+-- isn't read.
+pub record AreReadFrom (names excluded : List (List ℕ)) (stdin_name : List ℕ) (program : Program) (input input' : Option (List ℕ)) (sources : List files.Source) (faults : List ℕ) : Type 0 where
   pub alone : names ≡ [] → GivesInput stdin_name program input input' sources faults
   pub each : names ≢ [] → GiveNames excluded stdin_name program names input input' sources faults
   pub unread : names ≢ [] → ¬ (Contains names (codes "-")) → Keeps input input'
+
+-- what is read of the names among arguments
+abbrev pub IsReadFrom : List Given → Program → (input input' : Option (List ℕ)) → (sources : List files.Source) → (faults : List ℕ) → Type 0
+IsReadFrom given program input input' sources faults =
+    AreReadFrom (name_list given) (excluded given) (stdin_name given) program input input' sources faults
 
 -- the texts and the lines so far grow by what is given
 abbrev pub Adds : (sources sources' : List files.Source) → (lines lines' : List ℕ) → (Given : List files.Source → List ℕ → Type 0) → Type 0

@@ -2,10 +2,12 @@
 
 ghost use Rattle.std.specs.Prelude.{◌≡◌, ◌++◌, [], IfOk, OnOk, map, string_bytes};
 ghost use Rattle.isle_base.specs.Diagnostics.{only_file};
-ghost use Rattle.isle_cli.specs.Sources.{Adds, GiveFiles, GivesFile, GivesInput, GivesName};
-ghost use Rattle.isle_cli.specs.Sources.{GivesPath, IsReadFrom, empty_line, fault_line, reason_of};
-ghost use Rattle.isle_cli.specs.Sources.{source_of};
+ghost use Rattle.isle_cli.specs.Arguments.{given_of};
+ghost use Rattle.isle_cli.specs.Sources.{Adds, AreReadFrom, GiveFiles, GivesFile, GivesInput};
+ghost use Rattle.isle_cli.specs.Sources.{GivesName, GivesPath, IsReadFrom, empty_line, fault_line};
+ghost use Rattle.isle_cli.specs.Sources.{reason_of, source_of};
 
+use crate::arguments::{Argument, excluded_of, names_of, stdin_name_of};
 use crate::folders::files_named;
 use crate::program::Program;
 pub use crate::streams::ReadFault as SourceFault;
@@ -33,12 +35,36 @@ pub struct Sources {
     pub faults: String,
 }
 
-/// Reads the texts that the names of a command line stand for: standard input for `-`, the files
-/// that `files_named` finds below a folder without what `excluded` excludes, or a file. Without names it reads standard input.
+/// Reads the texts that the names among the arguments of a command line stand for: standard input
+/// for `-`, a file, or the files that `files_named` finds below a folder. Without names it reads
+/// standard input.
 ///
 /// A line is added to `faults` for each text that can't be read and each folder without an ISLE
 /// file, and the others are read all the same.
 pub fn read_sources<R: Files + AllocGlobal + Clone + Drop, I: Read>(
+    rt: &R,
+    program: &Program,
+    arguments: &[Argument],
+    input: &mut I,
+) -> Result<Sources, AllocError>
+    ensures { IfOk result (λ read. IsReadFrom (map given_of arguments.now) program.now
+        (I.remaining input.old) (I.remaining input.new)
+        (map source_of read.list.items) (string_bytes read.faults)) }
+{
+    let names = names_of(rt.alloc(), arguments)?;
+    let excluded = excluded_of(rt.alloc(), arguments)?;
+    read_names(
+        rt,
+        program,
+        &names,
+        &excluded,
+        stdin_name_of(arguments),
+        input,
+    )
+}
+
+/// Reads the texts that these names stand for.
+fn read_names<R: Files + AllocGlobal + Clone + Drop, I: Read>(
     rt: &R,
     program: &Program,
     names: &[String],
@@ -46,8 +72,9 @@ pub fn read_sources<R: Files + AllocGlobal + Clone + Drop, I: Read>(
     stdin_name: &str,
     input: &mut I,
 ) -> Result<Sources, AllocError>
-    ensures { IfOk result (λ read. IsReadFrom (map string_bytes names.now)
-        (map string_bytes excluded.now) stdin_name.now program.now (I.remaining input.old) (I.remaining input.new)
+    ensures { IfOk result (λ read. AreReadFrom (map string_bytes names.now)
+        (map string_bytes excluded.now) stdin_name.now program.now
+        (I.remaining input.old) (I.remaining input.new)
         (map source_of read.list.items) (string_bytes read.faults)) }
 {
     let mut read = Sources::none(rt.alloc());

@@ -19,7 +19,7 @@ pub record Reads (program : Program) (given : List Given) (input input' : Option
   pub width : GivesWidth given
   pub sources : List Source
   pub faults : List ℕ
-  pub read : IsReadFrom (name_list given) (stdin_name given) program input input' sources faults
+  pub read : IsReadFrom given program input input' sources faults
   pub holds : Holds sources faults
 
 -- All could be read: the output got the print of the expansion, and standard error the warnings, as far as it took

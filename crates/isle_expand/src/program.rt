@@ -158,8 +158,7 @@ fn read_program<R: Files + AllocGlobal + Clone + Drop, I: Read>(
         (I.remaining input.old) (I.remaining input.new)) }
 {
     let width = width_of(arguments)?;
-    let names = names_of(rt.alloc(), arguments)?;
-    let sources = read_sources(rt, program, &names, stdin_name_of(arguments), input)?;
+    let sources = read_sources(rt, program, arguments, input)?;
     Ok(Taken { width, sources })
 }
 

@@ -77,7 +77,7 @@ pub record Looks (given : List Given) (input input' : Option (List ℕ)) (Holds 
   pub is_program : IsProgram program
   pub sources : List Source
   pub lines : List ℕ
-  pub read : IsReadFrom (name_list given) (stdin_name given) program input input' sources lines
+  pub read : IsReadFrom given program input input' sources lines
   pub report : ReportNode
   pub is_report : IsReport given (lints_on given) sources report
   pub holds : Holds lines report

@@ -165,9 +165,7 @@ fn lint<R: Files + AllocGlobal + Clone + Drop, I: Read, W: Write, E: Write>(
         (λ _. Keeps (E.contents streams.old.faults) (E.contents streams.new.faults)) }
 {
     let lints = lints_of(rt.alloc(), arguments)?;
-    let names = names_of(rt.alloc(), arguments)?;
-    let stdin_name = stdin_name_of(arguments);
-    let sources = read_sources(rt, &PROGRAM, &names, stdin_name, &mut streams.input)?;
+    let sources = read_sources(rt, &PROGRAM, arguments, &mut streams.input)?;
     let told = report_on(rt.alloc(), arguments, &sources.list, &lints)?;
     match put(&mut streams.output, told.text.as_str()) {
         Ok(()) => {}

@@ -1,5 +1,5 @@
 use Rattle.isle_cli.proofs.SourceLemmas.{one_name_on, unread_on}
-use Rattle.isle_cli.proofs.sources.read_sources.Goals as goal
+use Rattle.isle_cli.proofs.sources.read_names.Goals as goal
 
 pub loop-name-preserved : goal.loop-name-preserved
 loop-name-preserved g c =

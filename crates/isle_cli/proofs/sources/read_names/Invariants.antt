@@ -3,7 +3,7 @@ use Rattle.std.proofs.Common.{map, string_bytes, codes, take}
 use Rattle.std.specs.Prelude.{Contains}
 use Rattle.std.specs.Io.KnownBytes.{Keeps}
 use Rattle.isle_cli.specs.Sources.{GiveNames, source_of}
-use Rattle.isle_cli.proofs.sources.read_sources.Given as goal
+use Rattle.isle_cli.proofs.sources.read_names.Given as goal
 
 abbrev pub invariant-loop-name : goal.invariant-loop-name
 invariant-loop-name g l = record {
