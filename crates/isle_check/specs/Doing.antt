@@ -2,7 +2,7 @@
 use Rattle.std.specs.Prelude.{◌≡◌, ◌⊎◌, ◌<◌, ℕ, ◌==◌, List, [], ◌∷◌, Bool, true, false, if◌then◌else◌, Option, None, Some, codes, length, map}
 use Rattle.std.specs.Io.KnownBytes.{Appends, Keeps}
 use Rattle.isle_base_source.specs.Source.{Source}
-use Rattle.isle_cli.specs.Arguments.{Asked, Given, asked, help_asked, name_list, stdin_name, version_asked, work_asked}
+use Rattle.isle_cli.specs.Arguments.{Asked, Given, asked, help_asked, version_asked, work_asked}
 use Rattle.isle_cli.specs.Failure.{IsDiagnostic}
 use Rattle.isle_cli.specs.Sources.{IsReadFrom}
 use Rattle.isle_cli.specs.Streams.{AppendsBeginning}
@@ -29,13 +29,13 @@ IsProgram program =
 abbrev pub AreOptions : Options → Type 0
 AreOptions options =
     (map (λ flag. flag.now) options.flags.now ≡ [])
-    × (map (λ setting. setting.now) options.settings.now ≡ codes "--allow" ∷ codes "--warn" ∷ codes "--deny" ∷ codes "--message-format" ∷ [])
+    × (map (λ setting. setting.now) options.settings.now ≡ codes "--allow" ∷ codes "--warn" ∷ codes "--deny" ∷ codes "--message-format" ∷ codes "--exclude" ∷ [])
 
 -- its options, and those that are about the programs of a manifest
 abbrev pub AreAllOptions : Options → Type 0
 AreAllOptions options =
     (map (λ flag. flag.now) options.flags.now ≡ codes "--print-programs" ∷ codes "--all-programs" ∷ [])
-    × (map (λ setting. setting.now) options.settings.now ≡ codes "--allow" ∷ codes "--warn" ∷ codes "--deny" ∷ codes "--message-format" ∷ codes "--program" ∷ [])
+    × (map (λ setting. setting.now) options.settings.now ≡ codes "--allow" ∷ codes "--warn" ∷ codes "--deny" ∷ codes "--message-format" ∷ codes "--exclude" ∷ codes "--program" ∷ [])
 
 -- the words ask this of the program
 abbrev pub Ask : List (List ℕ) → Option Asked → Type 0

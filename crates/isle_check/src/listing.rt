@@ -8,7 +8,7 @@ ghost use Rattle.isle_check.specs.Listing.{Lists, ProgramNode, file_line, file_l
 ghost use Rattle.isle_check.specs.Listing.{program_lines, program_of};
 
 use crate::program::PROGRAM;
-use isle_cli::arguments::{Argument, Options, Request, has_flag, requested};
+use isle_cli::arguments::{Argument, EXCLUDE_OPTION, Options, Request, has_flag, requested};
 use isle_cli::failure::Failure;
 use isle_cli::program::{report, tell};
 use isle_cli::streams::{Streams, write_whole};
@@ -26,7 +26,7 @@ const LIST_OPTION: &str = "--print-programs";
 /// All options: those of `run_programs`, and this one.
 pub const OPTIONS: Options = Options {
     flags: &[LIST_OPTION, ALL_OPTION],
-    settings: &["--allow", "--warn", "--deny", FORMAT_OPTION, NAME_OPTION],
+    settings: &["--allow", "--warn", "--deny", FORMAT_OPTION, EXCLUDE_OPTION, NAME_OPTION],
 };
 
 /// Returns the arguments of a command line that asks for the list of the programs.

@@ -8,7 +8,7 @@ ghost use Rattle.isle_check.specs.Doing.{CutsPrograms, Ends, ExplainsEnd, TellsP
 use crate::options::are_usable;
 use crate::program::{PROGRAM, status_of};
 use crate::programs::{Part, report_on_programs};
-use isle_cli::arguments::{Argument, Options};
+use isle_cli::arguments::{Argument, EXCLUDE_OPTION, Options};
 use isle_cli::failure::Failure;
 use isle_cli::program::{put, report};
 use isle_cli::sources::Source;
@@ -27,7 +27,7 @@ use std::io::Write;
 /// The options with those that ask for programs of a manifest.
 pub const OPTIONS: Options = Options {
     flags: &[ALL_OPTION],
-    settings: &["--allow", "--warn", "--deny", FORMAT_OPTION, NAME_OPTION],
+    settings: &["--allow", "--warn", "--deny", FORMAT_OPTION, EXCLUDE_OPTION, NAME_OPTION],
 };
 
 /// Checks programs of the nearest manifest, each by itself, writes the findings to the output, and

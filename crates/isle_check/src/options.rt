@@ -16,7 +16,8 @@ pub const VERSION: &str = version!("isle-check");
 /// The help.
 pub const HELP: &str = "\
 usage: isle-check [--allow KIND] [--warn KIND] [--deny KIND] [--message-format FORMAT]
-                  [--stdin-name NAME] [--program NAME] [--all-programs] [FILE ..]
+                  [--exclude PATTERN] [--stdin-name NAME] [--program NAME]
+                  [--all-programs] [FILE ..]
 
 Checks a complete ISLE program, as the compiler does before it makes code. All files are one
 program. A folder stands for every .isle file below it, and - for standard input. With no FILE,
@@ -34,6 +35,7 @@ Options:
   --deny KIND              report warnings of this kind as errors, also after --warn;
                            may be repeated
   --message-format FORMAT  write findings as human (the default), json or github
+  --exclude PATTERN        leave out of folders what the pattern matches; may be repeated
   --stdin-name NAME        use NAME for standard input in messages
   --program NAME           check this program of isle.toml; may be repeated
   --all-programs           check all programs of isle.toml

@@ -13,7 +13,7 @@ ghost use Rattle.isle_check.specs.Options.{are_usable};
 use crate::listing;
 use crate::options::{HELP, VERSION, are_usable};
 use crate::report::report_on;
-use isle_cli::arguments::{Argument, Options, Request, names_of, requested, stdin_name_of};
+use isle_cli::arguments::{Argument, EXCLUDE_OPTION, Options, Request, requested};
 use isle_cli::failure::Failure;
 use isle_cli::program::{Program, put, report, tell};
 use isle_cli::sources::read_sources;
@@ -27,7 +27,7 @@ use std::io::{Read, Write};
 pub const PROGRAM: Program = Program {
     name: "isle-check",
     usage: "usage: isle-check [--allow KIND] [--warn KIND] [--deny KIND] \
-            [--message-format FORMAT] [--stdin-name NAME] [--program NAME] [--all-programs] \
+            [--message-format FORMAT] [--exclude PATTERN] [--stdin-name NAME] [--program NAME] \
             [FILE ..]\n",
     help: HELP,
     version: VERSION,
@@ -36,7 +36,7 @@ pub const PROGRAM: Program = Program {
 /// Its options.
 pub const OPTIONS: Options = Options {
     flags: &[],
-    settings: &["--allow", "--warn", "--deny", FORMAT_OPTION],
+    settings: &["--allow", "--warn", "--deny", FORMAT_OPTION, EXCLUDE_OPTION],
 };
 
 /// | Status | When |
@@ -166,9 +166,7 @@ fn check_files<R: Files + AllocGlobal + Clone + Drop, I: Read, W: Write, E: Writ
     if !are_usable(arguments) {
         return Err(Failure::Usage);
     }
-    let names = names_of(rt.alloc(), arguments)?;
-    let stdin_name = stdin_name_of(arguments);
-    let sources = read_sources(rt, &PROGRAM, &names, stdin_name, &mut streams.input)?;
+    let sources = read_sources(rt, &PROGRAM, arguments, &mut streams.input)?;
     if !sources.faults.is_empty() {
         let _ = write_whole(&mut streams.faults, sources.faults.as_bytes());
         return Ok(3);

@@ -2,7 +2,7 @@
 use Rattle.std.specs.Prelude.{◌≡◌, ◌≢◌, ◌≤◌, ◌⊎◌, ℕ, List, [], Option, map, string_bytes}
 use Rattle.std.specs.Io.KnownBytes.{Appends, Keeps}
 use Rattle.isle_base_source.specs.Source.{Source}
-use Rattle.isle_cli.specs.Arguments.{Asked, Given, help_asked, name_list, stdin_name, version_asked, work_asked}
+use Rattle.isle_cli.specs.Arguments.{Asked, Given, help_asked, version_asked, work_asked}
 use Rattle.isle_cli.specs.Sources.{IsReadFrom, source_of}
 use Rattle.isle_cli.specs.Streams.{AppendsBeginning, Writes, WritesBeginning}
 use Rattle.isle_cli.specs.declared.failure.Failure.{Failure}

@@ -12,15 +12,15 @@ pub record IsThis (program : Program) : Type 0 where
   pub name : program.name.now ≡ codes "isle-expand"
   pub usage : program.usage.now ≡ codes "usage: isle-expand [--width N] [--stdin-name NAME] [--program NAME] [FILE ..]\n"
 
--- its own options: `--width` with a value
+-- its own options: `--width` and `--exclude`, with values
 pub record AreOwn (options : Options) : Type 0 where
   pub flags : map (λ flag. flag.now) options.flags.now ≡ []
-  pub settings : map (λ setting. setting.now) options.settings.now ≡ codes "--width" ∷ []
+  pub settings : map (λ setting. setting.now) options.settings.now ≡ codes "--width" ∷ codes "--exclude" ∷ []
 
 -- its own options, and that which asks for a program of a manifest
 pub record AreAll (options : Options) : Type 0 where
   pub flags : map (λ flag. flag.now) options.flags.now ≡ []
-  pub settings : map (λ setting. setting.now) options.settings.now ≡ codes "--width" ∷ codes "--program" ∷ []
+  pub settings : map (λ setting. setting.now) options.settings.now ≡ codes "--width" ∷ codes "--exclude" ∷ codes "--program" ∷ []
 
 -- a value of `--width` is one, where it is given
 abbrev pub IsWidthSetting : Option (List ℕ) → Type 0

@@ -7,7 +7,7 @@ ghost use Rattle.isle_expand.specs.Doing.{CutsTexts, EndsTexts, ExpandsTexts, Ex
 
 use crate::options::{PROGRAM, width_of};
 use crate::program::{Taken, put_program};
-use isle_cli::arguments::{Argument, Options};
+use isle_cli::arguments::{Argument, EXCLUDE_OPTION, Options};
 use isle_cli::failure::Failure;
 use isle_cli::program::report;
 use isle_cli::streams::{Streams, write_whole};
@@ -20,7 +20,7 @@ use std::io::Write;
 /// The options with that which asks for a program of a manifest.
 pub const OPTIONS: Options = Options {
     flags: &[],
-    settings: &["--width", NAME_OPTION],
+    settings: &["--width", EXCLUDE_OPTION, NAME_OPTION],
 };
 
 /// Inlines the extractors of a program of the nearest manifest, prints the result, and returns the

@@ -5,7 +5,7 @@ ghost use Rattle.isle_cli.specs.Arguments.{given_of};
 ghost use Rattle.isle_cli.specs.declared.failure.Failure.TheVariants.{Usage};
 ghost use Rattle.isle_expand.specs.Program.{AreOwn, GivesWidth, IsThis, given_width};
 
-use isle_cli::arguments::{Argument, Options, setting_of};
+use isle_cli::arguments::{Argument, EXCLUDE_OPTION, Options, setting_of};
 use isle_cli::failure::Failure;
 use isle_cli::program::Program;
 use isle_cli::version;
@@ -14,7 +14,8 @@ use isle_cli::words::{DEFAULT_WIDTH, parsed_width};
 /// This program.
 pub const PROGRAM: Program = Program {
     name: "isle-expand",
-    usage: "usage: isle-expand [--width N] [--stdin-name NAME] [--program NAME] [FILE ..]\n",
+    usage: "usage: isle-expand [--width N] [--exclude PATTERN] [--stdin-name NAME] [--program NAME] \
+            [FILE ..]\n",
     help: HELP,
     version: VERSION,
 };
@@ -24,7 +25,8 @@ pub const VERSION: &str = version!("isle-expand");
 
 /// The help.
 pub const HELP: &str = "\
-usage: isle-expand [--width N] [--stdin-name NAME] [--program NAME] [FILE ..]
+usage: isle-expand [--width N] [--exclude PATTERN] [--stdin-name NAME] [--program NAME]
+                   [FILE ..]
 
 Inlines every extractor of a complete ISLE program, and prints the result. Extractors, declarations
 that only they define, and comments are dropped. The result compiles to the same code, except in
@@ -38,6 +40,7 @@ folder and above it, or in the one folder that is given.
 
 Options:
   --width N          break lines that are wider than N bytes (78 by default)
+  --exclude PATTERN  leave out of folders what the pattern matches; may be repeated
   --stdin-name NAME  use NAME for standard input in messages
   --program NAME     expand the program NAME of isle.toml
   --                 treat all later arguments as files
@@ -67,7 +70,7 @@ pub fn own_options() -> Options
 {
     Options {
         flags: &[],
-        settings: &["--width"],
+        settings: &["--width", EXCLUDE_OPTION],
     }
 }
 

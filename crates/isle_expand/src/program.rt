@@ -14,7 +14,7 @@ ghost use Rattle.isle_expand.specs.Program.{AsAsked, AskForNothing, IsDiagnostic
 use crate::expansion::answer_to;
 use crate::manifests;
 use crate::options::{PROGRAM, own_options, this_program, width_of};
-use isle_cli::arguments::{Argument, Request, names_of, requested, stdin_name_of};
+use isle_cli::arguments::{Argument, Request, requested};
 use isle_cli::failure::Failure;
 use isle_cli::program::{Program, put, report, tell};
 use isle_cli::sources::{Source, Sources, read_sources};

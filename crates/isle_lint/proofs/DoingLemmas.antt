@@ -2,7 +2,7 @@
 use Rattle.std.proofs.Common.{◌≡◌, ℕ, List, Option, subst, true}
 use Rattle.std.specs.Io.KnownBytes.{Appends}
 use Rattle.isle_base_source.specs.Source.{Source}
-use Rattle.isle_cli.specs.Arguments.{Given, name_list, stdin_name}
+use Rattle.isle_cli.specs.Arguments.{Given}
 use Rattle.isle_cli.specs.Sources.{IsReadFrom}
 use Rattle.isle_cli.specs.Streams.{AppendsBeginning}
 use Rattle.isle_cli.specs.declared.program.Program.{Program}
@@ -19,20 +19,19 @@ report-asked given lints linted sources report are_lints same is =
     subst (λ ss. IsReport given (lints_on given) ss report) same chosen
 
 -- it is told
-pub report-told : (given : List Given) (program : Program) (names : List (List ℕ)) (stdin : List ℕ) (sources : List Source) (lines : List ℕ) (report : ReportNode) (status : ℕ) (input input' output output' faults faults' : Option (List ℕ))
-    → are_usable given ≡ true → IsProgram program → names ≡ name_list given → stdin ≡ stdin_name given
-    → IsReadFrom names stdin program input input' sources lines → IsReport given (lints_on given) sources report
+pub report-told : (given : List Given) (program : Program) (sources : List Source) (lines : List ℕ) (report : ReportNode) (status : ℕ) (input input' output output' faults faults' : Option (List ℕ))
+    → are_usable given ≡ true → IsProgram program
+    → IsReadFrom given program input input' sources lines → IsReport given (lints_on given) sources report
     → status ≡ told_status (is_empty lines) report.is_clean → Appends output output' report.text → AppendsBeginning faults faults' lines
     → Tells given status input input' output output' faults faults'
-report-told given program names stdin sources lines report status input input' output output' faults faults' usable is_program is_names is_stdin read is_report ends written begun =
-    let named = subst (λ ns. IsReadFrom ns stdin program input input' sources lines) is_names read in
+report-told given program sources lines report status input input' output output' faults faults' usable is_program read is_report ends written begun =
     record {
       usable = usable;
       program = program;
       is_program = is_program;
       sources = sources;
       lines = lines;
-      read = subst (λ n. IsReadFrom (name_list given) n program input input' sources lines) is_stdin named;
+      read = read;
       report = report;
       is_report = is_report;
       holds = (ends, written, begun);

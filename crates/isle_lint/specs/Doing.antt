@@ -6,7 +6,7 @@ use Rattle.isle_base_source.specs.declared.error.Error.{Error}
 use Rattle.isle_ast.specs.Tree.{Definition}
 use Rattle.isle_lint_core.specs.Finding.{Found}
 use Rattle.isle_lint_core.specs.declared.lint.Lint.{Lint}
-use Rattle.isle_cli.specs.Arguments.{Asked, Given, asked, help_asked, name_list, stdin_name, version_asked, work_asked}
+use Rattle.isle_cli.specs.Arguments.{Asked, Given, asked, help_asked, version_asked, work_asked}
 use Rattle.isle_cli.specs.Failure.{IsDiagnostic}
 use Rattle.isle_cli.specs.Sources.{IsReadFrom}
 use Rattle.isle_cli.specs.Streams.{AppendsBeginning}
@@ -47,13 +47,13 @@ IsProgram program =
 abbrev pub AreOptions : Options → Type 0
 AreOptions options =
     (map (λ flag. flag.now) options.flags.now ≡ codes "--all" ∷ [])
-    × (map (λ setting. setting.now) options.settings.now ≡ codes "--lint" ∷ codes "--allow" ∷ codes "--warn" ∷ codes "--deny" ∷ codes "--message-format" ∷ [])
+    × (map (λ setting. setting.now) options.settings.now ≡ codes "--lint" ∷ codes "--allow" ∷ codes "--warn" ∷ codes "--deny" ∷ codes "--message-format" ∷ codes "--exclude" ∷ [])
 
 -- its options, and those that ask for programs of a manifest
 abbrev pub AreAllOptions : Options → Type 0
 AreAllOptions options =
     (map (λ flag. flag.now) options.flags.now ≡ codes "--all" ∷ codes "--all-programs" ∷ [])
-    × (map (λ setting. setting.now) options.settings.now ≡ codes "--lint" ∷ codes "--allow" ∷ codes "--warn" ∷ codes "--deny" ∷ codes "--message-format" ∷ codes "--program" ∷ [])
+    × (map (λ setting. setting.now) options.settings.now ≡ codes "--lint" ∷ codes "--allow" ∷ codes "--warn" ∷ codes "--deny" ∷ codes "--message-format" ∷ codes "--exclude" ∷ codes "--program" ∷ [])
 
 -- the words ask this of the program
 abbrev pub Ask : List (List ℕ) → Option Asked → Type 0

@@ -8,7 +8,7 @@ ghost use Rattle.isle_lint.specs.Doing.{CutsPrograms, Ends, ExplainsEnd, TellsPr
 use crate::options::lints_of;
 use crate::program::{PROGRAM, status_of};
 use crate::programs::{Part, report_on_programs};
-use isle_cli::arguments::{Argument, Options};
+use isle_cli::arguments::{Argument, EXCLUDE_OPTION, Options};
 use isle_cli::failure::Failure;
 use isle_cli::program::{put, report};
 use isle_cli::sources::Source;
@@ -33,6 +33,7 @@ pub const OPTIONS: Options = Options {
         "--warn",
         "--deny",
         FORMAT_OPTION,
+        EXCLUDE_OPTION,
         NAME_OPTION,
     ],
 };

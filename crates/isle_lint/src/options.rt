@@ -21,8 +21,8 @@ pub const VERSION: &str = version!("isle-lint");
 /// The help.
 pub const HELP: &str = "\
 usage: isle-lint [--all] [--lint NAME] [--allow NAME] [--warn NAME] [--deny NAME]
-                 [--message-format FORMAT] [--stdin-name NAME] [--program NAME]
-                 [--all-programs] [FILE ..]
+                 [--message-format FORMAT] [--exclude PATTERN] [--stdin-name NAME]
+                 [--program NAME] [--all-programs] [FILE ..]
 
 Lints ISLE source: finds what the compiler accepts but is likely a mistake. For what it rejects, use
 isle-check.
@@ -42,6 +42,7 @@ Options:
   --deny NAME              enable a lint, and let its findings count, also after --warn;
                            may be repeated
   --message-format FORMAT  write findings as human (the default), json or github
+  --exclude PATTERN        leave out of folders what the pattern matches; may be repeated
   --stdin-name NAME        use NAME for standard input in messages
   --program NAME           lint this program of isle.toml; may be repeated
   --all-programs           lint all programs of isle.toml

@@ -13,7 +13,7 @@ ghost use Rattle.isle_lint.specs.Options.{are_usable};
 use crate::manifests;
 use crate::options::{HELP, VERSION, lints_of};
 use crate::report::report_on;
-use isle_cli::arguments::{Argument, Options, Request, names_of, requested, stdin_name_of};
+use isle_cli::arguments::{Argument, EXCLUDE_OPTION, Options, Request, requested};
 use isle_cli::failure::Failure;
 use isle_cli::program::{Program, put, report, tell};
 use isle_cli::sources::read_sources;
@@ -27,7 +27,8 @@ use std::io::{Read, Write};
 pub const PROGRAM: Program = Program {
     name: "isle-lint",
     usage: "usage: isle-lint [--all] [--lint NAME] [--allow NAME] [--warn NAME] [--deny NAME] \
-            [--message-format FORMAT] [--stdin-name NAME] [--program NAME] [--all-programs] [FILE ..]\n",
+            [--message-format FORMAT] [--exclude PATTERN] [--stdin-name NAME] [--program NAME] \
+            [--all-programs] [FILE ..]\n",
     help: HELP,
     version: VERSION,
 };
@@ -35,7 +36,7 @@ pub const PROGRAM: Program = Program {
 /// Its options.
 pub const OPTIONS: Options = Options {
     flags: &["--all"],
-    settings: &["--lint", "--allow", "--warn", "--deny", FORMAT_OPTION],
+    settings: &["--lint", "--allow", "--warn", "--deny", FORMAT_OPTION, EXCLUDE_OPTION],
 };
 
 /// Lints a program, writes the findings to the output, and returns the exit status.

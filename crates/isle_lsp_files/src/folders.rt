@@ -3,12 +3,12 @@
 use crate::disk::{Disk, File, View};
 use crate::documents::{Document, document_at};
 use isle_cli::folders::files_of;
+use isle_cli::patterns::covers;
 use isle_cli::sources::{SourceFault, read_file};
 use isle_lsp_escapes::uris::{path_of, uri_of};
 use isle_program_manifest::disk::{NOBODY, find, paths_of};
 use isle_program_manifest::manifest::{Manifest, ManifestFault, ProgramFiles, manifest_of};
 use isle_program_manifest::membership::has_file;
-use isle_program_manifest::patterns::covers;
 use std::alloc::{AllocError, Global};
 use std::collections::HashMap;
 use std::fs::{Files, canonicalize};
@@ -303,7 +303,7 @@ fn read_folder<R: Files + AllocGlobal + Clone + Drop>(
 ) -> Result<Vec<File>, AllocError> {
     let mut files = Vec::new(rt.alloc());
     let mut faults = String::new(rt.alloc());
-    for path in files_of(rt, &NOBODY, folder, &mut faults)? {
+    for path in files_of(rt, &NOBODY, folder, &[], &mut faults)? {
         add_file(rt, path.as_str(), &mut files)?;
     }
     Ok(files)

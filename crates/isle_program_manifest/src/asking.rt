@@ -5,7 +5,9 @@ ghost use Rattle.isle_cli.specs.declared.failure.Failure.TheVariants.{Memory, Us
 
 use crate::choice::{ChoiceFault, Chosen, choose};
 use crate::membership::add_all;
-use isle_cli::arguments::{Argument, Options, Request, has_flag, names_of, requested, setting_of};
+use isle_cli::arguments::{
+    Argument, EXCLUDE_OPTION, Options, Request, has_flag, names_of, requested, setting_of,
+};
 use isle_cli::failure::Failure;
 use isle_cli::program::Program;
 use isle_cli::sources::{Source, Sources, fault_line, read_file};
@@ -38,7 +40,8 @@ pub fn asked_programs(alloc: Global, options: &Options, words: &[String]) -> Opt
 /// The programs that the arguments ask for, of the nearest manifest at or above the folder that
 /// they name, or the current one.
 ///
-/// It fails with `Usage` if they name more than one folder, and with `Memory`.
+/// It fails with `Usage` if they name more than one folder or exclude anything, which is for a
+/// manifest to say, and with `Memory`.
 pub fn chosen_programs<R: Files + Env + AllocGlobal + Clone + Drop>(
     rt: &R,
     tool: &Program,
@@ -46,6 +49,9 @@ pub fn chosen_programs<R: Files + Env + AllocGlobal + Clone + Drop>(
 ) -> Result<Result<Vec<Chosen>, ChoiceFault>, Failure>
     ensures { IfErr result (λ failure. (failure ≡ Memory) ⊎ (failure ≡ Usage)) }
 {
+    if setting_of(arguments, EXCLUDE_OPTION).is_some() {
+        return Err(Failure::Usage);
+    }
     let folders = names_of(rt.alloc(), arguments)?;
     let names = program_names(rt.alloc(), arguments)?;
     match folders.as_slice() {

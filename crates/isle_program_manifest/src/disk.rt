@@ -2,8 +2,8 @@
 
 use crate::manifest::{FILE_NAME, ProgramFiles};
 use crate::membership::add_all;
-use crate::patterns::covers;
 use isle_cli::folders::files_of;
+use isle_cli::patterns::covers;
 use isle_cli::program::Program;
 use std::alloc::AllocError;
 use std::fs::Files;
@@ -83,11 +83,11 @@ fn files_at<R: Files + AllocGlobal + Clone + Drop>(
 ) -> Result<Vec<String>, AllocError> {
     let entry = entry.trim_start_matches("./").trim_end_matches('/');
     match entry.split_once('*') {
-        None => files_of(rt, &NOBODY, joined(rt, folder, entry)?.as_str(), faults),
+        None => files_of(rt, &NOBODY, joined(rt, folder, entry)?.as_str(), &[], faults),
         Some((front, _)) => {
             let above = front.rsplit_once('/').map_or("", |parts| parts.0);
             let top = joined(rt, folder, above)?;
-            let files = files_of(rt, &NOBODY, top.as_str(), faults)?;
+            let files = files_of(rt, &NOBODY, top.as_str(), &[], faults)?;
             covered(rt, folder, entry, files)
         }
     }

@@ -16,7 +16,7 @@
 //! | find the manifest of a folder, which is at or above it | `disk::find` |
 //! | get the programs of its text, or its first mistake | `manifest::manifest_of` |
 //! | list the files of a program, and the entries that stand for none | `disk::paths_of` |
-//! | know whether an entry stands for a path, also of a new file | `patterns::covers` |
+//! | know whether an entry stands for a path, also of a new file | `isle_cli::patterns::covers` |
 //! | know which of several programs have a file | `membership::programs_with` |
 //! | list the files of all programs that have a file | `membership::union_with` |
 //! | choose programs by name, for a command line | `choice::choose` |
@@ -32,6 +32,5 @@ pub mod disk;
 pub mod manifest;
 pub mod membership;
 mod mistakes;
-pub mod patterns;
 mod places;
 mod values;

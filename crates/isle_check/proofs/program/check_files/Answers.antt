@@ -7,13 +7,13 @@ use Rattle.isle_check.specs.ReportView.{report_of}
 
 pub returns-in-Ok-clause-ok : goal.returns-in-Ok-clause-ok
 returns-in-Ok-clause-ok g c =
-    told_whole (map given_of c.args.arguments.now) _ _ _ _ _ (report_of c.in_ok-report.report) c.status_of.result _ _ _ _ _ _
-    (search (tests, rules)) (search (tests, rules)) (search (tests, rules)) (search (tests, rules)) c.in_ok-sources.ensures (search (tests, rules))
+    told_whole (map given_of c.args.arguments.now) _ _ _ (report_of c.in_ok-report.report) c.status_of.result _ _ _ _ _ _
+    (search (tests, rules)) (search (tests, rules)) c.in_ok-sources.ensures (search (tests, rules))
     (search (tests, rules)) c.status_of.ensures (search (tests, rules))
 
 pub returns-then-not-is_empty-clause-ok : goal.returns-then-not-is_empty-clause-ok
 returns-then-not-is_empty-clause-ok g c =
     let lines = c.in_ok-sources.sources.faults in
     let some : 0 < length (string_bytes lines) = grind (arith, common_steps, c.is_empty.ensures, c.if-not-is_empty.true, lines.bytes.ok.0) in
-    told_faults (map given_of c.args.arguments.now) _ _ _ _ (string_bytes lines) _ _ _ _ _ (search (tests, rules)) (search (tests, rules)) (search (tests, rules)) (search (tests, rules))
+    told_faults (map given_of c.args.arguments.now) _ _ (string_bytes lines) _ _ _ _ _ (search (tests, rules)) (search (tests, rules))
     c.in_ok-sources.ensures some (rw c.as_bytes.ensures.value at c.write_whole.ensures.part)

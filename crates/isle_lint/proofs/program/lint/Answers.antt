@@ -19,7 +19,7 @@ returns-clause-ok g c =
     report-asked given _ _ sources told (search (tests, rules)) (search (tests, rules)) c.in_ok-told.ensures.ok in
     elim c.if-not-is_read.branch [
       | then-not-is_read w ↦ search (tests, rules, report)
-      | else-not-is_read w ↦ rw w.streams-is (report-told given _ _ _ sources lines told _ _ _ _ _ _ _
-          (search (tests, rules)) (search (tests, rules)) (search (tests, rules)) (search (tests, rules)) c.in_ok-sources.ensures report
+      | else-not-is_read w ↦ rw w.streams-is (report-told given _ sources lines told _ _ _ _ _ _ _
+          (search (tests, rules)) (search (tests, rules)) c.in_ok-sources.ensures report
           (search (tests, rules)) (search (tests, rules)) (none_begun _ lines))
     ]
