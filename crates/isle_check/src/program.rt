@@ -28,7 +28,7 @@ pub const PROGRAM: Program = Program {
     name: "isle-check",
     usage: "usage: isle-check [--allow KIND] [--warn KIND] [--deny KIND] \
             [--message-format FORMAT] [--exclude PATTERN] [--stdin-name NAME] [--program NAME] \
-            [FILE ..]\n",
+            [--all-programs] [FILE ..]\n",
     help: HELP,
     version: VERSION,
 };
