@@ -425,7 +425,7 @@ fn declares_twice(alloc: Global, texts: &[FolderText]) -> Result<bool, AllocErro
     let mut folders = HashMap::new(alloc);
     for text in texts {
         let folder = folder_of(text.path);
-        for line in text.text.lines() {
+        for line in text.text.as_bytes().split(|byte| *byte == b'\n') {
             if let Some(name) = declared_name(line) {
                 if !is_declared_in(&mut folders, name, folder)? {
                     return Ok(true);
@@ -453,9 +453,10 @@ fn is_declared_in<'a>(
     }
 }
 
-fn declared_name(line: &str) -> Option<&str> {
-    let words = line.strip_prefix("(decl ")?;
-    let word = words
+fn declared_name(line: &[u8]) -> Option<&str> {
+    let words = line.strip_prefix(b"(decl ")?;
+    let word = str::from_utf8(words)
+        .ok()?
         .split_whitespace()
         .find(|word| !DECLARATION_WORDS.contains(word))?;
     word.split(['(', ')', ';']).next()
