@@ -43,8 +43,8 @@ pub struct Answer {
 
 /// The print of the expansion of a program, and its warnings.
 ///
-/// It fails with `Refused` if a text is refused, an expansion would nest too deeply, or an extractor
-/// is misused, and with `Memory`.
+/// It fails with `Refused` if a text is refused, an expansion would nest too deeply, or an
+/// extractor is misused, and with `Memory`.
 pub fn answer_to(alloc: Global, sources: &[Source], width: usize) -> Result<Answer, Failure>
     ensures print { IfOk result (λ answer. IsPrintOfExpansion width (map source_of sources.now)
         (string_bytes answer.print)) }

@@ -14,8 +14,8 @@ use isle_cli::words::{DEFAULT_WIDTH, parsed_width};
 /// This program.
 pub const PROGRAM: Program = Program {
     name: "isle-expand",
-    usage: "usage: isle-expand [--width N] [--exclude PATTERN] [--stdin-name NAME] [--program NAME] \
-            [FILE ..]\n",
+    usage: "usage: isle-expand [--width N] [--exclude PATTERN] [--stdin-name NAME] \
+            [--program NAME] [FILE ..]\n",
     help: HELP,
     version: VERSION,
 };

@@ -52,9 +52,9 @@ pub const OPTIONS: Options = Options {
 ///
 /// With status 3 standard error gets a line for each.
 ///
-/// With status 0, 1 and 3 the output gets a line for each finding and each text that does not parse,
-/// in order of file and position, in the format that is asked for, and for people a line that
-/// counts them; with status 5 a beginning of that. With status 2 and 4 it gets nothing.
+/// With status 0, 1 and 3 the output gets a line for each finding and each text that does not
+/// parse, in order of file and position, in the format that is asked for, and for people a line
+/// that counts them; with status 5 a beginning of that. With status 2 and 4 it gets nothing.
 ///
 /// Errors of standard error do not change the status.
 pub fn run<R: Files + AllocGlobal + Clone + Drop, I: Read, W: Write, E: Write>(

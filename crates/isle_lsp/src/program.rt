@@ -35,9 +35,9 @@ A language server for ISLE. An editor starts it, and speaks the Language Server 
 its standard input and output.
 
 Options:
-  --stdio    accepted for compatibility; stdio is the only transport
-  --help     print this help
-  --version  print the version
+  --stdio        accepted for compatibility; stdio is the only transport
+  -h, --help     print this help
+  -V, --version  print the version
 
 Exit status:
   0  the editor sent `shutdown` and then `exit`

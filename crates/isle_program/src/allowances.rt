@@ -8,7 +8,8 @@ ghost use Rattle.isle_lint_core.specs.Finding.{finding_of};
 ghost use Rattle.isle_lint_core.specs.Lint.{all_lints};
 ghost use Rattle.isle_program.specs.Allowances.{AllowEach, AreAllowances, AreOff, Comments};
 ghost use Rattle.isle_program.specs.Allowances.{Passes, after_semicolons, allows, begins_with};
-ghost use Rattle.isle_program.specs.Allowances.{allowance_of, is_allowed, is_off, off_at, one_allows};
+ghost use Rattle.isle_program.specs.Allowances.{allowance_of, is_allowed, is_off, off_at};
+ghost use Rattle.isle_program.specs.Allowances.{one_allows};
 ghost use Rattle.isle_program.specs.Openings.{Ascend};
 
 use crate::openings::{Opening, openings};

@@ -1,4 +1,4 @@
-use Rattle.std.proofs.Common.{◌≡◌, Some, codes, unwrap_or, ◌∙◌, sym, ap, refl}
+use Rattle.std.proofs.Common.{◌≡◌, Some, unwrap_or, ◌∙◌, sym, ap, refl}
 use Rattle.serde_json.specs.Data.{null}
 use Rattle.serde_json.specs.Read.{read}
 use Rattle.serde_json.proofs.OnLiterals.{serde_json_on_literals}

@@ -1,6 +1,6 @@
 use Rattle.std.proofs.Common.{ℕ, ap, map, subst, sym, ◌∙◌}
 use Rattle.isle_lsp_features.specs.Programs.{text_of}
-use Rattle.isle_lsp_features.specs.Gathered.{IsGathered, bytes_in, kept_of, refused_in}
+use Rattle.isle_lsp_features.specs.Gathered.{IsGathered, kept_of, refused_in}
 use Rattle.isle_lsp_features.proofs.Renewing.{gathered-of}
 use Rattle.isle_lsp_features.proofs.gathered.Gathered.answer.Goals as goal
 
