@@ -29,6 +29,7 @@
 pub mod asking;
 pub mod choice;
 pub mod disk;
+pub mod levels;
 pub mod manifest;
 pub mod membership;
 mod mistakes;
