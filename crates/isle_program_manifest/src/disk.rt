@@ -21,8 +21,8 @@ pub const NOBODY: Program = Program {
 pub struct Listed {
     /// Their paths, in the order of the list, each once.
     pub paths: Vec<String>,
-    /// The entries of the list that stand for no file, whether it is left out or not, or for a folder
-    /// that can't be read whole.
+    /// The entries of the list that stand for no file, whether it is left out or not, or for a
+    /// folder that can't be read whole.
     pub missing: Vec<String>,
 }
 
@@ -46,8 +46,9 @@ pub fn find<R: Files + AllocGlobal + Clone + Drop>(
     Ok(None)
 }
 
-/// The files of a program of a manifest in this folder, without those that are left out. They are named by paths that begin with
-/// the folder and `/`; an empty folder is the current one, and then the paths are relative.
+/// The files of a program of a manifest in this folder, without those that are left out. They are
+/// named by paths that begin with the folder and `/`; an empty folder is the current one, and then
+/// the paths are relative.
 pub fn paths_of<R: Files + AllocGlobal + Clone + Drop>(
     rt: &R,
     folder: &str,
