@@ -105,7 +105,7 @@ fn bare_entries(alloc: Global, entries: &[String]) -> Result<Vec<&str>, AllocErr
 /// The path of a file relative to the folder that its path begins with.
 fn inside<'a>(folder: &str, path: &'a str) -> &'a str {
     let inside = path.strip_prefix(folder).unwrap_or(path);
-    inside.trim_start_matches("./").trim_start_matches('/')
+    inside.trim_start_matches('/').trim_start_matches("./")
 }
 
 /// Returns whether a path leads to a file; `false` if it can't be told.
