@@ -17,7 +17,7 @@ told-status n = cases n (n == 0) refl
 
 module _ (given : List Given) (output output' : Option (List ℕ)) where
   told-ends : (status : ℕ) → TellsPrograms given status output output' → status ≤ 1
-  told-ends status told = subst (λ n. n ≤ 1) (sym told.ends) (told-status told.report.errors)
+  told-ends status told = subst (λ n. n ≤ 1) (sym told.1.ends) (told-status told.1.report.errors)
 
   pub ends-statuses : (status : ℕ) → Ends given status output output' → status ≤ 5
   ends-statuses status (inl (inl two, _)) = omega arith

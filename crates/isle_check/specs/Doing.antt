@@ -15,6 +15,7 @@ use Rattle.isle_check.specs.declared.options.TheConstants.{HELP, VERSION}
 use Rattle.isle_check.specs.Options.{are_usable}
 use Rattle.isle_check.specs.Programs.{IsProgramsReport}
 use Rattle.isle_check.specs.Report.{IsReport, ReportNode}
+use Rattle.isle_program_manifest.specs.Levels.{NameLevel, with_levels}
 
 -- the status of a report with this many errors
 abbrev pub told_status : ℕ → ℕ
@@ -109,8 +110,9 @@ CutsAsked help_asked input input' output output' = Keeps input input' × Appends
 CutsAsked version_asked input input' output output' = Keeps input input' × AppendsBeginning output output' VERSION.now
 CutsAsked (work_asked given) input input' output output' = Cuts given input input' output output'
 
--- Of some programs, with their texts, this is told, and this is the status.
-pub record TellsPrograms (given : List Given) (status : ℕ) (output output' : Option (List ℕ)) : Type 0 where
+-- Of some programs, with their texts, this is told as the arguments say, and this is the status.
+pub record TellsReport (given : List Given) (status : ℕ) (output output' : Option (List ℕ)) : Type 0 where
+  pub usable : are_usable given ≡ true
   pub sources : List Source
   pub parts : List (List Bool)
   pub report : ReportNode
@@ -119,18 +121,37 @@ pub record TellsPrograms (given : List Given) (status : ℕ) (output output' : O
   pub written : Appends output output' report.text
 
 -- the output got a beginning of it
-pub record CutsPrograms (given : List Given) (output output' : Option (List ℕ)) : Type 0 where
+pub record CutsReport (given : List Given) (output output' : Option (List ℕ)) : Type 0 where
+  pub usable : are_usable given ≡ true
   pub sources : List Source
   pub parts : List (List Bool)
   pub report : ReportNode
   pub is_report : IsProgramsReport given sources parts report
   pub begun : AppendsBeginning output output' report.text
 
+-- this is told as the arguments say, and the levels of some manifest, whose names are those of kinds
+abbrev pub TellsPrograms : List Given → ℕ → (output output' : Option (List ℕ)) → Type 0
+TellsPrograms given status output output' = (levels : List NameLevel) × TellsReport (with_levels given levels) status output output'
+
+abbrev pub CutsPrograms : List Given → (output output' : Option (List ℕ)) → Type 0
+CutsPrograms given output output' = (levels : List NameLevel) × CutsReport (with_levels given levels) output output'
+
+-- a file can't be read, and nothing is told; or what is in the programs is told
+abbrev pub EndsReport : List Given → ℕ → (output output' : Option (List ℕ)) → Type 0
+EndsReport given status output output' = ((status ≡ 3) × Keeps output output') ⊎ TellsReport given status output output'
+
 -- nothing is told of programs, since there is no manifest, it has a mistake, or a file can't be read; or what is in them is told
 abbrev pub Ends : List Given → ℕ → (output output' : Option (List ℕ)) → Type 0
 Ends given status output output' = ((status ≡ 2 ⊎ status ≡ 3) × Keeps output output') ⊎ TellsPrograms given status output output'
 
 -- what a failure says of the output
+abbrev pub ExplainsReport : Failure → List Given → (output output' : Option (List ℕ)) → Type 0
+ExplainsReport (failures.Refused text) given output output' = ⊥
+ExplainsReport failures.Usage given output output' = Keeps output output'
+ExplainsReport failures.Input given output output' = ⊥
+ExplainsReport failures.Memory given output output' = Keeps output output'
+ExplainsReport failures.Output given output output' = CutsReport given output output'
+
 abbrev pub ExplainsEnd : Failure → List Given → (output output' : Option (List ℕ)) → Type 0
 ExplainsEnd (failures.Refused text) given output output' = ⊥
 ExplainsEnd failures.Usage given output output' = Keeps output output'

@@ -1,9 +1,10 @@
 -- Which kinds of findings a command line allows.
-use Rattle.std.specs.Prelude.{ℕ, List, [], ◌∷◌, Bool, false, true, not, ◌&&◌, ◌||◌, codes, if◌then◌else◌}
+use Rattle.std.specs.Prelude.{ℕ, List, [], ◌∷◌, Bool, false, true, not, ◌&&◌, ◌||◌, Option, None, Some, codes, if◌then◌else◌}
 use Rattle.std.specs.List.{list_all, list_any}
 use Rattle.std.specs.Str.{bytes_eq}
 use Rattle.isle_cli.specs.Arguments.{Given, flag_given, setting_given, name_given}
 use Rattle.isle_check_core.specs.Kinds.{is_kind}
+use Rattle.isle_program_manifest.specs.Levels.{NameLevel}
 use Rattle.isle_program_messages.specs.Formats.{is_format_usable}
 
 -- an argument is this option with this kind
@@ -30,6 +31,11 @@ is_kind_option option = bytes_eq option (codes "--allow") || bytes_eq option (co
 
 abbrev pub is_kind_usable : (option value : List ℕ) → Bool
 is_kind_usable option value = not (is_kind_option option) || is_kind value
+
+-- the first name among levels that is no kind's
+abbrev pub unknown_kind : List NameLevel → Option (List ℕ)
+unknown_kind [] = None
+unknown_kind (l ∷ levels) = if is_kind l.name then unknown_kind levels else Some l.name
 
 -- the values of `--message-format` are names of formats
 abbrev pub is_usable : Given → Bool

@@ -42,7 +42,7 @@ fn run_words<R: Files + Env + AllocGlobal + Clone + Drop, I: Read, W: Write, E: 
         return print_programs(rt, &arguments, streams);
     }
     match asked_programs(rt.alloc(), &OPTIONS, words) {
-        Some(arguments) => run_programs(rt, &arguments, streams),
+        Some(arguments) => run_programs(rt, arguments, streams),
         None => run(rt, words, streams),
     }
 }

@@ -1,13 +1,17 @@
 //! The command line: the help, and the kinds of findings that are allowed.
 
 ghost use Rattle.std.specs.Prelude.{◌≡◌, codes, map};
+ghost use Rattle.std.specs.Option.{option_copied};
 ghost use Rattle.isle_cli.specs.Arguments.{given_of};
 ghost use Rattle.isle_check.specs.Options.{are_usable, counts_after, counts_as_error, is_allowed};
 ghost use Rattle.isle_check.specs.Options.{is_kind_option, is_kind_usable, is_naming, is_usable};
+ghost use Rattle.isle_check.specs.Options.{unknown_kind};
+ghost use Rattle.isle_program_manifest.specs.Levels.{name_level_of};
 
 use isle_check_core::is_kind;
 use isle_cli::arguments::Argument;
 use isle_cli::version;
+use isle_program_manifest::levels::NameLevel;
 use isle_program_messages::format::is_format_usable;
 
 /// The version.
@@ -27,7 +31,9 @@ The errors come in groups. Those of a group are reported only if no earlier grou
 warnings only if there is no error. Lines that begin with note: belong to the error before them.
 
 With --program or --all-programs, programs of the nearest isle.toml are checked, each by itself. It
-is looked for in the current folder and above it, or in the one folder that is given.
+is looked for in the current folder and above it, or in the one folder that is given. Its table
+[lints.isle-check] has a level for each of some kinds: allow, warn or deny, as the options of these
+names. An option that names a kind takes precedence over its level.
 
 Options:
   --allow KIND             leave out findings of this kind; may be repeated
@@ -132,6 +138,18 @@ Exit status:
   4  out of memory
   5  the output cannot be written
 ";
+
+/// Returns the first name among levels that is no kind's.
+pub fn unknown_kind(levels: &[NameLevel]) -> Option<&str>
+    ensures { option_copied result ≡ unknown_kind (map name_level_of levels.now) }
+{
+    for level in levels {
+        if !is_kind(level.name.as_str()) {
+            return Some(level.name.as_str());
+        }
+    }
+    None
+}
 
 /// Returns whether each option for kinds names one, and each `--message-format` a format.
 pub fn are_usable(arguments: &[Argument]) -> bool

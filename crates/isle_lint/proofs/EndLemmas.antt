@@ -18,7 +18,7 @@ module _ (given : List Given) (output output' : Option (List ℕ)) where
   told-ends : (status : ℕ) → TellsPrograms given status output output' → (status ≤ 1) ⊎ (status ≡ 3)
   told-ends status told =
       let P : ℕ → Type 0 = λ n. (n ≤ 1) ⊎ (n ≡ 3) in
-      subst P (sym told.ends) (told-status told.is_read told.report.is_clean)
+      subst P (sym told.1.ends) (told-status told.1.is_read told.1.report.is_clean)
 
   pub ends-statuses : (status : ℕ) → Ends given status output output' → status ≤ 5
   ends-statuses status (inl (inl two, _)) = omega arith

@@ -15,6 +15,7 @@ use Rattle.isle_cli.specs.declared.failure.Failure.{Failure}
 use Rattle.isle_cli.specs.declared.failure.Failure.TheVariants as failures
 use Rattle.isle_lint.specs.Options.{are_usable, lints_on}
 use Rattle.isle_program.specs.Reading.{IsReading}
+use Rattle.isle_program_manifest.specs.Levels.{NameLevel, with_levels}
 use Rattle.isle_cli.specs.declared.arguments.Options.{Options}
 use Rattle.isle_cli.specs.declared.program.Program.{Program}
 use Rattle.isle_lint.specs.declared.options.TheConstants.{HELP, VERSION}
@@ -122,8 +123,10 @@ CutsAsked help_asked input input' output output' = Keeps input input' × Appends
 CutsAsked version_asked input input' output output' = Keeps input input' × AppendsBeginning output output' VERSION.now
 CutsAsked (work_asked given) input input' output output' = Cuts given input input' output output'
 
--- Of some programs, with their texts, this is told, and this is the status; all of their files could be read, or not.
-pub record TellsPrograms (given : List Given) (status : ℕ) (output output' : Option (List ℕ)) : Type 0 where
+-- Of some programs, with their texts, this is told as the arguments say, and this is the status; all of their files could
+-- be read, or not.
+pub record TellsReport (given : List Given) (status : ℕ) (output output' : Option (List ℕ)) : Type 0 where
+  pub usable : are_usable given ≡ true
   pub sources : List Source
   pub parts : List Part
   pub report : ReportNode
@@ -133,18 +136,33 @@ pub record TellsPrograms (given : List Given) (status : ℕ) (output output' : O
   pub written : Appends output output' report.text
 
 -- the output got a beginning of it
-pub record CutsPrograms (given : List Given) (output output' : Option (List ℕ)) : Type 0 where
+pub record CutsReport (given : List Given) (output output' : Option (List ℕ)) : Type 0 where
+  pub usable : are_usable given ≡ true
   pub sources : List Source
   pub parts : List Part
   pub report : ReportNode
   pub is_report : IsProgramsReport given (lints_on given) sources parts report
   pub begun : AppendsBeginning output output' report.text
 
+-- this is told as the arguments say, and the levels of some manifest, whose names are those of lints
+abbrev pub TellsPrograms : List Given → ℕ → (output output' : Option (List ℕ)) → Type 0
+TellsPrograms given status output output' = (levels : List NameLevel) × TellsReport (with_levels given levels) status output output'
+
+abbrev pub CutsPrograms : List Given → (output output' : Option (List ℕ)) → Type 0
+CutsPrograms given output output' = (levels : List NameLevel) × CutsReport (with_levels given levels) output output'
+
 -- nothing is told of programs, since there is no manifest, or it has a mistake; or what is in them is told
 abbrev pub Ends : List Given → ℕ → (output output' : Option (List ℕ)) → Type 0
 Ends given status output output' = ((status ≡ 2 ⊎ status ≡ 3) × Keeps output output') ⊎ TellsPrograms given status output output'
 
 -- what a failure says of the output
+abbrev pub ExplainsReport : Failure → List Given → (output output' : Option (List ℕ)) → Type 0
+ExplainsReport (failures.Refused text) given output output' = ⊥
+ExplainsReport failures.Usage given output output' = Keeps output output'
+ExplainsReport failures.Input given output output' = ⊥
+ExplainsReport failures.Memory given output output' = Keeps output output'
+ExplainsReport failures.Output given output output' = CutsReport given output output'
+
 abbrev pub ExplainsEnd : Failure → List Given → (output output' : Option (List ℕ)) → Type 0
 ExplainsEnd (failures.Refused text) given output output' = ⊥
 ExplainsEnd failures.Usage given output output' = Keeps output output'

@@ -1,11 +1,12 @@
 -- Which lints a command line turns on.
-use Rattle.std.specs.Prelude.{ℕ, List, [], ◌∷◌, Bool, false, true, not, ◌&&◌, ◌||◌, codes, filter, if◌then◌else◌}
+use Rattle.std.specs.Prelude.{ℕ, List, [], ◌∷◌, Bool, false, true, not, ◌&&◌, ◌||◌, Option, None, Some, codes, filter, if◌then◌else◌}
 use Rattle.std.specs.List.{find, list_all, list_any}
 use Rattle.std.specs.Option.{is_some}
 use Rattle.std.specs.Str.{bytes_eq}
 use Rattle.isle_cli.specs.Arguments.{Given, flag_given, setting_given, name_given, gives_flag}
 use Rattle.isle_lint_core.specs.Lint.{all_lints, is_default, name}
 use Rattle.isle_lint_core.specs.declared.lint.Lint.{Lint}
+use Rattle.isle_program_manifest.specs.Levels.{NameLevel}
 use Rattle.isle_program_messages.specs.Formats.{is_format_usable}
 
 -- an option with a value names a lint
@@ -49,9 +50,16 @@ abbrev pub is_lint_option : List ℕ → Bool
 is_lint_option option =
     bytes_eq option (codes "--lint") || bytes_eq option (codes "--allow") || bytes_eq option (codes "--warn") || bytes_eq option (codes "--deny")
 
+abbrev pub is_lint : List ℕ → Bool
+is_lint word = is_some (find (λ lint. bytes_eq (name lint) word) all_lints)
+
 abbrev pub is_lint_usable : (option value : List ℕ) → Bool
-is_lint_usable option value =
-    not (is_lint_option option) || is_some (find (λ lint. bytes_eq (name lint) value) all_lints)
+is_lint_usable option value = not (is_lint_option option) || is_lint value
+
+-- the first name among levels that is no lint's
+abbrev pub unknown_lint : List NameLevel → Option (List ℕ)
+unknown_lint [] = None
+unknown_lint (l ∷ levels) = if is_lint l.name then unknown_lint levels else Some l.name
 
 -- that of `--message-format` is the name of a format
 abbrev pub is_usable : Given → Bool

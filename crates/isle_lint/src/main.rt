@@ -21,7 +21,7 @@ fn main(rt: HostRuntime) -> ExitCode {
     let mut streams = Streams::new(rt.stdin(), rt.stdout(), rt.stderr());
     let status = match taken_words(&rt) {
         Ok(words) => match asked_programs(rt.alloc(), &OPTIONS, &words) {
-            Some(arguments) => run_programs(&rt, &arguments, &mut streams),
+            Some(arguments) => run_programs(&rt, arguments, &mut streams),
             None => run(&rt, &words, &mut streams),
         },
         Err(failure) => report_failure(&PROGRAM, &failure, &mut streams.faults),

@@ -3,9 +3,10 @@
 ghost use Rattle.std.specs.Prelude.{◌≡◌, ◌≤◌, ◌⊎◌, IfErr, IfOk, map};
 ghost use Rattle.std.specs.Io.KnownBytes.{Keeps};
 ghost use Rattle.isle_cli.specs.Arguments.{given_of};
-ghost use Rattle.isle_lint.specs.Doing.{CutsPrograms, Ends, ExplainsEnd, TellsPrograms};
+ghost use Rattle.isle_lint.specs.Doing.{CutsPrograms, CutsReport, Ends, ExplainsEnd};
+ghost use Rattle.isle_lint.specs.Doing.{ExplainsReport, TellsPrograms, TellsReport};
 
-use crate::options::lints_of;
+use crate::options::{are_usable, lints_of, unknown_lint};
 use crate::program::{PROGRAM, status_of};
 use crate::programs::{Part, report_on_programs};
 use isle_cli::arguments::{Argument, EXCLUDE_OPTION, Options};
@@ -14,9 +15,10 @@ use isle_cli::program::{put, report};
 use isle_cli::sources::Source;
 use isle_cli::streams::{Streams, write_whole};
 use isle_program_manifest::asking::{
-    ALL_OPTION, NAME_OPTION, chosen_programs, read_texts, tell_choice,
+    ALL_OPTION, NAME_OPTION, asked_choice, read_texts, tell_choice,
 };
-use isle_program_manifest::choice::{Chosen, missing_notes};
+use isle_program_manifest::choice::{Choice, Chosen, missing_notes, unknown_level};
+use isle_program_manifest::levels::{Tool, add_levels};
 use isle_program_manifest::membership::has_file;
 use isle_program_messages::format::FORMAT_OPTION;
 use std::alloc::{AllocError, Global};
@@ -42,22 +44,24 @@ pub const OPTIONS: Options = Options {
 /// returns the exit status, which is that of `run`; it is 2 for a manifest with a mistake, and 3
 /// without a manifest.
 ///
-/// No contract can say which files there are. For those that are read it says what is written.
+/// The levels that the manifest has for this program count as options, but for those whose lint an
+/// option names. No contract can say which files there are, and what the manifest says. For the
+/// levels and the texts that are read it says what is written.
 pub fn run_programs<R: Files + Env + AllocGlobal + Clone + Drop, I, W: Write, E: Write>(
     rt: &R,
-    arguments: &[Argument],
+    arguments: Vec<Argument>,
     streams: &mut Streams<I, W, E>,
 ) -> u8
     ensures statuses { result ≤ 5 }
-    ensures done { result ≤ 1 → TellsPrograms (map given_of arguments.now) result
+    ensures done { result ≤ 1 → TellsPrograms (map given_of arguments.items) result
         (W.contents streams.old.output) (W.contents streams.new.output) }
     ensures unread { result ≡ 3
         → Keeps (W.contents streams.old.output) (W.contents streams.new.output)
-        ⊎ TellsPrograms (map given_of arguments.now) result
+        ⊎ TellsPrograms (map given_of arguments.items) result
         (W.contents streams.old.output) (W.contents streams.new.output) }
     ensures unwritten { result ≡ 2 ⊎ result ≡ 4
         → Keeps (W.contents streams.old.output) (W.contents streams.new.output) }
-    ensures cut { result ≡ 5 → CutsPrograms (map given_of arguments.now)
+    ensures cut { result ≡ 5 → CutsPrograms (map given_of arguments.items)
         (W.contents streams.old.output) (W.contents streams.new.output) }
 {
     match lint_programs(rt, arguments, streams) {
@@ -68,25 +72,60 @@ pub fn run_programs<R: Files + Env + AllocGlobal + Clone + Drop, I, W: Write, E:
 
 fn lint_programs<R: Files + Env + AllocGlobal + Clone + Drop, I, W: Write, E: Write>(
     rt: &R,
+    arguments: Vec<Argument>,
+    streams: &mut Streams<I, W, E>,
+) -> Result<u8, Failure>
+    ensures ok { IfOk result (λ status. Ends (map given_of arguments.items) status
+        (W.contents streams.old.output) (W.contents streams.new.output)) }
+    ensures err { IfErr result (λ failure. ExplainsEnd failure (map given_of arguments.items)
+        (W.contents streams.old.output) (W.contents streams.new.output)) }
+{
+    if !are_usable(&arguments) {
+        return Err(Failure::Usage);
+    }
+    match asked_choice(rt, &PROGRAM, &arguments)? {
+        Ok(choice) => lint_choice(rt, &choice, arguments, streams),
+        Err(fault) => Ok(tell_choice(fault, &mut streams.faults)?),
+    }
+}
+
+/// Lints the programs of a manifest, with its levels.
+fn lint_choice<R: Files + AllocGlobal + Clone + Drop, I, W: Write, E: Write>(
+    rt: &R,
+    choice: &Choice,
+    arguments: Vec<Argument>,
+    streams: &mut Streams<I, W, E>,
+) -> Result<u8, Failure>
+    ensures ok { IfOk result (λ status. Ends (map given_of arguments.items) status
+        (W.contents streams.old.output) (W.contents streams.new.output)) }
+    ensures err { IfErr result (λ failure. ExplainsEnd failure (map given_of arguments.items)
+        (W.contents streams.old.output) (W.contents streams.new.output)) }
+{
+    if let Some(name) = unknown_lint(&choice.lint_levels) {
+        let fault = unknown_level(rt.alloc(), choice, Tool::IsleLint, name);
+        return Ok(tell_choice(fault, &mut streams.faults)?);
+    }
+    let mut arguments = arguments;
+    add_levels(rt.alloc(), &choice.lint_levels, &mut arguments)?;
+    lint_chosen(rt, &choice.programs, &arguments, streams)
+}
+
+/// Lints programs as the arguments say.
+fn lint_chosen<R: Files + AllocGlobal + Clone + Drop, I, W: Write, E: Write>(
+    rt: &R,
+    programs: &[Chosen],
     arguments: &[Argument],
     streams: &mut Streams<I, W, E>,
 ) -> Result<u8, Failure>
-    ensures ok { IfOk result (λ status. Ends (map given_of arguments.now) status
+    ensures ok { IfOk result (λ status. TellsReport (map given_of arguments.now) status
         (W.contents streams.old.output) (W.contents streams.new.output)) }
-    ensures err { IfErr result (λ failure. ExplainsEnd failure (map given_of arguments.now)
+    ensures err { IfErr result (λ failure. ExplainsReport failure (map given_of arguments.now)
         (W.contents streams.old.output) (W.contents streams.new.output)) }
 {
     let lints = lints_of(rt.alloc(), arguments)?;
-    let programs = match chosen_programs(rt, &PROGRAM, arguments)? {
-        Ok(programs) => programs,
-        Err(fault) => {
-            let status = tell_choice(fault, &mut streams.faults)?;
-            return Ok(status);
-        }
-    };
-    let notes = missing_notes(rt, &PROGRAM, &programs)?;
-    let texts = read_texts(rt, &PROGRAM, &programs)?;
-    let parts = parts_of(rt.alloc(), &programs, &texts.list)?;
+    let notes = missing_notes(rt, &PROGRAM, programs)?;
+    let texts = read_texts(rt, &PROGRAM, programs)?;
+    let parts = parts_of(rt.alloc(), programs, &texts.list)?;
     let told = report_on_programs(rt.alloc(), arguments, &texts.list, &parts, &lints)?;
     let _ = write_whole(&mut streams.faults, notes.as_bytes());
     match put(&mut streams.output, told.text.as_str()) {

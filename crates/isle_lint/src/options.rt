@@ -2,16 +2,19 @@
 
 ghost use Rattle.std.specs.Prelude.{◌≡◌, ◌⊎◌, IfErr, IfOk, OnOk, false};
 ghost use Rattle.std.specs.Prelude.{filter, map, true};
+ghost use Rattle.std.specs.Option.{option_copied};
 ghost use Rattle.isle_cli.specs.Arguments.{given_of};
 ghost use Rattle.isle_cli.specs.declared.failure.Failure.TheVariants.{Memory, Usage};
 ghost use Rattle.isle_lint.specs.Options.{are_usable, is_asked_for, is_lint_option};
 ghost use Rattle.isle_lint.specs.Options.{is_lint_usable, is_naming, is_on, is_usable, is_warned};
-ghost use Rattle.isle_lint.specs.Options.{lints_on, names_lint, warned_after};
+ghost use Rattle.isle_lint.specs.Options.{lints_on, names_lint, unknown_lint, warned_after};
+ghost use Rattle.isle_program_manifest.specs.Levels.{name_level_of};
 
 use isle_cli::arguments::{Argument, has_flag};
 use isle_cli::failure::Failure;
 use isle_cli::version;
 use isle_lint_core::Lint;
+use isle_program_manifest::levels::NameLevel;
 use isle_program_messages::format::is_format_usable;
 use std::alloc::{AllocError, Global};
 
@@ -31,7 +34,9 @@ All files are linted as one program. A folder stands for every .isle file below 
 standard input. With no FILE, standard input is linted.
 
 With --program or --all-programs, programs of the nearest isle.toml are linted, each by itself. It
-is looked for in the current folder and above it, or in the one folder that is given.
+is looked for in the current folder and above it, or in the one folder that is given. Its table
+[lints.isle-lint] has a level for each of some lints: allow, warn or deny, as the options of these
+names. An option that names a lint takes precedence over its level.
 
 Options:
   --all                    enable all lints
@@ -102,8 +107,20 @@ fn on_among(alloc: Global, arguments: &[Argument], lints: &[Lint]) -> Result<Vec
     Ok(on)
 }
 
+/// The first name among levels that is no lint's.
+pub fn unknown_lint(levels: &[NameLevel]) -> Option<&str>
+    ensures { option_copied result ≡ unknown_lint (map name_level_of levels.now) }
+{
+    for level in levels {
+        if Lint::named(level.name.as_str()).is_none() {
+            return Some(level.name.as_str());
+        }
+    }
+    None
+}
+
 /// Returns whether each option for lints names one, and each `--message-format` a format.
-fn are_usable(arguments: &[Argument]) -> bool
+pub fn are_usable(arguments: &[Argument]) -> bool
     ensures { result ≡ are_usable (map given_of arguments.now) }
 {
     for argument in arguments {

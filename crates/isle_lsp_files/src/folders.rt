@@ -6,7 +6,7 @@ use isle_cli::folders::files_of;
 use isle_cli::patterns::covers;
 use isle_cli::sources::{SourceFault, read_file};
 use isle_lsp_escapes::uris::{path_of, uri_of};
-use isle_program_manifest::disk::{NOBODY, find, paths_of};
+use isle_program_manifest::disk::{NOBODY, find, is_listed, paths_of};
 use isle_program_manifest::manifest::{Manifest, ManifestFault, ProgramFiles, manifest_of};
 use isle_program_manifest::membership::has_file;
 use std::alloc::{AllocError, Global};
@@ -209,7 +209,7 @@ fn add_program<R: Files + AllocGlobal + Clone + Drop>(
     }
     for document in documents {
         let path = document.file.as_str();
-        if is_covered(top, program, path) && !has_file(&paths, path) {
+        if is_covered(rt.alloc(), top, program, path)? && !has_file(&paths, path) {
             paths.push(String::from_str(rt.alloc(), path)?)?;
         }
     }
@@ -227,23 +227,18 @@ fn add_path(paths: &mut Vec<String>, path: String) -> Result<(), AllocError> {
 }
 
 /// Returns whether a path is that of a file of the program of a manifest in a folder.
-fn is_covered(top: &str, program: &ProgramFiles, path: &str) -> bool {
+fn is_covered(
+    alloc: Global,
+    top: &str,
+    program: &ProgramFiles,
+    path: &str,
+) -> Result<bool, AllocError> {
     match path.strip_prefix(top) {
         Some(rest) if rest.starts_with('/') => {
-            let name = rest.trim_start_matches('/');
-            program
-                .files
-                .iter()
-                .any(|entry| is_entry_of(entry.as_str(), name))
+            is_listed(alloc, program, rest.trim_start_matches('/'))
         }
-        _ => false,
+        _ => Ok(false),
     }
-}
-
-/// Returns whether an entry of a manifest stands for a file, if it exists.
-fn is_entry_of(entry: &str, name: &str) -> bool {
-    let entry = entry.trim_start_matches("./").trim_end_matches('/');
-    entry.is_empty() || entry == "." || covers(entry, name)
 }
 
 /// Adds a file, unless it can't be read. Only a regular file is opened.

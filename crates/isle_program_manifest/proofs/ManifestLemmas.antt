@@ -11,19 +11,19 @@ use Rattle.toml.specs.View.{items_view}
 use Rattle.toml.specs.declared.value.Value.{Value}
 use Rattle.isle_program_manifest.specs.Manifest.{IsFaultOf, IsRefused, first_mistake, name_twice, programs_of}
 use Rattle.isle_program_manifest.specs.Mistakes.{Mistake, in_list, in_paths, message_by, mistake, mistake_in, wanted}
-use Rattle.isle_program_manifest.specs.Places.{first_line, is_at, line_from}
+use Rattle.isle_program_manifest.specs.Places.{first_place, is_at, place_from}
 use Rattle.isle_program_manifest.specs.declared.manifest.ManifestFault.{ManifestFault}
 use Rattle.isle_program_manifest.specs.declared.manifest.ManifestFault.TheVariants as faults
 use Rattle.isle_program_manifest.specs.declared.mistakes.Kind.TheVariants as kinds
 
--- the search ends at the first line that begins with the word
-pub found_line : (text word : List ℕ) (starts first : Bool) (offset from : ℕ) → offset < length text → starts ≡ true → is_at word (take (length text - offset) (drop offset text)) ≡ true
-    → first_line word starts offset (drop offset text) ≡ first_line word first from (drop from text) → offset ≡ line_from text first from word
-found_line text word starts first offset from within begins here so_far =
+-- the search ends at the first place of the word
+pub found_place : (text word : List ℕ) (inside starts first : Bool) (offset from : ℕ) → offset < length text → starts ≡ true → is_at word (take (length text - offset) (drop offset text)) ≡ true
+    → first_place inside word starts offset (drop offset text) ≡ first_place inside word first from (drop from text) → offset ≡ place_from text inside first from word
+found_place text word inside starts first offset from within begins here so_far =
     let front = drop_more text offset 0 within in
     let whole : take (length text - offset) (drop offset text) ≡ drop offset text = take_all (length text - offset) (drop offset text) (omega (arith, length-drop offset text)) in
     let is : is_at word (get_or text offset 0 ∷ drop (offset + 1) text) ≡ true = ap (is_at word) (sym front) ∙ (ap (is_at word) (sym whole) ∙ here) in
-    let there : first_line word starts offset (drop offset text) ≡ Some offset = rw (front, begins, is) refl in
+    let there : first_place inside word starts offset (drop offset text) ≡ Some offset = rw (front, begins, is) refl in
     rw (← so_far, there) refl
 
 -- an empty list is a mistake
@@ -32,7 +32,7 @@ in_no_paths number [] none = refl
 in_no_paths number (_ ∷ _) none = absurd (omega arith)
 
 -- a list that isn't empty has the mistakes of its paths
-pub in_some_paths : (number : ℕ) (paths : List Value) → 0 < length paths → in_paths number (items_view paths) ≡ in_list number (Some (items_view paths))
+pub in_some_paths : (number : ℕ) (paths : List Value) → 0 < length paths → in_paths (Some number) (items_view paths) ≡ in_list number (Some (items_view paths))
 in_some_paths number [] some = absurd (omega arith)
 in_some_paths number (_ ∷ _) some = refl
 

@@ -1,11 +1,17 @@
 -- Which programs a file belongs to, where each program is a list of paths.
-use Rattle.std.specs.Prelude.{ℕ, ◌+◌, List, [], ◌∷◌, ◌++◌, Bool, if◌then◌else◌}
+use Rattle.std.specs.Prelude.{ℕ, ◌+◌, List, [], ◌∷◌, ◌++◌, Bool, not, ◌&&◌, if◌then◌else◌}
 use Rattle.std.specs.List.{list_any}
 use Rattle.std.specs.Str.{bytes_eq}
+use Rattle.isle_cli.specs.Patterns.{covers}
 
 -- one of the paths is the file
 abbrev pub has_file : (file : List ℕ) → (paths : List (List ℕ)) → Bool
 has_file file paths = list_any (λ path. bytes_eq path file) paths
+
+-- Nothing is taken in by an entry of a program that an entry of what no program has covers, but for the path that the
+-- entry itself is.
+abbrev pub is_left_out : (exclude : List (List ℕ)) → (entry path : List ℕ) → Bool
+is_left_out exclude entry path = not (bytes_eq entry path) && list_any (λ other. covers other path) exclude
 
 -- the numbers of the programs that have the file; the first of these programs has the number that is given
 abbrev pub programs_with : (file : List ℕ) → (number : ℕ) → (programs : List (List (List ℕ))) → List ℕ

@@ -20,19 +20,23 @@ is_at word bytes = starts_with nat_eq bytes word && not (goes_on (drop (length w
 abbrev pub is_before_word : ℕ → Bool
 is_before_word b = b == 32 || b == 9 || b == 91 || b == 34 || b == 39
 
--- after this byte, the first word of a line may come
-abbrev pub starts_after : (starts : Bool) → ℕ → Bool
-starts_after starts b = b == 10 || (starts && is_before_word b)
+-- after this byte, the word may come: the first one of a line, or one that is also inside a line
+abbrev pub starts_after : (inside starts : Bool) → ℕ → Bool
+starts_after inside starts b = if inside then not (is_key_byte b) else b == 10 || (starts && is_before_word b)
 
--- where a word is the first of a line, in bytes of which the first has this number
-abbrev pub first_line : (word : List ℕ) → (starts : Bool) → (number : ℕ) → List ℕ → Option ℕ
-first_line word starts number [] = None
-first_line word starts number (b ∷ bytes) =
-    if starts && is_at word (b ∷ bytes) then Some number else first_line word (starts_after starts b) (number + 1) bytes
+-- where the word is, in bytes of which the first has this number
+abbrev pub first_place : (inside : Bool) → (word : List ℕ) → (starts : Bool) → (number : ℕ) → List ℕ → Option ℕ
+first_place inside word starts number [] = None
+first_place inside word starts number (b ∷ bytes) =
+    if starts && is_at word (b ∷ bytes) then Some number else first_place inside word (starts_after inside starts b) (number + 1) bytes
 
--- where a word is the first of a line, from this offset on; this offset, if it is that nowhere
+-- where it is from this offset on; this offset, if it is nowhere
+abbrev pub place_from : (text : List ℕ) → (inside starts : Bool) → (from : ℕ) → (word : List ℕ) → ℕ
+place_from text inside starts from word = unwrap_or (first_place inside word starts from (drop from text)) from
+
+-- where a word is the first of a line
 abbrev pub line_from : (text : List ℕ) → (starts : Bool) → (from : ℕ) → (word : List ℕ) → ℕ
-line_from text starts from word = unwrap_or (first_line word starts from (drop from text)) from
+line_from text starts from word = place_from text false starts from word
 
 -- where the header of the program with this number is
 abbrev pub header : (text : List ℕ) → (number : ℕ) → ℕ
@@ -43,3 +47,11 @@ header text (suc number) = line_from text false (header text number) (codes "[[p
 abbrev pub start : (text : List ℕ) → Option ℕ → ℕ
 start text None = 0
 start text (Some number) = header text number
+
+-- where a key of `lints` is, as in `[lints.KEY]`
+abbrev pub lints_key : (text : List ℕ) → (key : List ℕ) → ℕ
+lints_key text key = place_from text true true (line_from text true 0 (codes "lints")) key
+
+-- where a name of the table at that key is
+abbrev pub lints_name : (text : List ℕ) → (key name : List ℕ) → ℕ
+lints_name text key name = line_from text true (lints_key text key) name

@@ -3,7 +3,7 @@
 ghost use Rattle.std.specs.Prelude.{◌≡◌, ◌⊎◌, IfErr, IfOk};
 ghost use Rattle.isle_cli.specs.declared.failure.Failure.TheVariants.{Memory, Usage};
 
-use crate::choice::{ChoiceFault, Chosen, choose};
+use crate::choice::{Choice, ChoiceFault, Chosen, choose};
 use crate::membership::add_all;
 use isle_cli::arguments::{
     Argument, EXCLUDE_OPTION, Options, Request, has_flag, names_of, requested, setting_of,
@@ -47,6 +47,20 @@ pub fn chosen_programs<R: Files + Env + AllocGlobal + Clone + Drop>(
     tool: &Program,
     arguments: &[Argument],
 ) -> Result<Result<Vec<Chosen>, ChoiceFault>, Failure>
+    ensures { IfErr result (λ failure. (failure ≡ Memory) ⊎ (failure ≡ Usage)) }
+{
+    match asked_choice(rt, tool, arguments)? {
+        Ok(choice) => Ok(Ok(choice.programs)),
+        Err(fault) => Ok(Err(fault)),
+    }
+}
+
+/// The same, with the manifest that has them. It fails as `chosen_programs` does.
+pub fn asked_choice<R: Files + Env + AllocGlobal + Clone + Drop>(
+    rt: &R,
+    tool: &Program,
+    arguments: &[Argument],
+) -> Result<Result<Choice, ChoiceFault>, Failure>
     ensures { IfErr result (λ failure. (failure ≡ Memory) ⊎ (failure ≡ Usage)) }
 {
     if setting_of(arguments, EXCLUDE_OPTION).is_some() {

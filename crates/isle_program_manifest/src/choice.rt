@@ -1,14 +1,17 @@
 //! The programs that the command line of a tool asks for.
 
 use crate::disk::{Listed, find, paths_of};
-use crate::manifest::{FILE_NAME, Manifest, ManifestFault, ProgramFiles, manifest_of};
+use crate::levels::{NameLevel, Tool};
+use crate::manifest::{
+    FILE_NAME, Manifest, ManifestFault, ProgramFiles, manifest_of, unknown_name,
+};
 use crate::membership::has_file;
 use isle_base_source::files::LineMap;
 use isle_cli::messages::message_line;
 use isle_cli::program::Program;
 use isle_cli::sources::{fault_line, read_file};
 use isle_cli::streams::{ReadFault, fault_of};
-use std::alloc::{AllocError, AllocFailed};
+use std::alloc::{AllocError, AllocFailed, Global};
 use std::env;
 use std::env::Env;
 use std::fs::{Files, canonicalize};
@@ -44,7 +47,21 @@ impl<T: Drop> From<AllocFailed<T>> for ChoiceFault {
     }
 }
 
-/// The programs of these names in the nearest manifest at or above a folder, in the manifest's
+/// A manifest, and the programs of it that are asked for.
+#[derive(Debug, Drop)]
+pub struct Choice {
+    pub programs: Vec<Chosen>,
+    /// The path of the manifest, as it is shown.
+    pub path: String,
+    /// Its text.
+    pub text: String,
+    /// The levels for `isle-lint`.
+    pub lint_levels: Vec<NameLevel>,
+    /// The levels for `isle-check`.
+    pub check_levels: Vec<NameLevel>,
+}
+
+/// The nearest manifest at or above a folder, and its programs of these names, in the manifest's
 /// order; all of its programs, if there are no names. Without a folder it is the current one.
 ///
 /// Paths are shown relative to the current folder, if they lead no more than up from it.
@@ -53,7 +70,7 @@ pub fn choose<R: Files + Env + AllocGlobal + Clone + Drop>(
     tool: &Program,
     folder: Option<&str>,
     names: &[&str],
-) -> Result<Vec<Chosen>, ChoiceFault> {
+) -> Result<Choice, ChoiceFault> {
     let top = match manifest_folder(rt, tool, folder)? {
         Some(top) => top,
         None => {
@@ -62,23 +79,50 @@ pub fn choose<R: Files + Env + AllocGlobal + Clone + Drop>(
         }
     };
     let path = in_folder(rt, top.as_str(), FILE_NAME)?;
-    let text = match read_file(rt, path.as_str()) {
-        Ok(text) => text,
-        Err(ReadFault::Memory) => return Err(ChoiceFault::Memory),
-        Err(fault) => {
-            let line = fault_line(rt.alloc(), tool, path.as_str(), fault)?;
-            return Err(ChoiceFault::Unread(line));
-        }
-    };
+    let text = text_at(rt, tool, path.as_str())?;
     let manifest = match manifest_of(rt.alloc(), text.as_str()) {
         Ok(manifest) => manifest,
-        Err(fault) => return Err(mistaken(rt, path.as_str(), text.as_str(), fault)),
+        Err(fault) => return Err(mistaken(rt.alloc(), path.as_str(), text.as_str(), fault)),
     };
-    if let Some(name) = unknown_name(&manifest, names) {
+    if let Some(name) = unknown_program(&manifest, names) {
         let line = format!(in rt.alloc(); "{}: {path} has no program '{name}'\n", tool.name)?;
         return Err(ChoiceFault::Mistaken(line));
     }
-    with_files(rt, top.as_str(), &manifest, names)
+    let programs = with_files(rt, top.as_str(), &manifest, names)?;
+    Ok(Choice {
+        programs,
+        path,
+        text,
+        lint_levels: manifest.lint_levels,
+        check_levels: manifest.check_levels,
+    })
+}
+
+/// The text of a manifest.
+fn text_at<R: Files + AllocGlobal + Clone + Drop>(
+    rt: &R,
+    tool: &Program,
+    path: &str,
+) -> Result<String, ChoiceFault> {
+    match read_file(rt, path) {
+        Ok(text) => Ok(text),
+        Err(ReadFault::Memory) => Err(ChoiceFault::Memory),
+        Err(fault) => {
+            let line = fault_line(rt.alloc(), tool, path, fault)?;
+            Err(ChoiceFault::Unread(line))
+        }
+    }
+}
+
+/// The fault of a manifest in which a level has a name that the tool does not know.
+pub fn unknown_level(alloc: Global, choice: &Choice, tool: Tool, name: &str) -> ChoiceFault {
+    let text = choice.text.as_str();
+    mistaken(
+        alloc,
+        choice.path.as_str(),
+        text,
+        unknown_name(alloc, text, tool, name),
+    )
 }
 
 /// A line for each entry that stands for no file, each once.
@@ -103,11 +147,11 @@ pub fn missing_notes<R: AllocGlobal>(
 }
 
 /// The line of a manifest's mistake.
-fn mistaken<R: AllocGlobal>(rt: &R, path: &str, text: &str, fault: ManifestFault) -> ChoiceFault {
+fn mistaken(alloc: Global, path: &str, text: &str, fault: ManifestFault) -> ChoiceFault {
     match fault {
         ManifestFault::Memory => ChoiceFault::Memory,
         ManifestFault::Rejected { offset, message } => {
-            match mistake_line(rt, path, text, offset, message.as_str()) {
+            match mistake_line(alloc, path, text, offset, message.as_str()) {
                 Ok(line) => ChoiceFault::Mistaken(line),
                 Err(_) => ChoiceFault::Memory,
             }
@@ -115,20 +159,20 @@ fn mistaken<R: AllocGlobal>(rt: &R, path: &str, text: &str, fault: ManifestFault
     }
 }
 
-fn mistake_line<R: AllocGlobal>(
-    rt: &R,
+fn mistake_line(
+    alloc: Global,
     path: &str,
     text: &str,
     offset: usize,
     message: &str,
 ) -> Result<String, AllocError> {
-    let lines = LineMap::from_str(rt.alloc(), text)?;
+    let lines = LineMap::from_str(alloc, text)?;
     let offset = offset.min(usize::MAX - 1);
-    message_line(rt.alloc(), path, text, &lines, offset, "error", message)
+    message_line(alloc, path, text, &lines, offset, "error", message)
 }
 
 /// The first of the names that no program has.
-fn unknown_name<'a>(manifest: &Manifest, names: &[&'a str]) -> Option<&'a str> {
+fn unknown_program<'a>(manifest: &Manifest, names: &[&'a str]) -> Option<&'a str> {
     for name in names {
         let is_known = |program: &ProgramFiles| program.name.as_str() == *name;
         if !manifest.programs.iter().any(is_known) {

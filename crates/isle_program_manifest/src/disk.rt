@@ -1,11 +1,11 @@
 //! Manifests and the files of programs on the disk. No contract can say what is there.
 
 use crate::manifest::{FILE_NAME, ProgramFiles};
-use crate::membership::add_all;
+use crate::membership::{has_file, is_left_out};
 use isle_cli::folders::files_of;
 use isle_cli::patterns::covers;
 use isle_cli::program::Program;
-use std::alloc::AllocError;
+use std::alloc::{AllocError, Global};
 use std::fs::Files;
 
 /// Whom `files_of` names in messages that nobody reads.
@@ -21,7 +21,8 @@ pub const NOBODY: Program = Program {
 pub struct Listed {
     /// Their paths, in the order of the list, each once.
     pub paths: Vec<String>,
-    /// The entries of the list that stand for no file, or for a folder that can't be read whole.
+    /// The entries of the list that stand for no file, whether it is left out or not, or for a
+    /// folder that can't be read whole.
     pub missing: Vec<String>,
 }
 
@@ -45,24 +46,66 @@ pub fn find<R: Files + AllocGlobal + Clone + Drop>(
     Ok(None)
 }
 
-/// The files of a program of a manifest in this folder. They are named by paths that begin with
-/// the folder and `/`; an empty folder is the current one, and then the paths are relative.
+/// The files of a program of a manifest in this folder, without those that are left out. They are
+/// named by paths that begin with the folder and `/`; an empty folder is the current one, and then
+/// the paths are relative.
 pub fn paths_of<R: Files + AllocGlobal + Clone + Drop>(
     rt: &R,
     folder: &str,
     program: &ProgramFiles,
 ) -> Result<Listed, AllocError> {
+    let exclude = bare_entries(rt.alloc(), &program.exclude)?;
     let mut paths = Vec::new(rt.alloc());
     let mut missing = Vec::new(rt.alloc());
     for entry in &program.files {
         let mut faults = String::new(rt.alloc());
-        let files = files_at(rt, folder, entry.as_str(), &mut faults)?;
+        let files = files_at(rt, folder, bare(entry.as_str()), &mut faults)?;
         if files.is_empty() || !faults.is_empty() {
             missing.push(entry.clone()?)?;
         }
-        add_all(&mut paths, &files)?;
+        for file in files {
+            let path = inside(folder, file.as_str());
+            if !is_left_out(&exclude, bare(entry.as_str()), path)
+                && !has_file(&paths, file.as_str())
+            {
+                paths.push(file)?;
+            }
+        }
     }
     Ok(Listed { paths, missing })
+}
+
+/// Returns whether a path relative to the manifest's folder is that of a file of the program, if
+/// its file exists.
+pub fn is_listed(alloc: Global, program: &ProgramFiles, path: &str) -> Result<bool, AllocError> {
+    let exclude = bare_entries(alloc, &program.exclude)?;
+    for entry in &program.files {
+        let entry = bare(entry.as_str());
+        let is_here = entry.is_empty() || entry == "." || covers(entry, path);
+        if is_here && !is_left_out(&exclude, entry, path) {
+            return Ok(true);
+        }
+    }
+    Ok(false)
+}
+
+/// An entry without `./` before it and `/` behind it.
+fn bare(entry: &str) -> &str {
+    entry.trim_start_matches("./").trim_end_matches('/')
+}
+
+fn bare_entries(alloc: Global, entries: &[String]) -> Result<Vec<&str>, AllocError> {
+    let mut all = Vec::new(alloc);
+    for entry in entries {
+        all.push(bare(entry.as_str()))?;
+    }
+    Ok(all)
+}
+
+/// The path of a file relative to the folder that its path begins with.
+fn inside<'a>(folder: &str, path: &'a str) -> &'a str {
+    let inside = path.strip_prefix(folder).unwrap_or(path);
+    inside.trim_start_matches('/').trim_start_matches("./")
 }
 
 /// Returns whether a path leads to a file; `false` if it can't be told.
@@ -73,7 +116,7 @@ pub fn is_file<R: Files>(rt: &R, path: &str) -> bool {
     }
 }
 
-/// The files that an entry stands for. A line is added to `faults` for each file or folder that
+/// The files that a bare entry stands for. A line is added to `faults` for each file or folder that
 /// can't be read.
 fn files_at<R: Files + AllocGlobal + Clone + Drop>(
     rt: &R,
@@ -81,9 +124,14 @@ fn files_at<R: Files + AllocGlobal + Clone + Drop>(
     entry: &str,
     faults: &mut String,
 ) -> Result<Vec<String>, AllocError> {
-    let entry = entry.trim_start_matches("./").trim_end_matches('/');
     match entry.split_once('*') {
-        None => files_of(rt, &NOBODY, joined(rt, folder, entry)?.as_str(), &[], faults),
+        None => files_of(
+            rt,
+            &NOBODY,
+            joined(rt, folder, entry)?.as_str(),
+            &[],
+            faults,
+        ),
         Some((front, _)) => {
             let above = front.rsplit_once('/').map_or("", |parts| parts.0);
             let top = joined(rt, folder, above)?;
@@ -102,13 +150,8 @@ fn covered<R: AllocGlobal>(
 ) -> Result<Vec<String>, AllocError> {
     let mut kept = Vec::new(rt.alloc());
     for file in files {
-        let path = file.as_str();
-        let inside = path.strip_prefix(folder).unwrap_or(path);
-        if covers(
-            entry,
-            inside.trim_start_matches("./").trim_start_matches('/'),
-        ) {
-            let path = path.trim_start_matches("./");
+        if covers(entry, inside(folder, file.as_str())) {
+            let path = file.as_str().trim_start_matches("./");
             kept.push(String::from_str(rt.alloc(), path)?)?;
         }
     }

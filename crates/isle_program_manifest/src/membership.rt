@@ -1,9 +1,34 @@
 //! Which programs a file belongs to, where each program is the list of its paths.
 
 ghost use Rattle.std.specs.Prelude.{◌≡◌, IfOk, OnOk, List, map, string_bytes, ℕ};
+ghost use Rattle.std.specs.List.{list_any};
 ghost use Rattle.isle_program_manifest.specs.Membership as Membership;
+ghost use Rattle.isle_cli.specs.Patterns.{covers};
 
+use isle_cli::patterns::covers;
 use std::alloc::{AllocError, Global};
+
+/// Returns whether an entry of a program's list does not take a path in, though it covers it: one
+/// of the entries of what no program has covers the path, too, and the entry is not the path.
+pub fn is_left_out(exclude: &[&str], entry: &str, path: &str) -> bool
+    ensures { result
+        ≡ Membership.is_left_out (map (λ other. other.now) exclude.now) entry.now path.now }
+{
+    entry != path && is_covered(exclude, path)
+}
+
+/// Returns whether one of the entries covers a path.
+fn is_covered(entries: &[&str], path: &str) -> bool
+    ensures { result ≡ list_any (λ entry. covers entry path.now)
+        (map (λ entry. entry.now) entries.now) }
+{
+    for entry in entries {
+        if covers(entry, path) {
+            return true;
+        }
+    }
+    false
+}
 
 /// The numbers of the programs that have a file, in order, from 0.
 pub fn programs_with(

@@ -4,15 +4,18 @@ ghost use Rattle.std.specs.Prelude.{◌≡◌, IfOk, Some, map, string_bytes, tr
 ghost use Rattle.std.specs.Option.{option_copied, option_map};
 ghost use Rattle.toml.specs.View.{array_view, table_view, view};
 ghost use Rattle.isle_cli.specs.Arguments.{is_among};
-ghost use Rattle.isle_program_manifest.specs.Mistakes.{in_files, in_list, in_name, in_name_text};
-ghost use Rattle.isle_program_manifest.specs.Mistakes.{in_path, in_paths, in_program};
-ghost use Rattle.isle_program_manifest.specs.Mistakes.{in_program_key, in_programs, message};
-ghost use Rattle.isle_program_manifest.specs.Mistakes.{mistake, mistake_in, mistake_of, place};
-ghost use Rattle.isle_program_manifest.specs.Mistakes.{place_by, unknown_key, wanted};
+ghost use Rattle.isle_program_manifest.specs.Mistakes.{in_exclude, in_files, in_levels, in_lints};
+ghost use Rattle.isle_program_manifest.specs.Mistakes.{in_lints_table, in_list, in_name};
+ghost use Rattle.isle_program_manifest.specs.Mistakes.{in_name_text, in_path, in_paths, in_program};
+ghost use Rattle.isle_program_manifest.specs.Mistakes.{in_program_key, in_programs, in_tool};
+ghost use Rattle.isle_program_manifest.specs.Mistakes.{list_key, message, mistake, mistake_in};
+ghost use Rattle.isle_program_manifest.specs.Mistakes.{mistake_of, noun, place, place_by};
+ghost use Rattle.isle_program_manifest.specs.Mistakes.{unknown_key, wanted};
 ghost use Rattle.isle_program_manifest.specs.Paths as Paths;
 
-use crate::places::{line_from, start};
-use crate::values::member;
+use crate::levels::Tool;
+use crate::places::{line_from, lints_key, lints_name, start};
+use crate::values::{level_in, member};
 use std::alloc::{AllocError, Global};
 use toml::value::Array;
 use toml::{Table, Value};
@@ -32,6 +35,14 @@ pub(crate) enum Kind {
     LeadsOut,
     /// A name that two programs have.
     NameTwice,
+    /// A key of `lints` that is that of no tool.
+    UnknownTool,
+    /// A key of `lints` whose value is no table.
+    WrongTable,
+    /// A name whose value is no level.
+    WrongLevel(Tool),
+    /// A name that the tool does not know.
+    UnknownName(Tool),
 }
 
 /// A mistake.
@@ -48,10 +59,16 @@ pub(crate) struct Mistake<'a> {
 pub(crate) fn mistake_in(manifest: &Table) -> Option<Mistake<'_>>
     ensures { option_map mistake_of result ≡ mistake_in (table_view manifest.now) }
 {
-    if let Some(word) = unknown_key(manifest, &["program"]) {
+    if let Some(word) = unknown_key(manifest, &["program", "exclude", "lints"]) {
         return about(Kind::UnknownKey, word, None);
     }
-    in_program_key(member(manifest, "program"))
+    if let Some(mistake) = in_program_key(member(manifest, "program")) {
+        return Some(mistake);
+    }
+    if let Some(mistake) = in_exclude(member(manifest, "exclude")) {
+        return Some(mistake);
+    }
+    in_lints(member(manifest, "lints"))
 }
 
 /// The first key that is none of the known ones.
@@ -169,29 +186,111 @@ fn in_list(number: usize, paths: &Array) -> Option<Mistake<'_>>
     if paths.is_empty() {
         about(Kind::Empty, "files", Some(number))
     } else {
-        in_paths(number, paths)
+        in_paths(Some(number), paths)
     }
 }
 
-fn in_paths(number: usize, paths: &Array) -> Option<Mistake<'_>>
-    ensures { option_map mistake_of result ≡ in_paths number (array_view paths.now) }
+/// The first mistake in the list of a program, or of what no program has.
+fn in_paths(program: Option<usize>, paths: &Array) -> Option<Mistake<'_>>
+    ensures { option_map mistake_of result ≡ in_paths program (array_view paths.now) }
 {
     for path in paths {
-        if let Some(mistake) = in_path(number, path.as_str()) {
+        if let Some(mistake) = in_path(program, path.as_str()) {
             return Some(mistake);
         }
     }
     None
 }
 
-fn in_path(number: usize, path: Option<&str>) -> Option<Mistake<'_>>
-    ensures { option_map mistake_of result ≡ in_path number (option_copied path.entry) }
+fn in_path(program: Option<usize>, path: Option<&str>) -> Option<Mistake<'_>>
+    ensures { option_map mistake_of result ≡ in_path program (option_copied path.entry) }
 {
     match path {
-        Some(path) if leads_out(path.as_bytes()) => about(Kind::LeadsOut, path, Some(number)),
+        Some(path) if leads_out(path.as_bytes()) => about(Kind::LeadsOut, path, program),
         Some(_) => None,
-        None => about(Kind::WrongType, "files", Some(number)),
+        None => about(Kind::WrongType, list_key(program), program),
     }
+}
+
+/// The key of a list of paths.
+fn list_key(program: Option<usize>) -> &'static str
+    ensures { result.now ≡ list_key program }
+{
+    match program {
+        Some(_) => "files",
+        None => "exclude",
+    }
+}
+
+/// The first mistake in the list of what no program has, which may be empty.
+fn in_exclude(value: Option<&Value>) -> Option<Mistake<'_>>
+    ensures { option_map mistake_of result
+        ≡ in_exclude (option_map (λ v. view v.now) value.entry) }
+{
+    match value {
+        None => None,
+        Some(value) => {
+            match value.as_array() {
+                Some(paths) => in_paths(None, paths),
+                None => about(Kind::WrongType, "exclude", None),
+            }
+        }
+    }
+}
+
+/// The first mistake in the levels.
+fn in_lints(value: Option<&Value>) -> Option<Mistake<'_>>
+    ensures { option_map mistake_of result
+        ≡ in_lints (option_map (λ v. view v.now) value.entry) }
+{
+    match value {
+        None => None,
+        Some(value) => {
+            match value.as_table() {
+                Some(tools) => in_lints_table(tools),
+                None => about(Kind::WrongType, "lints", None),
+            }
+        }
+    }
+}
+
+fn in_lints_table(tools: &Table) -> Option<Mistake<'_>>
+    ensures { option_map mistake_of result ≡ in_lints_table (Some (table_view tools.now)) }
+{
+    if let Some(word) = unknown_key(tools, &[Tool::IsleLint.key(), Tool::IsleCheck.key()]) {
+        return about(Kind::UnknownTool, word, None);
+    }
+    if let Some(mistake) = in_tool(Tool::IsleLint, member(tools, Tool::IsleLint.key())) {
+        return Some(mistake);
+    }
+    in_tool(Tool::IsleCheck, member(tools, Tool::IsleCheck.key()))
+}
+
+/// The first mistake in the table of a tool.
+fn in_tool(tool: Tool, value: Option<&Value>) -> Option<Mistake<'_>>
+    ensures { option_map mistake_of result
+        ≡ in_tool tool (option_map (λ v. view v.now) value.entry) }
+{
+    match value {
+        None => None,
+        Some(value) => {
+            match value.as_table() {
+                Some(names) => in_levels(tool, names),
+                None => about(Kind::WrongTable, tool.key(), None),
+            }
+        }
+    }
+}
+
+fn in_levels(tool: Tool, names: &Table) -> Option<Mistake<'_>>
+    ensures { option_map mistake_of result ≡ in_levels tool (table_view names.now) }
+{
+    'members: for (name, value) in names.iter() {
+        if level_in(value).is_none() {
+            return about(Kind::WrongLevel(tool), name.as_str(), None);
+        }
+    }
+    None
 }
 
 /// Returns whether a path is absolute, or some part of it is `..`.
@@ -244,6 +343,12 @@ impl Mistake<'_> {
             Kind::Empty => format!(in alloc; "'{word}' is empty"),
             Kind::LeadsOut => format!(in alloc; "path '{word}' leads out of the folder"),
             Kind::NameTwice => format!(in alloc; "two programs are named '{word}'"),
+            Kind::UnknownTool => format!(in alloc; "unknown key '{word}'"),
+            Kind::WrongTable => format!(in alloc; "'{word}' must be a table"),
+            Kind::WrongLevel(_) => {
+                format!(in alloc; "'{word}' must be \"allow\", \"warn\" or \"deny\"")
+            }
+            Kind::UnknownName(tool) => format!(in alloc; "unknown {} '{word}'", noun(tool)),
         }
     }
 
@@ -261,8 +366,12 @@ impl Mistake<'_> {
             }
             Kind::NameTwice => line_from(text, true, from, b"name"),
             Kind::LeadsOut => {
-                let files = line_from(text, true, from, b"files");
-                line_from(text, true, files, self.word.as_bytes())
+                let list = line_from(text, true, from, list_key(self.program).as_bytes());
+                line_from(text, true, list, self.word.as_bytes())
+            }
+            Kind::UnknownTool | Kind::WrongTable => lints_key(text, self.word.as_bytes()),
+            Kind::WrongLevel(tool) | Kind::UnknownName(tool) => {
+                lints_name(text, tool.key().as_bytes(), self.word.as_bytes())
             }
         }
     }
@@ -275,6 +384,18 @@ fn wanted(key: &str) -> &'static str
     match key {
         "name" => "a string",
         "files" => "a list of strings",
-        _ => "a list of tables",
+        "exclude" => "a list of strings",
+        "program" => "a list of tables",
+        _ => "a table",
+    }
+}
+
+/// What a name stands for that a tool does not know.
+fn noun(tool: Tool) -> &'static str
+    ensures { result.now ≡ noun tool }
+{
+    match tool {
+        Tool::IsleLint => "lint",
+        Tool::IsleCheck => "kind",
     }
 }

@@ -32,12 +32,35 @@ fn header(text: &[u8], number: usize) -> usize
 pub(crate) fn line_from(text: &[u8], starts: bool, from: usize, word: &[u8]) -> usize
     ensures { result ≡ Places.line_from text.now starts from word.now }
 {
+    place_from(text, false, starts, from, word)
+}
+
+/// The byte offset of a key in the table `lints`, as in `[lints.KEY]`.
+pub(crate) fn lints_key(text: &[u8], key: &[u8]) -> usize
+    ensures { result ≡ Places.lints_key text.now key.now }
+{
+    let lints = line_from(text, true, 0, b"lints");
+    place_from(text, true, true, lints, key)
+}
+
+/// The byte offset of a name in the table at a key of `lints`.
+pub(crate) fn lints_name(text: &[u8], key: &[u8], name: &[u8]) -> usize
+    ensures { result ≡ Places.lints_name text.now key.now name.now }
+{
+    line_from(text, true, lints_key(text, key), name)
+}
+
+/// The first byte offset from this one on at which a word stands: as the first of a line, or
+/// `inside` one, too; this offset, if there is none. `starts` says that it may stand here.
+fn place_from(text: &[u8], inside: bool, starts: bool, from: usize, word: &[u8]) -> usize
+    ensures { result ≡ Places.place_from text.now inside starts from word.now }
+{
     let mut starts = starts;
     for offset in from..text.len() {
         if starts && is_at(word, &text[offset..]) {
             return offset;
         }
-        starts = starts_after(starts, text[offset]);
+        starts = starts_after(inside, starts, text[offset]);
     }
     from
 }
@@ -54,16 +77,27 @@ fn goes_on(bytes: &[u8]) -> bool
     ensures { result ≡ Places.goes_on bytes.now }
 {
     match bytes {
-        [first, ..] => first.is_ascii_alphanumeric() || *first == b'-' || *first == b'_',
+        [first, ..] => is_key_byte(*first),
         [] => false,
     }
 }
 
-/// Returns whether the first word of a line may come after this byte.
-fn starts_after(starts: bool, byte: u8) -> bool
-    ensures { result ≡ Places.starts_after starts byte }
+/// Returns whether a byte may stand in a key without quotation marks.
+fn is_key_byte(byte: u8) -> bool
+    ensures { result ≡ Places.is_key_byte byte }
 {
-    byte == b'\n' || starts && is_before_word(byte)
+    byte.is_ascii_alphanumeric() || byte == b'-' || byte == b'_'
+}
+
+/// Returns whether a word may come after this byte.
+fn starts_after(inside: bool, starts: bool, byte: u8) -> bool
+    ensures { result ≡ Places.starts_after inside starts byte }
+{
+    if inside {
+        !is_key_byte(byte)
+    } else {
+        byte == b'\n' || starts && is_before_word(byte)
+    }
 }
 
 /// Returns whether a byte may be before the first word of a line: a blank, `[` or a quotation mark.

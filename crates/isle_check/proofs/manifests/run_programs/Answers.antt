@@ -5,7 +5,7 @@ use Rattle.isle_check.proofs.manifests.run_programs.Goals as goal
 
 pub returns-in-Ok : goal.returns-in-Ok
 returns-in-Ok g c =
-    let given = map given_of c.args.arguments.now in
+    let given = map given_of c.args.arguments.items in
     let before = g.W.Write.contents c.args.streams.now.output in
     let after = g.W.Write.contents c.check_programs.new.streams.output in
     record {
@@ -17,7 +17,7 @@ returns-in-Ok g c =
 
 pub returns-in-Err : goal.returns-in-Err
 returns-in-Err g c =
-    let given = map given_of c.args.arguments.now in
+    let given = map given_of c.args.arguments.items in
     let before = g.W.Write.contents c.args.streams.now.output in
     let after = g.W.Write.contents c.check_programs.new.streams.output in
     let why = c.in-Err.ensures.err in
