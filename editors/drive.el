@@ -48,6 +48,26 @@
 (eglot-rename "double")
 (tell "renamed" (lines))
 
+;; Renames a term where it is declared, and tells the lines of both files then.
+(fset 'y-or-n-p #'always)
+(defun rename-in-both (name old new)
+  (goto-char (point-min))
+  (search-forward (concat "decl " old " "))
+  (backward-char 2)
+  (eglot-rename new)
+  (tell name (vector (lines) (with-current-buffer (find-buffer-visiting "b.isle") (lines))))
+  (save-some-buffers t))
+(defun write-other (&rest lines)
+  (write-region (mapconcat (lambda (it) (concat it "\n")) lines "") nil "b.isle" nil 'quiet))
+
+;; A file that comes behind the editor, and is then written anew while it is closed.
+(write-other "(decl g (T) T)" "(rule (g x) (f x))")
+(rename-in-both "renamed_in_both" "f" "h")
+(kill-buffer (find-buffer-visiting "b.isle"))
+(write-other "; moved" "; down" "(decl g (T) T)" "(rule (g x) (h x))")
+(rename-in-both "renamed_where_it_is_now" "h" "k")
+(tell "written" (with-temp-buffer (insert-file-contents "b.isle") (lines)))
+
 ;; It fails where no answer comes.
 (eglot-shutdown (eglot-current-server))
 (tell "stopped" t)

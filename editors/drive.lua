@@ -60,6 +60,23 @@ at_use(vim.lsp.buf.rename, "double")
 wait(function() return vim.fn.search("double w", "cnw") > 0 end)
 tell("renamed", lines())
 
+-- Renames `f` where it is declared, and tells the lines of both files then.
+local function rename_in_both(name, old, new)
+  vim.fn.search("decl \\zs" .. old .. " ", "cw")
+  vim.lsp.buf.rename(new)
+  local function other() return vim.fn.bufloaded("b.isle") == 1 and vim.fn.getbufline("b.isle", 1, "$") or {} end
+  wait(function() return table.concat(other()):find("(" .. new .. " x)", 1, true) end)
+  tell(name, { lines(), other() })
+  vim.cmd("wall")
+end
+-- A file that comes behind the editor, and is then written anew while it is closed.
+vim.fn.writefile({ "(decl g (T) T)", "(rule (g x) (f x))" }, "b.isle")
+rename_in_both("renamed_in_both", "f", "h")
+vim.cmd("bwipeout b.isle")
+vim.fn.writefile({ "; moved", "; down", "(decl g (T) T)", "(rule (g x) (h x))" }, "b.isle")
+rename_in_both("renamed_where_it_is_now", "h", "k")
+tell("written", vim.fn.readfile("b.isle"))
+
 -- Writes the first name that may stand at the end of what a pattern finds.
 local function complete(pattern)
   vim.fn.search(pattern, "cew")
