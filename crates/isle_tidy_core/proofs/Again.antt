@@ -1,23 +1,13 @@
--- Tidying again changes nothing, and what tidying keeps.
-use Rattle.std.proofs.Common.{◌≡◌, ℕ, List, [], ◌∷◌, map, Option, Some, None, refl, sym, ap, ◌∙◌, subst}
+-- What placing keeps.
+use Rattle.std.proofs.Common.{◌≡◌, ℕ, List, [], ◌∷◌, map, Option, Some, None, refl, ap, ◌∙◌}
 use Rattle.isle_tidy_layout.specs.Entries.{Lexeme, Entry}
 use Rattle.isle_tidy_layout.specs.declared.entries.Gap.{Gap}
 use Rattle.isle_tidy_layout.specs.declared.entries.Gap.TheVariants.{Beside, Tabbed, Below}
-use Rattle.isle_tidy_core.specs.Grammar.{IsDocument, lexemes}
+use Rattle.isle_tidy_core.specs.Grammar.{lexemes}
 use Rattle.isle_tidy_layout.specs.Placing.{tidied, kind_of, closings, at_most_two, empty_lines, Here, placed_gap, reached, passed, placed_after, text_start, placed}
 use Rattle.isle_tidy_layout.specs.declared.placing.Kind.{Kind}
 use Rattle.isle_tidy_layout.specs.declared.placing.Kind.TheVariants.{Start}
-use Rattle.isle_tidy_core.specs.Tidied.{IsTidyTextOf, empty_before, breaks, capped, without_empty, capped_breaks}
-use Rattle.isle_tidy_layout.specs.Writing.{written}
-use Rattle.isle_tidy_layout.proofs.Again.{placed_again}
-use Rattle.isle_tidy_core.proofs.Keeps.{placed_keeps}
-use Rattle.isle_tidy_core.proofs.Unique.{IsDocument-unique}
-
-pub tidy_again : (text answer again : List ℕ) → IsTidyTextOf text answer → IsTidyTextOf answer again → again ≡ answer
-tidy_again text answer again s t =
-    let keeps = subst (λ xs. IsDocument xs (placed s.document)) (sym s.is_written) (placed_keeps text s.document s.is_document) in
-    let same : t.document ≡ placed s.document = IsDocument-unique answer t.document (placed s.document) t.is_document keeps in
-    t.is_written ∙ ap (λ d. written (placed d)) same ∙ ap written (placed_again s.document) ∙ sym s.is_written
+use Rattle.isle_tidy_core.specs.Tidied.{empty_before, breaks, capped, without_empty, capped_breaks}
 
 placed_lexemes : (es : List Entry) (here : Here) → lexemes (placed_after here es) ≡ map tidied (lexemes es)
 placed_lexemes [] here = refl

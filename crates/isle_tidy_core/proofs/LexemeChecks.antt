@@ -1,7 +1,7 @@
 -- A first look at a text: blanks, and then a lexeme.
-use Rattle.std.proofs.Common.{◌≡◌, ◌+◌, ◌-◌, ◌<◌, ◌≤◌, ℕ, List, [], ◌∷◌, true, drop, take, get_or, length, cond, refl, sym, ap, ◌∙◌, subst, IsUtf8, arith}
-use Rattle.std.proofs.lemmas.List.{drop_all, drop_more, append-nil}
-use Rattle.std.specs.List.{prefix_len, list_all}
+use Rattle.std.proofs.Common.{◌≡◌, ◌+◌, ◌-◌, ◌<◌, ◌≤◌, ℕ, List, [], ◌∷◌, true, drop, take, get_or, length, cond, refl, ap, ◌∙◌, subst, arith}
+use Rattle.std.proofs.lemmas.List.{drop_more}
+use Rattle.std.specs.List.{prefix_len}
 use Rattle.isle_base.specs.Skips.{is_blank}
 use Rattle.isle_tidy_layout.specs.Entries.{Lexeme, Entry}
 use Rattle.isle_tidy_layout.specs.declared.entries.Gap.{Gap}

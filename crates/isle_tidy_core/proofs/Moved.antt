@@ -92,19 +92,23 @@ no_prefix b [] apart = refl
 no_prefix b (c ∷ rest) apart =
     cond_both (eqb b 48) (radix_of c) None (λ r. r ≡ None) (λ _. no_radix c apart) (λ _. refl)
 
-one_unmoved : (b : ℕ) (run rest after : List ℕ) → begins_with in_symbol after ≡ false → prefix_radix (b ∷ rest) ≡ None → b ∷ rest ≡ run ++ rest → Unmoved (b ∷ []) run rest after
-one_unmoved b run rest after apart none e =
+-- one byte that is no prefix with the rest is none with what follows it instead
+abbrev pub KeepsBare : (rest after : List ℕ) → Type 0
+KeepsBare rest after = (b : ℕ) → prefix_radix (b ∷ rest) ≡ None → prefix_radix (b ∷ after) ≡ None
+
+one_unmoved : (b : ℕ) (run rest after : List ℕ) → KeepsBare rest after → prefix_radix (b ∷ rest) ≡ None → b ∷ rest ≡ run ++ rest → Unmoved (b ∷ []) run rest after
+one_unmoved b run rest after keeps none e =
     let same : b ∷ [] ≡ run = append_cancel_right (b ∷ []) run rest e in
-    let bare : prefix_radix (b ∷ after) ≡ None = no_prefix b after apart in
+    let bare : prefix_radix (b ∷ after) ≡ None = keeps b none in
     record {
       run_is = rw bare (ap (λ xs. xs ++ after) same);
       radix_is = rw (bare, none) refl;
     }
 
-prefix_one : (b : ℕ) (run rest after : List ℕ) → begins_with in_symbol after ≡ false → (run ≡ [] → ⊥) → (radix : Option ℕ) → prefix_radix (b ∷ rest) ≡ radix → behind_prefix (b ∷ rest) ≡ run ++ rest → Unmoved (b ∷ []) run rest after
-prefix_one b run rest after apart some None is e =
-    one_unmoved b run rest after apart is (sym (ap (λ r. cond (is_some r) (drop 1 rest) (b ∷ rest)) is) ∙ e)
-prefix_one b run rest after apart some (Some radix) is e =
+prefix_one : (b : ℕ) (run rest after : List ℕ) → KeepsBare rest after → (run ≡ [] → ⊥) → (radix : Option ℕ) → prefix_radix (b ∷ rest) ≡ radix → behind_prefix (b ∷ rest) ≡ run ++ rest → Unmoved (b ∷ []) run rest after
+prefix_one b run rest after keeps some None is e =
+    one_unmoved b run rest after keeps is (sym (ap (λ r. cond (is_some r) (drop 1 rest) (b ∷ rest)) is) ∙ e)
+prefix_one b run rest after keeps some (Some radix) is e =
     absurd (too_long run rest (drop 1 rest) (sym (ap (λ r. cond (is_some r) (drop 1 rest) (b ∷ rest)) is) ∙ e) (omega (arith, length-drop 1 rest)) some)
 
 prefix_more : (b c : ℕ) (bs run rest after : List ℕ) → behind_prefix (b ∷ c ∷ (bs ++ rest)) ≡ run ++ rest → Unmoved (b ∷ c ∷ bs) run rest after
@@ -117,27 +121,27 @@ prefix_more b c bs run rest after e =
       radix_is = refl;
     }
 
-prefix_moves : (bytes run rest after : List ℕ) → begins_with in_symbol after ≡ false → (run ≡ [] → ⊥) → behind_prefix (bytes ++ rest) ≡ run ++ rest → Unmoved bytes run rest after
-prefix_moves [] run rest after apart some e = absurd (too_long run rest (behind_prefix rest) e (behind_prefix-le rest) some)
-prefix_moves (b ∷ []) run rest after apart some e = prefix_one b run rest after apart some (prefix_radix (b ∷ rest)) refl e
-prefix_moves (b ∷ c ∷ bs) run rest after apart some e = prefix_more b c bs run rest after e
+prefix_moves : (bytes run rest after : List ℕ) → KeepsBare rest after → (run ≡ [] → ⊥) → behind_prefix (bytes ++ rest) ≡ run ++ rest → Unmoved bytes run rest after
+prefix_moves [] run rest after keeps some e = absurd (too_long run rest (behind_prefix rest) e (behind_prefix-le rest) some)
+prefix_moves (b ∷ []) run rest after keeps some e = prefix_one b run rest after keeps some (prefix_radix (b ∷ rest)) refl e
+prefix_moves (b ∷ c ∷ bs) run rest after keeps some e = prefix_more b c bs run rest after e
 
 -- a literal with a value has digits
 has_run : (minus : Bool) (radix : ℕ) (run : List ℕ) (value : ℤ) → Some value ≡ value_of minus radix (digits_of run) → run ≡ [] → ⊥
 has_run minus radix run value meaning e = let none = ap (λ xs. value_of minus radix (digits_of xs)) e in cc
 
-literal_moves : (b : ℕ) (bs rest after : List ℕ) (value : ℤ) → begins_with in_symbol after ≡ false → Literal (b ∷ (bs ++ rest)) (Some value) rest → Literal (b ∷ (bs ++ after)) (Some value) after
-literal_moves b bs rest after value apart l =
+literal_moves : (b : ℕ) (bs rest after : List ℕ) (value : ℤ) → begins_with in_literal after ≡ false → KeepsBare rest after → Literal (b ∷ (bs ++ rest)) (Some value) rest → Literal (b ∷ (bs ++ after)) (Some value) after
+literal_moves b bs rest after value stops keeps l =
     let bytes : List ℕ = cond (eqb b 45) bs (b ∷ bs) in
     let some = has_run (has_minus (b ∷ (bs ++ rest))) (radix_at (behind_minus (b ∷ (bs ++ rest)))) l.run value l.meaning in
     let e : behind_prefix (bytes ++ rest) ≡ l.run ++ rest = sym (ap behind_prefix (minus_front b bs rest)) ∙ l.longest.split in
-    let u = prefix_moves bytes l.run rest after apart some e in
+    let u = prefix_moves bytes l.run rest after keeps some e in
     let radix : radix_at (behind_minus (b ∷ (bs ++ rest))) ≡ radix_at (behind_minus (b ∷ (bs ++ after))) =
     ap radix_at (minus_front b bs rest) ∙ sym u.radix_is ∙ sym (ap radix_at (minus_front b bs after)) in
     record {
       begins = l.begins;
       run = l.run;
-      longest = record { split = ap behind_prefix (minus_front b bs after) ∙ u.run_is; each = l.longest.each; stops = stops_literal after apart };
+      longest = record { split = ap behind_prefix (minus_front b bs after) ∙ u.run_is; each = l.longest.each; stops = stops };
       meaning = l.meaning ∙ ap (λ r. value_of (eqb b 45) r (digits_of l.run)) radix;
     }
 
@@ -151,7 +155,13 @@ atom_token lparen b bs rest after is apart p = cc
 atom_token rparen b bs rest after is apart p = cc
 atom_token at_sign b bs rest after is apart p = cc
 atom_token (symbol name) b bs rest after is apart p = symbol_moves b bs name rest after apart p
-atom_token (integer value) b bs rest after is apart p = literal_moves b bs rest after value apart p
+atom_token (integer value) b bs rest after is apart p = literal_moves b bs rest after value (stops_literal after apart) (λ c _. no_prefix c after apart) p
+
+-- an integer before anything that goes on with neither its digits nor its prefix
+pub integer_moves : (bytes text rest after : List ℕ) (value : ℤ) → begins_with in_literal after ≡ false → KeepsBare rest after → Literal text (Some value) rest → text ≡ bytes ++ rest → Literal (bytes ++ after) (Some value) after
+integer_moves [] text rest after value stops keeps p e = absurd (let less = Spelling-shorter text (integer value) rest p in let same = ap length e in omega arith)
+integer_moves (b ∷ bs) text rest after value stops keeps p e =
+    literal_moves b bs rest after value stops keeps (subst (λ xs. Literal xs (Some value) rest) e p)
 
 -- a atom before anything that ends a symbol
 pub atom_moves : (token : Tok) (bytes text rest after : List ℕ) → (is_symbol token || is_int token) ≡ true → begins_with in_symbol after ≡ false → Spelling text token rest → text ≡ bytes ++ rest → Spelling (bytes ++ after) token after

@@ -19,7 +19,7 @@ use Rattle.isle_tidy_layout.specs.Writing.{spelling, indentation, gap_text, star
 use Rattle.isle_tidy_layout.proofs.Again.{tidied_again}
 use Rattle.isle_tidy_core.specs.Fitting.{IsAtom, IsLexeme, AreFit, fits}
 use Rattle.isle_tidy_core.specs.Outside.{HoldsInLine, Outside, nothing, block_comment as comment_outside, line_comment as line_outside, byte, ends_line, ends_without_blank, has_few_lines}
-use Rattle.isle_tidy_core.specs.Tidied.{IsTidyTextOf}
+use Rattle.isle_tidy_core.specs.Tidied.{IsLaidOut}
 use Rattle.isle_tidy_core.proofs.Fitted.{placed_document_fits}
 use Rattle.isle_tidy_core.proofs.Keeps.{Stops, entries_stop, no_blank, spelt_some}
 use Rattle.isle_tidy_core.proofs.Moved.{block_comment_moves, no_literal, no_radix}
@@ -92,7 +92,7 @@ token_in bs (integer value) is p =
     let run = ap (list_all in_symbol) (p.longest.split ∙ append-nil p.run) ∙ literals_in p.run p.longest.each in
     behind_minus_in bs (behind_prefix_in (behind_minus bs) run)
 
-atom_in : (bs : List ℕ) → IsAtom bs → list_all in_symbol bs ≡ true
+pub atom_in : (bs : List ℕ) → IsAtom bs → list_all in_symbol bs ≡ true
 atom_in bs s = token_in bs s.0 s.1 s.2
 
 -- the first byte of a lexeme is no blank
@@ -276,7 +276,7 @@ module _ (holds : List ℕ → Bool) (pending : IsKept holds) where
       let first = begun e.lexeme more are.0 in
       subst (λ xs. Outside holds (start_text e.gap ++ xs)) (sym first.2) (start_outside e.gap (kind_of e.lexeme) first.0 first.1 are.1 t.1 first.3 (subst (Outside holds) first.2 o))
 
-  tidy_outside : (text answer : List ℕ) → IsTidyTextOf text answer → Outside holds answer
+  tidy_outside : (text answer : List ℕ) → IsLaidOut text answer → Outside holds answer
   tidy_outside text answer t =
       let fit = placed_document_fits t.document (document_entries text t.document t.is_document) in
       subst (Outside holds) (sym t.is_written) (document_outside (placed t.document) fit (placed_tidy text_start t.document))
@@ -346,8 +346,8 @@ lines_kept = record {
   comment_end = λ b rest h k. few_one b rest (in_line_feed b h);
 }
 
-pub no_blank_at_an_end : (text answer : List ℕ) → IsTidyTextOf text answer → Outside ends_without_blank answer
+pub no_blank_at_an_end : (text answer : List ℕ) → IsLaidOut text answer → Outside ends_without_blank answer
 no_blank_at_an_end text answer t = tidy_outside ends_without_blank ends_kept text answer t
 
-pub tidy_has_few_lines : (text answer : List ℕ) → IsTidyTextOf text answer → Outside has_few_lines answer
+pub tidy_has_few_lines : (text answer : List ℕ) → IsLaidOut text answer → Outside has_few_lines answer
 tidy_has_few_lines text answer t = tidy_outside has_few_lines lines_kept text answer t

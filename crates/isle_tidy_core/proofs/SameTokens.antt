@@ -1,32 +1,36 @@
--- Documents with the same lexemes, but for the ends of line comments, have the same tokens.
+-- Documents with the same lexemes, but for the ends of line comments and the line ends of block comments, have the
+-- same tokens.
 use Rattle.std.proofs.Common.{◌≡◌, ℕ, ◌-◌, List, [], ◌∷◌, ◌++◌, map, true, ◌||◌, length, refl, sym, ap, subst, append-nil}
 use Rattle.isle_base.specs.Lexing.{Lexes}
 use Rattle.isle_base.specs.Place.{nowhere, placed, placed_at}
 use Rattle.isle_base.specs.Skips.{Skip, nothing, line_comment as line_skip, block_comment as block_skip}
 use Rattle.isle_base.specs.Spellings.{Spelling}
 use Rattle.isle_base.specs.Token.{Tok, lparen, rparen, at_sign as at_token, is_int, is_symbol, Lexeme as Token, end}
-use Rattle.isle_tidy_core.specs.Grammar.{Spells, SpellsEntries, lexemes, IsDocument}
-use Rattle.isle_tidy_core.specs.Tidied.{IsTidyTextOf}
-use Rattle.isle_tidy_core.specs.Tokens.{HaveSameTokens}
+use Rattle.isle_tidy_core.specs.Ends.{lexeme_with}
+use Rattle.isle_tidy_core.specs.Grammar.{Spells, SpellsEntries, lexemes}
+use Rattle.isle_tidy_core.specs.declared.ends.LineEnd.{LineEnd}
+use Rattle.isle_tidy_core.specs.declared.ends.LineEnd.TheVariants.{Lf}
 use Rattle.isle_tidy_core.proofs.Atoms.{Spelling-unique}
 use Rattle.isle_tidy_core.proofs.Existing.{blanks_skip, lexes_after}
-use Rattle.isle_tidy_core.proofs.Keeps.{placed_keeps}
-use Rattle.isle_tidy_core.proofs.Again.{lexemes_stay}
 use Rattle.isle_tidy_core.proofs.Moved.{atom_moves}
 use Rattle.isle_tidy_layout.specs.Entries.{Lexeme, opening, closing, at_sign, atom, line_comment, block_comment, Entry}
-use Rattle.isle_tidy_layout.specs.Placing.{tidied, placed as placed_entries}
+use Rattle.isle_tidy_layout.specs.Placing.{tidied}
 use Rattle.isle_tidy_layout.specs.declared.entries.Gap.{Gap}
-use Rattle.isle_tidy_layout.specs.declared.entries.Gap.TheVariants.{Beside, Below}
+use Rattle.isle_tidy_layout.specs.declared.entries.Gap.TheVariants.{Beside}
 
-module _ (size other_size : ℕ) where
-  abbrev Both : List ℕ → List ℕ → Type 0
+-- a lexeme of the tidy text
+abbrev pub changed : LineEnd → Lexeme → Lexeme
+changed e x = lexeme_with e (tidied (lexeme_with Lf x))
+
+module _ (e : LineEnd) (size other_size : ℕ) where
+  abbrev pub Both : List ℕ → List ℕ → Type 0
   Both text other =
       (xs : List Token) × (ys : List Token) × Lexes size text xs end × Lexes other_size other ys end × (placed nowhere xs ≡ placed nowhere ys)
 
   both_after : (text from other there : List ℕ) → Skip text from → Skip other there → Both from there → Both text other
   both_after text from other there s t h = (h.0, h.1, lexes_after size text from h.0 s h.2, lexes_after other_size other there h.1 t h.3, h.4)
 
-  both_more : (t : Tok) (text after other rest : List ℕ) → Spelling text t after → Spelling other t rest → Both after rest → Both text other
+  pub both_more : (t : Tok) (text after other rest : List ℕ) → Spelling text t after → Spelling other t rest → Both after rest → Both text other
   both_more t text after other rest p q h =
       let x : Token = record { offset = size - length text; token = t; after = size - length after } in
       let y : Token = record { offset = other_size - length other; token = t; after = other_size - length rest } in (
@@ -42,7 +46,7 @@ module _ (size other_size : ℕ) where
   one_token t u bs text after other rest i j p q d e =
       (Spelling-unique (bs ++ []) t u [] [] (atom_moves t bs text after [] i refl p d) (atom_moves u bs other rest [] j refl q e)).0
 
-  both_lexeme : (x : Lexeme) (text after other rest : List ℕ) → Spells x text after → Spells (tidied x) other rest → Both after rest → Both text other
+  both_lexeme : (x : Lexeme) (text after other rest : List ℕ) → Spells x text after → Spells (changed e x) other rest → Both after rest → Both text other
   both_lexeme opening text after other rest s t h = both_more lparen text after other rest s t h
   both_lexeme closing text after other rest s t h = both_more rparen text after other rest s t h
   both_lexeme at_sign text after other rest s t h = both_more at_token text after other rest s t h
@@ -54,20 +58,15 @@ module _ (size other_size : ℕ) where
   both_lexeme (block_comment bs) text after other rest s t h =
       both_after text after other rest (block_skip s.1 s.3 (nothing refl)) (block_skip t.1 t.3 (nothing refl)) h
 
-  both_entries : (es fs : List Entry) (gap next : Gap) (text other : List ℕ) → SpellsEntries gap es text → SpellsEntries next fs other
-      → lexemes fs ≡ map tidied (lexemes es) → Both text other
+  pub both_entries : (es fs : List Entry) (gap next : Gap) (text other : List ℕ) → SpellsEntries gap es text → SpellsEntries next fs other
+      → lexemes fs ≡ map (changed e) (lexemes es) → Both text other
   both_entries [] [] gap next text other s t same =
       ([], [], blanks_skip text text [] (sym (append-nil text)) s, blanks_skip other other [] (sym (append-nil other)) t, refl)
-  both_entries [] (f ∷ fs) gap next text other s t same = cc
-  both_entries (e ∷ es) [] gap next text other s t same = cc
-  both_entries (e ∷ es) (f ∷ fs) gap next text other s t same =
-      let first : f.lexeme ≡ tidied e.lexeme = cc in
-      let others : lexemes fs ≡ map tidied (lexemes es) = cc in
+  both_entries [] (y ∷ ys) gap next text other s t same = cc
+  both_entries (x ∷ xs) [] gap next text other s t same = cc
+  both_entries (x ∷ xs) (y ∷ ys) gap next text other s t same =
+      let first : y.lexeme ≡ changed e x.lexeme = cc in
+      let others : lexemes ys ≡ map (changed e) (lexemes xs) = cc in
       both_after text s.1 other t.1 (blanks_skip text s.0 s.1 s.3.split s.3.each) (blanks_skip other t.0 t.1 t.3.split t.3.each)
-      (both_lexeme e.lexeme s.1 s.2 t.1 t.2 s.5 (subst (λ x. Spells x t.1 t.2) first t.5)
-      (both_entries es fs (Beside 0) (Beside 0) s.2 t.2 s.6 t.6 others))
-
-pub tidied_tokens : (text answer : List ℕ) → IsTidyTextOf text answer → HaveSameTokens text answer
-tidied_tokens text answer t =
-    let pending : IsDocument answer (placed_entries t.document) = subst (λ xs. IsDocument xs (placed_entries t.document)) (sym t.is_written) (placed_keeps text t.document t.is_document) in
-    both_entries (length text) (length answer) t.document (placed_entries t.document) (Below 0 0) (Below 0 0) text answer t.is_document.0 pending.0 (lexemes_stay t.document)
+      (both_lexeme x.lexeme s.1 s.2 t.1 t.2 s.5 (subst (λ z. Spells z t.1 t.2) first t.5)
+      (both_entries xs ys (Beside 0) (Beside 0) s.2 t.2 s.6 t.6 others))

@@ -15,7 +15,7 @@ use Rattle.isle_tidy_layout.specs.declared.placing.Kind.TheVariants.{Start, Line
 use Rattle.isle_tidy_core.proofs.Moved.{atom_moves, block_comment_moves}
 use Rattle.isle_tidy_core.proofs.Unique.{nothing_spelt}
 
-spelt_lexeme : (x : Lexeme) (text rest : List ℕ) → Spells x text rest → IsLexeme x
+pub spelt_lexeme : (x : Lexeme) (text rest : List ℕ) → Spells x text rest → IsLexeme x
 spelt_lexeme opening text rest s = tt
 spelt_lexeme closing text rest s = tt
 spelt_lexeme at_sign text rest s = tt

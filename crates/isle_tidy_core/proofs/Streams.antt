@@ -1,167 +1,61 @@
--- Tidying a text entry by entry: what is written so far, and then the entries to come, placed, is the
--- text of a document that is placed.
-use Rattle.std.proofs.Common.{◌≡◌, ℕ, List, [], ◌∷◌, ◌++◌, drop, length, ◌+◌, ◌≤◌, ◌<◌, ◌-◌, IsUtf8, refl, sym, ap, subst, ◌∙◌, arith, append_assoc, append-nil}
-use Rattle.isle_tidy_layout.specs.declared.entries.Entry.{Entry as Written}
-use Rattle.isle_tidy_layout.specs.declared.entries.Gap.{Gap}
-use Rattle.isle_tidy_layout.specs.declared.entries.Gap.TheVariants.{Beside, Below}
-use Rattle.isle_tidy_layout.specs.declared.placing.Kind.{Kind}
-use Rattle.isle_tidy_layout.specs.declared.placing.Kind.TheVariants.{Start}
-use Rattle.isle_tidy_core.specs.declared.reader.Step.TheVariants.{More, End, Refused}
-use Rattle.isle_tidy_layout.specs.Entries.{Lexeme, opening, closing, at_sign, atom, line_comment, block_comment, Entry}
-use Rattle.isle_tidy_layout.specs.EntriesView.{lexeme_of, entry_of}
-use Rattle.isle_tidy_core.specs.Finds.{FindsCanonicalGap, FindsEntry, FindsGap, part}
-use Rattle.isle_tidy_core.specs.Pending.{IsPending, Puts}
-use Rattle.isle_tidy_core.specs.declared.output.PendingRange.{PendingRange}
-use Rattle.isle_tidy_core.specs.declared.reader.Span.{Span}
-use Rattle.isle_tidy_core.specs.Grammar.{SpellsEntries}
-use Rattle.isle_tidy_layout.specs.Placing.{tidied, kind_of, closings, Here, placed_gap, reached, passed, placed_after, text_start, placed}
-use Rattle.isle_tidy_core.specs.Streams.{IsWritten, HasWritten, PutsMore, PutsLast, text_from, gap_text_from, entry_text}
-use Rattle.isle_tidy_layout.specs.Writing.{spelling, written, written_after}
-use Rattle.isle_tidy_core.proofs.Listing.{gap_utf8, one_more, goes_on}
-use Rattle.isle_tidy_core.proofs.Unique.{SpellsEntries-unique}
-use Rattle.isle_tidy_core.specs.Refused.{HasDocument}
-use Rattle.isle_tidy_core.specs.Sizes.{size_of}
+-- Tidying a text part by part: what is written so far begins its tidy text.
+use Rattle.std.proofs.Common.{◌≡◌, ℕ, List, [], ◌++◌, length, ◌≤◌, ◌<◌, ◌-◌, Option, Some, None, string_bytes, refl, sym, ap, subst, ◌∙◌, arith}
+use Rattle.std.specs.declared.alloc.Global.{Global}
+use Rattle.std.specs.declared.string.String.{String}
+use Rattle.isle_tidy_core.specs.Streams.{IsBegun, IsMade, IsPlain, HasLaidOut, HasWritten, LaysLast, LaysMore, PutsMore, PutsLast}
 use Rattle.isle_tidy_core.specs.Tidied.{IsTidyTextOf}
 use Rattle.isle_tidy_core.specs.declared.tidying.Tidying.{Tidying}
-use Rattle.isle_tidy_layout.specs.PlacerView.{IsAt}
+use Rattle.isle_tidy_core.proofs.Appending.{last_appended, more_appended, nothing_appended}
+use Rattle.isle_tidy_core.proofs.Laying.{begins_laid}
+use Rattle.isle_tidy_core.proofs.TidyTexts.{plain_tidy}
 
-pub nothing_written : (text : List ℕ) → IsWritten text (Below 0 0) 0 text_start []
-nothing_written text = λ es s. (es, s, refl)
+-- A tidying of a plain text, and one whose tidy text is made.
 
-text_after : (x : Lexeme) (es : List Entry) → text_from (kind_of x) es ≡ written_after es
-text_after opening es = refl
-text_after closing es = refl
-text_after at_sign es = refl
-text_after (atom bs) es = refl
-text_after (line_comment bs) es = refl
-text_after (block_comment bs) es = refl
-
-text_more : (before : Kind) (e : Entry) (es : List Entry) → text_from before (e ∷ es) ≡ gap_text_from before e.gap ++ (spelling e.lexeme ++ written_after es)
-text_more Start e es = refl
-text_more _ e es = refl
-
--- one entry more
-pub one_written : (text : List ℕ) (gap : Gap) (at count : ℕ) (e : Written) (span : Span) (here : Here) (placed_to : Gap) (old new : List ℕ)
-    → IsWritten text gap at here old
-    → FindsEntry text gap at (More e span)
-    → ((es : List Entry) → SpellsEntries (Beside 0) es (drop span.end text)
-    → placed_gap here e.gap (kind_of (lexeme_of e.lexeme)) (closings es) ≡ placed_gap here e.gap (kind_of (lexeme_of e.lexeme)) count)
-    → placed_to ≡ placed_gap here e.gap (kind_of (lexeme_of e.lexeme)) count
-    → new ≡ old ++ entry_text here.before placed_to (tidied (lexeme_of e.lexeme))
-    → IsWritten text (Beside 0) span.end (passed (reached here (kind_of (lexeme_of e.lexeme)) e.gap placed_to) (lexeme_of e.lexeme)) new
-one_written text gap at count e span here placed_to old new so_far found ahead is put = λ es s.
-    let x = lexeme_of e.lexeme in
-    let kind = kind_of x in
-    let whole = so_far (entry_of e ∷ es) (one_more text gap at e span found es s) in
-    let gaps : placed_gap here e.gap kind (closings es) ≡ placed_to = ahead es s ∙ sym is in
-    let there = passed (reached here kind e.gap placed_to) x in
-    let more = placed_after there es in
-    let front = gap_text_from here.before placed_to in
-    let first : placed_after here (entry_of e ∷ es) ≡ record { gap = placed_to; lexeme = tidied x } ∷ more =
-    ap (λ (g : Gap). let r : Entry = record { gap = g; lexeme = tidied x } in r ∷ placed_after (passed (reached here kind e.gap g) x) es) gaps in
-    let text_is : text_from here.before (placed_after here (entry_of e ∷ es)) ≡ front ++ (spelling (tidied x) ++ written_after more) =
-    ap (text_from here.before) first ∙ text_more here.before (record { gap = placed_to; lexeme = tidied x }) more in
-    let grouped : old ++ (front ++ (spelling (tidied x) ++ written_after more)) ≡ new ++ written_after more =
-    ap (λ xs. old ++ xs) (sym (append_assoc front (spelling (tidied x)) (written_after more)))
-    ∙ sym (append_assoc old (front ++ spelling (tidied x)) (written_after more))
-    ∙ ap (λ xs. xs ++ written_after more) (sym put) in
-    (whole.0, whole.1, whole.2 ∙ ap (λ xs. old ++ xs) text_is ∙ grouped ∙ ap (λ xs. new ++ xs) (sym (text_after x more)))
-
--- The same, of a tidying.
-
-abbrev on_text : (text out : List ℕ) (t : Tidying) → HasWritten text out t → HasWritten t.text.now out t
-on_text text out t h = subst (λ xs. HasWritten xs out t) (sym h.same_text) h
-
-pub has_begun : (t : Tidying) → HasDocument t.text.now → IsUtf8 t.text.now → IsAt t.placer text_start → t.gap ≡ Below 0 0 → t.at ≡ 0 → t.pending ≡ 0 → HasWritten t.text.now [] t
-has_begun t d utf8 at gap start none = record {
-  same_text = refl;
-  document = d;
-  here = text_start;
-  is_here = at;
-  so_far = subst (λ xs. IsWritten t.text.now t.gap t.at text_start xs) (sym (ap (λ n. part t.text.now t.pending n) start ∙ ap (λ n. part t.text.now n 0) none))
-      (subst (λ g. IsWritten t.text.now g t.at text_start []) (sym gap) (subst (λ n. IsWritten t.text.now (Below 0 0) n text_start []) (sym start) (nothing_written t.text.now)));
-  to_come = (d.0, subst (λ g. SpellsEntries g d.0 (drop t.at t.text.now)) (sym gap) (subst (λ n. SpellsEntries (Below 0 0) d.0 (drop n t.text.now)) (sym start) d.1.0));
-  within = omega (arith, start);
-  utf8 = subst (λ n. IsUtf8 (drop n t.text.now)) (sym start) utf8;
-  no_gap = ap size_of gap;
-  pending = omega (arith, start, none);
-  pending_utf8 = subst (λ n. IsUtf8 (drop n t.text.now)) (sym none) utf8;
+pub begun_plain : (t : Tidying) (text out : List ℕ) → IsPlain text → HasLaidOut text out t → HasWritten text out t
+begun_plain t text out plain laid = record {
+  same_text = laid.same_text;
+  within = laid.within;
+  begun = subst (IsBegun text out t) (sym laid.not_made) (plain, laid);
 }
 
--- what is pending of a text behind what was written
-abbrev kept_of : Tidying → PendingRange
-kept_of t = record { from = t.pending; to = t.at }
+pub plain_laid : (t : Tidying) (text out : List ℕ) → t.made ≡ None → HasWritten text out t → IsPlain text × HasLaidOut text out t
+plain_laid t text out none has = subst (IsBegun text out t) none has.begun
 
-pub are_kept : (t : Tidying) (text out : List ℕ) → HasWritten text out t → IsPending t.text.now (kept_of t)
-are_kept t text out has =
-    let h = on_text text out t has in
-    record { order = h.pending; within = h.within; first = h.pending_utf8; last = h.utf8 }
+none_since : {A : Type 0} (made : Option A) → ((x : A) → made ≡ Some x → ⊥) → made ≡ None
+none_since None h = refl
+none_since (Some x) h = absurd (h x refl)
 
--- what was pending, and what is put, go on as what is pending now
-regrouped : (out pending more put now : List ℕ) → put ++ now ≡ pending ++ more → (out ++ pending) ++ more ≡ (out ++ put) ++ now
-regrouped out pending more put now e = append_assoc out pending more ∙ ap (λ xs. out ++ xs) (sym e) ∙ sym (append_assoc out put now)
+pub not_made : (t : Tidying) → ((made : String Global) → t.made ≡ Some made → ⊥) → t.made ≡ None
+not_made t h = none_since t.made h
 
-pub puts_more : (t new : Tidying) (e : Written) (span : Span) (count : ℕ) (placed_to : Gap) (before after : List ℕ)
-    → FindsEntry t.text.now t.gap t.at (More e span)
-    → ((here : Here) (es : List Entry) → SpellsEntries (Beside 0) es (drop span.end t.text.now)
-    → placed_gap here e.gap (kind_of (lexeme_of e.lexeme)) (closings es) ≡ placed_gap here e.gap (kind_of (lexeme_of e.lexeme)) count)
-    → ((here : Here) → IsAt t.placer here
-    → (placed_to ≡ placed_gap here e.gap (kind_of (lexeme_of e.lexeme)) count)
-    × IsAt new.placer (passed (reached here (kind_of (lexeme_of e.lexeme)) e.gap placed_to) (lexeme_of e.lexeme)))
-    → Puts t.text.now (kept_of t) new.pending span.end before after (entry_text t.placer.before placed_to (tidied (lexeme_of e.lexeme)))
-    → new.text.now ≡ t.text.now → new.gap ≡ Beside 0 → new.at ≡ span.end
-    → PutsMore t new before after
-puts_more t new e span count placed_to before after found ahead goes puts same gap at = λ text out has.
-    let h = on_text text out t has in
-    let x = lexeme_of e.lexeme in
-    let there = passed (reached h.here (kind_of x) e.gap placed_to) x in
-    let went = goes h.here h.is_here in
-    let pending = part t.text.now t.pending t.at in
-    let more = entry_text h.here.before placed_to (tidied x) in
-    let more_is : entry_text t.placer.before placed_to (tidied x) ≡ more = ap (λ k. entry_text k placed_to (tidied x)) h.is_here.before in
-    let now : (out ++ pending) ++ more ≡ (out ++ puts.put) ++ part t.text.now new.pending new.at =
-    regrouped out pending more puts.put (part t.text.now new.pending span.end) (puts.same ∙ ap (λ xs. pending ++ xs) more_is) ∙ ap (λ n. (out ++ puts.put) ++ part t.text.now new.pending n) (sym at) in
-    let written_more : IsWritten t.text.now (Beside 0) span.end there ((out ++ pending) ++ more) =
-    one_written t.text.now t.gap t.at count e span h.here placed_to (out ++ pending) ((out ++ pending) ++ more) h.so_far found (ahead h.here) went.0 refl in
-    let others = goes_on t.text.now t.gap t.at e span found h.to_come.0 h.to_come.1 in
-    let there_has : HasWritten t.text.now (out ++ puts.put) new = record {
-      same_text = same;
-      document = h.document;
-      here = there;
-      is_here = went.1;
-      so_far = subst (λ g. IsWritten t.text.now g new.at there ((out ++ puts.put) ++ part t.text.now new.pending new.at)) (sym gap)
-          (subst (λ n. IsWritten t.text.now (Beside 0) n there ((out ++ puts.put) ++ part t.text.now new.pending new.at)) (sym at)
-          (subst (λ xs. IsWritten t.text.now (Beside 0) span.end there xs) now written_more));
-      to_come = (others.0, subst (λ g. SpellsEntries g others.0 (drop new.at t.text.now)) (sym gap) (subst (λ n. SpellsEntries (Beside 0) others.0 (drop n t.text.now)) (sym at) others.1));
-      within = subst (λ n. n ≤ length t.text.now) (sym at) found.1.2;
-      utf8 = subst (λ n. IsUtf8 (drop n t.text.now)) (sym at) found.1.3;
-      no_gap = ap size_of gap;
-      pending = subst (λ n. new.pending ≤ n) (sym at) puts.order;
-      pending_utf8 = puts.first;
-    } in
-    (puts.put, puts.appended, subst (λ xs. HasWritten xs (out ++ puts.put) new) has.same_text there_has)
+-- with the tidy text, or without one if the text is plain
+pub begun_with : (t new : Tidying) (text : List ℕ) (made : Option (String Global)) → HasLaidOut text [] t → IsMade text made → new ≡ record t { made = made } → HasWritten text [] new
+begun_with t new text None laid is e =
+    let same : record t { made = None } ≡ t = ap (λ (m : Option (String Global)). let u : Tidying = record t { made = m } in u) (sym laid.not_made) in
+    subst (HasWritten text []) (sym (e ∙ same)) (begun_plain t text [] is laid)
+begun_with t new text (Some made) laid is e =
+    let has : HasWritten text [] (record t { made = Some made }) = record { same_text = laid.same_text; within = laid.within; begun = is } in
+    subst (HasWritten text []) (sym e) has
 
-pub puts_last : (t : Tidying) (before after : List ℕ) → FindsEntry t.text.now t.gap t.at End
-    → after ≡ before ++ (part t.text.now t.pending t.at ++ text_from t.placer.before []) → PutsLast t before after
-puts_last t before after found put = λ text out has.
-    let h = on_text text out t has in
-    let pending = part t.text.now t.pending t.at in
-    let last = text_from h.here.before [] in
-    let whole = h.so_far [] found in
-    let d = h.document in
-    let same : whole.0 ≡ d.0 = SpellsEntries-unique (Below 0 0) whole.0 d.0 t.text.now whole.1 d.1.0 in
-    let tidy : IsTidyTextOf t.text.now (out ++ (pending ++ last)) = record {
-      document = d.0;
-      is_document = d.1;
-      is_written = sym (append_assoc out pending last) ∙ sym whole.2 ∙ ap (λ es. written (placed es)) same;
-    } in (
-      pending ++ last,
-      put ∙ ap (λ k. before ++ (pending ++ text_from k [])) h.is_here.before,
-      subst (λ xs. IsTidyTextOf xs (out ++ (pending ++ last))) has.same_text tidy,
-    )
+pub puts_laid : (t new : Tidying) (before after : List ℕ) → t.made ≡ None → LaysMore t new before after → PutsMore t new before after
+puts_laid t new before after none lays = λ text out has.
+    let h = plain_laid t text out none has in
+    let m = lays text out h.1 in
+    (m.0, m.1, begun_plain new text (out ++ m.0) h.0 m.2)
 
-pub never_refused : (t : Tidying) (text out : List ℕ) → HasWritten text out t → FindsEntry t.text.now t.gap t.at Refused → ⊥
-never_refused t text out has found = let h = on_text text out t has in found h.to_come.0 h.to_come.1
+pub puts_laid_last : (t : Tidying) (before after : List ℕ) → t.made ≡ None → LaysLast t before after → PutsLast t before after
+puts_laid_last t before after none lays = λ text out has.
+    let h = plain_laid t text out none has in
+    let m = lays text out h.1 in
+    (m.0, m.1, plain_tidy text (out ++ m.0) h.0 m.2)
+
+pub puts_made : (t : Tidying) (made : String Global) (before after : List ℕ) → t.made ≡ Some made → after ≡ before ++ string_bytes made → PutsLast t before after
+puts_made t made before after is put = λ text out has. (string_bytes made, put, subst (IsBegun text out t) is has.begun)
+
+pub put_on : (t new : Tidying) (text before after : List ℕ) → HasWritten text before t → PutsMore t new before after → HasWritten text after new
+put_on t new text before after has more = let m = more text before has in subst (λ xs. HasWritten text xs new) (sym m.1) m.2
+
+-- The rest is no more than is left.
 
 pub moved_on : (t new : Tidying) (text out before after : List ℕ) → HasWritten text out t → PutsMore t new before after → t.at < new.at → length text - new.at < length text - t.at
 moved_on t new text out before after has more moves =
@@ -172,40 +66,14 @@ moved_on t new text out before after has more moves =
 pub all_put : (t : Tidying) (text before after : List ℕ) → HasWritten text before t → PutsLast t before after → IsTidyTextOf text after
 all_put t text before after has last = let whole = last text before has in subst (λ xs. IsTidyTextOf text xs) (sym whole.1) whole.2
 
--- Several entries, one after another.
-
-pub nothing_put : (t : Tidying) (before : List ℕ) → PutsMore t t before before
-nothing_put t before = λ text out has. ([], sym (append-nil before), subst (λ xs. HasWritten text xs t) (sym (append-nil out)) has)
-
-pub more_put : (t mid new : Tidying) (before now after : List ℕ) → PutsMore t mid before now → PutsMore mid new now after → PutsMore t new before after
-more_put t mid new before now after first then_more = λ text out has.
-    let a = first text out has in
-    let b = then_more text (out ++ a.0) a.2 in
-    (a.0 ++ b.0, b.1 ∙ ap (λ xs. xs ++ b.0) a.1 ∙ append_assoc before a.0 b.0, subst (λ xs. HasWritten text xs new) (append_assoc out a.0 b.0) b.2)
-
-pub last_put : (t mid : Tidying) (before now after : List ℕ) → PutsMore t mid before now → PutsLast mid now after → PutsLast t before after
-last_put t mid before now after first last = λ text out has.
-    let a = first text out has in
-    let b = last text (out ++ a.0) a.2 in
-    (a.0 ++ b.0, b.1 ∙ ap (λ xs. xs ++ b.0) a.1 ∙ append_assoc before a.0 b.0, subst (λ xs. IsTidyTextOf text xs) (append_assoc out a.0 b.0) b.2)
-
 -- what is written so far begins the tidy text
+
+begins_by : (t : Tidying) (text out : List ℕ) (made : Option (String Global)) → IsBegun text out t made → (rest : List ℕ) × IsTidyTextOf text (out ++ rest)
+begins_by t text out None has = let whole = begins_laid t text out has.1 in (whole.0, plain_tidy text (out ++ whole.0) has.0 whole.1)
+begins_by t text out (Some made) has = (string_bytes made, has)
+
 pub begins_tidy : (t : Tidying) (text out : List ℕ) → HasWritten text out t → (rest : List ℕ) × IsTidyTextOf text (out ++ rest)
-begins_tidy t text out has =
-    let pending = part text t.pending t.at in
-    let here = has.here in
-    let es = has.to_come.0 in
-    let last = text_from here.before (placed_after here es) in
-    let whole = has.so_far es has.to_come.1 in
-    let d = has.document in
-    let same : whole.0 ≡ d.0 = SpellsEntries-unique (Below 0 0) whole.0 d.0 text whole.1 d.1.0 in (
-      pending ++ last,
-      record {
-        document = d.0;
-        is_document = d.1;
-        is_written = sym (append_assoc out pending last) ∙ sym whole.2 ∙ ap (λ es. written (placed es)) same;
-      },
-    )
+begins_tidy t text out has = begins_by t text out t.made has.begun
 
 pub goes_with : (t new : Tidying) (before after : List ℕ) → (text : List ℕ) × (out : List ℕ) × HasWritten text out t → PutsMore t new before after → t.at < new.at → length new.text.now - new.at < length t.text.now - t.at
 goes_with t new before after has more moves =
@@ -215,13 +83,11 @@ goes_with t new before after has more moves =
     let same_too : length new.text.now ≡ length has.0 = ap length there.same_text in
     omega (arith, within, same, same_too, moves)
 
-pub entry_utf8 : (t : Tidying) (text out : List ℕ) (e : Written) (span : Span) → HasWritten text out t → FindsEntry t.text.now t.gap t.at (More e span) → IsUtf8 (drop span.start t.text.now)
-entry_utf8 t text out e span has found =
-    let h = on_text text out t has in gap_utf8 t.text.now t.at span.start t.gap e.gap found.0 h.utf8
+pub nothing_put : (t : Tidying) (before : List ℕ) → PutsMore t t before before
+nothing_put t before = nothing_appended HasWritten t before
 
--- a character begins behind one space or none
-pub near_utf8 : (t : Tidying) (text out bytes : List ℕ) (width : ℕ) → HasWritten text out t → bytes ≡ t.text.now → (t.at + width < length bytes) × FindsCanonicalGap bytes t.at (Beside width) (t.at + width) → IsUtf8 (drop (t.at + width) t.text.now)
-near_utf8 t text out bytes width has same found =
-    let h = on_text text out t has in
-    let canonical : FindsCanonicalGap bytes t.at (Beside width) (t.at + width) = found.1 in
-    gap_utf8 t.text.now t.at (t.at + width) (Beside 0) (Beside width) (subst (λ xs. FindsGap xs (Beside 0) t.at (Beside width) (t.at + width)) same canonical.0) h.utf8
+pub more_put : (t mid new : Tidying) (before now after : List ℕ) → PutsMore t mid before now → PutsMore mid new now after → PutsMore t new before after
+more_put = more_appended HasWritten
+
+pub last_put : (t mid : Tidying) (before now after : List ℕ) → PutsMore t mid before now → PutsLast mid now after → PutsLast t before after
+last_put = last_appended HasWritten IsTidyTextOf

@@ -1,3 +1,4 @@
+pub mod Ends
 pub mod Finds
 pub mod Fitting
 pub mod Grammar

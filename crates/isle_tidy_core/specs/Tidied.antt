@@ -1,17 +1,26 @@
 -- The tidy text of a text, and what it keeps.
-use Rattle.std.specs.Prelude.{◌≡◌, ◌≢◌, ℕ, List, [], ◌∷◌, map, Option, Some, None}
+use Rattle.std.specs.Prelude.{◌≡◌, ◌≢◌, ℕ, List, [], ◌∷◌, ◌++◌, map, Option, Some, None}
 use Rattle.isle_tidy_layout.specs.Entries.{Entry}
 use Rattle.isle_tidy_layout.specs.declared.entries.Gap.{Gap}
 use Rattle.isle_tidy_layout.specs.declared.entries.Gap.TheVariants.{Beside, Tabbed, Below}
+use Rattle.isle_tidy_core.specs.Ends.{body_of, entries_with, line_end_of, mark_of, with_ends}
 use Rattle.isle_tidy_core.specs.Grammar.{IsDocument}
+use Rattle.isle_tidy_core.specs.declared.ends.LineEnd.TheVariants.{Lf}
 use Rattle.isle_tidy_layout.specs.Placing.{at_most_two, placed}
 use Rattle.isle_tidy_layout.specs.Writing.{written}
 
--- the text has a document, and this is its tidy text
-pub record IsTidyTextOf (text answer : List ℕ) : Type 0 where
+-- the text has a document, and this is what is written of it once it is placed
+pub record IsLaidOut (text answer : List ℕ) : Type 0 where
   pub document : List Entry
   pub is_document : IsDocument text document
   pub is_written : answer ≡ written (placed document)
+
+-- The text has a document, and this is its tidy text: what is written of the document once it is placed, with the
+-- line ends of the text, behind the mark.
+pub record IsTidyTextOf (text answer : List ℕ) : Type 0 where
+  pub document : List Entry
+  pub is_document : IsDocument (body_of text) document
+  pub is_written : answer ≡ mark_of text ++ with_ends (line_end_of text) (written (placed (entries_with Lf document)))
 
 -- the tidy text of the text is another one
 abbrev pub IsUntidy : List ℕ → Type 0

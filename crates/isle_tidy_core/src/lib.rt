@@ -14,6 +14,7 @@ ghost use Rattle.isle_tidy_core.specs.Tidied.{IsTidyTextOf, IsUntidy};
 
 mod check_lexemes;
 mod closings;
+mod ends;
 mod gaps;
 pub mod laws;
 mod lexemes;

@@ -1,18 +1,23 @@
 //! Tidying a text entry by entry.
 
-ghost use Rattle.std.specs.Prelude.{◌≡◌, ◌≢◌, ◌<◌, [], Err, IfErr, IfOk, List, Ok, OnOk, ℕ};
+ghost use Rattle.std.specs.Prelude.{◌≡◌, ◌≢◌, ◌<◌, [], Err, IfErr, IfOk, List, None, Ok, OnOk, ℕ};
 ghost use Rattle.std.specs.Prelude.{false, length, string_bytes, true};
 ghost use Rattle.isle_base.specs.Steps.{IfError};
 ghost use Rattle.isle_base.specs.declared.fault.Fault.TheVariants.{Failed};
+ghost use Rattle.isle_tidy_core.specs.Ends.{body_of, mark_size, with_ends};
 ghost use Rattle.isle_tidy_core.specs.Finds.{FindsBeside, FindsEntry};
-ghost use Rattle.isle_tidy_core.specs.Refused.{HasNoDocument, IsRefusedFor, IsWithin};
-ghost use Rattle.isle_tidy_core.specs.Streams.{HasWritten, PutsLast, PutsMore};
+ghost use Rattle.isle_tidy_core.specs.Refused.{HasDocument, HasNoDocument, IsRefusedFor, IsWithin};
+ghost use Rattle.isle_tidy_core.specs.Streams.{HasLaidOut, HasWritten, IsMade};
+ghost use Rattle.isle_tidy_core.specs.Streams.{LaysLast, LaysMore, PutsLast, PutsMore};
+ghost use Rattle.isle_tidy_core.specs.Tidied.{IsLaidOut, IsTidyTextOf};
+ghost use Rattle.isle_tidy_core.specs.declared.ends.LineEnd.TheVariants.{Lf};
 ghost use Rattle.isle_tidy_core.specs.declared.reader.Step.TheVariants.{More};
 ghost use Rattle.isle_tidy_layout.specs.EntriesView.{lexeme_of};
 
 use crate::check_lexemes::has_document;
 use crate::closings::closings_after;
-use crate::lexemes::lexeme_at;
+use crate::ends::{LineEnd, has_return, line_end_of, mark_size, put_with_ends};
+use crate::lexemes::{lexeme_at, part};
 use crate::output::{PendingRange, is_printable_at, put_end, put_entry};
 use crate::parentheses::check_parentheses;
 use crate::reader::{Span, Step, common_width_at, step_at};
@@ -23,7 +28,8 @@ use std::alloc::{AllocError, Global};
 
 /// A text that is being tidied, one entry after another.
 ///
-/// It borrows the text, and holds no copy of it or of its tidy text.
+/// It borrows the text, and holds no copy of it. Its tidy text it holds only if the text has a CR,
+/// or a byte order mark that stands apart.
 #[derive(Debug, Drop)]
 pub struct Tidying<'src> {
     text: &'src str,
@@ -35,6 +41,8 @@ pub struct Tidying<'src> {
     /// The gap before `at`: none, or the start of the text.
     gap: Gap,
     placer: Placer,
+    /// The tidy text, if it is made beforehand.
+    made: Option<String>,
 }
 
 impl<'src> Tidying<'src> {
@@ -51,13 +59,25 @@ impl<'src> Tidying<'src> {
                 Err(fault) => return Err(fault),
             }
         }
-        Ok(Tidying {
+        let made = made(alloc, text)?;
+        let mut tidying = Tidying::begun(alloc, text);
+        tidying.made = made;
+        Ok(tidying)
+    }
+
+    /// Begins to lay out a text, which has a document.
+    fn begun(alloc: Global, text: &'src str) -> Tidying<'src>
+        requires { HasDocument text.now }
+        ensures { HasLaidOut text.now [] result }
+    {
+        Tidying {
             text,
             at: 0,
             pending: 0,
             gap: Gap::Below(0, 0),
             placer: Placer::new(alloc),
-        })
+            made: None,
+        }
     }
 
     /// Goes past the next entry and returns `true`. After the last entry, appends the rest of the
@@ -75,6 +95,23 @@ impl<'src> Tidying<'src> {
         ensures last { result ≡ Ok false
             → PutsLast self.old (string_bytes out.old) (string_bytes out.new) }
     {
+        if let Some(made) = &self.made {
+            out.push_str(made.as_str())?;
+            return Ok(false);
+        }
+        self.lay_next(out)
+    }
+
+    /// Goes past the next entry, as `put_next` does, if the tidy text is not made beforehand.
+    #[inline(always)]
+    fn lay_next(&mut self, out: &mut String) -> Result<bool, AllocError>
+        requires { (text before : List ℕ) × HasLaidOut text before self.old }
+        ensures more { result ≡ Ok true
+            → LaysMore self.old self.new (string_bytes out.old) (string_bytes out.new) }
+        ensures moves { result ≡ Ok true → self.old.at < self.new.at }
+        ensures last { result ≡ Ok false
+            → LaysLast self.old (string_bytes out.old) (string_bytes out.new) }
+    {
         if self.put_common_entry(out)? {
             return Ok(true);
         }
@@ -87,9 +124,9 @@ impl<'src> Tidying<'src> {
     /// Each kind of lexeme has a call of its own, so that each is compiled by itself.
     #[inline(always)]
     fn put_common_entry(&mut self, out: &mut String) -> Result<bool, AllocError>
-        requires { (text before : List ℕ) × HasWritten text before self.old }
+        requires { (text before : List ℕ) × HasLaidOut text before self.old }
         ensures more { IfOk result (λ _.
-            PutsMore self.old self.new (string_bytes out.old) (string_bytes out.new)) }
+            LaysMore self.old self.new (string_bytes out.old) (string_bytes out.new)) }
         ensures moves { result ≡ Ok true → self.old.at < self.new.at }
         ensures left { result ≡ Ok false → self.new.at ≡ self.old.at }
     {
@@ -122,11 +159,11 @@ impl<'src> Tidying<'src> {
         lexeme: Lexeme<'_>,
         end: usize,
     ) -> Result<bool, AllocError>
-        requires begun { (text before : List ℕ) × HasWritten text before self.old }
+        requires begun { (text before : List ℕ) × HasLaidOut text before self.old }
         requires found { FindsBeside self.old.text.now self.old.gap self.old.at width
             (lexeme_of lexeme) end }
         ensures more { IfOk result (λ _.
-            PutsMore self.old self.new (string_bytes out.old) (string_bytes out.new)) }
+            LaysMore self.old self.new (string_bytes out.old) (string_bytes out.new)) }
         ensures moves { result ≡ Ok true → self.old.at < self.new.at }
         ensures done { result ≢ Ok false }
     {
@@ -140,15 +177,15 @@ impl<'src> Tidying<'src> {
         Ok(true)
     }
 
-    /// Goes past the next entry, whatever it is, as `put_next` does.
+    /// Goes past the next entry, whatever it is, as `lay_next` does.
     #[inline(never)]
     fn put_any(&mut self, out: &mut String) -> Result<bool, AllocError>
-        requires { (text before : List ℕ) × HasWritten text before self.old }
+        requires { (text before : List ℕ) × HasLaidOut text before self.old }
         ensures more { result ≡ Ok true
-            → PutsMore self.old self.new (string_bytes out.old) (string_bytes out.new) }
+            → LaysMore self.old self.new (string_bytes out.old) (string_bytes out.new) }
         ensures moves { result ≡ Ok true → self.old.at < self.new.at }
         ensures last { result ≡ Ok false
-            → PutsLast self.old (string_bytes out.old) (string_bytes out.new) }
+            → LaysLast self.old (string_bytes out.old) (string_bytes out.new) }
     {
         match step_at(self.text, self.gap, self.at) {
             Step::More(entry, span) => {
@@ -170,10 +207,10 @@ impl<'src> Tidying<'src> {
     /// Goes past the next entry, which was read already.
     #[inline(always)]
     fn put(&mut self, out: &mut String, entry: Entry<'_>, span: Span) -> Result<(), AllocError>
-        requires begun { (text before : List ℕ) × HasWritten text before self.old }
+        requires begun { (text before : List ℕ) × HasLaidOut text before self.old }
         requires found { FindsEntry self.old.text.now self.old.gap self.old.at (More entry span) }
         ensures more { OnOk result (
-            PutsMore self.old self.new (string_bytes out.old) (string_bytes out.new)) }
+            LaysMore self.old self.new (string_bytes out.old) (string_bytes out.new)) }
         ensures moves { OnOk result (self.old.at < self.new.at) }
     {
         let before = self.placer.before;
@@ -210,4 +247,53 @@ impl<'src> Tidying<'src> {
         }
         Ok(false)
     }
+}
+
+/// Returns the tidy text of a text that has a document, unless the text is plain: then its entries
+/// can be written as they are placed.
+fn made(alloc: Global, text: &str) -> Result<Option<String>, AllocError>
+    requires { HasDocument text.now }
+    ensures { IfOk result (IsMade text.now) }
+{
+    let mark = mark_size(text.as_bytes());
+    if mark == 0 && !has_return(text.as_bytes()) {
+        return Ok(None);
+    }
+    Ok(Some(made_behind(alloc, text, mark)?))
+}
+
+/// Returns the tidy text of a text that has a document, behind a mark of this size.
+fn made_behind(alloc: Global, text: &str, mark: usize) -> Result<String, AllocError>
+    requires document { HasDocument text.now }
+    requires mark { mark ≡ mark_size text.now }
+    ensures { IfOk result (λ made. IsTidyTextOf text.now (string_bytes made)) }
+{
+    let laid_out = laid_out_behind(alloc, text, mark)?;
+    let mut made = String::new(alloc);
+    made.push_str(part(text, 0, mark))?;
+    put_with_ends(&mut made, laid_out.as_str(), line_end_of(text.as_bytes()))?;
+    Ok(made)
+}
+
+/// Returns what is written, with LF, of a text behind a mark of this size.
+fn laid_out_behind(alloc: Global, text: &str, mark: usize) -> Result<String, AllocError>
+    requires document { HasDocument text.now }
+    requires mark { mark ≡ mark_size text.now }
+    ensures { IfOk result (λ answer. IsLaidOut (with_ends Lf (body_of text.now))
+        (string_bytes answer)) }
+{
+    let mut plain = String::new(alloc);
+    put_with_ends(&mut plain, part(text, mark, text.len()), LineEnd::Lf)?;
+    laid_out(alloc, plain.as_str())
+}
+
+/// Returns what is written of a text that has a document.
+fn laid_out(alloc: Global, text: &str) -> Result<String, AllocError>
+    requires { HasDocument text.now }
+    ensures { IfOk result (λ answer. IsLaidOut text.now (string_bytes answer)) }
+{
+    let mut tidying = Tidying::begun(alloc, text);
+    let mut answer = String::new(alloc);
+    while tidying.lay_next(&mut answer)? {}
+    Ok(answer)
 }

@@ -9,9 +9,12 @@ use Rattle.isle_tidy_layout.specs.declared.placing.Head.{Head}
 use Rattle.isle_tidy_layout.specs.declared.placing.Head.TheVariants.{NoHead, ListHead, BodyHead, PlainHead}
 use Rattle.isle_tidy_layout.specs.declared.placing.Kind.{Kind}
 use Rattle.isle_tidy_layout.specs.declared.placing.Kind.TheVariants.{Start, Open, Close, At, Atom, LineComment, BlockComment}
+use Rattle.isle_tidy_core.specs.Ends.{body_of, entries_with, lexeme_with, line_end_of}
 use Rattle.isle_tidy_core.specs.Grammar.{IsDocument}
 use Rattle.isle_tidy_core.specs.Tidied.{IsTidyTextOf}
-use Rattle.isle_tidy_core.proofs.Keeps.{placed_keeps}
+use Rattle.isle_tidy_core.specs.declared.ends.LineEnd.{LineEnd}
+use Rattle.isle_tidy_core.specs.declared.ends.LineEnd.TheVariants.{Lf}
+use Rattle.isle_tidy_core.proofs.TidyTexts.{its_document}
 use Rattle.isle_tidy_laws.specs.Indentation.{FitsGap, FitsLine, LinesFit, behind, line_begun, outer, with_line}
 
 abbrev lines_in : List OpenList → List (Option ℕ)
@@ -109,6 +112,34 @@ lines_fit here (e ∷ es) =
     lists_behind at e.lexeme ∙ ap (behind (tidied e.lexeme)) (lists_begun here e.gap e.lexeme (closings es)) in
     (gap_fits here e.gap e.lexeme (closings es), subst (λ ls. LinesFit ls (placed_after (passed at e.lexeme) es)) lists (lines_fit (passed at e.lexeme) es))
 
-pub tidy_lines_fit : (text answer : List ℕ) → IsTidyTextOf text answer → (document : List Entry) × IsDocument answer document × LinesFit [] document
+-- Other line ends change none of that.
+
+same_behind : (e : LineEnd) (x : Lexeme) (lists : List (Option ℕ)) → behind (lexeme_with e x) lists ≡ behind x lists
+same_behind e opening lists = refl
+same_behind e closing lists = refl
+same_behind e at_sign lists = refl
+same_behind e (atom text) lists = refl
+same_behind e (line_comment text) lists = refl
+same_behind e (block_comment text) lists = refl
+
+same_closing : (e : LineEnd) (x : Lexeme) → is_closing (lexeme_with e x) ≡ is_closing x
+same_closing e opening = refl
+same_closing e closing = refl
+same_closing e at_sign = refl
+same_closing e (atom text) = refl
+same_closing e (line_comment text) = refl
+same_closing e (block_comment text) = refl
+
+ended_lines_fit : (e : LineEnd) (lists : List (Option ℕ)) (es : List Entry) → LinesFit lists es → LinesFit lists (entries_with e es)
+ended_lines_fit e lists [] fit = tt
+ended_lines_fit e lists (x ∷ xs) fit =
+    let next = behind x.lexeme (line_begun lists x.gap (is_closing x.lexeme)) in
+    let same : behind (lexeme_with e x.lexeme) (line_begun lists x.gap (is_closing (lexeme_with e x.lexeme))) ≡ next =
+    same_behind e x.lexeme (line_begun lists x.gap (is_closing (lexeme_with e x.lexeme))) ∙ ap (λ c. behind x.lexeme (line_begun lists x.gap c)) (same_closing e x.lexeme) in
+    (subst (FitsGap lists x.gap) (sym (same_closing e x.lexeme)) fit.0, subst (λ ls. LinesFit ls (entries_with e xs)) (sym same) (ended_lines_fit e next xs fit.1))
+
+pub tidy_lines_fit : (text answer : List ℕ) → IsTidyTextOf text answer → (document : List Entry) × IsDocument (body_of answer) document × LinesFit [] document
 tidy_lines_fit text answer t =
-    (placed t.document, subst (λ xs. IsDocument xs (placed t.document)) (sym t.is_written) (placed_keeps text t.document t.is_document), lines_fit text_start t.document)
+    let e = line_end_of text in
+    let es = entries_with Lf t.document in
+    (entries_with e (placed es), its_document text answer t, ended_lines_fit e [] (placed es) (lines_fit text_start es))

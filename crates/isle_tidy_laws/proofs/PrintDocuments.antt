@@ -2,8 +2,12 @@
 use Rattle.std.proofs.Common.{◌≡◌, ℕ, ◌+◌, ◌-◌, ◌*◌, suc, List, [], ◌∷◌, Bool, true, false, cond, leb, length, refl, sym, ap, ◌∙◌, subst}
 use Rattle.isle_tidy_core.specs.Fitting.{IsLexeme, AreFit, may_touch}
 use Rattle.isle_tidy_core.specs.Grammar.{IsDocument, matches, lexemes}
+use Rattle.isle_tidy_core.specs.Streams.{IsPlain}
 use Rattle.isle_tidy_core.specs.Tidied.{IsTidyTextOf}
 use Rattle.isle_tidy_core.proofs.Keeps.{document_spelt}
+use Rattle.isle_tidy_core.proofs.Marks.{placed_no_mark}
+use Rattle.isle_tidy_core.proofs.Plain.{placed_plain}
+use Rattle.isle_tidy_core.proofs.TidyTexts.{plain_tidy}
 use Rattle.isle_tidy_layout.specs.declared.entries.Gap.TheVariants.{Beside, Below}
 use Rattle.isle_tidy_layout.specs.declared.placing.Kind.TheVariants.{Start, Open, Close, Atom}
 use Rattle.isle_tidy_layout.specs.Entries.{closing, Entry}
@@ -13,6 +17,7 @@ use Rattle.isle_tidy_layout.specs.Printed as mirror
 use Rattle.isle_tidy_layout.specs.Writing.{written}
 use Rattle.isle_tidy_layout.proofs.Prints.{prints_tidy}
 use Rattle.isle_tidy_laws.specs.Prints.{flat_of, flats_of, print_in, broken_in, lines_in, prints_of, print_of, HasAtoms, HaveAtoms, AllHaveAtoms, is_plain, HasPlainHeads, HavePlainHeads, AllHavePlainHeads}
+use Rattle.isle_tidy_laws.proofs.PrintReturns.{printed_no_return}
 use Rattle.isle_tidy_laws.proofs.PrintTexts.{printed_text}
 use Rattle.isle_printer_layout.specs.Flat.{counted}
 use Rattle.isle_printer_layout.specs.Sexp.{Sexp, Sexps, atom, binding, list, none, more}
@@ -179,8 +184,10 @@ print_tidy width ss h p =
     let text = printed_text width ss in
     let whole_document : IsDocument (written es) es = (document_spelt es (printed_fit width ss h), printed_match width ss) in
     let stays : placed es ≡ es = prints_tidy (prints_of width ss) (all_heads width ss p) in
-    record {
+    let same : written (placed es) ≡ print_of width ss = ap written stays ∙ text in
+    let plain : IsPlain (print_of width ss) = subst IsPlain same (placed_plain es (printed_no_return width ss h), placed_no_mark (written es) es whole_document) in
+    plain_tidy (print_of width ss) (print_of width ss) plain (record {
       document = es;
       is_document = subst (λ xs. IsDocument xs es) text whole_document;
-      is_written = sym text ∙ ap written (sym stays);
-    }
+      is_written = sym same;
+    })

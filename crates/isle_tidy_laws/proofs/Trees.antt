@@ -11,7 +11,7 @@ use Rattle.isle_ast.specs.Tree.{Definition}
 use Rattle.isle_tidy_core.specs.Refused.{HasDocument}
 use Rattle.isle_tidy_core.specs.Tidied.{IsTidyTextOf}
 use Rattle.isle_tidy_core.proofs.Existing.{lexed_document}
-use Rattle.isle_tidy_core.proofs.SameTokens.{tidied_tokens}
+use Rattle.isle_tidy_core.proofs.TidyTexts.{tidied_tokens}
 use Rattle.isle_ast.proofs.Writable.Spelt.{spelt_is_writable}
 use Rattle.isle_printer.specs.Printed.{IsPrinted}
 use Rattle.isle_syntax.specs.Format.{SpellsTree, OfItsTree}

@@ -6,6 +6,7 @@ ghost use Rattle.isle_base_source.specs.declared.pos.Pos.{Pos};
 ghost use Rattle.isle_ast.specs.Spelt.{IsSpelt};
 ghost use Rattle.isle_ast.specs.Tree.{Definition};
 ghost use Rattle.isle_ast.specs.Writable.{AreWritable};
+ghost use Rattle.isle_tidy_core.specs.Ends.{body_of};
 ghost use Rattle.isle_tidy_core.specs.Grammar.{IsDocument};
 ghost use Rattle.isle_tidy_core.specs.Refused.{HasDocument};
 ghost use Rattle.isle_tidy_core.specs.Tidied.{IsTidyTextOf};
@@ -44,8 +45,9 @@ pub fn tidying_keeps_trees()
 {}
 
 /// A law, which runs no code: in a tidy text, lines that begin in the same list begin in the same
-/// column, except for those that begin with `)`. Lines outside of lists begin in column 0.
+/// column, except for those that begin with `)`. Lines outside of lists begin in column 0. The
+/// columns of the first line are those behind the byte order mark.
 pub fn lines_of_a_list_have_one_column()
     ensures { (text answer : List ℕ) → IsTidyTextOf text answer
-        → (document : List Entry) × IsDocument answer document × LinesFit [] document }
+        → (document : List Entry) × IsDocument (body_of answer) document × LinesFit [] document }
 {}

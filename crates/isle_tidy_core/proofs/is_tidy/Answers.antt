@@ -1,7 +1,7 @@
 use Rattle.std.proofs.Common.{◌≡◌, true, false, eqb, length, string_bytes, Ok, ap, sym, subst}
 use Rattle.std.proofs.lemmas.Bool.{both_ways, eq-eqb, eqb-true}
 use Rattle.isle_tidy_core.specs.Streams.{PutsMore, PutsLast}
-use Rattle.isle_tidy_core.proofs.Comparing.{compared_other, compared_smaller, compared_all, compared_short, compared_past}
+use Rattle.isle_tidy_core.proofs.Comparing.{compared_more, compared_other, compared_smaller, compared_all, compared_short, compared_past}
 use Rattle.isle_tidy_core.proofs.is_tidy.Goals as goal
 
 pub returns-in-None-clause-untidy : goal.returns-in-None-clause-untidy
@@ -35,3 +35,11 @@ returns-clause-untidy c = λ _.
     let last = subst (PutsLast c.loop-part.tidying (string_bytes c.loop-part.part)) (sym c.as_str-2.ensures.value) (c.in_ok-put_some.ensures.last (ap Ok c.if-branch.false)) in
     compared_past c.args.text.now c.loop-part.at c.loop-part.tidying (string_bytes c.loop-part.part) c.as_str-2.result.now
     c.loop-part.invariant.0 c.loop-part.invariant.1 last (c.in-None-goes_on.ensures.none (cc))
+
+pub loop-part-preserved : goal.loop-part-preserved
+loop-part-preserved c =
+    let more = subst (PutsMore c.loop-part.tidying c.put_some.new.self (string_bytes c.loop-part.part)) (sym c.as_str.ensures.value) (c.put_some.ensures.more (cc)) in (
+      compared_more c.args.text.now c.loop-part.at c.in-Some.next c.loop-part.tidying c.put_some.new.self (string_bytes c.loop-part.part) c.as_str.result.now
+          c.loop-part.invariant.0 c.loop-part.invariant.1 more c.in-Some.ensures.some.0 c.in-Some.ensures.some.1,
+      c.clear.ensures.bytes,
+    )

@@ -1,5 +1,5 @@
 use Rattle.std.proofs.Common.{refl, string_bytes}
-use Rattle.isle_tidy_core.proofs.Streams.{entry_utf8, puts_more}
+use Rattle.isle_tidy_core.proofs.Laying.{entry_utf8, lays_more}
 use Rattle.isle_tidy_core.proofs.tidying.Tidying.put.Goals as goal
 
 pub put_entry-requires-clause-first : goal.put_entry-requires-clause-first
@@ -7,6 +7,6 @@ put_entry-requires-clause-first c = entry_utf8 c.args.self.now c.requires.begun.
 
 pub returns-clause-more : goal.returns-clause-more
 returns-clause-more c =
-    puts_more c.args.self.now _ c.args.entry c.args.span c.closings_after-closings.result c.in_ok-placed.placed
+    lays_more c.args.self.now _ c.args.entry c.args.span c.closings_after-closings.result c.in_ok-placed.placed
     (string_bytes c.args.out.now) (string_bytes c.put_entry.new.out)
-    c.requires.found c.closings_after-closings.ensures c.in_ok-placed.ensures c.in_ok-self.ensures refl refl refl
+    c.requires.found c.closings_after-closings.ensures c.in_ok-placed.ensures c.in_ok-self.ensures refl refl refl refl

@@ -1,4 +1,4 @@
-use Rattle.isle_tidy_core.proofs.Streams.{near_utf8}
+use Rattle.isle_tidy_core.proofs.Laying.{near_utf8}
 use Rattle.isle_tidy_core.proofs.tidying.Tidying.put_common_entry.Goals as goal
 
 pub lexeme_at-requires-clause-first : goal.lexeme_at-requires-clause-first
