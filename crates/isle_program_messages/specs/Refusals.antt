@@ -7,7 +7,7 @@ use Rattle.isle_cli.specs.Messages.{count_text}
 use Rattle.isle_program_messages.specs.Lines.{told_line}
 use Rattle.isle_program_messages.specs.Messages.{MessageNode}
 use Rattle.isle_program_messages.specs.declared.format.Format.{Format}
-use Rattle.isle_program_messages.specs.declared.format.Format.TheVariants.{Human, Json, Github}
+use Rattle.isle_program_messages.specs.declared.format.Format.TheVariants.{Coloured, Human, Json, Github}
 use Rattle.isle_program_messages.specs.declared.message.Severity.TheVariants as severities
 
 -- an error of syntax has no kind
@@ -39,5 +39,6 @@ told_refusals format file (source ∷ sources) refusals =
 -- only people get a line that counts
 abbrev pub told_count : Format → (errors warnings : ℕ) → List ℕ
 told_count Human errors warnings = count_text errors warnings
+told_count Coloured errors warnings = count_text errors warnings
 told_count Json errors warnings = []
 told_count Github errors warnings = []

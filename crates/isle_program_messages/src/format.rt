@@ -3,7 +3,9 @@
 ghost use Rattle.std.specs.Prelude.{◌≡◌, map};
 ghost use Rattle.isle_cli.specs.Arguments.{given_of};
 ghost use Rattle.isle_program_messages.specs.Formats.{format_in, format_named, is_format_usable};
+ghost use Rattle.isle_program_messages.specs.Formats.{human_in, named_in, with_colour};
 
+use crate::colours::{Colour, colour_of};
 use isle_cli::arguments::{Argument, setting_of};
 
 /// The option that names the format.
@@ -14,6 +16,8 @@ pub const FORMAT_OPTION: &str = "--message-format";
 pub enum Format {
     /// Lines for people: `FILE:LINE:COLUMN: SEVERITY: MESSAGE [KIND]`.
     Human,
+    /// The same with colours, as terminals show them.
+    Coloured,
     /// A JSON object for each message, on a line of its own.
     Json,
     /// A workflow command of GitHub for each message.
@@ -35,9 +39,40 @@ impl Format {
 }
 
 /// The format that the last `--message-format` names, or `Human` without one. It is `Human`, too,
-/// if there is no format of that name.
+/// if there is no format of that name. Where the last `--color` is `always`, it is `Coloured` in
+/// place of `Human`.
 pub fn format_of(arguments: &[Argument]) -> Format
     ensures { result ≡ format_in (map given_of arguments.now) }
+{
+    with_colour(colour_of(arguments), named_of(arguments))
+}
+
+/// The format, with colours where they are always wanted.
+fn with_colour(colour: Colour, format: Format) -> Format
+    ensures { result ≡ with_colour colour format }
+{
+    match format {
+        Format::Human => human_in(colour),
+        Format::Coloured => Format::Coloured,
+        Format::Json => Format::Json,
+        Format::Github => Format::Github,
+    }
+}
+
+/// The format of lines for people.
+fn human_in(colour: Colour) -> Format
+    ensures { result ≡ human_in colour }
+{
+    match colour {
+        Colour::Always => Format::Coloured,
+        Colour::Auto => Format::Human,
+        Colour::Never => Format::Human,
+    }
+}
+
+/// The format that the last `--message-format` names, or `Human`.
+fn named_of(arguments: &[Argument]) -> Format
+    ensures { result ≡ named_in (map given_of arguments.now) }
 {
     match setting_of(arguments, FORMAT_OPTION) {
         Some(name) => Format::named(name).unwrap_or(Format::Human),

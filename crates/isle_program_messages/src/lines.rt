@@ -8,6 +8,7 @@ ghost use Rattle.isle_program_messages.specs.Lines.{IsInFormat, told_line};
 ghost use Rattle.isle_program_messages.specs.Messages.{message_of};
 
 use crate::annotations::annotation;
+use crate::colours::coloured_line;
 use crate::format::Format;
 use crate::message::{Message, shown_text};
 use crate::objects::object_line;
@@ -47,6 +48,7 @@ pub fn told_line(
             let severity = message.severity.word();
             message_line(alloc, name, text, lines, offset, severity, shown.as_str())
         }
+        Format::Coloured => coloured_line(alloc, name, place_of(text, lines, offset), message),
         Format::Json => object_line(alloc, name, place_of(text, lines, offset), message),
         Format::Github => annotation(alloc, name, place_of(text, lines, offset), message),
     }

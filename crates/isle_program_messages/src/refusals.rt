@@ -100,7 +100,7 @@ pub fn told_count(
     ensures { IfOk result (λ line. string_bytes line ≡ told_count format errors warnings) }
 {
     match format {
-        Format::Human => count_line(alloc, errors, warnings),
+        Format::Human | Format::Coloured => count_line(alloc, errors, warnings),
         Format::Json | Format::Github => Ok(String::new(alloc)),
     }
 }
