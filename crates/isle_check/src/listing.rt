@@ -26,7 +26,14 @@ const LIST_OPTION: &str = "--print-programs";
 /// All options: those of `run_programs`, and this one.
 pub const OPTIONS: Options = Options {
     flags: &[LIST_OPTION, ALL_OPTION],
-    settings: &["--allow", "--warn", "--deny", FORMAT_OPTION, EXCLUDE_OPTION, NAME_OPTION],
+    settings: &[
+        "--allow",
+        "--warn",
+        "--deny",
+        FORMAT_OPTION,
+        EXCLUDE_OPTION,
+        NAME_OPTION,
+    ],
 };
 
 /// Returns the arguments of a command line that asks for the list of the programs.

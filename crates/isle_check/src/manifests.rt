@@ -29,7 +29,14 @@ use std::io::Write;
 /// The options with those that ask for programs of a manifest.
 pub const OPTIONS: Options = Options {
     flags: &[ALL_OPTION],
-    settings: &["--allow", "--warn", "--deny", FORMAT_OPTION, EXCLUDE_OPTION, NAME_OPTION],
+    settings: &[
+        "--allow",
+        "--warn",
+        "--deny",
+        FORMAT_OPTION,
+        EXCLUDE_OPTION,
+        NAME_OPTION,
+    ],
 };
 
 /// Checks programs of the nearest manifest, each by itself, writes the findings to the output, and

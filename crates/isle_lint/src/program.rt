@@ -36,7 +36,14 @@ pub const PROGRAM: Program = Program {
 /// Its options.
 pub const OPTIONS: Options = Options {
     flags: &["--all"],
-    settings: &["--lint", "--allow", "--warn", "--deny", FORMAT_OPTION, EXCLUDE_OPTION],
+    settings: &[
+        "--lint",
+        "--allow",
+        "--warn",
+        "--deny",
+        FORMAT_OPTION,
+        EXCLUDE_OPTION,
+    ],
 };
 
 /// Lints a program, writes the findings to the output, and returns the exit status.
