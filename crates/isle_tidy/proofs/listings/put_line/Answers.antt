@@ -1,6 +1,6 @@
 use Rattle.std.proofs.lemmas.Result.{err_from_is_err_and}
 use Rattle.isle_tidy.proofs.StreamLemmas.{cut-front, cut-behind}
-use Rattle.isle_tidy.proofs.program.put_line.Goals as goal
+use Rattle.isle_tidy.proofs.listings.put_line.Goals as goal
 
 pub returns-in_err-put-clause-err : goal.returns-in_err-put-clause-err
 returns-in_err-put-clause-err g c =
