@@ -12,8 +12,9 @@ use Rattle.isle_cli.specs.Arguments.{given_of, is_among, name_list, stdin_name, 
 use Rattle.isle_cli.specs.Sources.{IsListing, empty_line}
 use Rattle.isle_cli.specs.declared.arguments.Argument.{Argument}
 use Rattle.isle_cli.specs.declared.program.Program.{Program}
-use Rattle.isle_tidy.specs.Doing.{EndsFile, EndsName, EndNames, RunsAndTells, RunsOnAsked, RunsOnNames, checks, greatest}
-use Rattle.isle_tidy.proofs.FileLemmas.{ends-none, ends-then, runs-end}
+use Rattle.isle_tidy.specs.declared.listings.Listing.{Listing}
+use Rattle.isle_tidy.specs.Doing.{EndsName, EndNames, EndsSome, RunsAndTells, RunsOnAsked, RunsOnNames, greatest, listing_of}
+use Rattle.isle_tidy.proofs.FileLemmas.{ends-then, runs-end, some-none}
 
 some-behind : (xs ys : List ℕ) → ys ≢ [] → xs ++ ys ≢ []
 some-behind [] ys some = some
@@ -47,12 +48,12 @@ usual-then s t p q r (known, used, quiet) (known', used', quiet') = (
   λ zero. Keeps-trans p q r (quiet (omega (arith, zero))) (quiet' (omega (arith, zero))),
 )
 
-module _ (program : Program) (check : Bool) (stdin_name : List ℕ) where
-  name-usual : (name : List ℕ) (s : ℕ) (i j a b p q : Option (List ℕ)) → EndsName program check stdin_name name s i j a b p q → IsUsual s p q
+module _ (program : Program) (listing : Option Listing) (stdin_name : List ℕ) where
+  name-usual : (name : List ℕ) (s : ℕ) (i j a b p q : Option (List ℕ)) → EndsName program listing stdin_name name s i j a b p q → IsUsual s p q
   name-usual name s i j a b p q (inl (_, ends)) = (ends.known, ends.used, ends.quiet)
-  name-usual name s i j a b p q (inr (_, _, runs)) = let ends = runs-end check 1 s a b p q runs in (ends.known, ends.used, ends.quiet)
+  name-usual name s i j a b p q (inr (_, _, runs)) = let ends = runs-end listing 1 s a b p q runs in (ends.known, ends.used, ends.quiet)
 
-  names-usual : (names : List (List ℕ)) (ss : List ℕ) (i j a b p q : Option (List ℕ)) → EndNames program check stdin_name names ss i j a b p q → IsUsual (greatest ss) p q
+  names-usual : (names : List (List ℕ)) (ss : List ℕ) (i j a b p q : Option (List ℕ)) → EndNames program listing stdin_name names ss i j a b p q → IsUsual (greatest ss) p q
   names-usual [] [] i j a b p q none = (omega arith, (λ two. omega (arith, two)), λ zero. subst (λ x. Keeps p x) (sym none.2) (Keeps-refl p))
   names-usual [] (s ∷ ss) i j a b p q ends = absurd ends
   names-usual (n ∷ names) [] i j a b p q ends = absurd ends
@@ -60,7 +61,7 @@ module _ (program : Program) (check : Bool) (stdin_name : List ℕ) where
       usual-then s (greatest ss) p said q (name-usual n s i left a mid p said first) (names-usual names ss left j mid b said q rest)
 
   -- so it is of all of them
-  pub names-end : (names : List (List ℕ)) (status : ℕ) (i j a b p q : Option (List ℕ)) → RunsOnNames program check stdin_name names status i j a b p q → IsUsual status p q
+  pub names-end : (names : List (List ℕ)) (status : ℕ) (i j a b p q : Option (List ℕ)) → RunsOnNames program listing stdin_name names status i j a b p q → IsUsual status p q
   names-end names status i j a b p q (ss, is, ends) = subst (λ s. IsUsual s p q) (sym is) (names-usual names ss i j a b p q ends)
 
   other-first : (name : List ℕ) (names : List (List ℕ)) → is_among (name ∷ names) (codes "-") ≡ false → (name ≢ codes "-") × (is_among names (codes "-") ≡ false)
@@ -71,36 +72,36 @@ module _ (program : Program) (check : Bool) (stdin_name : List ℕ) where
       cases false is = (other-than name (codes "-") is, sym (ap (λ b. b || is_among names (codes "-")) is) ∙ none)
 
   -- names of files alone: the input isn't read, and the same holds of them as of one file
-  names-files : (names : List (List ℕ)) (ss : List ℕ) (i j a b p q : Option (List ℕ)) → is_among names (codes "-") ≡ false → EndNames program check stdin_name names ss i j a b p q
-      → Keeps i j × EndsFile check (greatest ss) a b p q
+  names-files : (names : List (List ℕ)) (ss : List ℕ) (i j a b p q : Option (List ℕ)) → is_among names (codes "-") ≡ false → EndNames program listing stdin_name names ss i j a b p q
+      → Keeps i j × EndsSome listing (greatest ss) a b p q
   names-files [] [] i j a b p q alone none = (
     subst (λ x. Keeps i x) (sym none.0) (Keeps-refl i),
-    subst (λ x. EndsFile check 0 a x p q) (sym none.1) (subst (λ y. EndsFile check 0 a a p y) (sym none.2) (ends-none check a p)),
+    subst (λ x. EndsSome listing 0 a x p q) (sym none.1) (subst (λ y. EndsSome listing 0 a a p y) (sym none.2) (some-none listing a p)),
   )
   names-files [] (s ∷ ss) i j a b p q alone ends = absurd ends
   names-files (n ∷ names) [] i j a b p q alone ends = absurd ends
   names-files (n ∷ names) (s ∷ ss) i j a b p q alone (left, mid, said, inl (dash, _), rest) = absurd ((other-first n names alone).0 dash)
   names-files (n ∷ names) (s ∷ ss) i j a b p q alone (left, mid, said, inr (_, kept, runs), rest) =
       let others = names-files names ss left j mid b said q (other-first n names alone).1 rest in
-      (Keeps-trans i left j kept others.0, ends-then check s (greatest ss) a mid b p said q (runs-end check 1 s a mid p said runs) others.1)
+      (Keeps-trans i left j kept others.0, ends-then listing s (greatest ss) a mid b p said q (runs-end listing 1 s a mid p said runs) others.1)
 
-  pub files-end : (names : List (List ℕ)) (status : ℕ) (i j a b p q : Option (List ℕ)) → RunsOnNames program check stdin_name names status i j a b p q → is_among names (codes "-") ≡ false
-      → Keeps i j × EndsFile check status a b p q
+  pub files-end : (names : List (List ℕ)) (status : ℕ) (i j a b p q : Option (List ℕ)) → RunsOnNames program listing stdin_name names status i j a b p q → is_among names (codes "-") ≡ false
+      → Keeps i j × EndsSome listing status a b p q
   files-end names status i j a b p q (ss, is, ends) alone =
-      let all = names-files names ss i j a b p q alone ends in (all.0, subst (λ s. EndsFile check s a b p q) (sym is) all.1)
+      let all = names-files names ss i j a b p q alone ends in (all.0, subst (λ s. EndsSome listing s a b p q) (sym is) all.1)
 
   -- no name
-  pub no-names : (i a p : Option (List ℕ)) → RunsOnNames program check stdin_name [] 0 i i a a p p
+  pub no-names : (i a p : Option (List ℕ)) → RunsOnNames program listing stdin_name [] 0 i i a a p p
   no-names i a p = ([], refl, (refl, refl, refl))
 
   greatest-last : (ss : List ℕ) (s : ℕ) → greatest (ss ++ s ∷ []) ≡ max (greatest ss) s
   greatest-last [] s = omega arith
   greatest-last (t ∷ ss) s = ap (max t) (greatest-last ss s) ∙ omega arith
 
-  names-last : (names : List (List ℕ)) (name : List ℕ) (ss : List ℕ) (s : ℕ) (i j k a b c p q r : Option (List ℕ)) → EndNames program check stdin_name names ss i j a b p q
-      → EndsName program check stdin_name name s j k b c q r → EndNames program check stdin_name (names ++ name ∷ []) (ss ++ s ∷ []) i k a c p r
+  names-last : (names : List (List ℕ)) (name : List ℕ) (ss : List ℕ) (s : ℕ) (i j k a b c p q r : Option (List ℕ)) → EndNames program listing stdin_name names ss i j a b p q
+      → EndsName program listing stdin_name name s j k b c q r → EndNames program listing stdin_name (names ++ name ∷ []) (ss ++ s ∷ []) i k a c p r
   names-last [] name [] s i j k a b c p q r none ends =
-      let At : Option (List ℕ) → Option (List ℕ) → Option (List ℕ) → Type 0 = λ x y z. EndsName program check stdin_name name s x k y c z r in
+      let At : Option (List ℕ) → Option (List ℕ) → Option (List ℕ) → Type 0 = λ x y z. EndsName program listing stdin_name name s x k y c z r in
       (k, c, r, subst (λ x. At x a p) none.0 (subst (λ y. At j y p) none.1 (subst (λ z. At j b z) none.2 ends)), (refl, refl, refl))
   names-last [] name (t ∷ ss) s i j k a b c p q r before ends = absurd before
   names-last (n ∷ names) name [] s i j k a b c p q r before ends = absurd before
@@ -109,14 +110,14 @@ module _ (program : Program) (check : Bool) (stdin_name : List ℕ) where
 
   -- one name more
   pub one-name-on : (names : List (String Global)) (n : ℕ) (name : String Global) (status done all : ℕ) (i j k a b c p q r : Option (List ℕ)) → n < length names → name ≡ get_or names n name
-      → RunsOnNames program check stdin_name (map string_bytes (take n names)) status i j a b p q → EndsName program check stdin_name (string_bytes name) done j k b c q r → all ≡ max status done
-      → RunsOnNames program check stdin_name (map string_bytes (take (n + 1) names)) all i k a c p r
+      → RunsOnNames program listing stdin_name (map string_bytes (take n names)) status i j a b p q → EndsName program listing stdin_name (string_bytes name) done j k b c q r → all ≡ max status done
+      → RunsOnNames program listing stdin_name (map string_bytes (take (n + 1) names)) all i k a c p r
   one-name-on names n name status done all i j k a b c p q r within is (ss, so_far, before) ends greater =
       let longer : map string_bytes (take n names) ++ string_bytes name ∷ [] ≡ map string_bytes (take (n + 1) names) =
       sym (ap (map string_bytes) (take_more names n name within ∙ ap (λ y. take n names ++ y ∷ []) (sym is)) ∙ map-append string_bytes (take n names) (name ∷ [])) in (
         ss ++ done ∷ [],
         greater ∙ ap (λ s. max s done) so_far ∙ sym (greatest-last ss done),
-        subst (λ ns. EndNames program check stdin_name ns (ss ++ done ∷ []) i k a c p r) longer (names-last (map string_bytes (take n names)) (string_bytes name) ss done i j k a b c p q r before ends),
+        subst (λ ns. EndNames program listing stdin_name ns (ss ++ done ∷ []) i k a c p r) longer (names-last (map string_bytes (take n names)) (string_bytes name) ss done i j k a b c p q r before ends),
       )
 
 either-way : (names : List (List ℕ)) (A B : Type 0) → (names ≢ [] → A ⊎ B) → A ⊎ (names ≢ [] → B)
@@ -126,8 +127,15 @@ either-way (n ∷ names) A B named = ⊎_elim (λ a. inl a) (λ b. inr (λ _. b)
 -- what is said of the arguments, of what they ask for
 pub asked-named : (program : Program) (xs ys : List Argument) (status : ℕ) (i j a b p q : Option (List ℕ)) → xs ≡ ys
     → (name_list (map given_of xs) ≢ [] → (status ≡ 4) × Keeps i j × Keeps a b
-    ⊎ RunsAndTells program (checks (map given_of xs)) (stdin_name (map given_of xs)) (name_list (map given_of xs)) status i j a b p q)
+    ⊎ RunsAndTells program (listing_of (map given_of xs)) (stdin_name (map given_of xs)) (name_list (map given_of xs)) status i j a b p q)
     → (status ≡ 4) × Keeps i j × Keeps a b ⊎ RunsOnAsked program (work_asked (map given_of ys)) status i j a b p q
 asked-named program xs ys status i j a b p q same named =
     let Of : List Argument → Type 0 = λ zs. (status ≡ 4) × Keeps i j × Keeps a b ⊎ RunsOnAsked program (work_asked (map given_of zs)) status i j a b p q in
     subst Of same (either-way (name_list (map given_of xs)) _ _ named)
+
+-- the same of what the arguments say
+pub named-as : (program : Program) (l l' : Option Listing) (s s' : List ℕ) (ns ns' : List (List ℕ)) (status : ℕ) (i j a b p q : Option (List ℕ)) → l ≡ l' → s ≡ s' → ns ≡ ns'
+    → RunsAndTells program l s ns status i j a b p q → RunsAndTells program l' s' ns' status i j a b p q
+named-as program l l' s s' ns ns' status i j a b p q listed called named runs =
+    subst (λ x. RunsAndTells program x s' ns' status i j a b p q) listed
+    (subst (λ x. RunsAndTells program l x ns' status i j a b p q) called (subst (λ x. RunsAndTells program l s x status i j a b p q) named runs))

@@ -9,16 +9,16 @@ use Rattle.isle_tidy.specs.Doing.{HasNames}
 -- the name of this program, and its usage
 pub record IsThis (program : Program) : Type 0 where
   pub name : program.name.now ≡ codes "isle-tidy"
-  pub usage : program.usage.now ≡ codes "usage: isle-tidy [--check] [--stdin-name NAME] [--program NAME] [--all-programs] [FILE ..]\n"
+  pub usage : program.usage.now ≡ codes "usage: isle-tidy [--check] [--diff] [--stdin-name NAME] [--program NAME] [--all-programs] [FILE ..]\n"
 
--- its own options: `--check` alone
+-- its own options: `--check` and `--diff`
 pub record AreOwn (options : Options) : Type 0 where
-  pub flags : map (λ flag. flag.now) options.flags.now ≡ codes "--check" ∷ []
+  pub flags : map (λ flag. flag.now) options.flags.now ≡ codes "--check" ∷ codes "--diff" ∷ []
   pub settings : map (λ setting. setting.now) options.settings.now ≡ []
 
 -- its own options, and those that ask for programs of a manifest
 pub record AreAll (options : Options) : Type 0 where
-  pub flags : map (λ flag. flag.now) options.flags.now ≡ codes "--check" ∷ codes "--all-programs" ∷ []
+  pub flags : map (λ flag. flag.now) options.flags.now ≡ codes "--check" ∷ codes "--diff" ∷ codes "--all-programs" ∷ []
   pub settings : map (λ setting. setting.now) options.settings.now ≡ codes "--program" ∷ []
 
 -- the words ask this program for something, and P holds of both

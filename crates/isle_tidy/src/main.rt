@@ -3,6 +3,7 @@
 #![tactic(auto)]
 
 mod in_place;
+mod listings;
 mod manifests;
 mod pieces;
 mod program;

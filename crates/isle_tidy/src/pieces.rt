@@ -1,10 +1,12 @@
-//! Writing a tidy text piece by piece, so that memory never holds all of it.
+//! Writing a tidy text piece by piece, so that memory never holds all of it; and, for a diff, the
+//! whole of it.
 
 ghost use Rattle.std.specs.Prelude.{◌≡◌, ◌≢◌, ◌<◌, List, Ok, ℕ, IfErr, IfOk, OnOk, false, length};
-ghost use Rattle.std.specs.Prelude.{true};
+ghost use Rattle.std.specs.Prelude.{string_bytes, true};
 ghost use Rattle.isle_base.specs.Steps.{IfError};
 ghost use Rattle.isle_base.specs.declared.fault.Fault.TheVariants.{Failed};
-ghost use Rattle.isle_cli.specs.Streams.{Writes};
+ghost use Rattle.std.specs.Io.KnownBytes.{Appends};
+ghost use Rattle.isle_cli.specs.Streams.{AppendsBeginning, Writes};
 ghost use Rattle.isle_cli.specs.declared.failure.Failure.TheVariants.{Output};
 ghost use Rattle.isle_tidy_core.specs.Refused.{HasNoDocument, IsRefusedFor, IsWithin};
 ghost use Rattle.isle_tidy_core.specs.Streams.{HasWritten};
@@ -12,12 +14,13 @@ ghost use Rattle.isle_tidy_core.specs.Tidied.{IsTidyTextOf};
 ghost use Rattle.isle_tidy.specs.Doing.{IsJudged, IsTidyFailure};
 ghost use Rattle.isle_tidy.specs.Pieces.{CutsRest, FailsPiece, FailsTidied, PutsPiece, PutsRest};
 
+use crate::in_place::{WriteFault, write_fault_of};
 use isle_base::lexer::Fault;
 use isle_cli::failure::Failure;
 use isle_cli::messages::error_line;
-use isle_cli::program::put;
-use isle_tidy_core::is_tidy;
+use isle_cli::streams::write_whole;
 use isle_tidy_core::tidying::Tidying;
+use isle_tidy_core::{is_tidy, tidy};
 use std::alloc::Global;
 use std::io::Write;
 
@@ -52,11 +55,38 @@ pub fn is_untidy(alloc: Global, name: &str, text: &str) -> Result<bool, Failure>
     }
 }
 
+/// The tidy text of a text, or why it can't be tidied.
+pub fn tidied(alloc: Global, name: &str, text: &str) -> Result<String, Failure>
+    ensures ok { IfOk result (λ tidy. IsTidyTextOf text.now (string_bytes tidy)) }
+    ensures err { IfErr result (λ failure. IsTidyFailure failure name.now text.now) }
+{
+    match tidy(alloc, text) {
+        Ok(tidy) => Ok(tidy),
+        Err(fault) => Err(failure_of(alloc, name, text, fault)),
+    }
+}
+
+/// Writes a text to the output. After an error the output has a beginning of it, and `fault` is why.
+fn put_noting<W: Write>(output: &mut W, text: &str, fault: &mut WriteFault) -> Result<(), Failure>
+    ensures ok { OnOk result (Appends (W.contents output.old) (W.contents output.new) text.now) }
+    ensures err { IfErr result (λ failure. (failure ≡ Output)
+        × AppendsBeginning (W.contents output.old) (W.contents output.new) text.now) }
+{
+    match write_whole(output, text.as_bytes()) {
+        Ok(()) => Ok(()),
+        Err(error) => {
+            *fault = write_fault_of(&error);
+            Err(Failure::Output)
+        }
+    }
+}
+
 /// Writes the next piece of a tidy text, and returns whether there are more.
 fn put_piece<W: Write>(
     tidying: &mut Tidying<'_>,
     piece: &mut String,
     output: &mut W,
+    fault: &mut WriteFault,
 ) -> Result<bool, Failure>
     requires { (text before : List ℕ) × HasWritten text before tidying.old }
     ensures more { result ≡ Ok true → PutsPiece tidying.old tidying.new
@@ -69,7 +99,7 @@ fn put_piece<W: Write>(
 {
     piece.clear();
     match tidying.put_some(piece, PIECE) {
-        Ok(more) => match put(output, piece.as_str()) {
+        Ok(more) => match put_noting(output, piece.as_str(), fault) {
             Ok(()) => Ok(more),
             Err(failure) => Err(failure),
         },
@@ -83,6 +113,7 @@ fn put_others<W: Write>(
     tidying: &mut Tidying<'_>,
     piece: &mut String,
     output: &mut W,
+    fault: &mut WriteFault,
 ) -> Result<(), Failure>
     requires { (text before : List ℕ) × HasWritten text before tidying.old }
     ensures ok { OnOk result (PutsRest tidying.old
@@ -91,7 +122,7 @@ fn put_others<W: Write>(
         × CutsRest tidying.old (W.contents output.old) (W.contents output.new)) }
 {
     loop {
-        match put_piece(tidying, piece, output) {
+        match put_piece(tidying, piece, output, fault) {
             Ok(true) => {}
             Ok(false) => return Ok(()),
             Err(_) => return Err(Failure::Output),
@@ -104,6 +135,7 @@ fn put_pieces<W: Write>(
     alloc: Global,
     tidying: &mut Tidying<'_>,
     output: &mut W,
+    fault: &mut WriteFault,
 ) -> Result<(), Failure>
     requires { (text before : List ℕ) × HasWritten text before tidying.old }
     ensures ok { OnOk result (PutsRest tidying.old
@@ -112,19 +144,21 @@ fn put_pieces<W: Write>(
         (W.contents output.old) (W.contents output.new)) }
 {
     let mut piece = String::new(alloc);
-    match put_piece(tidying, &mut piece, output) {
-        Ok(true) => put_others(tidying, &mut piece, output),
+    match put_piece(tidying, &mut piece, output, fault) {
+        Ok(true) => put_others(tidying, &mut piece, output, fault),
         Ok(false) => Ok(()),
         Err(failure) => Err(failure),
     }
 }
 
-/// Writes the tidy text of a text. `name` is the text's name in messages.
+/// Writes the tidy text of a text. `name` is the text's name in messages. If the output fails, `fault`
+/// is why.
 pub fn put_tidied<W: Write>(
     alloc: Global,
     name: &str,
     text: &str,
     output: &mut W,
+    fault: &mut WriteFault,
 ) -> Result<(), Failure>
     ensures ok { OnOk result (Writes (W.contents output.old) (W.contents output.new)
         (IsTidyTextOf text.now)) }
@@ -134,7 +168,7 @@ pub fn put_tidied<W: Write>(
     match Tidying::new(alloc, text) {
         Ok(tidying) => {
             let mut tidying = tidying;
-            put_pieces(alloc, &mut tidying, output)
+            put_pieces(alloc, &mut tidying, output, fault)
         }
         Err(fault) => Err(failure_of(alloc, name, text, fault)),
     }

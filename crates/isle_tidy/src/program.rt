@@ -1,34 +1,31 @@
 //! The program, for any files, reader and writers.
 
-ghost use Rattle.std.specs.Prelude.{◌≡◌, ◌≢◌, ◌≤◌, ◌⊎◌, ◌++◌, [], IfErr, IfOk, OnOk, codes};
-ghost use Rattle.std.specs.Prelude.{false, length, map, string_bytes, true};
-ghost use Rattle.std.specs.Io.KnownBytes.{Appends, Keeps};
+ghost use Rattle.std.specs.Prelude.{◌≡◌, ◌≢◌, ◌≤◌, ◌⊎◌, ◌++◌, [], IfErr, IfOk, None, Some, codes};
+ghost use Rattle.std.specs.Prelude.{false, length, map, string_bytes};
+ghost use Rattle.std.specs.Io.KnownBytes.{Keeps};
 ghost use Rattle.isle_cli.specs.Arguments.{given_of, is_among, name_list, stdin_name};
 ghost use Rattle.isle_cli.specs.Failure as frame;
 ghost use Rattle.isle_cli.specs.Failure.{status_of};
 ghost use Rattle.isle_cli.specs.Sources.{fault_line};
-ghost use Rattle.isle_cli.specs.Streams.{AppendsBeginning, ReadsText, WritesBeginning};
-ghost use Rattle.isle_cli.specs.declared.failure.Failure.TheVariants.{Output};
-ghost use Rattle.isle_tidy_core.specs.Tidied.{IsTidyTextOf};
-ghost use Rattle.isle_tidy.specs.Doing.{Cuts, CutsInput, Does, DoesInput, DoesTask, EndsFile};
-ghost use Rattle.isle_tidy.specs.Doing.{EndsName, Explains, Finds, FindsInput, HandlesFiles};
-ghost use Rattle.isle_tidy.specs.Doing.{IsInputFailure, IsJudged, IsTidyFailure, Judges};
-ghost use Rattle.isle_tidy.specs.Doing.{LeavesOutput, RunsAndTells, RunsOnAsked, RunsOnFiles};
-ghost use Rattle.isle_tidy.specs.Doing.{RunsOnNames, Tells, TidiesInput};
-ghost use Rattle.isle_tidy.specs.Doing.{changes_text, checks, names_input};
+ghost use Rattle.isle_cli.specs.Streams.{AppendsBeginning, WritesBeginning};
+ghost use Rattle.isle_tidy_core.specs.Tidied.{IsUntidy};
+ghost use Rattle.isle_tidy.specs.Doing.{Cuts, CutsInput, Does, DoesTask, EndsFile, EndsInput};
+ghost use Rattle.isle_tidy.specs.Doing.{EndsName, EndsText, Explains, Finds, FindsInput};
+ghost use Rattle.isle_tidy.specs.Doing.{HandlesFiles, LeavesOutput, Misses, MissesInput};
+ghost use Rattle.isle_tidy.specs.Doing.{RunsAndTells, RunsOnAsked, RunsOnFiles, RunsOnNames};
+ghost use Rattle.isle_tidy.specs.Doing.{TellsText, changes_text, listing_of, names_input};
 ghost use Rattle.isle_tidy.specs.Program.{AreOwn, AsAsked, AskForNothing, HaveNames, IsDiagnostic};
 ghost use Rattle.isle_tidy.specs.Program.{IsThis};
 
-use crate::in_place::{FileText, read_regular, tidy_file};
+use crate::in_place::{FileText, WriteFault, read_regular, tidy_file};
+use crate::listings::{Listing, listing_of, option_of, put_listing};
 use crate::manifests;
 use crate::pieces::{is_untidy, put_tidied};
-use isle_cli::arguments::{
-    Argument, Options, Request, has_flag, names_of, requested, stdin_name_of,
-};
+use isle_cli::arguments::{Argument, Options, Request, names_of, requested, stdin_name_of};
 use isle_cli::failure::Failure;
 use isle_cli::folders::files_named;
 use isle_cli::messages::counted;
-use isle_cli::program::{Program, put, report, tell};
+use isle_cli::program::{Program, report, tell};
 use isle_cli::sources::fault_line;
 use isle_cli::streams::{ReadFault, Streams, read_text, write_whole};
 use isle_cli::usage::report_words;
@@ -40,8 +37,8 @@ use std::io::{Read, Write};
 /// This program.
 pub const PROGRAM: Program = Program {
     name: "isle-tidy",
-    usage: "usage: isle-tidy [--check] [--stdin-name NAME] [--program NAME] [--all-programs] \
-            [FILE ..]\n",
+    usage: "usage: isle-tidy [--check] [--diff] [--stdin-name NAME] [--program NAME] \
+            [--all-programs] [FILE ..]\n",
     help: HELP,
     version: VERSION,
 };
@@ -51,7 +48,7 @@ pub const VERSION: &str = version!("isle-tidy");
 
 /// Its help.
 pub const HELP: &str = "\
-usage: isle-tidy [--check] [--stdin-name NAME] [--program NAME] [--all-programs] [FILE ..]
+usage: isle-tidy [--check] [--diff] [--stdin-name NAME] [--program NAME] [--all-programs] [FILE ..]
 
 Fixes the indentation and spacing of ISLE source to match Cranelift's style. All comments and line
 breaks are kept.
@@ -64,6 +61,8 @@ is looked for in the current folder and above it, or in the one folder that is g
 
 Options:
   --check            list the files that would change, and change nothing
+  --diff             print what would change as a unified diff, and change nothing; goes before
+                     --check
   --stdin-name NAME  use NAME for standard input in messages
   --program NAME     tidy the files of the program NAME of isle.toml; may be repeated
   --all-programs     tidy the files of each program of isle.toml
@@ -72,8 +71,8 @@ Options:
   -V, --version      print the version
 
 Exit status (with several files, the greatest of theirs):
-  0  success; with --check, nothing would change
-  1  an input cannot be tidied; with --check, or an input would change
+  0  success; with --check or --diff, nothing would change
+  1  an input cannot be tidied; with --check or --diff, or an input would change
   2  usage error, or a mistake in isle.toml
   3  an input cannot be read, or is not UTF-8, or a folder has no .isle file,
      or there is no isle.toml
@@ -93,7 +92,7 @@ fn own_options() -> Options
     ensures { AreOwn result }
 {
     Options {
-        flags: &["--check"],
+        flags: &["--check", "--diff"],
         settings: &[],
     }
 }
@@ -102,8 +101,8 @@ fn own_options() -> Options
 ///
 /// | Status | When |
 /// |---|---|
-/// | 0 | all is tidied; with `--check`, all is tidy |
-/// | 1 | a text can't be tidied, or with `--check` one would change |
+/// | 0 | all is tidied; with `--check` or `--diff`, all is tidy |
+/// | 1 | a text can't be tidied, or with `--check` or `--diff` one would change |
 /// | 2 | usage error |
 /// | 3 | an input can't be read or isn't UTF-8, or a folder has no ISLE file |
 /// | 4 | out of memory |
@@ -113,6 +112,9 @@ fn own_options() -> Options
 /// stands for every `.isle` file below it, and `-`, which stands for standard input. The whole
 /// command line is checked before any file is touched. An error in one file does not stop the
 /// others; the status is the greatest of theirs.
+///
+/// With `--check` the output gets the name of each input that would change, in a line. With `--diff`
+/// it gets the diff, which `patch -p0` applies where the names are paths below the current folder.
 pub fn run<R: Files + AllocGlobal + Clone + Drop, I: Read, W: Write, E: Write>(
     rt: &R,
     words: &[String],
@@ -168,12 +170,17 @@ pub fn run<R: Files + AllocGlobal + Clone + Drop, I: Read, W: Write, E: Write>(
     ensures unwritten { 2 ≤ result → result ≢ 5 → ¬ (HaveNames (map string_bytes words.now))
         → Keeps (W.contents streams.old.output) (W.contents streams.new.output) }
 
-    // Standard error gets nothing, or, without names, the message of the status, or a beginning.
+    // Standard error gets nothing, or, without names, the message of the status, or a beginning;
+    // with status 3 the line that says why standard input can't be read.
     ensures quiet { result ≡ 0
         → Keeps (E.contents streams.old.faults) (E.contents streams.new.faults) }
-    ensures told { 2 ≤ result → ¬ (HaveNames (map string_bytes words.now))
+    ensures told { 2 ≤ result → result ≢ 3 → ¬ (HaveNames (map string_bytes words.now))
         → WritesBeginning (E.contents streams.old.faults) (E.contents streams.new.faults)
         (IsDiagnostic (map string_bytes words.now) result) }
+    ensures missed { result ≡ 3 → AsAsked (map string_bytes words.now)
+        (λ program request. Misses program request
+        (I.remaining streams.old.input) (I.remaining streams.new.input)
+        (E.contents streams.old.faults) (E.contents streams.new.faults)) }
 {
     let (program, options) = (this_program(), own_options());
     match requested(rt.alloc(), &options, words) {
@@ -211,8 +218,8 @@ pub fn run<R: Files + AllocGlobal + Clone + Drop, I: Read, W: Write, E: Write>(
 pub struct Task<'a> {
     /// The program.
     pub program: &'a Program,
-    /// Whether files that would change are listed, and nothing is changed.
-    pub check: bool,
+    /// What is listed of texts that would change; `None` if they are tidied.
+    pub listing: Option<Listing>,
     /// The name of standard input in messages.
     pub stdin_name: &'a str,
 }
@@ -231,39 +238,43 @@ fn work<R: Files + AllocGlobal + Clone + Drop, I: Read, W: Write, E: Write>(
         → Keeps (I.remaining streams.old.input) (I.remaining streams.new.input) }
     ensures in_place { name_list (map given_of arguments.now) ≢ []
         → names_input (map given_of arguments.now) ≡ false
-        → checks (map given_of arguments.now) ≡ false
+        → listing_of (map given_of arguments.now) ≡ None
         → Keeps (W.contents streams.old.output) (W.contents streams.new.output) }
     ensures done { result ≡ 0 → DoesTask (map given_of arguments.now)
         (I.remaining streams.old.input) (I.remaining streams.new.input)
         (W.contents streams.old.output) (W.contents streams.new.output) }
     ensures found { result ≡ 1 → name_list (map given_of arguments.now) ≡ []
-        → FindsInput (checks (map given_of arguments.now)) (stdin_name (map given_of arguments.now))
+        → FindsInput (listing_of (map given_of arguments.now)) (stdin_name (map given_of arguments.now))
         (I.remaining streams.old.input) (I.remaining streams.new.input)
         (W.contents streams.old.output) (W.contents streams.new.output)
         (E.contents streams.old.faults) (E.contents streams.new.faults) }
     ensures named { name_list (map given_of arguments.now) ≢ [] → (result ≡ 4)
         × Keeps (I.remaining streams.old.input) (I.remaining streams.new.input)
         × Keeps (W.contents streams.old.output) (W.contents streams.new.output)
-        ⊎ RunsAndTells program.now (checks (map given_of arguments.now))
+        ⊎ RunsAndTells program.now (listing_of (map given_of arguments.now))
         (stdin_name (map given_of arguments.now)) (name_list (map given_of arguments.now)) result
         (I.remaining streams.old.input) (I.remaining streams.new.input)
         (W.contents streams.old.output) (W.contents streams.new.output)
         (E.contents streams.old.faults) (E.contents streams.new.faults) }
     ensures cut { result ≡ 5 → name_list (map given_of arguments.now) ≡ []
-        → CutsInput (checks (map given_of arguments.now)) (stdin_name (map given_of arguments.now))
+        → CutsInput (listing_of (map given_of arguments.now)) (stdin_name (map given_of arguments.now))
         (I.remaining streams.old.input) (I.remaining streams.new.input)
         (W.contents streams.old.output) (W.contents streams.new.output) }
     ensures unwritten { 2 ≤ result → result ≢ 5 → name_list (map given_of arguments.now) ≡ []
         → Keeps (W.contents streams.old.output) (W.contents streams.new.output) }
     ensures quiet { result ≡ 0
         → Keeps (E.contents streams.old.faults) (E.contents streams.new.faults) }
-    ensures told { 2 ≤ result → name_list (map given_of arguments.now) ≡ []
+    ensures told { 2 ≤ result → result ≢ 3 → name_list (map given_of arguments.now) ≡ []
         → WritesBeginning (E.contents streams.old.faults) (E.contents streams.new.faults)
         (frame.IsDiagnostic program.now result) }
+    ensures missed { result ≡ 3 → name_list (map given_of arguments.now) ≡ []
+        → MissesInput program.now (stdin_name (map given_of arguments.now))
+        (I.remaining streams.old.input) (I.remaining streams.new.input)
+        (E.contents streams.old.faults) (E.contents streams.new.faults) }
 {
     let task = Task {
         program,
-        check: has_flag(arguments, "--check"),
+        listing: listing_of(arguments),
         stdin_name: stdin_name_of(arguments),
     };
     match names_of(rt.alloc(), arguments) {
@@ -279,118 +290,116 @@ fn run_on_input<I: Read, W: Write, E: Write>(
     task: &Task<'_>,
     streams: &mut Streams<I, W, E>,
 ) -> u8
-    ensures statuses { result ≤ 5 }
-    ensures used { result ≢ 2 }
-    ensures done { result ≡ 0 → DoesInput task.now.check task.now.stdin_name.now
-        (I.remaining streams.old.input) (I.remaining streams.new.input)
-        (W.contents streams.old.output) (W.contents streams.new.output) }
-    ensures found { result ≡ 1 → FindsInput task.now.check task.now.stdin_name.now
+    ensures { EndsInput task.now.program.now task.now.listing task.now.stdin_name.now result
         (I.remaining streams.old.input) (I.remaining streams.new.input)
         (W.contents streams.old.output) (W.contents streams.new.output)
         (E.contents streams.old.faults) (E.contents streams.new.faults) }
-    ensures cut { result ≡ 5 → CutsInput task.now.check task.now.stdin_name.now
-        (I.remaining streams.old.input) (I.remaining streams.new.input)
-        (W.contents streams.old.output) (W.contents streams.new.output) }
-    ensures unwritten { 2 ≤ result → result ≢ 5
-        → Keeps (W.contents streams.old.output) (W.contents streams.new.output) }
-    ensures quiet { result ≡ 0
-        → Keeps (E.contents streams.old.faults) (E.contents streams.new.faults) }
-    ensures told { 2 ≤ result
-        → WritesBeginning (E.contents streams.old.faults) (E.contents streams.new.faults)
-        (frame.IsDiagnostic task.now.program.now result) }
 {
-    match do_input(alloc, task, &mut streams.input, &mut streams.output) {
-        Ok(true) => 0,
-        Ok(false) => 1,
-        Err(failure) => report(task.program, &failure, &mut streams.faults),
+    match read_text(alloc, &mut streams.input) {
+        Ok(text) => {
+            run_on_given(
+                alloc,
+                task,
+                text.as_str(),
+                &mut streams.output,
+                &mut streams.faults,
+            )
+        }
+        Err(fault) => report_unread_input(alloc, task, fault, &mut streams.faults),
     }
 }
 
-/// Tidies the input to the output, or, with `check`, lists it if it would change. Returns `false`
-/// if it is listed.
-fn do_input<I: Read, W: Write>(
+/// Writes why standard input can't be read to standard error, and returns the exit status.
+fn report_unread_input<E: Write>(
     alloc: Global,
     task: &Task<'_>,
-    input: &mut I,
+    fault: ReadFault,
+    faults: &mut E,
+) -> u8
+    ensures statuses { (result ≡ 3) ⊎ (result ≡ 4) }
+    ensures missed { result ≡ 3 → AppendsBeginning (E.contents faults.old) (E.contents faults.new)
+        (fault_line task.now.program.now task.now.stdin_name.now fault) }
+    ensures starved { result ≡ 4 → WritesBeginning (E.contents faults.old) (E.contents faults.new)
+        (frame.IsDiagnostic task.now.program.now result) }
+{
+    match unread_line(alloc, task.program, task.stdin_name, fault) {
+        Ok(line) => {
+            let _ = write_whole(faults, line.as_bytes());
+            Failure::Input.status()
+        }
+        Err(_) => report(task.program, &Failure::Memory, faults),
+    }
+}
+
+/// The same for the text of the input.
+fn run_on_given<W: Write, E: Write>(
+    alloc: Global,
+    task: &Task<'_>,
+    text: &str,
+    output: &mut W,
+    faults: &mut E,
+) -> u8
+    ensures { EndsText task.now.program.now task.now.listing task.now.stdin_name.now text.now result
+        (W.contents output.old) (W.contents output.new)
+        (E.contents faults.old) (E.contents faults.new) }
+{
+    match tell_text(alloc, task, text, output) {
+        Ok(true) => 0,
+        Ok(false) => 1,
+        Err(failure) => report(task.program, &failure, faults),
+    }
+}
+
+/// Writes the tidy text of a text to the output, or lists it if it would change. Returns `false` if
+/// it is listed.
+fn tell_text<W: Write>(
+    alloc: Global,
+    task: &Task<'_>,
+    text: &str,
     output: &mut W,
 ) -> Result<bool, Failure>
-    ensures ok { IfOk result (λ is_done. Tells is_done task.now.check task.now.stdin_name.now
-        (I.remaining input.old) (I.remaining input.new)
-        (W.contents output.old) (W.contents output.new)) }
-    ensures err { IfErr result (λ failure. Explains failure task.now.check task.now.stdin_name.now
-        (I.remaining input.old) (I.remaining input.new)
-        (W.contents output.old) (W.contents output.new)) }
+    ensures ok { IfOk result (λ is_done. TellsText is_done task.now.listing task.now.stdin_name.now
+        text.now (W.contents output.old) (W.contents output.new)) }
+    ensures err { IfErr result (λ failure. Explains failure task.now.listing
+        task.now.stdin_name.now text.now (W.contents output.old) (W.contents output.new)) }
 {
-    if task.check {
-        return check_input(alloc, task.stdin_name, input, output);
+    match task.listing {
+        None => {
+            let mut fault = WriteFault::Other;
+            match put_tidied(alloc, task.stdin_name, text, output, &mut fault) {
+                Ok(()) => Ok(true),
+                Err(failure) => Err(failure),
+            }
+        }
+        Some(listing) => list_text(alloc, listing, task.stdin_name, text, output),
     }
-    tidy_input(alloc, task.stdin_name, input, output)?;
-    Ok(true)
 }
 
-/// Tidies the input to the output.
-fn tidy_input<I: Read, W: Write>(
+/// Lists a text of this name on the output if it would change, and returns whether it is tidy.
+fn list_text<W: Write>(
     alloc: Global,
+    listing: Listing,
     name: &str,
-    input: &mut I,
-    output: &mut W,
-) -> Result<(), Failure>
-    ensures ok { OnOk result (TidiesInput name.now (I.remaining input.old) (I.remaining input.new)
-        (W.contents output.old) (W.contents output.new)) }
-    ensures err { IfErr result (λ failure. Explains failure false name.now
-        (I.remaining input.old) (I.remaining input.new)
-        (W.contents output.old) (W.contents output.new)) }
-{
-    let text = read_text(alloc, input)?;
-    put_tidied(alloc, name, text.as_str(), output)
-}
-
-/// Lists the input on the output if it would change, and returns whether it is tidy.
-fn check_input<I: Read, W: Write>(
-    alloc: Global,
-    name: &str,
-    input: &mut I,
+    text: &str,
     output: &mut W,
 ) -> Result<bool, Failure>
-    ensures ok { IfOk result (λ is_tidy. Judges is_tidy name.now
-        (I.remaining input.old) (I.remaining input.new)
+    ensures ok { IfOk result (λ is_tidy. TellsText is_tidy (Some listing) name.now text.now
         (W.contents output.old) (W.contents output.new)) }
-    ensures err { IfErr result (λ failure. Explains failure true name.now
-        (I.remaining input.old) (I.remaining input.new)
+    ensures err { IfErr result (λ failure. Explains failure (Some listing) name.now text.now
         (W.contents output.old) (W.contents output.new)) }
 {
-    if is_untidy_input(alloc, name, input)? {
-        put_line(output, name)?;
-        return Ok(false);
+    match is_untidy(alloc, name, text) {
+        Ok(true) => match put_listing(alloc, listing, name, text, output) {
+            Ok(()) => Ok(false),
+            Err(failure) => Err(failure),
+        },
+        Ok(false) => Ok(true),
+        Err(failure) => Err(failure),
     }
-    Ok(true)
 }
 
-/// Returns whether the input would change.
-fn is_untidy_input<I: Read>(alloc: Global, name: &str, input: &mut I) -> Result<bool, Failure>
-    ensures ok { IfOk result (λ is_untidy. ReadsText (I.remaining input.old)
-        (I.remaining input.new) (λ text. IsJudged text is_untidy)) }
-    ensures err { IfErr result (λ failure. IsInputFailure failure name.now
-        (I.remaining input.old) (I.remaining input.new)) }
-{
-    let text = read_text(alloc, input)?;
-    is_untidy(alloc, name, text.as_str())
-}
-
-/// Writes a text and a line end to the output.
-fn put_line<W: Write>(output: &mut W, text: &str) -> Result<(), Failure>
-    ensures ok { OnOk result (Appends (W.contents output.old) (W.contents output.new)
-        (text.now ++ codes "\n")) }
-    ensures err { IfErr result (λ failure. (failure ≡ Output)
-        × AppendsBeginning (W.contents output.old) (W.contents output.new)
-        (text.now ++ codes "\n")) }
-{
-    put(output, text)?;
-    put(output, "\n")
-}
-
-/// Tidies the inputs of these names in turn. The status is the greatest of theirs. With `check` a
-/// line says how many files would change, if any would.
+/// Tidies or lists the inputs of these names in turn. The status is the greatest of theirs. If they
+/// are listed, a line says how many files would change, if any would.
 fn run_on_names<R: Files + AllocGlobal + Clone + Drop, I: Read, W: Write, E: Write>(
     rt: &R,
     task: &Task<'_>,
@@ -404,11 +413,11 @@ fn run_on_names<R: Files + AllocGlobal + Clone + Drop, I: Read, W: Write, E: Wri
     ensures unwritten { result ≡ 0 → is_among (map string_bytes names.now) (codes "-") ≡ false
         → Keeps (W.contents streams.old.output) (W.contents streams.new.output) }
     ensures in_place { is_among (map string_bytes names.now) (codes "-") ≡ false
-        → task.now.check ≡ false
+        → task.now.listing ≡ None
         → Keeps (W.contents streams.old.output) (W.contents streams.new.output) }
     ensures quiet { result ≡ 0
         → Keeps (E.contents streams.old.faults) (E.contents streams.new.faults) }
-    ensures named { RunsAndTells task.now.program.now task.now.check task.now.stdin_name.now
+    ensures named { RunsAndTells task.now.program.now task.now.listing task.now.stdin_name.now
         (map string_bytes names.now) result
         (I.remaining streams.old.input) (I.remaining streams.new.input)
         (W.contents streams.old.output) (W.contents streams.new.output)
@@ -416,32 +425,26 @@ fn run_on_names<R: Files + AllocGlobal + Clone + Drop, I: Read, W: Write, E: Wri
 {
     let mut untidy = 0;
     let status = run_on_each(rt, task, names, streams, &mut untidy);
-    tell_changes(
-        rt.alloc(),
-        task.program,
-        status,
-        untidy,
-        &mut streams.faults,
-    );
+    tell_changes(rt.alloc(), task, status, untidy, &mut streams.faults);
     status
 }
 
 /// Writes to standard error how many files would change, if any would, and how to change them.
 pub fn tell_changes<E: Write>(
     alloc: Global,
-    program: &Program,
+    task: &Task<'_>,
     status: u8,
     untidy: usize,
     faults: &mut E,
 )
     ensures quiet { status ≡ 0 → Keeps (E.contents faults.old) (E.contents faults.new) }
     ensures told { AppendsBeginning (E.contents faults.old) (E.contents faults.new)
-        (changes_text program.now untidy) }
+        (changes_text task.now.program.now task.now.listing untidy) }
 {
     if status == 0 {
         return;
     }
-    match changes_text(alloc, program, untidy) {
+    match changes_text(alloc, task, untidy) {
         Ok(text) => {
             let _ = write_whole(faults, text.as_bytes());
         }
@@ -450,15 +453,17 @@ pub fn tell_changes<E: Write>(
 }
 
 /// The line that says how many files would change, and how to change them; empty if none would.
-fn changes_text(alloc: Global, program: &Program, untidy: usize) -> Result<String, AllocError>
-    ensures { IfOk result (λ text. string_bytes text ≡ changes_text program.now untidy) }
+fn changes_text(alloc: Global, task: &Task<'_>, untidy: usize) -> Result<String, AllocError>
+    ensures { IfOk result (λ text. string_bytes text
+        ≡ changes_text task.now.program.now task.now.listing untidy) }
 {
     if untidy == 0 {
         return Ok(String::new(alloc));
     }
     let files = counted(alloc, untidy, "file")?;
-    let name = program.name;
-    format!(in alloc; "{name}: {files} would change; run the same command without --check\n")
+    let name = task.program.name;
+    let option = option_of(task.listing);
+    format!(in alloc; "{name}: {files} would change; run the same command without {option}\n")
 }
 
 /// The same, without the line about the files that would change: they are added to `untidy`.
@@ -469,7 +474,7 @@ fn run_on_each<R: Files + AllocGlobal + Clone + Drop, I: Read, W: Write, E: Writ
     streams: &mut Streams<I, W, E>,
     untidy: &mut usize,
 ) -> u8
-    ensures { RunsOnNames task.now.program.now task.now.check task.now.stdin_name.now
+    ensures { RunsOnNames task.now.program.now task.now.listing task.now.stdin_name.now
         (map string_bytes names.now) result
         (I.remaining streams.old.input) (I.remaining streams.new.input)
         (W.contents streams.old.output) (W.contents streams.new.output)
@@ -491,7 +496,7 @@ fn run_on_name<R: Files + AllocGlobal + Clone + Drop, I: Read, W: Write, E: Writ
     streams: &mut Streams<I, W, E>,
     untidy: &mut usize,
 ) -> u8
-    ensures { EndsName task.now.program.now task.now.check task.now.stdin_name.now name.now result
+    ensures { EndsName task.now.program.now task.now.listing task.now.stdin_name.now name.now result
         (I.remaining streams.old.input) (I.remaining streams.new.input)
         (W.contents streams.old.output) (W.contents streams.new.output)
         (E.contents streams.old.faults) (E.contents streams.new.faults) }
@@ -519,7 +524,7 @@ pub fn run_on_paths<R: Files + AllocGlobal + Clone + Drop, W: Write, E: Write>(
     faults: &mut E,
     untidy: &mut usize,
 ) -> u8
-    ensures { RunsOnFiles task.now.check (length names.now) result
+    ensures { RunsOnFiles task.now.listing (length names.now) result
         (W.contents output.old) (W.contents output.new)
         (E.contents faults.old) (E.contents faults.new) }
 {
@@ -540,7 +545,7 @@ fn run_on_path<R: Files + AllocGlobal + Clone + Drop, W: Write, E: Write>(
     faults: &mut E,
     untidy: &mut usize,
 ) -> u8
-    ensures { RunsOnFiles task.now.check 1 result
+    ensures { RunsOnFiles task.now.listing 1 result
         (W.contents output.old) (W.contents output.new)
         (E.contents faults.old) (E.contents faults.new) }
 {
@@ -564,7 +569,7 @@ fn run_on_files<R: Files + AllocGlobal, W: Write, E: Write>(
     faults: &mut E,
     untidy: &mut usize,
 ) -> u8
-    ensures { RunsOnFiles task.now.check (length names.now) result
+    ensures { RunsOnFiles task.now.listing (length names.now) result
         (W.contents output.old) (W.contents output.new)
         (E.contents faults.old) (E.contents faults.new) }
 {
@@ -576,7 +581,7 @@ fn run_on_files<R: Files + AllocGlobal, W: Write, E: Write>(
     status
 }
 
-/// Tidies a file, or, with `check`, lists it if it would change.
+/// Tidies a file, or lists it if it would change.
 fn run_on_file<R: Files + AllocGlobal, W: Write, E: Write>(
     rt: &R,
     task: &Task<'_>,
@@ -585,7 +590,7 @@ fn run_on_file<R: Files + AllocGlobal, W: Write, E: Write>(
     faults: &mut E,
     untidy: &mut usize,
 ) -> u8
-    ensures { EndsFile task.now.check result (W.contents output.old) (W.contents output.new)
+    ensures { EndsFile task.now.listing result (W.contents output.old) (W.contents output.new)
         (E.contents faults.old) (E.contents faults.new) }
 {
     match read_regular(rt, name) {
@@ -594,7 +599,7 @@ fn run_on_file<R: Files + AllocGlobal, W: Write, E: Write>(
     }
 }
 
-/// Tidies a file that was read, or, with `check`, lists it if it would change.
+/// Tidies a file that was read, or lists it if it would change.
 fn run_on_text<R: Files + AllocGlobal, W: Write, E: Write>(
     rt: &R,
     task: &Task<'_>,
@@ -604,16 +609,29 @@ fn run_on_text<R: Files + AllocGlobal, W: Write, E: Write>(
     faults: &mut E,
     untidy: &mut usize,
 ) -> u8
-    ensures { EndsFile task.now.check result (W.contents output.old) (W.contents output.new)
+    ensures { EndsFile task.now.listing result (W.contents output.old) (W.contents output.new)
         (E.contents faults.old) (E.contents faults.new) }
 {
-    match tidy_file(rt, name, file, task.check) {
-        Ok(is_untidy) if is_untidy && task.check => {
-            *untidy = untidy.saturating_add(1);
-            named(task, name, output, faults)
-        }
-        Ok(_) => 0,
-        Err(failure) => report_on_file(&failure, name, faults),
+    let mut fault = WriteFault::Other;
+    match tidy_file(rt, name, file, task.listing, &mut fault) {
+        Ok(true) => match task.listing {
+            None => 0,
+            Some(listing) => {
+                *untidy = untidy.saturating_add(1);
+                let text = file.text.as_str();
+                listed(
+                    rt.alloc(),
+                    task.program,
+                    listing,
+                    name,
+                    text,
+                    output,
+                    faults,
+                )
+            }
+        },
+        Ok(false) => 0,
+        Err(failure) => report_on_file(&failure, fault, name, faults),
     }
 }
 
@@ -634,7 +652,7 @@ fn report_unread<E: Write>(
             let _ = write_whole(faults, line.as_bytes());
             Failure::Input.status()
         }
-        Err(_) => report_on_file(&Failure::Memory, name, faults),
+        Err(_) => report_on_file(&Failure::Memory, WriteFault::Other, name, faults),
     }
 }
 
@@ -653,18 +671,39 @@ fn unread_line(
     }
 }
 
-/// Lists a file that would change on the output.
-fn named<W: Write, E: Write>(task: &Task<'_>, name: &str, output: &mut W, faults: &mut E) -> u8
-    ensures statuses { (result ≡ 1) ⊎ (result ≡ 5) }
+/// Lists a file that would change on the output, and returns the exit status.
+fn listed<W: Write, E: Write>(
+    alloc: Global,
+    program: &Program,
+    listing: Listing,
+    name: &str,
+    text: &str,
+    output: &mut W,
+    faults: &mut E,
+) -> u8
+    requires { IsUntidy text.now }
+    ensures { EndsFile (Some listing) result (W.contents output.old) (W.contents output.new)
+        (E.contents faults.old) (E.contents faults.new) }
 {
-    match put_line(output, name) {
+    match put_listing(alloc, listing, name, text, output) {
         Ok(()) => 1,
-        Err(failure) => report(task.program, &failure, faults),
+        Err(failure) => report_unlisted(program, &failure, name, faults),
     }
 }
 
-/// Writes the message of a file's failure to standard error, and returns the exit status.
-fn report_on_file<E: Write>(failure: &Failure, name: &str, faults: &mut E) -> u8
+/// Writes why a file could not be listed to standard error, and returns the exit status.
+fn report_unlisted<E: Write>(program: &Program, failure: &Failure, name: &str, faults: &mut E) -> u8
+    ensures { result ≡ status_of failure.now }
+{
+    match failure {
+        Failure::Output => report(program, failure, faults),
+        _ => report_on_file(failure, WriteFault::Other, name, faults),
+    }
+}
+
+/// Writes the message of a file's failure to standard error, and returns the exit status. `fault` is
+/// why the file can't be written, if that is the failure.
+fn report_on_file<E: Write>(failure: &Failure, fault: WriteFault, name: &str, faults: &mut E) -> u8
     ensures { result ≡ status_of failure.now }
 {
     match failure {
@@ -675,7 +714,7 @@ fn report_on_file<E: Write>(failure: &Failure, name: &str, faults: &mut E) -> u8
             let _ = write_whole(faults, b"isle-tidy: ");
             let _ = write_whole(faults, name.as_bytes());
             let _ = write_whole(faults, b": ");
-            let _ = write_whole(faults, reason(failure).as_bytes());
+            let _ = write_whole(faults, reason(failure, fault).as_bytes());
             let _ = write_whole(faults, b"\n");
         }
     }
@@ -683,12 +722,12 @@ fn report_on_file<E: Write>(failure: &Failure, name: &str, faults: &mut E) -> u8
 }
 
 /// The reason, which follows the file's name in the message.
-fn reason(failure: &Failure) -> &'static str {
+fn reason(failure: &Failure, fault: WriteFault) -> &'static str {
     match failure {
         Failure::Refused(_) => "can't be tidied",
         Failure::Usage => "is no file",
         Failure::Input => "unreadable",
         Failure::Memory => "out of memory",
-        Failure::Output => "can't be written",
+        Failure::Output => fault.words(),
     }
 }

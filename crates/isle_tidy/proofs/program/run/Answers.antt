@@ -14,10 +14,10 @@ returns-in-Ok-Work-clause-unwritten g c =
 
 pub returns-in-Ok-Work-clause-told : goal.returns-in-Ok-Work-clause-told
 returns-in-Ok-Work-clause-told g c =
-    λ past none.
+    λ past other none.
     let is = rw c.in-Ok-Work.field-0-is at c.in-Ok-Work.ensures.ok in
     let empty = without-names _ (map given_of c.in-Ok-Work.arguments.items) is (λ of. none (c.this_program-program.result, c.own_options-options.result, c.this_program-program.ensures, c.own_options-options.ensures, of)) in
-    let told = c.work.ensures.told past (ap (λ items. name_list (map given_of items)) (rw c.in-Ok-Work.field-0-is at c.deref.ensures.value) ∙ empty) in
+    let told = c.work.ensures.told past other (ap (λ items. name_list (map given_of items)) (rw c.in-Ok-Work.field-0-is at c.deref.ensures.value) ∙ empty) in
     asked-told c.this_program-program.result c.own_options-options.result _ _ c.work.result _ _ c.this_program-program.ensures c.own_options-options.ensures is told
 
 pub returns-in-Ok-Work-clause-named : goal.returns-in-Ok-Work-clause-named
@@ -31,20 +31,20 @@ returns-in-Ok-Work-clause-named g c =
 
 pub returns-in-Ok-Help-clause-told : goal.returns-in-Ok-Help-clause-told
 returns-in-Ok-Help-clause-told g c =
-    λ past none.
+    λ past other none.
     let is = rw c.in-Ok-Help.field-0-is at c.in-Ok-Help.ensures.ok in
     asked-told c.this_program-program.result c.own_options-options.result _ _ c.tell.result _ _ c.this_program-program.ensures c.own_options-options.ensures is
     (c.tell.ensures.told (past-two c.tell.result c.tell.ensures.statuses past))
 
 pub returns-in-Ok-Version-clause-told : goal.returns-in-Ok-Version-clause-told
 returns-in-Ok-Version-clause-told g c =
-    λ past none.
+    λ past other none.
     let is = rw c.in-Ok-Version.field-0-is at c.in-Ok-Version.ensures.ok in
     asked-told c.this_program-program.result c.own_options-options.result _ _ c.tell-in-Ok-Version.result _ _ c.this_program-program.ensures c.own_options-options.ensures is
     (c.tell-in-Ok-Version.ensures.told (past-two c.tell-in-Ok-Version.result c.tell-in-Ok-Version.ensures.statuses past))
 
 pub returns-in-Err-clause-told : goal.returns-in-Err-clause-told
 returns-in-Err-clause-told g c =
-    λ past none.
+    λ past other none.
     words-told-here c.this_program-program.result c.own_options-options.result _ _ c.in-Err.failure c.report_words.result _ _ c.this_program-program.ensures c.own_options-options.ensures (record { flags = refl; settings = refl })
     c.in-Err.ensures.err c.report_words.ensures.status c.report_words.ensures.text

@@ -3,5 +3,5 @@ use Rattle.isle_tidy.proofs.program.run_on_files.Goals as goal
 
 pub loop-name-preserved : goal.loop-name-preserved
 loop-name-preserved g c =
-    runs-next c.args.task.now.check c.args.names.now c.loop-name.name-index c.loop-name.status c.run_on_file-done.result c.max-status.result _ _ _ _ _ _ c.loop-name-test.true
-    c.loop-name.invariant (runs-one c.args.task.now.check c.run_on_file-done.result _ _ _ _ c.run_on_file-done.ensures) c.max-status.ensures
+    runs-next c.args.task.now.listing c.args.names.now c.loop-name.name-index c.loop-name.status c.run_on_file-done.result c.max-status.result _ _ _ _ _ _ c.loop-name-test.true
+    c.loop-name.invariant (runs-one c.args.task.now.listing c.run_on_file-done.result _ _ _ _ c.run_on_file-done.ensures) c.max-status.ensures

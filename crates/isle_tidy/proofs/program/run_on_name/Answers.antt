@@ -6,20 +6,7 @@ use Rattle.isle_tidy.proofs.program.run_on_name.Goals as goal
 
 pub returns-then-eq : goal.returns-then-eq
 returns-then-eq g c =
-    let ends = c.run_on_input.ensures in
-    inl (
-      (bytes_eq-Decides c.args.name.now (codes "-")).0 (sym c.eq.ensures ∙ c.if-eq.true),
-      record {
-        known = ends.statuses;
-        used = ends.used;
-        done = ends.done;
-        found = ends.found;
-        cut = ends.cut;
-        unwritten = ends.unwritten;
-        quiet = ends.quiet;
-        told = ends.told;
-      },
-    )
+    inl ((bytes_eq-Decides c.args.name.now (codes "-")).0 (sym c.eq.ensures ∙ c.if-eq.true), c.run_on_input.ensures)
 
 pub returns-else-eq : goal.returns-else-eq
 returns-else-eq g c =

@@ -7,8 +7,8 @@ pub returns : goal.returns
 returns g c =
     let names = map string_bytes c.args.names.now in
     let runs = c.run_on_each-status.ensures in
-    let all = names-end c.args.task.now.program.now c.args.task.now.check c.args.task.now.stdin_name.now names c.run_on_each-status.result _ _ _ _ _ _ runs in
-    let files = files-end c.args.task.now.program.now c.args.task.now.check c.args.task.now.stdin_name.now names c.run_on_each-status.result _ _ _ _ _ _ runs in
+    let all = names-end c.args.task.now.program.now c.args.task.now.listing c.args.task.now.stdin_name.now names c.run_on_each-status.result _ _ _ _ _ _ runs in
+    let files = files-end c.args.task.now.program.now c.args.task.now.listing c.args.task.now.stdin_name.now names c.run_on_each-status.result _ _ _ _ _ _ runs in
     record {
       statuses = all.0;
       used = all.1;

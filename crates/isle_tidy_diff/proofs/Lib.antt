@@ -1,0 +1,3 @@
+pub mod EditLemmas
+pub mod LineLemmas
+pub mod RowLemmas
