@@ -16,6 +16,7 @@ use Rattle.isle_cli.specs.declared.failure.Failure.TheVariants as failures
 use Rattle.isle_lint.specs.Options.{are_usable, lints_on}
 use Rattle.isle_program.specs.Reading.{IsReading}
 use Rattle.isle_program_manifest.specs.Levels.{NameLevel, with_levels}
+use Rattle.isle_program_messages.specs.Colours.{settled}
 use Rattle.isle_cli.specs.declared.arguments.Options.{Options}
 use Rattle.isle_cli.specs.declared.program.Program.{Program}
 use Rattle.isle_lint.specs.declared.options.TheConstants.{HELP, VERSION}
@@ -43,18 +44,18 @@ told_status is_read is_clean = if is_read then (if is_clean then 0 else 1) else 
 abbrev pub IsProgram : Program → Type 0
 IsProgram program =
     (program.name.now ≡ codes "isle-lint")
-    × (program.usage.now ≡ codes "usage: isle-lint [--all] [--lint NAME] [--allow NAME] [--warn NAME] [--deny NAME] [--message-format FORMAT] [--stdin-name NAME] [--program NAME] [--all-programs] [FILE ..]\n")
+    × (program.usage.now ≡ codes "usage: isle-lint [--all] [--lint NAME] [--allow NAME] [--warn NAME] [--deny NAME] [--message-format FORMAT] [--color WHEN] [--stdin-name NAME] [--program NAME] [--all-programs] [FILE ..]\n")
 
 abbrev pub AreOptions : Options → Type 0
 AreOptions options =
     (map (λ flag. flag.now) options.flags.now ≡ codes "--all" ∷ [])
-    × (map (λ setting. setting.now) options.settings.now ≡ codes "--lint" ∷ codes "--allow" ∷ codes "--warn" ∷ codes "--deny" ∷ codes "--message-format" ∷ codes "--exclude" ∷ [])
+    × (map (λ setting. setting.now) options.settings.now ≡ codes "--lint" ∷ codes "--allow" ∷ codes "--warn" ∷ codes "--deny" ∷ codes "--message-format" ∷ codes "--color" ∷ codes "--exclude" ∷ [])
 
 -- its options, and those that ask for programs of a manifest
 abbrev pub AreAllOptions : Options → Type 0
 AreAllOptions options =
     (map (λ flag. flag.now) options.flags.now ≡ codes "--all" ∷ codes "--all-programs" ∷ [])
-    × (map (λ setting. setting.now) options.settings.now ≡ codes "--lint" ∷ codes "--allow" ∷ codes "--warn" ∷ codes "--deny" ∷ codes "--message-format" ∷ codes "--exclude" ∷ codes "--program" ∷ [])
+    × (map (λ setting. setting.now) options.settings.now ≡ codes "--lint" ∷ codes "--allow" ∷ codes "--warn" ∷ codes "--deny" ∷ codes "--message-format" ∷ codes "--color" ∷ codes "--exclude" ∷ codes "--program" ∷ [])
 
 -- the words ask this of the program
 abbrev pub Ask : List (List ℕ) → Option Asked → Type 0
@@ -101,7 +102,7 @@ Explains failures.Input given input input' output output' = ⊥
 Explains failures.Memory given input input' output output' = Keeps output output'
 Explains failures.Output given input input' output output' = Cuts given input input' output output'
 
--- the words are none of the usage, or name a lint or a format that there is none of
+-- the words are none of the usage, or name a lint, a format or a choice of colours that there is none of
 abbrev pub IsMisuse : List (List ℕ) → Type 0
 IsMisuse words = Ask words None ⊎ ((given : List Given) × Ask words (Some (work_asked given)) × (are_usable given ≡ false))
 
@@ -109,19 +110,19 @@ IsMisuse words = Ask words None ⊎ ((given : List Given) × Ask words (Some (wo
 abbrev pub AsAsked : List (List ℕ) → (Asked → Type 0) → Type 0
 AsAsked words P = (what : Asked) × Ask words (Some what) × P what
 
--- what is asked for is done, with this status
-abbrev pub Does : Asked → ℕ → (input input' output output' faults faults' : Option (List ℕ)) → Type 0
-Does help_asked status input input' output output' faults faults' =
+-- what is asked for is done, with this status, and with colours if no option says otherwise, or without
+abbrev pub Does : (shows_colours : Bool) → Asked → ℕ → (input input' output output' faults faults' : Option (List ℕ)) → Type 0
+Does shows_colours help_asked status input input' output output' faults faults' =
     (status ≡ 0) × Keeps input input' × Appends output output' HELP.now × Keeps faults faults'
-Does version_asked status input input' output output' faults faults' =
+Does shows_colours version_asked status input input' output output' faults faults' =
     (status ≡ 0) × Keeps input input' × Appends output output' VERSION.now × Keeps faults faults'
-Does (work_asked given) status input input' output output' faults faults' = Tells given status input input' output output' faults faults'
+Does shows_colours (work_asked given) status input input' output output' faults faults' = Tells (settled shows_colours given) status input input' output output' faults faults'
 
 -- the output got a beginning of what is asked for
-abbrev pub CutsAsked : Asked → (input input' output output' : Option (List ℕ)) → Type 0
-CutsAsked help_asked input input' output output' = Keeps input input' × AppendsBeginning output output' HELP.now
-CutsAsked version_asked input input' output output' = Keeps input input' × AppendsBeginning output output' VERSION.now
-CutsAsked (work_asked given) input input' output output' = Cuts given input input' output output'
+abbrev pub CutsAsked : (shows_colours : Bool) → Asked → (input input' output output' : Option (List ℕ)) → Type 0
+CutsAsked shows_colours help_asked input input' output output' = Keeps input input' × AppendsBeginning output output' HELP.now
+CutsAsked shows_colours version_asked input input' output output' = Keeps input input' × AppendsBeginning output output' VERSION.now
+CutsAsked shows_colours (work_asked given) input input' output output' = Cuts (settled shows_colours given) input input' output output'
 
 -- Of some programs, with their texts, this is told as the arguments say, and this is the status; all of their files could
 -- be read, or not.
@@ -151,7 +152,11 @@ TellsPrograms given status output output' = (levels : List NameLevel) × TellsRe
 abbrev pub CutsPrograms : List Given → (output output' : Option (List ℕ)) → Type 0
 CutsPrograms given output output' = (levels : List NameLevel) × CutsReport (with_levels given levels) output output'
 
--- nothing is told of programs, since there is no manifest, or it has a mistake; or what is in them is told
+-- nothing is told of programs, since a name among the levels is that of no lint; or what is in them is told
+abbrev pub EndsReport : List Given → ℕ → (output output' : Option (List ℕ)) → Type 0
+EndsReport given status output output' = ((status ≡ 2 ⊎ status ≡ 3) × Keeps output output') ⊎ TellsReport given status output output'
+
+-- the same of some levels; or there is no manifest, or it has a mistake
 abbrev pub Ends : List Given → ℕ → (output output' : Option (List ℕ)) → Type 0
 Ends given status output output' = ((status ≡ 2 ⊎ status ≡ 3) × Keeps output output') ⊎ TellsPrograms given status output output'
 

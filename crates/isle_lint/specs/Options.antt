@@ -7,6 +7,7 @@ use Rattle.isle_cli.specs.Arguments.{Given, flag_given, setting_given, name_give
 use Rattle.isle_lint_core.specs.Lint.{all_lints, is_default, name}
 use Rattle.isle_lint_core.specs.declared.lint.Lint.{Lint}
 use Rattle.isle_program_manifest.specs.Levels.{NameLevel}
+use Rattle.isle_program_messages.specs.Colours.{is_colour_usable}
 use Rattle.isle_program_messages.specs.Formats.{is_format_usable}
 
 -- an option with a value names a lint
@@ -61,10 +62,10 @@ abbrev pub unknown_lint : List NameLevel → Option (List ℕ)
 unknown_lint [] = None
 unknown_lint (l ∷ levels) = if is_lint l.name then unknown_lint levels else Some l.name
 
--- that of `--message-format` is the name of a format
+-- that of `--message-format` is the name of a format, and that of `--color` of a choice
 abbrev pub is_usable : Given → Bool
 is_usable (flag_given _) = true
-is_usable (setting_given o value) = is_lint_usable o value && is_format_usable o value
+is_usable (setting_given o value) = is_lint_usable o value && is_format_usable o value && is_colour_usable o value
 is_usable (name_given _) = true
 
 abbrev pub are_usable : List Given → Bool

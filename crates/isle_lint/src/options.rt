@@ -15,6 +15,7 @@ use isle_cli::failure::Failure;
 use isle_cli::version;
 use isle_lint_core::Lint;
 use isle_program_manifest::levels::NameLevel;
+use isle_program_messages::colours::is_colour_usable;
 use isle_program_messages::format::is_format_usable;
 use std::alloc::{AllocError, Global};
 
@@ -24,7 +25,7 @@ pub const VERSION: &str = version!("isle-lint");
 /// The help.
 pub const HELP: &str = "\
 usage: isle-lint [--all] [--lint NAME] [--allow NAME] [--warn NAME] [--deny NAME]
-                 [--message-format FORMAT] [--exclude PATTERN] [--stdin-name NAME]
+                 [--message-format FORMAT] [--color WHEN] [--exclude PATTERN] [--stdin-name NAME]
                  [--program NAME] [--all-programs] [FILE ..]
 
 Lints ISLE source: finds what the compiler accepts but is likely a mistake. For what it rejects, use
@@ -47,6 +48,8 @@ Options:
   --deny NAME              enable a lint, and let its findings count, also after --warn;
                            may be repeated
   --message-format FORMAT  write findings as human (the default), json or github
+  --color WHEN             colour findings for people: auto (the default), which is where standard
+                           output is a terminal, always or never; with several, the last counts
   --exclude PATTERN        leave out of folders what the pattern matches; may be repeated
   --stdin-name NAME        use NAME for standard input in messages
   --program NAME           lint this program of isle.toml; may be repeated
@@ -79,8 +82,8 @@ Exit status:
 
 /// The lints that the arguments enable.
 ///
-/// It fails with `Usage` if `--lint`, `--allow`, `--warn` or `--deny` names no lint, or
-/// `--message-format` no format, and with `Memory`.
+/// It fails with `Usage` if `--lint`, `--allow`, `--warn` or `--deny` names no lint,
+/// `--message-format` no format, or `--color` no choice, and with `Memory`.
 pub fn lints_of(alloc: Global, arguments: &[Argument]) -> Result<Vec<Lint>, Failure>
     ensures ok { IfOk result (λ lints. lints.items ≡ lints_on (map given_of arguments.now)) }
     ensures usable { OnOk result (are_usable (map given_of arguments.now) ≡ true) }
@@ -119,7 +122,8 @@ pub fn unknown_lint(levels: &[NameLevel]) -> Option<&str>
     None
 }
 
-/// Returns whether each option for lints names one, and each `--message-format` a format.
+/// Returns whether each option for lints names one, each `--message-format` a format, and
+/// each `--color` a choice.
 pub fn are_usable(arguments: &[Argument]) -> bool
     ensures { result ≡ are_usable (map given_of arguments.now) }
 {
@@ -131,7 +135,7 @@ pub fn are_usable(arguments: &[Argument]) -> bool
     true
 }
 
-/// Returns whether an argument names a lint or a format, if it has to.
+/// Returns whether an argument names a lint, a format or a choice of colours, if it has to.
 fn is_usable(argument: &Argument) -> bool
     ensures { result ≡ is_usable (given_of argument.now) }
 {
@@ -139,6 +143,7 @@ fn is_usable(argument: &Argument) -> bool
         Argument::Setting(option, value) => {
             is_lint_usable(option.as_str(), value.as_str())
                 && is_format_usable(option.as_str(), value.as_str())
+                && is_colour_usable(option.as_str(), value.as_str())
         }
         Argument::Flag(_) | Argument::Name(_) => true,
     }

@@ -9,6 +9,7 @@ ghost use Rattle.isle_lint.specs.Doing.{AsAsked, Cuts, CutsAsked, Does, Explains
 ghost use Rattle.isle_lint.specs.Doing.{IsFailureText, IsFailureTextOf, IsMisuse, Tells};
 ghost use Rattle.isle_lint.specs.Doing.{told_status};
 ghost use Rattle.isle_lint.specs.Options.{are_usable};
+ghost use Rattle.isle_program_messages.specs.Colours.{settled};
 
 use crate::manifests;
 use crate::options::{HELP, VERSION, lints_of};
@@ -19,6 +20,7 @@ use isle_cli::program::{Program, put, report, tell};
 use isle_cli::sources::read_sources;
 use isle_cli::streams::{Streams, write_whole};
 use isle_cli::usage::report_words;
+use isle_program_messages::colours::{COLOUR_OPTION, settle};
 use isle_program_messages::format::FORMAT_OPTION;
 use std::fs::Files;
 use std::io::{Read, Write};
@@ -27,8 +29,8 @@ use std::io::{Read, Write};
 pub const PROGRAM: Program = Program {
     name: "isle-lint",
     usage: "usage: isle-lint [--all] [--lint NAME] [--allow NAME] [--warn NAME] [--deny NAME] \
-            [--message-format FORMAT] [--exclude PATTERN] [--stdin-name NAME] [--program NAME] \
-            [--all-programs] [FILE ..]\n",
+            [--message-format FORMAT] [--color WHEN] [--exclude PATTERN] [--stdin-name NAME] \
+            [--program NAME] [--all-programs] [FILE ..]\n",
     help: HELP,
     version: VERSION,
 };
@@ -42,6 +44,7 @@ pub const OPTIONS: Options = Options {
         "--warn",
         "--deny",
         FORMAT_OPTION,
+        COLOUR_OPTION,
         EXCLUDE_OPTION,
     ],
 };
@@ -63,10 +66,12 @@ pub const OPTIONS: Options = Options {
 /// parse, in order of file and position, in the format that is asked for, and for people a line
 /// that counts them; with status 5 a beginning of that. With status 2 and 4 it gets nothing.
 ///
-/// Errors of standard error do not change the status.
+/// Errors of standard error do not change the status. `shows_colours` says whether lines for people
+/// have colours if no option says so.
 pub fn run<R: Files + AllocGlobal + Clone + Drop, I: Read, W: Write, E: Write>(
     rt: &R,
     words: &[String],
+    shows_colours: bool,
     streams: &mut Streams<I, W, E>,
 ) -> u8
     // Status 2 is a usage error, and then nothing is read.
@@ -77,14 +82,16 @@ pub fn run<R: Files + AllocGlobal + Clone + Drop, I: Read, W: Write, E: Write>(
     // With status 0, 1 or 3 the request is done, as far as texts can be read; with 3 standard error
     // gets a line for each text that can't be read, or a beginning of these lines.
     ensures done { result ≢ 2 → result ≢ 4 → result ≢ 5 → AsAsked (map string_bytes words.now)
-        (λ what. Does what result (I.remaining streams.old.input) (I.remaining streams.new.input)
+        (λ what. Does shows_colours what result
+        (I.remaining streams.old.input) (I.remaining streams.new.input)
         (W.contents streams.old.output) (W.contents streams.new.output)
         (E.contents streams.old.faults) (E.contents streams.new.faults)) }
 
     // The output is left alone, or has a beginning.
     ensures unwritten { result ≡ 2 ⊎ result ≡ 4
         → Keeps (W.contents streams.old.output) (W.contents streams.new.output) }
-    ensures cut { result ≡ 5 → AsAsked (map string_bytes words.now) (λ what. CutsAsked what
+    ensures cut { result ≡ 5 → AsAsked (map string_bytes words.now)
+        (λ what. CutsAsked shows_colours what
         (I.remaining streams.old.input) (I.remaining streams.new.input)
         (W.contents streams.old.output) (W.contents streams.new.output)) }
 
@@ -112,7 +119,7 @@ pub fn run<R: Files + AllocGlobal + Clone + Drop, I: Read, W: Write, E: Write>(
                 &mut streams.faults,
             )
         }
-        Ok(Request::Work(arguments)) => work(rt, &arguments, streams),
+        Ok(Request::Work(arguments)) => work(rt, arguments, shows_colours, streams),
         Err(failure) => {
             report_words(
                 &PROGRAM,
@@ -128,19 +135,23 @@ pub fn run<R: Files + AllocGlobal + Clone + Drop, I: Read, W: Write, E: Write>(
 /// Does what the arguments ask for, and returns the exit status.
 fn work<R: Files + AllocGlobal + Clone + Drop, I: Read, W: Write, E: Write>(
     rt: &R,
-    arguments: &[Argument],
+    arguments: Vec<Argument>,
+    shows_colours: bool,
     streams: &mut Streams<I, W, E>,
 ) -> u8
     ensures statuses { result ≤ 5 }
-    ensures usage { result ≡ 2 → (are_usable (map given_of arguments.now) ≡ false)
+    ensures usage { result ≡ 2 → (are_usable
+        (settled shows_colours (map given_of arguments.items)) ≡ false)
         × Keeps (I.remaining streams.old.input) (I.remaining streams.new.input) }
-    ensures done { result ≢ 2 → result ≢ 4 → result ≢ 5 → Tells (map given_of arguments.now) result
+    ensures done { result ≢ 2 → result ≢ 4 → result ≢ 5 → Tells
+        (settled shows_colours (map given_of arguments.items)) result
         (I.remaining streams.old.input) (I.remaining streams.new.input)
         (W.contents streams.old.output) (W.contents streams.new.output)
         (E.contents streams.old.faults) (E.contents streams.new.faults) }
     ensures unwritten { result ≡ 2 ⊎ result ≡ 4
         → Keeps (W.contents streams.old.output) (W.contents streams.new.output) }
-    ensures cut { result ≡ 5 → Cuts (map given_of arguments.now)
+    ensures cut { result ≡ 5 → Cuts
+        (settled shows_colours (map given_of arguments.items))
         (I.remaining streams.old.input) (I.remaining streams.new.input)
         (W.contents streams.old.output) (W.contents streams.new.output) }
     ensures quiet { result ≤ 1
@@ -148,7 +159,7 @@ fn work<R: Files + AllocGlobal + Clone + Drop, I: Read, W: Write, E: Write>(
     ensures told { 2 ≤ result → result ≢ 3 → WritesBeginning (E.contents streams.old.faults)
         (E.contents streams.new.faults) (IsFailureText result) }
 {
-    match lint(rt, arguments, streams) {
+    match lint(rt, arguments, shows_colours, streams) {
         Ok(status) => status,
         Err(failure) => report(&PROGRAM, &failure, &mut streams.faults),
     }
@@ -156,6 +167,32 @@ fn work<R: Files + AllocGlobal + Clone + Drop, I: Read, W: Write, E: Write>(
 
 /// Lints the files that the arguments name, and returns the exit status.
 fn lint<R: Files + AllocGlobal + Clone + Drop, I: Read, W: Write, E: Write>(
+    rt: &R,
+    arguments: Vec<Argument>,
+    shows_colours: bool,
+    streams: &mut Streams<I, W, E>,
+) -> Result<u8, Failure>
+    ensures ok { IfOk result (λ status. Tells
+        (settled shows_colours (map given_of arguments.items)) status
+        (I.remaining streams.old.input) (I.remaining streams.new.input)
+        (W.contents streams.old.output) (W.contents streams.new.output)
+        (E.contents streams.old.faults) (E.contents streams.new.faults)) }
+    ensures err { IfErr result (λ failure. Explains failure
+        (settled shows_colours (map given_of arguments.items))
+        (I.remaining streams.old.input) (I.remaining streams.new.input)
+        (W.contents streams.old.output) (W.contents streams.new.output)) }
+    ensures quiet { MatchResult result
+        (λ status. (status ≤ 3) × (status ≢ 2)
+        × (status ≤ 1 → Keeps (E.contents streams.old.faults) (E.contents streams.new.faults)))
+        (λ _. Keeps (E.contents streams.old.faults) (E.contents streams.new.faults)) }
+{
+    let mut arguments = arguments;
+    settle(rt.alloc(), shows_colours, &mut arguments)?;
+    lint_settled(rt, &arguments, streams)
+}
+
+/// Lints the files that the arguments name, and returns the exit status. Colours are settled.
+fn lint_settled<R: Files + AllocGlobal + Clone + Drop, I: Read, W: Write, E: Write>(
     rt: &R,
     arguments: &[Argument],
     streams: &mut Streams<I, W, E>,

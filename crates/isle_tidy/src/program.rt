@@ -72,7 +72,7 @@ Options:
 
 Exit status (with several files, the greatest of theirs):
   0  success; with --check or --diff, nothing would change
-  1  an input cannot be tidied; with --check or --diff, or an input would change
+  1  an input cannot be tidied; with --check or --diff, one would change
   2  usage error, or a mistake in isle.toml
   3  an input cannot be read, or is not UTF-8, or a folder has no .isle file,
      or there is no isle.toml

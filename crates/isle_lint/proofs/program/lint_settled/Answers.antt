@@ -3,8 +3,8 @@ use Rattle.isle_cli.specs.Arguments.{given_of}
 use Rattle.isle_cli.specs.Sources.{source_of}
 use Rattle.isle_lint.proofs.DoingLemmas.{report-asked, report-told}
 use Rattle.isle_lint.proofs.FailureLemmas.{none_begun}
-use Rattle.isle_lint.proofs.program.lint.Goals as goal
-use Rattle.isle_lint.proofs.program.lint.Goals.{else-not-is_read, then-not-is_read}
+use Rattle.isle_lint.proofs.program.lint_settled.Goals as goal
+use Rattle.isle_lint.proofs.program.lint_settled.Goals.{else-not-is_read, then-not-is_read}
 use Rattle.isle_lint.specs.Doing.{IsReport}
 use Rattle.isle_lint.specs.Options.{lints_on}
 use Rattle.isle_lint.specs.ReportView.{report_of}
