@@ -28,10 +28,10 @@ nothing-behind [] ys zs is none = sym is ∙ none
 nothing-behind (x ∷ xs) ys zs is none = absurd (let no : x ∷ (xs ++ ys) ≡ [] = sym is ∙ none in cc)
 
 -- where nothing is told, a name stands for files
-pub some-found : (program : Program) (name : List ℕ) (paths : List (String Global)) (told : List ℕ) → IsListing program name (map string_bytes paths) told → told ≡ [] → 1 ≤ length paths
-some-found program name [] told (inl (_, some)) none = absurd (some refl none)
-some-found program name [] told (inr (_, is)) none = absurd (empty-told program name (sym is ∙ none))
-some-found program name (p ∷ paths) told listing none = omega arith
+pub some-found : (program : Program) (excluded : List (List ℕ)) (name : List ℕ) (paths : List (String Global)) (told : List ℕ) → IsListing program excluded name (map string_bytes paths) told → told ≡ [] → 1 ≤ length paths
+some-found program excluded name [] told (inl (_, _, some)) none = absurd (some refl none)
+some-found program excluded name [] told (inr (_, is)) none = absurd (empty-told program name (sym is ∙ none))
+some-found program excluded name (p ∷ paths) told listing none = omega arith
 
 -- a name that is found to be another
 pub other-than : (name other : List ℕ) → bytes_eq name other ≡ false → name ≢ other

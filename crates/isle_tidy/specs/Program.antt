@@ -11,15 +11,15 @@ pub record IsThis (program : Program) : Type 0 where
   pub name : program.name.now ≡ codes "isle-tidy"
   pub usage : program.usage.now ≡ codes "usage: isle-tidy [--check] [--diff] [--stdin-name NAME] [--program NAME] [--all-programs] [FILE ..]\n"
 
--- its own options: `--check` and `--diff`
+-- its own options: `--check` and `--diff`, and `--exclude` with a value
 pub record AreOwn (options : Options) : Type 0 where
   pub flags : map (λ flag. flag.now) options.flags.now ≡ codes "--check" ∷ codes "--diff" ∷ []
-  pub settings : map (λ setting. setting.now) options.settings.now ≡ []
+  pub settings : map (λ setting. setting.now) options.settings.now ≡ codes "--exclude" ∷ []
 
 -- its own options, and those that ask for programs of a manifest
 pub record AreAll (options : Options) : Type 0 where
   pub flags : map (λ flag. flag.now) options.flags.now ≡ codes "--check" ∷ codes "--diff" ∷ codes "--all-programs" ∷ []
-  pub settings : map (λ setting. setting.now) options.settings.now ≡ codes "--program" ∷ []
+  pub settings : map (λ setting. setting.now) options.settings.now ≡ codes "--exclude" ∷ codes "--program" ∷ []
 
 -- the words ask this program for something, and P holds of both
 abbrev pub AsAsked : List (List ℕ) → (Program → Asked → Type 0) → Type 0

@@ -8,7 +8,7 @@ ghost use Rattle.isle_tidy.specs.Doing.{EndsPrograms, listing_of};
 
 use crate::listings::listing_of;
 use crate::program::{PROGRAM, Task, run_on_paths, tell_changes, this_program};
-use isle_cli::arguments::{Argument, Options, stdin_name_of};
+use isle_cli::arguments::{Argument, EXCLUDE_OPTION, Options, stdin_name_of};
 use isle_cli::failure::Failure;
 use isle_cli::program::report;
 use isle_cli::streams::{Streams, write_whole};
@@ -23,7 +23,7 @@ use std::io::Write;
 /// The options with those that ask for programs of a manifest.
 pub const OPTIONS: Options = Options {
     flags: &["--check", "--diff", ALL_OPTION],
-    settings: &[NAME_OPTION],
+    settings: &[EXCLUDE_OPTION, NAME_OPTION],
 };
 
 /// Tidies the files of programs of the nearest manifest in place, each once, and returns the exit
@@ -77,6 +77,7 @@ fn tidy_programs<R: Files + Env + AllocGlobal + Clone + Drop, I, W: Write, E: Wr
         program: &program,
         listing: listing_of(arguments),
         stdin_name: stdin_name_of(arguments),
+        arguments,
     };
     let (output, faults) = (&mut streams.output, &mut streams.faults);
     let mut untidy = 0;

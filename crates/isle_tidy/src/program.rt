@@ -1,12 +1,12 @@
 //! The program, for any files, reader and writers.
 
 ghost use Rattle.std.specs.Prelude.{◌≡◌, ◌≢◌, ◌≤◌, ◌⊎◌, ◌++◌, [], IfErr, IfOk, None, Some, codes};
-ghost use Rattle.std.specs.Prelude.{false, length, map, string_bytes};
+ghost use Rattle.std.specs.Prelude.{List, false, length, map, string_bytes, ℕ};
 ghost use Rattle.std.specs.Io.KnownBytes.{Keeps};
-ghost use Rattle.isle_cli.specs.Arguments.{given_of, is_among, name_list, stdin_name};
+ghost use Rattle.isle_cli.specs.Arguments.{excluded, given_of, is_among, name_list, stdin_name};
 ghost use Rattle.isle_cli.specs.Failure as frame;
 ghost use Rattle.isle_cli.specs.Failure.{status_of};
-ghost use Rattle.isle_cli.specs.Sources.{fault_line};
+ghost use Rattle.isle_cli.specs.Sources.{IsListing, fault_line};
 ghost use Rattle.isle_cli.specs.Streams.{AppendsBeginning, WritesBeginning};
 ghost use Rattle.isle_tidy_core.specs.Tidied.{IsUntidy};
 ghost use Rattle.isle_tidy.specs.Doing.{Cuts, CutsInput, Does, DoesTask, EndsFile, EndsInput};
@@ -21,7 +21,9 @@ use crate::in_place::{FileText, WriteFault, read_regular, tidy_file};
 use crate::listings::{Listing, listing_of, option_of, put_listing};
 use crate::manifests;
 use crate::pieces::{is_untidy, put_tidied};
-use isle_cli::arguments::{Argument, Options, Request, names_of, requested, stdin_name_of};
+use isle_cli::arguments::{
+    Argument, EXCLUDE_OPTION, Options, Request, excluded_of, names_of, requested, stdin_name_of,
+};
 use isle_cli::failure::Failure;
 use isle_cli::folders::files_named;
 use isle_cli::messages::counted;
@@ -37,8 +39,8 @@ use std::io::{Read, Write};
 /// This program.
 pub const PROGRAM: Program = Program {
     name: "isle-tidy",
-    usage: "usage: isle-tidy [--check] [--diff] [--stdin-name NAME] [--program NAME] \
-            [--all-programs] [FILE ..]\n",
+    usage: "usage: isle-tidy [--check] [--diff] [--exclude PATTERN] [--stdin-name NAME] \
+            [--program NAME] [--all-programs] [FILE ..]\n",
     help: HELP,
     version: VERSION,
 };
@@ -48,7 +50,8 @@ pub const VERSION: &str = version!("isle-tidy");
 
 /// Its help.
 pub const HELP: &str = "\
-usage: isle-tidy [--check] [--diff] [--stdin-name NAME] [--program NAME] [--all-programs] [FILE ..]
+usage: isle-tidy [--check] [--diff] [--exclude PATTERN] [--stdin-name NAME] [--program NAME]
+                 [--all-programs] [FILE ..]
 
 Fixes the indentation and spacing of ISLE source to match Cranelift's style. All comments and line
 breaks are kept.
@@ -63,6 +66,7 @@ Options:
   --check            list the files that would change, and change nothing
   --diff             print what would change as a unified diff, and change nothing; goes before
                      --check
+  --exclude PATTERN  leave out of folders what the pattern matches; may be repeated
   --stdin-name NAME  use NAME for standard input in messages
   --program NAME     tidy the files of the program NAME of isle.toml; may be repeated
   --all-programs     tidy the files of each program of isle.toml
@@ -93,7 +97,7 @@ fn own_options() -> Options
 {
     Options {
         flags: &["--check", "--diff"],
-        settings: &[],
+        settings: &[EXCLUDE_OPTION],
     }
 }
 
@@ -222,6 +226,8 @@ pub struct Task<'a> {
     pub listing: Option<Listing>,
     /// The name of standard input in messages.
     pub stdin_name: &'a str,
+    /// The arguments, which may exclude files and folders.
+    pub arguments: &'a [Argument],
 }
 
 /// Does what the arguments ask for.
@@ -276,6 +282,7 @@ fn work<R: Files + AllocGlobal + Clone + Drop, I: Read, W: Write, E: Write>(
         program,
         listing: listing_of(arguments),
         stdin_name: stdin_name_of(arguments),
+        arguments,
     };
     match names_of(rt.alloc(), arguments) {
         Ok(names) if names.is_empty() => run_on_input(rt.alloc(), &task, streams),
@@ -550,7 +557,7 @@ fn run_on_path<R: Files + AllocGlobal + Clone + Drop, W: Write, E: Write>(
         (E.contents faults.old) (E.contents faults.new) }
 {
     let mut lines = String::new(rt.alloc());
-    match files_named(rt, task.program, name, &mut lines) {
+    match files_at(rt, task, name, &mut lines) {
         Ok(files) if lines.is_empty() => run_on_files(rt, task, &files, output, faults, untidy),
         Ok(files) => {
             let _ = write_whole(faults, lines.as_bytes());
@@ -558,6 +565,23 @@ fn run_on_path<R: Files + AllocGlobal + Clone + Drop, W: Write, E: Write>(
         }
         Err(_) => report(task.program, &Failure::Memory, faults),
     }
+}
+
+/// The files that a name stands for, without those that are excluded. A line is added to `lines` for
+/// each that can't be read, and for a folder without an ISLE file.
+fn files_at<R: Files + AllocGlobal + Clone + Drop>(
+    rt: &R,
+    task: &Task<'_>,
+    name: &str,
+    lines: &mut String,
+) -> Result<Vec<String>, AllocError>
+    ensures { IfOk result (λ files. (told : List ℕ) × IsListing task.now.program.now
+        (excluded (map given_of task.now.arguments.now)) name.now
+        (map string_bytes files.items) told
+        × (string_bytes lines.new ≡ string_bytes lines.old ++ told)) }
+{
+    let excluded = excluded_of(rt.alloc(), task.arguments)?;
+    files_named(rt, task.program, name, &excluded, lines)
 }
 
 /// Tidies each file, or lists those that would change. The status is the greatest of theirs.

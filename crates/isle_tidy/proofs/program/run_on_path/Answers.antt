@@ -7,11 +7,11 @@ use Rattle.isle_tidy.proofs.program.run_on_path.Goals as goal
 
 pub returns-in-Ok : goal.returns-in-Ok
 returns-in-Ok g c =
-    let lines = c.files_named.new.faults in
+    let lines = c.files_at.new.lines in
     let listed = c.in-Ok.ensures in
     let none : length (string_bytes lines) ≡ 0 = grind (arith, common_steps, c.is_empty.ensures, c.if-is_empty.true, lines.bytes.ok.0) in
     let silent : listed.0 ≡ [] = nothing-behind (string_bytes c.new-lines.result) listed.0 (string_bytes lines) listed.2 (nil_from_length (string_bytes lines) none) in
-    let some : 1 ≤ length c.in-Ok.files.items = some-found c.args.task.now.program.now c.args.name.now c.in-Ok.files.items listed.0 listed.1 silent in
+    let some : 1 ≤ length c.in-Ok.files.items = some-found c.args.task.now.program.now _ c.args.name.now c.in-Ok.files.items listed.0 listed.1 silent in
     runs-some c.args.task.now.listing (length c.deref.result.now) c.run_on_files.result _ _ _ _ (subst (λ xs. 1 ≤ length xs) (sym c.deref.ensures.value) some) c.run_on_files.ensures
 
 pub returns-in-Ok-2 : goal.returns-in-Ok-2
