@@ -14,6 +14,7 @@ use isle_cli::program::{report, tell};
 use isle_cli::streams::{Streams, write_whole};
 use isle_program_manifest::asking::{ALL_OPTION, NAME_OPTION, chosen_programs, tell_choice};
 use isle_program_manifest::choice::{Chosen, missing_notes};
+use isle_program_messages::colours::COLOUR_OPTION;
 use isle_program_messages::format::FORMAT_OPTION;
 use std::alloc::{AllocError, Global};
 use std::env::Env;
@@ -26,7 +27,14 @@ const LIST_OPTION: &str = "--print-programs";
 /// All options: those of `run_programs`, and this one.
 pub const OPTIONS: Options = Options {
     flags: &[LIST_OPTION, ALL_OPTION],
-    settings: &["--allow", "--warn", "--deny", FORMAT_OPTION, NAME_OPTION],
+    settings: &[
+        "--allow",
+        "--warn",
+        "--deny",
+        FORMAT_OPTION,
+        COLOUR_OPTION,
+        NAME_OPTION,
+    ],
 };
 
 /// Returns the arguments of a command line that asks for the list of the programs.
