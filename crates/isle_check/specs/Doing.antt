@@ -16,6 +16,7 @@ use Rattle.isle_check.specs.Options.{are_usable}
 use Rattle.isle_check.specs.Programs.{IsProgramsReport}
 use Rattle.isle_check.specs.Report.{IsReport, ReportNode}
 use Rattle.isle_program_manifest.specs.Levels.{NameLevel, with_levels}
+use Rattle.isle_program_messages.specs.Colours.{settled}
 
 -- the status of a report with this many errors
 abbrev pub told_status : ℕ → ℕ
@@ -25,18 +26,18 @@ told_status errors = if errors == 0 then 0 else 1
 abbrev pub IsProgram : Program → Type 0
 IsProgram program =
     (program.name.now ≡ codes "isle-check")
-    × (program.usage.now ≡ codes "usage: isle-check [--allow KIND] [--warn KIND] [--deny KIND] [--message-format FORMAT] [--stdin-name NAME] [--program NAME] [--all-programs] [FILE ..]\n")
+    × (program.usage.now ≡ codes "usage: isle-check [--allow KIND] [--warn KIND] [--deny KIND] [--message-format FORMAT] [--color WHEN] [--stdin-name NAME] [--program NAME] [--all-programs] [FILE ..]\n")
 
 abbrev pub AreOptions : Options → Type 0
 AreOptions options =
     (map (λ flag. flag.now) options.flags.now ≡ [])
-    × (map (λ setting. setting.now) options.settings.now ≡ codes "--allow" ∷ codes "--warn" ∷ codes "--deny" ∷ codes "--message-format" ∷ codes "--exclude" ∷ [])
+    × (map (λ setting. setting.now) options.settings.now ≡ codes "--allow" ∷ codes "--warn" ∷ codes "--deny" ∷ codes "--message-format" ∷ codes "--color" ∷ codes "--exclude" ∷ [])
 
 -- its options, and those that are about the programs of a manifest
 abbrev pub AreAllOptions : Options → Type 0
 AreAllOptions options =
     (map (λ flag. flag.now) options.flags.now ≡ codes "--print-programs" ∷ codes "--all-programs" ∷ [])
-    × (map (λ setting. setting.now) options.settings.now ≡ codes "--allow" ∷ codes "--warn" ∷ codes "--deny" ∷ codes "--message-format" ∷ codes "--exclude" ∷ codes "--program" ∷ [])
+    × (map (λ setting. setting.now) options.settings.now ≡ codes "--allow" ∷ codes "--warn" ∷ codes "--deny" ∷ codes "--message-format" ∷ codes "--color" ∷ codes "--exclude" ∷ codes "--program" ∷ [])
 
 -- the words ask this of the program
 abbrev pub Ask : List (List ℕ) → Option Asked → Type 0
@@ -88,7 +89,7 @@ Explains failures.Input given input input' output output' = ⊥
 Explains failures.Memory given input input' output output' = Keeps output output'
 Explains failures.Output given input input' output output' = Cuts given input input' output output'
 
--- the words are none of the usage, or name a kind or a format that there is none of
+-- the words are none of the usage, or name a kind, a format or a choice of colours that there is none of
 abbrev pub IsMisuse : List (List ℕ) → Type 0
 IsMisuse words = Ask words None ⊎ ((given : List Given) × Ask words (Some (work_asked given)) × (are_usable given ≡ false))
 
@@ -96,19 +97,19 @@ IsMisuse words = Ask words None ⊎ ((given : List Given) × Ask words (Some (wo
 abbrev pub AsAsked : List (List ℕ) → (Asked → Type 0) → Type 0
 AsAsked words P = (what : Asked) × Ask words (Some what) × P what
 
--- what is asked for is done, with this status
-abbrev pub Does : Asked → ℕ → (input input' output output' faults faults' : Option (List ℕ)) → Type 0
-Does help_asked status input input' output output' faults faults' =
+-- what is asked for is done, with this status, and with colours if no option says otherwise, or without
+abbrev pub Does : (shows_colours : Bool) → Asked → ℕ → (input input' output output' faults faults' : Option (List ℕ)) → Type 0
+Does shows_colours help_asked status input input' output output' faults faults' =
     (status ≡ 0) × Keeps input input' × Appends output output' HELP.now × Keeps faults faults'
-Does version_asked status input input' output output' faults faults' =
+Does shows_colours version_asked status input input' output output' faults faults' =
     (status ≡ 0) × Keeps input input' × Appends output output' VERSION.now × Keeps faults faults'
-Does (work_asked given) status input input' output output' faults faults' = Tells given status input input' output output' faults faults'
+Does shows_colours (work_asked given) status input input' output output' faults faults' = Tells (settled shows_colours given) status input input' output output' faults faults'
 
 -- the output got a beginning of what is asked for
-abbrev pub CutsAsked : Asked → (input input' output output' : Option (List ℕ)) → Type 0
-CutsAsked help_asked input input' output output' = Keeps input input' × AppendsBeginning output output' HELP.now
-CutsAsked version_asked input input' output output' = Keeps input input' × AppendsBeginning output output' VERSION.now
-CutsAsked (work_asked given) input input' output output' = Cuts given input input' output output'
+abbrev pub CutsAsked : (shows_colours : Bool) → Asked → (input input' output output' : Option (List ℕ)) → Type 0
+CutsAsked shows_colours help_asked input input' output output' = Keeps input input' × AppendsBeginning output output' HELP.now
+CutsAsked shows_colours version_asked input input' output output' = Keeps input input' × AppendsBeginning output output' VERSION.now
+CutsAsked shows_colours (work_asked given) input input' output output' = Cuts (settled shows_colours given) input input' output output'
 
 -- Of some programs, with their texts, this is told as the arguments say, and this is the status.
 pub record TellsReport (given : List Given) (status : ℕ) (output output' : Option (List ℕ)) : Type 0 where
@@ -136,11 +137,11 @@ TellsPrograms given status output output' = (levels : List NameLevel) × TellsRe
 abbrev pub CutsPrograms : List Given → (output output' : Option (List ℕ)) → Type 0
 CutsPrograms given output output' = (levels : List NameLevel) × CutsReport (with_levels given levels) output output'
 
--- a file can't be read, and nothing is told; or what is in the programs is told
+-- nothing is told of programs, since a name among the levels is that of no kind, or a file can't be read; or what is in them is told
 abbrev pub EndsReport : List Given → ℕ → (output output' : Option (List ℕ)) → Type 0
-EndsReport given status output output' = ((status ≡ 3) × Keeps output output') ⊎ TellsReport given status output output'
+EndsReport given status output output' = ((status ≡ 2 ⊎ status ≡ 3) × Keeps output output') ⊎ TellsReport given status output output'
 
--- nothing is told of programs, since there is no manifest, it has a mistake, or a file can't be read; or what is in them is told
+-- the same of some levels; or there is no manifest, or it has a mistake
 abbrev pub Ends : List Given → ℕ → (output output' : Option (List ℕ)) → Type 0
 Ends given status output output' = ((status ≡ 2 ⊎ status ≡ 3) × Keeps output output') ⊎ TellsPrograms given status output output'
 

@@ -5,6 +5,7 @@ use Rattle.std.specs.Str.{bytes_eq}
 use Rattle.isle_cli.specs.Arguments.{Given, flag_given, setting_given, name_given}
 use Rattle.isle_check_core.specs.Kinds.{is_kind}
 use Rattle.isle_program_manifest.specs.Levels.{NameLevel}
+use Rattle.isle_program_messages.specs.Colours.{is_colour_usable}
 use Rattle.isle_program_messages.specs.Formats.{is_format_usable}
 
 -- an argument is this option with this kind
@@ -37,10 +38,10 @@ abbrev pub unknown_kind : List NameLevel → Option (List ℕ)
 unknown_kind [] = None
 unknown_kind (l ∷ levels) = if is_kind l.name then unknown_kind levels else Some l.name
 
--- the values of `--message-format` are names of formats
+-- the values of `--message-format` are names of formats, and those of `--color` of choices
 abbrev pub is_usable : Given → Bool
 is_usable (flag_given _) = true
-is_usable (setting_given o value) = is_kind_usable o value && is_format_usable o value
+is_usable (setting_given o value) = is_kind_usable o value && is_format_usable o value && is_colour_usable o value
 is_usable (name_given _) = true
 
 abbrev pub are_usable : List Given → Bool

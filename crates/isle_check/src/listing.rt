@@ -14,6 +14,7 @@ use isle_cli::program::{report, tell};
 use isle_cli::streams::{Streams, write_whole};
 use isle_program_manifest::asking::{ALL_OPTION, NAME_OPTION, chosen_programs, tell_choice};
 use isle_program_manifest::choice::{Chosen, missing_notes};
+use isle_program_messages::colours::COLOUR_OPTION;
 use isle_program_messages::format::FORMAT_OPTION;
 use std::alloc::{AllocError, Global};
 use std::env::Env;
@@ -31,6 +32,7 @@ pub const OPTIONS: Options = Options {
         "--warn",
         "--deny",
         FORMAT_OPTION,
+        COLOUR_OPTION,
         EXCLUDE_OPTION,
         NAME_OPTION,
     ],

@@ -12,6 +12,7 @@ use isle_cli::program::report as report_failure;
 use isle_cli::streams::Streams;
 use isle_cli::words::taken_words;
 use isle_program_manifest::asking::asked_programs;
+use isle_program_messages::terminals::shows_colours;
 use listing::asked_list;
 pub use listing::print_programs;
 use manifests::OPTIONS;
@@ -41,8 +42,9 @@ fn run_words<R: Files + Env + AllocGlobal + Clone + Drop, I: Read, W: Write, E: 
     if let Some(arguments) = asked_list(rt.alloc(), words) {
         return print_programs(rt, &arguments, streams);
     }
+    let shows_colours = shows_colours(rt);
     match asked_programs(rt.alloc(), &OPTIONS, words) {
-        Some(arguments) => run_programs(rt, arguments, streams),
-        None => run(rt, words, streams),
+        Some(arguments) => run_programs(rt, arguments, shows_colours, streams),
+        None => run(rt, words, shows_colours, streams),
     }
 }

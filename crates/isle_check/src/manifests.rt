@@ -3,8 +3,10 @@
 ghost use Rattle.std.specs.Prelude.{◌≡◌, ◌≤◌, ◌⊎◌, IfErr, IfOk, map};
 ghost use Rattle.std.specs.Io.KnownBytes.{Keeps};
 ghost use Rattle.isle_cli.specs.Arguments.{given_of};
-ghost use Rattle.isle_check.specs.Doing.{CutsPrograms, CutsReport, Ends, EndsReport};
-ghost use Rattle.isle_check.specs.Doing.{ExplainsEnd, ExplainsReport, TellsPrograms, TellsReport};
+ghost use Rattle.isle_check.specs.Doing.{CutsPrograms, Ends, EndsReport, ExplainsEnd};
+ghost use Rattle.isle_check.specs.Doing.{ExplainsReport, TellsPrograms};
+ghost use Rattle.isle_program_manifest.specs.Levels.{name_level_of, with_levels};
+ghost use Rattle.isle_program_messages.specs.Colours.{settled};
 
 use crate::options::{are_usable, unknown_kind};
 use crate::program::{PROGRAM, status_of};
@@ -20,6 +22,7 @@ use isle_program_manifest::asking::{
 use isle_program_manifest::choice::{Choice, Chosen, missing_notes, unknown_level};
 use isle_program_manifest::levels::{Tool, add_levels};
 use isle_program_manifest::membership::has_file;
+use isle_program_messages::colours::{COLOUR_OPTION, settle};
 use isle_program_messages::format::FORMAT_OPTION;
 use std::alloc::{AllocError, Global};
 use std::env::Env;
@@ -34,6 +37,7 @@ pub const OPTIONS: Options = Options {
         "--warn",
         "--deny",
         FORMAT_OPTION,
+        COLOUR_OPTION,
         EXCLUDE_OPTION,
         NAME_OPTION,
     ],
@@ -44,24 +48,26 @@ pub const OPTIONS: Options = Options {
 /// without a manifest.
 ///
 /// The levels that the manifest has for this program count as options, but for those whose kind an
-/// option names. Standard error also gets a line for each entry without a file, and for each program
-/// that has one: it is not checked, since it would lack what its missing files declare. No contract
-/// can say which files there are, and what the manifest says. For the levels and the texts that are
-/// read it says what is written.
+/// option names. Standard error also gets a line for each entry without a file, and for each
+/// program that has one: it is not checked, since it would lack what its missing files declare. No
+/// contract can say which files there are, and what the manifest says. For the levels and the texts
+/// that are read it says what is written. `shows_colours` is that of `run`.
 pub fn run_programs<R: Files + Env + AllocGlobal + Clone + Drop, I, W: Write, E: Write>(
     rt: &R,
     arguments: Vec<Argument>,
+    shows_colours: bool,
     streams: &mut Streams<I, W, E>,
 ) -> u8
     ensures statuses { result ≤ 5 }
-    ensures done { result ≤ 1 → TellsPrograms (map given_of arguments.items) result
+    ensures done { result ≤ 1 → TellsPrograms
+        (settled shows_colours (map given_of arguments.items)) result
         (W.contents streams.old.output) (W.contents streams.new.output) }
     ensures unwritten { result ≡ 2 ⊎ result ≡ 3 ⊎ result ≡ 4
         → Keeps (W.contents streams.old.output) (W.contents streams.new.output) }
-    ensures cut { result ≡ 5 → CutsPrograms (map given_of arguments.items)
+    ensures cut { result ≡ 5 → CutsPrograms (settled shows_colours (map given_of arguments.items))
         (W.contents streams.old.output) (W.contents streams.new.output) }
 {
-    match check_programs(rt, arguments, streams) {
+    match check_programs(rt, arguments, shows_colours, streams) {
         Ok(status) => status,
         Err(failure) => report(&PROGRAM, &failure, &mut streams.faults),
     }
@@ -70,13 +76,18 @@ pub fn run_programs<R: Files + Env + AllocGlobal + Clone + Drop, I, W: Write, E:
 fn check_programs<R: Files + Env + AllocGlobal + Clone + Drop, I, W: Write, E: Write>(
     rt: &R,
     arguments: Vec<Argument>,
+    shows_colours: bool,
     streams: &mut Streams<I, W, E>,
 ) -> Result<u8, Failure>
-    ensures ok { IfOk result (λ status. Ends (map given_of arguments.items) status
+    ensures ok { IfOk result (λ status. Ends
+        (settled shows_colours (map given_of arguments.items)) status
         (W.contents streams.old.output) (W.contents streams.new.output)) }
-    ensures err { IfErr result (λ failure. ExplainsEnd failure (map given_of arguments.items)
+    ensures err { IfErr result (λ failure. ExplainsEnd failure
+        (settled shows_colours (map given_of arguments.items))
         (W.contents streams.old.output) (W.contents streams.new.output)) }
 {
+    let mut arguments = arguments;
+    settle(rt.alloc(), shows_colours, &mut arguments)?;
     if !are_usable(&arguments) {
         return Err(Failure::Usage);
     }
@@ -93,9 +104,13 @@ fn check_choice<R: Files + AllocGlobal + Clone + Drop, I, W: Write, E: Write>(
     arguments: Vec<Argument>,
     streams: &mut Streams<I, W, E>,
 ) -> Result<u8, Failure>
-    ensures ok { IfOk result (λ status. Ends (map given_of arguments.items) status
+    ensures ok { IfOk result (λ status. EndsReport
+        (with_levels (map given_of arguments.items)
+        (map name_level_of choice.now.check_levels.items)) status
         (W.contents streams.old.output) (W.contents streams.new.output)) }
-    ensures err { IfErr result (λ failure. ExplainsEnd failure (map given_of arguments.items)
+    ensures err { IfErr result (λ failure. ExplainsReport failure
+        (with_levels (map given_of arguments.items)
+        (map name_level_of choice.now.check_levels.items))
         (W.contents streams.old.output) (W.contents streams.new.output)) }
 {
     if let Some(name) = unknown_kind(&choice.check_levels) {

@@ -12,6 +12,7 @@ use isle_check_core::is_kind;
 use isle_cli::arguments::Argument;
 use isle_cli::version;
 use isle_program_manifest::levels::NameLevel;
+use isle_program_messages::colours::is_colour_usable;
 use isle_program_messages::format::is_format_usable;
 
 /// The version.
@@ -20,7 +21,7 @@ pub const VERSION: &str = version!("isle-check");
 /// The help.
 pub const HELP: &str = "\
 usage: isle-check [--allow KIND] [--warn KIND] [--deny KIND] [--message-format FORMAT]
-                  [--exclude PATTERN] [--stdin-name NAME] [--program NAME]
+                  [--color WHEN] [--exclude PATTERN] [--stdin-name NAME] [--program NAME]
                   [--all-programs] [FILE ..]
 
 Checks a complete ISLE program, as the compiler does before it makes code. All files are one
@@ -41,6 +42,8 @@ Options:
   --deny KIND              report warnings of this kind as errors, also after --warn;
                            may be repeated
   --message-format FORMAT  write findings as human (the default), json or github
+  --color WHEN             colour findings for people: auto (the default), which is where standard
+                           output is a terminal, always or never; with several, the last counts
   --exclude PATTERN        leave out of folders what the pattern matches; may be repeated
   --stdin-name NAME        use NAME for standard input in messages
   --program NAME           check this program of isle.toml; may be repeated
@@ -151,7 +154,8 @@ pub fn unknown_kind(levels: &[NameLevel]) -> Option<&str>
     None
 }
 
-/// Returns whether each option for kinds names one, and each `--message-format` a format.
+/// Returns whether each option for kinds names one, each `--message-format` a format, and
+/// each `--color` a choice.
 pub fn are_usable(arguments: &[Argument]) -> bool
     ensures { result ≡ are_usable (map given_of arguments.now) }
 {
@@ -163,7 +167,7 @@ pub fn are_usable(arguments: &[Argument]) -> bool
     true
 }
 
-/// Returns whether an argument names a kind or a format, if it has to.
+/// Returns whether an argument names a kind, a format or a choice of colours, if it has to.
 fn is_usable(argument: &Argument) -> bool
     ensures { result ≡ is_usable (given_of argument.now) }
 {
@@ -171,6 +175,7 @@ fn is_usable(argument: &Argument) -> bool
         Argument::Setting(option, value) => {
             is_kind_usable(option.as_str(), value.as_str())
                 && is_format_usable(option.as_str(), value.as_str())
+                && is_colour_usable(option.as_str(), value.as_str())
         }
         Argument::Flag(_) | Argument::Name(_) => true,
     }

@@ -9,6 +9,7 @@ ghost use Rattle.isle_check.specs.Doing.{AsAsked, Cuts, CutsAsked, Does, Explain
 ghost use Rattle.isle_check.specs.Doing.{IsFailureText, IsFailureTextOf, IsMisuse, Tells};
 ghost use Rattle.isle_check.specs.Doing.{told_status};
 ghost use Rattle.isle_check.specs.Options.{are_usable};
+ghost use Rattle.isle_program_messages.specs.Colours.{settled};
 
 use crate::listing;
 use crate::options::{HELP, VERSION, are_usable};
@@ -19,6 +20,7 @@ use isle_cli::program::{Program, put, report, tell};
 use isle_cli::sources::read_sources;
 use isle_cli::streams::{Streams, write_whole};
 use isle_cli::usage::report_words;
+use isle_program_messages::colours::{COLOUR_OPTION, settle};
 use isle_program_messages::format::FORMAT_OPTION;
 use std::fs::Files;
 use std::io::{Read, Write};
@@ -27,8 +29,8 @@ use std::io::{Read, Write};
 pub const PROGRAM: Program = Program {
     name: "isle-check",
     usage: "usage: isle-check [--allow KIND] [--warn KIND] [--deny KIND] \
-            [--message-format FORMAT] [--exclude PATTERN] [--stdin-name NAME] [--program NAME] \
-            [--all-programs] [FILE ..]\n",
+            [--message-format FORMAT] [--color WHEN] [--exclude PATTERN] [--stdin-name NAME] \
+            [--program NAME] [--all-programs] [FILE ..]\n",
     help: HELP,
     version: VERSION,
 };
@@ -36,7 +38,14 @@ pub const PROGRAM: Program = Program {
 /// Its options.
 pub const OPTIONS: Options = Options {
     flags: &[],
-    settings: &["--allow", "--warn", "--deny", FORMAT_OPTION, EXCLUDE_OPTION],
+    settings: &[
+        "--allow",
+        "--warn",
+        "--deny",
+        FORMAT_OPTION,
+        COLOUR_OPTION,
+        EXCLUDE_OPTION,
+    ],
 };
 
 /// | Status | When |
@@ -54,10 +63,12 @@ pub const OPTIONS: Options = Options {
 /// each finding, in the format that is asked for, and for people a line that counts them; with
 /// status 5 a beginning of that. With status 2, 3 and 4 it gets nothing.
 ///
-/// Errors of standard error do not change the status.
+/// Errors of standard error do not change the status. `shows_colours` says whether lines for people
+/// have colours if no option says so.
 pub fn run<R: Files + AllocGlobal + Clone + Drop, I: Read, W: Write, E: Write>(
     rt: &R,
     words: &[String],
+    shows_colours: bool,
     streams: &mut Streams<I, W, E>,
 ) -> u8
     // Status 2 is a usage error, and then nothing is read.
@@ -68,14 +79,16 @@ pub fn run<R: Files + AllocGlobal + Clone + Drop, I: Read, W: Write, E: Write>(
     // With status 0, 1 or 3 the request is done, as far as texts can be read; with 3 standard error
     // gets a line for each text that can't be read, or a beginning of these lines.
     ensures done { result ≢ 2 → result ≢ 4 → result ≢ 5 → AsAsked (map string_bytes words.now)
-        (λ what. Does what result (I.remaining streams.old.input) (I.remaining streams.new.input)
+        (λ what. Does shows_colours what result
+        (I.remaining streams.old.input) (I.remaining streams.new.input)
         (W.contents streams.old.output) (W.contents streams.new.output)
         (E.contents streams.old.faults) (E.contents streams.new.faults)) }
 
     // The output is left alone, or has a beginning.
     ensures unwritten { result ≡ 2 ⊎ result ≡ 4
         → Keeps (W.contents streams.old.output) (W.contents streams.new.output) }
-    ensures cut { result ≡ 5 → AsAsked (map string_bytes words.now) (λ what. CutsAsked what
+    ensures cut { result ≡ 5 → AsAsked (map string_bytes words.now)
+        (λ what. CutsAsked shows_colours what
         (I.remaining streams.old.input) (I.remaining streams.new.input)
         (W.contents streams.old.output) (W.contents streams.new.output)) }
 
@@ -103,7 +116,7 @@ pub fn run<R: Files + AllocGlobal + Clone + Drop, I: Read, W: Write, E: Write>(
                 &mut streams.faults,
             )
         }
-        Ok(Request::Work(arguments)) => work(rt, &arguments, streams),
+        Ok(Request::Work(arguments)) => work(rt, arguments, shows_colours, streams),
         Err(failure) => {
             report_words(
                 &PROGRAM,
@@ -119,19 +132,23 @@ pub fn run<R: Files + AllocGlobal + Clone + Drop, I: Read, W: Write, E: Write>(
 /// Does what the arguments ask for, and returns the exit status.
 fn work<R: Files + AllocGlobal + Clone + Drop, I: Read, W: Write, E: Write>(
     rt: &R,
-    arguments: &[Argument],
+    arguments: Vec<Argument>,
+    shows_colours: bool,
     streams: &mut Streams<I, W, E>,
 ) -> u8
     ensures statuses { result ≤ 5 }
-    ensures usage { result ≡ 2 → (are_usable (map given_of arguments.now) ≡ false)
+    ensures usage { result ≡ 2 → (are_usable
+        (settled shows_colours (map given_of arguments.items)) ≡ false)
         × Keeps (I.remaining streams.old.input) (I.remaining streams.new.input) }
-    ensures done { result ≢ 2 → result ≢ 4 → result ≢ 5 → Tells (map given_of arguments.now) result
+    ensures done { result ≢ 2 → result ≢ 4 → result ≢ 5 → Tells
+        (settled shows_colours (map given_of arguments.items)) result
         (I.remaining streams.old.input) (I.remaining streams.new.input)
         (W.contents streams.old.output) (W.contents streams.new.output)
         (E.contents streams.old.faults) (E.contents streams.new.faults) }
     ensures unwritten { result ≡ 2 ⊎ result ≡ 4
         → Keeps (W.contents streams.old.output) (W.contents streams.new.output) }
-    ensures cut { result ≡ 5 → Cuts (map given_of arguments.now)
+    ensures cut { result ≡ 5 → Cuts
+        (settled shows_colours (map given_of arguments.items))
         (I.remaining streams.old.input) (I.remaining streams.new.input)
         (W.contents streams.old.output) (W.contents streams.new.output) }
     ensures quiet { result ≤ 1
@@ -139,7 +156,7 @@ fn work<R: Files + AllocGlobal + Clone + Drop, I: Read, W: Write, E: Write>(
     ensures told { 2 ≤ result → result ≢ 3 → WritesBeginning (E.contents streams.old.faults)
         (E.contents streams.new.faults) (IsFailureText result) }
 {
-    match check_files(rt, arguments, streams) {
+    match check_files(rt, arguments, shows_colours, streams) {
         Ok(status) => status,
         Err(failure) => report(&PROGRAM, &failure, &mut streams.faults),
     }
@@ -147,6 +164,32 @@ fn work<R: Files + AllocGlobal + Clone + Drop, I: Read, W: Write, E: Write>(
 
 /// Checks the files that the arguments name, and returns the exit status.
 fn check_files<R: Files + AllocGlobal + Clone + Drop, I: Read, W: Write, E: Write>(
+    rt: &R,
+    arguments: Vec<Argument>,
+    shows_colours: bool,
+    streams: &mut Streams<I, W, E>,
+) -> Result<u8, Failure>
+    ensures ok { IfOk result (λ status. Tells
+        (settled shows_colours (map given_of arguments.items)) status
+        (I.remaining streams.old.input) (I.remaining streams.new.input)
+        (W.contents streams.old.output) (W.contents streams.new.output)
+        (E.contents streams.old.faults) (E.contents streams.new.faults)) }
+    ensures err { IfErr result (λ failure. Explains failure
+        (settled shows_colours (map given_of arguments.items))
+        (I.remaining streams.old.input) (I.remaining streams.new.input)
+        (W.contents streams.old.output) (W.contents streams.new.output)) }
+    ensures quiet { MatchResult result
+        (λ status. (status ≤ 3) × (status ≢ 2)
+        × (status ≤ 1 → Keeps (E.contents streams.old.faults) (E.contents streams.new.faults)))
+        (λ _. Keeps (E.contents streams.old.faults) (E.contents streams.new.faults)) }
+{
+    let mut arguments = arguments;
+    settle(rt.alloc(), shows_colours, &mut arguments)?;
+    check_files_settled(rt, &arguments, streams)
+}
+
+/// Checks the files that the arguments name, and returns the exit status. Colours are settled.
+fn check_files_settled<R: Files + AllocGlobal + Clone + Drop, I: Read, W: Write, E: Write>(
     rt: &R,
     arguments: &[Argument],
     streams: &mut Streams<I, W, E>,

@@ -1,11 +1,12 @@
 use Rattle.std.proofs.Common.{map}
 use Rattle.isle_cli.specs.Arguments.{given_of}
+use Rattle.isle_program_messages.specs.Colours.{settled}
 use Rattle.isle_check.proofs.EndLemmas.{ends-cut, ends-done, ends-statuses, ends-unwritten, failed-cut, failed-low, failed-statuses, failed-unwritten}
 use Rattle.isle_check.proofs.manifests.run_programs.Goals as goal
 
 pub returns-in-Ok : goal.returns-in-Ok
 returns-in-Ok g c =
-    let given = map given_of c.args.arguments.items in
+    let given = settled c.args.shows_colours (map given_of c.args.arguments.items) in
     let before = g.W.Write.contents c.args.streams.now.output in
     let after = g.W.Write.contents c.check_programs.new.streams.output in
     record {
@@ -17,7 +18,7 @@ returns-in-Ok g c =
 
 pub returns-in-Err : goal.returns-in-Err
 returns-in-Err g c =
-    let given = map given_of c.args.arguments.items in
+    let given = settled c.args.shows_colours (map given_of c.args.arguments.items) in
     let before = g.W.Write.contents c.args.streams.now.output in
     let after = g.W.Write.contents c.check_programs.new.streams.output in
     let why = c.in-Err.ensures.err in

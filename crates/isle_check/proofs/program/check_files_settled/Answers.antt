@@ -2,7 +2,7 @@ use Rattle.std.proofs.Common.{◌<◌, arith, length, map, rules, string_bytes, 
 use Rattle.std.proofs.lemmas.Grind.{common_steps}
 use Rattle.isle_cli.specs.Arguments.{given_of}
 use Rattle.isle_check.proofs.DoingLemmas.{told_faults, told_whole}
-use Rattle.isle_check.proofs.program.check_files.Goals as goal
+use Rattle.isle_check.proofs.program.check_files_settled.Goals as goal
 use Rattle.isle_check.specs.ReportView.{report_of}
 
 pub returns-in-Ok-clause-ok : goal.returns-in-Ok-clause-ok
