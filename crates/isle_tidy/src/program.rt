@@ -1,7 +1,7 @@
 //! The program, for any files, reader and writers.
 
 ghost use Rattle.std.specs.Prelude.{◌≡◌, ◌≢◌, ◌≤◌, ◌⊎◌, ◌++◌, [], IfErr, IfOk, None, Some, codes};
-ghost use Rattle.std.specs.Prelude.{false, length, map, string_bytes};
+ghost use Rattle.std.specs.Prelude.{false, length, map, string_bytes, true};
 ghost use Rattle.std.specs.Io.KnownBytes.{Keeps};
 ghost use Rattle.isle_cli.specs.Arguments.{given_of, is_among, name_list, stdin_name};
 ghost use Rattle.isle_cli.specs.Failure as frame;
@@ -111,7 +111,8 @@ fn own_options() -> Options
 /// `words` is the command line without the program's name. It names files, folders, each of which
 /// stands for every `.isle` file below it, and `-`, which stands for standard input. The whole
 /// command line is checked before any file is touched. An error in one file does not stop the
-/// others; the status is the greatest of theirs.
+/// others, but nothing more is listed once the output has failed; the status is the greatest of
+/// theirs.
 ///
 /// With `--check` the output gets the name of each input that would change, in a line. With `--diff`
 /// it gets the diff, which `patch -p0` applies where the names are paths below the current folder.
@@ -146,7 +147,8 @@ pub fn run<R: Files + AllocGlobal + Clone + Drop, I: Read, W: Write, E: Write>(
         (W.contents streams.old.output) (W.contents streams.new.output)
         (E.contents streams.old.faults) (E.contents streams.new.faults)) }
 
-    // Each name has its status, in order; or memory was refused before the first one.
+    // Each name has its status, in order, up to the first one for which the output fails, where
+    // names are listed; or memory was refused before the first one.
     ensures named { result ≢ 2 → (result ≡ 4)
         × Keeps (I.remaining streams.old.input) (I.remaining streams.new.input)
         × Keeps (W.contents streams.old.output) (W.contents streams.new.output)
@@ -429,7 +431,8 @@ fn run_on_names<R: Files + AllocGlobal + Clone + Drop, I: Read, W: Write, E: Wri
     status
 }
 
-/// Writes to standard error how many files would change, if any would, and how to change them.
+/// Writes to standard error how many files would change, if any would, and how to change them. If the
+/// output has failed, not all were counted, and nothing is written.
 pub fn tell_changes<E: Write>(
     alloc: Global,
     task: &Task<'_>,
@@ -441,7 +444,7 @@ pub fn tell_changes<E: Write>(
     ensures told { AppendsBeginning (E.contents faults.old) (E.contents faults.new)
         (changes_text task.now.program.now task.now.listing untidy) }
 {
-    if status == 0 {
+    if status == 0 || is_over(task, status) {
         return;
     }
     match changes_text(alloc, task, untidy) {
@@ -482,10 +485,25 @@ fn run_on_each<R: Files + AllocGlobal + Clone + Drop, I: Read, W: Write, E: Writ
 {
     let mut status: u8 = 0;
     for name in names {
+        if is_over(task, status) {
+            return status;
+        }
         let done = run_on_name(rt, task, name.as_str(), streams, untidy);
         status = status.max(done);
     }
     status
+}
+
+/// Returns whether inputs are listed and the output has failed: a file that is listed has no other
+/// failure of this status.
+fn is_over(task: &Task<'_>, status: u8) -> bool
+    ensures listed { result ≡ true → task.now.listing ≢ None }
+    ensures cut { result ≡ true → status ≡ 5 }
+{
+    match task.listing {
+        None => false,
+        Some(_) => status == 5,
+    }
 }
 
 /// Tidies standard input, a file, or the files below a folder.
@@ -530,6 +548,9 @@ pub fn run_on_paths<R: Files + AllocGlobal + Clone + Drop, W: Write, E: Write>(
 {
     let mut status: u8 = 0;
     for name in names {
+        if is_over(task, status) {
+            return status;
+        }
         let done = run_on_path(rt, task, name.as_str(), output, faults, untidy);
         status = status.max(done);
     }
@@ -575,6 +596,9 @@ fn run_on_files<R: Files + AllocGlobal, W: Write, E: Write>(
 {
     let mut status: u8 = 0;
     for name in names {
+        if is_over(task, status) {
+            return status;
+        }
         let done = run_on_file(rt, task, name.as_str(), output, faults, untidy);
         status = status.max(done);
     }
