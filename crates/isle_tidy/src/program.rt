@@ -114,8 +114,9 @@ fn own_options() -> Options
 /// others, but nothing more is listed once the output has failed; the status is the greatest of
 /// theirs.
 ///
-/// With `--check` the output gets the name of each input that would change, in a line. With `--diff`
-/// it gets the diff, which `patch -p0` applies where the names are paths below the current folder.
+/// With `--check` the output gets the name of each input that would change, in a line. With
+/// `--diff` it gets the diff, which `patch -p0` applies where the names are paths below the current
+/// folder.
 pub fn run<R: Files + AllocGlobal + Clone + Drop, I: Read, W: Write, E: Write>(
     rt: &R,
     words: &[String],
@@ -246,7 +247,8 @@ fn work<R: Files + AllocGlobal + Clone + Drop, I: Read, W: Write, E: Write>(
         (I.remaining streams.old.input) (I.remaining streams.new.input)
         (W.contents streams.old.output) (W.contents streams.new.output) }
     ensures found { result ≡ 1 → name_list (map given_of arguments.now) ≡ []
-        → FindsInput (listing_of (map given_of arguments.now)) (stdin_name (map given_of arguments.now))
+        → FindsInput (listing_of (map given_of arguments.now))
+        (stdin_name (map given_of arguments.now))
         (I.remaining streams.old.input) (I.remaining streams.new.input)
         (W.contents streams.old.output) (W.contents streams.new.output)
         (E.contents streams.old.faults) (E.contents streams.new.faults) }
@@ -259,7 +261,8 @@ fn work<R: Files + AllocGlobal + Clone + Drop, I: Read, W: Write, E: Write>(
         (W.contents streams.old.output) (W.contents streams.new.output)
         (E.contents streams.old.faults) (E.contents streams.new.faults) }
     ensures cut { result ≡ 5 → name_list (map given_of arguments.now) ≡ []
-        → CutsInput (listing_of (map given_of arguments.now)) (stdin_name (map given_of arguments.now))
+        → CutsInput (listing_of (map given_of arguments.now))
+        (stdin_name (map given_of arguments.now))
         (I.remaining streams.old.input) (I.remaining streams.new.input)
         (W.contents streams.old.output) (W.contents streams.new.output) }
     ensures unwritten { 2 ≤ result → result ≢ 5 → name_list (map given_of arguments.now) ≡ []
@@ -431,8 +434,8 @@ fn run_on_names<R: Files + AllocGlobal + Clone + Drop, I: Read, W: Write, E: Wri
     status
 }
 
-/// Writes to standard error how many files would change, if any would, and how to change them. If the
-/// output has failed, not all were counted, and nothing is written.
+/// Writes to standard error how many files would change, if any would, and how to change them. If
+/// the output has failed, not all were counted, and nothing is written.
 pub fn tell_changes<E: Write>(
     alloc: Global,
     task: &Task<'_>,
@@ -725,8 +728,8 @@ fn report_unlisted<E: Write>(program: &Program, failure: &Failure, name: &str, f
     }
 }
 
-/// Writes the message of a file's failure to standard error, and returns the exit status. `fault` is
-/// why the file can't be written, if that is the failure.
+/// Writes the message of a file's failure to standard error, and returns the exit status. `fault`
+/// is why the file can't be written, if that is the failure.
 fn report_on_file<E: Write>(failure: &Failure, fault: WriteFault, name: &str, faults: &mut E) -> u8
     ensures { result ≡ status_of failure.now }
 {
