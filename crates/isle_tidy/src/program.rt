@@ -61,8 +61,8 @@ is looked for in the current folder and above it, or in the one folder that is g
 
 Options:
   --check            list the files that would change, and change nothing
-  --diff             print what would change as a unified diff, and change nothing; goes before
-                     --check
+  --diff             print what would change as a unified diff, and change nothing, also
+                     with --check
   --stdin-name NAME  use NAME for standard input in messages
   --program NAME     tidy the files of the program NAME of isle.toml; may be repeated
   --all-programs     tidy the files of each program of isle.toml
@@ -336,7 +336,7 @@ fn report_unread_input<E: Write>(
     }
 }
 
-/// The same for the text of the input.
+/// Does what is asked with the text of the input, and returns the exit status.
 fn run_on_given<W: Write, E: Write>(
     alloc: Global,
     task: &Task<'_>,
