@@ -1,8 +1,8 @@
 -- What comes of names, one after another.
-use Rattle.std.proofs.Common.{◌≡◌, ◌≢◌, ◌<◌, ◌≤◌, ◌+◌, ◌++◌, [], ◌∷◌, ℕ, max, get_or, length, map, take, List, Option, Bool, true, false, ◌||◌, codes, string_bytes, inl, inr, ⊎_elim, ◌⊎◌, refl, sym, ap, ◌∙◌, subst, arith}
+use Rattle.std.proofs.Common.{◌≡◌, ◌≢◌, ◌<◌, ◌≤◌, ◌+◌, ◌++◌, [], ◌∷◌, ℕ, zero, suc, None, max, get_or, length, map, take, List, Option, Bool, true, false, ◌||◌, codes, string_bytes, inl, inr, ⊎_elim, ◌⊎◌, refl, sym, ap, ◌∙◌, subst, arith}
 use Rattle.std.proofs.KnownBytes.{Keeps-refl, Keeps-trans}
 use Rattle.std.proofs.Math.Nat.{max-le}
-use Rattle.std.proofs.lemmas.List.{map-append, take_more}
+use Rattle.std.proofs.lemmas.List.{map-append, take_all, take_more}
 use Rattle.std.proofs.lemmas.Slice.Eq.{bytes_eq-Decides}
 use Rattle.std.specs.Io.KnownBytes.{Keeps}
 use Rattle.std.specs.Str.{bytes_eq}
@@ -13,7 +13,7 @@ use Rattle.isle_cli.specs.Sources.{IsListing, empty_line}
 use Rattle.isle_cli.specs.declared.arguments.Argument.{Argument}
 use Rattle.isle_cli.specs.declared.program.Program.{Program}
 use Rattle.isle_tidy.specs.declared.listings.Listing.{Listing}
-use Rattle.isle_tidy.specs.Doing.{EndsName, EndNames, EndsSome, RunsAndTells, RunsOnAsked, RunsOnNames, greatest, listing_of}
+use Rattle.isle_tidy.specs.Doing.{EndsName, EndNames, EndsSome, RunsAndTells, RunsOnAll, RunsOnAsked, RunsOnNames, greatest, listing_of}
 use Rattle.isle_tidy.proofs.FileLemmas.{ends-then, runs-end, some-none}
 
 some-behind : (xs ys : List ℕ) → ys ≢ [] → xs ++ ys ≢ []
@@ -48,6 +48,11 @@ usual-then s t p q r (known, used, quiet) (known', used', quiet') = (
   λ zero. Keeps-trans p q r (quiet (omega (arith, zero))) (quiet' (omega (arith, zero))),
 )
 
+names-taken : (n : ℕ) (names : List (String Global)) → map string_bytes (take n names) ≡ take n (map string_bytes names)
+names-taken zero names = refl
+names-taken (suc n) [] = refl
+names-taken (suc n) (name ∷ names) = ap (λ ns. string_bytes name ∷ ns) (names-taken n names)
+
 module _ (program : Program) (listing : Option Listing) (stdin_name : List ℕ) where
   name-usual : (name : List ℕ) (s : ℕ) (i j a b p q : Option (List ℕ)) → EndsName program listing stdin_name name s i j a b p q → IsUsual s p q
   name-usual name s i j a b p q (inl (_, ends)) = (ends.known, ends.used, ends.quiet)
@@ -62,7 +67,7 @@ module _ (program : Program) (listing : Option Listing) (stdin_name : List ℕ) 
 
   -- so it is of all of them
   pub names-end : (names : List (List ℕ)) (status : ℕ) (i j a b p q : Option (List ℕ)) → RunsOnNames program listing stdin_name names status i j a b p q → IsUsual status p q
-  names-end names status i j a b p q (ss, is, ends) = subst (λ s. IsUsual s p q) (sym is) (names-usual names ss i j a b p q ends)
+  names-end names status i j a b p q (n, all, (ss, is, ends)) = subst (λ s. IsUsual s p q) (sym is) (names-usual (take n names) ss i j a b p q ends)
 
   other-first : (name : List ℕ) (names : List (List ℕ)) → is_among (name ∷ names) (codes "-") ≡ false → (name ≢ codes "-") × (is_among names (codes "-") ≡ false)
   other-first name names none = cases (bytes_eq name (codes "-")) refl
@@ -85,13 +90,46 @@ module _ (program : Program) (listing : Option Listing) (stdin_name : List ℕ) 
       let others = names-files names ss left j mid b said q (other-first n names alone).1 rest in
       (Keeps-trans i left j kept others.0, ends-then listing s (greatest ss) a mid b p said q (runs-end listing 1 s a mid p said runs) others.1)
 
+  first-alone : (n : ℕ) (names : List (List ℕ)) → is_among names (codes "-") ≡ false → is_among (take n names) (codes "-") ≡ false
+  first-alone zero names alone = refl
+  first-alone (suc n) [] alone = refl
+  first-alone (suc n) (name ∷ names) alone =
+      let both = other-first name names alone in
+      or-none (bytes_eq name (codes "-")) (is_among (take n names) (codes "-")) (differs name (codes "-") both.0) (first-alone n names both.1)
+    where
+      or-none : (b c : Bool) → b ≡ false → c ≡ false → (b || c) ≡ false
+      or-none false c none other = other
+      or-none true c none other = absurd (cc)
+
+      differs : (x y : List ℕ) → x ≢ y → bytes_eq x y ≡ false
+      differs x y other = cases (bytes_eq x y) refl
+        where
+          cases : (b : Bool) → bytes_eq x y ≡ b → bytes_eq x y ≡ false
+          cases false is = is
+          cases true is = absurd (other ((bytes_eq-Decides x y).0 is))
+
   pub files-end : (names : List (List ℕ)) (status : ℕ) (i j a b p q : Option (List ℕ)) → RunsOnNames program listing stdin_name names status i j a b p q → is_among names (codes "-") ≡ false
       → Keeps i j × EndsSome listing status a b p q
-  files-end names status i j a b p q (ss, is, ends) alone =
-      let all = names-files names ss i j a b p q alone ends in (all.0, subst (λ s. EndsSome listing s a b p q) (sym is) all.1)
+  files-end names status i j a b p q (n, whole, (ss, is, ends)) alone =
+      let all = names-files (take n names) ss i j a b p q (first-alone n names alone) ends in (all.0, subst (λ s. EndsSome listing s a b p q) (sym is) all.1)
+
+  -- all names, or only the first ones
+  pub names-all : (names : List (List ℕ)) (status : ℕ) (i j a b p q : Option (List ℕ)) → RunsOnAll program listing stdin_name names status i j a b p q → RunsOnNames program listing stdin_name names status i j a b p q
+  names-all names status i j a b p q runs =
+      let whole : take (length names) names ≡ names = take_all (length names) names (omega arith) in
+      (length names, inl whole, subst (λ ns. RunsOnAll program listing stdin_name ns status i j a b p q) (sym whole) runs)
+
+  pub names-some : (names : List (String Global)) (n status : ℕ) (i j a b p q : Option (List ℕ)) → listing ≢ None → status ≡ 5 → RunsOnAll program listing stdin_name (map string_bytes (take n names)) status i j a b p q
+      → RunsOnNames program listing stdin_name (map string_bytes names) status i j a b p q
+  names-some names n status i j a b p q listed five runs = (n, inr (listed, five), subst (λ ns. RunsOnAll program listing stdin_name ns status i j a b p q) (names-taken n names) runs)
+
+  pub names-done : (names : List (String Global)) (n status : ℕ) (i j a b p q : Option (List ℕ)) → length names ≤ n → RunsOnAll program listing stdin_name (map string_bytes (take n names)) status i j a b p q
+      → RunsOnNames program listing stdin_name (map string_bytes names) status i j a b p q
+  names-done names n status i j a b p q past runs =
+      names-all (map string_bytes names) status i j a b p q (subst (λ ns. RunsOnAll program listing stdin_name (map string_bytes ns) status i j a b p q) (take_all n names past) runs)
 
   -- no name
-  pub no-names : (i a p : Option (List ℕ)) → RunsOnNames program listing stdin_name [] 0 i i a a p p
+  pub no-names : (i a p : Option (List ℕ)) → RunsOnAll program listing stdin_name [] 0 i i a a p p
   no-names i a p = ([], refl, (refl, refl, refl))
 
   greatest-last : (ss : List ℕ) (s : ℕ) → greatest (ss ++ s ∷ []) ≡ max (greatest ss) s
@@ -110,8 +148,8 @@ module _ (program : Program) (listing : Option Listing) (stdin_name : List ℕ) 
 
   -- one name more
   pub one-name-on : (names : List (String Global)) (n : ℕ) (name : String Global) (status done all : ℕ) (i j k a b c p q r : Option (List ℕ)) → n < length names → name ≡ get_or names n name
-      → RunsOnNames program listing stdin_name (map string_bytes (take n names)) status i j a b p q → EndsName program listing stdin_name (string_bytes name) done j k b c q r → all ≡ max status done
-      → RunsOnNames program listing stdin_name (map string_bytes (take (n + 1) names)) all i k a c p r
+      → RunsOnAll program listing stdin_name (map string_bytes (take n names)) status i j a b p q → EndsName program listing stdin_name (string_bytes name) done j k b c q r → all ≡ max status done
+      → RunsOnAll program listing stdin_name (map string_bytes (take (n + 1) names)) all i k a c p r
   one-name-on names n name status done all i j k a b c p q r within is (ss, so_far, before) ends greater =
       let longer : map string_bytes (take n names) ++ string_bytes name ∷ [] ≡ map string_bytes (take (n + 1) names) =
       sym (ap (map string_bytes) (take_more names n name within ∙ ap (λ y. take n names ++ y ∷ []) (sym is)) ∙ map-append string_bytes (take n names) (name ∷ [])) in (

@@ -1,5 +1,5 @@
 -- What the program does, to streams whose bytes are known or not, before and after.
-use Rattle.std.specs.Prelude.{◌≡◌, ◌≢◌, ◌≤◌, ◌⊎◌, ◌==◌, ◌++◌, ℕ, List, [], ◌∷◌, Bool, true, false, if◌then◌else◌, Option, None, Some, codes, length, max, string_bytes}
+use Rattle.std.specs.Prelude.{◌≡◌, ◌≢◌, ◌≤◌, ◌⊎◌, ◌==◌, ◌++◌, ℕ, List, [], ◌∷◌, Bool, true, false, if◌then◌else◌, Option, None, Some, codes, length, max, string_bytes, take}
 use Rattle.std.specs.Io.KnownBytes.{Appends, Keeps}
 use Rattle.isle_base_source.specs.declared.error.Error.{Error}
 use Rattle.isle_cli.specs.Arguments.{Given, Asked, help_asked, version_asked, work_asked, gives_flag, is_among, name_list, stdin_name}
@@ -193,10 +193,12 @@ abbrev pub greatest : List ℕ → ℕ
 greatest [] = 0
 greatest (status ∷ statuses) = max status (greatest statuses)
 
--- What comes of files, of which there are this many at least: the status is the greatest of theirs.
+-- What comes of files, of which there are this many at least, unless the output failed: then no more are listed. The
+-- status is the greatest of theirs.
 abbrev pub RunsOnFiles : Option Listing → (least status : ℕ) → (output output' faults faults' : Option (List ℕ)) → Type 0
 RunsOnFiles listing least status output output' faults faults' =
-    (statuses : List ℕ) × (least ≤ length statuses) × (status ≡ greatest statuses) × EndFiles listing statuses output output' faults faults'
+    (statuses : List ℕ) × ((least ≤ length statuses) ⊎ ((listing ≢ None) × (status ≡ 5))) × (status ≡ greatest statuses)
+    × EndFiles listing statuses output output' faults faults'
 
 -- What comes of the text of standard input: a status, and what this says of the output and standard error.
 pub record EndsText (program : Program) (listing : Option Listing) (name text : List ℕ) (status : ℕ) (output output' faults faults' : Option (List ℕ)) : Type 0 where
@@ -239,10 +241,16 @@ EndNames program listing stdin_name (name ∷ names) (status ∷ statuses) input
     × EndsName program listing stdin_name name status input left output mid faults said
     × EndNames program listing stdin_name names statuses left input' mid output' said faults'
 
--- What comes of names: the status is the greatest of theirs.
+-- what comes of names, of each: the status is the greatest of theirs
+abbrev pub RunsOnAll : Program → Option Listing → (stdin_name : List ℕ) → (names : List (List ℕ)) → (status : ℕ) → (input input' output output' faults faults' : Option (List ℕ)) → Type 0
+RunsOnAll program listing stdin_name names status input input' output output' faults faults' =
+    (statuses : List ℕ) × (status ≡ greatest statuses) × EndNames program listing stdin_name names statuses input input' output output' faults faults'
+
+-- What comes of names: of all of them; or the output failed where they are to be listed, and then only of the first ones.
 abbrev pub RunsOnNames : Program → Option Listing → (stdin_name : List ℕ) → (names : List (List ℕ)) → (status : ℕ) → (input input' output output' faults faults' : Option (List ℕ)) → Type 0
 RunsOnNames program listing stdin_name names status input input' output output' faults faults' =
-    (statuses : List ℕ) × (status ≡ greatest statuses) × EndNames program listing stdin_name names statuses input input' output output' faults faults'
+    (done : ℕ) × ((take done names ≡ names) ⊎ ((listing ≢ None) × (status ≡ 5)))
+    × RunsOnAll program listing stdin_name (take done names) status input input' output output' faults faults'
 
 -- where files alone are named and tidied, the output gets nothing
 abbrev pub LeavesOutput : Asked → (output output' : Option (List ℕ)) → Type 0

@@ -87,8 +87,8 @@ pub fn write_fault_of(error: &io::Error) -> WriteFault {
     }
 }
 
-/// Tidies a file of this name that was read, and returns whether its text was untidy. If it is to be
-/// listed, the file is left alone.
+/// Tidies a file of this name that was read, and returns whether its text was untidy. If it is to
+/// be listed, the file is left alone.
 ///
 /// The tidy text is written to a new file beside the old one, with the old one's owner and
 /// permissions. Once it is synced to disk, the new file replaces the old one. After an error the
@@ -115,8 +115,8 @@ pub fn tidy_file<R: Files + AllocGlobal>(
     Ok(true)
 }
 
-/// Replaces a file by a new one with the tidy text of `text`, which must be untidy. `listing` must be
-/// `None`.
+/// Replaces a file by a new one with the tidy text of `text`, which must be untidy. `listing` must
+/// be `None`.
 fn replace<R: Files + AllocGlobal>(
     rt: &R,
     path: &str,

@@ -6,7 +6,8 @@ ghost use Rattle.isle_cli.specs.Arguments.{given_of};
 ghost use Rattle.isle_cli.specs.Streams.{AppendsBeginning, Writes};
 ghost use Rattle.isle_cli.specs.declared.failure.Failure.TheVariants.{Output};
 ghost use Rattle.isle_tidy.specs.declared.listings.Listing.TheVariants.{Diffs};
-ghost use Rattle.isle_tidy.specs.Doing.{FailsListing, IsListing, IsTidyFailure, listing_of, option_of};
+ghost use Rattle.isle_tidy.specs.Doing.{FailsListing, IsListing, IsTidyFailure, listing_of};
+ghost use Rattle.isle_tidy.specs.Doing.{option_of};
 
 use crate::pieces::tidied;
 use isle_cli::arguments::{Argument, has_flag};

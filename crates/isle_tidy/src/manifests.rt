@@ -29,8 +29,8 @@ pub const OPTIONS: Options = Options {
 /// Tidies the files of programs of the nearest manifest in place, each once, and returns the exit
 /// status, which is that of `run`; it is 2 for a manifest with a mistake, and 3 without a manifest.
 ///
-/// Standard error gets a line for each entry without a file, and with `--check` or `--diff` how many
-/// files would change, if any would. No contract can say which files there are.
+/// Standard error gets a line for each entry without a file, and with `--check` or `--diff` how
+/// many files would change, if any would. No contract can say which files there are.
 pub fn run_programs<R: Files + Env + AllocGlobal + Clone + Drop, I, W: Write, E: Write>(
     rt: &R,
     arguments: &[Argument],
@@ -56,7 +56,8 @@ fn tidy_programs<R: Files + Env + AllocGlobal + Clone + Drop, I, W: Write, E: Wr
     arguments: &[Argument],
     streams: &mut Streams<I, W, E>,
 ) -> Result<u8, Failure>
-    ensures ok { IfOk result (λ status. EndsPrograms (listing_of (map given_of arguments.now)) status
+    ensures ok { IfOk result (λ status.
+        EndsPrograms (listing_of (map given_of arguments.now)) status
         (W.contents streams.old.output) (W.contents streams.new.output)) }
     ensures err { IfErr result (λ failure. (failure ≡ Memory) ⊎ (failure ≡ Usage)) }
     ensures kept { IfErr result

@@ -66,7 +66,8 @@ pub fn tidied(alloc: Global, name: &str, text: &str) -> Result<String, Failure>
     }
 }
 
-/// Writes a text to the output. After an error the output has a beginning of it, and `fault` is why.
+/// Writes a text to the output. After an error the output has a beginning of it, and `fault` is
+/// why.
 fn put_noting<W: Write>(output: &mut W, text: &str, fault: &mut WriteFault) -> Result<(), Failure>
     ensures ok { OnOk result (Appends (W.contents output.old) (W.contents output.new) text.now) }
     ensures err { IfErr result (λ failure. (failure ≡ Output)
@@ -151,8 +152,8 @@ fn put_pieces<W: Write>(
     }
 }
 
-/// Writes the tidy text of a text. `name` is the text's name in messages. If the output fails, `fault`
-/// is why.
+/// Writes the tidy text of a text. `name` is the text's name in messages. If the output fails,
+/// `fault` is why.
 pub fn put_tidied<W: Write>(
     alloc: Global,
     name: &str,

@@ -1,7 +1,7 @@
 //! The program, for any files, reader and writers.
 
 ghost use Rattle.std.specs.Prelude.{◌≡◌, ◌≢◌, ◌≤◌, ◌⊎◌, ◌++◌, [], IfErr, IfOk, None, Some, codes};
-ghost use Rattle.std.specs.Prelude.{List, false, length, map, string_bytes, ℕ};
+ghost use Rattle.std.specs.Prelude.{List, false, length, map, string_bytes, true, ℕ};
 ghost use Rattle.std.specs.Io.KnownBytes.{Keeps};
 ghost use Rattle.isle_cli.specs.Arguments.{excluded, given_of, is_among, name_list, stdin_name};
 ghost use Rattle.isle_cli.specs.Failure as frame;
@@ -64,8 +64,8 @@ is looked for in the current folder and above it, or in the one folder that is g
 
 Options:
   --check            list the files that would change, and change nothing
-  --diff             print what would change as a unified diff, and change nothing; goes before
-                     --check
+  --diff             print what would change as a unified diff, and change nothing, also
+                     with --check
   --exclude PATTERN  leave out of folders what the pattern matches; may be repeated
   --stdin-name NAME  use NAME for standard input in messages
   --program NAME     tidy the files of the program NAME of isle.toml; may be repeated
@@ -115,10 +115,12 @@ fn own_options() -> Options
 /// `words` is the command line without the program's name. It names files, folders, each of which
 /// stands for every `.isle` file below it, and `-`, which stands for standard input. The whole
 /// command line is checked before any file is touched. An error in one file does not stop the
-/// others; the status is the greatest of theirs.
+/// others, but nothing more is listed once the output has failed; the status is the greatest of
+/// theirs.
 ///
-/// With `--check` the output gets the name of each input that would change, in a line. With `--diff`
-/// it gets the diff, which `patch -p0` applies where the names are paths below the current folder.
+/// With `--check` the output gets the name of each input that would change, in a line. With
+/// `--diff` it gets the diff, which `patch -p0` applies where the names are paths below the current
+/// folder.
 pub fn run<R: Files + AllocGlobal + Clone + Drop, I: Read, W: Write, E: Write>(
     rt: &R,
     words: &[String],
@@ -150,7 +152,8 @@ pub fn run<R: Files + AllocGlobal + Clone + Drop, I: Read, W: Write, E: Write>(
         (W.contents streams.old.output) (W.contents streams.new.output)
         (E.contents streams.old.faults) (E.contents streams.new.faults)) }
 
-    // Each name has its status, in order; or memory was refused before the first one.
+    // Each name has its status, in order, up to the first one for which the output fails, where
+    // names are listed; or memory was refused before the first one.
     ensures named { result ≢ 2 → (result ≡ 4)
         × Keeps (I.remaining streams.old.input) (I.remaining streams.new.input)
         × Keeps (W.contents streams.old.output) (W.contents streams.new.output)
@@ -250,7 +253,8 @@ fn work<R: Files + AllocGlobal + Clone + Drop, I: Read, W: Write, E: Write>(
         (I.remaining streams.old.input) (I.remaining streams.new.input)
         (W.contents streams.old.output) (W.contents streams.new.output) }
     ensures found { result ≡ 1 → name_list (map given_of arguments.now) ≡ []
-        → FindsInput (listing_of (map given_of arguments.now)) (stdin_name (map given_of arguments.now))
+        → FindsInput (listing_of (map given_of arguments.now))
+        (stdin_name (map given_of arguments.now))
         (I.remaining streams.old.input) (I.remaining streams.new.input)
         (W.contents streams.old.output) (W.contents streams.new.output)
         (E.contents streams.old.faults) (E.contents streams.new.faults) }
@@ -263,7 +267,8 @@ fn work<R: Files + AllocGlobal + Clone + Drop, I: Read, W: Write, E: Write>(
         (W.contents streams.old.output) (W.contents streams.new.output)
         (E.contents streams.old.faults) (E.contents streams.new.faults) }
     ensures cut { result ≡ 5 → name_list (map given_of arguments.now) ≡ []
-        → CutsInput (listing_of (map given_of arguments.now)) (stdin_name (map given_of arguments.now))
+        → CutsInput (listing_of (map given_of arguments.now))
+        (stdin_name (map given_of arguments.now))
         (I.remaining streams.old.input) (I.remaining streams.new.input)
         (W.contents streams.old.output) (W.contents streams.new.output) }
     ensures unwritten { 2 ≤ result → result ≢ 5 → name_list (map given_of arguments.now) ≡ []
@@ -338,7 +343,7 @@ fn report_unread_input<E: Write>(
     }
 }
 
-/// The same for the text of the input.
+/// Does what is asked with the text of the input, and returns the exit status.
 fn run_on_given<W: Write, E: Write>(
     alloc: Global,
     task: &Task<'_>,
@@ -436,7 +441,8 @@ fn run_on_names<R: Files + AllocGlobal + Clone + Drop, I: Read, W: Write, E: Wri
     status
 }
 
-/// Writes to standard error how many files would change, if any would, and how to change them.
+/// Writes to standard error how many files would change, if any would, and how to change them. If
+/// the output has failed, not all were counted, and nothing is written.
 pub fn tell_changes<E: Write>(
     alloc: Global,
     task: &Task<'_>,
@@ -448,7 +454,7 @@ pub fn tell_changes<E: Write>(
     ensures told { AppendsBeginning (E.contents faults.old) (E.contents faults.new)
         (changes_text task.now.program.now task.now.listing untidy) }
 {
-    if status == 0 {
+    if status == 0 || is_over(task, status) {
         return;
     }
     match changes_text(alloc, task, untidy) {
@@ -489,10 +495,25 @@ fn run_on_each<R: Files + AllocGlobal + Clone + Drop, I: Read, W: Write, E: Writ
 {
     let mut status: u8 = 0;
     for name in names {
+        if is_over(task, status) {
+            return status;
+        }
         let done = run_on_name(rt, task, name.as_str(), streams, untidy);
         status = status.max(done);
     }
     status
+}
+
+/// Returns whether inputs are listed and the output has failed: a file that is listed has no other
+/// failure of this status.
+fn is_over(task: &Task<'_>, status: u8) -> bool
+    ensures listed { result ≡ true → task.now.listing ≢ None }
+    ensures cut { result ≡ true → status ≡ 5 }
+{
+    match task.listing {
+        None => false,
+        Some(_) => status == 5,
+    }
 }
 
 /// Tidies standard input, a file, or the files below a folder.
@@ -537,6 +558,9 @@ pub fn run_on_paths<R: Files + AllocGlobal + Clone + Drop, W: Write, E: Write>(
 {
     let mut status: u8 = 0;
     for name in names {
+        if is_over(task, status) {
+            return status;
+        }
         let done = run_on_path(rt, task, name.as_str(), output, faults, untidy);
         status = status.max(done);
     }
@@ -599,6 +623,9 @@ fn run_on_files<R: Files + AllocGlobal, W: Write, E: Write>(
 {
     let mut status: u8 = 0;
     for name in names {
+        if is_over(task, status) {
+            return status;
+        }
         let done = run_on_file(rt, task, name.as_str(), output, faults, untidy);
         status = status.max(done);
     }
@@ -725,8 +752,8 @@ fn report_unlisted<E: Write>(program: &Program, failure: &Failure, name: &str, f
     }
 }
 
-/// Writes the message of a file's failure to standard error, and returns the exit status. `fault` is
-/// why the file can't be written, if that is the failure.
+/// Writes the message of a file's failure to standard error, and returns the exit status. `fault`
+/// is why the file can't be written, if that is the failure.
 fn report_on_file<E: Write>(failure: &Failure, fault: WriteFault, name: &str, faults: &mut E) -> u8
     ensures { result ≡ status_of failure.now }
 {
