@@ -31,9 +31,13 @@ use tidying::Tidying;
 /// Tidies a text of ISLE: keeps the author's lines and every comment, and fixes columns and gaps.
 ///
 /// The result has the same lexemes in the same order, as they are written: `0x10` stays `0x10`.
-/// Only line comments change: they lose the spaces and tabs at their ends. The same lexemes begin
-/// lines. At most two empty lines stand in a row, and none at the start. Each line ends with LF,
-/// the last one too. Tidying the result again changes nothing.
+/// Only comments change: line comments lose the spaces and tabs at their ends, and block comments
+/// get the line ends of the text. The same lexemes begin lines. At most two empty lines stand in a
+/// row, and none at the start. Tidying the result again changes nothing.
+///
+/// Each line ends alike, the last one too: with CR and LF if the first LF of the text has a CR
+/// before it, and otherwise with LF. A byte order mark at the start stays, with nothing after it,
+/// if the text ends there or goes on with `(` or `;`. Any other is a symbol, or part of one.
 ///
 /// `Error` means that the text has no document. It is a parse error in file 0, whose span is one
 /// byte: the one where the lexical error begins, the first `)` without its `(`, or a `(` without
@@ -53,7 +57,8 @@ pub fn tidy(alloc: Global, text: &str) -> Result<String, Fault>
 /// At least this many bytes of a tidy text are compared at once.
 const COMPARED: usize = 64 * 1024;
 
-/// Returns whether a text is its own tidy text, which is compared in parts and never held whole.
+/// Returns whether a text is its own tidy text, which is compared in parts. It is held whole only if
+/// the text has a CR, or a byte order mark that stands apart.
 ///
 /// The errors are those of `tidy`. The result is `true` exactly if `tidy` returns the text itself.
 pub fn is_tidy(alloc: Global, text: &str) -> Result<bool, Fault>
