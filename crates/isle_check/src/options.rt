@@ -32,9 +32,9 @@ The errors come in groups. Those of a group are reported only if no earlier grou
 warnings only if there is no error. Lines that begin with note: belong to the error before them.
 
 With --program or --all-programs, programs of the nearest isle.toml are checked, each by itself. It
-is looked for in the current folder and above it, or in the one folder that is given. Its table
-[lints.isle-check] has a level for each of some kinds: allow, warn or deny, as the options of these
-names. An option that names a kind takes precedence over its level.
+is looked for in the current folder and above it, or in the one folder that is given. The file may
+give levels to kinds in a table [lints.isle-check]: allow, warn or deny, as the options of these
+names do. An option that names a kind takes precedence over its level.
 
 Options:
   --allow KIND             leave out findings of this kind; may be repeated
@@ -42,8 +42,9 @@ Options:
   --deny KIND              report warnings of this kind as errors, also after --warn;
                            may be repeated
   --message-format FORMAT  write findings as human (the default), json or github
-  --color WHEN             colour findings for people: auto (the default), which is where standard
-                           output is a terminal, always or never; with several, the last counts
+  --color WHEN             colour findings for people: always, never or auto (the default), which
+                           is where standard output is a terminal and NO_COLOR is unset or empty;
+                           with several, the last counts
   --exclude PATTERN        leave out of folders what the pattern matches; may be repeated
   --stdin-name NAME        use NAME for standard input in messages
   --program NAME           check this program of isle.toml; may be repeated

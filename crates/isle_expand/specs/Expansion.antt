@@ -16,8 +16,10 @@ use Rattle.isle_expand_core.specs.Definitions.{AreExpanded, AreFree}
 use Rattle.isle_expand_core.specs.Macros.{macros_in}
 use Rattle.isle_expand_core.specs.Misuses.{IsFirstMisuse, MisuseNode, misuse_pos, misuse_text}
 use Rattle.isle_expand_warnings.specs.Warnings.{WarningNode, warning_pos, warning_text, warnings_in}
-use Rattle.isle_program.specs.Messages.{line_at, refusal_lines}
+use Rattle.isle_program.specs.Messages.{line_at}
 use Rattle.isle_program.specs.Reading.{IsReading, refused_count}
+use Rattle.isle_program_messages.specs.Refusals.{told_refusals}
+use Rattle.isle_program_messages.specs.declared.format.Format.TheVariants as formats
 
 -- The texts spell this program: each has its one tree, and these are the definitions of all, one text after another.
 pub record IsProgramOf (sources : List Source) (tree : List Definition) : Type 0 where
@@ -60,7 +62,7 @@ pub record AreRefused (sources : List Source) (shown : List ℕ) : Type 0 where
   pub refusals : List (Option Error)
   pub read : IsReading sources tree refusals
   pub some : refused_count refusals ≢ 0
-  pub is : shown ≡ refusal_lines 0 sources refusals
+  pub is : shown ≡ told_refusals formats.Human 0 sources refusals
 
 -- the program has no expansion, and this says what the first misuse of an extractor is, at its place
 pub record IsMisused (sources : List Source) (shown : List ℕ) : Type 0 where

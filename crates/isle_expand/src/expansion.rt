@@ -26,8 +26,10 @@ use isle_cli::sources::Source;
 use isle_expand_core::depth::first_deep;
 use isle_expand_core::{ExpandFault, Misuse, Warning, expand, warnings};
 use isle_parser::dropping::drop_definitions;
-use isle_program::messages::{line_at, refusal_lines};
+use isle_program::messages::line_at;
 use isle_program::trees::{Reading, drop_reading, read_all, refused_count};
+use isle_program_messages::format::Format;
+use isle_program_messages::refusals::told_refusals;
 use isle_syntax::ast::Def;
 use isle_syntax::printer::{PrintFault, print};
 use std::alloc::{AllocError, Global};
@@ -76,7 +78,7 @@ fn answer_to_reading(
         (λ failure. IsExpandFailure failure (map source_of sources.now)) }
 {
     if refused_count(&reading.refusals) != 0 {
-        let shown = refusal_lines(alloc, sources, &reading.refusals)?;
+        let shown = told_refusals(alloc, Format::Human, sources, &reading.refusals)?;
         return Err(Failure::Refused(shown));
     }
     answer_to_program(alloc, sources, &reading.defs, width)

@@ -35,9 +35,9 @@ All files are linted as one program. A folder stands for every .isle file below 
 standard input. With no FILE, standard input is linted.
 
 With --program or --all-programs, programs of the nearest isle.toml are linted, each by itself. It
-is looked for in the current folder and above it, or in the one folder that is given. Its table
-[lints.isle-lint] has a level for each of some lints: allow, warn or deny, as the options of these
-names. An option that names a lint takes precedence over its level.
+is looked for in the current folder and above it, or in the one folder that is given. The file may
+give levels to lints in a table [lints.isle-lint]: allow, warn or deny, as the options of these
+names do. An option that names a lint takes precedence over its level.
 
 Options:
   --all                    enable all lints
@@ -48,8 +48,9 @@ Options:
   --deny NAME              enable a lint, and let its findings count, also after --warn;
                            may be repeated
   --message-format FORMAT  write findings as human (the default), json or github
-  --color WHEN             colour findings for people: auto (the default), which is where standard
-                           output is a terminal, always or never; with several, the last counts
+  --color WHEN             colour findings for people: always, never or auto (the default), which
+                           is where standard output is a terminal and NO_COLOR is unset or empty;
+                           with several, the last counts
   --exclude PATTERN        leave out of folders what the pattern matches; may be repeated
   --stdin-name NAME        use NAME for standard input in messages
   --program NAME           lint this program of isle.toml; may be repeated

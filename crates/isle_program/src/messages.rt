@@ -1,74 +1,16 @@
 //! Messages of one line about positions in several texts, which are numbered from 0.
 
-ghost use Rattle.std.specs.Prelude.{◌≡◌, IfOk, map, option_map, slice_get, string_bytes};
+ghost use Rattle.std.specs.Prelude.{◌≡◌, IfOk, map, option_map, string_bytes};
 ghost use Rattle.isle_base_source.specs.Lines.{line_ends};
 ghost use Rattle.isle_cli.specs.Messages.{message_line};
 ghost use Rattle.isle_cli.specs.Sources.{source_of};
-ghost use Rattle.isle_program.specs.Messages.{line_at, line_of, refusal_line, refusal_lines};
-ghost use Rattle.isle_program.specs.Messages.{refusal_text, shown_offset};
+ghost use Rattle.isle_program.specs.Messages.{line_at, line_of, shown_offset};
 
 use isle_base::lexer::Pos;
-use isle_base_source::error::Error;
 use isle_base_source::files::LineMap;
 use isle_cli::messages::message_line;
 use isle_cli::sources::Source;
 use std::alloc::{AllocError, Global};
-
-/// The lines of the texts that do not parse, in order: the error of each, at its position.
-pub fn refusal_lines(
-    alloc: Global,
-    sources: &[Source],
-    refusals: &[Option<Error>],
-) -> Result<String, AllocError>
-    ensures { IfOk result (λ lines. string_bytes lines
-        ≡ refusal_lines 0 (map source_of sources.now) refusals.now) }
-{
-    let mut lines = String::new(alloc);
-    for (file, source) in sources.iter().enumerate() {
-        let line = refusal_text(alloc, source, file, refusals)?;
-        lines.push_str(line.as_str())?;
-    }
-    Ok(lines)
-}
-
-/// The line of the text with this number; empty if it parses.
-fn refusal_text(
-    alloc: Global,
-    source: &Source,
-    file: usize,
-    refusals: &[Option<Error>],
-) -> Result<String, AllocError>
-    ensures { IfOk result (λ line. string_bytes line
-        ≡ refusal_text (source_of source.now) (slice_get refusals.now file)) }
-{
-    match refusals.get(file) {
-        Some(Some(error)) => {
-            let lines = LineMap::from_str(alloc, source.text.as_str())?;
-            refusal_line(alloc, source, &lines, error)
-        }
-        _ => Ok(String::new(alloc)),
-    }
-}
-
-/// The line of a text that does not parse. `lines` are the text's.
-pub fn refusal_line(
-    alloc: Global,
-    source: &Source,
-    lines: &LineMap,
-    error: &Error,
-) -> Result<String, AllocError>
-    requires { lines.now ≡ line_ends (string_bytes source.now.text) }
-    ensures { IfOk result (λ line. string_bytes line
-        ≡ refusal_line (source_of source.now) error.now) }
-{
-    match error {
-        Error::ParseError { msg, span } => {
-            let offset = span.from.offset;
-            place_line(alloc, source, lines, offset, "error", msg.as_str())
-        }
-        _ => Ok(String::new(alloc)),
-    }
-}
 
 /// The line of a message about a position; empty if no text has the number of its file.
 pub fn line_at(
@@ -105,7 +47,7 @@ fn line_of(
 }
 
 /// The line of a message about a byte offset in a text. `lines` are the text's.
-pub fn place_line(
+fn place_line(
     alloc: Global,
     source: &Source,
     lines: &LineMap,
