@@ -591,8 +591,8 @@ fn run_on_path<R: Files + AllocGlobal + Clone + Drop, W: Write, E: Write>(
     }
 }
 
-/// The files that a name stands for, without those that are excluded. A line is added to `lines` for
-/// each that can't be read, and for a folder without an ISLE file.
+/// The files that a name stands for, without those that are excluded. A line is added to `lines`
+/// for each that can't be read, and for a folder without an ISLE file.
 fn files_at<R: Files + AllocGlobal + Clone + Drop>(
     rt: &R,
     task: &Task<'_>,
