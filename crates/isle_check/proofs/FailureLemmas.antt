@@ -19,11 +19,11 @@ use Rattle.isle_check.specs.Doing.{AreAllOptions, AreOptions, Ask, Cuts, IsFailu
 
 -- this program
 abbrev pub this : Program
-this = program_of (codes "isle-check") (codes "usage: isle-check [--allow KIND] [--warn KIND] [--deny KIND] [--message-format FORMAT] [--color WHEN] [--stdin-name NAME] [--program NAME] [--all-programs] [FILE ..]\n")
+this = program_of (codes "isle-check") (codes "usage: isle-check [--allow KIND] [--warn KIND] [--deny KIND] [--message-format FORMAT] [--color WHEN] [--exclude PATTERN] [--stdin-name NAME] [--program NAME] [--all-programs] [FILE ..]\n")
 
 -- its options, and those that are about the programs of a manifest
 abbrev pub all : Options
-all = options_of (codes "--print-programs" ∷ codes "--all-programs" ∷ []) (codes "--allow" ∷ codes "--warn" ∷ codes "--deny" ∷ codes "--message-format" ∷ codes "--color" ∷ codes "--program" ∷ [])
+all = options_of (codes "--print-programs" ∷ codes "--all-programs" ∷ []) (codes "--allow" ∷ codes "--warn" ∷ codes "--deny" ∷ codes "--message-format" ∷ codes "--color" ∷ codes "--exclude" ∷ codes "--program" ∷ [])
 
 -- What is told of a failure, where nothing was told before. `text_of` looks at no place of the program's texts.
 pub failure-told : (failure : Failure) (status : ℕ) (faults kept faults' : Option (List ℕ)) → Keeps faults kept → status ≡ status_of failure →

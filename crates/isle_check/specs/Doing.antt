@@ -26,7 +26,7 @@ told_status errors = if errors == 0 then 0 else 1
 abbrev pub IsProgram : Program → Type 0
 IsProgram program =
     (program.name.now ≡ codes "isle-check")
-    × (program.usage.now ≡ codes "usage: isle-check [--allow KIND] [--warn KIND] [--deny KIND] [--message-format FORMAT] [--color WHEN] [--stdin-name NAME] [--program NAME] [--all-programs] [FILE ..]\n")
+    × (program.usage.now ≡ codes "usage: isle-check [--allow KIND] [--warn KIND] [--deny KIND] [--message-format FORMAT] [--color WHEN] [--exclude PATTERN] [--stdin-name NAME] [--program NAME] [--all-programs] [FILE ..]\n")
 
 abbrev pub AreOptions : Options → Type 0
 AreOptions options =

@@ -14,7 +14,7 @@ use Rattle.isle_expand.specs.Program.{AreAll, AreOwn, IsDiagnostic, IsThis}
 
 -- its options, and those that are about the programs of a manifest
 abbrev all_options : Options
-all_options = options_of ([]) (codes "--width" ∷ codes "--program" ∷ [])
+all_options = options_of ([]) (codes "--width" ∷ codes "--exclude" ∷ codes "--program" ∷ [])
 
 -- the words ask for something
 pub asked-told : (program : Program) (own : Options) (words : List (List ℕ)) (what : Asked) (status : ℕ) (faults faults' : Option (List ℕ)) → IsThis program → AreOwn own

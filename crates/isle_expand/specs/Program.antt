@@ -10,7 +10,7 @@ use Rattle.isle_cli.specs.declared.program.Program.{Program}
 -- the name of this program, and its usage
 pub record IsThis (program : Program) : Type 0 where
   pub name : program.name.now ≡ codes "isle-expand"
-  pub usage : program.usage.now ≡ codes "usage: isle-expand [--width N] [--stdin-name NAME] [--program NAME] [FILE ..]\n"
+  pub usage : program.usage.now ≡ codes "usage: isle-expand [--width N] [--exclude PATTERN] [--stdin-name NAME] [--program NAME] [FILE ..]\n"
 
 -- its own options: `--width` and `--exclude`, with values
 pub record AreOwn (options : Options) : Type 0 where

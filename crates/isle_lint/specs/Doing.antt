@@ -44,7 +44,7 @@ told_status is_read is_clean = if is_read then (if is_clean then 0 else 1) else 
 abbrev pub IsProgram : Program → Type 0
 IsProgram program =
     (program.name.now ≡ codes "isle-lint")
-    × (program.usage.now ≡ codes "usage: isle-lint [--all] [--lint NAME] [--allow NAME] [--warn NAME] [--deny NAME] [--message-format FORMAT] [--color WHEN] [--stdin-name NAME] [--program NAME] [--all-programs] [FILE ..]\n")
+    × (program.usage.now ≡ codes "usage: isle-lint [--all] [--lint NAME] [--allow NAME] [--warn NAME] [--deny NAME] [--message-format FORMAT] [--color WHEN] [--exclude PATTERN] [--stdin-name NAME] [--program NAME] [--all-programs] [FILE ..]\n")
 
 abbrev pub AreOptions : Options → Type 0
 AreOptions options =

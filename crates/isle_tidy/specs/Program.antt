@@ -9,7 +9,7 @@ use Rattle.isle_tidy.specs.Doing.{HasNames}
 -- the name of this program, and its usage
 pub record IsThis (program : Program) : Type 0 where
   pub name : program.name.now ≡ codes "isle-tidy"
-  pub usage : program.usage.now ≡ codes "usage: isle-tidy [--check] [--diff] [--stdin-name NAME] [--program NAME] [--all-programs] [FILE ..]\n"
+  pub usage : program.usage.now ≡ codes "usage: isle-tidy [--check] [--diff] [--exclude PATTERN] [--stdin-name NAME] [--program NAME] [--all-programs] [FILE ..]\n"
 
 -- its own options: `--check` and `--diff`, and `--exclude` with a value
 pub record AreOwn (options : Options) : Type 0 where
