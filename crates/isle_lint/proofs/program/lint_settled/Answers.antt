@@ -18,7 +18,9 @@ returns-clause-ok g c =
     let report : IsReport given (lints_on given) sources told =
     report-asked given _ _ sources told (search (tests, rules)) (search (tests, rules)) c.in_ok-told.ensures.ok in
     elim c.if-not-is_read.branch [
-      | then-not-is_read w ↦ search (tests, rules, report)
+      | then-not-is_read w ↦ rw w.streams-is (report-told given _ sources lines told _ _ _ _ _ _ _
+          (search (tests, rules)) (search (tests, rules)) c.in_ok-sources.ensures report
+          (search (tests, rules)) (search (tests, rules)) (rw w.as_bytes.ensures.value at w.write_whole.ensures.part))
       | else-not-is_read w ↦ rw w.streams-is (report-told given _ sources lines told _ _ _ _ _ _ _
           (search (tests, rules)) (search (tests, rules)) c.in_ok-sources.ensures report
           (search (tests, rules)) (search (tests, rules)) (none_begun _ lines))
