@@ -51,6 +51,8 @@
 ;; Renames a term where it is declared, and tells the lines of both files then.
 (fset 'y-or-n-p #'always)
 (defun rename-in-both (name old new)
+  ;; Changes are else sent once nothing is typed for a while.
+  (eglot--signal-textDocument/didChange)
   (goto-char (point-min))
   (search-forward (concat "decl " old " "))
   (backward-char 2)
