@@ -2,3 +2,4 @@ pub mod AnswerLemmas
 pub mod ParsingLaw
 pub mod RefusalLemmas
 pub mod StatusLemmas
+pub mod TidyLemmas
