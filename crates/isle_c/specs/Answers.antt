@@ -2,7 +2,7 @@
 use Rattle.std.specs.Prelude.{◌≡◌, ◌≤◌, ◌<◌, ℕ, List, ◌++◌, IsUtf8, drop, length}
 
 -- An answer, of which P holds, stands whole at the front of the slice, and behind it the slice is as it was. Its
--- whole length is told. It is UTF-8.
+-- length is returned. It is UTF-8.
 pub record Writes (old new : List ℕ) (told : ℕ) (P : List ℕ → Type 0) : Type 0 where
   pub answer : List ℕ
   pub holds : P answer
@@ -11,7 +11,7 @@ pub record Writes (old new : List ℕ) (told : ℕ) (P : List ℕ → Type 0) : 
   pub fits : told ≤ length old
   pub written : new ≡ answer ++ drop told old
 
--- The slice is too short for an answer, of which P holds. Its whole length is told. It is UTF-8.
+-- The slice is too short for an answer, of which P holds. The answer's length is returned. It is UTF-8.
 pub record Wants (old : List ℕ) (told : ℕ) (P : List ℕ → Type 0) : Type 0 where
   pub answer : List ℕ
   pub holds : P answer

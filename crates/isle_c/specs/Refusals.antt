@@ -1,4 +1,4 @@
--- What is told of a text that is refused.
+-- What is returned of a text that is rejected.
 use Rattle.std.specs.Prelude.{◌≡◌, ◌≤◌, ◌+◌, ℕ, List, length, string_bytes}
 use Rattle.isle_base_source.specs.declared.error.Error.{Error}
 use Rattle.isle_base_source.specs.declared.error.Error.TheVariants.{ParseError}

@@ -50,7 +50,7 @@ warning_line sources w = line_at sources (warning_pos w) (codes "warning") (warn
 abbrev pub warning_lines : List Source → List WarningNode → List ℕ
 warning_lines sources ws = flat_map (warning_line sources) ws
 
--- this tells what the expansion of the program may lose: a line for each warning, in order
+-- what is shown of an expansion: a line for each warning about it, in order
 pub record AreWarnings (sources : List Source) (shown : List ℕ) : Type 0 where
   pub tree : List Definition
   pub of_texts : IsProgramOf sources tree

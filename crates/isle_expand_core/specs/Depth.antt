@@ -12,7 +12,7 @@ use Rattle.isle_expand_warnings.specs.First.{first}
 abbrev pub most : ℕ
 most = 500
 
--- no number past the first that is too great is told from it
+-- all numbers that are too great count as the least of them
 abbrev pub capped : ℕ → ℕ
 capped n = min n (most + 1)
 

@@ -27,7 +27,7 @@ pub nothing-behind : (xs ys zs : List ℕ) → zs ≡ xs ++ ys → zs ≡ [] →
 nothing-behind [] ys zs is none = sym is ∙ none
 nothing-behind (x ∷ xs) ys zs is none = absurd (let no : x ∷ (xs ++ ys) ≡ [] = sym is ∙ none in cc)
 
--- where nothing is told, a name stands for files
+-- where nothing is reported, a name stands for files
 pub some-found : (program : Program) (excluded : List (List ℕ)) (name : List ℕ) (paths : List (String Global)) (told : List ℕ) → IsListing program excluded name (map string_bytes paths) told → told ≡ [] → 1 ≤ length paths
 some-found program excluded name [] told (inl (_, _, some)) none = absurd (some refl none)
 some-found program excluded name [] told (inr (_, is)) none = absurd (empty-told program name (sym is ∙ none))

@@ -266,7 +266,7 @@ EndsPrograms listing status output output' =
     ((2 ≤ status) × (status ≤ 4) × Keeps output output')
     ⊎ ((faults : Option (List ℕ)) × (faults' : Option (List ℕ)) × RunsOnFiles listing 0 status output output' faults faults')
 
--- what is told of files that would change, as many as these
+-- what is reported if this many files would change
 abbrev pub changes_text : Program → Option Listing → (untidy : ℕ) → List ℕ
 changes_text program listing untidy =
     if untidy == 0 then []

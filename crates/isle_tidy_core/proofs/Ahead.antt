@@ -1,4 +1,4 @@
--- The `)` that follow on a line, told from the bytes ahead.
+-- The `)` that follow on a line, by the bytes ahead.
 use Rattle.std.proofs.Common.{◌≡◌, ◌<◌, ◌+◌, ℕ, suc, ◌⊎◌, inl, inr, ⊎_elim, List, [], ◌∷◌, ◌++◌, Bool, true, false, ◌&&◌, ◌||◌, drop, get_or, length, cond, refl, sym, ap, subst, ◌∙◌, eqb, append-nil}
 use Rattle.std.proofs.lemmas.Bool.{cond-true, cond-false, and_parts, cases_Bool, both_ways, eqb-true}
 use Rattle.std.proofs.lemmas.List.{drop_more}
