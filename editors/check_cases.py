@@ -45,6 +45,43 @@ CHECKED = [
         ],
     ),
     Case(
+        "checking: a closed file changes, and the diagnostics of an open one follow",
+        {"a.isle": DECLARED.replace("(decl made () U)", "(decl made () T)"), "b.isle": WRONG},
+        [
+            ("open", "b.isle"),
+            ("diagnostics", "b.isle"),
+            ("write", "a.isle", DECLARED),
+            ("diagnostics_after_change", "b.isle", [], [WRONG_TYPE]),
+            ("write", "a.isle", TYPES + "(decl foo (T) T)\n"),
+            ("diagnostics_after_change", "b.isle", [], [GONE]),
+        ],
+    ),
+    Case(
+        "checking: a file of the program goes, and `isle.toml` comes",
+        {"a.isle": DECLARED, "b.isle": WRONG},
+        [
+            ("open", "b.isle"),
+            ("diagnostics", "b.isle", WRONG_TYPE),
+            ("remove", "a.isle"),
+            ("diagnostics_after_change", "b.isle", [WRONG_TYPE], [NO_FOO, "error 1:14 unknown-term Unknown term in expression: 'made'"]),
+            ("write", "isle.toml", '[[program]]\nname = "none"\nfiles = ["c.isle"]\n'),
+            ("diagnostics_after_change", "b.isle", [WRONG_TYPE], []),
+        ],
+    ),
+    Case(
+        "checking: a folder is added, and the diagnostics of its open file follow",
+        {"one/a.isle": DECLARED, "two/b.isle": WRONG},
+        [
+            ("open", "two/b.isle"),
+            ("diagnostics", "two/b.isle"),
+            ("folders", ["file://{root}/two"], []),
+            ("diagnostics", "two/b.isle", NO_FOO, "error 1:14 unknown-term Unknown term in expression: 'made'"),
+            ("folders", [], ["file://{root}/two"]),
+            ("diagnostics", "two/b.isle"),
+        ],
+        {"workspaceFolders": [{"uri": "file://{root}/one", "name": "one"}], "rootUri": None},
+    ),
+    Case(
         "checking: a term that is declared in an open file alone",
         {"a.isle": TYPES + "(decl foo (T) T)\n", "b.isle": WRONG},
         [

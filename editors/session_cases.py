@@ -632,11 +632,12 @@ ROOTS = [
         ],
     ),
     Case(
-        "disk: no client is asked for changes of files, since each request reads them",
+        "disk: a client that can is asked to watch files",
         TWO,
-        [("registers_nothing",)],
+        [("registers", "**/*.isle", "**/isle.toml")],
         {"rootUri": "file://{root}", "capabilities": {"workspace": {"didChangeWatchedFiles": {"dynamicRegistration": True}}}},
     ),
+    Case("disk: a client that can't is not asked", TWO, [("registers",)]),
 ]
 
 PLAIN = {"rootUri": "file://{root}", "capabilities": {"workspace": {"workspaceEdit": {"documentChanges": False}}}}

@@ -1,11 +1,11 @@
 -- The diagnostics of one document more.
-use Rattle.std.proofs.Common.{◌≡◌, ℕ, Bool, List, ◌∷◌, true, false, refl}
+use Rattle.std.proofs.Common.{◌≡◌, ℕ, Bool, List, ◌∷◌, Option, true, false, refl}
 use Rattle.isle_lsp_files.specs.Disks.{View}
 use Rattle.isle_lsp_files.specs.Documents.{Document}
 use Rattle.isle_lsp.specs.Serving.{AreReports, IsReport, is_other, others}
 
-pub reports_more : (docs : List Document) (view : View) (all : Bool) (uri : List ℕ) (d : Document) (ds : List Document) (text : List ℕ) (more : List (List ℕ)) → is_other all uri view d ≡ true → IsReport docs view d.uri d.file text → AreReports docs view (others all uri view ds) more → AreReports docs view (others all uri view (d ∷ ds)) (text ∷ more)
+pub reports_more : (docs : List Document) (view : View) (all : Bool) (uri : Option (List ℕ)) (d : Document) (ds : List Document) (text : List ℕ) (more : List (List ℕ)) → is_other all uri view d ≡ true → IsReport docs view d.uri d.file text → AreReports docs view (others all uri view ds) more → AreReports docs view (others all uri view (d ∷ ds)) (text ∷ more)
 reports_more docs view all uri d ds text more is report rest = rw is (text, more, refl, report, rest)
 
-pub reports_same : (docs : List Document) (view : View) (all : Bool) (uri : List ℕ) (d : Document) (ds : List Document) (more : List (List ℕ)) → is_other all uri view d ≡ false → AreReports docs view (others all uri view ds) more → AreReports docs view (others all uri view (d ∷ ds)) more
+pub reports_same : (docs : List Document) (view : View) (all : Bool) (uri : Option (List ℕ)) (d : Document) (ds : List Document) (more : List (List ℕ)) → is_other all uri view d ≡ false → AreReports docs view (others all uri view ds) more → AreReports docs view (others all uri view (d ∷ ds)) more
 reports_same docs view all uri d ds more is rest = rw is rest

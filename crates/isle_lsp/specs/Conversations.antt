@@ -14,7 +14,7 @@ use Rattle.isle_lsp_protocol.specs.declared.machine.State.{State}
 use Rattle.isle_lsp_protocol.specs.declared.machine.State.TheVariants.{Fresh, Running, ShutDown, Ended, Aborted}
 use Rattle.isle_lsp_protocol.specs.Decoding.{Decodes, message_in}
 use Rattle.isle_lsp_files.specs.Disks.{Asked, Moment, View}
-use Rattle.isle_lsp.specs.Serving.{Held, Sends, Shows, asked, asked_first, documents_after, folders_after, takes_after}
+use Rattle.isle_lsp.specs.Serving.{Held, Sends, Shows, asked, asked_first, documents_after, folders_after, takes_after, watches_after}
 
 -- The message changes the server's state from old to new, and these messages are sent. What each of both needs of the disk, the disk shows at
 -- the next moment.
@@ -29,6 +29,7 @@ pub record Answers (old : Held) (moments : List Moment) (body : List ℕ) (new :
   pub documents : new.documents ≡ documents_after (action_of old.state (message_in json)) json opened old.documents
   pub folders : new.folders ≡ folders_after (action_of old.state (message_in json)) json old.folders
   pub takes : new.takes_document_changes ≡ takes_after (action_of old.state (message_in json)) json old.takes_document_changes
+  pub watches : new.watches_files ≡ watches_after (action_of old.state (message_in json)) json old.watches_files
   pub shows : Shows (asked (action_of old.state (message_in json)) json new) between later view
   pub sends : Sends (action_of old.state (message_in json)) json new view sent
 
@@ -38,7 +39,7 @@ frames (text ∷ texts) = frame text ++ frames texts
 
 -- the server's first state
 abbrev pub nothing : Held
-nothing = record { state = Fresh; documents = []; folders = []; takes_document_changes = false }
+nothing = record { state = Fresh; documents = []; folders = []; takes_document_changes = false; watches_files = false }
 
 -- what comes in: the bytes of the client, and the moments of the disk
 pub record World : Type 0 where

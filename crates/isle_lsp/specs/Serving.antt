@@ -7,7 +7,7 @@ use Rattle.isle_lsp_files.specs.Documents.{Document, document, document_at, docu
 use Rattle.isle_lsp_files.specs.Texts.{is_together, program_of, programs_of}
 use Rattle.isle_lsp_protocol.specs.declared.machine.ErrorCode.TheVariants.{InvalidParams, MethodNotFound}
 use Rattle.isle_lsp_protocol.specs.declared.machine.Notification as notifications
-use Rattle.isle_lsp_protocol.specs.declared.machine.Notification.TheVariants.{DidOpen, DidChange, DidClose, DidChangeWorkspaceFolders}
+use Rattle.isle_lsp_protocol.specs.declared.machine.Notification.TheVariants.{Initialized, DidOpen, DidChange, DidClose, DidChangeWorkspaceFolders, DidChangeWatchedFiles}
 use Rattle.isle_lsp_protocol.specs.declared.machine.Request as requests
 use Rattle.isle_lsp_protocol.specs.declared.machine.Request.TheVariants.{Initialize, Shutdown, Formatting, Unknown}
 use Rattle.isle_lsp_protocol.specs.declared.machine.State.{State}
@@ -17,22 +17,31 @@ use Rattle.isle_lsp_protocol.specs.Parameters as parameters
 use Rattle.isle_lsp_protocol.specs.Replies as replies
 use Rattle.isle_lsp_protocol.specs.Replies.{Outcome, done, error_outcome, reason_of, reply, reply_id}
 use Rattle.isle_lsp_protocol.specs.Capabilities.{initialize_result}
+use Rattle.isle_lsp_protocol.specs.Watching.{watch_request}
 use Rattle.isle_lsp_features.specs.Answers as names
 use Rattle.isle_lsp_features.specs.Programs.{Question}
 use Rattle.isle_lsp.specs.Formatted.{IsFormatting}
 use Rattle.isle_lsp_diagnostics.specs.Published.{IsPublished}
 use Rattle.isle_lsp.specs.declared.server.Server.{Server}
 
--- the state of the server: of the session, the open documents, the folders by their URIs, and whether the client takes edits with versions
+-- the state of the server: of the session, the open documents, the folders by their URIs, whether the client takes edits with versions, and whether it
+-- watches files
 pub record Held : Type 0 where
   pub state : State
   pub documents : List Document
   pub folders : List (List ℕ)
   pub takes_document_changes : Bool
+  pub watches_files : Bool
 
 abbrev pub held_of : Server → Held
 held_of s =
-    record { state = s.state; documents = map document_of s.documents.items; folders = map string_bytes s.folders.items; takes_document_changes = s.takes_document_changes }
+    record {
+      state = s.state;
+      documents = map document_of s.documents.items;
+      folders = map string_bytes s.folders.items;
+      takes_document_changes = s.takes_document_changes;
+      watches_files = s.watches_files;
+    }
 
 -- ---- looks at the disk
 
@@ -61,11 +70,13 @@ asked_for Formatting question = None
 asked_for Unknown question = None
 asked_for request question = Some question
 
--- what is asked before diagnostics are published: nothing, unless a document is opened, changed or closed
+-- what is asked before diagnostics are published: nothing, unless a document is opened, changed or closed, or folders or files on disk have changed
 abbrev pub asked_at : notifications.Notification → Asked → Option Asked
 asked_at DidOpen question = Some question
 asked_at DidChange question = Some question
 asked_at DidClose question = Some question
+asked_at DidChangeWorkspaceFolders question = Some question
+asked_at DidChangeWatchedFiles question = Some question
 asked_at notification question = None
 
 -- what is asked of the disk before a message is sent, in the state after the action
@@ -155,16 +166,25 @@ abbrev pub takes_after : actions.Action → Option Data → Bool → Bool
 takes_after (Answer Initialize) (Some d) takes = parameters.takes_document_changes d
 takes_after action d takes = takes
 
+-- whether the client watches files, after a message
+abbrev pub watches_after : actions.Action → Option Data → Bool → Bool
+watches_after (Answer Initialize) (Some d) watches = parameters.watches_files d
+watches_after action d watches = watches
+
 -- the text publishes the diagnostics of a document, which is this file, or none if it is not open: those of its text, and those of the programs
 -- that have the file, as their files are open or as the disk shows them
 abbrev pub IsReport : List Document → View → (uri file text : List ℕ) → Type 0
 IsReport docs view uri file text = IsPublished uri (programs_of docs view file) file (text_of uri docs) text
 
--- the other open documents: all of them, or those that are in a program with the file of the one that a message names
-abbrev pub is_other : (all : Bool) → (uri : List ℕ) → View → Document → Bool
-is_other all uri view d = not (bytes_eq d.uri uri) && (all || is_together view d.file)
+abbrev pub is_named : Option (List ℕ) → Document → Bool
+is_named None d = false
+is_named (Some uri) d = bytes_eq d.uri uri
 
-abbrev pub others : (all : Bool) → (uri : List ℕ) → View → List Document → List Document
+-- the open documents but the one that a message names, if it names one: all of them, or those that are in a program with its file
+abbrev pub is_other : (all : Bool) → (uri : Option (List ℕ)) → View → Document → Bool
+is_other all uri view d = not (is_named uri d) && (all || is_together view d.file)
+
+abbrev pub others : (all : Bool) → (uri : Option (List ℕ)) → View → List Document → List Document
 others all uri view docs = filter (is_other all uri view) docs
 
 -- the diagnostics of each of these documents are published
@@ -177,18 +197,31 @@ AreReports docs view (d ∷ ds) sent =
 abbrev pub Publishes : (all : Bool) → List ℕ → List Document → View → List (List ℕ) → Type 0
 Publishes all uri docs view sent =
     (text : List ℕ) × (more : List (List ℕ)) × (sent ≡ text ∷ more) × IsReport docs view uri view.file text
-    × AreReports docs view (others all uri view docs) more
+    × AreReports docs view (others all (Some uri) view docs) more
 
--- A closed document may be on no disk, and then in no program: so after it those of all others are published.
-abbrev pub Reports : notifications.Notification → List ℕ → List Document → View → List (List ℕ) → Type 0
-Reports DidOpen uri docs view sent = Publishes false uri docs view sent
-Reports DidChange uri docs view sent = Publishes false uri docs view sent
-Reports DidClose uri docs view sent = Publishes true uri docs view sent
-Reports _ uri docs view sent = sent ≡ []
+abbrev pub PublishesNamed : (all : Bool) → Option (List ℕ) → List Document → View → List (List ℕ) → Type 0
+PublishesNamed all None docs view sent = sent ≡ []
+PublishesNamed all (Some uri) docs view sent = Publishes all uri docs view sent
 
-abbrev pub ReportsNamed : notifications.Notification → Option (List ℕ) → List Document → View → List (List ℕ) → Type 0
-ReportsNamed notification None docs view sent = sent ≡ []
-ReportsNamed notification (Some uri) docs view sent = Reports notification uri docs view sent
+-- the diagnostics of all open documents are published
+abbrev pub PublishesOpen : List Document → View → List (List ℕ) → Type 0
+PublishesOpen docs view sent = AreReports docs view (others true None view docs) sent
+
+-- the client is asked to watch files, if it does
+abbrev pub Asks : (watches : Bool) → List (List ℕ) → Type 0
+Asks false sent = sent ≡ []
+Asks true sent = (text : List ℕ) × (sent ≡ text ∷ []) × (read text ≡ Some watch_request)
+
+-- The messages that a notification sends. A closed document may be on no disk, and then in no program: so after it the diagnostics of all others are
+-- published, and those of all documents after folders or files on disk have changed.
+abbrev pub Handles : notifications.Notification → Option (List ℕ) → Held → View → List (List ℕ) → Type 0
+Handles Initialized uri held view sent = Asks held.watches_files sent
+Handles DidOpen uri held view sent = PublishesNamed false uri held.documents view sent
+Handles DidChange uri held view sent = PublishesNamed false uri held.documents view sent
+Handles DidClose uri held view sent = PublishesNamed true uri held.documents view sent
+Handles DidChangeWorkspaceFolders uri held view sent = PublishesOpen held.documents view sent
+Handles DidChangeWatchedFiles uri held view sent = PublishesOpen held.documents view sent
+Handles _ uri held view sent = sent ≡ []
 
 -- ---- messages to the client
 
@@ -206,4 +239,4 @@ abbrev pub Sends : actions.Action → Option Data → Held → View → List (Li
 Sends Ignore d held view sent = sent ≡ []
 Sends (Reject c) d held view sent = (text : List ℕ) × (sent ≡ text ∷ []) × (read text ≡ Some (replies.error_response (reply_id d) c (reason_of c)))
 Sends (Answer request) d held view sent = (text : List ℕ) × (sent ≡ text ∷ []) × IsReply request d held view text
-Sends (Handle notification) d held view sent = ReportsNamed notification (option_and_then parameters.uri_of d) held.documents view sent
+Sends (Handle notification) d held view sent = Handles notification (option_and_then parameters.uri_of d) held view sent

@@ -225,6 +225,9 @@ fn view_for<D: Disk>(
         Action::Answer(_) => disk.look(alloc, &server.folders, &server.documents, uri),
         Action::Handle(Notification::DidOpen | Notification::DidChange | Notification::DidClose) =>
             disk.look(alloc, &server.folders, &server.documents, uri),
+        Action::Handle(
+            Notification::DidChangeWorkspaceFolders | Notification::DidChangeWatchedFiles,
+        ) => disk.look(alloc, &server.folders, &server.documents, uri),
         _ => Ok(View::nothing(alloc)),
     }
 }

@@ -16,9 +16,10 @@ ghost use Rattle.isle_lsp.specs.Serving as serving;
 ghost use Rattle.isle_lsp.specs.Serving.{IsNamed, IsReply, IsResult, IsResultOf, IsShallow, Sends};
 ghost use Rattle.isle_lsp.specs.Serving.{document_in, documents_after, documents_noted, held_of};
 ghost use Rattle.isle_lsp.specs.Serving.{documents_after_notification, folders_after, takes_after};
+ghost use Rattle.isle_lsp.specs.Serving.{watches_after};
 
 use crate::formatting::formatting;
-use crate::reports::reports;
+use crate::reports::handle;
 use isle_cli::failure::Failure;
 use isle_lsp_diagnostics::Checks;
 use isle_lsp_features::{Gathered, Question};
@@ -27,7 +28,9 @@ use isle_lsp_files::documents::{Document, close, document_at, open, text_of};
 use isle_lsp_files::texts::program_of;
 use isle_lsp_protocol::capabilities::initialize_result;
 use isle_lsp_protocol::machine::{Action, ErrorCode, Notification, Request, State};
-use isle_lsp_protocol::parameters::{takes_document_changes, text_after, uri_of, version_of};
+use isle_lsp_protocol::parameters::{
+    takes_document_changes, text_after, uri_of, version_of, watches_files,
+};
 use isle_lsp_protocol::replies::{Outcome, error_outcome, reason_of, reply_id};
 use isle_lsp_protocol::{parameters, replies};
 use serde_json::Value;
@@ -44,6 +47,8 @@ pub struct Server {
     pub folders: Vec<String>,
     /// Whether the client takes edits with versions.
     pub takes_document_changes: bool,
+    /// Whether the client watches the files that it is asked to watch.
+    pub watches_files: bool,
 }
 
 impl Server {
@@ -56,6 +61,7 @@ impl Server {
             documents: Vec::new(alloc),
             folders: Vec::new(alloc),
             takes_document_changes: false,
+            watches_files: false,
         }
     }
 }
@@ -98,6 +104,8 @@ pub fn note(
         (map string_bytes server.old.folders.items)) }
     ensures takes { OnOk result (server.new.takes_document_changes
         ≡ takes_after action (option_map view message.now) server.old.takes_document_changes) }
+    ensures watches { OnOk result (server.new.watches_files
+        ≡ watches_after action (option_map view message.now) server.old.watches_files) }
 {
     match action {
         Action::Ignore | Action::Reject(_) => Ok(()),
@@ -133,11 +141,10 @@ pub fn perform(
         Action::Ignore => Ok(Vec::new(alloc)),
         Action::Reject(code) => Ok(one(alloc, error_response(alloc, message, code)?)?),
         Action::Handle(notification) => {
-            let checks = &mut kept.checks;
-            reports(
+            handle(
                 alloc,
-                checks,
-                &server.documents,
+                server,
+                &mut kept.checks,
                 notification,
                 message,
                 shown,
@@ -152,7 +159,7 @@ pub fn perform(
 }
 
 /// One text to send.
-fn one(alloc: Global, text: String) -> Result<Vec<String>, AllocError>
+pub(crate) fn one(alloc: Global, text: String) -> Result<Vec<String>, AllocError>
     ensures { IfOk result (λ sent. map string_bytes sent.items ≡ string_bytes text ∷ []) }
 {
     let mut sent = Vec::new(alloc);
@@ -170,10 +177,14 @@ fn initialize(alloc: Global, server: &mut Server, message: &Option<Value>) -> Re
     ensures takes { OnOk result (server.new.takes_document_changes
         ≡ takes_after (Action.Answer Request.Initialize) (option_map view message.now)
         server.old.takes_document_changes) }
+    ensures watches { OnOk result (server.new.watches_files
+        ≡ watches_after (Action.Answer Request.Initialize) (option_map view message.now)
+        server.old.watches_files) }
 {
     if let Some(message) = message {
         server.folders = parameters::folders_of(alloc, message)?;
         server.takes_document_changes = takes_document_changes(message);
+        server.watches_files = watches_files(message);
     }
     Ok(())
 }
@@ -201,6 +212,7 @@ fn note_notification(
 ) -> Result<(), AllocError>
     ensures state { server.new.state ≡ server.old.state }
     ensures takes { server.new.takes_document_changes ≡ server.old.takes_document_changes }
+    ensures watches { server.new.watches_files ≡ server.old.watches_files }
     ensures folders { OnOk result (map string_bytes server.new.folders.items
         ≡ folders_after (Action.Handle notification) (option_map view message.now)
         (map string_bytes server.old.folders.items)) }
@@ -248,6 +260,7 @@ fn note_for(
         Notification::Initialized
         | Notification::Exit
         | Notification::DidChangeWorkspaceFolders
+        | Notification::DidChangeWatchedFiles
         | Notification::Other => Ok(()),
     }
 }

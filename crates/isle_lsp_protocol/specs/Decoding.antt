@@ -7,7 +7,7 @@ use Rattle.isle_lsp_escapes.specs.Mending.{mended}
 use Rattle.isle_lsp_protocol.specs.declared.machine.Request as requests
 use Rattle.isle_lsp_protocol.specs.declared.machine.Request.TheVariants.{Initialize, Shutdown, Formatting, DocumentSymbol, WorkspaceSymbol, Definition, References, DocumentHighlight, Hover, Completion, ResolveCompletion, PrepareRename, Rename, Unknown}
 use Rattle.isle_lsp_protocol.specs.declared.machine.Notification as notifications
-use Rattle.isle_lsp_protocol.specs.declared.machine.Notification.TheVariants.{Initialized, Exit, DidOpen, DidChange, DidClose, DidChangeWorkspaceFolders, Other}
+use Rattle.isle_lsp_protocol.specs.declared.machine.Notification.TheVariants.{Initialized, Exit, DidOpen, DidChange, DidClose, DidChangeWorkspaceFolders, DidChangeWatchedFiles, Other}
 use Rattle.isle_lsp_protocol.specs.declared.machine.Message as messages
 use Rattle.isle_lsp_protocol.specs.declared.machine.Message.TheVariants.{Request, Notification, Response, Invalid, Broken}
 
@@ -28,7 +28,8 @@ notification_of name =
     else (if bytes_eq name (codes "textDocument/didChange") then DidChange
     else (if bytes_eq name (codes "textDocument/didClose") then DidClose
     else (if bytes_eq name (codes "workspace/didChangeWorkspaceFolders") then DidChangeWorkspaceFolders
-    else Other)))))
+    else (if bytes_eq name (codes "workspace/didChangeWatchedFiles") then DidChangeWatchedFiles
+    else Other))))))
 
 abbrev pub request_of : List ℕ → requests.Request
 request_of name =

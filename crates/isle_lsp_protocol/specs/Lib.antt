@@ -5,4 +5,5 @@ pub mod Machine
 pub mod Parameters
 pub mod Replies
 pub mod Results
+pub mod Watching
 pub mod Written

@@ -77,6 +77,10 @@ version_of d = option_and_then as_i64 (option_and_then as_number (pointer (codes
 abbrev pub takes_document_changes : Data → Bool
 takes_document_changes d = is_true (option_and_then as_bool (pointer (codes "/params/capabilities/workspace/workspaceEdit/documentChanges") d))
 
+-- the client watches the files that a server names
+abbrev pub watches_files : Data → Bool
+watches_files d = is_true (option_and_then as_bool (pointer (codes "/params/capabilities/workspace/didChangeWatchedFiles/dynamicRegistration") d))
+
 -- ---- folders
 
 -- the URIs of these folders

@@ -92,6 +92,7 @@ fn notification_of(name: &str) -> Notification
         "textDocument/didChange" => Notification::DidChange,
         "textDocument/didClose" => Notification::DidClose,
         "workspace/didChangeWorkspaceFolders" => Notification::DidChangeWorkspaceFolders,
+        "workspace/didChangeWatchedFiles" => Notification::DidChangeWatchedFiles,
         _ => Notification::Other,
     }
 }

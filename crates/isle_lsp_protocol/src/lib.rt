@@ -8,4 +8,5 @@ pub mod machine;
 pub mod parameters;
 pub mod replies;
 pub mod results;
+pub mod watching;
 pub mod writing;

@@ -68,6 +68,8 @@ pub enum Notification {
     DidClose,
     /// The folders of the workspace have changed.
     DidChangeWorkspaceFolders,
+    /// Files that the client watches have changed.
+    DidChangeWatchedFiles,
     /// Any other method, which the server ignores.
     Other,
 }

@@ -107,6 +107,17 @@ pub fn takes_document_changes(message: &Value) -> bool
     }
 }
 
+/// Returns whether the client of an `initialize` watches the files that a server names.
+pub fn watches_files(message: &Value) -> bool
+    ensures { result ≡ wanted.watches_files (view message.now) }
+{
+    let path = "/params/capabilities/workspace/didChangeWatchedFiles/dynamicRegistration";
+    match message.pointer(path) {
+        Some(value) => value.as_bool() == Some(true),
+        None => false,
+    }
+}
+
 /// The URIs of the folders that the client of an `initialize` works in.
 ///
 /// Those of `workspaceFolders`; if there are none, `rootUri`, or else the URI of `rootPath`.

@@ -1,4 +1,4 @@
-use Rattle.std.proofs.Common.{ℕ, List, [], refl, ◌+◌, ◌∷◌, ◌++◌, ap, append_assoc, append-nil, drop, map, string_bytes, subst, sym, ◌∙◌}
+use Rattle.std.proofs.Common.{ℕ, List, [], refl, ◌+◌, ◌∷◌, ◌++◌, ap, append_assoc, append-nil, drop, map, option_map, string_bytes, subst, sym, ◌∙◌}
 use Rattle.std.proofs.lemmas.List.{drop_all, drop_more, map-append}
 use Rattle.isle_lsp_files.specs.Disks.{view_of}
 use Rattle.isle_lsp_files.specs.Documents.{document_of}
@@ -12,7 +12,7 @@ pub loop-document-preserved : goal.loop-document-preserved
 loop-document-preserved c = λ more left.
     let docs = map document_of c.args.documents.now in
     let view = view_of c.args.shown.now in
-    let uri = c.args.uri.now in
+    let uri = option_map (λ u. u.now) c.args.named in
     let documents = c.args.documents.now in
     let i = c.loop-document.document-index in
     let d = c.document-item.result in
@@ -42,7 +42,7 @@ pub returns-clause-ok : goal.returns-clause-ok
 returns-clause-ok c =
     let docs = map document_of c.args.documents.now in
     let view = view_of c.args.shown.now in
-    let uri = c.args.uri.now in
+    let uri = option_map (λ u. u.now) c.args.named in
     let none = drop_all c.loop-document.document-index c.args.documents.now c.loop-document-test.false in
     let Left : List Document → Type 0 = λ ds. AreReports docs view (others c.args.all uri view (map document_of ds)) [] in
     subst (AreReports docs view (others c.args.all uri view docs)) (append-nil (map string_bytes c.loop-document.sent.items))
