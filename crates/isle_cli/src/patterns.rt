@@ -3,16 +3,9 @@
 ghost use Rattle.std.specs.Prelude.{◌≡◌, map, string_bytes};
 ghost use Rattle.isle_cli.specs.Patterns as Patterns;
 
-/// Returns whether a pattern matches a name: `*` stands for any characters but `/`, and each other
-/// character for itself.
-pub fn matches(pattern: &str, name: &str) -> bool
-    ensures { result ≡ Patterns.matches pattern.now name.now }
-{
-    fits(pattern.as_bytes(), name.as_bytes(), false)
-}
-
 /// Returns whether an entry of a program's list stands for a path, if its file exists: the entry
-/// matches the path or a folder above it.
+/// matches the path or a folder above it. `*` stands for any characters but `/`, and each other
+/// character for itself.
 pub fn covers(entry: &str, path: &str) -> bool
     ensures { result ≡ Patterns.covers entry.now path.now }
 {
@@ -36,7 +29,7 @@ pub fn is_excluded(patterns: &[String], path: &str) -> bool
 fn excludes(pattern: &[u8], path: &[u8]) -> bool
     ensures { result ≡ Patterns.excludes pattern.now path.now }
 {
-    fits(pattern, path, false) || excludes_behind(pattern, path)
+    matches(pattern, path) || excludes_behind(pattern, path)
 }
 
 /// Returns whether a pattern matches what follows a `/` in a path.
@@ -46,9 +39,16 @@ fn excludes_behind(pattern: &[u8], path: &[u8]) -> bool
     match path {
         [] => false,
         [first, rest @ ..] => {
-            *first == b'/' && fits(pattern, rest, false) || excludes_behind(pattern, rest)
+            *first == b'/' && matches(pattern, rest) || excludes_behind(pattern, rest)
         }
     }
+}
+
+/// Returns whether a pattern matches a name.
+fn matches(pattern: &[u8], name: &[u8]) -> bool
+    ensures { result ≡ Patterns.matches pattern.now name.now }
+{
+    fits(pattern, name, false)
 }
 
 /// Returns whether a pattern matches a name, or with `below` a folder above it.

@@ -3,3 +3,5 @@ pub mod Messages
 pub mod Nesting
 pub mod Openings
 pub mod Reading
+pub mod SeveralPrograms
+pub mod SharedView

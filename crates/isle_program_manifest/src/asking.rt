@@ -7,6 +7,7 @@ use crate::choice::{Choice, ChoiceFault, Chosen, choose};
 use crate::membership::add_all;
 use isle_cli::arguments::{
     Argument, EXCLUDE_OPTION, Options, Request, has_flag, names_of, requested, setting_of,
+    settings_of,
 };
 use isle_cli::failure::Failure;
 use isle_cli::program::Program;
@@ -76,19 +77,11 @@ pub fn asked_choice<R: Files + Env + AllocGlobal + Clone + Drop>(
 }
 
 /// The names of the programs that are asked for; none for all of them.
-fn program_names(alloc: Global, arguments: &[Argument]) -> Result<Vec<&str>, AllocError> {
-    let mut names = Vec::new(alloc);
+fn program_names(alloc: Global, arguments: &[Argument]) -> Result<Vec<String>, AllocError> {
     if has_flag(arguments, ALL_OPTION) {
-        return Ok(names);
+        return Ok(Vec::new(alloc));
     }
-    for argument in arguments {
-        if let Argument::Setting(option, name) = argument {
-            if option.as_str() == NAME_OPTION {
-                names.push(name.as_str())?;
-            }
-        }
-    }
-    Ok(names)
+    settings_of(alloc, arguments, NAME_OPTION)
 }
 
 /// Writes why no programs are chosen, and returns the exit status: 2 for a mistake of the manifest

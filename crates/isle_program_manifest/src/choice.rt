@@ -69,7 +69,7 @@ pub fn choose<R: Files + Env + AllocGlobal + Clone + Drop>(
     rt: &R,
     tool: &Program,
     folder: Option<&str>,
-    names: &[&str],
+    names: &[String],
 ) -> Result<Choice, ChoiceFault> {
     let top = match manifest_folder(rt, tool, folder)? {
         Some(top) => top,
@@ -172,11 +172,12 @@ fn mistake_line(
 }
 
 /// The first of the names that no program has.
-fn unknown_program<'a>(manifest: &Manifest, names: &[&'a str]) -> Option<&'a str> {
+fn unknown_program<'a>(manifest: &Manifest, names: &'a [String]) -> Option<&'a str> {
     for name in names {
-        let is_known = |program: &ProgramFiles| program.name.as_str() == *name;
+        let name = name.as_str();
+        let is_known = |program: &ProgramFiles| program.name.as_str() == name;
         if !manifest.programs.iter().any(is_known) {
-            return Some(*name);
+            return Some(name);
         }
     }
     None
@@ -187,7 +188,7 @@ fn with_files<R: Files + AllocGlobal + Clone + Drop>(
     rt: &R,
     top: &str,
     manifest: &Manifest,
-    names: &[&str],
+    names: &[String],
 ) -> Result<Vec<Chosen>, ChoiceFault> {
     let mut chosen = Vec::new(rt.alloc());
     for program in &manifest.programs {
@@ -200,8 +201,8 @@ fn with_files<R: Files + AllocGlobal + Clone + Drop>(
     Ok(chosen)
 }
 
-fn is_wanted(names: &[&str], name: &str) -> bool {
-    names.is_empty() || names.iter().any(|wanted| *wanted == name)
+fn is_wanted(names: &[String], name: &str) -> bool {
+    names.is_empty() || has_file(names, name)
 }
 
 /// The folder of the nearest manifest, as it is shown; the current folder is empty.
