@@ -3,8 +3,8 @@ pub mod Completing
 pub mod Depths
 pub mod FirstPieces
 pub mod Gathering
+pub mod Growing
 pub mod Letters
 pub mod Lists
-pub mod Pieces
 pub mod Renewing
-pub mod Rests
+pub mod Walking

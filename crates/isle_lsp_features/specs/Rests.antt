@@ -6,6 +6,10 @@ use Rattle.isle_base.specs.Lexing.{lexes}
 use Rattle.isle_base.specs.Token.{Tok, lparen, rparen, symbol, integer, at_sign, Ending, Lexeme}
 use Rattle.isle_lsp_features.specs.declared.rests.Lists.{Lists}
 
+-- so many lists have yet to end, and none is open
+abbrev pub all_left : (count : ℕ) → Lists
+all_left count = record { left = count; depth = 0 }
+
 -- which lists have yet to end after a token
 abbrev pub lists_after : Lists → Tok → Lists
 lists_after n lparen = record { left = n.left; depth = n.depth + 1 }
@@ -24,7 +28,7 @@ pub record IsBehind (text : List ℕ) (count : ℕ) (place : Option ℕ) : Type 
   pub tokens : List Lexeme
   pub ending : Ending
   pub lexed : lexes text tokens ending
-  pub is : place ≡ behind (record { left = count; depth = 0 }) tokens
+  pub is : place ≡ behind (all_left count) tokens
 
 abbrev pub begins_list : List ℕ → Bool
 begins_list [] = false

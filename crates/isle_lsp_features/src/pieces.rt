@@ -57,11 +57,13 @@ pub(crate) fn add_text(
 {
     let mut refusals = Vec::new(alloc);
     let mut piece = String::from_str(alloc, text)?;
-    for _ in 0..MOST_PIECES {
+    let mut left = MOST_PIECES;
+    while left > 0 {
         match add_piece(alloc, file, piece.as_str(), index, &mut refusals)? {
             Some(rest) => piece = rest,
             None => return Ok(refusals),
         }
+        left -= 1;
     }
     Ok(refusals)
 }

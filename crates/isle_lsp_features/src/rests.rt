@@ -1,11 +1,12 @@
 //! What is left to read of a text behind a definition that is broken.
 
-ghost use Rattle.std.specs.Prelude.{◌≡◌, ◌+◌, ◌<◌, ◌≤◌, ◌^◌, ◌∷◌, IfOk, IfSome, codes, drop};
-ghost use Rattle.std.specs.Prelude.{length, option_map, string_bytes};
+ghost use Rattle.std.specs.Prelude.{◌≡◌, ◌+◌, ◌<◌, ◌^◌, IfOk, IfSome, drop, option_map};
+ghost use Rattle.std.specs.Prelude.{string_bytes};
 ghost use Rattle.std.specs.Str.{IsCharBoundary};
+ghost use Rattle.isle_base.specs.Token.{rparen};
 ghost use Rattle.isle_base.specs.TokenView.{token_of_ref};
 ghost use Rattle.isle_lsp_features.specs.Rests as wanted;
-ghost use Rattle.isle_lsp_features.specs.Rests.{IsBehind, IsRest, lists_after};
+ghost use Rattle.isle_lsp_features.specs.Rests.{IsBehind, IsRest, all_left, behind, lists_after};
 
 use isle_base::lexer::Fault;
 use isle_base::scanner::{Scanner, TokenRef};
@@ -48,7 +49,7 @@ fn behind_lists(alloc: Global, text: &str, count: usize) -> Result<Option<usize>
 
 /// The same among the tokens that a scanner has not read yet.
 fn behind_ahead(mut scanner: Scanner, count: usize) -> Option<usize>
-    ensures { result ≡ wanted.behind (record { left = count; depth = 0 }) scanner.entry.coming }
+    ensures { result ≡ behind (all_left count) scanner.entry.coming }
 {
     let mut lists = Lists {
         left: count,
