@@ -16,6 +16,8 @@ SYMBOL = re.compile(r"[^();@\f \t\r\n]+")
 DEFINITIONS = {it: it for it in "type decl rule extractor extern convert attr spec model form instantiate".split()}
 DEFINITIONS |= {"macro": "other", "state": "other"}
 RADIXES = {"x": 16, "o": 8, "b": 2}
+# So many broken definitions of one text are passed over.
+MOST_BROKEN = 100
 
 
 class Mark(NamedTuple):
@@ -413,28 +415,43 @@ class Reader:
 
 
 class Reading:
-    """What is known of a text: its names, up to the first definition that does not parse."""
+    """What is known of a text: the names of the definitions that parse."""
 
     def __init__(self, text):
         self.text, self.lines = text, Lines(text)
-        tokens, is_faulty = tokens_of(text)
-        reader, self.is_broken = Reader(tokens), is_faulty
-        known, self.definitions = 0, []
+        self.marks, self.left, self.definitions, self.broken = [], set(), [], 0
+        start = 0
+        while start is not None and self.broken < MOST_BROKEN:
+            start = self.read_piece(" " * start + text[start:])
+        # Definitions are told in the order of the text, and those of a type before its variants.
+        self.symbols = [it for it in self.marks if it.defines and it.kind != VARIABLE]
+        self.marks.sort(key=lambda it: it.start)
+        self.declared = {it.name for it in self.symbols if it.kind == TERM and it.owner is None}
+
+    def read_piece(self, piece):
+        """Reads definitions up to one that is broken, and returns the next line behind its start that begins with `(`, if there is one."""
+        tokens, is_faulty = tokens_of(piece)
+        reader, known, behind = Reader(tokens), 0, 0
         while reader.at < len(tokens):
             try:
                 reader.definition()
             except Refused:
-                self.is_broken = True
                 break
             if is_faulty and reader.at == len(tokens):
                 break  # nobody knows whether the definition before a lexical error ends there
-            known = len(reader.marks)
-            self.definitions.append((reader.begun, tokens[reader.at - 1].end))
-        # Definitions are told in the order of the text, and those of a type before its variants.
-        self.marks, self.left = reader.marks[:known], reader.left
-        self.symbols = [it for it in self.marks if it.defines and it.kind != VARIABLE]
-        self.marks.sort(key=lambda it: it.start)
-        self.declared = {it.name for it in self.symbols if it.kind == TERM and it.owner is None}
+            known, behind = len(reader.marks), reader.at
+            self.definitions.append((reader.begun, tokens[behind - 1].end))
+        self.marks += reader.marks[:known]
+        self.left |= reader.left
+        if behind == len(tokens) and not is_faulty:
+            return None
+        self.broken += 1
+        line = piece.find("\n(", tokens[behind].start if behind < len(tokens) else 0)
+        return None if line < 0 else line + 1
+
+    @property
+    def is_broken(self):
+        return self.broken > 0
 
     def at(self, offset):
         """The name at a place, or right before it."""

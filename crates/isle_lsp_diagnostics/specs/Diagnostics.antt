@@ -1,5 +1,6 @@
 -- The diagnostics of a text, on its own and in its programs.
-use Rattle.std.specs.Prelude.{◌≡◌, ℕ, ◌+◌, ◌-◌, ◌⊎◌, List, [], ◌∷◌, ◌++◌, None, Some, filter, length, map, min, not, codes, string_bytes}
+use Rattle.std.specs.Prelude.{◌≡◌, ℕ, ◌+◌, ◌-◌, ◌⊎◌, List, [], ◌∷◌, ◌++◌, None, filter, length, map, min, not, codes, string_bytes}
+use Rattle.std.specs.List.{flat_map}
 use Rattle.std.specs.List.Sorted.{IsPermutation, IsSortedByKey}
 use Rattle.isle_ast.specs.Tree.{Definition}
 use Rattle.isle_base_source.specs.PositionOrder.{position_cmp}
@@ -11,9 +12,12 @@ use Rattle.isle_lint_core.specs.Lint.{all_lints, is_default, message}
 use Rattle.isle_lint_core.specs.declared.finding.Finding.{Finding}
 use Rattle.isle_program.specs.Allowances.{Allowance, AreAllowances, is_allowed}
 use Rattle.isle_program.specs.Nesting.{FirstDeep}
-use Rattle.isle_program.specs.Reading.{IsRefusedWith, IsTreeOf}
+use Rattle.isle_program.specs.Reading.{IsDeepWith, IsRefusedWith, IsTreeOf}
+use Rattle.isle_lsp_features.specs.Pieces.{AreRefusals}
 use Rattle.isle_lsp_features.specs.Programs.{Text}
-use Rattle.isle_lsp_diagnostics.specs.Checked.{AreChecked}
+use Rattle.isle_lsp_features.specs.declared.pieces.Refusal.{Refusal}
+use Rattle.isle_lsp_features.specs.declared.pieces.Refusal.TheVariants as refused
+use Rattle.isle_lsp_diagnostics.specs.Checked.{AreChecked, all_added}
 use Rattle.isle_lsp_diagnostics.specs.Marks.{Mark, lint, parser}
 
 -- the message of a finding
@@ -53,12 +57,6 @@ pub record AreTreeMarks (programs : List (List Text)) (file text : List ℕ) (ds
   pub linted : AreMarksOf text ds lints
   pub are : marks ≡ checks ++ lints
 
--- the marks of a text: of its tree, or why it has none
-abbrev pub AreShallowMarks : (programs : List (List Text)) → (file text : List ℕ) → List Mark → Type 0
-AreShallowMarks programs file text marks =
-    ((ds : List Definition) × IsTreeOf 0 text ds × AreTreeMarks programs file text ds marks)
-    ⊎ ((e : errors.Error) × IsRefusedWith 0 text e × (marks ≡ error_mark text e))
-
 -- the diagnostic of a text that nests too deeply, at the first token that does
 abbrev pub deep_mark : List ℕ → ℕ → Mark
 deep_mark text offset =
@@ -70,8 +68,21 @@ deep_mark text offset =
       message = codes "more than 500 lists in one another, or '@' in one definition";
     }
 
--- the marks of any text, which is this file of the programs; one that nests too deeply has that mark alone
+-- why a piece of a text is refused
+abbrev pub refusal_marks : List ℕ → Refusal → List Mark
+refusal_marks text (refused.Error e) = error_mark text e
+refusal_marks text (refused.Deep offset) = deep_mark text offset ∷ []
+
+-- the marks of why the pieces of a text are refused, one after another, each once
+abbrev pub AreRefusedMarks : List ℕ → List Mark → Type 0
+AreRefusedMarks text marks = (rs : List Refusal) × AreRefusals text rs × (marks ≡ all_added [] (flat_map (refusal_marks text) rs))
+
+-- a text spells no tree, or nests too deeply
+abbrev pub IsRefused : List ℕ → Type 0
+IsRefused text = (e : errors.Error) × ((FirstDeep text None × IsRefusedWith 0 text e) ⊎ IsDeepWith 0 text e)
+
+-- the marks of any text, which is this file of the programs: of its tree, or why its pieces are refused
 abbrev pub AreMarks : (programs : List (List Text)) → (file text : List ℕ) → List Mark → Type 0
 AreMarks programs file text marks =
-    ((offset : ℕ) × FirstDeep text (Some offset) × (marks ≡ deep_mark text offset ∷ []))
-    ⊎ (FirstDeep text None × AreShallowMarks programs file text marks)
+    (FirstDeep text None × ((ds : List Definition) × IsTreeOf 0 text ds × AreTreeMarks programs file text ds marks))
+    ⊎ (IsRefused text × AreRefusedMarks text marks)

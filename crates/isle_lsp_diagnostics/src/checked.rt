@@ -130,7 +130,10 @@ fn part_end(text: &str, start: usize) -> usize
 }
 
 /// Adds the diagnostics that are not there yet.
-fn add_each_once(diagnostics: &mut Vec<Diagnostic>, more: &[Diagnostic]) -> Result<(), AllocError>
+pub fn add_each_once(
+    diagnostics: &mut Vec<Diagnostic>,
+    more: &[Diagnostic],
+) -> Result<(), AllocError>
     ensures { OnOk result (map mark_of diagnostics.new.items
         ≡ wanted.all_added (map mark_of diagnostics.old.items) (map mark_of more.now)) }
 {

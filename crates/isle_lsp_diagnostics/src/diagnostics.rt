@@ -1,4 +1,4 @@
-//! The diagnostics of an ISLE text: that it nests too deeply, or its parse error. Or else what the
+//! The diagnostics of an ISLE text: its parse errors, or that it nests too deeply. Or else what the
 //! check of its programs finds in it, and then the findings of the lints that are on by default,
 //! except those that comments allow.
 //!
@@ -6,6 +6,7 @@
 
 ghost use Rattle.std.specs.Prelude.{◌≡◌, ◌++◌, ◌∷◌, [], IfErr, IfOk, filter, length, map};
 ghost use Rattle.std.specs.Prelude.{string_bytes};
+ghost use Rattle.std.specs.List.{flat_map};
 ghost use Rattle.isle_ast.specs.TreeView.{definitions_of};
 ghost use Rattle.isle_base_source.specs.declared.error.Error as errors;
 ghost use Rattle.isle_cli.specs.declared.failure.Failure.TheVariants.{Memory};
@@ -13,12 +14,13 @@ ghost use Rattle.isle_lint_core.specs.Finding.{finding_of};
 ghost use Rattle.isle_lint_core.specs.Lint.{all_lints, is_default};
 ghost use Rattle.isle_lsp_features.specs.Programs.{text_of};
 ghost use Rattle.isle_lsp_diagnostics.specs.Checked.{AreChecked};
-ghost use Rattle.isle_lsp_diagnostics.specs.Diagnostics.{AreMarks, AreMarksOf, AreShallowMarks};
+ghost use Rattle.isle_lsp_diagnostics.specs.Diagnostics.{AreMarks, AreMarksOf, AreRefusedMarks};
 ghost use Rattle.isle_lsp_diagnostics.specs.Diagnostics.{AreTreeMarks, deep_mark, error_mark};
-ghost use Rattle.isle_lsp_diagnostics.specs.Diagnostics.{found_mark, found_text, shown};
+ghost use Rattle.isle_lsp_diagnostics.specs.Diagnostics.{found_mark, found_text, refusal_marks};
+ghost use Rattle.isle_lsp_diagnostics.specs.Diagnostics.{shown};
 ghost use Rattle.isle_lsp_diagnostics.specs.Marks.{mark_of};
 
-use crate::checked::check_diagnostics;
+use crate::checked::{add_each_once, check_diagnostics};
 use crate::checks::Checks;
 use isle_ast::ast::Def;
 use isle_base::lexer::Fault;
@@ -26,10 +28,10 @@ use isle_base_source::error::Error;
 use isle_cli::failure::Failure;
 use isle_lint_core::{Finding, Lint, findings};
 use isle_lsp_features::Text;
+use isle_lsp_features::pieces::{Refusal, refusals};
 use isle_parser::dropping::drop_definitions;
 use isle_program::allowances::Allowances;
-use isle_program::nesting::deep_list;
-use isle_program::trees::read_defs;
+use isle_program::trees::read_shallow_defs;
 use std::alloc::{AllocError, Global};
 
 /// Who found what a diagnostic tells.
@@ -64,9 +66,10 @@ pub struct Diagnostic {
 /// What is wrong with a text that nests more deeply than `deep_list` takes.
 const DEEP: &str = "more than 500 lists in one another, or '@' in one definition";
 
-/// The diagnostics of a text, which is this file of the programs: where it nests too deeply, or the
-/// parse error. Or else what `isle-check` tells of it in these programs, and then the findings of
-/// `isle-lint` without options, in order of position. The only error is `Memory`.
+/// The diagnostics of a text, which is this file of the programs: the parse error of each piece,
+/// in the order of the pieces, and where one nests too deeply. Or else what `isle-check` tells of
+/// it in these programs, and then the findings of `isle-lint` without options, in order of
+/// position. The only error is `Memory`.
 pub fn diagnostics(
     alloc: Global,
     checks: &mut Checks,
@@ -78,9 +81,57 @@ pub fn diagnostics(
         file.now text.now (map mark_of found.items)) }
     ensures err { IfErr result (λ failure. failure ≡ Memory) }
 {
-    match deep_list(alloc, text)? {
-        Some(offset) => Ok(deep_diagnostics(alloc, text, offset)?),
-        None => shallow_diagnostics(alloc, checks, programs, file, text),
+    match read_shallow_defs(alloc, 0, text) {
+        Ok(defs) => {
+            let found = tree_diagnostics(alloc, checks, programs, file, text, &defs);
+            drop_definitions(defs);
+            found
+        }
+        Err(Fault::Error(_)) => refused_diagnostics(alloc, text),
+        Err(Fault::Failed | Fault::Memory) => Err(Failure::Memory),
+    }
+}
+
+/// The diagnostics of a text that does not parse, or nests too deeply. What several pieces are
+/// refused with stands once.
+fn refused_diagnostics(alloc: Global, text: &str) -> Result<Vec<Diagnostic>, Failure>
+    ensures ok { IfOk result (λ found. AreRefusedMarks text.now (map mark_of found.items)) }
+    ensures err { IfErr result (λ failure. failure ≡ Memory) }
+{
+    let all = all_refusals(alloc, text, refusals(alloc, text)?)?;
+    let mut diagnostics = Vec::new(alloc);
+    add_each_once(&mut diagnostics, &all)?;
+    Ok(diagnostics)
+}
+
+/// The diagnostics of all refusals of a text.
+fn all_refusals(
+    alloc: Global,
+    text: &str,
+    refusals: Vec<Refusal>,
+) -> Result<Vec<Diagnostic>, AllocError>
+    ensures { IfOk result (λ diagnostics. map mark_of diagnostics.items
+        ≡ flat_map (refusal_marks text.now) refusals.items) }
+{
+    let mut diagnostics = Vec::new(alloc);
+    for refusal in refusals {
+        let mut more = refusal_diagnostics(alloc, text, refusal)?;
+        diagnostics.append(&mut more)?;
+    }
+    Ok(diagnostics)
+}
+
+fn refusal_diagnostics(
+    alloc: Global,
+    text: &str,
+    refusal: Refusal,
+) -> Result<Vec<Diagnostic>, AllocError>
+    ensures { IfOk result
+        (λ diagnostics. map mark_of diagnostics.items ≡ refusal_marks text.now refusal) }
+{
+    match refusal {
+        Refusal::Error(error) => error_diagnostics(alloc, text, error),
+        Refusal::Deep(offset) => deep_diagnostics(alloc, text, offset),
     }
 }
 
@@ -100,30 +151,6 @@ fn deep_diagnostics(alloc: Global, text: &str, offset: usize) -> Result<Vec<Diag
         message,
     })?;
     Ok(diagnostics)
-}
-
-/// The diagnostics of a text that does not nest too deeply.
-fn shallow_diagnostics(
-    alloc: Global,
-    checks: &mut Checks,
-    programs: &[Vec<Text>],
-    file: &str,
-    text: &str,
-) -> Result<Vec<Diagnostic>, Failure>
-    ensures ok { IfOk result (λ found. AreShallowMarks
-        (map (λ p. map text_of p.items) programs.now) file.now text.now
-        (map mark_of found.items)) }
-    ensures err { IfErr result (λ failure. failure ≡ Memory) }
-{
-    match read_defs(alloc, 0, text) {
-        Ok(defs) => {
-            let found = tree_diagnostics(alloc, checks, programs, file, text, &defs);
-            drop_definitions(defs);
-            found
-        }
-        Err(Fault::Error(error)) => Ok(error_diagnostics(alloc, text, error)?),
-        Err(Fault::Failed | Fault::Memory) => Err(Failure::Memory),
-    }
 }
 
 /// The diagnostics of a text with these definitions.

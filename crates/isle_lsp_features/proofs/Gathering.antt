@@ -1,6 +1,6 @@
 -- The index of a program, as it grows by one text.
-use Rattle.std.proofs.Common.{◌≡◌, ℕ, length, List, [], ◌∷◌, ◌++◌, Bool, false, refl, sym, subst, arith, append_assoc, Err, inl, inr}
-use Rattle.std.proofs.lemmas.List.{append-nil}
+use Rattle.std.proofs.Common.{◌≡◌, ℕ, ◌+◌, length, List, [], ◌∷◌, ◌++◌, Bool, false, refl, sym, subst, arith, append_assoc, Err, inl, inr}
+use Rattle.std.proofs.lemmas.List.{append-nil, length-append}
 use Rattle.isle_base_source.specs.declared.error.Error.{Error}
 use Rattle.isle_ast.specs.Grammar.{SpellsDefinition}
 use Rattle.isle_ast.specs.Tree.{Definition}
@@ -24,7 +24,7 @@ use Rattle.isle_base.specs.declared.fault.Fault.{Fault}
 use Rattle.isle_base.specs.declared.fault.Fault.TheVariants as faults
 use Rattle.isle_parser.specs.Parsed.{Parses, RefusesText, SpellsOnly}
 use Rattle.isle_program.proofs.ReadingLemmas.{read-tree, refused-start, refused-tree}
-use Rattle.isle_lsp_features.specs.Gathered.{AddsDefinitions, Grows, IsFront}
+use Rattle.isle_lsp_features.specs.Pieces.{AddsDefinitions, Grows, IsFront}
 
 -- definitions that are spelt one after another, and one more
 pub spelt-on : (ds : List Definition) (d : Definition) (all mid rest : List Placed) → SpellsAll SpellsDefinition ds all mid → SpellsDefinition d mid rest → SpellsAll SpellsDefinition (ds ++ d ∷ []) all rest
@@ -42,33 +42,37 @@ no-more-after old e h = elim h.because [
   | inr at_fault ↦ at_fault.1
 ]
 
--- what was read of a text, and added
-pub record ReadsOn (start now : Parser) (old new : Index) : Type 0 where
+-- what was read of a text, and added, so many definitions
+pub record ReadsOn (start now : Parser) (old new : Index) (count : ℕ) : Type 0 where
   pub front : List Definition
   pub same : source now.cursor ≡ source start.cursor
   pub so_far : behind_front front (many ends definition (tokens now.cursor)) ≡ definitions (tokens start.cursor)
   pub live : has_failed now ≡ is_failed start.cursor.scanner
   pub spelt : SpellsAll SpellsDefinition front (tokens start.cursor) (tokens now.cursor)
   pub grows : Grows front old new
+  pub counted : count ≡ length front
 
 pub grows-start : (index : Index) → Grows [] index index
 grows-start index = λ ds is. subst (λ xs. IsIndexOf xs index) (sym (append-nil ds)) is
 
-pub grows-on : (begun : List Definition) (d : Definition) (old mid new : Index) → Grows begun old mid → Grows (d ∷ []) mid new → Grows (begun ++ d ∷ []) old new
-grows-on begun d old mid new first second = λ ds is. subst (λ xs. IsIndexOf xs new) (append_assoc ds begun (d ∷ [])) (second (ds ++ begun) (first ds is))
+pub grows-on : (begun more : List Definition) (old mid new : Index) → Grows begun old mid → Grows more mid new → Grows (begun ++ more) old new
+grows-on begun more old mid new first second = λ ds is. subst (λ xs. IsIndexOf xs new) (append_assoc ds begun more) (second (ds ++ begun) (first ds is))
+
+pub one-counted : (begun : List Definition) (d : Definition) (count : ℕ) → count ≡ length begun → count + 1 ≡ length (begun ++ d ∷ [])
+one-counted begun d count is = let both = length-append begun (d ∷ []) in omega (arith, is, both)
 
 -- a text that does not lex at its start
-pub refused-at-start : (file : ℕ) (text : List ℕ) (f : Fault) (index : Index) → IfError (RefusesStart file text) f → AddsDefinitions file text index index (Err f)
-refused-at-start file text (faults.Error e) index s =
-    ([], (refused-start file text (faults.Error e) s, record { tokens = []; ending = fault s.0; lexed = s.1; rest = []; spelt = refl; no_more = none-spelt }), grows-start index)
-refused-at-start file text faults.Failed index s = tt
-refused-at-start file text faults.Memory index s = tt
+pub refused-at-start : (file : ℕ) (text : List ℕ) (f : Fault) (index : Index) (count : ℕ) → count ≡ 0 → IfError (RefusesStart file text) f → AddsDefinitions file text index index count (Err f)
+refused-at-start file text (faults.Error e) index count none s =
+    ([], (refused-start file text (faults.Error e) s, record { tokens = []; ending = fault s.0; lexed = s.1; rest = []; spelt = refl; no_more = none-spelt }), grows-start index, none)
+refused-at-start file text faults.Failed index count none s = tt
+refused-at-start file text faults.Memory index count none s = tt
 
 -- a text that is refused after these definitions
-failing : (file : ℕ) (text : List ℕ) (f : Fault) (ds : List Definition) (old new : Index) → IsReadAs file text (Err f) → IfError (λ e. IsFront file text ds) f → Grows ds old new → AddsDefinitions file text old new (Err f)
-failing file text (faults.Error e) ds old new is begun grows = (ds, (is, begun), grows)
-failing file text faults.Failed ds old new is begun grows = tt
-failing file text faults.Memory ds old new is begun grows = tt
+failing : (file : ℕ) (text : List ℕ) (f : Fault) (ds : List Definition) (old new : Index) (count : ℕ) → IsReadAs file text (Err f) → IfError (λ e. IsFront file text ds) f → Grows ds old new → count ≡ length ds → AddsDefinitions file text old new count (Err f)
+failing file text (faults.Error e) ds old new count is begun grows counted = (ds, (is, begun), grows, counted)
+failing file text faults.Failed ds old new count is begun grows counted = tt
+failing file text faults.Memory ds old new count is begun grows counted = tt
 
 -- what is known of the parser of a text, at its start
 pub record Starts (number : ℕ) (text : List ℕ) (feed : Feed) (start : Parser) : Type 0 where
@@ -96,14 +100,14 @@ front-of number text feed start now ds (faults.Error e) starts spelt h =
 front-of number text feed start now ds faults.Failed starts spelt h = tt
 front-of number text feed start now ds faults.Memory starts spelt h = tt
 
-pub stopped : (number : ℕ) (text : List ℕ) (feed : Feed) (start now : Parser) (old new : Index) (f : Fault) → Starts number text feed start → ReadsOn start now old new →
-    IfError (RefusesNext now.cursor) f → Parses (placing start.cursor.disable_pos start.cursor.scanner.file) start.cursor.scanner (Err f) → AddsDefinitions number text old new (Err f)
-stopped number text feed start now old new f starts reads because h =
+pub stopped : (number : ℕ) (text : List ℕ) (feed : Feed) (start now : Parser) (old new : Index) (count : ℕ) (f : Fault) → Starts number text feed start → ReadsOn start now old new count →
+    IfError (RefusesNext now.cursor) f → Parses (placing start.cursor.disable_pos start.cursor.scanner.file) start.cursor.scanner (Err f) → AddsDefinitions number text old new count (Err f)
+stopped number text feed start now old new count f starts reads because h =
     let Places : Bool → Type 0 = λ b. RefusesText (placing b start.cursor.scanner.file) start.cursor.scanner f in
     let Feeds : Feed → Type 0 = λ s. RefusesText (in_file s.file) s f in
     let refused : RefusesText (in_file feed.file) feed f = subst Feeds starts.lexer (subst Places starts.positions h.0) in
-    failing number text f reads.front old new (refused-tree number text feed f starts.file starts.size starts.tokens refused)
-    (front-of number text feed start now reads.front f starts reads.spelt because) reads.grows
+    failing number text f reads.front old new count (refused-tree number text feed f starts.file starts.size starts.tokens refused)
+    (front-of number text feed start now reads.front f starts reads.spelt because) reads.grows reads.counted
 
 pub whole : (number : ℕ) (text : List ℕ) (feed : Feed) (start : Parser) (begun : List Definition) → Starts number text feed start →
     SpellsOnly (placing start.cursor.disable_pos start.cursor.scanner.file) start.cursor.scanner begun → IsTreeOf number text begun

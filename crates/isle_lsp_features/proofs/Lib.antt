@@ -1,7 +1,10 @@
 pub mod Changing
 pub mod Completing
 pub mod Depths
+pub mod FirstPieces
 pub mod Gathering
+pub mod Growing
 pub mod Letters
 pub mod Lists
 pub mod Renewing
+pub mod Walking

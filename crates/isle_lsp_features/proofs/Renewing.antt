@@ -11,7 +11,9 @@ use Rattle.isle_index.specs.declared.Index.{Index}
 use Rattle.isle_lsp_features.specs.Programs.{Text, bytes_of, text_of}
 use Rattle.isle_lsp_features.specs.declared.Text.{Text as CodeText}
 use Rattle.isle_lsp_features.specs.declared.known.Known.{Known}
-use Rattle.isle_lsp_features.specs.Gathered.{AddsText, AreKept, AreParts, IsGathered, IsKept, IsOf, IsPart, Kept, Part, Renews, all_known, bytes_in, events_in, is_refused, kept_of, known, refused_count, refused_in}
+use Rattle.isle_lsp_features.specs.Gathered.{AreKept, AreParts, IsGathered, IsKept, IsOf, IsPart, Kept, Part, Renews, all_known, bytes_in, events_in, kept_of, refused_count, refused_in}
+use Rattle.isle_lsp_features.specs.Pieces.{AddsText, is_refused, known}
+use Rattle.isle_lsp_features.specs.declared.pieces.Refusal.{Refusal}
 
 next : (i : ℕ) → suc i ≡ i + 1
 next i = omega arith
@@ -92,10 +94,6 @@ kept-count file (k ∷ ks) (p ∷ ps) each =
     let both = count-both (known p) (all_known ps) in
     sum-on (λ x. x.events) k ks ∙ ap (λ n. k.events + n) later ∙ ap (λ n. n + event_count (all_known ps)) each.0.1 ∙ sym both
 
-twice : (b : Bool) → not (not b) ≡ b
-twice true = refl
-twice false = refl
-
 abbrev pub refused-if : Bool → ℕ
 refused-if is = cond is 1 0
 
@@ -133,14 +131,14 @@ Replaces start stop end old new = (before gone after_them more : List Definition
     stop ≡ event_count (before ++ gone) → end ≡ event_count (before ++ gone ++ after_them) → IsIndexOf (before ++ more ++ after_them) new
 
 -- one text is added at the end, and then moves to the place of another
-pub renewed : (ks : List Kept) (file : ℕ) (text : List ℕ) (k : Kept) (old more new : Index) (is_tree : Bool) (start stop end events : ℕ) →
-    file ≤ length ks → IsOf ks old → AddsText file text old more is_tree → start ≡ events_in (take file ks) → stop ≡ events_in (take (file + 1) ks) →
+pub renewed : (ks : List Kept) (file : ℕ) (text : List ℕ) (k : Kept) (old more new : Index) (rs : List Refusal) (start stop end events : ℕ) →
+    file ≤ length ks → IsOf ks old → AddsText file text old more rs → start ≡ events_in (take file ks) → stop ≡ events_in (take (file + 1) ks) →
     ((ds : List Definition) → IsIndexOf ds old → end ≡ event_count ds) → ((ds : List Definition) → IsIndexOf ds more → events ≡ event_count ds) →
-    Replaces start stop end more new → k.bytes ≡ text → k.events ≡ events - end → k.is_refused ≡ not is_tree →
+    Replaces start stop end more new → k.bytes ≡ text → k.events ≡ events - end → k.is_refused ≡ not (length rs == 0) →
     IsOf (take file ks ++ k ∷ drop (file + 1) ks) new
-renewed ks file text k old more new is_tree start stop end events within before adds at_start at_stop at_end at_events replaces is_text has_events is_not =
+renewed ks file text k old more new rs start stop end events within before adds at_start at_stop at_end at_events replaces is_text has_events is_not =
     let ps = before.parts in
-    let p = adds.part in
+    let p = adds.pieces in
     let a = all_known (take file ps) in
     let b = all_known (take 1 (drop file ps)) in
     let c = all_known (drop (file + 1) ps) in
@@ -161,7 +159,7 @@ renewed ks file text k old more new is_tree start stop end events within before 
     let all : events ≡ event_count (all_known ps ++ d) = at_events (all_known ps ++ d) grown in
     let both = count-both (all_known ps) d in
     let own : k.events ≡ event_count d = omega (arith, has_events, ended, all, both) in
-    let one : IsKept file k p = (subst (λ t. IsPart file t p) (sym is_text) adds.is, own, is_not ∙ ap not adds.spells ∙ twice (is_refused p)) in
+    let one : IsKept file k p = (subst (λ t. IsPart file t p) (sym is_text) adds.are, own, is_not ∙ ap (λ xs. not (length xs == 0)) adds.refused) in
     let Back : ℕ → Type 0 = λ n. AreKept n (drop (file + 1) ks) (drop (file + 1) ps) in
     let next : 0 + (file + 1) ≡ file + 1 = omega arith in
     let back = subst Back next (kept-back 0 (file + 1) ks ps before.read) in

@@ -1,49 +1,19 @@
 -- The index of a program.
-use Rattle.std.specs.Prelude.{◌≡◌, ℕ, ◌+◌, List, [], ◌∷◌, ◌++◌, ◌⊎◌, Bool, true, false, not, None, Some, Result, Ok, Err, count_by, drop, map, string_bytes, take}
+use Rattle.std.specs.Prelude.{◌≡◌, ℕ, ◌+◌, List, [], ◌∷◌, ◌++◌, Bool, Some, count_by, drop, map, string_bytes, take}
 use Rattle.std.specs.List.{flat_map, sum_by}
-use Rattle.std.specs.Str.{IsCharBoundary}
-use Rattle.isle_ast.specs.Grammar.{SpellsDefinition}
 use Rattle.isle_ast.specs.Tree.{Definition}
-use Rattle.isle_ast_names.specs.Words.{SpellsAll}
-use Rattle.isle_base.specs.Lexing.{lexes}
-use Rattle.isle_base.specs.Place.{Placed, in_file, placed}
-use Rattle.isle_base.specs.Token.{Ending, Lexeme}
-use Rattle.isle_base.specs.declared.fault.Fault.{Fault}
-use Rattle.isle_base.specs.declared.fault.Fault.TheVariants as faults
+use Rattle.isle_lsp_features.specs.Pieces.{ArePieces, Piece, is_refused, known, most_pieces}
 use Rattle.isle_lsp_features.specs.Programs.{Text}
 use Rattle.isle_lsp_features.specs.declared.known.Known.{Known}
-use Rattle.isle_base_source.specs.declared.error.Error.{Error}
 use Rattle.isle_index.specs.Held.{IsIndexOf, event_count}
 use Rattle.isle_index.specs.declared.Index.{Index}
-use Rattle.isle_parser.specs.NextDefinition.{LeavesNone}
-use Rattle.isle_program.specs.Nesting.{FirstDeep}
-use Rattle.isle_program.specs.Reading.{IsRefusedWith, IsTreeOf}
 
--- The definitions that a text begins with, one after another. After them none is spelt, or only one that takes all tokens before a
--- lexical error.
-pub record IsFront (file : ℕ) (text : List ℕ) (ds : List Definition) : Type 0 where
-  pub tokens : List Lexeme
-  pub ending : Ending
-  pub lexed : lexes text tokens ending
-  pub rest : List Placed
-  pub spelt : SpellsAll SpellsDefinition ds (placed (in_file file) tokens) rest
-  pub no_more : LeavesNone rest
-
--- a text spells this tree, or it spells none and begins with these definitions
-abbrev pub IsFrontOrTree : ℕ → List ℕ → List Definition → Type 0
-IsFrontOrTree file text ds = IsTreeOf file text ds ⊎ ((e : Error) × IsRefusedWith file text e × IsFront file text ds)
-
--- the known part of a text: the tree that it spells, or, if it spells none, the definitions that it begins with, and the error after them; of a text
--- that nests too deeply, what is known of the bytes before the first token that does
-pub data Part : Type 0 where
-  tree : List Definition → Part
-  front : List Definition → Error → Part
-  deep : ℕ → List Definition → Part
+-- the known part of a text: its pieces
+abbrev pub Part : Type 0
+Part = List Piece
 
 abbrev pub IsPart : ℕ → List ℕ → Part → Type 0
-IsPart file text (tree ds) = FirstDeep text None × IsTreeOf file text ds
-IsPart file text (front ds e) = FirstDeep text None × IsRefusedWith file text e × IsFront file text ds
-IsPart file text (deep offset ds) = FirstDeep text (Some offset) × (IsCharBoundary text offset → IsFrontOrTree file (take offset text) ds)
+IsPart file text p = ArePieces file most_pieces (Some text) p
 
 -- the known parts of texts that are numbered from this number on
 abbrev pub AreParts : ℕ → List Text → List Part → Type 0
@@ -51,16 +21,6 @@ AreParts file [] [] = Unit {0}
 AreParts file [] (p ∷ ps) = ⊥
 AreParts file (s ∷ ss) [] = ⊥
 AreParts file (s ∷ ss) (p ∷ ps) = IsPart file s.text p × AreParts (file + 1) ss ps
-
-abbrev pub known : Part → List Definition
-known (tree ds) = ds
-known (front ds e) = ds
-known (deep offset ds) = ds
-
-abbrev pub is_refused : Part → Bool
-is_refused (tree ds) = false
-is_refused (front ds e) = true
-is_refused (deep offset ds) = true
 
 -- the known definitions of texts
 abbrev pub all_known : List Part → List Definition
@@ -117,21 +77,3 @@ pub record Renews (file : ℕ) (text : List ℕ) (old new : List Kept) : Type 0 
   pub kept : Kept
   pub is : kept.bytes ≡ text
   pub at_place : new ≡ take file old ++ kept ∷ drop (file + 1) old
-
--- an index holds these definitions after those that it held
-abbrev pub Grows : List Definition → Index → Index → Type 0
-Grows es old new = (ds : List Definition) → IsIndexOf ds old → IsIndexOf (ds ++ es) new
-
--- the known part of a text is added to an index, and whether that is a tree
-pub record AddsText (file : ℕ) (text : List ℕ) (old new : Index) (is_tree : Bool) : Type 0 where
-  pub part : Part
-  pub is : IsPart file text part
-  pub spells : is_tree ≡ not (is_refused part)
-  pub holds : Grows (known part) old new
-
--- what a text spells, however deeply it nests, is added
-abbrev pub AddsDefinitions : ℕ → List ℕ → Index → Index → Result (Unit {0}) Fault → Type 0
-AddsDefinitions file text old new (Ok done) = (ds : List Definition) × IsTreeOf file text ds × Grows ds old new
-AddsDefinitions file text old new (Err (faults.Error e)) = (ds : List Definition) × (IsRefusedWith file text e × IsFront file text ds) × Grows ds old new
-AddsDefinitions file text old new (Err faults.Failed) = Unit {0}
-AddsDefinitions file text old new (Err faults.Memory) = Unit {0}

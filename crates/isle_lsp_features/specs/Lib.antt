@@ -3,7 +3,9 @@ pub mod Completed
 pub mod Defined
 pub mod Gathered
 pub mod Located
+pub mod Pieces
 pub mod Places
 pub mod Programs
 pub mod Renamed
+pub mod Rests
 pub mod Shown

@@ -4,23 +4,18 @@ ghost use Rattle.std.specs.Prelude.{◌≡◌, ◌≤◌, [], IfErr, IfOk, None,
 ghost use Rattle.isle_lsp_features.specs.Programs.{bytes_of, question_of, text_of};
 ghost use Rattle.isle_cli.specs.declared.failure.Failure.TheVariants.{Memory};
 ghost use Rattle.isle_lsp_features.specs.Answers.{IsAnswer};
-ghost use Rattle.isle_lsp_features.specs.Gathered.{AddsDefinitions, AddsText, IsOf};
-ghost use Rattle.isle_lsp_features.specs.Gathered.{Renews, kept_of};
+ghost use Rattle.isle_lsp_features.specs.Gathered.{IsOf, Renews, kept_of};
 ghost use Rattle.isle_lsp_protocol.specs.Replies.{outcome_of};
-ghost use Rattle.isle_program.specs.Nesting.{FirstDeep};
 
 use crate::known::{Known, events_before, is_text, put, refused_in};
+use crate::pieces::add_text;
 use crate::{Question, Text, answer_from};
-use isle_base::lexer::{Fault, Lexer};
 use isle_cli::failure::Failure;
 use isle_index::Index;
 use isle_lsp_protocol::replies::Outcome;
-use isle_parser::dropping::drop_definition;
-use isle_parser::parser::Parser;
-use isle_program::nesting::deep_list;
 use std::alloc::Global;
 use std::marker::Model;
-use std::{mem, slice};
+use std::mem;
 
 /// How many texts change before the index is made anew: it keeps the texts of names that are gone.
 const MOST_CHANGES: usize = 1000;
@@ -92,10 +87,8 @@ fn last_or_new(alloc: Global, last: Gathered, len: usize) -> Gathered
 }
 
 /// The index of a program, from that of a program that has no more texts. A text that is the same
-/// at the same place is not parsed. A text that does not parse contributes the definitions before
-/// its error, without the last one if the error is lexical. One that nests too deeply contributes
-/// those before the definition that does. Only one definition is in memory at a time. The only
-/// `Err` is `Memory`.
+/// at the same place is not parsed. Only one definition is in memory at a time. The only `Err` is
+/// `Memory`.
 fn gathered_from(alloc: Global, program: &[Text], last: Gathered) -> Result<Gathered, Failure>
     requires { length last ≤ length program.now }
     ensures ok { IfOk result
@@ -139,74 +132,14 @@ fn renew(
     let start = events_before(texts, file)?;
     let stop = events_before(texts, file + 1)?;
     let end = index.event_count();
-    let is_tree = add_text(alloc, file, text, index)?;
+    let refusals = add_text(alloc, file, text, index)?;
     let events = index.event_count().saturating_sub(end);
     index.replace(alloc, start, stop, end)?;
     let known = Known {
         text: String::from_str(alloc, text)?,
         events,
-        is_refused: !is_tree,
+        is_refused: !refusals.is_empty(),
     };
     put(texts, file, known)?;
-    Ok(())
-}
-
-/// Adds the definitions of a text, and returns whether it parses. One that nests too deeply counts
-/// as one that does not parse.
-fn add_text(alloc: Global, file: usize, text: &str, index: &mut Index) -> Result<bool, Failure>
-    ensures ok { IfOk result (AddsText file text.now index.old index.new) }
-    ensures err { IfErr result (λ failure. failure ≡ Memory) }
-{
-    match deep_list(alloc, text)? {
-        Some(offset) => add_deep(alloc, file, text, offset, index),
-        None => add_shallow(alloc, file, text, index),
-    }
-}
-
-/// The same for a text whose first token that nests too deeply is at this byte offset.
-fn add_deep(
-    alloc: Global,
-    file: usize,
-    text: &str,
-    offset: usize,
-    index: &mut Index,
-) -> Result<bool, Failure>
-    requires { FirstDeep text.now (Some offset) }
-    ensures ok { IfOk result (AddsText file text.now index.old index.new) }
-    ensures err { IfErr result (λ failure. failure ≡ Memory) }
-{
-    match text.split_at_checked(offset) {
-        Some((front, _)) => match add_definitions(alloc, file, front, index) {
-            Ok(()) => Ok(false),
-            Err(Fault::Error(_)) => Ok(false),
-            Err(Fault::Failed | Fault::Memory) => Err(Failure::Memory),
-        },
-        None => Ok(false),
-    }
-}
-
-/// The same for a text that does not nest too deeply.
-fn add_shallow(alloc: Global, file: usize, text: &str, index: &mut Index) -> Result<bool, Failure>
-    requires { FirstDeep text.now None }
-    ensures ok { IfOk result (AddsText file text.now index.old index.new) }
-    ensures err { IfErr result (λ failure. failure ≡ Memory) }
-{
-    match add_definitions(alloc, file, text, index) {
-        Ok(()) => Ok(true),
-        Err(Fault::Error(_)) => Ok(false),
-        Err(Fault::Failed | Fault::Memory) => Err(Failure::Memory),
-    }
-}
-
-/// Adds the definitions of a text, one after another, up to its first error.
-fn add_definitions(alloc: Global, file: usize, text: &str, index: &mut Index) -> Result<(), Fault>
-    ensures { AddsDefinitions file text.now index.old index.new result }
-{
-    let mut parser = Parser::new(Lexer::new(alloc, file, text)?);
-    while let Some(def) = parser.next_def(alloc)? {
-        let added = index.add(alloc, slice::from_ref(&def));
-        drop_definition(def);
-        added?;
-    }
     Ok(())
 }

@@ -18,9 +18,12 @@ mod completion;
 mod gathered;
 mod hover;
 mod known;
+pub mod laws;
 mod locations;
+pub mod pieces;
 pub mod places;
 mod renaming;
+mod rests;
 mod symbols;
 
 pub use gathered::Gathered;
@@ -64,9 +67,9 @@ pub struct Question<'a> {
 
 /// Answers a request about the names of a program.
 ///
-/// A text that does not parse contributes the definitions before its error, without the last one if
-/// the error is lexical. While there is one, `rename` and `prepareRename` fail. Only texts that
-/// differ from those of the last request are parsed. The only `Err` is `Memory`.
+/// A text that does not parse contributes what the module `pieces` knows of it. While there is one,
+/// `rename` and `prepareRename` fail. Only texts that differ from those of the last request are
+/// parsed. The only `Err` is `Memory`.
 pub fn answer<'a>(
     alloc: Global,
     gathered: &mut Gathered,

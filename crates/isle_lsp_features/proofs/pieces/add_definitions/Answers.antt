@@ -8,13 +8,13 @@ use Rattle.isle_parser.specs.NextDefinition.{has_failed}
 use Rattle.isle_parser_cursor.specs.Outcomes.{tokens}
 use Rattle.isle_parser.proofs.NextDefinition.{found_lives, loop_goes_on, loop_starts, loop_stops_at, loop_whole, or_false}
 use Rattle.isle_parser.proofs.Reading.Definitions.{definition_begins}
-use Rattle.isle_lsp_features.proofs.Gathering.{Starts, grows-on, grows-start, refused-at-start, spelt-on, stopped, whole}
-use Rattle.isle_lsp_features.proofs.gathered.add_definitions.Goals as goal
+use Rattle.isle_lsp_features.proofs.Gathering.{Starts, grows-on, grows-start, one-counted, refused-at-start, spelt-on, stopped, whole}
+use Rattle.isle_lsp_features.proofs.pieces.add_definitions.Goals as goal
 
 pub returns-in_err-new : goal.returns-in_err-new
 returns-in_err-new c =
     let p = err_from_is_err_and c.from_residual.result c.from_residual.ensures.1 in
-    rw (p.1, p.2) (refused-at-start c.args.file c.args.text.now _ c.args.index.now c.in_err-new.ensures.refused)
+    rw (p.1, p.2) (refused-at-start c.args.file c.args.text.now _ c.args.index.now c.args.count.now c.requires c.in_err-new.ensures.refused)
 
 pub loop-def-init : goal.loop-def-init
 loop-def-init c =
@@ -26,6 +26,7 @@ loop-def-init c =
       live = ap (λ b. is_failed start.cursor.scanner || b) c.new-parser.ensures.ready ∙ or_false (is_failed start.cursor.scanner);
       spelt = refl;
       grows = grows-start c.args.index.now;
+      counted = c.requires;
     }
 
 pub returns-in_err-def : goal.returns-in_err-def
@@ -37,7 +38,7 @@ returns-in_err-def c =
     let starts : Starts c.args.file c.args.text.now c.in_ok-new.field-0 c.new-parser.result =
     record { lexer = made.lexer; positions = made.positions; file = lexed.file; size = lexed.size; tokens = lexed.tokens } in
     rw (p.1, p.2)
-    (stopped c.args.file c.args.text.now c.in_ok-new.field-0 c.new-parser.result c.loop-def.parser c.args.index.now c.loop-def.index _ starts i c.in_err-def.ensures.refused
+    (stopped c.args.file c.args.text.now c.in_ok-new.field-0 c.new-parser.result c.loop-def.parser c.args.index.now c.loop-def.index c.loop-def.count _ starts i c.in_err-def.ensures.refused
     (loop_stops_at c.new-parser.result c.loop-def.parser i.front c.in_err-def.field-0.0 i.same i.so_far i.live c.in_err-def.ensures.failed c.in_err-def.ensures.refused))
 
 pub loop-def-smaller : goal.loop-def-smaller
@@ -58,8 +59,9 @@ loop-def-preserved c =
       live = c.in_ok-def.ensures.ready ∙ sym live ∙ i.live;
       spelt = spelt-on i.front d (tokens c.new-parser.result.cursor) (tokens c.loop-def.parser.cursor) (tokens c.next_def.new.self.cursor) i.spelt spelt;
       grows =
-          grows-on i.front d c.args.index.now c.loop-def.index c.add-added.new.self i.grows
+          grows-on i.front (d ∷ []) c.args.index.now c.loop-def.index c.add-added.new.self i.grows
           (λ ds is. subst (λ xs. IsIndexOf (ds ++ definitions_of xs) c.add-added.new.self) c.from_ref.ensures.value (c.in_ok-added.ensures ds is));
+      counted = ?;
     }
 
 pub returns : goal.returns
