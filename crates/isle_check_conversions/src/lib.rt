@@ -16,11 +16,11 @@ ghost use Rattle.isle_check_signatures.specs.Views.{environment_of, term_of};
 
 use isle_ast::ast::{Converter, Def};
 use isle_check_cycles::ends;
+use isle_check_environment::by_text::ByText;
 use isle_check_environment::parts::converters_in;
 use isle_check_signatures::by_texts::{ByTexts, put_value, value_at};
 use isle_check_signatures::{Environment, Term};
 use std::alloc::{AllocError, Global};
-use std::collections::BTreeMap;
 
 /// The numbers of converters, by the inner and the outer type.
 type Numbers = ByTexts<usize>;
@@ -118,7 +118,7 @@ fn numbers(alloc: Global, converters: &[&Converter]) -> Result<Numbers, AllocErr
     ensures { IfOk result (λ numbers. (inner outer : List ℕ) → get_by_texts numbers inner outer
         ≡ number_from 0 (converters_at converters.now) inner outer) }
 {
-    let mut numbers = BTreeMap::new(alloc);
+    let mut numbers = ByText::new(alloc);
     for number in (0..converters.len()).rev() {
         put_number(alloc, converters[number], number, &mut numbers)?;
     }

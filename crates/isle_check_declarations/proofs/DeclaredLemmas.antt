@@ -1,18 +1,16 @@
 -- The declarations of a map, as they are added.
-use Rattle.std.proofs.Common.{◌≡◌, ℕ, List, [], ◌∷◌, ◌++◌, Bool, true, false, cond, Option, None, Some, option_map, ◌<◌, ◌+◌, length, get_or, take, refl, sym, ap, ◌∙◌, string_bytes, Global, if◌then◌else◌}
+use Rattle.std.proofs.Common.{◌≡◌, ℕ, List, [], ◌∷◌, ◌++◌, Bool, true, false, cond, Option, None, Some, option_map, ◌<◌, ◌+◌, length, get_or, take, refl, sym, ap, ◌∙◌, string_bytes, if◌then◌else◌}
 use Rattle.std.specs.Borrow.{Bor}
-use Rattle.std.specs.BTreeMap.{BTreeMap, UpdatesBy, get_by_text}
-use Rattle.std.specs.Cmp.Lexicographic.{slice_cmp}
-use Rattle.std.specs.Ordering.{nat_cmp}
+use Rattle.std.specs.HashMap.{UpdatesBy, get_by_text}
 use Rattle.std.specs.Str.{bytes_eq}
-use Rattle.std.specs.String.{string_cmp}
-use Rattle.std.specs.declared.string.String.{String}
-use Rattle.std.proofs.lemmas.Map.Text.{btree_map_updates_text}
+use Rattle.std.specs.String.{string_eq}
+use Rattle.std.proofs.lemmas.Map.Text.{hash_map_updates_text}
 use Rattle.std.proofs.lemmas.List.{append-nil, map-append, take_more}
 use Rattle.std.proofs.lemmas.List.Concat.{flat_map-append}
 use Rattle.isle_ast.specs.Tree.{Declaration}
 use Rattle.isle_ast.specs.TreeView.{declaration_of}
 use Rattle.isle_ast.specs.declared.ast.Decl.{Decl}
+use Rattle.isle_check_environment.specs.ByText.{ByText}
 use Rattle.isle_check_environment.specs.Names.{or_else}
 use Rattle.isle_check_environment.specs.Views.{decls_at}
 use Rattle.isle_check_environment.proofs.NameLemmas.{first-or_else}
@@ -32,12 +30,12 @@ decl_of-last (e ∷ es) d text =
     ∙ ap (λ x. or_else x (if bytes_eq e.term.text text then Some e else None)) (decl_of-last es d text)
 
 -- a map that has one more declaration at the text of its term
-pub Declares-put : (m n : BTreeMap (String Global) (Bor Decl)) (text : List ℕ) (d : Bor Decl) (earlier : List Declaration) →
+pub Declares-put : (m n : ByText (Bor Decl)) (text : List ℕ) (d : Bor Decl) (earlier : List Declaration) →
     text ≡ (declaration_of d.now).term.text →
-    UpdatesBy string_cmp (λ k. slice_cmp nat_cmp text (string_bytes k)) m n (Some d) →
+    UpdatesBy string_eq (λ k. bytes_eq text (string_bytes k)) m n (Some d) →
     Declares m earlier → Declares n (earlier ++ declaration_of d.now ∷ [])
 Declares-put m n text d earlier its updates declares asked =
-    ap (option_map (λ e. declaration_of e.now)) (btree_map_updates_text text m n (Some d) updates asked)
+    ap (option_map (λ e. declaration_of e.now)) (hash_map_updates_text text m n (Some d) updates asked)
     ∙ mapped-cond (λ e. declaration_of e.now) (bytes_eq text asked) d (get_by_text m asked)
     ∙ ap (λ x. cond (bytes_eq text asked) (Some (declaration_of d.now)) x) (declares asked)
     ∙ ap (λ t. cond (bytes_eq t asked) (Some (declaration_of d.now)) (decl_of earlier asked)) its

@@ -1,13 +1,12 @@
 -- The errors of code as pure values.
 use Rattle.std.specs.Prelude.{◌≡◌, ℕ, List, map, option_map, is_some}
 use Rattle.std.specs.Borrow.{Bor}
-use Rattle.std.specs.BTreeMap.{BTreeMap, get_by_text}
-use Rattle.std.specs.declared.alloc.Global.{Global}
-use Rattle.std.specs.declared.string.String.{String}
+use Rattle.std.specs.HashMap.{get_by_text}
 use Rattle.isle_ast.specs.Tree.{Declaration}
 use Rattle.isle_ast.specs.TreeView.{declaration_of}
 use Rattle.isle_ast.specs.declared.ast.Decl.{Decl}
 use Rattle.isle_ast_names.specs.TreeView.{name_of}
+use Rattle.isle_check_environment.specs.ByText.{ByText}
 use Rattle.isle_check_declarations.specs.declared.fault.Fault.{Fault}
 use Rattle.isle_check_declarations.specs.declared.fault.Kind.{Kind}
 use Rattle.isle_check_declarations.specs.declared.fault.Kind.TheVariants as kinds
@@ -64,7 +63,7 @@ abbrev pub faults_of : List Fault → List FaultNode
 faults_of fs = map fault_of fs
 
 -- the map has these declarations and no others, of each term the last
-abbrev pub Declares : BTreeMap (String Global) (Bor Decl) → List Declaration → Type 0
+abbrev pub Declares : ByText (Bor Decl) → List Declaration → Type 0
 Declares decls ds = (text : List ℕ) → option_map (λ d. declaration_of d.now) (get_by_text decls text) ≡ decl_of ds text
 
 abbrev pub term_of : Term → TermNode

@@ -11,14 +11,14 @@ ghost use Rattle.isle_check_declarations.specs.Views.{Declares, term_in, term_of
 
 use crate::terms::{declare, signature_fault};
 use isle_ast::ast::{Decl, Def};
+use isle_check_environment::by_text::ByText;
 use isle_check_environment::names::{Names, has, no_names};
 use isle_check_environment::parts::{decls_in, types_in};
 use isle_check_environment::types::type_names;
 use std::alloc::{AllocError, Global};
-use std::collections::BTreeMap;
 
 /// Declarations by the names of their terms.
-pub type Decls<'a> = BTreeMap<String, &'a Decl>;
+pub type Decls<'a> = ByText<&'a Decl>;
 
 /// The terms of a program.
 #[derive(Drop)]
@@ -81,7 +81,7 @@ fn counted_decls<'a>(
     ensures { IfOk result
         (λ found. Declares found (counted_decls (is_type_in known.now) (decls_at decls.now))) }
 {
-    let mut found = BTreeMap::new(alloc);
+    let mut found = ByText::new(alloc);
     for decl in decls {
         add_counted(known, decl, &mut found)?;
     }

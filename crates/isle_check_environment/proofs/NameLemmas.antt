@@ -1,14 +1,12 @@
 -- The names of a map, as they are added.
-use Rattle.std.proofs.Common.{◌≡◌, ℕ, List, [], ◌∷◌, ◌++◌, Bool, true, false, cond, Option, None, Some, is_some, ◌||◌, refl, ap, ◌∙◌, string_bytes, Global, if◌then◌else◌}
-use Rattle.std.specs.BTreeMap.{BTreeMap, UpdatesBy}
-use Rattle.std.specs.Cmp.Lexicographic.{slice_cmp}
-use Rattle.std.specs.Ordering.{nat_cmp}
+use Rattle.std.proofs.Common.{◌≡◌, ℕ, List, [], ◌∷◌, ◌++◌, Bool, true, false, cond, Option, None, Some, is_some, ◌||◌, refl, ap, ◌∙◌, string_bytes, if◌then◌else◌}
+use Rattle.std.specs.HashMap.{UpdatesBy}
 use Rattle.std.specs.Str.{bytes_eq}
-use Rattle.std.specs.String.{string_cmp}
-use Rattle.std.specs.declared.string.String.{String}
-use Rattle.std.proofs.lemmas.Map.Text.{btree_map_updates_text}
+use Rattle.std.specs.String.{string_eq}
+use Rattle.std.proofs.lemmas.Map.Text.{hash_map_updates_text}
 use Rattle.isle_base_source.specs.declared.pos.Pos.{Pos}
 use Rattle.isle_ast_names.specs.Tree.{Name}
+use Rattle.isle_check_environment.specs.ByText.{ByText}
 use Rattle.isle_check_environment.specs.Names.{Knows, place_of, or_else}
 use Rattle.isle_check_environment.specs.Types.{is_built_in, is_type, is_type_in}
 
@@ -25,14 +23,14 @@ place_of-last (k ∷ ks) n text =
     ∙ ap (λ x. or_else x (if bytes_eq k.text text then Some k.pos else None)) (place_of-last ks n text)
 
 -- a map that has one more text knows one more name
-pub Knows-put : (m n : BTreeMap (String Global) Pos) (text : List ℕ) (place : Pos) (known : List Name) →
-    UpdatesBy string_cmp (λ k. slice_cmp nat_cmp text (string_bytes k)) m n (Some place) →
+pub Knows-put : (m n : ByText Pos) (text : List ℕ) (place : Pos) (known : List Name) →
+    UpdatesBy string_eq (λ k. bytes_eq text (string_bytes k)) m n (Some place) →
     Knows m known → Knows n (known ++ record { text = text; pos = place } ∷ [])
 Knows-put m n text place known updates knows asked =
-    btree_map_updates_text text m n (Some place) updates asked
+    hash_map_updates_text text m n (Some place) updates asked
     ∙ ap (λ x. cond (bytes_eq text asked) (Some place) x) (knows asked)
     ∙ place_of-last known (record { text = text; pos = place }) asked
 
 -- the types of a map are those of the names that it knows
-pub is_type_in-known : (m : BTreeMap (String Global) Pos) (known : List Name) → Knows m known → is_type_in m ≡ is_type known
+pub is_type_in-known : (m : ByText Pos) (known : List Name) → Knows m known → is_type_in m ≡ is_type known
 is_type_in-known m known knows = λ i text. is_built_in text || is_some (knows text i)

@@ -1,3 +1,4 @@
+pub mod ByText
 pub mod Names
 pub mod Types
 pub mod Parts

@@ -1,11 +1,10 @@
 -- The types that are known without a definition.
 use Rattle.std.specs.Prelude.{ℕ, List, Bool, ◌||◌, codes, is_some}
-use Rattle.std.specs.declared.alloc.Global.{Global}
-use Rattle.std.specs.declared.string.String.{String}
-use Rattle.std.specs.BTreeMap.{BTreeMap, get_by_text}
+use Rattle.std.specs.HashMap.{get_by_text}
 use Rattle.std.specs.Str.{bytes_eq}
 use Rattle.isle_base_source.specs.declared.pos.Pos.{Pos}
 use Rattle.isle_ast_names.specs.Tree.{Name}
+use Rattle.isle_check_environment.specs.ByText.{ByText}
 use Rattle.isle_check_environment.specs.Names.{has}
 
 abbrev pub is_integer_type : List ℕ → Bool
@@ -24,5 +23,5 @@ abbrev pub is_type : List Name → List ℕ → Bool
 is_type types text = is_built_in text || has types text
 
 -- the same, if they are the texts of a map
-abbrev pub is_type_in : BTreeMap (String Global) Pos → List ℕ → Bool
+abbrev pub is_type_in : ByText Pos → List ℕ → Bool
 is_type_in types text = is_built_in text || is_some (get_by_text types text)

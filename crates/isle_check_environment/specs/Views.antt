@@ -1,7 +1,7 @@
 -- References to definitions as pure values.
 use Rattle.std.specs.Prelude.{List, map}
 use Rattle.std.specs.Borrow.{Bor}
-use Rattle.std.specs.BTreeMap.{get_by_text}
+use Rattle.std.specs.HashMap.{get_by_text}
 use Rattle.isle_ast_rules.specs.declared.Rule.{Rule}
 use Rattle.isle_ast_rules.specs.declared.Extractor.{Extractor}
 use Rattle.isle_ast_rules.specs.Tree.{RuleDefinition, ExtractorDefinition}

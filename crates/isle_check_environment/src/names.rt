@@ -1,24 +1,24 @@
 //! Names with their positions, found by their text.
 
 ghost use Rattle.std.specs.Prelude.{◌≡◌, ◌∷◌, ◌++◌, [], is_some, string_bytes, OnOk, List};
-ghost use Rattle.std.specs.BTreeMap.{get_by_text};
+ghost use Rattle.std.specs.HashMap.{get_by_text};
 ghost use Rattle.isle_ast_names.specs.Tree.{Name};
 ghost use Rattle.isle_ast_names.specs.TreeView.{name_of};
 ghost use Rattle.isle_check_environment.specs.Names.{Knows, has, place_of};
 
+use crate::by_text::ByText;
 use isle_ast::ast::Ident;
 use isle_base::lexer::Pos;
 use std::alloc::{AllocError, Global};
-use std::collections::BTreeMap;
 
 /// Names by text, each with the position of the last one of this text.
-pub type Names = BTreeMap<String, Pos>;
+pub type Names = ByText<Pos>;
 
 /// Returns no names.
 pub fn no_names(alloc: Global) -> Names
     ensures { Knows result [] }
 {
-    BTreeMap::new(alloc)
+    ByText::new(alloc)
 }
 
 /// Adds a name. An `Err` means out of memory.

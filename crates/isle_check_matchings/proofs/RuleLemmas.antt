@@ -2,11 +2,10 @@
 use Rattle.std.proofs.Common.{◌≡◌, ℕ, suc, ◌+◌, ◌<◌, List, [], ◌∷◌, ◌++◌, length, map, drop, get_or, is_some, Bool, true, false, not, ◌&&◌, ◌||◌, ◌==◌, refl, sym, ap, ◌∙◌, arith, eqb-true, append_assoc, add-one, drop-cons, if◌then◌else◌}
 use Rattle.std.proofs.lemmas.List.{map-append}
 use Rattle.std.specs.List.{filter, flat_map, list_any}
-use Rattle.std.specs.declared.alloc.Global.{Global}
-use Rattle.std.specs.declared.string.String.{String}
-use Rattle.std.specs.BTreeMap.{BTreeMap, get_by_text}
+use Rattle.std.specs.HashMap.{get_by_text}
 use Rattle.isle_base_source.specs.declared.pos.Pos.{Pos}
 use Rattle.isle_ast.specs.Tree.{Definition}
+use Rattle.isle_check_environment.specs.ByText.{ByText}
 use Rattle.isle_check_environment.specs.Names.{Knows}
 use Rattle.isle_check_signatures.specs.Environment.{EnvironmentNode}
 use Rattle.isle_check_rules.specs.declared.typed.TypedRule.{TypedRule}
@@ -41,10 +40,10 @@ pub matching_parts : (k : TermsNode) (r : TypedRuleNode) (asks : List AskNode) (
 matching_parts k r asks m term multi several prio pos clashes settled =
     λ i. record { term = term i; is_multi = multi i; has_several = several i; prio = prio i; pos = pos i; clashes = clashes i; settled = settled i }
 
-abbrev terms_by : EnvironmentNode → BTreeMap (String Global) Pos → TermsNode
+abbrev terms_by : EnvironmentNode → ByText Pos → TermsNode
 terms_by env names = record { terms = env.terms; infallible = λ text. is_some (get_by_text names text) }
 
-pub terms_known : (env : EnvironmentNode) (ds : List Definition) (names : BTreeMap (String Global) Pos) → Knows names (flat_map infallible_name ds) → terms_by env names ≡ program_terms env ds
+pub terms_known : (env : EnvironmentNode) (ds : List Definition) (names : ByText Pos) → Knows names (flat_map infallible_name ds) → terms_by env names ≡ program_terms env ds
 terms_known env ds names known = λ i. record { terms = env.terms; infallible = λ text. is_some (known text i) }
 
 -- some are found exactly if there is one

@@ -1,16 +1,15 @@
 -- The rules of one term among all, and maps of them.
 use Rattle.std.proofs.Common.{◌≡◌, ◌<◌, ℕ, ◌+◌, List, [], ◌∷◌, ◌++◌, Bool, true, false, cond, Option, None, Some, refl, sym, ap, subst, ◌∙◌, length, get_or, take, drop, append_assoc, append-nil, string_bytes, Global, Vec, if◌then◌else◌, ◌&&◌, not, int_lt}
-use Rattle.std.specs.BTreeMap.{BTreeMap, UpdatesBy, get_by_text}
-use Rattle.std.specs.Cmp.Lexicographic.{slice_cmp}
+use Rattle.std.specs.HashMap.{UpdatesBy, get_by_text}
 use Rattle.std.specs.List.{filter, flat_map}
-use Rattle.std.specs.Ordering.{int_eq, nat_cmp}
+use Rattle.std.specs.Ordering.{int_eq}
 use Rattle.std.specs.Str.{bytes_eq}
-use Rattle.std.specs.String.{string_cmp}
-use Rattle.std.specs.declared.string.String.{String}
+use Rattle.std.specs.String.{string_eq}
 use Rattle.std.proofs.Math.Bool.{and-false}
-use Rattle.std.proofs.lemmas.Map.Text.{btree_map_updates_text}
+use Rattle.std.proofs.lemmas.Map.Text.{hash_map_updates_text}
 use Rattle.std.proofs.lemmas.Slice.Eq.{bytes_eq-Decides}
 use Rattle.isle_base_source.specs.declared.pos.Pos.{Pos}
+use Rattle.isle_check_environment.specs.ByText.{ByText}
 use Rattle.isle_check_places.specs.Places.{Place}
 use Rattle.isle_check_places.specs.Comparing.{apart, within}
 use Rattle.isle_check_places.specs.Following.{all_follow}
@@ -61,7 +60,7 @@ near_option : {B : Type 0} (f : CandidateNode → List B) (c : CandidateNode) (o
 near_option f c None cs near_is held = ap (flat_map f) (sym held)
 near_option f c (Some g) cs near_is held = near_group f c g cs (asked (place_by g.place) c) refl near_is held
 
-pub near_all : {B : Type 0} (f : CandidateNode → List B) (c : CandidateNode) (groups : BTreeMap (String Global) Group) (cs : List CandidateNode) → IsNear f c →
+pub near_all : {B : Type 0} (f : CandidateNode → List B) (c : CandidateNode) (groups : ByText Group) (cs : List CandidateNode) → IsNear f c →
     AreGroups groups cs → flat_map f (near (get_by_text groups c.term) c) ≡ flat_map f cs
 near_all f c groups cs near_is held =
     near_option f c (get_by_text groups c.term) (filter (is_of c.term) cs) near_is (held c.term) ∙ all_kept f (is_of c.term) cs near_is.of_term
@@ -127,7 +126,7 @@ hides_with_equals_within high low none =
     not_first high low (not low.is_plain && (not high.has_several && (within high.constraints low.constraints && all_follow high.equal low.equal)))
     (none_of_five (bytes_eq high.term low.term) (not low.is_plain) (not high.has_several) (within high.constraints low.constraints) (all_follow high.equal low.equal) none)
 
-pub hidden_of_near : (hiding : CandidateNode → CandidateNode → Bool) (high : CandidateNode) (groups : BTreeMap (String Global) Group) (cs : List CandidateNode) → NeedsWithin hiding →
+pub hidden_of_near : (hiding : CandidateNode → CandidateNode → Bool) (high : CandidateNode) (groups : ByText Group) (cs : List CandidateNode) → NeedsWithin hiding →
     AreGroups groups cs → hidden_by hiding high (near (get_by_text groups high.term) high) ≡ hidden_by hiding high cs
 hidden_of_near hiding high groups cs needs held = near_all (if_hidden hiding high) high groups cs (hidden_near hiding high needs) held
 
@@ -142,14 +141,14 @@ filter_last p [] c = refl
 filter_last p (k ∷ cs) c = filter_step (p k) k (filter p (cs ++ c ∷ [])) (filter p cs) (if p c then c ∷ [] else []) (filter_last p cs c)
 
 -- a map in which a text's value is replaced
-lookup_put : {V : Type 0} (m between n : BTreeMap (String Global) V) (key text asked : List ℕ) (value : V) → text ≡ key →
-    UpdatesBy string_cmp (λ k. slice_cmp nat_cmp key (string_bytes k)) m between None →
-    UpdatesBy string_cmp (λ k. slice_cmp nat_cmp text (string_bytes k)) between n (Some value) →
+lookup_put : {V : Type 0} (m between n : ByText V) (key text asked : List ℕ) (value : V) → text ≡ key →
+    UpdatesBy string_eq (λ k. bytes_eq key (string_bytes k)) m between None →
+    UpdatesBy string_eq (λ k. bytes_eq text (string_bytes k)) between n (Some value) →
     get_by_text n asked ≡ cond (bytes_eq key asked) (Some value) (cond (bytes_eq key asked) None (get_by_text m asked))
 lookup_put m between n key text asked value same taken put =
-    btree_map_updates_text text between n (Some value) put asked
+    hash_map_updates_text text between n (Some value) put asked
     ∙ (ap (λ t. cond (bytes_eq t asked) (Some value) (get_by_text between asked)) same
-    ∙ ap (λ g. cond (bytes_eq key asked) (Some value) g) (btree_map_updates_text key m between None taken asked))
+    ∙ ap (λ g. cond (bytes_eq key asked) (Some value) g) (hash_map_updates_text key m between None taken asked))
 
 -- a rule more that asks for a text
 alike_at : (r : Bool) (text other : List ℕ) (before : Option (Vec Ranked Global)) (value : Vec Ranked Global) (own : List RankedNode) (x : RankedNode) → bytes_eq text other ≡ r →
@@ -158,9 +157,9 @@ alike_at : (r : Bool) (text other : List ℕ) (before : Option (Vec Ranked Globa
 alike_at true text other before value own x same is items = items ∙ ap (λ l. l ++ x ∷ []) (is refl)
 alike_at false text other before value own x differs is items = sym (append-nil (alike_by before))
 
-pub alike_put : (m between n : BTreeMap (String Global) (Vec Ranked Global)) (key text : List ℕ) (value : Vec Ranked Global) (own : List RankedNode) (x : RankedNode) → text ≡ key →
-    UpdatesBy string_cmp (λ k. slice_cmp nat_cmp key (string_bytes k)) m between None →
-    UpdatesBy string_cmp (λ k. slice_cmp nat_cmp text (string_bytes k)) between n (Some value) →
+pub alike_put : (m between n : ByText (Vec Ranked Global)) (key text : List ℕ) (value : Vec Ranked Global) (own : List RankedNode) (x : RankedNode) → text ≡ key →
+    UpdatesBy string_eq (λ k. bytes_eq key (string_bytes k)) m between None →
+    UpdatesBy string_eq (λ k. bytes_eq text (string_bytes k)) between n (Some value) →
     own ≡ alike_by (get_by_text m key) → all_ranked_of value.items ≡ own ++ x ∷ [] →
     (other : List ℕ) → alike_by (get_by_text n other) ≡ alike_by (get_by_text m other) ++ (if bytes_eq text other then x ∷ [] else [])
 alike_put m between n key text value own x same taken put own_is items other =
@@ -176,9 +175,9 @@ group_put_at : (r : Bool) (term other : List ℕ) (before : Option Group) (g : G
 group_put_at true term other before g cs c same is held = subst (λ t. IsGroup g (filter (is_of t) cs ++ c ∷ [])) ((bytes_eq-Decides term other).0 same) is
 group_put_at false term other before g cs c differs is held = subst (HasGroup before) (sym (append-nil (filter (is_of other) cs))) held
 
-pub groups_put : (m between n : BTreeMap (String Global) Group) (c : CandidateNode) (text : List ℕ) (g : Group) (cs : List CandidateNode) → text ≡ c.term →
-    UpdatesBy string_cmp (λ k. slice_cmp nat_cmp c.term (string_bytes k)) m between None →
-    UpdatesBy string_cmp (λ k. slice_cmp nat_cmp text (string_bytes k)) between n (Some g) →
+pub groups_put : (m between n : ByText Group) (c : CandidateNode) (text : List ℕ) (g : Group) (cs : List CandidateNode) → text ≡ c.term →
+    UpdatesBy string_eq (λ k. bytes_eq c.term (string_bytes k)) m between None →
+    UpdatesBy string_eq (λ k. bytes_eq text (string_bytes k)) between n (Some g) →
     IsGroup g (filter (is_of c.term) cs ++ c ∷ []) → AreGroups m cs → AreGroups n (cs ++ c ∷ [])
 groups_put m between n c text g cs same taken put is held other =
     subst (λ o. HasGroup o (filter (is_of other) (cs ++ c ∷ []))) (sym (lookup_put m between n c.term text other g same taken put))
@@ -235,7 +234,7 @@ group_alike g h cs x text asks place free all last more held = record {
 }
 
 -- the pairs of one rule more
-pub pairs_step : (groups : BTreeMap (String Global) Group) (xs : List Candidate) (i : ℕ) (b : Candidate) (made new : List PairNode) (all : List PairNode) → i < length xs → b ≡ get_or xs i b →
+pub pairs_step : (groups : ByText Group) (xs : List Candidate) (i : ℕ) (b : Candidate) (made new : List PairNode) (all : List PairNode) → i < length xs → b ≡ get_or xs i b →
     new ≡ made ++ pairs_before (near (get_by_text groups b.term.now) (candidate_of b)) (candidate_of b) → AreGroups groups (candidates_of (take i xs)) →
     made ++ pairs_after (candidates_of (take i xs)) (candidates_of (drop i xs)) ≡ all →
     new ++ pairs_after (candidates_of (take (i + 1) xs)) (candidates_of (drop (i + 1) xs)) ≡ all
@@ -249,13 +248,13 @@ pairs_step groups xs i b made new all within is new_is held told =
     ∙ (ap (λ l. made ++ pairs_after cs (candidates_of l)) (sym (drop_more xs i b within is))
     ∙ told)))
 
-pub groups_step : (m : BTreeMap (String Global) Group) (xs : List Candidate) (i : ℕ) (b : Candidate) → i < length xs → b ≡ get_or xs i b →
+pub groups_step : (m : ByText Group) (xs : List Candidate) (i : ℕ) (b : Candidate) → i < length xs → b ≡ get_or xs i b →
     AreGroups m (candidates_of (take i xs) ++ candidate_of b ∷ []) → AreGroups m (candidates_of (take (i + 1) xs))
 groups_step m xs i b within is held =
     subst (AreGroups m) (sym (ap candidates_of (take_more xs i b within is) ∙ map_last candidate_of (take i xs) b)) held
 
 -- what is told of one rule more
-pub met_step : (terms : List ℕ → Option TermNode) (groups : BTreeMap (String Global) Group) (ss : List StarNode) (cs : List CandidateNode) (xs : List Candidate) (i : ℕ) (c : Candidate)
+pub met_step : (terms : List ℕ → Option TermNode) (groups : ByText Group) (ss : List StarNode) (cs : List CandidateNode) (xs : List Candidate) (i : ℕ) (c : Candidate)
     (before now all : List FaultNode) → i < length xs → c ≡ get_or xs i c → AreGroups groups cs →
     now ≡ before ++ met_at terms ss (near (get_by_text groups c.term.now) (candidate_of c)) (candidate_of c) →
     before ++ flat_map (met_at terms ss cs) (candidates_of (drop i xs)) ≡ all → now ++ flat_map (met_at terms ss cs) (candidates_of (drop (i + 1) xs)) ≡ all
@@ -269,7 +268,7 @@ met_step terms groups ss cs xs i c before now all within is held now_is told =
     ∙ told))
 
 -- what is told of one rule more that hides others with equal values
-pub equal_step : (groups : BTreeMap (String Global) Group) (cs : List CandidateNode) (xs : List Candidate) (i : ℕ) (c : Candidate) (hidden : List Pos)
+pub equal_step : (groups : ByText Group) (cs : List CandidateNode) (xs : List Candidate) (i : ℕ) (c : Candidate) (hidden : List Pos)
     (before now all : List FaultNode) → i < length xs → c ≡ get_or xs i c → AreGroups groups cs →
     hidden ≡ hidden_by hides_with_equals (candidate_of c) (near (get_by_text groups c.term.now) (candidate_of c)) →
     now ≡ before ++ shadow_at shadows_with_equals (candidate_of c) hidden →

@@ -2,11 +2,11 @@
 use Rattle.std.specs.Prelude.{◌≡◌, ◌≤◌, ℕ, ◌-◌, List, [], ◌∷◌, ◌++◌, Bool, false, not, Option, None, Some, option_map, length, map, take, drop, if◌then◌else◌}
 use Rattle.std.specs.Borrow.{Bor}
 use Rattle.std.specs.declared.alloc.Global.{Global}
-use Rattle.std.specs.declared.string.String.{String}
 use Rattle.std.specs.declared.vec.Vec.{Vec}
-use Rattle.std.specs.BTreeMap.{BTreeMap, get_by_text}
+use Rattle.std.specs.HashMap.{get_by_text}
 use Rattle.std.specs.List.{filter, list_any}
 use Rattle.std.specs.Str.{bytes_eq}
+use Rattle.isle_check_environment.specs.ByText.{ByText}
 use Rattle.isle_check_places.specs.Places.{Place, same_place, ConstraintNode, ConstrainedNode}
 use Rattle.isle_check_places.specs.Views.{place_of}
 use Rattle.isle_check_places.specs.declared.places.Step.{Step}
@@ -95,5 +95,5 @@ HasGroup None cs = cs ≡ []
 HasGroup (Some g) cs = IsGroup g cs
 
 -- the map has, for each term, a group of those of these rules that are of it
-abbrev pub AreGroups : BTreeMap (String Global) Group → List CandidateNode → Type 0
+abbrev pub AreGroups : ByText Group → List CandidateNode → Type 0
 AreGroups groups cs = (term : List ℕ) → HasGroup (get_by_text groups term) (filter (is_of term) cs)

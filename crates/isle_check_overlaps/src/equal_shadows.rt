@@ -1,7 +1,7 @@
 //! Rules that hide others that ask for equal values.
 
 ghost use Rattle.std.specs.Prelude.{◌≡◌, ◌++◌, IfOk, OnOk};
-ghost use Rattle.std.specs.BTreeMap.{get_by_text};
+ghost use Rattle.std.specs.HashMap.{get_by_text};
 ghost use Rattle.isle_check_overlaps.specs.Candidates.{hides_with_equals};
 ghost use Rattle.isle_check_overlaps.specs.Faults.{equal_shadows, hidden_by, shadow_at};
 ghost use Rattle.isle_check_overlaps.specs.Faults.{shadows_with_equals};

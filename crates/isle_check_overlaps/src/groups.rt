@@ -2,11 +2,9 @@
 
 ghost use Rattle.std.specs.Prelude.{◌≡◌, ◌++◌, ◌∷◌, [], IfOk, List, None, OnOk};
 ghost use Rattle.std.specs.Prelude.{if◌then◌else◌, option_map, string_bytes, ℕ};
-ghost use Rattle.std.specs.BTreeMap.{UpdatesBy, get_by_text};
-ghost use Rattle.std.specs.Cmp.Lexicographic.{slice_cmp};
-ghost use Rattle.std.specs.Ordering.{nat_cmp};
+ghost use Rattle.std.specs.HashMap.{UpdatesBy, get_by_text};
 ghost use Rattle.std.specs.Str.{bytes_eq};
-ghost use Rattle.std.specs.String.{string_cmp};
+ghost use Rattle.std.specs.String.{string_eq};
 ghost use Rattle.isle_check_overlaps.specs.Candidates.{CandidateNode};
 ghost use Rattle.isle_check_overlaps.specs.Groups.{AreGroups, HasGroup, IsGroup, alike, alike_by};
 ghost use Rattle.isle_check_overlaps.specs.Groups.{all_ranked_of, asked, asks_at, between};
@@ -18,12 +16,12 @@ ghost use Rattle.isle_check_places.specs.Views.{all_constrained_of, constraint_o
 use crate::candidates::Candidate;
 use crate::telling::{Terms, telling_place};
 use crate::unreachable::shown;
+use isle_check_environment::by_text::ByText;
 use isle_check_places::{Constrained, Constraint, Place, Step, same_place};
 use std::alloc::{AllocError, Global};
-use std::collections::BTreeMap;
 
 /// The rules of each term, in order.
-pub type Groups<'c, 'm, 'a> = BTreeMap<String, Group<'c, 'm, 'a>>;
+pub type Groups<'c, 'm, 'a> = ByText<Group<'c, 'm, 'a>>;
 
 /// The rules of a term.
 #[derive(Drop)]
@@ -35,7 +33,7 @@ pub struct Group<'c, 'm, 'a> {
     /// Those that are free at the place: they ask for nothing there, or for several things.
     pub free: Vec<&'c Candidate<'m, 'a>>,
     /// The others, by what they ask for.
-    pub alike: BTreeMap<String, Vec<Ranked<'c, 'm, 'a>>>,
+    pub alike: ByText<Vec<Ranked<'c, 'm, 'a>>>,
 }
 
 /// A rule that asks for something at the place of its group.
@@ -71,7 +69,7 @@ fn taken<'c, 'm, 'a>(
 ) -> Result<Group<'c, 'm, 'a>, AllocError>
     ensures group { IfOk result (λ group. (cs : List CandidateNode)
         → HasGroup (get_by_text groups.old term.now) cs → IsGroup group cs) }
-    ensures left { UpdatesBy string_cmp (λ k. slice_cmp nat_cmp term.now (string_bytes k))
+    ensures left { UpdatesBy string_eq (λ k. bytes_eq term.now (string_bytes k))
         groups.old groups.new None }
 {
     match groups.remove(term) {
@@ -92,7 +90,7 @@ fn new_group<'c, 'm, 'a>(
         place: telling_place(alloc, terms, term)?,
         all: Vec::new(alloc),
         free: Vec::new(alloc),
-        alike: BTreeMap::new(alloc),
+        alike: ByText::new(alloc),
     })
 }
 
@@ -122,7 +120,7 @@ fn add_alike<'c, 'm, 'a>(
     alloc: Global,
     text: String,
     ranked: Ranked<'c, 'm, 'a>,
-    alike: &mut BTreeMap<String, Vec<Ranked<'c, 'm, 'a>>>,
+    alike: &mut ByText<Vec<Ranked<'c, 'm, 'a>>>,
 ) -> Result<(), AllocError>
     ensures { OnOk result ((other : List ℕ) → alike_by (get_by_text alike.new other)
         ≡ alike_by (get_by_text alike.old other)
@@ -138,10 +136,10 @@ fn add_alike<'c, 'm, 'a>(
 fn taken_alike<'c, 'm, 'a>(
     alloc: Global,
     text: &str,
-    alike: &mut BTreeMap<String, Vec<Ranked<'c, 'm, 'a>>>,
+    alike: &mut ByText<Vec<Ranked<'c, 'm, 'a>>>,
 ) -> Vec<Ranked<'c, 'm, 'a>>
     ensures items { all_ranked_of result.items ≡ alike_by (get_by_text alike.old text.now) }
-    ensures left { UpdatesBy string_cmp (λ k. slice_cmp nat_cmp text.now (string_bytes k))
+    ensures left { UpdatesBy string_eq (λ k. bytes_eq text.now (string_bytes k))
         alike.old alike.new None }
 {
     match alike.remove(text) {

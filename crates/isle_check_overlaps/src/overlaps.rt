@@ -1,7 +1,7 @@
 //! Rules, compared with one another.
 
 ghost use Rattle.std.specs.Prelude.{◌≡◌, ◌++◌, IfOk, OnOk, map, take};
-ghost use Rattle.std.specs.BTreeMap.{get_by_text};
+ghost use Rattle.std.specs.HashMap.{get_by_text};
 ghost use Rattle.std.specs.List.{flat_map};
 ghost use Rattle.isle_check_overlaps.specs.Faults.{hidden_by, meetings, met_at, comparison_of};
 ghost use Rattle.isle_check_overlaps.specs.Candidates.{hides};

@@ -2,7 +2,7 @@
 
 ghost use Rattle.std.specs.Prelude.{◌≡◌, ◌==◌, ◌<◌, ◌++◌, ◌∷◌, ℕ, [], IfOk, OnOk};
 ghost use Rattle.std.specs.Prelude.{get_or, length, map};
-ghost use Rattle.std.specs.BTreeMap.{get_by_text};
+ghost use Rattle.std.specs.HashMap.{get_by_text};
 ghost use Rattle.std.specs.List.{filter};
 ghost use Rattle.isle_check_overlaps.specs.Degrees.{AreDegrees, counted, counted_pair};
 ghost use Rattle.isle_check_overlaps.specs.Groups.{AreGroups, near};
@@ -14,8 +14,8 @@ ghost use Rattle.isle_check_overlaps.specs.Views.{pair_of, pairs_of, star_of, st
 use crate::candidates::{Candidate, overlap};
 use crate::groups::{Groups, add_to_group, near};
 use crate::telling::terms;
+use isle_check_environment::by_text::ByText;
 use std::alloc::{AllocError, Global};
-use std::collections::BTreeMap;
 
 /// Two rules that overlap.
 #[derive(Clone, Copy)]
@@ -54,7 +54,7 @@ pub fn grouped<'c, 'm, 'a>(
 fn no_groups<'c, 'm, 'a>(alloc: Global) -> Groups<'c, 'm, 'a>
     ensures { AreGroups result [] }
 {
-    BTreeMap::new(alloc)
+    ByText::new(alloc)
 }
 
 /// Adds the pairs of a rule with those before it.

@@ -3,12 +3,12 @@
 
 use crate::candidates::Candidate;
 use crate::groups::asked;
+use isle_check_environment::by_text::ByText;
 use isle_check_places::Place;
 use std::alloc::{AllocError, Global};
-use std::collections::BTreeMap;
 
 /// The rules of each term, in order.
-pub type Terms<'c, 'm, 'a> = BTreeMap<String, Vec<&'c Candidate<'m, 'a>>>;
+pub type Terms<'c, 'm, 'a> = ByText<Vec<&'c Candidate<'m, 'a>>>;
 
 /// How many rules a term has at least whose rules are told apart by a place.
 const FEWEST_RULES: usize = 100;
@@ -24,7 +24,7 @@ pub fn terms<'c, 'm, 'a>(
     alloc: Global,
     candidates: &'c [Candidate<'m, 'a>],
 ) -> Result<Terms<'c, 'm, 'a>, AllocError> {
-    let mut terms = BTreeMap::new(alloc);
+    let mut terms = ByText::new(alloc);
     for candidate in candidates {
         add_to_term(alloc, candidate, &mut terms)?;
     }
@@ -119,7 +119,7 @@ fn place_at<'m, 'a>(rule: &Candidate<'m, 'a>, index: Option<usize>) -> Option<&'
 
 /// Returns how many pairs of rules are compared if the rules are told apart by this place.
 fn pairs_left(alloc: Global, rules: &[&Candidate], place: &Place) -> Result<usize, AllocError> {
-    let mut counts = BTreeMap::new(alloc);
+    let mut counts = ByText::new(alloc);
     let mut free: usize = 0;
     let mut left: usize = 0;
     for index in 0..rules.len() {
@@ -138,7 +138,7 @@ fn pairs_left(alloc: Global, rules: &[&Candidate], place: &Place) -> Result<usiz
 }
 
 /// Counts a text, and returns how often it was counted before.
-fn count(text: String, counts: &mut BTreeMap<String, usize>) -> Result<usize, AllocError> {
+fn count(text: String, counts: &mut ByText<usize>) -> Result<usize, AllocError> {
     let before = match counts.get(text.as_str()) {
         Some(count) => *count,
         None => 0,

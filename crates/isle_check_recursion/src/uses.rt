@@ -14,12 +14,12 @@ ghost use Rattle.isle_check_signatures.specs.Entries.{Entry, Holds, entry};
 ghost use Rattle.isle_check_signatures.specs.Views.{environment_of};
 
 use isle_ast::ast::{Decl, Ident, Pattern};
+use isle_check_environment::by_text::ByText;
 use isle_check_signatures::Environment;
 use std::alloc::{AllocError, Global};
-use std::collections::BTreeMap;
 
 /// Declared terms by name, each with the number of its last declaration.
-type Numbers = BTreeMap<String, usize>;
+type Numbers = ByText<usize>;
 
 /// Returns, for each declared term, the numbers of the declared terms that its internal extractor
 /// uses. An `Err` means out of memory.
@@ -66,7 +66,7 @@ fn numbers(alloc: Global, decls: &[&Decl]) -> Result<Numbers, AllocError>
 fn no_numbers(alloc: Global) -> Numbers
     ensures { Holds (λ n. n) result [] }
 {
-    BTreeMap::new(alloc)
+    ByText::new(alloc)
 }
 
 fn put_number(numbers: &mut Numbers, name: String, number: usize) -> Result<(), AllocError>

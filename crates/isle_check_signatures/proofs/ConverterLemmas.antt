@@ -1,12 +1,12 @@
 -- The terms of converters, from the last one on.
 use Rattle.std.proofs.Common.{◌≡◌, ◌<◌, ◌≤◌, ◌-◌, ◌+◌, ℕ, List, ◌∷◌, cond, ◌&&◌, Some, Global, drop, get_or, length, map, option_map, string_bytes, sym, ap, ◌∙◌, arith}
 use Rattle.std.specs.Borrow.{Bor}
-use Rattle.std.specs.BTreeMap.{BTreeMap}
 use Rattle.std.specs.List.{find}
 use Rattle.std.specs.Str.{bytes_eq}
 use Rattle.std.specs.declared.string.String.{String}
 use Rattle.std.proofs.lemmas.List.{at_drop_more}
 use Rattle.isle_ast.specs.Tree.{Conversion}
+use Rattle.isle_check_environment.specs.ByText.{ByText}
 use Rattle.isle_check_signatures.specs.ByTexts.{get_by_texts}
 use Rattle.isle_check_signatures.specs.Environment.{converting}
 use Rattle.isle_check_signatures.specs.Views.{Converts}
@@ -23,7 +23,7 @@ one-before view f xs i x some within is =
     ∙ sym (at_drop_more (λ ys. f (map view ys)) xs (i - 1) x inside)
 
 -- a map that has the term of one more converter before the others
-pub Converts-put : (old new : BTreeMap (String Global) (BTreeMap (String Global) (Bor (String Global)))) (inner outer : List ℕ) (term : Bor (String Global))
+pub Converts-put : (old new : ByText (ByText (Bor (String Global)))) (inner outer : List ℕ) (term : Bor (String Global))
     (later : List Conversion) (c : Conversion) →
     inner ≡ c.inner_ty.text → outer ≡ c.outer_ty.text → string_bytes term.now ≡ c.term.text →
     ((one two : List ℕ) → get_by_texts new one two ≡ cond (bytes_eq inner one && bytes_eq outer two) (Some term) (get_by_texts old one two)) →

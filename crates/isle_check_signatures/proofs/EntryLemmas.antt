@@ -1,12 +1,10 @@
 -- The entries of a map, as they are added.
-use Rattle.std.proofs.Common.{◌≡◌, ℕ, List, [], ◌∷◌, ◌++◌, Bool, true, false, cond, Option, None, Some, refl, ap, ◌∙◌, option_map, string_bytes, Global, if◌then◌else◌}
-use Rattle.std.specs.BTreeMap.{BTreeMap, UpdatesBy, get_by_text}
-use Rattle.std.specs.Cmp.Lexicographic.{slice_cmp}
-use Rattle.std.specs.Ordering.{nat_cmp}
+use Rattle.std.proofs.Common.{◌≡◌, ℕ, List, [], ◌∷◌, ◌++◌, Bool, true, false, cond, Option, None, Some, refl, ap, ◌∙◌, option_map, string_bytes, if◌then◌else◌}
+use Rattle.std.specs.HashMap.{UpdatesBy, get_by_text}
 use Rattle.std.specs.Str.{bytes_eq}
-use Rattle.std.specs.String.{string_cmp}
-use Rattle.std.specs.declared.string.String.{String}
-use Rattle.std.proofs.lemmas.Map.Text.{btree_map_updates_text}
+use Rattle.std.specs.String.{string_eq}
+use Rattle.std.proofs.lemmas.Map.Text.{hash_map_updates_text}
+use Rattle.isle_check_environment.specs.ByText.{ByText}
 use Rattle.isle_check_signatures.specs.Entries.{Entry, Holds, entry, or_else, value_of}
 
 first-or_else : {Y : Type 0} (b : Bool) (y : Y) (x hit : Option Y) → cond b (Some y) (or_else x hit) ≡ or_else (cond b (Some y) x) hit
@@ -27,11 +25,11 @@ map-cond view true v x = refl
 map-cond view false v x = refl
 
 -- a map that has one more text holds one more entry
-pub Holds-put : {V Y : Type 0} (view : V → Y) (m n : BTreeMap (String Global) V) (text : List ℕ) (value : V) (entries : List (Entry Y)) →
-    UpdatesBy string_cmp (λ k. slice_cmp nat_cmp text (string_bytes k)) m n (Some value) →
+pub Holds-put : {V Y : Type 0} (view : V → Y) (m n : ByText V) (text : List ℕ) (value : V) (entries : List (Entry Y)) →
+    UpdatesBy string_eq (λ k. bytes_eq text (string_bytes k)) m n (Some value) →
     Holds view m entries → Holds view n (entries ++ entry text (view value) ∷ [])
 Holds-put view m n text value entries updates holds asked =
-    ap (option_map view) (btree_map_updates_text text m n (Some value) updates asked)
+    ap (option_map view) (hash_map_updates_text text m n (Some value) updates asked)
     ∙ map-cond view (bytes_eq text asked) value (get_by_text m asked)
     ∙ ap (λ x. cond (bytes_eq text asked) (Some (view value)) x) (holds asked)
     ∙ value_of-last entries (entry text (view value)) asked

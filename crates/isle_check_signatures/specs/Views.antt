@@ -1,11 +1,12 @@
 -- The terms and the environment of code, as pure values.
 use Rattle.std.specs.Prelude.{◌≡◌, ℕ, List, ◌||◌, is_some, map, option_map, string_bytes}
 use Rattle.std.specs.Borrow.{Bor}
-use Rattle.std.specs.BTreeMap.{BTreeMap, get_by_text}
+use Rattle.std.specs.HashMap.{get_by_text}
 use Rattle.std.specs.declared.alloc.Global.{Global}
 use Rattle.std.specs.declared.string.String.{String}
 use Rattle.isle_ast.specs.Tree.{Conversion}
 use Rattle.isle_ast_rules.specs.TreeView.{pattern_of}
+use Rattle.isle_check_environment.specs.ByText.{ByText}
 use Rattle.isle_check_environment.specs.Types.{is_integer_type, is_type_in}
 use Rattle.isle_check_signatures.specs.declared.environment.Environment.{Environment}
 use Rattle.isle_check_signatures.specs.declared.terms.Term.{Term}
@@ -25,7 +26,7 @@ term_of t =
     }
 
 -- the map has the terms of these converters and no others, of two types that of the first one
-abbrev pub Converts : BTreeMap (String Global) (BTreeMap (String Global) (Bor (String Global))) → List Conversion → Type 0
+abbrev pub Converts : ByText (ByText (Bor (String Global))) → List Conversion → Type 0
 Converts terms cs = (inner outer : List ℕ) → option_map (λ t. string_bytes t.now) (get_by_texts terms inner outer) ≡ converting cs inner outer
 
 abbrev pub environment_of : Environment → EnvironmentNode

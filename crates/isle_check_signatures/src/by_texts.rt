@@ -4,11 +4,11 @@ ghost use Rattle.std.specs.Prelude.{◌≡◌, ◌&&◌, ℕ, List, OnOk, Some, 
 ghost use Rattle.std.specs.Prelude.{option_map, string_bytes};
 ghost use Rattle.isle_check_signatures.specs.ByTexts.{get_by_texts};
 
+use isle_check_environment::by_text::ByText;
 use std::alloc::{AllocError, Global};
-use std::collections::BTreeMap;
 
 /// Values by a first and a second text.
-pub type ByTexts<V> = BTreeMap<String, BTreeMap<String, V>>;
+pub type ByTexts<V> = ByText<ByText<V>>;
 
 /// Returns the value at two texts, if there is one.
 pub fn value_at<'m, V>(values: &'m ByTexts<V>, first: &str, second: &str) -> Option<&'m V>
@@ -29,9 +29,7 @@ pub fn put_value<V: Drop>(
         ≡ (if bytes_eq (string_bytes first) one && bytes_eq (string_bytes second) two
         then Some value else get_by_texts values.old one two)) }
 {
-    let mut at_first = values
-        .remove(first.as_str())
-        .unwrap_or(BTreeMap::new(alloc));
+    let mut at_first = values.remove(first.as_str()).unwrap_or(ByText::new(alloc));
     at_first.insert(second, value)?;
     values.insert(first, at_first)?;
     Ok(())

@@ -7,12 +7,12 @@ ghost use Rattle.isle_check_signatures.specs.Entries.{Entry, Holds, entry};
 ghost use Rattle.isle_check_signatures.specs.Signatures.{constant_entry};
 
 use isle_ast::ast::{Def, Extern};
+use isle_check_environment::by_text::ByText;
 use std::alloc::{AllocError, Global};
-use std::collections::BTreeMap;
 
 /// Returns the type of each constant. If a constant is declared twice, its last type counts. An
 /// `Err` means out of memory.
-pub fn constants(alloc: Global, defs: &[Def]) -> Result<BTreeMap<String, String>, AllocError>
+pub fn constants(alloc: Global, defs: &[Def]) -> Result<ByText<String>, AllocError>
     ensures { IfOk result (λ types. Holds string_bytes types
         (flat_map constant_entry (definitions_of defs.now))) }
 {
@@ -23,13 +23,13 @@ pub fn constants(alloc: Global, defs: &[Def]) -> Result<BTreeMap<String, String>
     Ok(types)
 }
 
-fn no_types(alloc: Global) -> BTreeMap<String, String>
+fn no_types(alloc: Global) -> ByText<String>
     ensures { Holds string_bytes result [] }
 {
-    BTreeMap::new(alloc)
+    ByText::new(alloc)
 }
 
-fn add_constant(def: &Def, types: &mut BTreeMap<String, String>) -> Result<(), AllocError>
+fn add_constant(def: &Def, types: &mut ByText<String>) -> Result<(), AllocError>
     ensures { OnOk result ((entries : List (Entry (List ℕ))) → Holds string_bytes types.old entries
         → Holds string_bytes types.new (entries ++ constant_entry (definition_of def.now))) }
 {
@@ -41,11 +41,7 @@ fn add_constant(def: &Def, types: &mut BTreeMap<String, String>) -> Result<(), A
     }
 }
 
-fn put_type(
-    types: &mut BTreeMap<String, String>,
-    name: String,
-    ty: String,
-) -> Result<(), AllocError>
+fn put_type(types: &mut ByText<String>, name: String, ty: String) -> Result<(), AllocError>
     ensures { OnOk result ((entries : List (Entry (List ℕ))) → Holds string_bytes types.old entries
         → Holds string_bytes types.new
         (entries ++ entry (string_bytes name) (string_bytes ty) ∷ [])) }

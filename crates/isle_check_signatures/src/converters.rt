@@ -9,9 +9,9 @@ ghost use Rattle.isle_check_signatures.specs.Views.{Converts};
 
 use crate::by_texts::{ByTexts, put_value};
 use isle_ast::ast::{Converter, Def};
+use isle_check_environment::by_text::ByText;
 use isle_check_environment::parts::converters_in;
 use std::alloc::{AllocError, Global};
-use std::collections::BTreeMap;
 
 /// The terms that convert, by the inner and the outer type.
 pub type Converters<'a> = ByTexts<&'a String>;
@@ -29,7 +29,7 @@ pub fn converters(alloc: Global, defs: &[Def]) -> Result<Converters<'_>, AllocEr
 fn terms_of<'a>(alloc: Global, converters: &[&'a Converter]) -> Result<Converters<'a>, AllocError>
     ensures { IfOk result (λ terms. Converts terms (converters_at converters.now)) }
 {
-    let mut terms = BTreeMap::new(alloc);
+    let mut terms = ByText::new(alloc);
     for at in (0..converters.len()).rev() {
         put_converter(alloc, converters[at], &mut terms)?;
     }

@@ -15,12 +15,12 @@ use crate::templates::templates;
 use crate::terms::{Term, terms_by_text};
 use crate::types::primitives;
 use isle_ast::ast::{Def, Pattern};
+use isle_check_environment::by_text::ByText;
 use isle_check_environment::names::{Names, has};
 use isle_check_environment::parts::types_in;
 use isle_check_environment::terms::{Terms, known_terms};
 use isle_check_environment::types::{is_integer_type, is_type, type_names};
 use std::alloc::{AllocError, Global};
-use std::collections::BTreeMap;
 
 /// What the definitions of a program declare, by text.
 #[derive(Drop)]
@@ -30,13 +30,13 @@ pub struct Environment<'a> {
     /// Those of them that are primitive.
     pub primitives: Names,
     /// The types of constants.
-    pub constants: BTreeMap<String, String>,
+    pub constants: ByText<String>,
     /// The terms: what is declared of each.
-    pub terms: BTreeMap<String, Term>,
+    pub terms: ByText<Term>,
     /// The terms: which sorts of definition each has.
     pub sorts: Terms,
     /// The templates of internal extractors.
-    pub templates: BTreeMap<String, Pattern>,
+    pub templates: ByText<Pattern>,
     /// The terms with an external extractor.
     pub extractors: Names,
     /// The terms with an external constructor.

@@ -1,5 +1,5 @@
 //! What the definitions of a program declare for the typing of its rules, by text: types,
-//! constants, terms, templates and converters. Lookups take logarithmic time.
+//! constants, terms, templates and converters. Lookups take constant time.
 #![tactic(auto)]
 
 pub mod by_texts;

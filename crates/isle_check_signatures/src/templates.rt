@@ -10,13 +10,13 @@ ghost use Rattle.isle_check_signatures.specs.Entries.{Entry, Holds, entry};
 ghost use Rattle.isle_check_signatures.specs.Signatures.{template_entry};
 
 use isle_ast::ast::{Def, Pattern};
+use isle_check_environment::by_text::ByText;
 use std::alloc::{AllocError, Global};
-use std::collections::BTreeMap;
 
 /// Returns the template of each term that has an internal extractor: its pattern, in which macro
 /// arguments stand for the parameters. If a term has two, the last one counts. An `Err` means out
 /// of memory.
-pub fn templates(alloc: Global, defs: &[Def]) -> Result<BTreeMap<String, Pattern>, AllocError>
+pub fn templates(alloc: Global, defs: &[Def]) -> Result<ByText<Pattern>, AllocError>
     requires { definitions_have_macro_arg (definitions_of defs.now) ≡ false }
     ensures { IfOk result (λ templates. Holds pattern_of templates
         (flat_map template_entry (definitions_of defs.now))) }
@@ -28,17 +28,13 @@ pub fn templates(alloc: Global, defs: &[Def]) -> Result<BTreeMap<String, Pattern
     Ok(templates)
 }
 
-fn no_templates(alloc: Global) -> BTreeMap<String, Pattern>
+fn no_templates(alloc: Global) -> ByText<Pattern>
     ensures { Holds pattern_of result [] }
 {
-    BTreeMap::new(alloc)
+    ByText::new(alloc)
 }
 
-fn add_template(
-    alloc: Global,
-    def: &Def,
-    templates: &mut BTreeMap<String, Pattern>,
-) -> Result<(), AllocError>
+fn add_template(alloc: Global, def: &Def, templates: &mut ByText<Pattern>) -> Result<(), AllocError>
     requires { definition_has_macro_arg (definition_of def.now) ≡ false }
     ensures { OnOk result ((entries : List (Entry PatternNode))
         → Holds pattern_of templates.old entries
@@ -56,7 +52,7 @@ fn add_template(
 }
 
 fn put_template(
-    templates: &mut BTreeMap<String, Pattern>,
+    templates: &mut ByText<Pattern>,
     name: String,
     template: Pattern,
 ) -> Result<(), AllocError>

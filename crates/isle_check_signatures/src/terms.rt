@@ -13,8 +13,8 @@ ghost use Rattle.isle_check_signatures.specs.Signatures.{variants_entries, texts
 ghost use Rattle.isle_check_signatures.specs.Views.{term_of};
 
 use isle_ast::ast::{Decl, Def, Fields, Ident, StructField, TupleField, TypeValue, Variant};
+use isle_check_environment::by_text::ByText;
 use std::alloc::{AllocError, Global};
-use std::collections::BTreeMap;
 
 /// A term: what its arguments and its result are, and how it may be used.
 #[derive(Debug, Drop)]
@@ -36,7 +36,7 @@ pub struct Term {
 /// Returns the terms of a program by their texts: variants under their full names, and declared
 /// terms. A declared term counts before a variant, and of either the last one. An `Err` means out
 /// of memory.
-pub fn terms_by_text(alloc: Global, defs: &[Def]) -> Result<BTreeMap<String, Term>, AllocError>
+pub fn terms_by_text(alloc: Global, defs: &[Def]) -> Result<ByText<Term>, AllocError>
     ensures { IfOk result (λ terms. Holds term_of terms
         (flat_map variant_entries (definitions_of defs.now)
         ++ flat_map declared_entry (definitions_of defs.now))) }
@@ -47,13 +47,13 @@ pub fn terms_by_text(alloc: Global, defs: &[Def]) -> Result<BTreeMap<String, Ter
     Ok(terms)
 }
 
-fn no_terms(alloc: Global) -> BTreeMap<String, Term>
+fn no_terms(alloc: Global) -> ByText<Term>
     ensures { Holds term_of result [] }
 {
-    BTreeMap::new(alloc)
+    ByText::new(alloc)
 }
 
-fn put_term(terms: &mut BTreeMap<String, Term>, name: String, term: Term) -> Result<(), AllocError>
+fn put_term(terms: &mut ByText<Term>, name: String, term: Term) -> Result<(), AllocError>
     ensures { OnOk result ((entries : List (Entry TermNode)) → Holds term_of terms.old entries
         → Holds term_of terms.new (entries ++ entry (string_bytes name) (term_of term) ∷ [])) }
 {
@@ -61,11 +61,7 @@ fn put_term(terms: &mut BTreeMap<String, Term>, name: String, term: Term) -> Res
     Ok(())
 }
 
-fn add_declared(
-    alloc: Global,
-    defs: &[Def],
-    terms: &mut BTreeMap<String, Term>,
-) -> Result<(), AllocError>
+fn add_declared(alloc: Global, defs: &[Def], terms: &mut ByText<Term>) -> Result<(), AllocError>
     ensures { OnOk result ((entries : List (Entry TermNode)) → Holds term_of terms.old entries
         → Holds term_of terms.new
         (entries ++ flat_map declared_entry (definitions_of defs.now))) }
@@ -76,11 +72,7 @@ fn add_declared(
     Ok(())
 }
 
-fn add_declaration(
-    alloc: Global,
-    def: &Def,
-    terms: &mut BTreeMap<String, Term>,
-) -> Result<(), AllocError>
+fn add_declaration(alloc: Global, def: &Def, terms: &mut ByText<Term>) -> Result<(), AllocError>
     ensures { OnOk result ((entries : List (Entry TermNode)) → Holds term_of terms.old entries
         → Holds term_of terms.new (entries ++ declared_entry (definition_of def.now))) }
 {
@@ -117,11 +109,7 @@ fn texts(alloc: Global, names: &[Ident]) -> Result<Vec<String>, AllocError>
     Ok(made)
 }
 
-fn add_variants(
-    alloc: Global,
-    defs: &[Def],
-    terms: &mut BTreeMap<String, Term>,
-) -> Result<(), AllocError>
+fn add_variants(alloc: Global, defs: &[Def], terms: &mut ByText<Term>) -> Result<(), AllocError>
     ensures { OnOk result ((entries : List (Entry TermNode)) → Holds term_of terms.old entries
         → Holds term_of terms.new
         (entries ++ flat_map variant_entries (definitions_of defs.now))) }
@@ -132,11 +120,7 @@ fn add_variants(
     Ok(())
 }
 
-fn add_variants_of(
-    alloc: Global,
-    def: &Def,
-    terms: &mut BTreeMap<String, Term>,
-) -> Result<(), AllocError>
+fn add_variants_of(alloc: Global, def: &Def, terms: &mut ByText<Term>) -> Result<(), AllocError>
     ensures { OnOk result ((entries : List (Entry TermNode)) → Holds term_of terms.old entries
         → Holds term_of terms.new (entries ++ variant_entries (definition_of def.now))) }
 {
@@ -152,7 +136,7 @@ fn add_each_variant(
     alloc: Global,
     enum_name: &Ident,
     variants: &[Variant],
-    terms: &mut BTreeMap<String, Term>,
+    terms: &mut ByText<Term>,
 ) -> Result<(), AllocError>
     ensures { OnOk result ((entries : List (Entry TermNode)) → Holds term_of terms.old entries
         → Holds term_of terms.new
@@ -168,7 +152,7 @@ fn add_variant(
     alloc: Global,
     enum_name: &Ident,
     variant: &Variant,
-    terms: &mut BTreeMap<String, Term>,
+    terms: &mut ByText<Term>,
 ) -> Result<(), AllocError>
     ensures { OnOk result ((entries : List (Entry TermNode)) → Holds term_of terms.old entries
         → Holds term_of terms.new

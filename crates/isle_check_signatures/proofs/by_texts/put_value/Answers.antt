@@ -1,5 +1,5 @@
 use Rattle.std.proofs.Common.{string_bytes, ap, ◌∙◌}
-use Rattle.std.specs.BTreeMap.{get_by_text}
+use Rattle.std.specs.HashMap.{get_by_text}
 use Rattle.isle_check_signatures.specs.ByTexts.{get_if_some}
 use Rattle.isle_check_signatures.proofs.ByTextsLemmas.{get-or_empty, get_by_texts-put}
 use Rattle.isle_check_signatures.proofs.by_texts.put_value.Goals as goal
