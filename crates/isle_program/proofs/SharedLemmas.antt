@@ -40,7 +40,6 @@ or-none f (Some x) rest is = cc
 module _ (sources : List Source) (known : List Name) (decls : List (Bor Decl)) (i : ℕ) (x : Bor Decl) (found : Option SharedTerm)
     (within : i < length decls) (is : x ≡ get_or decls i x)
     (exact : option_map shared_of found ≡ shared_with sources (declared (declaration_of x.now)) (place_of known (declared (declaration_of x.now)).text)) where
-
   -- what this declaration shares, or else what those behind it do
   here : option_or (option_map shared_of found) (first_shared sources (declared (declaration_of x.now) ∷ known) (terms_at (drop (i + 1) decls)))
       ≡ first_shared sources known (terms_at (drop i decls))

@@ -87,11 +87,7 @@ fn put<'a>(places: &mut HashMap<&'a str, Pos>, decl: &'a Decl) -> Result<(), All
 }
 
 /// A declared term, if another declaration of it is in a text of another name.
-fn shared_with<'a>(
-    sources: &[Source],
-    decl: &'a Decl,
-    other: Option<Pos>,
-) -> Option<SharedTerm<'a>>
+fn shared_with<'a>(sources: &[Source], decl: &'a Decl, other: Option<Pos>) -> Option<SharedTerm<'a>>
     ensures { option_map shared_of result ≡ SeveralPrograms.shared_with
         (map source_of sources.now) (declared (declaration_of decl.now)) other }
 {
