@@ -10,5 +10,5 @@ returns-clause-ok c =
       is = (c.requires, front.1);
       left = refl;
       holds = front.2;
-      refused = c.in_ok-push.ensures;
+      refused = c.in_ok-push.ensures.items;
     }

@@ -1,4 +1,4 @@
-use Rattle.std.proofs.Common.{[], ◌∷◌, ◌++◌, ◌||◌, ap, refl, subst, sym, ◌∙◌}
+use Rattle.std.proofs.Common.{◌≡◌, ◌+◌, [], ◌∷◌, ◌++◌, ◌||◌, ap, refl, rules, subst, sym, ◌∙◌}
 use Rattle.std.proofs.lemmas.Result.{err_from_is_err_and}
 use Rattle.isle_ast.specs.TreeView.{definition_of, definitions_of}
 use Rattle.isle_base.specs.Steps.{is_failed}
@@ -52,6 +52,7 @@ loop-def-preserved c =
     let live = found_lives c.in_ok-def.field-0 (has_failed c.loop-def.parser) c.in_ok-def.ensures.failed in
     let d = definition_of c.in-Some.def in
     let spelt = rw c.in-Some.is at c.in_ok-def.ensures.spelt in
+    let more : c.in_ok-count.field-0 ≡ c.loop-def.count + 1 = search rules in
     record {
       front = i.front ++ d ∷ [];
       same = c.in_ok-def.ensures.same ∙ i.same;
@@ -61,7 +62,7 @@ loop-def-preserved c =
       grows =
           grows-on i.front (d ∷ []) c.args.index.now c.loop-def.index c.add-added.new.self i.grows
           (λ ds is. subst (λ xs. IsIndexOf (ds ++ definitions_of xs) c.add-added.new.self) c.from_ref.ensures.value (c.in_ok-added.ensures ds is));
-      counted = ?;
+      counted = more ∙ one-counted i.front d c.loop-def.count i.counted;
     }
 
 pub returns : goal.returns
