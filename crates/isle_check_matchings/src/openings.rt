@@ -81,12 +81,15 @@ fn answer<'a>(
     ensures at { IfOk result (λ made. place_of made.items
         ≡ (answer (terms_of terms.entry) multi term.now (place_of at.entry.items)).at) }
 {
+    let mut at = at;
     if multi {
-        return step_on(alloc, &at, Step::Each);
+        at.push(Step::Each)?;
+        return Ok(at);
     }
     if has(terms.infallible, term) {
         return Ok(at);
     }
     constrain(alloc, &at, Constraint::Present, asks)?;
-    step_on(alloc, &at, Step::Content)
+    at.push(Step::Content)?;
+    Ok(at)
 }
