@@ -273,7 +273,7 @@ fn type_arguments(
         (arguments_by (parts_by typer.entry) (expression_list_of (expressions_of exprs.now.items))
         (map string_bytes types.now.items) [] (progress_of progress.old)) }
 {
-    let mut typed = Vec::with_capacity(typer.alloc, exprs.len())?;
+    let mut typed = Vec::new(typer.alloc);
     for (number, expr) in exprs.iter().enumerate() {
         if number >= types.len() {
             return Ok(typed);
@@ -326,7 +326,7 @@ fn type_lets(
         (lets_by (parts_by typer.entry) (environment_of typer.entry.env.now) pos
         (let_list_of (single_lets_of defs.now.items)) [] (progress_of progress.old)) }
 {
-    let mut typed = Vec::with_capacity(typer.alloc, defs.len())?;
+    let mut typed = Vec::new(typer.alloc);
     for def in defs {
         if let Some(made) = type_let_def(typer, def, pos, progress)? {
             typed.push(made)?;

@@ -36,11 +36,10 @@ fn add_to_term<'c, 'm, 'a>(
     candidate: &'c Candidate<'m, 'a>,
     terms: &mut Terms<'c, 'm, 'a>,
 ) -> Result<(), AllocError> {
-    if let Some(rules) = terms.get_mut(candidate.term) {
-        rules.push(candidate)?;
-        return Ok(());
-    }
-    let mut rules = Vec::new(alloc);
+    let mut rules = match terms.remove(candidate.term) {
+        Some(rules) => rules,
+        None => Vec::new(alloc),
+    };
     rules.push(candidate)?;
     terms.insert(String::from_str(alloc, candidate.term)?, rules)?;
     Ok(())
@@ -140,8 +139,10 @@ fn pairs_left(alloc: Global, rules: &[&Candidate], place: &Place) -> Result<usiz
 
 /// Counts a text, and returns how often it was counted before.
 fn count(text: String, counts: &mut ByText<usize>) -> Result<usize, AllocError> {
-    let count = counts.entry(text)?.or_insert(0);
-    let before = *count;
-    *count = before.saturating_add(1);
+    let before = match counts.get(text.as_str()) {
+        Some(count) => *count,
+        None => 0,
+    };
+    counts.insert(text, before.saturating_add(1))?;
     Ok(before)
 }

@@ -136,8 +136,7 @@ pub fn step_on<'a>(alloc: Global, at: &[Step<'a>], step: Step<'a>) -> Result<Pla
     ensures { IfOk result (λ made. place_of made.items
         ≡ step_on (place_of at.now) (step_of step.entry)) }
 {
-    let mut made = Vec::with_capacity(alloc, at.len().saturating_add(1))?;
-    made.extend_from_slice(at)?;
+    let mut made = copied(alloc, at)?;
     made.push(step)?;
     Ok(made)
 }

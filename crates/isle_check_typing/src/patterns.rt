@@ -307,7 +307,7 @@ fn type_each(
         (pattern_list_of (patterns_of patterns.now.items)) (string_bytes ty.now) []
         (progress_of progress.old)) }
 {
-    let mut typed = Vec::with_capacity(alloc, patterns.len())?;
+    let mut typed = Vec::new(alloc);
     for pattern in patterns {
         if let Some(made) = type_pattern(alloc, depth, env, pattern, ty, progress)? {
             typed.push(made)?;
@@ -332,7 +332,7 @@ pub fn type_arguments(
         (pattern_list_of (patterns_of patterns.now.items)) (map string_bytes types.now.items) []
         (progress_of progress.old)) }
 {
-    let mut typed = Vec::with_capacity(alloc, patterns.len())?;
+    let mut typed = Vec::new(alloc);
     for (number, pattern) in patterns.iter().enumerate() {
         if number >= types.len() {
             return Ok(typed);
