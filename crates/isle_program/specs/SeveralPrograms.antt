@@ -55,8 +55,8 @@ first_shared sources earlier (term ∷ terms) =
 
 abbrev pub shared_message : (term file : List ℕ) → List ℕ
 shared_message term file =
-    codes "'" ++ term ++ codes "' is also declared in " ++ file
-    ++ codes ": these look like several programs; list them in isle.toml and use --program (docs/EDITORS.md#which-files-make-a-program)"
+    codes "'" ++ (term ++ (codes "' is also declared in " ++ (file
+    ++ codes ": these look like several programs; list them in isle.toml and use --program (docs/EDITORS.md#which-files-make-a-program)")))
 
 -- the line that says so at the term's declaration, if there is one
 abbrev pub note_on : List Source → Option SharedTerm → List ℕ

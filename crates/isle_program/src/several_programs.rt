@@ -2,7 +2,7 @@
 
 ghost use Rattle.std.specs.Prelude.{◌≡◌, ◌∷◌, [], IfOk, List, OnOk, map, option_map};
 ghost use Rattle.std.specs.Prelude.{string_bytes};
-ghost use Rattle.isle_ast.specs.TreeView.{declaration_of, definition_of, definitions_of};
+ghost use Rattle.isle_ast.specs.TreeView.{declaration_of, definitions_of};
 ghost use Rattle.isle_ast_names.specs.Tree.{Name};
 ghost use Rattle.isle_cli.specs.Sources.{source_of};
 ghost use Rattle.isle_program.specs.SeveralPrograms as SeveralPrograms;
@@ -68,13 +68,21 @@ fn first_shared<'a>(
 {
     let mut places = HashMap::new(alloc);
     for decl in decls {
-        let shared = shared_with(sources, decl, places.get(decl.term.0.as_str()).copied());
+        let shared = shared_with(sources, decl, place_of(&places, decl));
         if shared.is_some() {
             return Ok(shared);
         }
         put(&mut places, decl)?;
     }
     Ok(None)
+}
+
+/// The place of the last declaration of a term that was added.
+fn place_of(places: &HashMap<&str, Pos>, decl: &Decl) -> Option<Pos>
+    ensures { (terms : List Name) → Knows places.now terms
+        → result ≡ SeveralPrograms.place_of terms (string_bytes decl.now.term.0) }
+{
+    places.get(decl.term.0.as_str()).copied()
 }
 
 /// Adds the place of a declaration.
