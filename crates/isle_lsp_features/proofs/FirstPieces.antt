@@ -1,5 +1,5 @@
 -- The first piece of a text.
-use Rattle.std.proofs.Common.{◌≡◌, ℕ, zero, suc, List, [], ◌∷◌, Option, None, Some, refl, sym, ap, subst, length, ◌∙◌}
+use Rattle.std.proofs.Common.{◌≡◌, ℕ, zero, suc, List, [], ◌∷◌, Option, None, Some, refl, sym, ap, length, ◌∙◌}
 use Rattle.isle_ast.specs.Tree.{Definition}
 use Rattle.isle_base.proofs.Complete.{Lexes-unique}
 use Rattle.isle_base_source.specs.declared.error.Error.{Error}

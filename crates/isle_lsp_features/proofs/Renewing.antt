@@ -1,5 +1,5 @@
 -- The texts of a program whose known definitions an index has.
-use Rattle.std.proofs.Common.{◌≡◌, ℕ, ◌+◌, ◌-◌, ◌<◌, ◌≤◌, List, [], ◌∷◌, ◌++◌, Bool, true, false, not, cond, Some, length, map, refl, sym, ap, subst, ◌∙◌, suc, zero, arith, append_assoc, take, drop, slice_set, get_or, string_bytes}
+use Rattle.std.proofs.Common.{◌≡◌, ◌==◌, ℕ, ◌+◌, ◌-◌, ◌<◌, ◌≤◌, List, [], ◌∷◌, ◌++◌, Bool, not, cond, Some, length, map, refl, sym, ap, subst, ◌∙◌, suc, zero, arith, append_assoc, take, drop, slice_set, get_or, string_bytes}
 use Rattle.std.specs.List.{flat_map, slice_get, sum_by}
 use Rattle.std.proofs.lemmas.Grind.{flat_map-append}
 use Rattle.std.proofs.lemmas.List.{drop-map, length-append, length-drop, length-map, length-take-le, map-append, take-map}

@@ -1,5 +1,5 @@
 -- A walk over lists: no more of them are open than bytes are behind.
-use Rattle.std.proofs.Common.{◌≡◌, ℕ, ◌+◌, ◌<◌, ◌≤◌, ◌^◌, List, [], ◌∷◌, Option, Some, arith, nat_le, subst, ⊎_elim}
+use Rattle.std.proofs.Common.{◌≡◌, ℕ, ◌+◌, ◌<◌, ◌≤◌, ◌^◌, List, [], ◌∷◌, Some, arith, nat_le, subst, ⊎_elim}
 use Rattle.std.proofs.lemmas.Bool.{cases_Bool}
 use Rattle.isle_base.specs.Steps.{AreWithin, Rises, first_placed}
 use Rattle.isle_base.specs.Place.{Placed}

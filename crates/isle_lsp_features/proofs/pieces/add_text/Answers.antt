@@ -1,4 +1,4 @@
-use Rattle.std.proofs.Common.{◌≡◌, ℕ, ◌-◌, [], None, Some, arith, option_map, refl, string_bytes, subst, sym, zero}
+use Rattle.std.proofs.Common.{◌≡◌, ℕ, ◌-◌, [], None, Some, arith, refl, string_bytes, subst, sym}
 use Rattle.isle_lsp_features.specs.Pieces.{ArePieces}
 use Rattle.isle_lsp_features.proofs.Growing.{all-added, none-added, none-left, one-added}
 use Rattle.isle_lsp_features.proofs.pieces.add_text.Goals as goal
