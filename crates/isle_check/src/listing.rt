@@ -7,7 +7,7 @@ ghost use Rattle.isle_cli.specs.declared.failure.Failure.TheVariants.{Memory, Us
 ghost use Rattle.isle_check.specs.Listing.{Lists, ProgramNode, file_line, file_lines, listing};
 ghost use Rattle.isle_check.specs.Listing.{program_lines, program_of};
 
-use crate::manifests;
+use crate::manifests::SETTINGS;
 use crate::program::PROGRAM;
 use isle_cli::arguments::{Argument, Options, Request, has_flag, requested};
 use isle_cli::failure::Failure;
@@ -26,7 +26,7 @@ const LIST_OPTION: &str = "--print-programs";
 /// All options: those of `run_programs`, and this one.
 pub const OPTIONS: Options = Options {
     flags: &[LIST_OPTION, ALL_OPTION],
-    settings: manifests::OPTIONS.settings,
+    settings: SETTINGS,
 };
 
 /// Returns the arguments of a command line that asks for the list of the programs.
