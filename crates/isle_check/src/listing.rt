@@ -7,14 +7,15 @@ ghost use Rattle.isle_cli.specs.declared.failure.Failure.TheVariants.{Memory, Us
 ghost use Rattle.isle_check.specs.Listing.{Lists, ProgramNode, file_line, file_lines, listing};
 ghost use Rattle.isle_check.specs.Listing.{program_lines, program_of};
 
-use crate::manifests::SETTINGS;
 use crate::program::PROGRAM;
-use isle_cli::arguments::{Argument, Options, Request, has_flag, requested};
+use isle_cli::arguments::{Argument, EXCLUDE_OPTION, Options, Request, has_flag, requested};
 use isle_cli::failure::Failure;
 use isle_cli::program::{report, tell};
 use isle_cli::streams::{Streams, write_whole};
-use isle_program_manifest::asking::{ALL_OPTION, chosen_programs, tell_choice};
+use isle_program_manifest::asking::{ALL_OPTION, NAME_OPTION, chosen_programs, tell_choice};
 use isle_program_manifest::choice::{Chosen, missing_notes};
+use isle_program_messages::colours::COLOUR_OPTION;
+use isle_program_messages::format::FORMAT_OPTION;
 use std::alloc::{AllocError, Global};
 use std::env::Env;
 use std::fs::Files;
@@ -26,7 +27,15 @@ const LIST_OPTION: &str = "--print-programs";
 /// All options: those of `run_programs`, and this one.
 pub const OPTIONS: Options = Options {
     flags: &[LIST_OPTION, ALL_OPTION],
-    settings: SETTINGS,
+    settings: &[
+        "--allow",
+        "--warn",
+        "--deny",
+        FORMAT_OPTION,
+        COLOUR_OPTION,
+        EXCLUDE_OPTION,
+        NAME_OPTION,
+    ],
 };
 
 /// Returns the arguments of a command line that asks for the list of the programs.

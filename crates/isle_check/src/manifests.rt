@@ -29,21 +29,18 @@ use std::env::Env;
 use std::fs::Files;
 use std::io::Write;
 
-/// The options with a value, with the one that names a program of a manifest.
-pub const SETTINGS: &[&str] = &[
-    "--allow",
-    "--warn",
-    "--deny",
-    FORMAT_OPTION,
-    COLOUR_OPTION,
-    EXCLUDE_OPTION,
-    NAME_OPTION,
-];
-
 /// The options with those that ask for programs of a manifest.
 pub const OPTIONS: Options = Options {
     flags: &[ALL_OPTION],
-    settings: SETTINGS,
+    settings: &[
+        "--allow",
+        "--warn",
+        "--deny",
+        FORMAT_OPTION,
+        COLOUR_OPTION,
+        EXCLUDE_OPTION,
+        NAME_OPTION,
+    ],
 };
 
 /// Checks programs of the nearest manifest, each by itself, writes the findings to the output, and

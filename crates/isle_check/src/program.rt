@@ -9,7 +9,6 @@ ghost use Rattle.isle_check.specs.Doing.{AsAsked, Cuts, CutsAsked, Does, Explain
 ghost use Rattle.isle_check.specs.Doing.{IsFailureText, IsFailureTextOf, IsMisuse, Tells};
 ghost use Rattle.isle_check.specs.Doing.{told_status};
 ghost use Rattle.isle_check.specs.Options.{are_usable};
-ghost use Rattle.isle_program.specs.SeveralPrograms.{IsNote};
 ghost use Rattle.isle_program_messages.specs.Colours.{settled};
 
 use crate::listing;
@@ -58,8 +57,7 @@ pub const OPTIONS: Options = Options {
 /// | 4 | `isle-check: out of memory` |
 /// | 5 | `isle-check: output failed` |
 ///
-/// With status 3 standard error gets a line for each. With status 0 and 1 it gets a note, if the
-/// texts look like several programs.
+/// With status 3 standard error gets a line for each.
 ///
 /// With status 0 and 1 the output gets a line for each text that does not parse, or else a line for
 /// each finding, in the format that is asked for, and for people a line that counts them; with
@@ -78,8 +76,8 @@ pub fn run<R: Files + AllocGlobal + Clone + Drop, I: Read, W: Write, E: Write>(
     ensures unread { result ≡ 2
         → Keeps (I.remaining streams.old.input) (I.remaining streams.new.input) }
 
-    // With status 0, 1 or 3 the request is done, as far as texts can be read; standard error gets
-    // the note on them, or with 3 a line for each text that can't be read, or a beginning of that.
+    // With status 0, 1 or 3 the request is done, as far as texts can be read; with 3 standard error
+    // gets a line for each text that can't be read, or a beginning of these lines.
     ensures done { result ≢ 2 → result ≢ 4 → result ≢ 5 → AsAsked (map string_bytes words.now)
         (λ what. Does shows_colours what result
         (I.remaining streams.old.input) (I.remaining streams.new.input)
@@ -94,9 +92,9 @@ pub fn run<R: Files + AllocGlobal + Clone + Drop, I: Read, W: Write, E: Write>(
         (I.remaining streams.old.input) (I.remaining streams.new.input)
         (W.contents streams.old.output) (W.contents streams.new.output)) }
 
-    // Else standard error gets nothing but this note, or the message of the status.
-    ensures quiet { result ≤ 1 → WritesBeginning (E.contents streams.old.faults)
-        (E.contents streams.new.faults) IsNote }
+    // Else standard error gets nothing, or the message of the status.
+    ensures quiet { result ≤ 1
+        → Keeps (E.contents streams.old.faults) (E.contents streams.new.faults) }
     ensures told { 2 ≤ result → result ≢ 3 → WritesBeginning (E.contents streams.old.faults)
         (E.contents streams.new.faults) (IsFailureTextOf (map string_bytes words.now) result) }
     ensures statuses { result ≤ 5 }
@@ -153,8 +151,8 @@ fn work<R: Files + AllocGlobal + Clone + Drop, I: Read, W: Write, E: Write>(
         (settled shows_colours (map given_of arguments.items))
         (I.remaining streams.old.input) (I.remaining streams.new.input)
         (W.contents streams.old.output) (W.contents streams.new.output) }
-    ensures quiet { result ≤ 1 → WritesBeginning (E.contents streams.old.faults)
-        (E.contents streams.new.faults) IsNote }
+    ensures quiet { result ≤ 1
+        → Keeps (E.contents streams.old.faults) (E.contents streams.new.faults) }
     ensures told { 2 ≤ result → result ≢ 3 → WritesBeginning (E.contents streams.old.faults)
         (E.contents streams.new.faults) (IsFailureText result) }
 {
@@ -180,7 +178,9 @@ fn check_files<R: Files + AllocGlobal + Clone + Drop, I: Read, W: Write, E: Writ
         (settled shows_colours (map given_of arguments.items))
         (I.remaining streams.old.input) (I.remaining streams.new.input)
         (W.contents streams.old.output) (W.contents streams.new.output)) }
-    ensures quiet { MatchResult result (λ status. (status ≤ 3) × (status ≢ 2))
+    ensures quiet { MatchResult result
+        (λ status. (status ≤ 3) × (status ≢ 2)
+        × (status ≤ 1 → Keeps (E.contents streams.old.faults) (E.contents streams.new.faults)))
         (λ _. Keeps (E.contents streams.old.faults) (E.contents streams.new.faults)) }
 {
     let mut arguments = arguments;
@@ -201,7 +201,9 @@ fn check_files_settled<R: Files + AllocGlobal + Clone + Drop, I: Read, W: Write,
     ensures err { IfErr result (λ failure. Explains failure (map given_of arguments.now)
         (I.remaining streams.old.input) (I.remaining streams.new.input)
         (W.contents streams.old.output) (W.contents streams.new.output)) }
-    ensures quiet { MatchResult result (λ status. (status ≤ 3) × (status ≢ 2))
+    ensures quiet { MatchResult result
+        (λ status. (status ≤ 3) × (status ≢ 2)
+        × (status ≤ 1 → Keeps (E.contents streams.old.faults) (E.contents streams.new.faults)))
         (λ _. Keeps (E.contents streams.old.faults) (E.contents streams.new.faults)) }
 {
     if !are_usable(arguments) {
@@ -212,13 +214,11 @@ fn check_files_settled<R: Files + AllocGlobal + Clone + Drop, I: Read, W: Write,
         let _ = write_whole(&mut streams.faults, sources.faults.as_bytes());
         return Ok(3);
     }
-    let told = report_on(rt.alloc(), &sources.list, arguments)?;
-    match put(&mut streams.output, told.report.text.as_str()) {
-        Ok(()) => {}
-        Err(_) => return Err(Failure::Output),
+    let report = report_on(rt.alloc(), &sources.list, arguments)?;
+    match put(&mut streams.output, report.text.as_str()) {
+        Ok(()) => Ok(status_of(report.errors)),
+        Err(_) => Err(Failure::Output),
     }
-    let _ = write_whole(&mut streams.faults, told.note.as_bytes());
-    Ok(status_of(told.report.errors))
 }
 
 /// Returns the exit status of a report with this many errors.

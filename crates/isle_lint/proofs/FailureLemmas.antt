@@ -1,7 +1,7 @@
 -- What standard error gets of a failure, and what the words ask.
-use Rattle.std.proofs.Common.{◌≡◌, ◌≤◌, ◌⊎◌, inl, inr, ℕ, List, [], ◌∷◌, Option, None, Some, arith, map, refl, subst, sym, Bool, false, ap, ◌∙◌}
+use Rattle.std.proofs.Common.{◌≡◌, ◌≤◌, ◌⊎◌, inl, inr, ℕ, List, [], ◌∷◌, Option, None, Some, arith, map, refl, subst, sym, append-nil, ◌++◌, Bool, true, false, cond, ap, ◌∙◌}
 use Rattle.std.specs.Io.KnownBytes.{Keeps}
-use Rattle.std.specs.Prelude.{codes}
+use Rattle.std.specs.Prelude.{◌&&◌, codes}
 use Rattle.isle_cli.proofs.FailureLemmas.{first-told-text, program_of}
 use Rattle.isle_cli.proofs.UsageLemmas.{options_of, understood, words-told}
 use Rattle.isle_cli.specs.Failure.{IsDiagnostic, status_of, text_of}
@@ -10,12 +10,11 @@ use Rattle.isle_cli.specs.Usage.{words_text}
 use Rattle.isle_cli.specs.declared.failure.Failure.{Failure}
 use Rattle.isle_cli.specs.declared.failure.Failure.TheVariants as failures
 use Rattle.isle_cli.specs.declared.program.Program.{Program}
-use Rattle.isle_cli.specs.Arguments.{Asked, asked, given_of}
+use Rattle.isle_cli.specs.Arguments.{Asked, Given, asked, given_of, setting_given}
 use Rattle.isle_cli.specs.declared.arguments.Argument.{Argument}
 use Rattle.isle_cli.specs.declared.arguments.Options.{Options}
 use Rattle.isle_lint.specs.Options.{are_usable, is_usable}
-use Rattle.isle_program_messages.specs.Colours.{settled}
-use Rattle.isle_program_messages.proofs.ColourLemmas.{settled_all}
+use Rattle.isle_program_messages.specs.Colours.{colour_in, is_auto, settled}
 use Rattle.isle_lint.specs.Doing.{AreAllOptions, AreOptions, Ask, Cuts, IsFailureText, IsFailureTextOf, IsProgram, Tells}
 
 -- this program
@@ -63,10 +62,27 @@ past-two status (inr five) two = five
 pub asks-what : (options : Options) (words : List (List ℕ)) (what : Asked) → asked options words ≡ Some what → AreOptions options → Ask words (Some what)
 asks-what options words what asks are = (options, are, asks)
 
+-- nothing is a beginning of any text
+pub none_begun : (kept : Option (List ℕ)) (lines : List ℕ) → AppendsBeginning kept kept lines
+none_begun None lines = (0, tt)
+none_begun (Some bytes) lines = (0, sym (append-nil bytes))
+
+-- colours are no misuse
+settled-at-end : (given : List Given) → are_usable (given ++ setting_given (codes "--color") (codes "always") ∷ []) ≡ are_usable given
+settled-at-end [] = refl
+settled-at-end (g ∷ given) = ap (λ b. is_usable g && b) (settled-at-end given)
+
+settled-usable : (shows_colours : Bool) (given : List Given) → are_usable (settled shows_colours given) ≡ are_usable given
+settled-usable shows_colours given = cases (shows_colours && is_auto (colour_in given))
+  where
+    cases : (b : Bool) → are_usable (cond b (given ++ setting_given (codes "--color") (codes "always") ∷ []) given) ≡ are_usable given
+    cases true = settled-at-end given
+    cases false = refl
+
 -- equal lists of arguments give the same
 pub misuse-same : (shows_colours : Bool) (xs ys : List Argument) → xs ≡ ys → are_usable (settled shows_colours (map given_of xs)) ≡ false → are_usable (map given_of ys) ≡ false
 misuse-same shows_colours xs ys same is =
-    sym (settled_all is_usable refl shows_colours (map given_of ys)) ∙ (ap (λ list. are_usable (settled shows_colours (map given_of list))) (sym same) ∙ is)
+    sym (settled-usable shows_colours (map given_of ys)) ∙ (ap (λ list. are_usable (settled shows_colours (map given_of list))) (sym same) ∙ is)
 
 pub tells-same : (shows_colours : Bool) (xs ys : List Argument) (status : ℕ) (input input' output output' faults faults' : Option (List ℕ)) → xs ≡ ys →
     Tells (settled shows_colours (map given_of xs)) status input input' output output' faults faults' → Tells (settled shows_colours (map given_of ys)) status input input' output output' faults faults'

@@ -9,7 +9,6 @@ ghost use Rattle.isle_lint.specs.Doing.{AsAsked, Cuts, CutsAsked, Does, Explains
 ghost use Rattle.isle_lint.specs.Doing.{IsFailureText, IsFailureTextOf, IsMisuse, Tells};
 ghost use Rattle.isle_lint.specs.Doing.{told_status};
 ghost use Rattle.isle_lint.specs.Options.{are_usable};
-ghost use Rattle.isle_program.specs.SeveralPrograms.{IsNote};
 ghost use Rattle.isle_program_messages.specs.Colours.{settled};
 
 use crate::manifests;
@@ -61,8 +60,7 @@ pub const OPTIONS: Options = Options {
 /// | 4 | `isle-lint: out of memory` |
 /// | 5 | `isle-lint: output failed` |
 ///
-/// With status 3 standard error gets a line for each. With status 0, 1 and 3 it gets a note before
-/// that, if the texts look like several programs.
+/// With status 3 standard error gets a line for each.
 ///
 /// With status 0, 1 and 3 the output gets a line for each finding and each text that does not
 /// parse, in order of file and position, in the format that is asked for, and for people a line
@@ -81,8 +79,8 @@ pub fn run<R: Files + AllocGlobal + Clone + Drop, I: Read, W: Write, E: Write>(
     ensures unread { result ≡ 2
         → Keeps (I.remaining streams.old.input) (I.remaining streams.new.input) }
 
-    // With status 0, 1 or 3 the request is done, as far as texts can be read; standard error gets
-    // the note on them, and with 3 a line for each text that can't be read, or a beginning of that.
+    // With status 0, 1 or 3 the request is done, as far as texts can be read; with 3 standard error
+    // gets a line for each text that can't be read, or a beginning of these lines.
     ensures done { result ≢ 2 → result ≢ 4 → result ≢ 5 → AsAsked (map string_bytes words.now)
         (λ what. Does shows_colours what result
         (I.remaining streams.old.input) (I.remaining streams.new.input)
@@ -97,9 +95,9 @@ pub fn run<R: Files + AllocGlobal + Clone + Drop, I: Read, W: Write, E: Write>(
         (I.remaining streams.old.input) (I.remaining streams.new.input)
         (W.contents streams.old.output) (W.contents streams.new.output)) }
 
-    // Else standard error gets nothing but this note, or the message of the status.
-    ensures quiet { result ≤ 1 → WritesBeginning (E.contents streams.old.faults)
-        (E.contents streams.new.faults) IsNote }
+    // Else standard error gets nothing, or the message of the status.
+    ensures quiet { result ≤ 1
+        → Keeps (E.contents streams.old.faults) (E.contents streams.new.faults) }
     ensures told { 2 ≤ result → result ≢ 3 → WritesBeginning (E.contents streams.old.faults)
         (E.contents streams.new.faults) (IsFailureTextOf (map string_bytes words.now) result) }
     ensures statuses { result ≤ 5 }
@@ -156,8 +154,8 @@ fn work<R: Files + AllocGlobal + Clone + Drop, I: Read, W: Write, E: Write>(
         (settled shows_colours (map given_of arguments.items))
         (I.remaining streams.old.input) (I.remaining streams.new.input)
         (W.contents streams.old.output) (W.contents streams.new.output) }
-    ensures quiet { result ≤ 1 → WritesBeginning (E.contents streams.old.faults)
-        (E.contents streams.new.faults) IsNote }
+    ensures quiet { result ≤ 1
+        → Keeps (E.contents streams.old.faults) (E.contents streams.new.faults) }
     ensures told { 2 ≤ result → result ≢ 3 → WritesBeginning (E.contents streams.old.faults)
         (E.contents streams.new.faults) (IsFailureText result) }
 {
@@ -183,7 +181,9 @@ fn lint<R: Files + AllocGlobal + Clone + Drop, I: Read, W: Write, E: Write>(
         (settled shows_colours (map given_of arguments.items))
         (I.remaining streams.old.input) (I.remaining streams.new.input)
         (W.contents streams.old.output) (W.contents streams.new.output)) }
-    ensures quiet { MatchResult result (λ status. (status ≤ 3) × (status ≢ 2))
+    ensures quiet { MatchResult result
+        (λ status. (status ≤ 3) × (status ≢ 2)
+        × (status ≤ 1 → Keeps (E.contents streams.old.faults) (E.contents streams.new.faults)))
         (λ _. Keeps (E.contents streams.old.faults) (E.contents streams.new.faults)) }
 {
     let mut arguments = arguments;
@@ -204,20 +204,23 @@ fn lint_settled<R: Files + AllocGlobal + Clone + Drop, I: Read, W: Write, E: Wri
     ensures err { IfErr result (λ failure. Explains failure (map given_of arguments.now)
         (I.remaining streams.old.input) (I.remaining streams.new.input)
         (W.contents streams.old.output) (W.contents streams.new.output)) }
-    ensures quiet { MatchResult result (λ status. (status ≤ 3) × (status ≢ 2))
+    ensures quiet { MatchResult result
+        (λ status. (status ≤ 3) × (status ≢ 2)
+        × (status ≤ 1 → Keeps (E.contents streams.old.faults) (E.contents streams.new.faults)))
         (λ _. Keeps (E.contents streams.old.faults) (E.contents streams.new.faults)) }
 {
     let lints = lints_of(rt.alloc(), arguments)?;
     let sources = read_sources(rt, &PROGRAM, arguments, &mut streams.input)?;
     let told = report_on(rt.alloc(), arguments, &sources.list, &lints)?;
-    let mut notes = told.note;
-    notes.push_str(sources.faults.as_str())?;
-    match put(&mut streams.output, told.report.text.as_str()) {
+    match put(&mut streams.output, told.text.as_str()) {
         Ok(()) => {}
         Err(_) => return Err(Failure::Output),
     }
-    let _ = write_whole(&mut streams.faults, notes.as_bytes());
-    Ok(status_of(sources.faults.is_empty(), told.report.is_clean))
+    let is_read = sources.faults.is_empty();
+    if !is_read {
+        let _ = write_whole(&mut streams.faults, sources.faults.as_bytes());
+    }
+    Ok(status_of(is_read, told.is_clean))
 }
 
 /// The exit status if all could be read, or not, and nothing was found that counts, or something.

@@ -1,4 +1,5 @@
 use Rattle.std.proofs.Common.{map}
+use Rattle.std.proofs.lemmas.Result.{IfOk-weaker}
 use Rattle.isle_ast.specs.TreeView.{definitions_of}
 use Rattle.isle_cli.specs.Sources.{source_of}
 use Rattle.isle_program.proofs.WritableLemmas.{reading-plain}
@@ -8,10 +9,12 @@ pub report_in-requires : goal.report_in-requires
 report_in-requires c = reading-plain (map source_of c.args.sources.now) (definitions_of c.args.reading.now.defs.items) c.args.reading.now.refusals.items c.requires
 
 pub returns : goal.returns
-returns c = record {
-  definitions = definitions_of c.args.reading.now.defs.items;
-  refusals = c.args.reading.now.refusals.items;
-  read = c.requires;
-  is = c.in_ok-report.ensures;
-  noted = ?;
-}
+returns c =
+    IfOk-weaker c.report_in.result _ _
+    (λ report is. record {
+      definitions = definitions_of c.args.reading.now.defs.items;
+      refusals = c.args.reading.now.refusals.items;
+      read = c.requires;
+      is = is;
+    })
+    c.report_in.ensures
