@@ -81,15 +81,12 @@ fn answer<'a>(
     ensures at { IfOk result (λ made. place_of made.items
         ≡ (answer (terms_of terms.entry) multi term.now (place_of at.entry.items)).at) }
 {
-    let mut at = at;
     if multi {
-        at.push(Step::Each)?;
-        return Ok(at);
+        return step_on(alloc, &at, Step::Each);
     }
     if has(terms.infallible, term) {
         return Ok(at);
     }
     constrain(alloc, &at, Constraint::Present, asks)?;
-    at.push(Step::Content)?;
-    Ok(at)
+    step_on(alloc, &at, Step::Content)
 }

@@ -121,9 +121,9 @@ fn answered<'a>(
     let Some(term) = term else {
         return Ok(value);
     };
-    let Value { mut at, mut needs } = value;
+    let Value { at, mut needs } = value;
     if term.multi {
-        at.push(Step::Each)?;
+        let at = step_on(alloc, &at, Step::Each)?;
         return Ok(Value { at, needs });
     }
     if term.partial {
