@@ -126,7 +126,7 @@ fn publish_others(
     shown: &View,
 ) -> Result<Vec<String>, Failure>
     ensures ok { IfOk result (λ sent. AreReports (map document_of documents.now)
-        (view_of shown.now) (serving.others all (option_map (λ uri. uri.now) named)
+        (view_of shown.now) (serving.others all (option_map (λ uri. uri.now) named.entry)
         (view_of shown.now) (map document_of documents.now)) (map string_bytes sent.items)) }
     ensures err { IfErr result (λ failure. failure ≡ Memory) }
 {
@@ -144,7 +144,7 @@ fn publish_others(
 /// Returns whether a document is not the one that is named, but, unless all are wanted, in a
 /// program with the view's file.
 fn is_other(document: &Document, all: bool, named: Option<&str>, shown: &View) -> bool
-    ensures { result ≡ serving.is_other all (option_map (λ uri. uri.now) named)
+    ensures { result ≡ serving.is_other all (option_map (λ uri. uri.now) named.entry)
         (view_of shown.now) (document_of document.now) }
 {
     !is_named(document, named) && (all || is_together(shown, document.file.as_str()))
@@ -152,7 +152,7 @@ fn is_other(document: &Document, all: bool, named: Option<&str>, shown: &View) -
 
 /// Returns whether a document is the one that is named.
 fn is_named(document: &Document, named: Option<&str>) -> bool
-    ensures { result ≡ serving.is_named (option_map (λ uri. uri.now) named)
+    ensures { result ≡ serving.is_named (option_map (λ uri. uri.now) named.entry)
         (document_of document.now) }
 {
     match named {
