@@ -2,6 +2,10 @@
 use Rattle.std.specs.Prelude.{codes, true}
 use Rattle.serde_json.specs.Data.{Data, array, boolean, item, member, no_items, no_members, number, object, string, unsigned}
 
+-- code actions are quick fixes
+abbrev pub code_actions : Data
+code_actions = object (member (codes "codeActionKinds") (array (item (string (codes "quickfix")) no_items)) no_members)
+
 -- names are completed, also at `.` and `$`, and the chosen ones are described
 abbrev pub completion : Data
 completion =
@@ -11,6 +15,22 @@ completion =
 -- before a rename its range is told
 abbrev pub rename : Data
 rename = object (member (codes "prepareProvider") (boolean true) no_members)
+
+-- the numbers of the modifiers and types of tokens are their places in these lists
+abbrev pub token_modifiers : Data
+token_modifiers = array (item (string (codes "declaration")) (item (string (codes "readonly")) no_items))
+
+abbrev pub token_types : Data
+token_types =
+    array (item (string (codes "keyword")) (item (string (codes "type")) (item (string (codes "enumMember")) (item (string (codes "function"))
+    (item (string (codes "variable")) (item (string (codes "parameter")) (item (string (codes "number")) no_items)))))))
+
+-- the tokens of a whole document have types, and those of a part of it
+abbrev pub semantic_tokens : Data
+semantic_tokens =
+    object (member (codes "full") (boolean true)
+    (member (codes "legend") (object (member (codes "tokenModifiers") token_modifiers (member (codes "tokenTypes") token_types no_members)))
+    (member (codes "range") (boolean true) no_members)))
 
 -- documents are opened and closed; a change, by its kind 2, is that of a range
 abbrev pub text_document_sync : Data
@@ -23,18 +43,23 @@ workspace_folders = object (member (codes "changeNotifications") (boolean true) 
 -- what the server can do; positions count units of UTF-16
 abbrev pub capabilities : Data
 capabilities =
-    object (member (codes "completionProvider") completion
+    object (member (codes "codeActionProvider") code_actions
+    (member (codes "completionProvider") completion
     (member (codes "definitionProvider") (boolean true)
     (member (codes "documentFormattingProvider") (boolean true)
     (member (codes "documentHighlightProvider") (boolean true)
+    (member (codes "documentRangeFormattingProvider") (boolean true)
     (member (codes "documentSymbolProvider") (boolean true)
+    (member (codes "foldingRangeProvider") (boolean true)
     (member (codes "hoverProvider") (boolean true)
     (member (codes "positionEncoding") (string (codes "utf-16"))
     (member (codes "referencesProvider") (boolean true)
     (member (codes "renameProvider") rename
+    (member (codes "selectionRangeProvider") (boolean true)
+    (member (codes "semanticTokensProvider") semantic_tokens
     (member (codes "textDocumentSync") text_document_sync
     (member (codes "workspace") (object (member (codes "workspaceFolders") workspace_folders no_members))
-    (member (codes "workspaceSymbolProvider") (boolean true) no_members))))))))))))
+    (member (codes "workspaceSymbolProvider") (boolean true) no_members)))))))))))))))))
 
 -- its name, and the version of the language
 abbrev pub server_info : Data

@@ -5,7 +5,8 @@ use Rattle.serde_json.specs.Find.{get, as_str, as_number, as_object}
 use Rattle.serde_json.specs.Read.{read}
 use Rattle.isle_lsp_escapes.specs.Mending.{mended}
 use Rattle.isle_lsp_protocol.specs.declared.machine.Request as requests
-use Rattle.isle_lsp_protocol.specs.declared.machine.Request.TheVariants.{Initialize, Shutdown, Formatting, DocumentSymbol, WorkspaceSymbol, Definition, References, DocumentHighlight, Hover, Completion, ResolveCompletion, PrepareRename, Rename, Unknown}
+use Rattle.isle_lsp_protocol.specs.declared.machine.Request.TheVariants.{Initialize, Shutdown, Document, DocumentSymbol, WorkspaceSymbol, Definition, References, DocumentHighlight, Hover, Completion, ResolveCompletion, PrepareRename, Rename, Unknown}
+use Rattle.isle_lsp_protocol.specs.declared.machine.DocumentRequest.TheVariants.{Formatting, RangeFormatting, FoldingRange, SelectionRange, SemanticTokens, SemanticTokensRange, CodeAction}
 use Rattle.isle_lsp_protocol.specs.declared.machine.Notification as notifications
 use Rattle.isle_lsp_protocol.specs.declared.machine.Notification.TheVariants.{Initialized, Exit, DidOpen, DidChange, DidClose, DidChangeWorkspaceFolders, DidChangeWatchedFiles, Other}
 use Rattle.isle_lsp_protocol.specs.declared.machine.Message as messages
@@ -31,12 +32,23 @@ notification_of name =
     else (if bytes_eq name (codes "workspace/didChangeWatchedFiles") then DidChangeWatchedFiles
     else Other))))))
 
+-- a request that is answered from an open document alone
+abbrev pub document_request_of : List ℕ → requests.Request
+document_request_of name =
+    if bytes_eq name (codes "textDocument/formatting") then Document Formatting
+    else (if bytes_eq name (codes "textDocument/rangeFormatting") then Document RangeFormatting
+    else (if bytes_eq name (codes "textDocument/foldingRange") then Document FoldingRange
+    else (if bytes_eq name (codes "textDocument/selectionRange") then Document SelectionRange
+    else (if bytes_eq name (codes "textDocument/semanticTokens/full") then Document SemanticTokens
+    else (if bytes_eq name (codes "textDocument/semanticTokens/range") then Document SemanticTokensRange
+    else (if bytes_eq name (codes "textDocument/codeAction") then Document CodeAction
+    else Unknown))))))
+
 abbrev pub request_of : List ℕ → requests.Request
 request_of name =
     if bytes_eq name (codes "initialize") then Initialize
     else (if bytes_eq name (codes "shutdown") then Shutdown
     else (if bytes_eq name (codes "workspace/symbol") then WorkspaceSymbol
-    else (if bytes_eq name (codes "textDocument/formatting") then Formatting
     else (if bytes_eq name (codes "textDocument/documentSymbol") then DocumentSymbol
     else (if bytes_eq name (codes "textDocument/definition") then Definition
     else (if bytes_eq name (codes "textDocument/references") then References
@@ -46,7 +58,7 @@ request_of name =
     else (if bytes_eq name (codes "completionItem/resolve") then ResolveCompletion
     else (if bytes_eq name (codes "textDocument/prepareRename") then PrepareRename
     else (if bytes_eq name (codes "textDocument/rename") then Rename
-    else Unknown))))))))))))
+    else document_request_of name)))))))))))
 
 abbrev pub named_notification : Option (List ℕ) → messages.Message
 named_notification None = Invalid

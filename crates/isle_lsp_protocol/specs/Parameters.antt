@@ -69,6 +69,24 @@ range_in d = range_with (position_at (codes "start") d) (position_at (codes "end
 abbrev pub position_of : Data → Option Position
 position_of d = option_and_then position_in (pointer (codes "/params/position") d)
 
+-- the range of the request
+abbrev pub range_of : Data → Option Range
+range_of d = option_and_then range_in (pointer (codes "/params/range") d)
+
+abbrev pub with_position : Option Position → Option (List Position) → Option (List Position)
+with_position None rest = None
+with_position (Some p) None = None
+with_position (Some p) (Some ps) = Some (p ∷ ps)
+
+-- these positions, if all of them are positions
+abbrev pub positions_in : Items → Option (List Position)
+positions_in no_items = Some []
+positions_in (item d ds) = with_position (position_in d) (positions_in ds)
+
+-- the positions of the request
+abbrev pub positions_of : Data → Option (List Position)
+positions_of d = option_and_then positions_in (option_and_then as_array (pointer (codes "/params/positions") d))
+
 -- the version of the document
 abbrev pub version_of : Data → Option ℤ
 version_of d = option_and_then as_i64 (option_and_then as_number (pointer (codes "/params/textDocument/version") d))

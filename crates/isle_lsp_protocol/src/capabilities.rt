@@ -12,15 +12,23 @@ use std::alloc::Global;
 /// The result of `initialize` as JSON.
 const INITIALIZE_RESULT: &str = "{\
     \"capabilities\":{\
+    \"codeActionProvider\":{\"codeActionKinds\":[\"quickfix\"]},\
     \"completionProvider\":{\"resolveProvider\":true,\"triggerCharacters\":[\".\",\"$\"]},\
     \"definitionProvider\":true,\
     \"documentFormattingProvider\":true,\
     \"documentHighlightProvider\":true,\
+    \"documentRangeFormattingProvider\":true,\
     \"documentSymbolProvider\":true,\
+    \"foldingRangeProvider\":true,\
     \"hoverProvider\":true,\
     \"positionEncoding\":\"utf-16\",\
     \"referencesProvider\":true,\
     \"renameProvider\":{\"prepareProvider\":true},\
+    \"selectionRangeProvider\":true,\
+    \"semanticTokensProvider\":{\"full\":true,\"legend\":{\
+    \"tokenModifiers\":[\"declaration\",\"readonly\"],\
+    \"tokenTypes\":[\"keyword\",\"type\",\"enumMember\",\"function\",\"variable\",\
+    \"parameter\",\"number\"]},\"range\":true},\
     \"textDocumentSync\":{\"change\":2,\"openClose\":true},\
     \"workspace\":{\"workspaceFolders\":{\"changeNotifications\":true,\"supported\":true}},\
     \"workspaceSymbolProvider\":true},\

@@ -4,10 +4,10 @@ ghost use Rattle.std.specs.Prelude.{◌≡◌, IfErr, IfOk, option_map};
 ghost use Rattle.serde_json.specs.View.{view};
 ghost use Rattle.isle_cli.specs.declared.failure.Failure.TheVariants.{Memory};
 ghost use Rattle.isle_lsp_protocol.specs.Decoding.{Decodes, is_id, message_in, message_of};
-ghost use Rattle.isle_lsp_protocol.specs.Decoding.{notification_in, notification_of, request_in};
-ghost use Rattle.isle_lsp_protocol.specs.Decoding.{request_of};
+ghost use Rattle.isle_lsp_protocol.specs.Decoding.{document_request_of, notification_in};
+ghost use Rattle.isle_lsp_protocol.specs.Decoding.{notification_of, request_in, request_of};
 
-use crate::machine::{Message, Notification, Request};
+use crate::machine::{DocumentRequest, Message, Notification, Request};
 use isle_cli::failure::Failure;
 use isle_lsp_escapes::mending::mended;
 use serde_json::{Category, Value};
@@ -105,7 +105,6 @@ fn request_of(name: &str) -> Request
         "initialize" => Request::Initialize,
         "shutdown" => Request::Shutdown,
         "workspace/symbol" => Request::WorkspaceSymbol,
-        "textDocument/formatting" => Request::Formatting,
         "textDocument/documentSymbol" => Request::DocumentSymbol,
         "textDocument/definition" => Request::Definition,
         "textDocument/references" => Request::References,
@@ -115,6 +114,24 @@ fn request_of(name: &str) -> Request
         "completionItem/resolve" => Request::ResolveCompletion,
         "textDocument/prepareRename" => Request::PrepareRename,
         "textDocument/rename" => Request::Rename,
+        _ => document_request_of(name),
+    }
+}
+
+/// The request about a document alone with this method, or `Unknown` if there is none.
+fn document_request_of(name: &str) -> Request
+    ensures { result ≡ document_request_of name.now }
+{
+    match name {
+        "textDocument/formatting" => Request::Document(DocumentRequest::Formatting),
+        "textDocument/rangeFormatting" => Request::Document(DocumentRequest::RangeFormatting),
+        "textDocument/foldingRange" => Request::Document(DocumentRequest::FoldingRange),
+        "textDocument/selectionRange" => Request::Document(DocumentRequest::SelectionRange),
+        "textDocument/semanticTokens/full" => Request::Document(DocumentRequest::SemanticTokens),
+        "textDocument/semanticTokens/range" => {
+            Request::Document(DocumentRequest::SemanticTokensRange)
+        }
+        "textDocument/codeAction" => Request::Document(DocumentRequest::CodeAction),
         _ => Request::Unknown,
     }
 }

@@ -27,8 +27,8 @@ pub enum Request {
     Initialize,
     /// The end of the session.
     Shutdown,
-    /// The edits that format a document.
-    Formatting,
+    /// A request that is answered from an open document alone.
+    Document(DocumentRequest),
     /// The definitions of a document.
     DocumentSymbol,
     /// The definitions of the workspace whose names match a query.
@@ -51,6 +51,26 @@ pub enum Request {
     Rename,
     /// Any other method.
     Unknown,
+}
+
+/// The method of a request that is answered from the text of an open document, without the files on
+/// disk.
+#[derive(Clone, Copy, Debug, PartialEq, Eq)]
+pub enum DocumentRequest {
+    /// The edits that format the document.
+    Formatting,
+    /// The edits that format lines of the document.
+    RangeFormatting,
+    /// The parts of the document that can be folded.
+    FoldingRange,
+    /// The parts of the document that a selection grows to.
+    SelectionRange,
+    /// The tokens of the document, with their types.
+    SemanticTokens,
+    /// The tokens of a part of the document, with their types.
+    SemanticTokensRange,
+    /// The edits that take care of a finding.
+    CodeAction,
 }
 
 /// The method of a notification.

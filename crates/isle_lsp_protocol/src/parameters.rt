@@ -40,6 +40,41 @@ pub fn position_of(message: &Value) -> Option<Position>
     }
 }
 
+/// The range in a message.
+pub fn range_of(message: &Value) -> Option<Range>
+    ensures { result ≡ wanted.range_of (view message.now) }
+{
+    match message.pointer("/params/range") {
+        Some(range) => range_in(range),
+        None => None,
+    }
+}
+
+/// The positions in a message, or `None` if it has none or if one of them is not a position.
+pub fn positions_of(alloc: Global, message: &Value) -> Result<Option<Vec<Position>>, AllocError>
+    ensures { IfOk result (λ positions. option_map (λ found. found.items) positions
+        ≡ wanted.positions_of (view message.now)) }
+{
+    match array_at(message, "/params/positions") {
+        Some(values) => positions_in(alloc, values),
+        None => Ok(None),
+    }
+}
+
+fn positions_in(alloc: Global, values: &[Value]) -> Result<Option<Vec<Position>>, AllocError>
+    ensures { IfOk result (λ positions. option_map (λ found. found.items) positions
+        ≡ wanted.positions_in (items_view values.now)) }
+{
+    let mut positions = Vec::new(alloc);
+    for value in values {
+        match position_in(value) {
+            Some(position) => positions.push(position)?,
+            None => return Ok(None),
+        }
+    }
+    Ok(Some(positions))
+}
+
 /// The new name in a request to rename.
 pub fn new_name_of(message: &Value) -> Option<&str>
     ensures { option_map (λ name. name.now) result ≡ wanted.new_name_of (view message.now) }
