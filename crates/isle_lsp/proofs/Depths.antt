@@ -1,21 +1,36 @@
 -- No response nests deeper than JSON is read, so each reads back as it is defined.
-use Rattle.std.proofs.Common.{◌≡◌, ℕ, ◌≤◌, inl, inr, List, Option, None, Some, arith}
+use Rattle.std.proofs.Common.{◌≡◌, ℕ, ◌≤◌, inl, inr, Bool, List, Option, None, Some, arith}
 use Rattle.serde_json.specs.Data.{Data, depth}
 use Rattle.serde_json.specs.Read.{read}
 use Rattle.serde_json.proofs.Nesting.{depth-read}
 use Rattle.isle_lsp_diagnostics.specs.Published.{range_of}
 use Rattle.isle_lsp_text.specs.Edits.{part}
 use Rattle.isle_lsp_text.specs.declared.edits.Edit.{Edit}
+use Rattle.isle_lsp_actions.proofs.Depths.{answer_depth}
+use Rattle.isle_lsp_actions.specs.Answers.{AreActions}
+use Rattle.isle_lsp_colours.proofs.Depths.{tokens_shallow}
+use Rattle.isle_lsp_colours.specs.Coloured.{AreTokens}
 use Rattle.isle_lsp_files.specs.Disks.{View}
+use Rattle.isle_lsp_files.specs.Documents.{Document}
+use Rattle.isle_lsp_protocol.specs.declared.machine.DocumentRequest.{DocumentRequest}
+use Rattle.isle_lsp_protocol.specs.declared.machine.DocumentRequest.TheVariants.{Formatting, RangeFormatting, FoldingRange, SelectionRange, SemanticTokens, SemanticTokensRange, CodeAction}
+use Rattle.isle_lsp_protocol.specs.Parameters.{positions_of, range_of}
+use Rattle.isle_lsp_ranges.proofs.Depths.{foldings_depth, selections_depth}
+use Rattle.isle_lsp_ranges.proofs.Depths as ranges
+use Rattle.isle_lsp_ranges.specs.Foldings.{AreFoldings}
+use Rattle.isle_lsp_ranges.specs.Selections.{AreSelections}
+use Rattle.isle_lsp_text.specs.declared.positions.Position.{Position}
+use Rattle.isle_lsp_text.specs.declared.positions.Range.{Range}
 use Rattle.isle_lsp_protocol.specs.Decoding.{Decodes}
 use Rattle.isle_lsp_protocol.specs.Replies.{IsTextOf, Outcome, error_response, failed, reply, reply_id}
 use Rattle.isle_lsp_protocol.specs.declared.machine.ErrorCode.{ErrorCode}
 use Rattle.isle_lsp_protocol.specs.declared.machine.Request as requests
-use Rattle.isle_lsp_protocol.specs.declared.machine.Request.TheVariants.{Initialize, Shutdown, Formatting, DocumentSymbol, WorkspaceSymbol, Definition, References, DocumentHighlight, Hover, Completion, ResolveCompletion, PrepareRename, Rename, Unknown}
+use Rattle.isle_lsp_protocol.specs.declared.machine.Request.TheVariants.{Initialize, Shutdown, Document as Alone, DocumentSymbol, WorkspaceSymbol, Definition, References, DocumentHighlight, Hover, Completion, ResolveCompletion, PrepareRename, Rename, Unknown}
 use Rattle.isle_lsp_protocol.proofs.Depths.{IsWithin, at_most, initialized_depth, items_shallow, map_shallow, reply_depth, text_edit_depth, within}
 use Rattle.isle_lsp_features.proofs.Depths.{IsAboutNames, answer_within}
+use Rattle.isle_lsp.specs.Alone.{Gives, GivesAt, GivesWithin, IsAlone, IsFormattingWithin, IsOfDocument}
 use Rattle.isle_lsp.specs.Formatted.{IsFormatting, edit_data, edits_data}
-use Rattle.isle_lsp.specs.Serving.{Held, IsFormattingOf, IsNamed, IsResult, IsResultOf, IsShallow, document_in, question}
+use Rattle.isle_lsp.specs.Serving.{Held, IsNamed, IsResult, IsResultOf, IsShallow, document_in, question}
 
 -- what was decoded nests no deeper than JSON is read
 pub decoded : (body : List ℕ) (json : Option Data) → Decodes body json → IsShallow json
@@ -29,9 +44,40 @@ formatting_depth : (text : List ℕ) (d : Data) → IsFormatting text d → dept
 formatting_depth text d (inl h) = at_most 126 _ _ h.1 (omega arith)
 formatting_depth text d (inr (tidy, is_tidy, change)) = at_most 126 _ _ change.2 (edits_depth text tidy change.0)
 
-formatted_within : (text : Option (List ℕ)) (o : Outcome) → IsFormattingOf text o → IsWithin 126 o
-formatted_within None o h = within 126 o _ h tt
-formatted_within (Some text) o h = within 126 o _ h.2 (formatting_depth text h.0 h.1)
+lines_depth : (text : List ℕ) (range : Range) (d : Data) → IsFormattingWithin text range d → depth d ≤ 126
+lines_depth text range d (inl h) = at_most 126 _ _ h.1 (omega arith)
+lines_depth text range d (inr (tidy, is_tidy, edits)) = omega (arith, ranges.formatting_depth text tidy range d edits)
+
+gives_within : (Is : Data → Type 0) (o : Outcome) → ((d : Data) → Is d → depth d ≤ 126) → Gives Is o → IsWithin 126 o
+gives_within Is o shallow h = within 126 o _ h.2 (shallow h.0 h.1)
+
+range_within : (Is : Range → Data → Type 0) (range : Option Range) (o : Outcome) → ((r : Range) (d : Data) → Is r d → depth d ≤ 126) → GivesWithin Is range o → IsWithin 126 o
+range_within Is None o shallow h = within 126 o _ h tt
+range_within Is (Some r) o shallow h = gives_within (Is r) o (shallow r) h
+
+positions_within : (Is : List Position → Data → Type 0) (positions : Option (List Position)) (o : Outcome) → ((ps : List Position) (d : Data) → Is ps d → depth d ≤ 126)
+    → GivesAt Is positions o → IsWithin 126 o
+positions_within Is None o shallow h = within 126 o _ h tt
+positions_within Is (Some ps) o shallow h = gives_within (Is ps) o (shallow ps) h
+
+tokens_depth : (text : List ℕ) (range : Option Range) (d : Data) → AreTokens text range d → depth d ≤ 126
+tokens_depth text range d h = omega (arith, tokens_shallow text range d h)
+
+document_within : (request : DocumentRequest) (d : Data) (takes : Bool) (document : Document) (o : Outcome) → IsOfDocument request d takes document o → IsWithin 126 o
+document_within Formatting d takes document o h = gives_within (IsFormatting document.text) o (formatting_depth document.text) h
+document_within RangeFormatting d takes document o h = range_within (IsFormattingWithin document.text) (range_of d) o (lines_depth document.text) h
+document_within FoldingRange d takes document o h = gives_within (AreFoldings document.text) o (λ x f. omega (arith, foldings_depth document.text x f)) h
+document_within SelectionRange d takes document o h =
+    positions_within (AreSelections document.text) (positions_of d) o (λ ps x f. omega (arith, selections_depth document.text ps x f)) h
+document_within SemanticTokens d takes document o h = gives_within (AreTokens document.text None) o (tokens_depth document.text None) h
+document_within SemanticTokensRange d takes document o h =
+    range_within (λ range. AreTokens document.text (Some range)) (range_of d) o (λ range. tokens_depth document.text (Some range)) h
+document_within CodeAction d takes document o h =
+    gives_within (AreActions takes document.uri document.version document.text d) o (λ x f. omega (arith, answer_depth takes document.uri document.version document.text d x f)) h
+
+alone_within : (request : DocumentRequest) (d : Data) (takes : Bool) (document : Option Document) (o : Outcome) → IsAlone request d takes document o → IsWithin 126 o
+alone_within request d takes None o h = within 126 o _ h tt
+alone_within request d takes (Some document) o h = document_within request d takes document o h
 
 named_within : (request : requests.Request) (d : Data) (held : Held) (view : View) (o : Outcome) → IsAboutNames request → depth d ≤ 127 → IsNamed request d held view o → IsWithin 126 o
 named_within request d held view o n m h = answer_within (question request d held view) _ o n m h
@@ -39,7 +85,7 @@ named_within request d held view o n m h = answer_within (question request d hel
 result_within : (request : requests.Request) (d : Data) (held : Held) (view : View) (o : Outcome) → depth d ≤ 127 → IsResult request d held view o → IsWithin 126 o
 result_within Initialize d held view o m h = within 126 o _ h (omega (arith, initialized_depth))
 result_within Shutdown d held view o m h = within 126 o _ h (omega arith)
-result_within Formatting d held view o m h = formatted_within (document_in d held.documents) o h
+result_within (Alone request) d held view o m h = alone_within request d held.takes_document_changes (document_in d held.documents) o h
 result_within Unknown d held view o m h = within 126 o _ h tt
 result_within DocumentSymbol d held view o m h = named_within DocumentSymbol d held view o tt m h
 result_within WorkspaceSymbol d held view o m h = named_within WorkspaceSymbol d held view o tt m h

@@ -1,16 +1,17 @@
 -- What the requests about names get.
 use Rattle.std.proofs.Common.{◌≡◌, Some, refl}
 use Rattle.serde_json.specs.Data.{Data}
+use Rattle.isle_lsp_protocol.specs.declared.machine.DocumentRequest.{DocumentRequest}
 use Rattle.isle_lsp_protocol.specs.declared.machine.Request as requests
-use Rattle.isle_lsp_protocol.specs.declared.machine.Request.TheVariants.{Initialize, Shutdown, Formatting, DocumentSymbol, WorkspaceSymbol, Definition, References, DocumentHighlight, Hover, Completion, ResolveCompletion, PrepareRename, Rename, Unknown}
+use Rattle.isle_lsp_protocol.specs.declared.machine.Request.TheVariants.{Initialize, Shutdown, Document, DocumentSymbol, WorkspaceSymbol, Definition, References, DocumentHighlight, Hover, Completion, ResolveCompletion, PrepareRename, Rename, Unknown}
 use Rattle.isle_lsp_protocol.specs.Replies.{Outcome}
 use Rattle.isle_lsp_files.specs.Disks.{Asked, View}
 use Rattle.isle_lsp.specs.Serving.{Held, IsNamed, IsResult, asked_for}
 
-pub named_result : (request : requests.Request) (d : Data) (held : Held) (view : View) (o : Outcome) → (request ≡ Initialize → ⊥) → (request ≡ Shutdown → ⊥) → (request ≡ Formatting → ⊥) → (request ≡ Unknown → ⊥) → IsNamed request d held view o → IsResult request d held view o
+pub named_result : (request : requests.Request) (d : Data) (held : Held) (view : View) (o : Outcome) → (request ≡ Initialize → ⊥) → (request ≡ Shutdown → ⊥) → ((alone : DocumentRequest) → request ≡ Document alone → ⊥) → (request ≡ Unknown → ⊥) → IsNamed request d held view o → IsResult request d held view o
 named_result Initialize d held view o a b c e n = absurd (a refl)
 named_result Shutdown d held view o a b c e n = absurd (b refl)
-named_result Formatting d held view o a b c e n = absurd (c refl)
+named_result (Document alone) d held view o a b c e n = absurd (c alone refl)
 named_result Unknown d held view o a b c e n = absurd (e refl)
 named_result DocumentSymbol d held view o a b c e n = n
 named_result WorkspaceSymbol d held view o a b c e n = n
@@ -24,10 +25,10 @@ named_result PrepareRename d held view o a b c e n = n
 named_result Rename d held view o a b c e n = n
 
 -- what they ask of the disk
-pub named_asks : (request : requests.Request) (question : Asked) → (request ≡ Initialize → ⊥) → (request ≡ Shutdown → ⊥) → (request ≡ Formatting → ⊥) → (request ≡ Unknown → ⊥) → asked_for request question ≡ Some question
+pub named_asks : (request : requests.Request) (question : Asked) → (request ≡ Initialize → ⊥) → (request ≡ Shutdown → ⊥) → ((alone : DocumentRequest) → request ≡ Document alone → ⊥) → (request ≡ Unknown → ⊥) → asked_for request question ≡ Some question
 named_asks Initialize question a b c e = absurd (a refl)
 named_asks Shutdown question a b c e = absurd (b refl)
-named_asks Formatting question a b c e = absurd (c refl)
+named_asks (Document alone) question a b c e = absurd (c alone refl)
 named_asks Unknown question a b c e = absurd (e refl)
 named_asks DocumentSymbol question a b c e = refl
 named_asks WorkspaceSymbol question a b c e = refl

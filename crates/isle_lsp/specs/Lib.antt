@@ -1,3 +1,4 @@
+pub mod Alone
 pub mod CommandLine
 pub mod Conversations
 pub mod Formatted

@@ -9,7 +9,7 @@ use Rattle.isle_lsp_protocol.specs.declared.machine.ErrorCode.TheVariants.{Inval
 use Rattle.isle_lsp_protocol.specs.declared.machine.Notification as notifications
 use Rattle.isle_lsp_protocol.specs.declared.machine.Notification.TheVariants.{Initialized, DidOpen, DidChange, DidClose, DidChangeWorkspaceFolders, DidChangeWatchedFiles}
 use Rattle.isle_lsp_protocol.specs.declared.machine.Request as requests
-use Rattle.isle_lsp_protocol.specs.declared.machine.Request.TheVariants.{Initialize, Shutdown, Formatting, Unknown}
+use Rattle.isle_lsp_protocol.specs.declared.machine.Request.TheVariants.{Initialize, Shutdown, Document as Alone, Unknown}
 use Rattle.isle_lsp_protocol.specs.declared.machine.State.{State}
 use Rattle.isle_lsp_protocol.specs.declared.machine.Action as actions
 use Rattle.isle_lsp_protocol.specs.declared.machine.Action.TheVariants.{Ignore, Answer, Reject, Handle}
@@ -20,7 +20,7 @@ use Rattle.isle_lsp_protocol.specs.Capabilities.{initialize_result}
 use Rattle.isle_lsp_protocol.specs.Watching.{watch_request}
 use Rattle.isle_lsp_features.specs.Answers as names
 use Rattle.isle_lsp_features.specs.Programs.{Question}
-use Rattle.isle_lsp.specs.Formatted.{IsFormatting}
+use Rattle.isle_lsp.specs.Alone.{IsAlone}
 use Rattle.isle_lsp_diagnostics.specs.Published.{IsPublished}
 use Rattle.isle_lsp.specs.declared.server.Server.{Server}
 
@@ -66,7 +66,7 @@ programs_question d held = record { folders = held.folders; documents = held.doc
 abbrev pub asked_for : requests.Request → Asked → Option Asked
 asked_for Initialize question = None
 asked_for Shutdown question = None
-asked_for Formatting question = None
+asked_for (Alone request) question = None
 asked_for Unknown question = None
 asked_for request question = Some question
 
@@ -94,13 +94,9 @@ Shows (Some question) (moment ∷ moments) after view = (view ≡ moment questio
 
 -- ---- requests
 
--- the text of the document that a message names
-abbrev pub document_in : Data → List Document → Option (List ℕ)
-document_in d docs = option_and_then (λ uri. text_of uri docs) (parameters.uri_of d)
-
-abbrev pub IsFormattingOf : Option (List ℕ) → Outcome → Type 0
-IsFormattingOf None o = o ≡ error_outcome InvalidParams
-IsFormattingOf (Some text) o = (d : Data) × IsFormatting text d × (o ≡ done d)
+-- the document that a message names
+abbrev pub document_in : Data → List Document → Option Document
+document_in d docs = option_and_then (λ uri. document_at uri docs) (parameters.uri_of d)
 
 -- a request about names, as it is asked of a program
 abbrev pub question : requests.Request → Data → Held → View → Question
@@ -115,7 +111,7 @@ IsNamed request d held view o = names.IsAnswer (question request d held view) (p
 abbrev pub IsResult : requests.Request → Data → Held → View → Outcome → Type 0
 IsResult Initialize d held view o = o ≡ done initialize_result
 IsResult Shutdown d held view o = o ≡ done null
-IsResult Formatting d held view o = IsFormattingOf (document_in d held.documents) o
+IsResult (Alone request) d held view o = IsAlone request d held.takes_document_changes (document_in d held.documents) o
 IsResult Unknown d held view o = o ≡ error_outcome MethodNotFound
 IsResult request d held view o = IsNamed request d held view o
 

@@ -220,7 +220,7 @@ fn view_for<D: Disk>(
     let uri = named_uri(message);
     match action {
         Action::Answer(
-            Request::Initialize | Request::Shutdown | Request::Formatting | Request::Unknown,
+            Request::Initialize | Request::Shutdown | Request::Document(_) | Request::Unknown,
         ) => Ok(View::nothing(alloc)),
         Action::Answer(_) => disk.look(alloc, &server.folders, &server.documents, uri),
         Action::Handle(Notification::DidOpen | Notification::DidChange | Notification::DidClose) =>

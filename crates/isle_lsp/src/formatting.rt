@@ -5,11 +5,13 @@ ghost use Rattle.serde_json.specs.View.{view};
 ghost use Rattle.isle_cli.specs.declared.failure.Failure.TheVariants.{Memory};
 ghost use Rattle.isle_lsp_text.specs.Edits.{AreEdits, IsEdit};
 ghost use Rattle.isle_lsp_text.specs.Positions.{IsPlace};
+ghost use Rattle.isle_lsp.specs.Alone.{IsFormattingWithin};
 ghost use Rattle.isle_lsp.specs.Formatted.{IsChange, IsFormatting, edit_data, edits_data};
 
 use isle_base::lexer::Fault;
 use isle_cli::failure::Failure;
 use isle_lsp_protocol::results::text_edit;
+use isle_lsp_ranges::lines::range_formatting;
 use isle_lsp_text::edits::{Edit, edits, replacement};
 use isle_lsp_text::positions::{Place, Range, START, place_at};
 use isle_tidy_core::tidy;
@@ -23,6 +25,19 @@ pub fn formatting(alloc: Global, text: &str) -> Result<Value, Failure>
 {
     match tidy(alloc, text) {
         Ok(tidy) => Ok(edits_between(alloc, text, tidy.as_str())?),
+        Err(Fault::Error(_)) => Ok(Value::Null),
+        Err(Fault::Failed | Fault::Memory) => Err(Failure::Memory),
+    }
+}
+
+/// The edits that format the lines of a range of a text, or null if the text cannot be formatted.
+/// The only error is `Memory`.
+pub fn formatting_within(alloc: Global, text: &str, range: Range) -> Result<Value, Failure>
+    ensures ok { IfOk result (λ value. IsFormattingWithin text.now range (view value)) }
+    ensures err { IfErr result (λ failure. failure ≡ Memory) }
+{
+    match tidy(alloc, text) {
+        Ok(tidy) => Ok(range_formatting(alloc, text, tidy.as_str(), range)?),
         Err(Fault::Error(_)) => Ok(Value::Null),
         Err(Fault::Failed | Fault::Memory) => Err(Failure::Memory),
     }

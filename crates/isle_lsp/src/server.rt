@@ -18,13 +18,13 @@ ghost use Rattle.isle_lsp.specs.Serving.{document_in, documents_after, documents
 ghost use Rattle.isle_lsp.specs.Serving.{documents_after_notification, folders_after, takes_after};
 ghost use Rattle.isle_lsp.specs.Serving.{watches_after};
 
-use crate::formatting::formatting;
+use crate::alone::outcome_alone;
 use crate::reports::handle;
 use isle_cli::failure::Failure;
 use isle_lsp_diagnostics::Checks;
 use isle_lsp_features::{Gathered, Question};
 use isle_lsp_files::disk::View;
-use isle_lsp_files::documents::{Document, close, document_at, open, text_of};
+use isle_lsp_files::documents::{Document, close, document_at, open};
 use isle_lsp_files::texts::program_of;
 use isle_lsp_protocol::capabilities::initialize_result;
 use isle_lsp_protocol::machine::{Action, ErrorCode, Notification, Request, State};
@@ -363,23 +363,12 @@ fn outcome_in<'a>(
     match request {
         Request::Initialize => Ok(Outcome::Done(initialize_result(alloc)?)),
         Request::Shutdown => Ok(Outcome::Done(Value::Null)),
-        Request::Formatting => {
-            formatting_outcome(alloc, document_in(&server.documents, message))
+        Request::Document(request) => {
+            let document = document_in(&server.documents, message);
+            outcome_alone(alloc, request, message, server.takes_document_changes, document)
         }
         Request::Unknown => Ok(error_outcome(ErrorCode::MethodNotFound)),
         _ => name_outcome(alloc, server, gathered, request, message, shown),
-    }
-}
-
-/// The edits that format a document, or an error if it is not open.
-fn formatting_outcome<'a>(alloc: Global, text: Option<&str>) -> Result<Outcome<'a>, Failure>
-    ensures ok { IfOk result (λ outcome. serving.IsFormattingOf
-        (option_map (λ t. t.now) text.entry) (outcome_of outcome)) }
-    ensures err { IfErr result (λ failure. failure ≡ Memory) }
-{
-    match text {
-        Some(text) => Ok(Outcome::Done(formatting(alloc, text)?)),
-        None => Ok(error_outcome(ErrorCode::InvalidParams)),
     }
 }
 
@@ -406,13 +395,13 @@ fn name_outcome<'a>(
     isle_lsp_features::answer(alloc, gathered, &program, question)
 }
 
-/// The text of the document that a message names, if it is open.
-fn document_in<'a>(documents: &'a [Document], message: &Value) -> Option<&'a str>
-    ensures { option_map (λ text. text.now) result
+/// The document that a message names, if it is open.
+fn document_in<'a>(documents: &'a [Document], message: &Value) -> Option<&'a Document>
+    ensures { option_map (λ document. document_of document.now) result
         ≡ document_in (view message.now) (map document_of documents.now) }
 {
     match uri_of(message) {
-        Some(uri) => text_of(documents, uri),
+        Some(uri) => document_at(documents, uri),
         None => None,
     }
 }

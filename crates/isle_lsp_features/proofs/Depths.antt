@@ -17,7 +17,7 @@ use Rattle.isle_lsp_text.specs.declared.lists.ListSpan.{ListSpan}
 use Rattle.isle_lsp_text.specs.declared.positions.Range.{Range}
 use Rattle.isle_lsp_protocol.proofs.Depths.{AreShallow, IsAtMost, IsWithin, append_shallow, at_most, completion_depth, document_edits_depth, documented_depth, edits_depth, flat_map_shallow, hover_depth, item_at_most, items_shallow, location_depth, map_shallow, put_depth, range_depth, ranged_depth, symbol_depth, within, workspace_symbol_depth}
 use Rattle.isle_lsp_protocol.specs.declared.machine.Request as requests
-use Rattle.isle_lsp_protocol.specs.declared.machine.Request.TheVariants.{Definition as AskDefinition, References, DocumentHighlight, DocumentSymbol, WorkspaceSymbol, Hover, Completion, ResolveCompletion, PrepareRename, Rename, Initialize, Shutdown, Formatting, Unknown}
+use Rattle.isle_lsp_protocol.specs.declared.machine.Request.TheVariants.{Definition as AskDefinition, References, DocumentHighlight, DocumentSymbol, WorkspaceSymbol, Hover, Completion, ResolveCompletion, PrepareRename, Rename, Initialize, Shutdown, Document, Unknown}
 use Rattle.isle_lsp_protocol.specs.Items.{edits_data}
 use Rattle.isle_lsp_protocol.specs.Parameters.{item_of, new_name_of, query_of, wants_definitions}
 use Rattle.isle_lsp_protocol.specs.Replies.{Outcome, done, failed}
@@ -224,7 +224,7 @@ answer_of_within ResolveCompletion q program all a n m h = resolution_within pro
 answer_of_within WorkspaceSymbol q program all a n m h = within 126 a _ h (omega (arith, workspace_depth (letters_of (query_of q.message)) program all))
 answer_of_within Initialize q program all a n m h = absurd n
 answer_of_within Shutdown q program all a n m h = absurd n
-answer_of_within Formatting q program all a n m h = absurd n
+answer_of_within (Document alone) q program all a n m h = absurd n
 answer_of_within Unknown q program all a n m h = absurd n
 
 -- an answer about names leaves room for the response around it

@@ -23,7 +23,7 @@ mod locations;
 pub mod pieces;
 pub mod places;
 mod renaming;
-mod rests;
+pub mod rests;
 mod symbols;
 
 pub use gathered::Gathered;

@@ -1,0 +1,53 @@
+-- The outcomes of requests that are answered from an open document alone.
+use Rattle.std.specs.Prelude.{◌≡◌, ◌⊎◌, ℕ, List, Bool, Option, None, Some}
+use Rattle.serde_json.specs.Data.{Data, null}
+use Rattle.isle_tidy_core.specs.Refused.{HasNoDocument}
+use Rattle.isle_tidy_core.specs.Tidied.{IsTidyTextOf}
+use Rattle.isle_lsp_actions.specs.Answers.{AreActions}
+use Rattle.isle_lsp_colours.specs.Coloured.{AreTokens}
+use Rattle.isle_lsp_files.specs.Documents.{Document}
+use Rattle.isle_lsp_protocol.specs.declared.machine.DocumentRequest.{DocumentRequest}
+use Rattle.isle_lsp_protocol.specs.declared.machine.DocumentRequest.TheVariants.{Formatting, RangeFormatting, FoldingRange, SelectionRange, SemanticTokens, SemanticTokensRange, CodeAction}
+use Rattle.isle_lsp_protocol.specs.declared.machine.ErrorCode.TheVariants.{InvalidParams}
+use Rattle.isle_lsp_protocol.specs.Parameters.{positions_of, range_of}
+use Rattle.isle_lsp_protocol.specs.Replies.{Outcome, done, error_outcome}
+use Rattle.isle_lsp_ranges.specs.Foldings.{AreFoldings}
+use Rattle.isle_lsp_ranges.specs.LineEdits.{IsRangeFormatting}
+use Rattle.isle_lsp_ranges.specs.Selections.{AreSelections}
+use Rattle.isle_lsp_text.specs.declared.positions.Position.{Position}
+use Rattle.isle_lsp_text.specs.declared.positions.Range.{Range}
+use Rattle.isle_lsp.specs.Formatted.{IsFormatting}
+
+-- the edits that format the lines of a range of a text; null if the text cannot be formatted
+abbrev pub IsFormattingWithin : List ℕ → Range → Data → Type 0
+IsFormattingWithin text range d =
+    (HasNoDocument text × (d ≡ null)) ⊎ ((tidy : List ℕ) × IsTidyTextOf text tidy × IsRangeFormatting text tidy range d)
+
+-- the result is such data
+abbrev pub Gives : (Data → Type 0) → Outcome → Type 0
+Gives Is o = (d : Data) × Is d × (o ≡ done d)
+
+-- the same of a range in the message, which may lack it
+abbrev pub GivesWithin : (Range → Data → Type 0) → Option Range → Outcome → Type 0
+GivesWithin Is None o = o ≡ error_outcome InvalidParams
+GivesWithin Is (Some range) o = Gives (Is range) o
+
+-- the same of the positions in the message
+abbrev pub GivesAt : (List Position → Data → Type 0) → Option (List Position) → Outcome → Type 0
+GivesAt Is None o = o ≡ error_outcome InvalidParams
+GivesAt Is (Some positions) o = Gives (Is positions) o
+
+-- the outcome of a request with this message about a document, where the client may take edits with versions
+abbrev pub IsOfDocument : DocumentRequest → (message : Data) → (takes : Bool) → Document → Outcome → Type 0
+IsOfDocument Formatting message takes document o = Gives (IsFormatting document.text) o
+IsOfDocument RangeFormatting message takes document o = GivesWithin (IsFormattingWithin document.text) (range_of message) o
+IsOfDocument FoldingRange message takes document o = Gives (AreFoldings document.text) o
+IsOfDocument SelectionRange message takes document o = GivesAt (AreSelections document.text) (positions_of message) o
+IsOfDocument SemanticTokens message takes document o = Gives (AreTokens document.text None) o
+IsOfDocument SemanticTokensRange message takes document o = GivesWithin (λ range. AreTokens document.text (Some range)) (range_of message) o
+IsOfDocument CodeAction message takes document o = Gives (AreActions takes document.uri document.version document.text message) o
+
+-- the same of the document that the message names, which may not be open
+abbrev pub IsAlone : DocumentRequest → (message : Data) → (takes : Bool) → Option Document → Outcome → Type 0
+IsAlone request message takes None o = o ≡ error_outcome InvalidParams
+IsAlone request message takes (Some document) o = IsOfDocument request message takes document o

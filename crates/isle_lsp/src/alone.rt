@@ -1,0 +1,113 @@
+//! Requests that are answered from an open document alone.
+
+ghost use Rattle.std.specs.Prelude.{◌≡◌, IfErr, IfOk, Some, option_map};
+ghost use Rattle.serde_json.specs.View.{view};
+ghost use Rattle.isle_cli.specs.declared.failure.Failure.TheVariants.{Memory};
+ghost use Rattle.isle_lsp_files.specs.Documents.{document_of};
+ghost use Rattle.isle_lsp_protocol.specs.Parameters as parameters;
+ghost use Rattle.isle_lsp_protocol.specs.Replies.{outcome_of};
+ghost use Rattle.isle_lsp_colours.specs.Coloured.{AreTokens};
+ghost use Rattle.isle_lsp_ranges.specs.Selections.{AreSelections};
+ghost use Rattle.isle_lsp.specs.Alone.{GivesAt, GivesWithin, IsAlone, IsFormattingWithin};
+ghost use Rattle.isle_lsp.specs.Alone.{IsOfDocument};
+
+use crate::formatting::{formatting, formatting_within};
+use isle_cli::failure::Failure;
+use isle_lsp_actions::code_actions;
+use isle_lsp_colours::semantic_tokens;
+use isle_lsp_files::documents::Document;
+use isle_lsp_protocol::machine::{DocumentRequest, ErrorCode};
+use isle_lsp_protocol::parameters::{positions_of, range_of};
+use isle_lsp_protocol::replies::{Outcome, error_outcome};
+use isle_lsp_ranges::folding::folding_ranges;
+use isle_lsp_ranges::selection::selection_ranges;
+use serde_json::Value;
+use std::alloc::{AllocError, Global};
+
+/// The outcome of a request about a document, or an error if it is not open.
+pub fn outcome_alone<'a>(
+    alloc: Global,
+    request: DocumentRequest,
+    message: &Value,
+    takes_document_changes: bool,
+    document: Option<&Document>,
+) -> Result<Outcome<'a>, Failure>
+    ensures ok { IfOk result (λ outcome. IsAlone request (view message.now)
+        takes_document_changes (option_map (λ d. document_of d.now) document.entry)
+        (outcome_of outcome)) }
+    ensures err { IfErr result (λ failure. failure ≡ Memory) }
+{
+    match document {
+        Some(document) => {
+            outcome_of_document(alloc, request, message, takes_document_changes, document)
+        }
+        None => Ok(error_outcome(ErrorCode::InvalidParams)),
+    }
+}
+
+fn outcome_of_document<'a>(
+    alloc: Global,
+    request: DocumentRequest,
+    message: &Value,
+    takes_document_changes: bool,
+    document: &Document,
+) -> Result<Outcome<'a>, Failure>
+    ensures ok { IfOk result (λ outcome. IsOfDocument request (view message.now)
+        takes_document_changes (document_of document.now) (outcome_of outcome)) }
+    ensures err { IfErr result (λ failure. failure ≡ Memory) }
+{
+    let text = document.text.as_str();
+    match request {
+        DocumentRequest::Formatting => Ok(Outcome::Done(formatting(alloc, text)?)),
+        DocumentRequest::RangeFormatting => formatted_range(alloc, text, message),
+        DocumentRequest::FoldingRange => Ok(Outcome::Done(folding_ranges(alloc, text)?)),
+        DocumentRequest::SelectionRange => Ok(selections(alloc, text, message)?),
+        DocumentRequest::SemanticTokens => {
+            Ok(Outcome::Done(semantic_tokens(alloc, text, None)?))
+        }
+        DocumentRequest::SemanticTokensRange => Ok(tokens_within(alloc, text, message)?),
+        DocumentRequest::CodeAction => {
+            let shown = isle_lsp_actions::Document {
+                uri: document.uri.as_str(),
+                version: document.version,
+                text,
+            };
+            let actions = code_actions(alloc, shown, message, takes_document_changes)?;
+            Ok(Outcome::Done(actions))
+        }
+    }
+}
+
+/// The edits that format the range in a message.
+fn formatted_range<'a>(alloc: Global, text: &str, message: &Value) -> Result<Outcome<'a>, Failure>
+    ensures ok { IfOk result (λ outcome. GivesWithin (IsFormattingWithin text.now)
+        (parameters.range_of (view message.now)) (outcome_of outcome)) }
+    ensures err { IfErr result (λ failure. failure ≡ Memory) }
+{
+    match range_of(message) {
+        Some(range) => Ok(Outcome::Done(formatting_within(alloc, text, range)?)),
+        None => Ok(error_outcome(ErrorCode::InvalidParams)),
+    }
+}
+
+/// What a selection grows to from each position in a message.
+fn selections<'a>(alloc: Global, text: &str, message: &Value) -> Result<Outcome<'a>, AllocError>
+    ensures { IfOk result (λ outcome. GivesAt (AreSelections text.now)
+        (parameters.positions_of (view message.now)) (outcome_of outcome)) }
+{
+    match positions_of(alloc, message)? {
+        Some(positions) => Ok(Outcome::Done(selection_ranges(alloc, text, &positions)?)),
+        None => Ok(error_outcome(ErrorCode::InvalidParams)),
+    }
+}
+
+/// The tokens of the range in a message.
+fn tokens_within<'a>(alloc: Global, text: &str, message: &Value) -> Result<Outcome<'a>, AllocError>
+    ensures { IfOk result (λ outcome. GivesWithin (λ range. AreTokens text.now (Some range))
+        (parameters.range_of (view message.now)) (outcome_of outcome)) }
+{
+    match range_of(message) {
+        Some(range) => Ok(Outcome::Done(semantic_tokens(alloc, text, Some(range))?)),
+        None => Ok(error_outcome(ErrorCode::InvalidParams)),
+    }
+}
