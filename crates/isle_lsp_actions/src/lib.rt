@@ -14,6 +14,7 @@ ghost use Rattle.isle_lsp_actions.specs.Answers.{AreActions};
 mod actions;
 mod answers;
 mod insertions;
+pub mod laws;
 mod names;
 mod told;
 
@@ -39,14 +40,14 @@ pub struct Document<'a> {
 /// The answer to a `textDocument/codeAction`: an array with the actions for each diagnostic of a
 /// lint in the message, in their order.
 ///
-/// | Action | For | Offered if |
-/// |---|---|---|
-/// | puts `_` before the name | the `unused-` lints | the name stands once in its definition, and the new name not at all |
-/// | puts `; isle-lint: allow` above the definition | each lint | only blanks are before the definition on its line |
+/// - For the `unused-` lints: puts `_` before the name. It is offered if the name stands once in
+///   its definition, and the new name not at all.
+/// - For each lint: puts the line `; isle-lint: allow LINT` above the definition. It is offered if
+///   nothing but blanks is before the definition on its line.
 ///
 /// A definition is an outermost list. A diagnostic of another form or from another source has no
 /// actions, and a message without diagnostics or for other kinds of actions gives an empty array.
-/// The edits have the document's version if the client takes document changes.
+/// The edits name the document's version if the client takes document changes.
 pub fn code_actions(
     alloc: Global,
     document: Document,
