@@ -1,12 +1,12 @@
 -- Actions insert their texts at offsets of the document.
-use Rattle.std.proofs.Common.{◌≡◌, ℕ, ◌-◌, ◌≤◌, ◌&&◌, Bool, true, false, if◌then◌else◌, List, [], ◌∷◌, ◌++◌, Option, None, Some, codes, length, min, take, option_and_then, arith}
+use Rattle.std.proofs.Common.{ℕ, ◌≤◌, ◌&&◌, Bool, true, false, if◌then◌else◌, List, [], ◌∷◌, ◌++◌, Option, None, Some, codes, length, take, option_and_then, arith}
 use Rattle.std.proofs.lemmas.List.{length-take}
-use Rattle.std.specs.List.{AllByRecursion, suffix_len}
+use Rattle.std.specs.List.{AllByRecursion}
 use Rattle.serde_json.specs.Data.{Data, Items, no_items, item}
 use Rattle.isle_base.specs.Bytes.{underscore}
 use Rattle.isle_lint_core.specs.declared.lint.Lint.{Lint}
 use Rattle.isle_lsp_actions.specs.Actions.{Action, actions_for, actions_in, all_actions, allowing, allowing_at, can_become, is_unused, prefix_of, prefixing, prefixing_of}
-use Rattle.isle_lsp_actions.specs.Insertions.{ends_line, indent_start, is_indent, line_of}
+use Rattle.isle_lsp_actions.specs.Insertions.{ends_line, indent_start, line_of}
 use Rattle.isle_lsp_actions.specs.Names.{Name, name_at}
 use Rattle.isle_lsp_actions.specs.Told.{is_text, lint_named, position_at, text_in, told_in, told_with}
 use Rattle.isle_lsp_actions.specs.declared.told.Told.{Told}

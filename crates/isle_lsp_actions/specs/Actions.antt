@@ -1,6 +1,6 @@
 -- The actions for the diagnostics of lints. Each inserts a text.
 use Rattle.std.specs.Prelude.{ℕ, ◌+◌, List, [], ◌∷◌, ◌++◌, Bool, true, false, not, ◌&&◌, ◌==◌, Option, None, Some, codes, length, string_bytes, if◌then◌else◌}
-use Rattle.serde_json.specs.Data.{Data, Items, no_items, item}
+use Rattle.serde_json.specs.Data.{Items, no_items, item}
 use Rattle.isle_base.specs.Bytes.{underscore}
 use Rattle.isle_base.specs.Skips.{begins_with}
 use Rattle.isle_lint_core.specs.Lint.{name}

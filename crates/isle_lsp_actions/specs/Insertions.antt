@@ -1,5 +1,5 @@
 -- Where `_` may be put before a name, and a line above a list.
-use Rattle.std.specs.Prelude.{ℕ, ◌+◌, ◌-◌, List, [], ◌∷◌, Bool, true, false, not, ◌&&◌, ◌||◌, ◌==◌, Option, None, Some, length, slice_get, take, if◌then◌else◌}
+use Rattle.std.specs.Prelude.{ℕ, ◌-◌, List, [], ◌∷◌, Bool, true, false, ◌&&◌, ◌||◌, ◌==◌, Option, None, Some, length, slice_get, take, if◌then◌else◌}
 use Rattle.std.specs.List.{suffix_len}
 use Rattle.isle_base.specs.Bytes.{carriage_return, dollar, left_parenthesis, line_feed, space, tab, underscore}
 use Rattle.isle_base.specs.Skips.{begins_with, is_blank}

@@ -1,5 +1,5 @@
 -- The text after `_` is put before a name lexes to its tokens, with a `_` more in that name.
-use Rattle.std.proofs.Common.{◌≡◌, ◌⊎◌, inl, inr, ℕ, zero, suc, ◌+◌, ◌-◌, ◌<◌, ◌≤◌, ◌&&◌, ◌==◌, Bool, true, false, if◌then◌else◌, List, [], ◌∷◌, ◌++◌, Option, None, Some, drop, length, map, not, take, refl, sym, ap, subst, ◌∙◌, arith}
+use Rattle.std.proofs.Common.{◌≡◌, ◌⊎◌, inl, inr, ℕ, zero, suc, ◌+◌, ◌-◌, ◌<◌, ◌≤◌, ◌&&◌, ◌==◌, Bool, true, false, if◌then◌else◌, List, [], ◌∷◌, Option, None, Some, length, map, not, take, refl, sym, ap, subst, ◌∙◌, arith}
 use Rattle.std.proofs.lemmas.Bool.{and_parts, cases_lt, eqb-true, ne_eqb}
 use Rattle.std.proofs.lemmas.Bool.Decides.{nat_tests}
 use Rattle.std.proofs.lemmas.List.{get_or-take, length-take-le}
@@ -16,11 +16,11 @@ use Rattle.isle_lsp_actions.specs.Insertions.{is_apart, is_apart_from, is_mark, 
 use Rattle.isle_lsp_actions.specs.Names.{count_in, name_at, names_of}
 use Rattle.isle_lsp_actions.specs.declared.told.Told.{Told}
 use Rattle.isle_lsp_actions_laws.specs.Prefixed.{IsPrefixed, acted, prefixed}
-use Rattle.isle_lsp_actions_laws.proofs.Found.{Found, chain, found, mark, marks}
+use Rattle.isle_lsp_actions_laws.proofs.Found.{chain, found, mark, marks}
 use Rattle.isle_lsp_text.specs.Numbers.{ends_number, ends_number_at, is_behind_number}
 use Rattle.isle_lsp_text.specs.declared.lists.ListSpan.{ListSpan}
 use Rattle.isle_rename_laws.specs.Edits.{edited}
-use Rattle.isle_rename_laws.proofs.Lexed.{Apart, IsFront, edits_lex, starts}
+use Rattle.isle_rename_laws.proofs.Lexed.{Apart, IsFront, edits_lex}
 
 -- no number ends with a byte behind which a name stands apart
 apart_ends_none : (b : ℕ) → is_apart b ≡ true → ends_number b ≡ false
