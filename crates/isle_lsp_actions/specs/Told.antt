@@ -1,0 +1,64 @@
+-- What a request for code actions tells: the diagnostics shown, and the kinds of actions wanted.
+use Rattle.std.specs.Prelude.{ℕ, List, Bool, true, false, ◌||◌, Option, None, Some, codes, option_and_then, if◌then◌else◌}
+use Rattle.std.specs.List.{find}
+use Rattle.std.specs.Str.{bytes_eq}
+use Rattle.serde_json.specs.Data.{Data, Items, no_items, item}
+use Rattle.serde_json.specs.Find.{get, pointer, as_array, as_str}
+use Rattle.isle_lint_core.specs.Lint.{all_lints, name}
+use Rattle.isle_lint_core.specs.declared.lint.Lint.{Lint}
+use Rattle.isle_lsp_actions.specs.declared.told.Told.{Told}
+use Rattle.isle_lsp_protocol.specs.Parameters.{position_in}
+use Rattle.isle_lsp_text.specs.Positions.{offset_at}
+use Rattle.isle_lsp_text.specs.declared.positions.Position.{Position}
+
+-- whether there is a text, and it is this one
+abbrev pub is_text : List ℕ → Option (List ℕ) → Bool
+is_text text None = false
+is_text text (Some other) = bytes_eq other text
+
+abbrev pub text_in : (key : List ℕ) → Data → Option (List ℕ)
+text_in key d = option_and_then as_str (get key d)
+
+-- the lint of this name
+abbrev pub lint_named : List ℕ → Option Lint
+lint_named text = find (λ lint. bytes_eq (name lint) text) all_lints
+
+abbrev pub position_at : (path : List ℕ) → Data → Option Position
+position_at path d = option_and_then position_in (pointer path d)
+
+abbrev pub told_with : List ℕ → (lint : Option Lint) → (start end : Option Position) → Option Told
+told_with text None start end = None
+told_with text (Some lint) None end = None
+told_with text (Some lint) (Some start) None = None
+told_with text (Some lint) (Some start) (Some end) = Some record { lint = lint; from = offset_at start text; to = offset_at end text }
+
+-- what a diagnostic of a lint tells about a text: the lint, and where its range begins and ends
+abbrev pub told_in : List ℕ → Data → Option Told
+told_in text d =
+    if is_text (codes "isle") (text_in (codes "source") d)
+    then told_with text (option_and_then lint_named (text_in (codes "code") d)) (position_at (codes "/range/start") d) (position_at (codes "/range/end") d)
+    else None
+
+abbrev pub items_or_none : Option Items → Items
+items_or_none None = no_items
+items_or_none (Some items) = items
+
+-- the diagnostics that the client shows at the place of the request
+abbrev pub diagnostics_in : Data → Items
+diagnostics_in d = items_or_none (option_and_then as_array (pointer (codes "/params/context/diagnostics") d))
+
+-- a kind of actions that quick fixes are of: their own, or the empty one, which all are of
+abbrev pub is_kind_of_fixes : Data → Bool
+is_kind_of_fixes d = is_text (codes "quickfix") (as_str d) || is_text (codes "") (as_str d)
+
+abbrev pub has_kind_of_fixes : Items → Bool
+has_kind_of_fixes no_items = false
+has_kind_of_fixes (item d ds) = is_kind_of_fixes d || has_kind_of_fixes ds
+
+abbrev pub wants_fixes_of : Option Items → Bool
+wants_fixes_of None = true
+wants_fixes_of (Some kinds) = has_kind_of_fixes kinds
+
+-- whether a request wants quick fixes: it names no kinds that it wants only, or a kind of theirs
+abbrev pub wants_fixes : Data → Bool
+wants_fixes d = wants_fixes_of (option_and_then as_array (pointer (codes "/params/context/only") d))

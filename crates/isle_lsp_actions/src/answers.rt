@@ -1,0 +1,99 @@
+//! Actions as JSON.
+
+ghost use Rattle.std.specs.Prelude.{◌≡◌, IfOk, map};
+ghost use Rattle.serde_json.specs.View.{view};
+ghost use Rattle.isle_lsp_actions.specs.Actions.{action_of};
+ghost use Rattle.isle_lsp_actions.specs.Answers as wanted;
+ghost use Rattle.isle_lsp_protocol.specs.Results.{document_identifier, version_data};
+
+use crate::Document;
+use crate::actions::Action;
+use isle_lsp_protocol::results::text_edit;
+use isle_lsp_text::ranges::range_at;
+use serde_json::{Map, Number, Value, json, put};
+use std::alloc::{AllocError, Global};
+
+/// These actions in a document, as JSON.
+pub fn actions_value(
+    alloc: Global,
+    document: Document,
+    actions: &[Action],
+    takes_document_changes: bool,
+) -> Result<Value, AllocError>
+    ensures { IfOk result (λ value. view value
+        ≡ wanted.actions_data takes_document_changes document.entry.uri.now document.entry.version
+        document.entry.text.now (map action_of actions.now)) }
+{
+    let mut values = Vec::new(alloc);
+    for action in actions {
+        values.push(action_value(alloc, document, action, takes_document_changes)?)?;
+    }
+    Ok(Value::Array(values))
+}
+
+fn action_value(
+    alloc: Global,
+    document: Document,
+    action: &Action,
+    takes_document_changes: bool,
+) -> Result<Value, AllocError>
+    ensures { IfOk result (λ value. view value
+        ≡ wanted.action_data takes_document_changes document.entry.uri.now document.entry.version
+        document.entry.text.now (action_of action.now)) }
+{
+    let title = action.title.as_str();
+    let edits = insertion_value(alloc, document.text, action)?;
+    let edit = edit_value(alloc, document, edits, takes_document_changes)?;
+    json!(in alloc; {"title": title, "kind": "quickfix", "edit": edit})
+}
+
+/// The edit of an action, in an array of its own.
+fn insertion_value(alloc: Global, text: &str, action: &Action) -> Result<Value, AllocError>
+    ensures { IfOk result
+        (λ value. view value ≡ wanted.insertion_data text.now (action_of action.now)) }
+{
+    let range = range_at(text, action.offset, 0);
+    let edit = text_edit(alloc, range, action.inserted.as_str())?;
+    json!(in alloc; [edit])
+}
+
+/// The edits of a document as those of a workspace.
+fn edit_value(
+    alloc: Global,
+    document: Document,
+    edits: Value,
+    takes_document_changes: bool,
+) -> Result<Value, AllocError>
+    ensures { IfOk result (λ value. view value
+        ≡ wanted.edit_data takes_document_changes document.entry.uri.now document.entry.version
+        (view edits)) }
+{
+    if takes_document_changes {
+        let identifier = identifier_value(alloc, document)?;
+        json!(in alloc; {"documentChanges": [{"textDocument": identifier, "edits": edits}]})
+    } else {
+        let mut changes = Map::new(alloc);
+        put(&mut changes, alloc, document.uri, edits)?;
+        let changes = Value::Object(changes);
+        json!(in alloc; {"changes": changes})
+    }
+}
+
+fn identifier_value(alloc: Global, document: Document) -> Result<Value, AllocError>
+    ensures { IfOk result (λ value. view value
+        ≡ document_identifier document.entry.uri.now document.entry.version) }
+{
+    let uri = document.uri;
+    let version = version_value(document.version);
+    json!(in alloc; {"uri": uri, "version": version})
+}
+
+/// A version, or null if it is not known.
+fn version_value(version: Option<i64>) -> Value
+    ensures { view result ≡ version_data version }
+{
+    match version {
+        Some(version) => Value::Number(Number::from(version)),
+        None => Value::Null,
+    }
+}
