@@ -1,2 +1,4 @@
 pub mod Depths
+mod LineBreaks
 mod LineSteps
+mod Values

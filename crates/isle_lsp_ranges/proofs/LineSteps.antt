@@ -1,11 +1,11 @@
 -- The edits between two texts, one pair of lines after another.
-use Rattle.std.proofs.Common.{◌≡◌, ◌≢◌, ℕ, zero, suc, ◌≤◌, ◌<◌, ◌⊎◌, if◌then◌else◌, Bool, true, false, inl, inr, List, [], ◌∷◌, ◌++◌, length, get_or, drop, filter, refl, sym, ◌∙◌, ap, subst, arith, append_assoc, append-nil}
+use Rattle.std.proofs.Common.{◌≡◌, ◌≢◌, ℕ, zero, suc, ◌≤◌, ◌<◌, if◌then◌else◌, Bool, true, false, inl, inr, List, [], ◌∷◌, ◌++◌, length, get_or, drop, filter, refl, sym, ◌∙◌, ap, subst, arith, append_assoc, append-nil}
 use Rattle.std.proofs.lemmas.Bool.{cases_Bool}
 use Rattle.std.proofs.lemmas.Grind.{common_steps}
 use Rattle.isle_lsp_text.specs.declared.edits.Edit.{Edit}
 use Rattle.isle_lsp_text.specs.Edits.{applied, part, IsEdit, IsLineStart}
 use Rattle.isle_lsp_text.proofs.Parts.{part_none, part_drop, part_part}
-use Rattle.isle_lsp_ranges.specs.LineEdits.{AreEditsWithin, AreLineEdits, IsLineEdit, IsPair, TurnByLines, is_within}
+use Rattle.isle_lsp_ranges.specs.LineEdits.{AreEditsWithin, AreLineEdits, IsLineEdit, IsPair, is_within}
 
 -- These edits make the rest of the new text from the rest of the old one.
 pub record IsRest (old new : List ℕ) (i j : ℕ) (es : List Edit) : Type 0 where
@@ -72,10 +72,10 @@ rest_changed old new i j e false es b p same other r = rest_kept old new e.start
 -- Both texts up to these offsets: the edits so far, and those of them within a part.
 pub record IsTurned (old new : List ℕ) (from to : ℕ) (within : List Edit) (i j : ℕ) : Type 0 where
   pub done : List Edit
-  pub within : within ≡ filter (is_within from to) done
+  pub kept : within ≡ filter (is_within from to) done
   pub goes_on : (es : List Edit) → IsRest old new i j es → IsRest old new 0 0 (done ++ es)
-  pub end : IsLineStart old i
-  pub to : IsLineStart new j
+  pub old_line : IsLineStart old i
+  pub new_line : IsLineStart new j
 
 line_start_zero : (text : List ℕ) → IsLineStart text 0
 line_start_zero text = (omega arith, λ m e l. absurd (omega arith))
@@ -83,10 +83,10 @@ line_start_zero text = (omega arith, λ m e l. absurd (omega arith))
 pub turned_start : (old new : List ℕ) (from to : ℕ) → IsTurned old new from to [] 0 0
 turned_start old new from to = record {
   done = [];
-  within = refl;
+  kept = refl;
   goes_on = λ es r. r;
-  end = line_start_zero old;
-  to = line_start_zero new;
+  old_line = line_start_zero old;
+  new_line = line_start_zero new;
 }
 
 filter_append : (p : Edit → Bool) (es fs : List Edit) → filter p (es ++ fs) ≡ filter p es ++ filter p fs
@@ -94,22 +94,33 @@ filter_append p [] fs = refl
 filter_append p (e ∷ es) fs = elim (cases_Bool (p e)) [ inl t ↦ rw t (ap (λ x. e ∷ x) (filter_append p es fs)) | inr t ↦ rw t (filter_append p es fs) ]
 
 -- one pair of lines more
-pub turned_next : (old new : List ℕ) (from to : ℕ) (within : List Edit) (i j : ℕ) (e : Edit) (v : Bool) → IsTurned old new from to within i j → IsPair old new i j e
+turned_next : (old new : List ℕ) (from to : ℕ) (within : List Edit) (i j : ℕ) (e : Edit) (v : Bool) → IsTurned old new from to within i j → IsPair old new i j e
     → (v ≡ false → part old e.start e.end ≡ part new e.from e.to) → (v ≡ true → part old e.start e.end ≢ part new e.from e.to)
     → IsTurned old new from to (within ++ filter (is_within from to) (changed v e)) e.end e.to
 turned_next old new from to within i j e v t p same other =
-    let begins : Begins old new e = (subst (IsLineStart old) (sym p.here.0) t.end, subst (IsLineStart new) (sym p.here.1) t.to) in
+    let begins : Begins old new e = (subst (IsLineStart old) (sym p.here.0) t.old_line, subst (IsLineStart new) (sym p.here.1) t.new_line) in
     record {
       done = t.done ++ changed v e;
-      within = ap (λ x. x ++ filter (is_within from to) (changed v e)) t.within ∙ sym (filter_append (is_within from to) t.done (changed v e));
+      kept = ap (λ x. x ++ filter (is_within from to) (changed v e)) t.kept ∙ sym (filter_append (is_within from to) t.done (changed v e));
       goes_on = λ es r.
           let here : IsRest old new i j (changed v e ++ es) =
           subst (λ n. IsRest old new n j (changed v e ++ es)) p.here.0
           (subst (λ n. IsRest old new e.start n (changed v e ++ es)) p.here.1 (rest_changed old new i j e v es begins p same other r)) in
           subst (IsRest old new 0 0) (sym (append_assoc t.done (changed v e) es)) (t.goes_on (changed v e ++ es) here);
-      end = p.end;
-      to = p.to;
+      old_line = p.end;
+      new_line = p.to;
     }
+
+-- one pair of equal lines more
+pub turned_same : (old new : List ℕ) (from to : ℕ) (within : List Edit) (i j : ℕ) (e : Edit) → IsTurned old new from to within i j → IsPair old new i j e
+    → part old e.start e.end ≡ part new e.from e.to → IsTurned old new from to within e.end e.to
+turned_same old new from to within i j e t p same =
+    subst (λ es. IsTurned old new from to es e.end e.to) (append-nil within) (turned_next old new from to within i j e false t p (λ _. same) (λ no. absurd (cc)))
+
+-- and one pair that differs
+pub turned_edited : (old new : List ℕ) (from to : ℕ) (within : List Edit) (i j : ℕ) (e : Edit) → IsTurned old new from to within i j → IsPair old new i j e
+    → part old e.start e.end ≢ part new e.from e.to → IsTurned old new from to (within ++ filter (is_within from to) (e ∷ [])) e.end e.to
+turned_edited old new from to within i j e t p other = turned_next old new from to within i j e true t p (λ no. absurd (cc)) (λ _. other)
 
 -- at the ends of both texts
 pub all_turned : (old new : List ℕ) (from to : ℕ) (within : List Edit) (i j : ℕ) → IsTurned old new from to within i j → length old ≤ i → length new ≤ j → AreEditsWithin old new from to within
@@ -117,7 +128,7 @@ all_turned old new from to within i j t h k =
     let a : drop i old ≡ [] = grind (arith, common_steps) in
     let b : drop j new ≡ [] = grind (arith, common_steps) in
     let r : IsRest old new 0 0 t.done = subst (IsRest old new 0 0) (append-nil t.done) (t.goes_on [] (record { gives = a ∙ sym b; lines = tt })) in
-    (t.done, record { gives = r.gives; lines = r.lines }, t.within)
+    (t.done, record { gives = r.gives; lines = r.lines }, t.kept)
 
 -- each of them can be made
 is_edit : (old new : List ℕ) (e : Edit) → IsLineEdit old new e → IsEdit old new e
@@ -125,11 +136,11 @@ is_edit old new e is = record { old_order = is.old_order; new_order = is.new_ord
 
 filtered_at : (old new : List ℕ) (at : ℕ) (p : Edit → Bool) (es : List Edit) (i : ℕ) (d : Edit) → AreLineEdits at es old new → i < length (filter p es) → IsEdit old new (get_or (filter p es) i d)
 filtered_at old new at p [] i d a h = absurd (omega arith)
-filtered_at old new at p (e ∷ es) i d a h = by_test (p e) i h where
-  by_test : (v : Bool) (i : ℕ) → i < length (if v then e ∷ filter p es else filter p es) → IsEdit old new (get_or (if v then e ∷ filter p es else filter p es) i d)
-  by_test true zero h = is_edit old new e a.1
-  by_test true (suc i) h = filtered_at old new e.end p es i d a.2 (omega arith)
-  by_test false i h = filtered_at old new e.end p es i d a.2 h
+filtered_at old new at p (e ∷ es) i d a h = by_test (p e) i (λ k l. filtered_at old new e.end p es k d a.2 l) h where
+  by_test : (v : Bool) (i : ℕ) → ((k : ℕ) → k < length (filter p es) → IsEdit old new (get_or (filter p es) k d)) → i < length (if v then e ∷ filter p es else filter p es) → IsEdit old new (get_or (if v then e ∷ filter p es else filter p es) i d)
+  by_test true zero rest h = is_edit old new e a.1
+  by_test true (suc i) rest h = rest i (omega arith)
+  by_test false i rest h = rest i h
 
 pub edit_at : (old new : List ℕ) (from to : ℕ) (es : List Edit) (i : ℕ) (d : Edit) → AreEditsWithin old new from to es → i < length es → IsEdit old new (get_or es i d)
 edit_at old new from to es i d a h =

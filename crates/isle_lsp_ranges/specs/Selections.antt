@@ -8,6 +8,7 @@ use Rattle.isle_lsp_text.specs.Positions.{offset_at}
 use Rattle.isle_lsp_text.specs.Ranges.{range_between}
 use Rattle.isle_lsp_text.specs.declared.lists.ListSpan.{ListSpan}
 use Rattle.isle_lsp_text.specs.declared.positions.Position.{Position}
+use Rattle.isle_lsp_text.specs.declared.positions.Range.{Range}
 use Rattle.isle_lsp_text.specs.declared.wholes.Part.{Part}
 use Rattle.serde_json.specs.Data.{Data, array, member, no_members, object}
 use Rattle.serde_json.specs.View.{items_of}
@@ -69,11 +70,14 @@ abbrev pub parts_around : List ℕ → (words : List Part) → List ListSpan →
 parts_around text words lists offset =
     take most (grown (part 0 (length text)) (part offset offset) (word_at offset words ++ map list_part lists))
 
+-- a range, and what a selection grows to from it
+abbrev pub growing : Range → Data → Data
+growing range parent = object (member (codes "parent") parent (member (codes "range") (range_data range) no_members))
+
 -- the innermost of these parts, and around it the others in turn, and around them all the whole text
 abbrev pub selection : List ℕ → List Part → Data
 selection text [] = object (member (codes "range") (range_data (range_between text 0 (length text))) no_members)
-selection text (p ∷ ps) =
-    object (member (codes "parent") (selection text ps) (member (codes "range") (range_data (range_between text p.from p.to)) no_members))
+selection text (p ∷ ps) = growing (range_between text p.from p.to) (selection text ps)
 
 abbrev pub selection_at : List ℕ → (words : List Part) → List ListSpan → Position → Data
 selection_at text words lists p = selection text (parts_around text words lists (offset_at p text))

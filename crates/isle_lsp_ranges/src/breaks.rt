@@ -2,13 +2,13 @@
 
 ghost use Rattle.std.specs.Prelude.{◌≡◌, ◌≤◌, IfOk, length};
 ghost use Rattle.isle_lsp_text.specs.Positions.{ends_line};
-ghost use Rattle.isle_lsp_ranges.specs.Foldings.{breaks, comments, is_comment, line_in};
+ghost use Rattle.isle_lsp_ranges.specs.Foldings as wanted;
 
 use std::alloc::{AllocError, Global};
 
 /// The byte offsets at which the lines of a text begin after the first one.
 pub fn breaks(alloc: Global, text: &[u8]) -> Result<Vec<usize>, AllocError>
-    ensures { IfOk result (λ found. found.items ≡ breaks text.now) }
+    ensures { IfOk result (λ found. found.items ≡ wanted.breaks text.now) }
 {
     let mut found = Vec::new(alloc);
     for (i, byte) in text.iter().enumerate() {
@@ -28,8 +28,8 @@ fn ends_line(byte: u8, rest: &[u8]) -> bool
 
 /// The line of a byte offset. An offset past the end of the text is on the last line.
 pub fn line_in(text: &[u8], breaks: &[usize], offset: usize) -> usize
-    requires { breaks.now ≡ breaks text.now }
-    ensures line { result ≡ line_in breaks.now offset }
+    requires { breaks.now ≡ wanted.breaks text.now }
+    ensures line { result ≡ wanted.line_in breaks.now offset }
     ensures within { result ≤ length breaks.now }
 {
     breaks.partition_point(|&start| start <= offset)
@@ -37,8 +37,8 @@ pub fn line_in(text: &[u8], breaks: &[usize], offset: usize) -> usize
 
 /// For each line of a text whether it is a comment.
 pub fn comments(alloc: Global, text: &[u8], breaks: &[usize]) -> Result<Vec<bool>, AllocError>
-    requires { breaks.now ≡ breaks text.now }
-    ensures { IfOk result (λ found. found.items ≡ comments text.now) }
+    requires { breaks.now ≡ wanted.breaks text.now }
+    ensures { IfOk result (λ found. found.items ≡ wanted.comments text.now) }
 {
     let mut found = Vec::new(alloc);
     found.push(is_comment(text))?;
@@ -51,7 +51,7 @@ pub fn comments(alloc: Global, text: &[u8], breaks: &[usize]) -> Result<Vec<bool
 /// Returns whether a line that begins with these bytes is a comment: its first byte that is neither
 /// a space nor a tab is a `;`.
 fn is_comment(bytes: &[u8]) -> bool
-    ensures { result ≡ is_comment bytes.now }
+    ensures { result ≡ wanted.is_comment bytes.now }
 {
     for byte in bytes {
         if *byte != b' ' && *byte != b'\t' {

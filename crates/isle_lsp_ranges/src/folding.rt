@@ -4,8 +4,9 @@ ghost use Rattle.std.specs.Prelude.{◌≡◌, ◌<◌, ◌+◌, ◌++◌, ◌�
 ghost use Rattle.std.specs.Prelude.{ℕ};
 ghost use Rattle.serde_json.specs.Data.{depth};
 ghost use Rattle.serde_json.specs.View.{view};
-ghost use Rattle.isle_lsp_ranges.specs.Foldings.{AreFoldings, breaks, comment_data, folds};
-ghost use Rattle.isle_lsp_ranges.specs.Foldings.{last_line, line_in, list_data, run_end};
+ghost use Rattle.isle_lsp_ranges.specs.Foldings as wanted;
+ghost use Rattle.isle_lsp_ranges.specs.Foldings.{AreFoldings, comment_data, folds, last_line};
+ghost use Rattle.isle_lsp_ranges.specs.Foldings.{line_in, list_data, run_end};
 
 use crate::breaks::{breaks, comments, line_in};
 use isle_lsp_text::lists::{ListSpan, lists};
@@ -44,7 +45,7 @@ fn last_lines(
     breaks: &[usize],
     lists: &[ListSpan],
 ) -> Result<Vec<usize>, AllocError>
-    requires { breaks.now ≡ breaks text.now }
+    requires { breaks.now ≡ wanted.breaks text.now }
     ensures len { IfOk result (λ ends. length ends.items ≡ length breaks.now + 1) }
     ensures each { IfOk result (λ ends. (line : ℕ) → line ≤ length breaks.now
         → slice_index ends.items line ≡ last_line (line_in breaks.now) line lists.now) }

@@ -1,6 +1,6 @@
 //! The formatting of a part of a text, line by line.
 
-ghost use Rattle.std.specs.Prelude.{◌≡◌, ◌≢◌, ◌⊎◌, ◌<◌, ◌≤◌, ◌++◌, IfOk, OnOk, ℕ, drop, filter};
+ghost use Rattle.std.specs.Prelude.{◌≡◌, ◌≢◌, ◌⊎◌, ◌<◌, ◌≤◌, ◌++◌, ◌∷◌, [], IfOk, OnOk, ℕ, drop, filter};
 ghost use Rattle.std.specs.Prelude.{false, length, slice_index_or, true};
 ghost use Rattle.serde_json.specs.Data.{depth};
 ghost use Rattle.serde_json.specs.View.{view};
@@ -8,7 +8,7 @@ ghost use Rattle.isle_lsp_text.specs.Edits.{IsEdit, IsLineStart, first_line, par
 ghost use Rattle.isle_lsp_text.specs.Positions.{IsPlace};
 ghost use Rattle.isle_lsp_text.specs.declared.edits.Edit as texts;
 ghost use Rattle.isle_lsp_ranges.specs.LineEdits.{AreEditsWithin, IsPair, IsRangeFormatting};
-ghost use Rattle.isle_lsp_ranges.specs.LineEdits.{edit_data, edits_data};
+ghost use Rattle.isle_lsp_ranges.specs.LineEdits.{edit_data, edits_data, is_within};
 ghost use Rattle.isle_lsp_ranges.specs.LineEdits.{lines_end};
 
 use isle_lsp_protocol::results::text_edit;
@@ -47,12 +47,14 @@ pub fn range_formatting(
 fn lines_end(text: &str, range: Range) -> usize
     ensures { result ≡ lines_end text.now range }
 {
-    let has_last_line = range.end.unit > 0 || range.end.line <= range.start.line;
-    let line = if has_last_line {
-        range.end.line.saturating_add(1)
-    } else {
-        range.end.line
-    };
+    if range.end.unit == 0 && range.start.line < range.end.line {
+        return offset_of(text, range.end);
+    }
+    // A line ends with a byte at least, so a text has no line with so high a number.
+    if range.end.line >= text.len() {
+        return text.len();
+    }
+    let line = range.end.line + 1;
     offset_of(text, Position { line, unit: 0 })
 }
 
@@ -81,11 +83,22 @@ pub fn line_edits_within(
     };
     while edit.end < old.len() || edit.to < new.len() {
         edit = next_pair(old, new, edit);
-        if is_changed(old, new, edit) && from <= edit.start && edit.end <= to {
-            edits.push(edit)?;
+        if is_changed(old, new, edit) {
+            push_within(&mut edits, edit, from, to)?;
         }
     }
     Ok(edits)
+}
+
+/// Adds an edit, if it is within a part of the old text.
+fn push_within(edits: &mut Vec<Edit>, edit: Edit, from: usize, to: usize) -> Result<(), AllocError>
+    ensures { OnOk result (edits.new.items
+        ≡ edits.old.items ++ filter (is_within from to) (edit ∷ [])) }
+{
+    if from <= edit.start && edit.end <= to {
+        edits.push(edit)?;
+    }
+    Ok(())
 }
 
 /// The next line of the old text and what replaces it, after an edit. At the end of the old text it

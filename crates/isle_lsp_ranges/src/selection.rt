@@ -1,16 +1,16 @@
 //! What a selection grows to from a position.
 
-ghost use Rattle.std.specs.Prelude.{◌≡◌, ◌∷◌, ◌++◌, ◌≤◌, IfOk, List, OnOk, length};
+ghost use Rattle.std.specs.Prelude.{◌≡◌, ◌∷◌, ◌++◌, ◌≤◌, [], IfOk, List, OnOk};
 ghost use Rattle.serde_json.specs.Data.{depth};
 ghost use Rattle.serde_json.specs.View.{view};
-ghost use Rattle.isle_lsp_text.specs.declared.wholes.Part as parts;
-ghost use Rattle.isle_lsp_ranges.specs.Selections.{AreSelections, exceeds, grown, most, part};
+ghost use Rattle.isle_lsp_text.specs.declared.wholes.Part as wholes;
+ghost use Rattle.isle_lsp_ranges.specs.Selections.{AreSelections, exceeds, growing, grown};
 ghost use Rattle.isle_lsp_ranges.specs.Selections.{parts_around, selection};
 
 use crate::words::{word_at, words};
 use isle_lsp_protocol::results::range_value;
 use isle_lsp_text::lists::{ListSpan, lists};
-use isle_lsp_text::positions::{Position, START, offset_of};
+use isle_lsp_text::positions::{Position, Range, START, offset_of};
 use isle_lsp_text::ranges::range_between;
 use isle_lsp_text::wholes::Part;
 use serde_json::{Value, json};
@@ -80,13 +80,8 @@ fn parts_around(
 }
 
 /// Adds a part that exceeds the one added last, and becomes that.
-fn grow(
-    parts: &mut Vec<Part>,
-    inner: &mut Part,
-    whole: Part,
-    part: Part,
-) -> Result<(), AllocError>
-    ensures { OnOk result ((rest : List parts.Part)
+fn grow(parts: &mut Vec<Part>, inner: &mut Part, whole: Part, part: Part) -> Result<(), AllocError>
+    ensures { OnOk result ((rest : List wholes.Part)
         → parts.new.items ++ grown whole inner.new rest
         ≡ parts.old.items ++ grown whole inner.old (part ∷ rest)) }
 {
@@ -112,14 +107,29 @@ fn selection(alloc: Global, text: &str, parts: &[Part]) -> Result<Value, AllocEr
     ensures { IfOk result (λ value. view value ≡ selection text.now parts.now) }
 {
     let mut near = START;
-    let range = range_value(alloc, range_between(text, &mut near, 0, text.len()))?;
-    let mut value = json!(in alloc; {"range": range})?;
+    let mut value = whole(alloc, text)?;
     let mut left = parts.len();
     while left > 0 {
         left -= 1;
         let range = range_between(text, &mut near, parts[left].from, parts[left].to);
-        let range = range_value(alloc, range)?;
-        value = json!(in alloc; {"range": range, "parent": value})?;
+        value = growing(alloc, range, value)?;
     }
     Ok(value)
+}
+
+/// The whole text.
+fn whole(alloc: Global, text: &str) -> Result<Value, AllocError>
+    ensures { IfOk result (λ value. view value ≡ selection text.now []) }
+{
+    let mut near = START;
+    let range = range_value(alloc, range_between(text, &mut near, 0, text.len()))?;
+    json!(in alloc; {"range": range})
+}
+
+/// A range, and what a selection grows to from it.
+fn growing(alloc: Global, range: Range, parent: Value) -> Result<Value, AllocError>
+    ensures { IfOk result (λ value. view value ≡ growing range (view parent)) }
+{
+    let range = range_value(alloc, range)?;
+    json!(in alloc; {"range": range, "parent": parent})
 }

@@ -1,6 +1,6 @@
-use Rattle.std.proofs.Common.{◌≡◌, ◌++◌, ◌<◌, ◌≤◌, drop, false, get_or, map}
+use Rattle.std.proofs.Common.{◌≡◌, ◌++◌, drop, false, map}
 use Rattle.serde_json.specs.View.{view}
-use Rattle.isle_lsp_ranges.specs.Foldings.{folds_from, foldings, last_line, line_in}
+use Rattle.isle_lsp_ranges.specs.Foldings.{folds_from, last_line, line_in}
 use Rattle.isle_lsp_ranges.proofs.folding.folding_ranges.Given as goal
 
 abbrev pub invariant-loop-line : goal.invariant-loop-line
