@@ -50,7 +50,7 @@ fn lines_end(text: &str, range: Range) -> usize
     if range.end.unit == 0 && range.start.line < range.end.line {
         return offset_of(text, range.end);
     }
-    // A line ends with a byte at least, so a text has no line with so high a number.
+    // Each line but the last one has a byte at least, so the next line is past the last one.
     if range.end.line >= text.len() {
         return text.len();
     }
@@ -61,9 +61,12 @@ fn lines_end(text: &str, range: Range) -> usize
 /// The edits within a part of the old text, of edits that turn the whole text into the new one line
 /// by line. The part is given by the byte offsets of its ends.
 ///
-/// Lines are compared one after another, and each line that changes is an edit. A blank line of the
-/// old text is dropped if the new text goes on with another line. Lines of the new text that are
-/// left at the end go into one edit. An edit that is not wholly within the part is left out.
+/// A line of the old text is replaced by the fewest lines of the new one that have as many bytes
+/// besides white space, and a blank line by a blank one, or by nothing. So where the texts differ
+/// in white space alone, one edit can be made without the others. What is left of the new text at
+/// the end goes into one edit. An edit that is not wholly within the part is left out.
+///
+/// Lines end with LF here: a line of the protocol that ends with a CR alone is part of one.
 pub fn line_edits_within(
     alloc: Global,
     old: &str,
@@ -121,7 +124,10 @@ fn next_pair(old: &[u8], new: &[u8], before: Edit) -> Edit
     }
     let end = next_line(old, start);
     let next = next_line(new, from);
-    let to = if is_left_out(&old[start..end], &new[from..next]) {
+    let count = visible(&old[start..end]);
+    let to = if count > 0 {
+        lines_with(new, from, count)
+    } else if visible(&new[from..next]) > 0 {
         from
     } else {
         next
@@ -132,6 +138,30 @@ fn next_pair(old: &[u8], new: &[u8], before: Edit) -> Edit
         from,
         to,
     }
+}
+
+/// The offset after the fewest lines from `start` on that have so many bytes besides white space.
+fn lines_with(text: &[u8], start: usize, count: usize) -> usize
+    requires { IsLineStart text.now start }
+    ensures order { start ≤ result }
+    ensures line { IsLineStart text.now result }
+{
+    let mut end = start;
+    let mut left = count;
+    while left > 0 && end < text.len() {
+        let next = next_line(text, end);
+        left = left.saturating_sub(visible(&text[end..next]));
+        end = next;
+    }
+    end
+}
+
+/// The number of bytes besides white space.
+fn visible(bytes: &[u8]) -> usize {
+    bytes
+        .iter()
+        .filter(|byte| !byte.is_ascii_whitespace())
+        .count()
 }
 
 /// The offset after the line that begins at `start`.
@@ -152,11 +182,6 @@ fn next_line(text: &[u8], start: usize) -> usize
         }
     }
     text.len()
-}
-
-/// Returns whether a line of the old text is blank and the line of the new text is not.
-fn is_left_out(old_line: &[u8], new_line: &[u8]) -> bool {
-    old_line.trim_ascii().is_empty() && !new_line.trim_ascii().is_empty()
 }
 
 /// Returns whether the parts of an edit differ.
