@@ -1,0 +1,4 @@
+pub mod Depths
+mod LineBreaks
+mod LineSteps
+mod Values

@@ -1,0 +1,3 @@
+pub mod Foldings
+pub mod LineEdits
+pub mod Selections
