@@ -1,0 +1,10 @@
+pub mod Ahead
+pub mod Depths
+pub mod Firsts
+pub mod Gathering
+pub mod Lexed
+pub mod Merging
+pub mod OneLine
+pub mod Pieces
+pub mod Putting
+pub mod Stepping

@@ -1,0 +1,8 @@
+use Rattle.std.proofs.Common.{◌≡◌, drop, map}
+use Rattle.std.specs.List.{list_any}
+use Rattle.std.specs.Str.{bytes_eq}
+use Rattle.isle_lsp_colours.proofs.names.has_text.Given as goal
+
+abbrev pub invariant-loop-other : goal.invariant-loop-other
+invariant-loop-other l =
+    list_any (bytes_eq l.text) (map (λ t. t.now) (drop l.other-index l.texts)) ≡ list_any (bytes_eq l.text) (map (λ t. t.now) l.texts)
