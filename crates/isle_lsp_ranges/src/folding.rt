@@ -1,7 +1,7 @@
 //! The parts of a text that fold.
 
-ghost use Rattle.std.specs.Prelude.{◌≡◌, ◌<◌, ◌+◌, ◌++◌, ◌≤◌, IfOk, OnOk, drop, length, map, slice_index};
-ghost use Rattle.std.specs.Prelude.{ℕ};
+ghost use Rattle.std.specs.Prelude.{◌≡◌, ◌<◌, ◌+◌, ◌++◌, ◌≤◌, IfOk, OnOk, ℕ, drop, length, map};
+ghost use Rattle.std.specs.Prelude.{slice_index};
 ghost use Rattle.serde_json.specs.Data.{depth};
 ghost use Rattle.serde_json.specs.View.{view};
 ghost use Rattle.isle_lsp_ranges.specs.Foldings as wanted;
