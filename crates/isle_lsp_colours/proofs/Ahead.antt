@@ -1,11 +1,11 @@
 -- The position of a later offset is at or after that of an earlier one.
-use Rattle.std.proofs.Common.{◌≡◌, ◌+◌, ◌-◌, ◌<◌, ◌≤◌, ◌==◌, ℕ, zero, suc, List, [], ◌∷◌, ◌++◌, ◌⊎◌, Bool, false, true, ap, arith, inl, inr, map, refl, subst, sym, ◌∙◌}
-use Rattle.std.proofs.lemmas.Bool.{cases_Bool, eq-eqb, eqb-false, eqb-true, ne_eqb}
+use Rattle.std.proofs.Common.{◌≡◌, ◌+◌, ◌-◌, ◌<◌, ◌≤◌, ◌==◌, ℕ, zero, suc, List, [], ◌∷◌, ◌⊎◌, false, true, ap, arith, inl, inr, map, refl, subst, sym, ◌∙◌}
+use Rattle.std.proofs.lemmas.Bool.{cases_Bool, eq-eqb, ne_eqb}
 use Rattle.isle_lsp_text.proofs.Places.{p_end, p_more, p_zero}
 use Rattle.isle_lsp_text.specs.Positions.{ends_line, position, position_at, position_from, unit_count}
 use Rattle.isle_lsp_text.specs.declared.positions.Position.{Position}
 use Rattle.isle_lsp_colours.specs.Classes.{modifiers, type_number}
-use Rattle.isle_lsp_colours.specs.Tokens.{AreInOrder, Told, column_after, decoded, encoded, numbers, origin, start_after, told}
+use Rattle.isle_lsp_colours.specs.Tokens.{AreInOrder, Told, column_after, decoded, encoded, origin, start_after, told}
 use Rattle.isle_lsp_colours.specs.declared.tokens.Token.{Token}
 
 -- a position is on a later line, or on the same line as far or farther

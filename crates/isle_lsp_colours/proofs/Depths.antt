@@ -1,5 +1,5 @@
 -- How deep the result nests.
-use Rattle.std.proofs.Common.{◌≡◌, ◌≤◌, ℕ, List, [], ◌∷◌, Option, arith, map, subst, sym}
+use Rattle.std.proofs.Common.{◌≤◌, ℕ, List, [], ◌∷◌, Option, arith, map, subst, sym}
 use Rattle.serde_json.specs.Data.{Data, depth, items_depth}
 use Rattle.serde_json.specs.View.{items_of}
 use Rattle.isle_lsp_text.specs.declared.positions.Range.{Range}

@@ -7,7 +7,7 @@ pub first-assoc : (x y z : Option Class) → first (first x y) z ≡ first x (fi
 first-assoc None y z = refl
 first-assoc (Some c) y z = refl
 
-first-none : (x : Option Class) → first x None ≡ x
+pub first-none : (x : Option Class) → first x None ≡ x
 first-none None = refl
 first-none (Some c) = refl
 

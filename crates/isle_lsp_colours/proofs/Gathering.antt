@@ -1,11 +1,10 @@
 -- The classes of the names of a text's definitions, as these are read one after another.
-use Rattle.std.proofs.Common.{◌≡◌, ℕ, ◌+◌, length, List, [], ◌∷◌, ◌++◌, Bool, false, refl, sym, subst, arith, append_assoc, Err, inl, inr}
-use Rattle.std.proofs.lemmas.List.{append-nil, length-append}
+use Rattle.std.proofs.Common.{◌≡◌, ℕ, length, List, [], Bool, Option, refl, subst, arith, Err, inl, inr}
 use Rattle.isle_base_source.specs.declared.error.Error.{Error}
 use Rattle.isle_ast.specs.Grammar.{SpellsDefinition}
 use Rattle.isle_ast.specs.Tree.{Definition}
 use Rattle.isle_ast_names.specs.Words.{SpellsAll}
-use Rattle.isle_program.specs.Reading.{IsReadAs, IsTreeOf}
+use Rattle.isle_program.specs.Reading.{IsReadAs}
 use Rattle.isle_base.specs.Steps.{IfError, RefusesStart, is_failed}
 use Rattle.isle_parser.specs.DefinitionReaders.{definition, definitions}
 use Rattle.isle_parser.specs.NextDefinition.{LeavesNone, RefusesNext, has_failed}
@@ -15,13 +14,12 @@ use Rattle.isle_parser_cursor.specs.Reading.{ends, many}
 use Rattle.isle_parser_cursor.specs.declared.cursor.Cursor.{Cursor}
 use Rattle.isle_parser_cursor.proofs.Loops.{behind_front}
 use Rattle.isle_parser.proofs.Reading.Definitions.{definition_begins}
-use Rattle.isle_base.specs.Lexing.{lexes}
-use Rattle.isle_base.specs.Place.{Placed, in_file, placed}
+use Rattle.isle_base.specs.Place.{in_file, placed}
 use Rattle.isle_base.specs.Token.{Feed, fault}
 use Rattle.isle_base.specs.declared.fault.Fault.{Fault}
 use Rattle.isle_base.specs.declared.fault.Fault.TheVariants as faults
-use Rattle.isle_parser.specs.Parsed.{Parses, RefusesText, SpellsOnly}
-use Rattle.isle_program.proofs.ReadingLemmas.{read-tree, refused-start, refused-tree}
+use Rattle.isle_parser.specs.Parsed.{Parses, RefusesText}
+use Rattle.isle_program.proofs.ReadingLemmas.{refused-start, refused-tree}
 use Rattle.isle_lsp_features.specs.Pieces.{IsFront}
 use Rattle.isle_lsp_features.proofs.Gathering.{Starts}
 use Rattle.isle_lsp_colours.specs.Known.{AddsDefinitions, Grows}

@@ -8,3 +8,4 @@ pub mod OneLine
 pub mod Pieces
 pub mod Putting
 pub mod Stepping
+pub mod Whole

@@ -1,5 +1,5 @@
 -- Classes by offset, as those of more names come.
-use Rattle.std.proofs.Common.{◌≡◌, ℕ, List, [], ◌∷◌, ◌++◌, Option, None, Some, ap, option_map, refl, slice_get, sym, ◌∙◌}
+use Rattle.std.proofs.Common.{◌≡◌, ℕ, List, [], ◌∷◌, ◌++◌, Option, ap, option_map, refl, slice_get, sym, ◌∙◌}
 use Rattle.isle_ast.specs.Tree.{Definition}
 use Rattle.isle_resolve.specs.Events.{definition_events}
 use Rattle.isle_lsp_colours.specs.Classes.{first}

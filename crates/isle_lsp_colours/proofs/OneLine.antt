@@ -5,13 +5,12 @@ use Rattle.std.proofs.lemmas.Bool.{and_parts, cases_Bool, eqb-true}
 use Rattle.std.specs.List.{AllByRecursion, list_all}
 use Rattle.isle_base.proofs.Bytes.{other_byte}
 use Rattle.isle_base.specs.Lexing.{Lexes}
-use Rattle.isle_base.specs.Literals.{Literal, begins_literal, behind_minus, behind_prefix, in_literal, prefix_radix, radix_of}
+use Rattle.isle_base.specs.Literals.{behind_minus, behind_prefix, in_literal, prefix_radix, radix_of}
 use Rattle.isle_base.specs.Skips.{Inside, Skip, ends, byte, nested, nothing, blank, line_comment, block_comment, in_line, is_blank}
 use Rattle.isle_base.specs.Spellings.{Spelling, in_symbol}
 use Rattle.isle_base.specs.Token.{Ending, Lexeme, Tok, at_sign, integer, lparen, rparen, symbol}
 use Rattle.isle_lsp_text.proofs.Places.{composes, p_more, p_zero}
 use Rattle.isle_lsp_text.specs.Positions.{ends_line, position, position_at, position_from, unit_count, units}
-use Rattle.isle_lsp_text.specs.declared.positions.Position.{Position}
 use Rattle.isle_lsp_colours.specs.Tokens.{IsOnOneLine}
 
 -- ---- where tokens are
@@ -158,9 +157,10 @@ lexed_on_lines text rest (x ∷ xs) ending at l =
     let parts = length-append here.0 (r.0 ++ after) in
     let more = length-append r.0 after in
     let long = ap length r.1 in
-    let next = then text from after here (r.0, r.1) in
-    (on_line text here.0 r.0 after x.offset x.after split (omega (arith, l.4, size, parts, long)) (omega (arith, l.5, size, parts, more)) r.2,
-      lexed_on_lines text after xs ending next l.6)
+    let next = then text from after here (r.0, r.1) in (
+      on_line text here.0 r.0 after x.offset x.after split (omega (arith, l.4, size, parts, long)) (omega (arith, l.5, size, parts, more)) r.2,
+      lexed_on_lines text after xs ending next l.6,
+    )
 
 pub on_one_line : (text : List ℕ) (xs : List Lexeme) (ending : Ending) → Lexes (length text) text xs ending → AllByRecursion (λ x. IsOnOneLine text x.offset x.after) xs
 on_one_line text xs ending l = lexed_on_lines text text xs ending ([], refl) l

@@ -1,10 +1,11 @@
 -- The names of the pieces of a text, one after another.
-use Rattle.std.proofs.Common.{◌≡◌, ◌<◌, ℕ, zero, suc, List, [], ◌∷◌, ◌++◌, Option, None, Some, refl, sym, ap, subst, ◌∙◌, append_assoc, length, option_map, slice_get}
+use Rattle.std.proofs.Common.{◌≡◌, ◌<◌, ℕ, suc, List, [], ◌∷◌, ◌++◌, Option, None, Some, refl, sym, ap, subst, ◌∙◌, append_assoc, drop, length, option_map, replicate, slice_get, take}
 use Rattle.std.specs.List.{flat_map}
 use Rattle.std.proofs.lemmas.Grind.{flat_map-append}
-use Rattle.std.proofs.lemmas.List.{append-nil}
+use Rattle.std.proofs.Math.Seq.{take-append_seam}
+use Rattle.std.proofs.lemmas.List.{append-nil, get_or-replicate, length-replicate}
+use Rattle.std.proofs.lemmas.Option.{slice_get-get_or}
 use Rattle.isle_lsp_features.specs.Pieces.{ArePieces, Piece, known, known_in, most_pieces}
-use Rattle.isle_lsp_features.proofs.Growing.{none-left}
 use Rattle.isle_lsp_colours.specs.Classes.{first}
 use Rattle.isle_lsp_colours.specs.Known.{AddsPiece, AreClasses, Grows}
 use Rattle.isle_lsp_colours.specs.Names.{class_at}
@@ -44,3 +45,19 @@ all-added text left rest old new bare none a =
       are = record { pieces = a.pieces; are = subst Pieces (append-nil a.pieces) (a.goes_on [] none); is = refl };
       at = λ offset within. a.holds offset ∙ ap (option_map (λ c. first c (class_at offset (known a.pieces)))) (bare offset within);
     }
+
+-- ---- at the start
+
+pub none-yet : (n : ℕ) (cs : List (Option Class)) → cs ≡ replicate n None → (offset : ℕ) → offset < n → slice_get cs offset ≡ Some None
+none-yet n cs is offset h =
+    let none : Option Class = None in
+    let long : offset < length (replicate n none) = subst (λ m. offset < m) (sym (length-replicate n none)) h in
+    subst (λ xs. slice_get xs offset ≡ Some none) (sym is) (slice_get-get_or (replicate n none) offset none long ∙ ap Some (get_or-replicate n offset none none h))
+
+-- all of a list is written
+pub written : {A : Type 0} (n : ℕ) (new old : List A) → length new ≡ n → take n (new ++ drop (length new) old) ≡ new
+written n new old is = ap (λ k. take k (new ++ drop (length new) old)) (sym is) ∙ take-append_seam new (drop (length new) old)
+
+pub only-none : (R : Option Class → Type 0) → ((c : Class) → R (Some c) → ⊥) → (o : Option Class) → R o → o ≡ None
+only-none R never None r = refl
+only-none R never (Some c) r = absurd (never c r)

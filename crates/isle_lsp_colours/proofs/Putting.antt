@@ -1,7 +1,6 @@
 -- A name gets its class, unless there is one at its place.
-use Rattle.std.proofs.Common.{◌≡◌, ◌==◌, ◌<◌, ◌≤◌, ℕ, zero, suc, List, [], ◌∷◌, Bool, false, true, Option, None, Some, ap, get_or, is_some, length, option_map, refl, slice_get, slice_set, sym, ◌∙◌, inl, inr, if◌then◌else◌, arith, subst}
+use Rattle.std.proofs.Common.{◌≡◌, ◌==◌, ◌<◌, ◌≤◌, ℕ, zero, suc, List, [], ◌∷◌, false, true, Option, None, Some, ap, get_or, is_some, length, option_map, refl, slice_get, slice_set, sym, ◌∙◌, inl, inr, if◌then◌else◌, arith, subst}
 use Rattle.std.proofs.lemmas.Bool.{cases_Bool, eqb-false, eqb-true}
-use Rattle.std.proofs.lemmas.List.{get_or-set_same}
 use Rattle.std.proofs.lemmas.Option.{slice_get-get_or, slice_get_past}
 use Rattle.isle_lsp_colours.specs.Classes.{first}
 use Rattle.isle_lsp_colours.specs.declared.classes.Class.{Class}

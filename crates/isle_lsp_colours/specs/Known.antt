@@ -5,10 +5,8 @@ use Rattle.isle_ast.specs.Tree.{Definition}
 use Rattle.isle_base.specs.declared.fault.Fault.{Fault}
 use Rattle.isle_base.specs.declared.fault.Fault.TheVariants as faults
 use Rattle.isle_lsp_features.specs.Pieces.{ArePieces, IsFront, IsFrontOrTree, IsLeft, IsPiece, Piece, known, known_in, most_pieces}
-use Rattle.isle_lsp_features.specs.declared.rests.Lists as features
 use Rattle.isle_lsp_colours.specs.Names.{Merges, class_at}
 use Rattle.isle_lsp_colours.specs.declared.classes.Class.{Class}
-use Rattle.isle_lsp_colours.specs.declared.rests.Lists.{Lists}
 use Rattle.isle_program.specs.Reading.{IsRefusedWith, IsTreeOf}
 
 -- These are the known definitions of a text: all but those that are broken.
@@ -24,9 +22,6 @@ pub record AreClasses (text : List ℕ) (classes : List (Option Class)) : Type 0
   pub at : (offset : ℕ) → offset < length text → slice_get classes offset ≡ Some (class_at offset known)
 
 -- ---- how they are found
-
-abbrev pub lists_of : Lists → features.Lists
-lists_of n = record { left = n.left; depth = n.depth }
 
 -- the names of definitions get their classes
 abbrev pub Grows : List Definition → (old new : List (Option Class)) → Type 0

@@ -8,8 +8,8 @@ ghost use Rattle.isle_lsp_colours.specs.Known.{AreClasses};
 
 use crate::classes::Class;
 use crate::names::add_names;
-use crate::rests::rest_behind;
 use isle_base::lexer::{Fault, Lexer};
+use isle_lsp_features::rests::rest_behind;
 use isle_parser::dropping::drop_definition;
 use isle_parser::parser::Parser;
 use isle_program::nesting::deep_list;

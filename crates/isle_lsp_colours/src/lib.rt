@@ -16,7 +16,6 @@ mod keywords;
 mod known;
 pub mod laws;
 mod names;
-mod rests;
 mod tokens;
 
 pub use classes::{Class, TokenKind, token_modifiers, token_types};

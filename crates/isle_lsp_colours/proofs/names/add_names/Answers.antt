@@ -1,4 +1,4 @@
-use Rattle.std.proofs.Common.{◌≡◌, ap, map, option_map, slice_get, sym, ◌∙◌}
+use Rattle.std.proofs.Common.{ap, map, ◌∙◌}
 use Rattle.std.proofs.lemmas.List.{append-nil}
 use Rattle.isle_ast.specs.TreeView.{definition_of, definitions_of}
 use Rattle.isle_resolve.specs.EventView.{events_of}
