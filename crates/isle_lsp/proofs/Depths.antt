@@ -14,7 +14,7 @@ use Rattle.isle_lsp_files.specs.Disks.{View}
 use Rattle.isle_lsp_files.specs.Documents.{Document}
 use Rattle.isle_lsp_protocol.specs.declared.machine.DocumentRequest.{DocumentRequest}
 use Rattle.isle_lsp_protocol.specs.declared.machine.DocumentRequest.TheVariants.{Formatting, RangeFormatting, FoldingRange, SelectionRange, SemanticTokens, SemanticTokensRange, CodeAction}
-use Rattle.isle_lsp_protocol.specs.Parameters.{positions_of, range_of}
+use Rattle.isle_lsp_protocol.specs.Parameters.{positions_of, range_of as asked_range}
 use Rattle.isle_lsp_ranges.proofs.Depths.{foldings_depth, selections_depth}
 use Rattle.isle_lsp_ranges.proofs.Depths as ranges
 use Rattle.isle_lsp_ranges.specs.Foldings.{AreFoldings}
@@ -65,13 +65,13 @@ tokens_depth text range d h = omega (arith, tokens_shallow text range d h)
 
 document_within : (request : DocumentRequest) (d : Data) (takes : Bool) (document : Document) (o : Outcome) → IsOfDocument request d takes document o → IsWithin 126 o
 document_within Formatting d takes document o h = gives_within (IsFormatting document.text) o (formatting_depth document.text) h
-document_within RangeFormatting d takes document o h = range_within (IsFormattingWithin document.text) (range_of d) o (lines_depth document.text) h
+document_within RangeFormatting d takes document o h = range_within (IsFormattingWithin document.text) (asked_range d) o (lines_depth document.text) h
 document_within FoldingRange d takes document o h = gives_within (AreFoldings document.text) o (λ x f. omega (arith, foldings_depth document.text x f)) h
 document_within SelectionRange d takes document o h =
     positions_within (AreSelections document.text) (positions_of d) o (λ ps x f. omega (arith, selections_depth document.text ps x f)) h
 document_within SemanticTokens d takes document o h = gives_within (AreTokens document.text None) o (tokens_depth document.text None) h
 document_within SemanticTokensRange d takes document o h =
-    range_within (λ range. AreTokens document.text (Some range)) (range_of d) o (λ range. tokens_depth document.text (Some range)) h
+    range_within (λ range. AreTokens document.text (Some range)) (asked_range d) o (λ range. tokens_depth document.text (Some range)) h
 document_within CodeAction d takes document o h =
     gives_within (AreActions takes document.uri document.version document.text d) o (λ x f. omega (arith, answer_depth takes document.uri document.version document.text d x f)) h
 
