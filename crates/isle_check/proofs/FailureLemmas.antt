@@ -58,6 +58,11 @@ pub past-two : (status : ℕ) → (status ≡ 0) ⊎ (status ≡ 5) → 2 ≤ st
 past-two status (inl zero) two = absurd (omega (arith, zero, two))
 past-two status (inr five) two = five
 
+-- else with 0
+pub low-zero : (status : ℕ) → (status ≡ 0) ⊎ (status ≡ 5) → status ≤ 1 → status ≡ 0
+low-zero status (inl zero) low = zero
+low-zero status (inr five) low = absurd (omega (arith, five, low))
+
 -- what the words ask of this program
 pub asks-what : (options : Options) (words : List (List ℕ)) (what : Asked) → asked options words ≡ Some what → AreOptions options → Ask words (Some what)
 asks-what options words what asks are = (options, are, asks)

@@ -64,11 +64,12 @@ pub record Reads (given : List Given) (input input' : Option (List ℕ)) (Holds 
   pub holds : Holds lines sources
 
 -- Some text can't be read, and standard error got the lines that say so, as far as it took them, and the output nothing;
--- or the report is told, and this is its status.
+-- or the report is told, and this is its status, and standard error got the note, as far as it took it.
 abbrev pub Told : List Given → ℕ → (output output' faults faults' : Option (List ℕ)) → List ℕ → List Source → Type 0
 Told given status output output' faults faults' lines sources =
     ((0 < length lines) × (status ≡ 3) × Keeps output output' × AppendsBeginning faults faults' lines)
-    ⊎ ((length lines ≡ 0) × (report : ReportNode) × IsReport given sources report × (status ≡ told_status report.errors) × Appends output output' report.text)
+    ⊎ ((length lines ≡ 0) × (report : ReportNode) × (note : List ℕ) × IsReport given sources report note × (status ≡ told_status report.errors)
+    × Appends output output' report.text × AppendsBeginning faults faults' note)
 
 abbrev pub Tells : List Given → ℕ → (input input' output output' faults faults' : Option (List ℕ)) → Type 0
 Tells given status input input' output output' faults faults' = Reads given input input' (Told given status output output' faults faults')
@@ -76,7 +77,7 @@ Tells given status input input' output output' faults faults' = Reads given inpu
 -- the output got a beginning of the report
 abbrev pub IsCut : List Given → (output output' : Option (List ℕ)) → List ℕ → List Source → Type 0
 IsCut given output output' lines sources =
-    (length lines ≡ 0) × (report : ReportNode) × IsReport given sources report × AppendsBeginning output output' report.text
+    (length lines ≡ 0) × (report : ReportNode) × (note : List ℕ) × IsReport given sources report note × AppendsBeginning output output' report.text
 
 abbrev pub Cuts : List Given → (input input' output output' : Option (List ℕ)) → Type 0
 Cuts given input input' output output' = Reads given input input' (IsCut given output output')

@@ -12,6 +12,7 @@ use Rattle.isle_check_core.specs.FindingWords.{finding_notes, kind_words}
 use Rattle.isle_check_messages.specs.Notes.{NoteNode}
 use Rattle.isle_check.specs.Options.{counts_as_error, is_allowed}
 use Rattle.isle_program.specs.Reading.{IsReading, refused_count}
+use Rattle.isle_program.specs.SeveralPrograms.{several_programs_note}
 use Rattle.isle_program_messages.specs.Formats.{format_in}
 use Rattle.isle_program_messages.specs.Lines.{told_line}
 use Rattle.isle_program_messages.specs.Messages.{MessageNode}
@@ -117,9 +118,10 @@ abbrev pub report_in : List Given → List Source → List Definition → List (
 report_in given sources ds refusals =
     if refused_count refusals == 0 then rendered (format_in given) (lines_of given sources ds) else refused (format_in given) sources refusals
 
--- this is told of the program that the texts are
-pub record IsReport (given : List Given) (sources : List Source) (report : ReportNode) : Type 0 where
+-- this is told of the program that the texts are, and this is the note on them, if they look like several programs
+pub record IsReport (given : List Given) (sources : List Source) (report : ReportNode) (note : List ℕ) : Type 0 where
   pub definitions : List Definition
   pub refusals : List (Option Error)
   pub read : IsReading sources definitions refusals
   pub is : report ≡ report_in given sources definitions refusals
+  pub noted : note ≡ several_programs_note sources definitions

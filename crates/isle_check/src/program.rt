@@ -9,6 +9,7 @@ ghost use Rattle.isle_check.specs.Doing.{AsAsked, Cuts, CutsAsked, Does, Explain
 ghost use Rattle.isle_check.specs.Doing.{IsFailureText, IsFailureTextOf, IsMisuse, Tells};
 ghost use Rattle.isle_check.specs.Doing.{told_status};
 ghost use Rattle.isle_check.specs.Options.{are_usable};
+ghost use Rattle.isle_program.specs.SeveralPrograms.{IsNote};
 ghost use Rattle.isle_program_messages.specs.Colours.{settled};
 
 use crate::listing;
@@ -57,7 +58,8 @@ pub const OPTIONS: Options = Options {
 /// | 4 | `isle-check: out of memory` |
 /// | 5 | `isle-check: output failed` |
 ///
-/// With status 3 standard error gets a line for each.
+/// With status 3 standard error gets a line for each. With status 0 and 1 it gets the note that the
+/// files look like several programs, if they do.
 ///
 /// With status 0 and 1 the output gets a line for each text that does not parse, or else a line for
 /// each finding, in the format that is asked for, and for people a line that counts them; with
@@ -77,7 +79,8 @@ pub fn run<R: Files + AllocGlobal + Clone + Drop, I: Read, W: Write, E: Write>(
         → Keeps (I.remaining streams.old.input) (I.remaining streams.new.input) }
 
     // With status 0, 1 or 3 the request is done, as far as texts can be read; with 3 standard error
-    // gets a line for each text that can't be read, or a beginning of these lines.
+    // gets a line for each text that can't be read, and else the note on several programs, or a
+    // beginning.
     ensures done { result ≢ 2 → result ≢ 4 → result ≢ 5 → AsAsked (map string_bytes words.now)
         (λ what. Does shows_colours what result
         (I.remaining streams.old.input) (I.remaining streams.new.input)
@@ -92,9 +95,10 @@ pub fn run<R: Files + AllocGlobal + Clone + Drop, I: Read, W: Write, E: Write>(
         (I.remaining streams.old.input) (I.remaining streams.new.input)
         (W.contents streams.old.output) (W.contents streams.new.output)) }
 
-    // Else standard error gets nothing, or the message of the status.
-    ensures quiet { result ≤ 1
-        → Keeps (E.contents streams.old.faults) (E.contents streams.new.faults) }
+    // Else standard error gets nothing but the note on several programs, or the message of the
+    // status.
+    ensures quiet { result ≤ 1 → WritesBeginning (E.contents streams.old.faults)
+        (E.contents streams.new.faults) IsNote }
     ensures told { 2 ≤ result → result ≢ 3 → WritesBeginning (E.contents streams.old.faults)
         (E.contents streams.new.faults) (IsFailureTextOf (map string_bytes words.now) result) }
     ensures statuses { result ≤ 5 }
@@ -151,8 +155,8 @@ fn work<R: Files + AllocGlobal + Clone + Drop, I: Read, W: Write, E: Write>(
         (settled shows_colours (map given_of arguments.items))
         (I.remaining streams.old.input) (I.remaining streams.new.input)
         (W.contents streams.old.output) (W.contents streams.new.output) }
-    ensures quiet { result ≤ 1
-        → Keeps (E.contents streams.old.faults) (E.contents streams.new.faults) }
+    ensures quiet { result ≤ 1 → WritesBeginning (E.contents streams.old.faults)
+        (E.contents streams.new.faults) IsNote }
     ensures told { 2 ≤ result → result ≢ 3 → WritesBeginning (E.contents streams.old.faults)
         (E.contents streams.new.faults) (IsFailureText result) }
 {
@@ -179,8 +183,7 @@ fn check_files<R: Files + AllocGlobal + Clone + Drop, I: Read, W: Write, E: Writ
         (I.remaining streams.old.input) (I.remaining streams.new.input)
         (W.contents streams.old.output) (W.contents streams.new.output)) }
     ensures quiet { MatchResult result
-        (λ status. (status ≤ 3) × (status ≢ 2)
-        × (status ≤ 1 → Keeps (E.contents streams.old.faults) (E.contents streams.new.faults)))
+        (λ status. (status ≤ 3) × (status ≢ 2))
         (λ _. Keeps (E.contents streams.old.faults) (E.contents streams.new.faults)) }
 {
     let mut arguments = arguments;
@@ -202,8 +205,7 @@ fn check_files_settled<R: Files + AllocGlobal + Clone + Drop, I: Read, W: Write,
         (I.remaining streams.old.input) (I.remaining streams.new.input)
         (W.contents streams.old.output) (W.contents streams.new.output)) }
     ensures quiet { MatchResult result
-        (λ status. (status ≤ 3) × (status ≢ 2)
-        × (status ≤ 1 → Keeps (E.contents streams.old.faults) (E.contents streams.new.faults)))
+        (λ status. (status ≤ 3) × (status ≢ 2))
         (λ _. Keeps (E.contents streams.old.faults) (E.contents streams.new.faults)) }
 {
     if !are_usable(arguments) {
@@ -214,11 +216,13 @@ fn check_files_settled<R: Files + AllocGlobal + Clone + Drop, I: Read, W: Write,
         let _ = write_whole(&mut streams.faults, sources.faults.as_bytes());
         return Ok(3);
     }
-    let report = report_on(rt.alloc(), &sources.list, arguments)?;
-    match put(&mut streams.output, report.text.as_str()) {
-        Ok(()) => Ok(status_of(report.errors)),
-        Err(_) => Err(Failure::Output),
+    let told = report_on(rt.alloc(), &sources.list, arguments)?;
+    match put(&mut streams.output, told.report.text.as_str()) {
+        Ok(()) => {}
+        Err(_) => return Err(Failure::Output),
     }
+    let _ = write_whole(&mut streams.faults, told.note.as_bytes());
+    Ok(status_of(told.report.errors))
 }
 
 /// Returns the exit status of a report with this many errors.

@@ -27,6 +27,7 @@ use isle_check_core::{Finding, Note, check};
 use isle_cli::arguments::Argument;
 use isle_cli::failure::Failure;
 use isle_cli::sources::Source;
+use isle_program::several_programs::several_programs_note;
 use isle_program::trees::{Reading, drop_reading, read_all, refused_count};
 use isle_program_messages::format::{Format, format_of};
 use isle_program_messages::lines::told_line;
@@ -52,6 +53,14 @@ pub struct Report {
     pub errors: usize,
 }
 
+/// A report on texts that are taken for one program.
+#[derive(Debug, Drop)]
+pub struct NotedReport {
+    pub report: Report,
+    /// The note that they look like several programs; empty if they do not.
+    pub note: String,
+}
+
 /// Returns the report on a program: a line for each text that does not parse, or else one for each
 /// finding, in order, without the kinds that `--allow` names, in the format that
 /// `--message-format` names. The only failure is `Memory`.
@@ -59,9 +68,9 @@ pub fn report_on(
     alloc: Global,
     sources: &[Source],
     arguments: &[Argument],
-) -> Result<Report, Failure>
-    ensures ok { IfOk result (λ report. IsReport (map given_of arguments.now)
-        (map source_of sources.now) (report_of report)) }
+) -> Result<NotedReport, Failure>
+    ensures ok { IfOk result (λ noted. IsReport (map given_of arguments.now)
+        (map source_of sources.now) (report_of noted.report) (string_bytes noted.note)) }
     ensures err { IfErr result (λ failure. failure ≡ Memory) }
 {
     let reading = read_all(alloc, sources)?;
@@ -76,13 +85,15 @@ fn report_on_reading(
     sources: &[Source],
     arguments: &[Argument],
     reading: &Reading,
-) -> Result<Report, AllocError>
+) -> Result<NotedReport, AllocError>
     requires { IsReading (map source_of sources.now) (definitions_of reading.now.defs.items)
         reading.now.refusals.items }
-    ensures { IfOk result (λ report. IsReport (map given_of arguments.now)
-        (map source_of sources.now) (report_of report)) }
+    ensures { IfOk result (λ noted. IsReport (map given_of arguments.now)
+        (map source_of sources.now) (report_of noted.report) (string_bytes noted.note)) }
 {
-    report_in(alloc, sources, arguments, reading)
+    let report = report_in(alloc, sources, arguments, reading)?;
+    let note = several_programs_note(alloc, sources, &reading.defs)?;
+    Ok(NotedReport { report, note })
 }
 
 fn report_in(

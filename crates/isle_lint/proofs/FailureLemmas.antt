@@ -58,14 +58,14 @@ pub past-two : (status : ℕ) → (status ≡ 0) ⊎ (status ≡ 5) → 2 ≤ st
 past-two status (inl zero) two = absurd (omega (arith, zero, two))
 past-two status (inr five) two = five
 
+-- else with 0
+pub low-zero : (status : ℕ) → (status ≡ 0) ⊎ (status ≡ 5) → status ≤ 1 → status ≡ 0
+low-zero status (inl zero) low = zero
+low-zero status (inr five) low = absurd (omega (arith, five, low))
+
 -- what the words ask of this program
 pub asks-what : (options : Options) (words : List (List ℕ)) (what : Asked) → asked options words ≡ Some what → AreOptions options → Ask words (Some what)
 asks-what options words what asks are = (options, are, asks)
-
--- nothing is a beginning of any text
-pub none_begun : (kept : Option (List ℕ)) (lines : List ℕ) → AppendsBeginning kept kept lines
-none_begun None lines = (0, tt)
-none_begun (Some bytes) lines = (0, sym (append-nil bytes))
 
 -- colours are no misuse
 settled-at-end : (given : List Given) → are_usable (given ++ setting_given (codes "--color") (codes "always") ∷ []) ≡ are_usable given

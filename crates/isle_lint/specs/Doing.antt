@@ -1,5 +1,5 @@
 -- What the program tells.
-use Rattle.std.specs.Prelude.{◌≡◌, ◌⊎◌, ℕ, ◌==◌, List, [], ◌∷◌, Bool, true, false, if◌then◌else◌, Option, None, Some, codes, length, map}
+use Rattle.std.specs.Prelude.{◌≡◌, ◌⊎◌, ℕ, ◌==◌, List, [], ◌∷◌, ◌++◌, Bool, true, false, if◌then◌else◌, Option, None, Some, codes, length, map}
 use Rattle.std.specs.Io.KnownBytes.{Appends, Keeps}
 use Rattle.isle_base_source.specs.Source.{Source}
 use Rattle.isle_base_source.specs.declared.error.Error.{Error}
@@ -15,6 +15,7 @@ use Rattle.isle_cli.specs.declared.failure.Failure.{Failure}
 use Rattle.isle_cli.specs.declared.failure.Failure.TheVariants as failures
 use Rattle.isle_lint.specs.Options.{are_usable, lints_on}
 use Rattle.isle_program.specs.Reading.{IsReading}
+use Rattle.isle_program.specs.SeveralPrograms.{several_programs_note}
 use Rattle.isle_program_manifest.specs.Levels.{NameLevel, with_levels}
 use Rattle.isle_program_messages.specs.Colours.{settled}
 use Rattle.isle_cli.specs.declared.arguments.Options.{Options}
@@ -25,13 +26,15 @@ use Rattle.isle_lint.specs.Report.{AreToldIn, ReportNode, report_in}
 
 -- What is shown is what these lints find in the trees of the texts, each finding once, in order of place, but for what
 -- comments turn off; and which texts spell no tree; and for people how many there are of both. It is known whether any counts.
-pub record IsReport (given : List Given) (lints : List Lint) (sources : List Source) (report : ReportNode) : Type 0 where
+-- The note is the one on these trees, if they look like several programs.
+pub record IsReport (given : List Given) (lints : List Lint) (sources : List Source) (report : ReportNode) (note : List ℕ) : Type 0 where
   pub definitions : List Definition
   pub refusals : List (Option Error)
   pub read : IsReading sources definitions refusals
   pub told : List Found
   pub are_told : AreToldIn lints sources definitions told
   pub is : report ≡ report_in given sources refusals told
+  pub noted : note ≡ several_programs_note sources definitions
 
 abbrev pub is_empty : List ℕ → Bool
 is_empty text = length text == 0
@@ -72,8 +75,8 @@ IsFailureTextOf words status text =
     × IsDiagnosticOf program own all words status text
 
 -- What was read of what the arguments name, and what is to be told of it; Holds is said of the lines about what can't be
--- read, and of what is told.
-pub record Looks (given : List Given) (input input' : Option (List ℕ)) (Holds : List ℕ → ReportNode → Type 0) : Type 0 where
+-- read, of what is told, and of the note.
+pub record Looks (given : List Given) (input input' : Option (List ℕ)) (Holds : (lines : List ℕ) → ReportNode → (note : List ℕ) → Type 0) : Type 0 where
   pub usable : are_usable given ≡ true
   pub program : Program
   pub is_program : IsProgram program
@@ -81,18 +84,20 @@ pub record Looks (given : List Given) (input input' : Option (List ℕ)) (Holds 
   pub lines : List ℕ
   pub read : IsReadFrom given program input input' sources lines
   pub report : ReportNode
-  pub is_report : IsReport given (lints_on given) sources report
-  pub holds : Holds lines report
+  pub note : List ℕ
+  pub is_report : IsReport given (lints_on given) sources report note
+  pub holds : Holds lines report note
 
--- It is told, and this is the status; standard error got the lines about what can't be read, as far as it took them.
+-- It is told, and this is the status; standard error got the lines about what can't be read, and then the note, as far as
+-- it took them.
 abbrev pub Tells : List Given → ℕ → (input input' output output' faults faults' : Option (List ℕ)) → Type 0
 Tells given status input input' output output' faults faults' =
-    Looks given input input' (λ lines report. (status ≡ told_status (is_empty lines) report.is_clean) × Appends output output' report.text
-    × AppendsBeginning faults faults' lines)
+    Looks given input input' (λ lines report note. (status ≡ told_status (is_empty lines) report.is_clean) × Appends output output' report.text
+    × AppendsBeginning faults faults' (lines ++ note))
 
 -- the output got a beginning of it
 abbrev pub Cuts : List Given → (input input' output output' : Option (List ℕ)) → Type 0
-Cuts given input input' output output' = Looks given input input' (λ lines report. AppendsBeginning output output' report.text)
+Cuts given input input' output output' = Looks given input input' (λ lines report note. AppendsBeginning output output' report.text)
 
 -- what a failure says of the input and the output
 abbrev pub Explains : Failure → List Given → (input input' output output' : Option (List ℕ)) → Type 0

@@ -1,6 +1,6 @@
 //! The program, for any files, reader and writers.
 
-ghost use Rattle.std.specs.Prelude.{◌≡◌, ◌≢◌, ◌≤◌, ◌⊎◌, IfErr, IfOk, MatchResult, false, map};
+ghost use Rattle.std.specs.Prelude.{◌≡◌, ◌≢◌, ◌≤◌, ◌⊎◌, ◌++◌, IfErr, IfOk, MatchResult, false, map};
 ghost use Rattle.std.specs.Prelude.{string_bytes};
 ghost use Rattle.std.specs.Io.KnownBytes.{Keeps};
 ghost use Rattle.isle_cli.specs.Arguments.{given_of};
@@ -9,6 +9,7 @@ ghost use Rattle.isle_lint.specs.Doing.{AsAsked, Cuts, CutsAsked, Does, Explains
 ghost use Rattle.isle_lint.specs.Doing.{IsFailureText, IsFailureTextOf, IsMisuse, Tells};
 ghost use Rattle.isle_lint.specs.Doing.{told_status};
 ghost use Rattle.isle_lint.specs.Options.{are_usable};
+ghost use Rattle.isle_program.specs.SeveralPrograms.{IsNote};
 ghost use Rattle.isle_program_messages.specs.Colours.{settled};
 
 use crate::manifests;
@@ -22,6 +23,7 @@ use isle_cli::streams::{Streams, write_whole};
 use isle_cli::usage::report_words;
 use isle_program_messages::colours::{COLOUR_OPTION, settle};
 use isle_program_messages::format::FORMAT_OPTION;
+use std::alloc::{AllocError, Global};
 use std::fs::Files;
 use std::io::{Read, Write};
 
@@ -60,7 +62,8 @@ pub const OPTIONS: Options = Options {
 /// | 4 | `isle-lint: out of memory` |
 /// | 5 | `isle-lint: output failed` |
 ///
-/// With status 3 standard error gets a line for each.
+/// With status 3 standard error gets a line for each. With status 0, 1 and 3 it then gets the note
+/// that the files look like several programs, if they do.
 ///
 /// With status 0, 1 and 3 the output gets a line for each finding and each text that does not
 /// parse, in order of file and position, in the format that is asked for, and for people a line
@@ -79,8 +82,8 @@ pub fn run<R: Files + AllocGlobal + Clone + Drop, I: Read, W: Write, E: Write>(
     ensures unread { result ≡ 2
         → Keeps (I.remaining streams.old.input) (I.remaining streams.new.input) }
 
-    // With status 0, 1 or 3 the request is done, as far as texts can be read; with 3 standard error
-    // gets a line for each text that can't be read, or a beginning of these lines.
+    // With status 0, 1 or 3 the request is done, as far as texts can be read; standard error gets a
+    // line for each text that can't be read, and the note on several programs, or a beginning.
     ensures done { result ≢ 2 → result ≢ 4 → result ≢ 5 → AsAsked (map string_bytes words.now)
         (λ what. Does shows_colours what result
         (I.remaining streams.old.input) (I.remaining streams.new.input)
@@ -95,9 +98,10 @@ pub fn run<R: Files + AllocGlobal + Clone + Drop, I: Read, W: Write, E: Write>(
         (I.remaining streams.old.input) (I.remaining streams.new.input)
         (W.contents streams.old.output) (W.contents streams.new.output)) }
 
-    // Else standard error gets nothing, or the message of the status.
-    ensures quiet { result ≤ 1
-        → Keeps (E.contents streams.old.faults) (E.contents streams.new.faults) }
+    // Else standard error gets nothing but the note on several programs, or the message of the
+    // status.
+    ensures quiet { result ≤ 1 → WritesBeginning (E.contents streams.old.faults)
+        (E.contents streams.new.faults) IsNote }
     ensures told { 2 ≤ result → result ≢ 3 → WritesBeginning (E.contents streams.old.faults)
         (E.contents streams.new.faults) (IsFailureTextOf (map string_bytes words.now) result) }
     ensures statuses { result ≤ 5 }
@@ -154,8 +158,8 @@ fn work<R: Files + AllocGlobal + Clone + Drop, I: Read, W: Write, E: Write>(
         (settled shows_colours (map given_of arguments.items))
         (I.remaining streams.old.input) (I.remaining streams.new.input)
         (W.contents streams.old.output) (W.contents streams.new.output) }
-    ensures quiet { result ≤ 1
-        → Keeps (E.contents streams.old.faults) (E.contents streams.new.faults) }
+    ensures quiet { result ≤ 1 → WritesBeginning (E.contents streams.old.faults)
+        (E.contents streams.new.faults) IsNote }
     ensures told { 2 ≤ result → result ≢ 3 → WritesBeginning (E.contents streams.old.faults)
         (E.contents streams.new.faults) (IsFailureText result) }
 {
@@ -182,8 +186,7 @@ fn lint<R: Files + AllocGlobal + Clone + Drop, I: Read, W: Write, E: Write>(
         (I.remaining streams.old.input) (I.remaining streams.new.input)
         (W.contents streams.old.output) (W.contents streams.new.output)) }
     ensures quiet { MatchResult result
-        (λ status. (status ≤ 3) × (status ≢ 2)
-        × (status ≤ 1 → Keeps (E.contents streams.old.faults) (E.contents streams.new.faults)))
+        (λ status. (status ≤ 3) × (status ≢ 2))
         (λ _. Keeps (E.contents streams.old.faults) (E.contents streams.new.faults)) }
 {
     let mut arguments = arguments;
@@ -205,22 +208,28 @@ fn lint_settled<R: Files + AllocGlobal + Clone + Drop, I: Read, W: Write, E: Wri
         (I.remaining streams.old.input) (I.remaining streams.new.input)
         (W.contents streams.old.output) (W.contents streams.new.output)) }
     ensures quiet { MatchResult result
-        (λ status. (status ≤ 3) × (status ≢ 2)
-        × (status ≤ 1 → Keeps (E.contents streams.old.faults) (E.contents streams.new.faults)))
+        (λ status. (status ≤ 3) × (status ≢ 2))
         (λ _. Keeps (E.contents streams.old.faults) (E.contents streams.new.faults)) }
 {
     let lints = lints_of(rt.alloc(), arguments)?;
     let sources = read_sources(rt, &PROGRAM, arguments, &mut streams.input)?;
     let told = report_on(rt.alloc(), arguments, &sources.list, &lints)?;
-    match put(&mut streams.output, told.text.as_str()) {
+    let lines = with_note(rt.alloc(), sources.faults.as_str(), told.note.as_str())?;
+    match put(&mut streams.output, told.report.text.as_str()) {
         Ok(()) => {}
         Err(_) => return Err(Failure::Output),
     }
-    let is_read = sources.faults.is_empty();
-    if !is_read {
-        let _ = write_whole(&mut streams.faults, sources.faults.as_bytes());
-    }
-    Ok(status_of(is_read, told.is_clean))
+    let _ = write_whole(&mut streams.faults, lines.as_bytes());
+    Ok(status_of(sources.faults.is_empty(), told.report.is_clean))
+}
+
+/// The lines about what can't be read, and the note behind them.
+fn with_note(alloc: Global, lines: &str, note: &str) -> Result<String, AllocError>
+    ensures { IfOk result (λ both. string_bytes both ≡ lines.now ++ note.now) }
+{
+    let mut both = String::from_str(alloc, lines)?;
+    both.push_str(note)?;
+    Ok(both)
 }
 
 /// The exit status if all could be read, or not, and nothing was found that counts, or something.

@@ -23,6 +23,7 @@ use isle_cli::failure::Failure;
 use isle_cli::sources::Source;
 use isle_lint_core::{Finding, Lint, findings};
 use isle_program::allowances::Allowances;
+use isle_program::several_programs::several_programs_note;
 use isle_program::trees::{Reading, drop_reading, read_all, refused_count};
 use isle_program_messages::format::{Format, format_of};
 use isle_program_messages::lines::told_line;
@@ -39,6 +40,14 @@ pub struct Report {
     pub is_clean: bool,
 }
 
+/// A report on texts that are taken for one program.
+#[derive(Debug, Drop)]
+pub struct NotedReport {
+    pub report: Report,
+    /// The note that they look like several programs; empty if they do not.
+    pub note: String,
+}
+
 /// The report of these lints on a program: a line for each finding and for each text that does not
 /// parse, in order of file and position, and for people a line that counts them.
 pub fn report_on(
@@ -46,9 +55,9 @@ pub fn report_on(
     arguments: &[Argument],
     sources: &[Source],
     lints: &[Lint],
-) -> Result<Report, Failure>
-    ensures ok { IfOk result (λ report. IsReport (map given_of arguments.now) lints.now
-        (map source_of sources.now) (report_of report)) }
+) -> Result<NotedReport, Failure>
+    ensures ok { IfOk result (λ noted. IsReport (map given_of arguments.now) lints.now
+        (map source_of sources.now) (report_of noted.report) (string_bytes noted.note)) }
     ensures err { IfErr result (λ failure. failure ≡ Memory) }
 {
     let reading = read_all(alloc, sources)?;
@@ -64,14 +73,16 @@ fn report_on_reading(
     sources: &[Source],
     lints: &[Lint],
     reading: &Reading,
-) -> Result<Report, AllocError>
+) -> Result<NotedReport, AllocError>
     requires { IsReading (map source_of sources.now) (definitions_of reading.now.defs.items)
         reading.now.refusals.items }
-    ensures { IfOk result (λ report. IsReport (map given_of arguments.now) lints.now
-        (map source_of sources.now) (report_of report)) }
+    ensures { IfOk result (λ noted. IsReport (map given_of arguments.now) lints.now
+        (map source_of sources.now) (report_of noted.report) (string_bytes noted.note)) }
 {
     let told = told_in_reading(alloc, sources, lints, reading)?;
-    whole_report(alloc, arguments, sources, &reading.refusals, &told)
+    let report = whole_report(alloc, arguments, sources, &reading.refusals, &told)?;
+    let note = several_programs_note(alloc, sources, &reading.defs)?;
+    Ok(NotedReport { report, note })
 }
 
 /// The findings of these lints in a program that is parsed, but for what comments disable, in order

@@ -5,11 +5,11 @@ use Rattle.isle_check.proofs.DoingLemmas.{told_faults, told_whole}
 use Rattle.isle_check.proofs.program.check_files_settled.Goals as goal
 use Rattle.isle_check.specs.ReportView.{report_of}
 
-pub returns-in-Ok-clause-ok : goal.returns-in-Ok-clause-ok
-returns-in-Ok-clause-ok g c =
-    told_whole (map given_of c.args.arguments.now) _ _ _ (report_of c.in_ok-report.report) c.status_of.result _ _ _ _ _ _
+pub returns-clause-ok : goal.returns-clause-ok
+returns-clause-ok g c =
+    told_whole (map given_of c.args.arguments.now) _ _ _ (report_of c.in_ok-told.told.report) (string_bytes c.in_ok-told.told.note) c.status_of.result _ _ _ _ _ _
     (search (tests, rules)) (search (tests, rules)) c.in_ok-sources.ensures (search (tests, rules))
-    (search (tests, rules)) c.status_of.ensures (search (tests, rules))
+    (search (tests, rules)) c.status_of.ensures (search (tests, rules)) (rw c.as_bytes-2.ensures.value at c.write_whole-2.ensures.part)
 
 pub returns-then-not-is_empty-clause-ok : goal.returns-then-not-is_empty-clause-ok
 returns-then-not-is_empty-clause-ok g c =

@@ -1,8 +1,8 @@
-use Rattle.std.proofs.Common.{map}
-use Rattle.std.proofs.lemmas.Result.{IfOk-weaker}
+use Rattle.std.proofs.Common.{ap, map, ◌∙◌}
 use Rattle.isle_ast.specs.TreeView.{definitions_of}
 use Rattle.isle_cli.specs.Sources.{source_of}
 use Rattle.isle_program.proofs.WritableLemmas.{reading-plain}
+use Rattle.isle_program.specs.SeveralPrograms.{several_programs_note}
 use Rattle.isle_check.proofs.report.report_on_reading.Goals as goal
 
 pub report_in-requires : goal.report_in-requires
@@ -10,11 +10,10 @@ report_in-requires c = reading-plain (map source_of c.args.sources.now) (definit
 
 pub returns : goal.returns
 returns c =
-    IfOk-weaker c.report_in.result _ _
-    (λ report is. record {
+    record {
       definitions = definitions_of c.args.reading.now.defs.items;
       refusals = c.args.reading.now.refusals.items;
       read = c.requires;
-      is = is;
-    })
-    c.report_in.ensures
+      is = c.in_ok-report.ensures;
+      noted = c.in_ok-note.ensures ∙ ap (λ defs. several_programs_note (map source_of c.args.sources.now) (definitions_of defs)) c.deref.ensures.value;
+    }

@@ -2,7 +2,8 @@ use Rattle.std.proofs.Common.{List, ap, inr, map, refl}
 use Rattle.std.specs.Global.{Vec}
 use Rattle.isle_cli.specs.declared.arguments.Argument.{Argument}
 use Rattle.isle_cli.specs.Arguments.{given_of, work_asked}
-use Rattle.isle_lint.proofs.FailureLemmas.{asked-told, asks-what, cuts-same, misuse-same, own-told, past-two, tells-same, this, words-told-here}
+use Rattle.isle_lint.proofs.DoingLemmas.{kept-quiet}
+use Rattle.isle_lint.proofs.FailureLemmas.{asked-told, asks-what, cuts-same, low-zero, misuse-same, own-told, past-two, tells-same, this, words-told-here}
 use Rattle.isle_lint.proofs.program.run.Goals as goal
 
 pub returns-in-Err-clause-told : goal.returns-in-Err-clause-told
@@ -43,3 +44,9 @@ returns-in-Ok-Work-clause-cut g c = λ five.
     let items : Vec Argument → List Argument = λ list. list.items in
     let asks = rw c.in-Ok-Work.field-0-is at c.in-Ok-Work.ensures.ok in
     (work_asked (map given_of c.in-Ok-Work.arguments.items), asks-what _ _ _ asks (refl, refl), cuts-same _ _ _ _ _ _ _ (ap items c.in-Ok-Work.arguments-is) (c.work.ensures.cut five))
+
+pub returns-in-Ok-Help-clause-quiet : goal.returns-in-Ok-Help-clause-quiet
+returns-in-Ok-Help-clause-quiet g c = λ low. kept-quiet _ _ (c.tell.ensures.quiet (low-zero c.tell.result c.tell.ensures.statuses low))
+
+pub returns-in-Ok-Version-clause-quiet : goal.returns-in-Ok-Version-clause-quiet
+returns-in-Ok-Version-clause-quiet g c = λ low. kept-quiet _ _ (c.tell-in-Ok-Version.ensures.quiet (low-zero c.tell-in-Ok-Version.result c.tell-in-Ok-Version.ensures.statuses low))
