@@ -365,7 +365,13 @@ fn outcome_in<'a>(
         Request::Shutdown => Ok(Outcome::Done(Value::Null)),
         Request::Document(request) => {
             let document = document_in(&server.documents, message);
-            outcome_alone(alloc, request, message, server.takes_document_changes, document)
+            outcome_alone(
+                alloc,
+                request,
+                message,
+                server.takes_document_changes,
+                document,
+            )
         }
         Request::Unknown => Ok(error_outcome(ErrorCode::MethodNotFound)),
         _ => name_outcome(alloc, server, gathered, request, message, shown),
