@@ -1,5 +1,5 @@
 -- What standard error gets of a failure, and what the words ask.
-use Rattle.std.proofs.Common.{◌≡◌, ◌≤◌, ◌⊎◌, inl, inr, ℕ, List, [], ◌∷◌, Option, None, Some, arith, map, refl, subst, sym, append-nil, ◌++◌, Bool, true, false, cond, ap, ◌∙◌}
+use Rattle.std.proofs.Common.{◌≡◌, ◌≤◌, ◌⊎◌, inl, inr, ℕ, List, [], ◌∷◌, Option, None, Some, arith, map, refl, subst, sym, ◌++◌, Bool, true, false, cond, ap, ◌∙◌}
 use Rattle.std.specs.Io.KnownBytes.{Keeps}
 use Rattle.std.specs.Prelude.{◌&&◌, codes}
 use Rattle.isle_cli.proofs.FailureLemmas.{first-told-text, program_of}
