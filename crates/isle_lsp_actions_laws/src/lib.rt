@@ -1,0 +1,4 @@
+//! Laws of code actions: what the tokens of a text are after an action is applied.
+#![tactic(auto)]
+
+pub mod laws;
