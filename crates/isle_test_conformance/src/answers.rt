@@ -42,13 +42,18 @@ pub fn placed(alloc: Global, text: &str) -> Result<String, AllocError> {
         if i == 0 {
             out.push_str(part)?;
         } else {
-            let (file, rest) = part.split_once(", offset: ").unwrap_or((part, ""));
-            let (offset, rest) = rest.split_once(" }").unwrap_or((rest, ""));
-            let words = format!(in alloc; "{file}:{offset}{rest}")?;
-            out.push_str(&words)?;
+            push_placed(alloc, part, &mut out)?;
         }
     }
     Ok(out)
+}
+
+/// Adds a part of such a text that begins with the number of a position's file.
+fn push_placed(alloc: Global, part: &str, out: &mut String) -> Result<(), AllocError> {
+    let (file, rest) = part.split_once(", offset: ").unwrap_or((part, ""));
+    let (offset, rest) = rest.split_once(" }").unwrap_or((rest, ""));
+    let words = format!(in alloc; "{file}:{offset}{rest}")?;
+    out.push_str(&words)
 }
 
 /// The answer of a case. `program` is the text of the last `index` case.
@@ -61,34 +66,41 @@ pub fn answer(alloc: Global, case: &Case, program: &str) -> Result<String, Alloc
         "format" => shown(alloc, formatted(alloc, case)?),
         "tidy" => shown(alloc, tidy(alloc, case.text(0))),
         "lines" => lines(alloc, case),
-        "refusal" => shown(alloc, refusal(alloc, case)?),
         "beginnings" => beginnings(alloc, case),
         "damaged" => damaged(alloc, case),
-        "parse_errors" => shown(alloc, parse_errors(alloc, case)?),
-        "overlap_error" => shown(alloc, overlap_error(alloc, case)?),
-        "shadowed_error" => shown(alloc, shadowed_error(alloc, case)?),
-        "line_map" => line_map(alloc, case),
-        "fits" => shown(alloc, fitting(alloc, case)),
-        "nodes" => nodes(alloc, case),
-        "terms" => terms(alloc, case),
-        "template" => template(alloc, case),
-        "substitute" => substitute(alloc, case),
         "index"
         | "index_at"
         | "index_symbols"
         | "index_candidates"
         | "index_rename"
         | "index_can_rename" => request(alloc, case, program),
+        _ => of_errors(alloc, case),
+    }
+}
+
+/// The answer of a call about errors and files, of what programs share, or of another call.
+fn of_errors(alloc: Global, case: &Case) -> Result<String, AllocError> {
+    match case.call.as_str() {
+        "refusal" => shown(alloc, refusal(alloc, case)?),
+        "parse_errors" => shown(alloc, parse_errors(alloc, case)?),
+        "overlap_error" => shown(alloc, overlap_error(alloc, case)?),
+        "shadowed_error" => shown(alloc, shadowed_error(alloc, case)?),
+        "line_map" => line_map(alloc, case),
+        "accepts" => shown(alloc, accepts(alloc, case)?),
+        "files" => files(alloc, case),
         "entries" | "expanded" | "programs_with" | "unflushed" => of_shared(alloc, case),
         _ => of_parts(alloc, case),
     }
 }
 
-/// The answer of a call of files, lexers or S-expressions, or of a call about a tree.
+/// The answer of a call of lexers, S-expressions or templates, or of a call about a tree.
 fn of_parts(alloc: Global, case: &Case) -> Result<String, AllocError> {
     match case.call.as_str() {
-        "accepts" => shown(alloc, accepts(alloc, case)?),
-        "files" => files(alloc, case),
+        "fits" => shown(alloc, fitting(alloc, case)),
+        "nodes" => nodes(alloc, case),
+        "terms" => terms(alloc, case),
+        "template" => template(alloc, case),
+        "substitute" => substitute(alloc, case),
         "unknown" => unknown(alloc, case),
         "kinds" => kinds(alloc, case),
         "copied" => copied(alloc, case),

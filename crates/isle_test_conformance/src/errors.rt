@@ -1,6 +1,7 @@
 //! Errors as Display shows them.
 
 use crate::case::Case;
+use crate::files::one_file;
 use isle_syntax::error::{Error, Errors, Span};
 use isle_syntax::files::{Files, LineMap};
 use isle_syntax::lexer::{Fault, Pos};
@@ -15,8 +16,7 @@ fn display(
     name: &str,
     text: &str,
 ) -> Result<String, AllocError> {
-    let pairs = vec![in alloc; (name.to_string(alloc)?, text.to_string(alloc)?)]?;
-    let files = Rc::new(alloc, Files::from_names_and_contents(alloc, pairs)?)?;
+    let files = Rc::new(alloc, one_file(alloc, name, text)?)?;
     let accepted = Errors::accepts(errors.as_slice(), &files);
     if accepted {
         Errors::new(errors, files).to_string(alloc)

@@ -6,7 +6,7 @@ use isle_syntax::lexer::Pos;
 use std::alloc::{AllocError, Global};
 
 /// One file, with a name and a text.
-fn one_file(alloc: Global, name: &str, text: &str) -> Result<Files, AllocError> {
+pub fn one_file(alloc: Global, name: &str, text: &str) -> Result<Files, AllocError> {
     let pair = (name.to_string(alloc)?, text.to_string(alloc)?);
     Files::from_names_and_contents(alloc, vec![in alloc; pair]?)
 }

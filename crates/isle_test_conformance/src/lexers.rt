@@ -43,9 +43,16 @@ pub fn copied(alloc: Global, case: &Case) -> Result<String, AllocError> {
 
 fn told_of_copy(alloc: Global, lexer: &Lexer) -> Result<String, AllocError> {
     let mut copy = lexer.clone()?;
-    let before = state(alloc, &copy)?;
-    let step = step(alloc, copy.next(alloc))?;
-    let (after, kept) = (state(alloc, &copy)?, state(alloc, lexer)?);
-    let words = format!(in alloc; "{before} {step} {after}, kept {kept}")?;
+    let told = told_of_next(alloc, &mut copy)?;
+    let kept = state(alloc, lexer)?;
+    let words = format!(in alloc; "{told}, kept {kept}")?;
     placed(alloc, &words)
+}
+
+/// What a lexer answers, between its states before and after.
+fn told_of_next(alloc: Global, lexer: &mut Lexer) -> Result<String, AllocError> {
+    let before = state(alloc, lexer)?;
+    let step = step(alloc, lexer.next(alloc))?;
+    let after = state(alloc, lexer)?;
+    format!(in alloc; "{before} {step} {after}")
 }

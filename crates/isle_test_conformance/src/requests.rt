@@ -2,7 +2,7 @@
 
 use crate::answers::shown;
 use crate::case::Case;
-use isle_index::{Index, Name};
+use isle_index::{Candidate, Index, Name, Occurrence, Symbol};
 use isle_syntax::ast::Def;
 use isle_syntax::lexer::Pos;
 use isle_test_nodes::trees::{drop_definitions, parsed};
@@ -44,20 +44,32 @@ fn answer(alloc: Global, index: &Index, case: &Case) -> Result<String, AllocErro
 /// The name at a place, its occurrences, each definition with a `*`, and how many definitions the
 /// name has.
 fn at(alloc: Global, index: &Index, place: Pos) -> Result<String, AllocError> {
-    let Some(name) = index.name_at(alloc, place)? else {
-        return String::from_str(alloc, "nothing\n");
-    };
-    let mut answer = shown_name(alloc, &name)?;
-    for occurrence in &index.occurrences(alloc, &name)? {
-        let mark = if occurrence.is_definition { "*" } else { "" };
-        let (offset, len) = (occurrence.pos.offset, occurrence.len);
-        let part = format!(in alloc; " {offset}+{len}{mark}")?;
-        answer.push_str(part.as_str())?;
+    match index.name_at(alloc, place)? {
+        Some(name) => told_of_name(alloc, index, &name),
+        None => String::from_str(alloc, "nothing\n"),
     }
-    let defined = index.definitions(alloc, &name)?.len();
+}
+
+fn told_of_name(alloc: Global, index: &Index, name: &Name) -> Result<String, AllocError> {
+    let mut answer = shown_name(alloc, name)?;
+    for occurrence in &index.occurrences(alloc, name)? {
+        push_occurrence(alloc, occurrence, &mut answer)?;
+    }
+    let defined = index.definitions(alloc, name)?.len();
     let part = format!(in alloc; ", {defined} defined\n")?;
     answer.push_str(part.as_str())?;
     Ok(answer)
+}
+
+fn push_occurrence(
+    alloc: Global,
+    occurrence: &Occurrence,
+    answer: &mut String,
+) -> Result<(), AllocError> {
+    let mark = if occurrence.is_definition { "*" } else { "" };
+    let (offset, len) = (occurrence.pos.offset, occurrence.len);
+    let part = format!(in alloc; " {offset}+{len}{mark}")?;
+    answer.push_str(part.as_str())
 }
 
 fn shown_name(alloc: Global, name: &Name) -> Result<String, AllocError> {
@@ -72,12 +84,16 @@ fn shown_name(alloc: Global, name: &Name) -> Result<String, AllocError> {
 fn symbols(alloc: Global, index: &Index) -> Result<String, AllocError> {
     let mut answer = String::new(alloc);
     for symbol in &index.symbols(alloc, 0)? {
-        let (kind, text) = (symbol.kind, symbol.text.as_str());
-        let (offset, len) = (symbol.pos.offset, symbol.len);
-        let part = format!(in alloc; "{kind:?} {text} {offset}+{len}\n")?;
-        answer.push_str(part.as_str())?;
+        push_symbol(alloc, symbol, &mut answer)?;
     }
     Ok(answer)
+}
+
+fn push_symbol(alloc: Global, symbol: &Symbol, answer: &mut String) -> Result<(), AllocError> {
+    let (kind, text) = (symbol.kind, symbol.text.as_str());
+    let (offset, len) = (symbol.pos.offset, symbol.len);
+    let part = format!(in alloc; "{kind:?} {text} {offset}+{len}\n")?;
+    answer.push_str(part.as_str())
 }
 
 /// A line for each name that begins with the case's text and may be written at a place.
@@ -85,37 +101,54 @@ fn candidates(alloc: Global, index: &Index, place: Pos, case: &Case) -> Result<S
     let (from, prefix) = (case.number(1), case.text(0).as_bytes());
     let mut answer = String::new(alloc);
     for candidate in &index.candidates(alloc, place, from, prefix)? {
-        let (kind, text) = (candidate.kind, candidate.text.as_str());
-        let part = format!(in alloc; "{kind:?} {text}\n")?;
-        answer.push_str(part.as_str())?;
+        push_candidate(alloc, candidate, &mut answer)?;
     }
     Ok(answer)
 }
 
+fn push_candidate(
+    alloc: Global,
+    candidate: &Candidate,
+    answer: &mut String,
+) -> Result<(), AllocError> {
+    let (kind, text) = (candidate.kind, candidate.text.as_str());
+    let part = format!(in alloc; "{kind:?} {text}\n")?;
+    answer.push_str(part.as_str())
+}
+
 /// Whether the name at a place can be renamed at all.
 fn can_rename(alloc: Global, index: &Index, place: Pos) -> Result<String, AllocError> {
-    let Some(name) = index.name_at(alloc, place)? else {
-        return String::from_str(alloc, "nothing\n");
-    };
-    let can = index.can_be_renamed(alloc, &name)?;
-    format!(in alloc; "{can}\n")
+    match index.name_at(alloc, place)? {
+        Some(name) => {
+            let can = index.can_be_renamed(alloc, &name)?;
+            format!(in alloc; "{can}\n")
+        }
+        None => String::from_str(alloc, "nothing\n"),
+    }
 }
 
 /// The name at a place with the places that change when it is renamed, or why it can't be renamed.
 fn rename(alloc: Global, index: &Index, place: Pos, new: &str) -> Result<String, AllocError> {
-    let Some(name) = index.name_at(alloc, place)? else {
-        return String::from_str(alloc, "nothing\n");
-    };
-    match index.rename(alloc, &name, new)? {
-        Ok(places) => {
-            let mut answer = shown_name(alloc, &name)?;
-            for place in &places {
-                let part = format!(in alloc; " {}", place.offset)?;
-                answer.push_str(part.as_str())?;
-            }
-            answer.push_str("\n")?;
-            Ok(answer)
-        }
+    match index.name_at(alloc, place)? {
+        Some(name) => renamed(alloc, index, &name, new),
+        None => String::from_str(alloc, "nothing\n"),
+    }
+}
+
+fn renamed(alloc: Global, index: &Index, name: &Name, new: &str) -> Result<String, AllocError> {
+    match index.rename(alloc, name, new)? {
+        Ok(places) => told_of_places(alloc, name, &places),
         Err(refusal) => format!(in alloc; "{refusal:?}\n"),
     }
+}
+
+/// The name, and the offset of each place.
+fn told_of_places(alloc: Global, name: &Name, places: &[Pos]) -> Result<String, AllocError> {
+    let mut answer = shown_name(alloc, name)?;
+    for place in places {
+        let part = format!(in alloc; " {}", place.offset)?;
+        answer.push_str(part.as_str())?;
+    }
+    answer.push_str("\n")?;
+    Ok(answer)
 }

@@ -57,6 +57,18 @@ impl Tally {
         Ok(())
     }
 
+    /// Adds the text of three pieces.
+    fn add_joined(
+        &mut self,
+        alloc: Global,
+        before: &str,
+        piece: &str,
+        behind: &str,
+    ) -> Result<(), AllocError> {
+        let text = format!(in alloc; "{before}{piece}{behind}")?;
+        self.add(alloc, &text)
+    }
+
     fn told(&self, alloc: Global) -> Result<String, AllocError> {
         match &self.wrong {
             Some(text) => format!(in alloc; "wrong at {text:?}"),
@@ -136,10 +148,7 @@ pub fn damaged(alloc: Global, case: &Case) -> Result<String, AllocError> {
             None => break,
             Some((start, _)) => {
                 let before = text.get(..start).unwrap_or("");
-                let behind = chars.as_str();
-                let piece = case.text(0);
-                let damaged = format!(in alloc; "{before}{piece}{behind}")?;
-                tally.add(alloc, &damaged)?;
+                tally.add_joined(alloc, before, case.text(0), chars.as_str())?;
             }
         }
     }

@@ -1,5 +1,7 @@
 //! Calls that may run out of memory, and their answers as texts.
 
+use crate::rounds::rounds;
+use crate::still::still;
 use isle_syntax::ast::{Def, TypeDef, TypeValue, Variant};
 use isle_syntax::error::{Error, ErrorsBuilder, Span};
 use isle_syntax::files::{Files, LineMap};
@@ -45,15 +47,26 @@ pub fn printed<T: Drop>(answer: Result<T, PrintFault>) -> Result<T, Fault> {
     }
 }
 
-/// The answer of a call on a text, at a width.
-pub fn answer(alloc: Global, call: &str, text: &str, width: usize) -> Result<String, AllocError> {
+/// The answer of a call on a text, with a width or a number of rounds.
+pub fn answer(alloc: Global, call: &str, text: &str, number: usize) -> Result<String, AllocError> {
     match call {
+        "lex" | "parse" | "format" => rounds(alloc, call, number, text),
         "tokens" => shown(alloc, tokens(alloc, text)),
-        "parse" => shown_definitions(alloc, parsed(alloc, 1, text)),
+        "parsed" => shown_definitions(alloc, parsed(alloc, 1, text)),
         "parse_without_pos" => shown_definitions(alloc, read(alloc, text)),
-        "format" => shown(alloc, format(alloc, text, width)),
-        "print" => shown(alloc, print_of(alloc, text, width)),
-        "print_counted" => shown(alloc, counted(alloc, text, width)),
+        "formatted" => shown(alloc, format(alloc, text, number)),
+        "print" => shown(alloc, print_of(alloc, text, number)),
+        "print_counted" => shown(alloc, counted(alloc, text, number)),
+        "lexer" | "tree" | "layout" | "places" | "builder" | "display" => {
+            told_still(alloc, call, text, number > 0)
+        }
+        _ => of_values(alloc, call, text),
+    }
+}
+
+/// The answer of a call on a text that takes no number.
+fn of_values(alloc: Global, call: &str, text: &str) -> Result<String, AllocError> {
+    match call {
         "print_node" => shown(alloc, parts(alloc, text, Way::Print)),
         "to_sexpr" => shown(alloc, parts(alloc, text, Way::Shape)),
         "clone" => shown(alloc, parts(alloc, text, Way::Copy)),
@@ -63,6 +76,15 @@ pub fn answer(alloc: Global, call: &str, text: &str, width: usize) -> Result<Str
         "files" => files(alloc, text),
         "errors" => errors(alloc, text),
         _ => "no call\n".to_string(alloc),
+    }
+}
+
+/// Whether the answers of calls that never allocate are right.
+fn told_still(alloc: Global, call: &str, text: &str, is_asked: bool) -> Result<String, AllocError> {
+    match still(alloc, call, text, is_asked) {
+        Ok(true) => "right\n".to_string(alloc),
+        Err(Fault::Memory) => Err(AllocError),
+        _ => "wrong\n".to_string(alloc),
     }
 }
 
@@ -105,22 +127,47 @@ fn parts(alloc: Global, text: &str, way: Way) -> Result<String, Fault> {
     Ok(parts.out)
 }
 
+/// Returns whether the copy of a value is equal to it.
+fn is_copied<T: Clone + PartialEq + Drop>(value: &T) -> Result<bool, AllocError> {
+    let copy = value.clone()?;
+    let is_equal = copy == *value;
+    drop(copy);
+    Ok(is_equal)
+}
+
 /// Returns whether copies of values outside trees are equal. A parser, which has no `==`, is only
 /// copied.
 fn others(alloc: Global, text: &str) -> Result<bool, Fault> {
+    let is_lexer = is_lexer_copied(alloc, text)?;
+    let are_places = are_files_copied(alloc, text)? && is_map_copied(alloc, text)?;
+    Ok(is_lexer && are_places && is_nest_copied(alloc)?)
+}
+
+fn are_files_copied(alloc: Global, text: &str) -> Result<bool, AllocError> {
+    let files = files_of(alloc, text)?;
+    is_copied(&files)
+}
+
+fn is_map_copied(alloc: Global, text: &str) -> Result<bool, AllocError> {
+    let map = LineMap::from_str(alloc, text)?;
+    is_copied(&map)
+}
+
+/// Returns whether the token ahead and its copy are equal to that of a copied lexer.
+fn is_lexer_copied(alloc: Global, text: &str) -> Result<bool, Fault> {
     let lexer = Lexer::new(alloc, 1, text)?;
     let copy = lexer.clone()?;
-    let is_token = match (lexer.peek(), copy.peek()) {
-        (Some((_, token)), Some((_, other))) => token == other && token.clone()? == *other,
-        _ => false,
-    };
-    let map = LineMap::from_str(alloc, text)?;
-    let is_map = map.clone()? == map;
-    let files = files_of(alloc, text)?;
-    let is_files = files.clone()? == files;
+    let is_token = is_ahead_copied(&lexer, &copy)?;
     let parser = Parser::new(copy);
     drop(parser.clone()?);
-    Ok(is_token && is_map && is_files && is_nest_copied(alloc)?)
+    Ok(is_token)
+}
+
+fn is_ahead_copied(lexer: &Lexer, copy: &Lexer) -> Result<bool, AllocError> {
+    match (lexer.peek(), copy.peek()) {
+        (Some((_, token)), Some((_, other))) => Ok(token == other && is_copied(token)?),
+        _ => Ok(false),
+    }
 }
 
 /// `name @ (name)`
@@ -130,10 +177,9 @@ fn nest(alloc: Global) -> Result<SExpr, AllocError> {
     Ok(SExpr::Binding("name".to_string(alloc)?, list))
 }
 
-/// Returns whether the copy of a nested S-expression is equal to it.
 fn is_nest_copied(alloc: Global) -> Result<bool, AllocError> {
     let nest = nest(alloc)?;
-    Ok(nest.clone()? == nest)
+    is_copied(&nest)
 }
 
 fn templates(alloc: Global, text: &str) -> Result<String, Fault> {
@@ -175,11 +221,16 @@ fn full_names(alloc: Global, text: &str) -> Result<String, Fault> {
     Ok(out)
 }
 
+fn named(alloc: Global, name: &str, text: &str) -> Result<(String, String), AllocError> {
+    Ok((name.to_string(alloc)?, text.to_string(alloc)?))
+}
+
 /// Two files with the same text.
 pub fn files_of(alloc: Global, text: &str) -> Result<Files, AllocError> {
-    let first = ("a.isle".to_string(alloc)?, text.to_string(alloc)?);
-    let second = ("b.isle".to_string(alloc)?, text.to_string(alloc)?);
-    Files::from_names_and_contents(alloc, vec![in alloc; first, second]?)
+    let mut pairs = Vec::new(alloc);
+    pairs.push(named(alloc, "a.isle", text)?)?;
+    pairs.push(named(alloc, "b.isle", text)?)?;
+    Files::from_names_and_contents(alloc, pairs)
 }
 
 fn files(alloc: Global, text: &str) -> Result<String, AllocError> {

@@ -1,5 +1,5 @@
-//! `isle_test_memory CALL [WIDTH] < TEXT` makes one call of the syntax layer, so that each of its
-//! allocations can be made to fail in turn.
+//! `isle_test_memory CALL [NUMBER] < TEXT` makes one call of the syntax layer, so that each of its
+//! allocations can be made to fail in turn, or repeats one, so that it can be timed.
 //!
 //! It prints the answer and exits with 0. If the call or the program itself runs out of memory, it
 //! exits with 4 and prints nothing; if a stream fails, with 3.
@@ -7,8 +7,10 @@
 //! CALL is one of these:
 //!
 //! - `tokens`: `Lexer::new`, then `next` up to the end.
-//! - `parse`, `parse_without_pos`: these.
-//! - `print`, `print_counted`, `format`: these, at the width.
+//! - `parsed`: `parse`.
+//! - `parse_without_pos`: this.
+//! - `print`, `print_counted`: these, at the width NUMBER, or at 78.
+//! - `formatted`: `format`, at that width.
 //! - `print_node`, `to_sexpr`, `clone`: these, for each definition and each of its parts.
 //! - `clone_others`: `clone` for tokens, S-expressions, lexers, parsers, files and line maps.
 //! - `template`: `make_macro_template` and `subst_macro_args`, for each extractor's template.
@@ -19,13 +21,16 @@
 //!   runs out and the parser then answers `Failed`, `failed` is printed to standard error.
 //! - `retry`: as `tokens`, but each token is printed at once. If memory runs out, the lexer must be
 //!   unchanged; the call is made again, and `retried` is printed to standard error.
-//! - `nothing`, `lexer`, `tree`, `layout`, `places`, `builder`, `display`: calls that never
-//!   allocate. They print `right`, or `wrong` after a wrong answer. All prepare the same values
-//!   first, so each makes as many allocations as `nothing`.
+//! - `lex`, `parse`, `format`: as `tokens`, `parsed` and `formatted` at the width 78, but NUMBER
+//!   times. Printed are how many tokens, definitions or bytes were found in all, or `rejected`.
+//! - `lexer`, `tree`, `layout`, `places`, `builder`, `display`: calls that never allocate. They
+//!   print `right`, or `wrong` after a wrong answer. If NUMBER is 0, the values that they work on
+//!   are made, but no call: as many allocations then show that the calls make none.
 #![tactic(auto)]
 
 mod calls;
 mod retry;
+mod rounds;
 mod still;
 
 use calls::answer;
@@ -35,7 +40,6 @@ use std::env::Env;
 use std::io::{ErrorKind, Read, Write};
 use std::process::ExitCode;
 use std::{env, io};
-use still::still;
 
 /// The words of the command line, without the program's name.
 fn words<R: Env + AllocGlobal>(rt: &R) -> io::Result<Vec<String>> {
@@ -56,16 +60,12 @@ fn sweep<R: Read, W: Write, E: Write>(
     match call {
         "next_def" => definitions(alloc, &text, output, faults),
         "retry" => retried(alloc, &text, output, faults),
-        "nothing" | "lexer" | "tree" | "layout" | "places" | "builder" | "display" => {
-            let is_right = still(alloc, call, &text)?;
-            output.write_all(if is_right { b"right\n" } else { b"wrong\n" })
-        }
         _ => {
-            let width = words
+            let number = words
                 .get(1)
                 .and_then(|word| word.parse().ok())
                 .unwrap_or(78);
-            let answer = answer(alloc, call, &text, width)?;
+            let answer = answer(alloc, call, &text, number)?;
             output.write_all(answer.as_bytes())
         }
     }

@@ -1,4 +1,4 @@
-//! Calls that never allocate, in groups. Each group prepares the same values first.
+//! Calls that never allocate, in groups. Each group makes the values that it works on first.
 
 use crate::calls::{error, files_of, printed};
 use crate::retry::word_of;
@@ -14,16 +14,18 @@ use std::fmt::{self, Write};
 use std::ops::Range;
 use std::rc::Rc;
 
-/// The values that the calls work on.
-#[derive(Drop)]
-struct Ready<'a> {
-    text: &'a str,
-    lexer: Lexer<'a>,
-    failed: Lexer<'a>,
-    sexpr: SExpr,
-    files: Rc<Files>,
-    builder: ErrorsBuilder,
-    errors: Vec<Error>,
+/// Returns whether the calls of a group give the right answers. With `is_asked` false, only the
+/// values that they work on are made.
+pub fn still(alloc: Global, call: &str, text: &str, is_asked: bool) -> Result<bool, Fault> {
+    match call {
+        "lexer" => lexers(alloc, text, is_asked),
+        "tree" | "layout" => of_trees(alloc, call, text, is_asked),
+        "places" => {
+            let files = files_of(alloc, text)?;
+            Ok(!is_asked || places(alloc, &files))
+        }
+        _ => Ok(of_errors(alloc, call, text, is_asked)?),
+    }
 }
 
 /// A lexer that has rejected its text.
@@ -35,66 +37,46 @@ fn failed(alloc: Global) -> Result<Lexer<'static>, Fault> {
     }
 }
 
-/// The S-expression of the first definition.
-fn first_sexpr(alloc: Global, defs: &[Def]) -> Result<SExpr, Fault> {
-    match defs.first() {
-        Some(def) => printed(def.to_sexpr(alloc)),
-        None => Err(Fault::Failed),
+/// Calls of lexers, tokens and the ends of runs, and `Parser::new`; `next` for a failed lexer and
+/// for one at its end.
+fn lexers(alloc: Global, text: &str, is_asked: bool) -> Result<bool, Fault> {
+    let refused = failed(alloc)?;
+    let lexer = Lexer::new(alloc, 1, text)?;
+    if !is_asked {
+        return Ok(true);
+    }
+    let is_failed = says_failed(alloc, refused);
+    let is_right = is_ahead(&lexer, text) && is_symbol_ahead(&lexer);
+    drop(Parser::new(lexer));
+    Ok(is_right && is_failed && are_ends(text.as_bytes()) && ends(alloc))
+}
+
+/// Returns whether a lexer has a token of file 1 ahead, and its position is in the text.
+fn is_ahead(lexer: &Lexer, text: &str) -> bool {
+    let is_token = match lexer.peek() {
+        Some((pos, token)) => pos.file == 1 && !pos.is_unknown() && !token.is_int(),
+        None => false,
+    };
+    is_token && lexer.pos().offset <= text.len() && !lexer.eof()
+}
+
+/// Returns whether a symbol or a `(` is ahead.
+fn is_symbol_ahead(lexer: &Lexer) -> bool {
+    match lexer.peek() {
+        Some((_, Token::LParen)) => true,
+        Some((_, token)) => token.is_sym(),
+        None => false,
     }
 }
 
-fn make_ready<'a>(alloc: Global, text: &'a str, defs: &[Def]) -> Result<Ready<'a>, Fault> {
-    Ok(Ready {
-        text,
-        files: Rc::new(alloc, files_of(alloc, text)?)?,
-        errors: vec![in alloc; error(alloc, "first")?, error(alloc, "second")?]?,
-        builder: ErrorsBuilder::new(alloc)?,
-        lexer: Lexer::new(alloc, 1, text)?,
-        failed: failed(alloc)?,
-        sexpr: first_sexpr(alloc, defs)?,
-    })
+/// Returns whether runs from the first byte end within the bytes, and that of blanks at once.
+fn are_ends(bytes: &[u8]) -> bool {
+    let is_within = symbol_end(bytes, 0) <= bytes.len();
+    is_within && blank_end(bytes, 0) == 0 && line_comment_end(bytes, 0) <= bytes.len()
 }
 
-/// Returns whether the calls of this group give the right answers.
-pub fn still(alloc: Global, call: &str, text: &str) -> Result<bool, AllocError> {
-    match parsed(alloc, 1, text) {
-        Ok(defs) => {
-            let answer = still_with(alloc, call, text, &defs);
-            drop_definitions(defs);
-            answer
-        }
-        Err(Fault::Memory) => Err(AllocError),
-        Err(_) => Ok(false),
-    }
-}
-
-fn still_with(alloc: Global, call: &str, text: &str, defs: &[Def]) -> Result<bool, AllocError> {
-    match make_ready(alloc, text, defs) {
-        Ok(ready) => Ok(group(alloc, call, ready, defs)),
-        Err(Fault::Memory) => Err(AllocError),
-        Err(_) => Ok(false),
-    }
-}
-
-fn group(alloc: Global, call: &str, ready: Ready, defs: &[Def]) -> bool {
-    let Ready {
-        text,
-        lexer,
-        failed,
-        sexpr,
-        files,
-        builder,
-        errors,
-    } = ready;
-    match call {
-        "lexer" => lexers(alloc, text, lexer, failed),
-        "tree" => trees(defs),
-        "layout" => layouts(&sexpr),
-        "places" => places(alloc, &files),
-        "builder" => builders(builder, errors, files),
-        "display" => displays(builder, errors, files),
-        _ => true,
-    }
+fn says_failed(alloc: Global, mut lexer: Lexer) -> bool {
+    !lexer.eof() && word_of(lexer.next(alloc)) == "failed"
 }
 
 /// Returns whether a lexer is at its end, and `next` says so.
@@ -110,25 +92,31 @@ fn ends(alloc: Global) -> bool {
     }
 }
 
-/// Calls of lexers, tokens and the ends of runs, and `Parser::new`; `next` for a failed lexer and
-/// for one at its end.
-fn lexers(alloc: Global, text: &str, lexer: Lexer, mut failed: Lexer) -> bool {
-    let is_token = match lexer.peek() {
-        Some((pos, token)) => pos.file == 1 && !pos.is_unknown() && !token.is_int(),
-        None => false,
+/// The calls of trees, or of the S-expression of the first definition.
+fn of_trees(alloc: Global, call: &str, text: &str, is_asked: bool) -> Result<bool, Fault> {
+    let defs = parsed(alloc, 1, text)?;
+    let answer = match call {
+        "tree" => Ok(!is_asked || trees(&defs)),
+        _ => layouts(alloc, &defs, is_asked),
     };
-    let is_symbol = match lexer.peek() {
-        Some((_, Token::LParen)) => true,
-        Some((_, token)) => token.is_sym(),
-        None => false,
-    };
-    let is_ahead = lexer.pos().offset <= text.len() && !lexer.eof();
-    let bytes = text.as_bytes();
-    let is_symbol_end = symbol_end(bytes, 0) <= text.len();
-    let are_ends = blank_end(bytes, 0) == 0 && line_comment_end(bytes, 0) <= text.len();
-    let is_failed = !failed.eof() && word_of(failed.next(alloc)) == "failed";
-    drop(Parser::new(lexer));
-    is_token && is_symbol && is_ahead && is_symbol_end && are_ends && is_failed && ends(alloc)
+    drop_definitions(defs);
+    answer
+}
+
+/// Returns whether an S-expression fits the greatest room, and not an empty one.
+fn is_laid_out(sexpr: &SExpr) -> bool {
+    let mut looks = Looks::new();
+    fits(sexpr, usize::MAX, &mut looks) && !fits(sexpr, 0, &mut looks)
+}
+
+fn layouts(alloc: Global, defs: &[Def], is_asked: bool) -> Result<bool, Fault> {
+    match defs.first() {
+        Some(def) => {
+            let sexpr = printed(def.to_sexpr(alloc))?;
+            Ok(!is_asked || is_laid_out(&sexpr))
+        }
+        None => Err(Fault::Failed),
+    }
 }
 
 /// Calls of trees.
@@ -165,12 +153,6 @@ fn are_placed(exprs: &[SpecExpr]) -> bool {
     exprs.iter().all(|expr| expr.pos().file == 1)
 }
 
-/// Returns whether an S-expression fits the greatest room, and not an empty one.
-fn layouts(sexpr: &SExpr) -> bool {
-    let mut looks = Looks::new();
-    fits(sexpr, usize::MAX, &mut looks) && !fits(sexpr, 0, &mut looks)
-}
-
 /// Calls of files, line maps, positions and spans.
 fn places(alloc: Global, files: &Files) -> bool {
     let is_empty = Files::default(alloc).file_name(0).is_none();
@@ -184,11 +166,42 @@ fn places(alloc: Global, files: &Files) -> bool {
     is_empty && is_start && range.start == 7 && range.end == 8 && is_known && is_text
 }
 
+/// Two errors.
+fn two_errors(alloc: Global) -> Result<Vec<Error>, AllocError> {
+    let mut errors = Vec::new(alloc);
+    errors.push(error(alloc, "first")?)?;
+    errors.push(error(alloc, "second")?)?;
+    Ok(errors)
+}
+
+/// The calls of errors, or of Display.
+fn of_errors(alloc: Global, call: &str, text: &str, is_asked: bool) -> Result<bool, AllocError> {
+    let files = Rc::new(alloc, files_of(alloc, text)?)?;
+    let errors = two_errors(alloc)?;
+    let builder = ErrorsBuilder::new(alloc)?;
+    if !is_asked {
+        return Ok(true);
+    }
+    Ok(told_of_errors(call, builder, errors, files))
+}
+
 /// Calls of errors, and those of the builder that never allocate.
-fn builders(builder: ErrorsBuilder, errors: Vec<Error>, files: Rc<Files>) -> bool {
+fn told_of_errors(
+    call: &str,
+    builder: ErrorsBuilder,
+    errors: Vec<Error>,
+    files: Rc<Files>,
+) -> bool {
     let is_accepted = Errors::accepts(&errors, &files);
     let builder = builder.errors(errors).files(files);
-    is_accepted && builder.is_buildable() && builder.build().errors().len() == 2
+    if !builder.is_buildable() {
+        return false;
+    }
+    let errors = builder.build();
+    match call {
+        "builder" => is_accepted && errors.errors().len() == 2,
+        _ => displays(&errors),
+    }
 }
 
 /// A writer into a fixed buffer that fails after a number of writes.
@@ -253,17 +266,12 @@ fn is_cut(errors: &Errors, whole: &Fixed, room: usize, length: usize) -> bool {
 }
 
 /// Display of the errors into a fixed buffer, and with each write failing in turn.
-fn displays(builder: ErrorsBuilder, errors: Vec<Error>, files: Rc<Files>) -> bool {
-    let builder = builder.errors(errors).files(files);
-    if !builder.is_buildable() {
-        return false;
-    }
-    let errors = builder.build();
+fn displays(errors: &Errors) -> bool {
     let mut whole = Fixed::new(usize::MAX);
     let mut is_right = write!(whole, "{errors}").is_ok() && whole.written().starts_with(SHOWN);
     let mut length = 0;
     for room in 0..whole.count {
-        is_right &= is_cut(&errors, &whole, room, length);
+        is_right &= is_cut(errors, &whole, room, length);
         length = whole.ends.get(room).copied().unwrap_or(0);
     }
     is_right && length == whole.len

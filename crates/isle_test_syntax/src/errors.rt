@@ -7,11 +7,16 @@ use isle_syntax::printer::PrintFault;
 use std::alloc::{AllocError, Global};
 use std::rc::Rc;
 
+fn named(alloc: Global, name: &str, text: &str) -> Result<(String, String), AllocError> {
+    Ok((name.to_string(alloc)?, text.to_string(alloc)?))
+}
+
 /// The files `a.isle` and `b.isle`.
 fn two_files(alloc: Global) -> Result<Files, AllocError> {
-    let first = ("a.isle".to_string(alloc)?, "(A)\n(B)\n".to_string(alloc)?);
-    let second = ("b.isle".to_string(alloc)?, "(rule".to_string(alloc)?);
-    Files::from_names_and_contents(alloc, vec![in alloc; first, second]?)
+    let mut pairs = Vec::new(alloc);
+    pairs.push(named(alloc, "a.isle", "(A)\n(B)\n")?)?;
+    pairs.push(named(alloc, "b.isle", "(rule")?)?;
+    Files::from_names_and_contents(alloc, pairs)
 }
 
 fn parse_error(alloc: Global, pos: Pos) -> Result<Error, AllocError> {
