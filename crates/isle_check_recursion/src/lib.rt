@@ -26,7 +26,7 @@ use uses::uses_of;
 use walks::{endless_walk, is_set};
 
 /// An internal extractor that uses itself, or one that does.
-#[derive(Debug, Drop)]
+#[derive(Drop)]
 pub struct Recursion<'a> {
     /// Terms each of which uses the next one in its template. The first one is that of the
     /// extractor, and the last one is among those before it.
