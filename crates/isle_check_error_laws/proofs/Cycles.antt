@@ -4,8 +4,8 @@ use Rattle.std.specs.List.{list_any}
 use Rattle.std.proofs.Math.Nat.{max-eq_right}
 use Rattle.std.proofs.lemmas.List.{get_or-set_other, length-set, length-replicate}
 use Rattle.std.proofs.lemmas.List.Elements.{Contains-append_left, Contains-push, Contains-push_cases}
-use Rattle.isle_check_cycles.proofs.Marking.{are_ends, closed_more, sound_begun, sound_mark, unended_set}
-use Rattle.isle_check_cycles.specs.Walks.{AreEnds, IsClosed, IsSound, all_end, ends_from, unended}
+use Rattle.isle_check_recursion.proofs.Marking.{are_ends, closed_more, sound_begun, sound_mark, unended_set}
+use Rattle.isle_check_recursion.specs.Walks.{AreEnds, IsClosed, IsSound, all_end, ends_from, unended}
 use Rattle.isle_check_recursion.specs.Recursion.{endless, endless_after, walk}
 use Rattle.isle_check_error_laws.specs.BrokenRecursions.{AreLinked}
 use Rattle.isle_check_error_laws.proofs.Lists.{either, first_or_later, here, later, no_element, only}
