@@ -20,7 +20,7 @@ use isle_program_messages::format::format_of;
 use std::alloc::{AllocError, Global};
 
 /// A program among texts.
-#[derive(Debug, Drop)]
+#[derive(Drop)]
 pub struct Part {
     /// For each text, whether it is the program's.
     pub has: Vec<bool>,

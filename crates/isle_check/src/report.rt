@@ -36,7 +36,7 @@ use isle_program_messages::refusals::{is_refused, told_count, told_refusal_of};
 use std::alloc::{AllocError, Global};
 
 /// A line of a report.
-#[derive(Debug, Drop)]
+#[derive(Drop)]
 pub struct Line {
     /// Whether it tells an error, and not a warning.
     pub is_error: bool,
@@ -45,7 +45,7 @@ pub struct Line {
 }
 
 /// A report.
-#[derive(Debug, Drop)]
+#[derive(Drop)]
 pub struct Report {
     /// The lines, and for people one that counts them. It is empty if there are none.
     pub text: String,
@@ -54,7 +54,7 @@ pub struct Report {
 }
 
 /// A report on texts that are taken for one program.
-#[derive(Debug, Drop)]
+#[derive(Drop)]
 pub struct NotedReport {
     pub report: Report,
     /// The note that they look like several programs; empty if they do not.

@@ -5,7 +5,7 @@ use Rattle.isle_base_source.specs.declared.pos.Pos.{Pos}
 use Rattle.isle_ast_names.specs.Tree.{Name}
 use Rattle.isle_ast_rules.specs.Tree.{ExtractorDefinition}
 use Rattle.isle_ast.specs.Tree.{Conversion, Definition}
-use Rattle.isle_check_conversions.specs.Conversions.{endless_conversions}
+use Rattle.isle_check_recursion.specs.Conversions.{endless_conversions}
 use Rattle.isle_check_environment.specs.Names.{has}
 use Rattle.isle_check_environment.specs.Parts.{ConstantNode, constants_in, extractors_in, rules_in}
 use Rattle.isle_check_declarations.specs.Faults as declarations

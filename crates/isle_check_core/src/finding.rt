@@ -26,7 +26,7 @@ use isle_check_rules::WarningKind;
 use std::alloc::{AllocError, Global};
 
 /// An error or a warning.
-#[derive(Debug, Drop)]
+#[derive(Drop)]
 pub struct Finding<'a> {
     /// What is wrong.
     pub kind: Kind<'a>,
@@ -49,7 +49,7 @@ impl<'a> Finding<'a> {
 }
 
 /// What is wrong in a program.
-#[derive(Debug, Drop)]
+#[derive(Drop)]
 pub enum Kind<'a> {
     /// An error of a declaration.
     Declaration(isle_check_declarations::Kind<'a>),

@@ -16,7 +16,7 @@ ghost use Rattle.isle_check_signatures.specs.Views.{environment_of, term_of};
 
 use crate::finding::{Finding, Kind};
 use isle_ast::ast::{Converter, Def, Extractor};
-use isle_check_conversions::endless_conversions;
+use isle_check_recursion::endless_conversions;
 use isle_check_environment::names::{Names, add_name, has, no_names};
 use isle_check_environment::parts::{Constant, constants_in, extractors_in};
 use isle_check_rules::{TypedRule, Warning, conditions_without_constructor, multi_extractors};

@@ -9,7 +9,7 @@ use isle_base::lexer::Pos;
 use std::alloc::AllocError;
 
 /// An error of a definition.
-#[derive(Clone, Copy, Debug)]
+#[derive(Clone, Copy)]
 pub struct Fault<'a> {
     /// What is wrong.
     pub kind: Kind<'a>,
@@ -18,7 +18,7 @@ pub struct Fault<'a> {
 }
 
 /// What is wrong in a definition.
-#[derive(Clone, Copy, Debug)]
+#[derive(Clone, Copy)]
 pub enum Kind<'a> {
     /// A type has the name of an earlier type or of a built-in type.
     TypeAgain(&'a Ident),

@@ -30,7 +30,7 @@ pub struct TermLookup<'a> {
 }
 
 /// What a text means as the name of a term.
-#[derive(Clone, Copy, Debug)]
+#[derive(Clone, Copy)]
 pub enum Term<'a> {
     /// No term.
     Unknown,

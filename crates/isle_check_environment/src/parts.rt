@@ -12,7 +12,7 @@ use isle_base::lexer::Pos;
 use std::alloc::{AllocError, Global};
 
 /// An external constant.
-#[derive(Clone, Copy, Debug)]
+#[derive(Clone, Copy)]
 pub struct Constant<'a> {
     /// The name, without its `$`.
     pub name: &'a Ident,

@@ -1,7 +1,7 @@
 //! What an expression may use.
 
 /// Which terms an expression may use.
-#[derive(Clone, Copy, Debug)]
+#[derive(Clone, Copy)]
 pub struct Flags {
     /// Whether it must be pure: it may use pure terms and variants alone.
     pub pure: bool,

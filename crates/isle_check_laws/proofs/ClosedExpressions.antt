@@ -5,8 +5,8 @@ use Rattle.isle_check_signatures.specs.Environment.{EnvironmentNode}
 use Rattle.isle_check_typing.specs.Progress.{VariableNode}
 use Rattle.isle_check_expressions.specs.declared.flags.Flags.{Flags}
 use Rattle.isle_check_expressions.specs.TypedExpressions.{TypedExpressionNode, TypedLetNode, typed_expression_list, typed_let_list}
-use Rattle.isle_check_judgements.specs.HasExpressionType.{HasExpressionType, gives_integer, gives_bool, gives_constant, gives_variable, constructs, converts_variable, converts_term, lets, HaveExpressionTypes, no_value, one_value, AreDefined, no_variable, one_variable}
-use Rattle.isle_check_judgements.specs.HasType.{bound_more}
+use Rattle.isle_check_laws.specs.HasExpressionType.{HasExpressionType, gives_integer, gives_bool, gives_constant, gives_variable, constructs, converts_variable, converts_term, lets, HaveExpressionTypes, no_value, one_value, AreDefined, no_variable, one_variable}
+use Rattle.isle_check_laws.specs.HasType.{bound_more}
 use Rattle.isle_check_matchings.specs.Asks.{TermsNode}
 use Rattle.isle_check_laws.specs.Closed.{let_variables, IsClosedExpression, AreClosedExpressions, AreClosedLets}
 use Rattle.isle_check_laws.specs.UsedTerms.{AreSingle, expression_terms, expressions_terms, lets_terms}

@@ -8,7 +8,7 @@ use Rattle.isle_check_signatures.specs.Signatures.{TermNode}
 use Rattle.isle_check_typing.specs.Progress.{VariableNode}
 use Rattle.isle_check_typing.specs.Typed.{TypedNode}
 use Rattle.isle_check_typing.specs.TypedView.{typed_list_of}
-use Rattle.isle_check_judgements.specs.HasType.{HasType, binds, compares, names, is_bool, is_integer, is_constant, is_anything, are_all, extracts, expands, converts, HaveType, no_more, one_more, HaveTypes, no_argument, one_argument, bound_more}
+use Rattle.isle_check_laws.specs.HasType.{HasType, binds, compares, names, is_bool, is_integer, is_constant, is_anything, are_all, extracts, expands, converts, HaveType, no_more, one_more, HaveTypes, no_argument, one_argument, bound_more}
 use Rattle.isle_check_matchings.specs.Asks.{TermsNode}
 use Rattle.isle_check_rules.specs.Warnings.{list_terms_in, multi_by, terms_in}
 use Rattle.isle_check_laws.specs.Closed.{IsSingle, pattern_variables, list_variables, IsClosedPattern, AreClosedPatterns}

@@ -8,7 +8,7 @@ use Rattle.isle_check_expressions.specs.declared.flags.Flags.{Flags}
 use Rattle.isle_check_expressions.specs.TypedExpressions.{type_of_expression}
 use Rattle.isle_check_rules.specs.RuleTypes.{condition_flags}
 use Rattle.isle_check_rules.specs.TypedRules.{TypedCondition, TypedRuleNode}
-use Rattle.isle_check_judgements.specs.IsTypedRule.{AreConditions, no_condition, one_condition, IsTypedRule, rewrites}
+use Rattle.isle_check_laws.specs.IsTypedRule.{AreConditions, no_condition, one_condition, IsTypedRule, rewrites}
 use Rattle.isle_check_matchings.specs.Asks.{TermsNode}
 use Rattle.isle_check_laws.specs.Closed.{IsClosed, AreClosedConditions, list_variables, pattern_variables}
 use Rattle.isle_check_laws.specs.UsedTerms.{AreSingle, conditions_terms, expression_terms, rule_terms}

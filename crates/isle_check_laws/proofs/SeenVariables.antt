@@ -6,8 +6,8 @@ use Rattle.std.proofs.lemmas.Option.{none-some, same_Some}
 use Rattle.std.specs.List.{list_any}
 use Rattle.isle_check_signatures.specs.Entries.{or_else}
 use Rattle.isle_check_typing.specs.Progress.{FoundNode, VariableNode, find, find_from, hidden}
-use Rattle.isle_check_judgements.specs.HasExpressionType.{bound_behind}
-use Rattle.isle_check_judgements.specs.HasType.{bound_more}
+use Rattle.isle_check_laws.specs.HasExpressionType.{bound_behind}
+use Rattle.isle_check_laws.specs.HasType.{bound_more}
 use Rattle.isle_check_laws.specs.Closed.{IsBound}
 use Rattle.isle_check_overlaps.proofs.Booleans.{and_first, true_first, true_second}
 

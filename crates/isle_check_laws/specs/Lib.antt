@@ -1,3 +1,19 @@
+pub mod HasType
+pub mod HasExpressionType
+pub mod IsTypedRule
+pub mod Untold
+pub mod RightProgram
+pub mod Named
+pub mod BrokenTypes
+pub mod BrokenTerms
+pub mod BrokenRoots
+pub mod BrokenExtractors
+pub mod BrokenConverters
+pub mod BrokenExterns
+pub mod RuleParts
+pub mod BrokenRules
+pub mod BrokenRecursions
+pub mod Environments
 pub mod Valuations
 pub mod Worlds
 pub mod Runs
@@ -6,3 +22,6 @@ pub mod Compared
 pub mod Closed
 pub mod UsedTerms
 pub mod Extensional
+pub mod BrokenOverlaps
+pub mod Broken
+pub mod NoErrors

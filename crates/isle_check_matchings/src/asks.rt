@@ -15,7 +15,7 @@ use isle_check_typing::TypedPattern;
 use std::alloc::{AllocError, Global};
 
 /// What a part of a rule says of the value at a place.
-#[derive(Debug, Drop)]
+#[derive(Drop)]
 pub enum Ask<'a> {
     /// The value is constrained.
     Constrains(Place<'a>, Constraint<'a>),

@@ -19,7 +19,7 @@ use isle_check_signatures::Term;
 use std::alloc::{AllocError, Global};
 
 /// The place of a value, and the answers that must be there for it.
-#[derive(Debug, Drop)]
+#[derive(Drop)]
 pub struct Value<'a> {
     /// The place of the value.
     pub at: Place<'a>,

@@ -11,7 +11,7 @@ use isle_check_overlaps::{Kind, Other};
 use std::alloc::{AllocError, Global};
 
 /// A message about another place.
-#[derive(Debug, Drop)]
+#[derive(Drop)]
 pub struct Note {
     /// The position that it is about.
     pub pos: Pos,

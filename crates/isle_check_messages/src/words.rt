@@ -7,7 +7,7 @@ ghost use Rattle.isle_check_messages.specs.Words.{words_of};
 use std::alloc::{AllocError, Global};
 
 /// The words of a finding.
-#[derive(Debug, Drop)]
+#[derive(Drop)]
 pub struct Words {
     /// The name of its kind, such as `duplicate-type`.
     pub name: &'static str,

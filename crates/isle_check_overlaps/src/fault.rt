@@ -4,7 +4,7 @@ use isle_base_source::pos::Pos;
 use isle_check_values::Value;
 
 /// Something that is wrong with a rule, beside others or by itself.
-#[derive(Debug, Drop)]
+#[derive(Drop)]
 pub struct Fault {
     /// What is wrong.
     pub kind: Kind,
@@ -13,7 +13,7 @@ pub struct Fault {
 }
 
 /// What is wrong with a rule.
-#[derive(Debug, Drop)]
+#[derive(Drop)]
 pub enum Kind {
     /// A value would have to match two constraints that differ: as they are written.
     TwoConstraints(String, String),
@@ -33,7 +33,7 @@ pub enum Kind {
 }
 
 /// A rule that overlaps with another one.
-#[derive(Debug, Drop)]
+#[derive(Drop)]
 pub struct Other {
     /// The position of the rule.
     pub pos: Pos,
@@ -44,7 +44,7 @@ pub struct Other {
 }
 
 /// What is found of the rules of a program.
-#[derive(Debug, Drop)]
+#[derive(Drop)]
 pub struct Comparison {
     /// The errors.
     pub faults: Vec<Fault>,

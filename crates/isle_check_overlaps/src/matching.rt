@@ -4,7 +4,7 @@ use isle_base_source::pos::Pos;
 use isle_check_places::{Clash, Settled};
 
 /// What a rule matches.
-#[derive(Debug, Drop)]
+#[derive(Drop)]
 pub struct Matching<'a> {
     /// The term of the rule.
     pub term: &'a str,

@@ -9,7 +9,7 @@ use crate::settling::constraint_at;
 use std::alloc::{AllocError, Global};
 
 /// Two constraints of one place that differ.
-#[derive(Clone, Copy, Debug)]
+#[derive(Clone, Copy)]
 pub struct Clash<'a> {
     pub first: Constraint<'a>,
     pub second: Constraint<'a>,

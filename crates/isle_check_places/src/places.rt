@@ -12,7 +12,7 @@ pub type Place<'a> = Vec<Step<'a>>;
 
 /// A step of a place. `Computed` stands behind the places of its arguments; the others stand behind
 /// one place or begin it.
-#[derive(Clone, Copy, Debug)]
+#[derive(Clone, Copy)]
 pub enum Step<'a> {
     /// An argument of the rule's term.
     Argument(usize),
@@ -37,7 +37,7 @@ pub enum Step<'a> {
 }
 
 /// What the value at a place must be.
-#[derive(Clone, Copy, Debug)]
+#[derive(Clone, Copy)]
 pub enum Constraint<'a> {
     /// A value of a variant that has so many fields.
     Variant(&'a str, usize),
@@ -52,7 +52,7 @@ pub enum Constraint<'a> {
 }
 
 /// A place with a constraint of its value.
-#[derive(Debug, Drop)]
+#[derive(Drop)]
 pub struct Constrained<'a> {
     /// The place.
     pub at: Place<'a>,

@@ -23,7 +23,7 @@ const MOST_SWEEPS: usize = 64;
 const MOST_EQUAL: usize = 1024;
 
 /// Two places that are equal.
-#[derive(Debug, Drop)]
+#[derive(Drop)]
 pub struct Equality<'a> {
     pub left: Place<'a>,
     pub right: Place<'a>,
@@ -42,7 +42,7 @@ pub struct Sweep<'a> {
 }
 
 /// What the constraints and the equal places of a rule come to.
-#[derive(Debug, Drop)]
+#[derive(Drop)]
 pub enum Settled<'a> {
     /// The constraints of all places, and the equal places that are not constrained.
     Settled(Vec<Constrained<'a>>, Vec<Equality<'a>>),

@@ -1,7 +1,7 @@
 -- Walks, a step further.
 use Rattle.std.proofs.Common.{◌≡◌, ◌==◌, ◌<◌, ◌≤◌, ℕ, ◌+◌, ◌-◌, suc, List, [], ◌∷◌, ◌++◌, Bool, true, false, cond, get_or, refl, ap, sym, ◌∙◌, arith}
 use Rattle.std.specs.List.{list_any}
-use Rattle.isle_check_cycles.specs.Walks.{AreEnds, ends_from}
+use Rattle.isle_check_recursion.specs.Walks.{AreEnds, ends_from}
 use Rattle.isle_check_recursion.specs.Recursion.{endless, walk}
 
 cond_true : {A : Type 0} (b : Bool) (x y : A) → b ≡ true → cond b x y ≡ x

@@ -1,2 +1,4 @@
+pub mod Walks
 pub mod Recursion
+pub mod Conversions
 pub mod Views

@@ -7,7 +7,7 @@ use Rattle.isle_ast_rules.specs.Roots.{pattern_pos}
 use Rattle.isle_ast_rules.specs.TermHeads.{heads}
 use Rattle.isle_ast_rules.specs.Tree.{PatternNode}
 use Rattle.isle_ast.specs.Tree.{Declaration, Definition}
-use Rattle.isle_check_cycles.specs.Walks.{ends_from}
+use Rattle.isle_check_recursion.specs.Walks.{ends_from}
 use Rattle.isle_check_environment.specs.Parts.{decls_in}
 use Rattle.isle_check_signatures.specs.Entries.{Entry, entry, value_of}
 use Rattle.isle_check_signatures.specs.Environment.{environment}

@@ -1,13 +1,15 @@
-//! Internal extractors that use themselves.
+//! Internal extractors that use themselves, and conversions that do not come to an end.
 #![tactic(auto)]
 
+mod conversions;
+mod cycles;
 mod uses;
 mod walks;
 
 ghost use Rattle.std.specs.Prelude.{◌≡◌, ◌++◌, IfOk, None, OnOk, map, option_map};
 ghost use Rattle.isle_ast.specs.TreeView.{definitions_of};
 ghost use Rattle.isle_ast_rules.specs.TreeView.{pattern_of};
-ghost use Rattle.isle_check_cycles.specs.Walks.{AreEnds};
+ghost use Rattle.isle_check_recursion.specs.Walks.{AreEnds};
 ghost use Rattle.isle_check_environment.specs.Views.{decls_at};
 ghost use Rattle.isle_check_recursion.specs.Recursion.{last_template, name_of_number, names};
 ghost use Rattle.isle_check_recursion.specs.Recursion.{recursion, recursions, recursions_from};
@@ -16,17 +18,18 @@ ghost use Rattle.isle_check_recursion.specs.Views.{names_at, recursions_at};
 ghost use Rattle.isle_check_signatures.specs.Environment.{environment};
 ghost use Rattle.isle_check_signatures.specs.Views.{environment_of};
 
+pub use conversions::endless_conversions;
+use cycles::{ends, is_set};
 use isle_ast::ast::{Decl, Def, Ident, Pattern};
 use isle_base::lexer::Pos;
-use isle_check_cycles::ends;
 use isle_check_environment::parts::decls_in;
 use isle_check_signatures::Environment;
 use std::alloc::{AllocError, Global};
 use uses::uses_of;
-use walks::{endless_walk, is_set};
+use walks::endless_walk;
 
 /// An internal extractor that uses itself, or one that does.
-#[derive(Debug, Drop)]
+#[derive(Drop)]
 pub struct Recursion<'a> {
     /// Terms each of which uses the next one in its template. The first one is that of the
     /// extractor, and the last one is among those before it.

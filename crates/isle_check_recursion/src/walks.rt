@@ -2,9 +2,10 @@
 
 ghost use Rattle.std.specs.Prelude.{◌≡◌, ◌==◌, IfOk, [], false, get_or, map};
 ghost use Rattle.std.specs.List.{list_any};
-ghost use Rattle.isle_check_cycles.specs.Walks.{AreEnds};
+ghost use Rattle.isle_check_recursion.specs.Walks.{AreEnds};
 ghost use Rattle.isle_check_recursion.specs.Recursion.{endless, endless_walk};
 
+use crate::cycles::is_set;
 use std::alloc::{AllocError, Global};
 
 /// Returns a walk from a place: always on to the greatest of the next places from which a walk
@@ -60,11 +61,4 @@ fn endless(ends: &[bool], places: &[usize]) -> usize
         }
     }
     greatest
-}
-
-/// Returns the flag at an index, or `false` if there is none.
-pub fn is_set(flags: &[bool], place: usize) -> bool
-    ensures { result ≡ get_or flags.now place false }
-{
-    place < flags.len() && flags[place]
 }

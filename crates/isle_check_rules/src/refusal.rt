@@ -7,7 +7,7 @@ use isle_base::lexer::Pos;
 use std::alloc::{AllocError, AllocFailed};
 
 /// Why there is no answer for a program's rules.
-#[derive(Clone, Copy, Debug)]
+#[derive(Clone, Copy)]
 pub enum RuleRefusal {
     /// The depth is used up in the rule at this position: templates and conversions lie deeper in
     /// one another.

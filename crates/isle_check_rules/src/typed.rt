@@ -6,7 +6,7 @@ use isle_check_typing::{Fault, TypedPattern};
 
 /// A rule whose patterns and expressions are typed. Its variables are numbered in the order in
 /// which they are bound, from 0.
-#[derive(Debug, Drop)]
+#[derive(Drop)]
 pub struct TypedRule {
     /// The term of its left side.
     pub term: String,
@@ -23,7 +23,7 @@ pub struct TypedRule {
 }
 
 /// A condition of a rule: the expression's value matches the pattern.
-#[derive(Debug, Drop)]
+#[derive(Drop)]
 pub struct TypedIfLet {
     /// The typed pattern.
     pub pattern: TypedPattern,
@@ -32,7 +32,7 @@ pub struct TypedIfLet {
 }
 
 /// A rule's typed rule and its errors.
-#[derive(Debug, Drop)]
+#[derive(Drop)]
 pub struct RuleTyping {
     /// The typed rule, if the root of the left side is a known term and the right side is typed.
     pub typed: Option<TypedRule>,
@@ -41,7 +41,7 @@ pub struct RuleTyping {
 }
 
 /// The typed rules of rules and their errors.
-#[derive(Debug, Drop)]
+#[derive(Drop)]
 pub struct RulesTyping {
     /// The typed rules, in order, without those that have none.
     pub typed: Vec<TypedRule>,

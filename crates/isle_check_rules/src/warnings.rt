@@ -20,7 +20,7 @@ use isle_check_signatures::Environment;
 use std::alloc::{AllocError, Global};
 
 /// Something in a rule that upstream accepts without an error, and does not compile.
-#[derive(Debug, Drop)]
+#[derive(Drop)]
 pub struct Warning {
     /// What is wrong.
     pub kind: WarningKind,
@@ -29,7 +29,7 @@ pub struct Warning {
 }
 
 /// What is wrong in a rule that upstream accepts.
-#[derive(Debug, Drop)]
+#[derive(Drop)]
 pub enum WarningKind {
     /// A term in the expression of a condition has no constructor. It is reported at the term.
     NoConstructor(String),

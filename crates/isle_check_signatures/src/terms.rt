@@ -17,7 +17,7 @@ use isle_check_environment::by_text::ByText;
 use std::alloc::{AllocError, Global};
 
 /// A term: what its arguments and its result are, and how it may be used.
-#[derive(Debug, Drop)]
+#[derive(Drop)]
 pub struct Term {
     /// The types of its arguments.
     pub args: Vec<String>,

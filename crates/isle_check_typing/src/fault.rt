@@ -3,7 +3,7 @@
 use isle_base::lexer::Pos;
 
 /// An error of a rule.
-#[derive(Debug, Drop)]
+#[derive(Drop)]
 pub struct Fault {
     /// What is wrong.
     pub kind: Kind,
@@ -12,7 +12,7 @@ pub struct Fault {
 }
 
 /// What is wrong in a rule.
-#[derive(Debug, Drop)]
+#[derive(Drop)]
 pub enum Kind {
     /// An integer stands for a value of a type that has no integers.
     IntegerType {

@@ -9,7 +9,7 @@ use isle_base::lexer::Pos;
 use std::alloc::{AllocError, Global};
 
 /// A variable that was bound.
-#[derive(Debug, Drop)]
+#[derive(Drop)]
 pub struct Variable {
     /// Its name.
     pub name: String,
@@ -20,7 +20,7 @@ pub struct Variable {
 }
 
 /// What is known after a part of a rule.
-#[derive(Debug, Drop)]
+#[derive(Drop)]
 pub struct Progress {
     /// The variables that were bound, in order. A variable's number is its index.
     pub bound: Vec<Variable>,

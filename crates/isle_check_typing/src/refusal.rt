@@ -6,7 +6,7 @@ ghost use Rattle.isle_check_typing.specs.declared.refusal.Refusal.TheVariants.{M
 use std::alloc::{AllocError, AllocFailed};
 
 /// Why there is no answer.
-#[derive(Clone, Copy, Debug)]
+#[derive(Clone, Copy)]
 pub enum Refusal {
     /// The depth is used up: templates and conversions lie deeper in one another.
     TooDeep,

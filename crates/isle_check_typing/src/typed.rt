@@ -10,7 +10,7 @@ use std::alloc::AllocError;
 /// part. A variable is its number among the variables of its rule, in the order in which they are
 /// bound, from 0.
 #[cycle(typed)]
-#[derive(Debug, Drop)]
+#[derive(Drop)]
 pub enum TypedPattern {
     /// A variable that is bound to the value that a pattern matches.
     Bind {

@@ -15,7 +15,7 @@ use std::alloc::{AllocError, Global};
 
 /// What is said of a value: that it is of a variant, with so many fields, or a literal; or the
 /// extractor that it is given to.
-#[derive(Clone, Copy, Debug)]
+#[derive(Clone, Copy)]
 pub enum Said<'a> {
     Variant(&'a str, usize),
     Bool(bool),

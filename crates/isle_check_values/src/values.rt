@@ -13,7 +13,7 @@ use isle_check_signatures::Environment;
 use std::alloc::{AllocError, Global};
 
 /// A value, written as a pattern.
-#[derive(Debug, Drop)]
+#[derive(Drop)]
 pub struct Value {
     /// The pattern, such as `(f (T.A) _)`.
     pub text: String,

@@ -23,7 +23,7 @@ pub const EXCLUDE_OPTION: &str = "--exclude";
 
 /// The options of a program, besides `--help` and `-h`, `--version` and `-V`, and
 /// `--stdin-name NAME`, which every program accepts.
-#[derive(Clone, Copy, Debug)]
+#[derive(Clone, Copy)]
 pub struct Options {
     /// The options without a value, such as `--check`.
     pub flags: &'static [&'static str],
@@ -33,7 +33,7 @@ pub struct Options {
 }
 
 /// An argument: a word of the command line, or an option with its value.
-#[derive(Debug, Drop)]
+#[derive(Drop)]
 pub enum Argument {
     /// An option without a value.
     Flag(String),
@@ -44,7 +44,7 @@ pub enum Argument {
 }
 
 /// What the user asks for.
-#[derive(Debug, Drop)]
+#[derive(Drop)]
 pub enum Request {
     /// Print the help.
     Help,

@@ -8,7 +8,7 @@ use crate::streams::ReadFault;
 use std::alloc::{AllocError, AllocFailed};
 
 /// Why a program fails.
-#[derive(Debug, Drop)]
+#[derive(Drop)]
 pub enum Failure {
     /// The input is rejected, with this message.
     Refused(String),

@@ -12,7 +12,7 @@ use std::io;
 use std::io::Write;
 
 /// A program: its name, and the texts that it prints about itself.
-#[derive(Clone, Copy, Debug)]
+#[derive(Clone, Copy)]
 pub struct Program {
     /// Its name, with which its messages begin.
     pub name: &'static str,

@@ -17,7 +17,7 @@ use std::fs::{Files, OpenOptions};
 use std::io::Read;
 
 /// A text, and its name in messages.
-#[derive(Debug, Drop)]
+#[derive(Drop)]
 pub struct Source {
     /// Its name in messages.
     pub name: String,
@@ -27,7 +27,7 @@ pub struct Source {
 
 /// The texts that could be read, in the order of their names on the command line, and the messages
 /// about the others.
-#[derive(Debug, Drop)]
+#[derive(Drop)]
 pub struct Sources {
     /// The texts.
     pub list: Vec<Source>,

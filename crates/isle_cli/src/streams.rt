@@ -42,7 +42,7 @@ impl<I, W, E> Streams<I, W, E> {
 }
 
 /// Why no text was read.
-#[derive(Clone, Copy, Debug)]
+#[derive(Clone, Copy)]
 pub enum ReadFault {
     /// There is no such file or folder.
     Missing,

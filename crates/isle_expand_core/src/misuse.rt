@@ -11,7 +11,7 @@ use std::alloc::AllocError;
 use std::fmt;
 
 /// A use of an extractor that has no expansion, or a second extractor of a term.
-#[derive(Debug, Drop)]
+#[derive(Drop)]
 pub enum Misuse {
     /// The use of an extractor whose expansion does not end: it comes back to itself, or uses one
     /// that does.
@@ -85,7 +85,7 @@ impl fmt::Display for Misuse {
 }
 
 /// Why definitions were not expanded.
-#[derive(Debug, Drop)]
+#[derive(Drop)]
 pub enum ExpandFault {
     /// They have no expansion, because of this misuse.
     Misuse(Misuse),

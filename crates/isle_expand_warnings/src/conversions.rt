@@ -23,7 +23,7 @@ use std::alloc::{AllocError, Global};
 use std::fmt;
 
 /// A conversion that the expansion may lose.
-#[derive(Clone, Copy, Debug)]
+#[derive(Clone, Copy)]
 pub enum Warning<'d> {
     /// The use of an extractor that the compiler may wrap in a conversion. What the use stands for
     /// is not wrapped.

@@ -28,7 +28,7 @@ use isle_program_messages::refusals::{told_count, told_refusal};
 use std::alloc::{AllocError, Global};
 
 /// A program among texts.
-#[derive(Debug, Drop)]
+#[derive(Drop)]
 pub struct Part {
     pub name: String,
     /// For each text, whether it is the program's.
@@ -36,7 +36,7 @@ pub struct Part {
 }
 
 /// A finding that outlives the trees.
-#[derive(Debug, Drop)]
+#[derive(Drop)]
 struct Told {
     pos: Pos,
     lint: Lint,
@@ -44,7 +44,7 @@ struct Told {
 }
 
 /// A program that is linted.
-#[derive(Debug, Drop)]
+#[derive(Drop)]
 struct Linted {
     name: String,
     has: Vec<bool>,

@@ -32,7 +32,7 @@ use isle_program_messages::refusals::{told_count, told_refusal};
 use std::alloc::{AllocError, Global};
 
 /// A report.
-#[derive(Debug, Drop)]
+#[derive(Drop)]
 pub struct Report {
     /// The lines, and for people one that counts them. It is empty if there are none.
     pub text: String,
@@ -41,7 +41,7 @@ pub struct Report {
 }
 
 /// A report on texts that are taken for one program.
-#[derive(Debug, Drop)]
+#[derive(Drop)]
 pub struct NotedReport {
     pub report: Report,
     /// The note that they look like several programs; empty if they do not.

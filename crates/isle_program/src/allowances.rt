@@ -26,7 +26,7 @@ const ALLOW: &[u8] = b" isle-lint: allow ";
 ///
 /// These are the line comments between the end of the definition before, or the beginning of the
 /// text, and the definition's `(`.
-#[derive(Debug, Drop)]
+#[derive(Drop)]
 pub struct Allowances {
     /// In order.
     list: Vec<Allowed>,
@@ -47,7 +47,7 @@ impl Model for Allowances {
 }
 
 /// A definition, and the lints that are disabled for it, each once.
-#[derive(Debug, Drop)]
+#[derive(Drop)]
 struct Allowed {
     /// The byte offset of its `(`.
     start: usize,

@@ -16,7 +16,7 @@ pub const MAX_DEPTH: usize = 500;
 pub const TOO_DEEP: &str = "more than 500 lists in one another, or '@' in one definition";
 
 /// What is open at a token of a text.
-#[derive(Clone, Copy, Debug)]
+#[derive(Clone, Copy)]
 pub struct Nest {
     /// The number of lists that are open.
     pub lists: usize,

@@ -10,7 +10,7 @@ use isle_base::scanner::{Scanner, TokenRef};
 use std::alloc::{AllocError, Global};
 
 /// The beginning of a definition.
-#[derive(Clone, Copy, Debug)]
+#[derive(Clone, Copy)]
 pub struct Opening {
     /// The byte offset of its `(`.
     pub start: usize,

@@ -17,7 +17,7 @@ use std::env::Env;
 use std::fs::{Files, canonicalize};
 
 /// A program that is asked for.
-#[derive(Debug, Drop)]
+#[derive(Drop)]
 pub struct Chosen {
     pub name: String,
     /// Its files, and the entries that stand for none.
@@ -25,7 +25,7 @@ pub struct Chosen {
 }
 
 /// Why no programs are chosen.
-#[derive(Debug, Drop)]
+#[derive(Drop)]
 pub enum ChoiceFault {
     /// Out of memory.
     Memory,
@@ -48,7 +48,7 @@ impl<T: Drop> From<AllocFailed<T>> for ChoiceFault {
 }
 
 /// A manifest, and the programs of it that are asked for.
-#[derive(Debug, Drop)]
+#[derive(Drop)]
 pub struct Choice {
     pub programs: Vec<Chosen>,
     /// The path of the manifest, as it is shown.

@@ -17,7 +17,7 @@ pub const NOBODY: Program = Program {
 };
 
 /// The files of a program.
-#[derive(Debug, Drop)]
+#[derive(Drop)]
 pub struct Listed {
     /// Their paths, in the order of the list, each once.
     pub paths: Vec<String>,

@@ -11,7 +11,7 @@ use isle_cli::arguments::Argument;
 use std::alloc::{AllocError, Global};
 
 /// A tool that has a table of levels.
-#[derive(Clone, Copy, Debug)]
+#[derive(Clone, Copy)]
 pub enum Tool {
     /// `isle-lint`, whose names are those of lints.
     IsleLint,
@@ -32,7 +32,7 @@ impl Tool {
 }
 
 /// What findings count for, as the option of the same name says it.
-#[derive(Clone, Copy, Debug)]
+#[derive(Clone, Copy)]
 pub enum Level {
     Allow,
     Warn,
@@ -65,7 +65,7 @@ impl Level {
 }
 
 /// The name of a lint or of a kind of findings, and its level.
-#[derive(Debug, Drop)]
+#[derive(Drop)]
 pub struct NameLevel {
     pub name: String,
     pub level: Level,

@@ -28,7 +28,7 @@ use toml::{Table, Value};
 pub const FILE_NAME: &str = "isle.toml";
 
 /// What a manifest says.
-#[derive(Debug, Drop)]
+#[derive(Drop)]
 pub struct Manifest {
     /// The programs, in order. No two have one name.
     pub programs: Vec<ProgramFiles>,
@@ -39,7 +39,7 @@ pub struct Manifest {
 }
 
 /// A program.
-#[derive(Debug, Drop)]
+#[derive(Drop)]
 pub struct ProgramFiles {
     /// Its name, which is not empty.
     pub name: String,
@@ -50,7 +50,7 @@ pub struct ProgramFiles {
 }
 
 /// Why there is no manifest.
-#[derive(Debug, Drop)]
+#[derive(Drop)]
 pub enum ManifestFault {
     /// Out of memory.
     Memory,

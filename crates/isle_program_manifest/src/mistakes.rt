@@ -21,7 +21,7 @@ use toml::value::Array;
 use toml::{Table, Value};
 
 /// What kind of mistake it is.
-#[derive(Clone, Copy, Debug)]
+#[derive(Clone, Copy)]
 pub(crate) enum Kind {
     /// A key that a manifest does not have.
     UnknownKey,
@@ -46,7 +46,7 @@ pub(crate) enum Kind {
 }
 
 /// A mistake.
-#[derive(Clone, Copy, Debug)]
+#[derive(Clone, Copy)]
 pub(crate) struct Mistake<'a> {
     pub kind: Kind,
     /// The key that the mistake is about, or the path or the name.

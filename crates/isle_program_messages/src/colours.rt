@@ -17,7 +17,7 @@ use std::alloc::{AllocError, Global};
 pub const COLOUR_OPTION: &str = "--color";
 
 /// When lines for people have colours.
-#[derive(Clone, Copy, Debug)]
+#[derive(Clone, Copy)]
 pub enum Colour {
     /// Where a terminal shows them.
     Auto,

@@ -12,7 +12,7 @@ use isle_cli::arguments::{Argument, setting_of};
 pub const FORMAT_OPTION: &str = "--message-format";
 
 /// How messages are written.
-#[derive(Clone, Copy, Debug)]
+#[derive(Clone, Copy)]
 pub enum Format {
     /// Lines for people: `FILE:LINE:COLUMN: SEVERITY: MESSAGE [KIND]`.
     Human,

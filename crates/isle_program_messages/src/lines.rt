@@ -18,7 +18,7 @@ use isle_cli::sources::Source;
 use std::alloc::{AllocError, Global};
 
 /// A place in a text: its line and its column, both counted from 1. Columns are in bytes.
-#[derive(Clone, Copy, Debug)]
+#[derive(Clone, Copy)]
 pub(crate) struct Place {
     pub line: usize,
     pub column: usize,

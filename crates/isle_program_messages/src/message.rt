@@ -7,7 +7,7 @@ ghost use Rattle.isle_program_messages.specs.Messages.{severity_word, shown_text
 use std::alloc::{AllocError, Global};
 
 /// How bad it is what a message tells.
-#[derive(Clone, Copy, Debug)]
+#[derive(Clone, Copy)]
 pub enum Severity {
     Error,
     Warning,
@@ -29,7 +29,7 @@ impl Severity {
 }
 
 /// A message about a place.
-#[derive(Clone, Copy, Debug)]
+#[derive(Clone, Copy)]
 pub struct Message<'a> {
     pub severity: Severity,
     /// The name of its kind, such as a lint; empty if it has none.

@@ -1,7 +1,7 @@
 use Rattle.std.proofs.Common.{◌≡◌, ◌==◌, ◌<◌, ℕ, List, Bool, [], ap, false, get_or, length, map, sym, true, ◌∙◌, arith}
 use Rattle.std.specs.List.{list_any}
 use Rattle.std.proofs.lemmas.List.{length-map}
-use Rattle.isle_check_cycles.specs.Walks.{ends_from}
+use Rattle.isle_check_recursion.specs.Walks.{ends_from}
 use Rattle.isle_check_recursion.specs.Recursion.{endless, endless_walk}
 use Rattle.isle_check_recursion.proofs.WalkLemmas.{same_step, walk_closes, walk_on}
 use Rattle.isle_check_recursion.proofs.walks.endless_walk.Goals as goal

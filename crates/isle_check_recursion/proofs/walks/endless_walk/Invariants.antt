@@ -1,5 +1,5 @@
 use Rattle.std.proofs.Common.{◌≡◌, ◌-◌, [], get_or, length, map}
-use Rattle.isle_check_cycles.specs.Walks.{ends_from}
+use Rattle.isle_check_recursion.specs.Walks.{ends_from}
 use Rattle.isle_check_recursion.specs.Recursion.{endless, endless_walk, walk}
 use Rattle.isle_check_recursion.proofs.walks.endless_walk.Given as goal
 

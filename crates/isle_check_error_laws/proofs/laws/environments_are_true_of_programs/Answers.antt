@@ -1,5 +1,0 @@
-use Rattle.isle_check_error_laws.proofs.EnvironmentLaws.{environment_true}
-use Rattle.isle_check_error_laws.proofs.laws.environments_are_true_of_programs.Goals as goal
-
-pub returns : goal.returns
-returns c = environment_true

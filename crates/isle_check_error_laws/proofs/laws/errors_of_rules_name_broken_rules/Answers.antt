@@ -1,5 +1,0 @@
-use Rattle.isle_check_error_laws.proofs.RuleErrors.{rules_broken}
-use Rattle.isle_check_error_laws.proofs.laws.errors_of_rules_name_broken_rules.Goals as goal
-
-pub returns : goal.returns
-returns c = rules_broken

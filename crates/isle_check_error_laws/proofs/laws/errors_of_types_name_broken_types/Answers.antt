@@ -1,5 +1,0 @@
-use Rattle.isle_check_error_laws.proofs.TypeErrors.{types_broken}
-use Rattle.isle_check_error_laws.proofs.laws.errors_of_types_name_broken_types.Goals as goal
-
-pub returns : goal.returns
-returns c = types_broken

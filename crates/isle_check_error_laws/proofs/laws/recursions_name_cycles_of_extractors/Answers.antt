@@ -1,5 +1,0 @@
-use Rattle.isle_check_error_laws.proofs.RecursionErrors.{recursions_broken}
-use Rattle.isle_check_error_laws.proofs.laws.recursions_name_cycles_of_extractors.Goals as goal
-
-pub returns : goal.returns
-returns c = recursions_broken

@@ -1,5 +1,0 @@
-use Rattle.isle_check_finding_laws.proofs.Errors.{errors_broken}
-use Rattle.isle_check_finding_laws.proofs.laws.errors_name_what_is_broken.Goals as goal
-
-pub returns : goal.returns
-returns c = errors_broken

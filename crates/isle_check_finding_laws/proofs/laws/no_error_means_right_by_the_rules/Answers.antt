@@ -1,5 +1,0 @@
-use Rattle.isle_check_finding_laws.proofs.RightPrograms.{right}
-use Rattle.isle_check_finding_laws.proofs.laws.no_error_means_right_by_the_rules.Goals as goal
-
-pub returns : goal.returns
-returns c = right

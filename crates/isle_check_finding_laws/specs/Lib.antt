@@ -1,3 +1,0 @@
-pub mod BrokenOverlaps
-pub mod Broken
-pub mod NoErrors

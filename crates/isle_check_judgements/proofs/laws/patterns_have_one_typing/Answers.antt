@@ -1,5 +1,0 @@
-use Rattle.isle_check_judgements.proofs.PatternLaws.{one_typing}
-use Rattle.isle_check_judgements.proofs.laws.patterns_have_one_typing.Goals as goal
-
-pub returns : goal.returns
-returns c = one_typing

@@ -1,5 +1,0 @@
-use Rattle.isle_check_judgements.proofs.PatternSoundness.{sound}
-use Rattle.isle_check_judgements.proofs.laws.patterns_without_an_error_have_a_type.Goals as goal
-
-pub returns : goal.returns
-returns c = sound

@@ -1,5 +1,0 @@
-use Rattle.isle_check_judgements.proofs.ProgramLaws.{programs_typed}
-use Rattle.isle_check_judgements.proofs.laws.programs_without_an_error_are_right.Goals as goal
-
-pub returns : goal.returns
-returns c = programs_typed

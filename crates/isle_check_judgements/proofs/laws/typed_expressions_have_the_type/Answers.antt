@@ -1,5 +1,0 @@
-use Rattle.isle_check_judgements.proofs.ExpressionTypes.{type_kept}
-use Rattle.isle_check_judgements.proofs.laws.typed_expressions_have_the_type.Goals as goal
-
-pub returns : goal.returns
-returns c = type_kept

@@ -1,5 +1,0 @@
-use Rattle.isle_check_laws.proofs.ComparisonLaws.{apart_law}
-use Rattle.isle_check_laws.proofs.laws.constraints_are_apart_if_no_valuation_satisfies_both.Goals as goal
-
-pub returns : goal.returns
-returns c = apart_law

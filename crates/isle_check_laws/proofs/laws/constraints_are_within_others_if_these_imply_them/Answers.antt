@@ -1,5 +1,0 @@
-use Rattle.isle_check_laws.proofs.ComparisonLaws.{within_law}
-use Rattle.isle_check_laws.proofs.laws.constraints_are_within_others_if_these_imply_them.Goals as goal
-
-pub returns : goal.returns
-returns c = within_law

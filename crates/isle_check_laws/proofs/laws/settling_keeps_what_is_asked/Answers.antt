@@ -1,5 +1,0 @@
-use Rattle.isle_check_laws.proofs.UnsettlingLaws.{settled_back}
-use Rattle.isle_check_laws.proofs.laws.settling_keeps_what_is_asked.Goals as goal
-
-pub returns : goal.returns
-returns g c = λ w input cs ds es fs sweeps looks. settled_back w input looks sweeps cs es ds fs

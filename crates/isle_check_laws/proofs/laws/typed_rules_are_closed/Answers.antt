@@ -1,5 +1,0 @@
-use Rattle.isle_check_laws.proofs.ClosedRules.{closed_law}
-use Rattle.isle_check_laws.proofs.laws.typed_rules_are_closed.Goals as goal
-
-pub returns : goal.returns
-returns c = closed_law
