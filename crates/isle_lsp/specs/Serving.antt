@@ -5,11 +5,11 @@ use Rattle.serde_json.specs.Read.{read}
 use Rattle.isle_lsp_files.specs.Disks.{Asked, Moment, View, no_view}
 use Rattle.isle_lsp_files.specs.Documents.{Document, document, document_at, document_of, text_of, without}
 use Rattle.isle_lsp_files.specs.Texts.{is_together, program_of, programs_of}
-use Rattle.isle_lsp_protocol.specs.declared.machine.ErrorCode.TheVariants.{InvalidParams, MethodNotFound}
+use Rattle.isle_lsp_protocol.specs.declared.machine.ErrorCode.TheVariants.{InvalidParams, MethodNotFound, RequestFailed}
 use Rattle.isle_lsp_protocol.specs.declared.machine.Notification as notifications
 use Rattle.isle_lsp_protocol.specs.declared.machine.Notification.TheVariants.{Initialized, DidOpen, DidChange, DidClose, DidChangeWorkspaceFolders, DidChangeWatchedFiles}
 use Rattle.isle_lsp_protocol.specs.declared.machine.Request as requests
-use Rattle.isle_lsp_protocol.specs.declared.machine.Request.TheVariants.{Initialize, Shutdown, Document as Alone, Unknown}
+use Rattle.isle_lsp_protocol.specs.declared.machine.Request.TheVariants.{Initialize, Shutdown, Document as Alone, PrepareRename, Rename, Unknown}
 use Rattle.isle_lsp_protocol.specs.declared.machine.State.{State}
 use Rattle.isle_lsp_protocol.specs.declared.machine.Action as actions
 use Rattle.isle_lsp_protocol.specs.declared.machine.Action.TheVariants.{Ignore, Answer, Reject, Handle}
@@ -226,9 +226,20 @@ abbrev pub IsShallow : Option Data → Type 0
 IsShallow None = Unit {0}
 IsShallow (Some d) = depth d ≤ 127
 
+-- why a request is refused, whatever the texts are: it renames, or prepares that, and the settings of a folder are broken
+abbrev pub mistake_for : requests.Request → View → Option (List ℕ)
+mistake_for PrepareRename view = view.mistake
+mistake_for Rename view = view.mistake
+mistake_for request view = None
+
+-- the text replies to a request: with its outcome, unless it is refused
+abbrev pub IsReplyUnless : (mistake : Option (List ℕ)) → requests.Request → Option Data → Held → View → (text : List ℕ) → Type 0
+IsReplyUnless None request d held view text = (o : Outcome) × IsResultOf request d held view o × (read text ≡ Some (reply (reply_id d) o))
+IsReplyUnless (Some mistake) request d held view text = read text ≡ Some (replies.error_response (reply_id d) RequestFailed mistake)
+
 -- the text replies to a request
 abbrev pub IsReply : requests.Request → Option Data → Held → View → (text : List ℕ) → Type 0
-IsReply request d held view text = (o : Outcome) × IsResultOf request d held view o × (read text ≡ Some (reply (reply_id d) o))
+IsReply request d held view text = IsReplyUnless (mistake_for request view) request d held view text
 
 -- the messages that an action sends, with the state after it and what the disk showed
 abbrev pub Sends : actions.Action → Option Data → Held → View → List (List ℕ) → Type 0

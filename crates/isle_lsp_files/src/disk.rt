@@ -28,6 +28,8 @@ pub struct View {
     pub files: Vec<File>,
     /// The programs that they make, each as a list of paths.
     pub programs: Vec<Vec<String>>,
+    /// Why nothing is renamed: the mistake in the nearest `isle.toml` of a folder, if there is one.
+    pub mistake: Option<String>,
 }
 
 impl View {
@@ -39,6 +41,7 @@ impl View {
             file: String::new(alloc),
             files: Vec::new(alloc),
             programs: Vec::new(alloc),
+            mistake: None,
         }
     }
 }

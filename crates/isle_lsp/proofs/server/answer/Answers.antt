@@ -4,7 +4,7 @@ use Rattle.isle_lsp_files.specs.Disks.{view_of}
 use Rattle.isle_lsp_protocol.specs.Replies.{IsTextOf, outcome_of, reply}
 use Rattle.isle_lsp.specs.Serving.{held_of}
 use Rattle.isle_lsp.proofs.Depths.{reply_reads}
-use Rattle.isle_lsp.proofs.server.response.Goals as goal
+use Rattle.isle_lsp.proofs.server.answer.Goals as goal
 
 pub returns-clause-ok : goal.returns-clause-ok
 returns-clause-ok c = λ shallow.
