@@ -1,9 +1,9 @@
 -- The server's handling of a message.
-use Rattle.std.specs.Prelude.{◌≡◌, ◌≤◌, ℕ, List, [], ◌∷◌, ◌++◌, Bool, false, true, ◌&&◌, ◌||◌, not, Option, None, Some, bytes_eq, filter, is_some, map, option_and_then, string_bytes}
+use Rattle.std.specs.Prelude.{◌≡◌, ◌≤◌, ℕ, ℤ, List, [], ◌∷◌, ◌++◌, Bool, false, true, ◌&&◌, ◌||◌, not, Option, None, Some, bytes_eq, filter, is_some, map, option_and_then, option_map, string_bytes}
 use Rattle.serde_json.specs.Data.{Data, depth, null}
 use Rattle.serde_json.specs.Read.{read}
 use Rattle.isle_lsp_files.specs.Disks.{Asked, Moment, View, no_view}
-use Rattle.isle_lsp_files.specs.Documents.{Document, document, document_at, document_of, text_of, without}
+use Rattle.isle_lsp_files.specs.Documents.{Document, document, document_at, document_of, without}
 use Rattle.isle_lsp_files.specs.Texts.{is_together, program_of, programs_of}
 use Rattle.isle_lsp_protocol.specs.declared.machine.ErrorCode.TheVariants.{InvalidParams, MethodNotFound, RequestFailed}
 use Rattle.isle_lsp_protocol.specs.declared.machine.Notification as notifications
@@ -167,10 +167,19 @@ abbrev pub watches_after : actions.Action → Option Data → Bool → Bool
 watches_after (Answer Initialize) (Some d) watches = parameters.watches_files d
 watches_after action d watches = watches
 
+-- the version of a document, if it is open and the client gave one
+abbrev pub version_of : Option Document → Option ℤ
+version_of document = option_and_then (λ d. d.version) document
+
+-- the text of a document, if it is open
+abbrev pub text_of : Option Document → Option (List ℕ)
+text_of document = option_map (λ d. d.text) document
+
 -- the text publishes the diagnostics of a document, which is this file, or none if it is not open: those of its text, and those of the programs
 -- that have the file, as their files are open or as the disk shows them
 abbrev pub IsReport : List Document → View → (uri file text : List ℕ) → Type 0
-IsReport docs view uri file text = IsPublished uri (programs_of docs view file) file (text_of uri docs) text
+IsReport docs view uri file text =
+    IsPublished uri (version_of (document_at uri docs)) (programs_of docs view file) file (text_of (document_at uri docs)) text
 
 abbrev pub is_named : Option (List ℕ) → Document → Bool
 is_named None d = false
