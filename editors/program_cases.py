@@ -14,6 +14,7 @@ files = ["prelude.isle", "isa/x64/lower.isle"]
 name = "arm"
 files = ["prelude.isle", "isa/arm/lower.isle", "made/absent.isle"]
 """
+MANY = "".join(f'[[program]]\nname = "{it}"\nfiles = ["{it}.isle"]\n' for it in range(10))
 MISTAKEN = TOML.replace("files", "file", 1)
 FOLDERS = TOML.replace("isa/x64/lower.isle", "isa/x64").replace("isa/arm/lower.isle", "isa/arm/*.isle")
 X64_FILE, ARM_FILE = "isa/x64/lower.isle", "isa/arm/lower.isle"
@@ -187,6 +188,22 @@ PROGRAMS = [
             ("references", "two/a.isle", "foo", "two/a.isle:2:7", "two/b.isle:1:8"),
         ],
         {"workspaceFolders": BOTH},
+    ),
+    Case(
+        "programs: requests that alternate between programs, more than the server keeps indexes of, while texts change",
+        {"isle.toml": MANY, **{f"{it}.isle": B + "\n" * it + A for it in range(10)}},
+        [
+            *[("definition", f"{it}.isle", "foo", f"{it}.isle:{it + 3}:7") for it in [*range(10), *range(10)]],
+            ("write", "3.isle", B + "\n" * 20 + A),
+            ("definition", "3.isle", "foo", "3.isle:23:7"),
+            ("definition", "2.isle", "foo", "2.isle:5:7"),
+            ("open", "2.isle"),
+            ("insert", "2.isle", "", "\n"),
+            ("definition", "3.isle", "foo", "3.isle:23:7"),
+            ("definition", "2.isle", "foo", "2.isle:6:7"),
+            *[("rename", f"{it}.isle", "foo", "bar", {f"{it}.isle": B_BAR + "\n" * it + A_BAR}) for it in (0, 9, 1)],
+            ("definition", "0.isle", "bar", "0.isle:3:7"),
+        ],
     ),
     Case(
         "programs: without isle.toml a folder that declares no term twice is one program",

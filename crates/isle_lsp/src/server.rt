@@ -71,7 +71,7 @@ impl Server {
 /// it.
 #[derive(Drop)]
 pub struct Kept {
-    /// The index of the program that was asked about last.
+    /// The indexes of the programs that were asked about last.
     pub gathered: Gathered,
     /// What was found in the programs that were checked last.
     pub checks: Checks,

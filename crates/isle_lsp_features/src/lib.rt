@@ -68,8 +68,8 @@ pub struct Question<'a> {
 /// Answers a request about the names of a program.
 ///
 /// A text that does not parse contributes what the module `pieces` knows of it. While there is one,
-/// `rename` and `prepareRename` fail. Only texts that differ from those of the last request are
-/// parsed. The only `Err` is `Memory`.
+/// `rename` and `prepareRename` fail. Only texts that differ from those of the last request about
+/// the same files are parsed. The only `Err` is `Memory`.
 pub fn answer<'a>(
     alloc: Global,
     gathered: &mut Gathered,

@@ -2,7 +2,7 @@ use Rattle.std.proofs.Common.{ℕ, ap, map, subst, sym, ◌∙◌}
 use Rattle.isle_lsp_features.specs.Programs.{text_of}
 use Rattle.isle_lsp_features.specs.Gathered.{IsGathered, kept_of, refused_in}
 use Rattle.isle_lsp_features.proofs.Renewing.{gathered-of}
-use Rattle.isle_lsp_features.proofs.gathered.Gathered.answer.Goals as goal
+use Rattle.isle_lsp_features.proofs.gathered.Indexed.answer.Goals as goal
 
 pub answer_from-requires : goal.answer_from-requires
 answer_from-requires c =
