@@ -302,8 +302,9 @@ fn with_all(alloc: Global, uris: Vec<String>, added: &[String]) -> Result<Vec<St
     Ok(all)
 }
 
+/// Reads a position.
 #[tactic(auto, unfolding(crate::specs::Parameters::position_in))]
-fn position_in(value: &Value) -> Option<Position>
+pub fn position_in(value: &Value) -> Option<Position>
     ensures { result ≡ wanted.position_in (view value.now) }
 {
     let line = value.get("line").and_then(Value::as_u64);

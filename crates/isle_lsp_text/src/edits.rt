@@ -73,8 +73,8 @@ fn line_edits(alloc: Global, old: &str, new: &str) -> Result<Vec<Edit>, AllocErr
     Ok(edits)
 }
 
-/// The offset after the line that begins at `start`.
-fn next_line(text: &[u8], start: usize) -> usize
+/// The offset after the line that begins at `start`. Lines end with LF here.
+pub fn next_line(text: &[u8], start: usize) -> usize
     requires { start ≤ length text.now }
     ensures order { start ≤ result }
     ensures within { result ≤ length text.now }
