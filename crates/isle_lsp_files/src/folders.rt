@@ -7,7 +7,7 @@ use isle_cli::folders::files_of;
 use isle_cli::messages::message_line;
 use isle_cli::patterns::covers;
 use isle_cli::sources::{SourceFault, read_file};
-use isle_lsp_escapes::uris::{path_of, uri_of};
+use isle_lsp_frames::uris::{path_of, uri_of};
 use isle_program_manifest::disk::{NOBODY, find, is_listed, paths_of};
 use isle_program_manifest::manifest::{Manifest, ManifestFault, ProgramFiles, manifest_of};
 use isle_program_manifest::membership::has_file;

@@ -6,7 +6,7 @@ ghost use Rattle.serde_json.specs.Find.{as_array, as_str, pointer};
 ghost use Rattle.serde_json.specs.View.{items_view, view};
 ghost use Rattle.isle_lsp_protocol.specs.Parameters as wanted;
 
-use isle_lsp_escapes::uris;
+use isle_lsp_frames::uris;
 use isle_lsp_text::changes::apply_change;
 use isle_lsp_text::positions::{Position, Range};
 use serde_json::Value;

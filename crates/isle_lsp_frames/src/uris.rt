@@ -3,7 +3,7 @@
 ghost use Rattle.std.specs.Prelude.{◌≡◌, ℕ, ◌==◌, List, Some, true, false, IfOk, IsUtf8};
 ghost use Rattle.std.specs.Prelude.{option_map, string_bytes};
 ghost use Rattle.std.specs.List.{list_any};
-ghost use Rattle.isle_lsp_escapes.specs.Uris as wanted;
+ghost use Rattle.isle_lsp_frames.specs.Uris as wanted;
 
 use percent_encoding::{AsciiSet, CONTROLS, ascii_set, percent_decode, utf8_percent_encode};
 use std::alloc::{AllocError, Global};

@@ -13,8 +13,8 @@ use Rattle.percent_encoding.specs.AsciiSet.{contains, should_percent_encode}
 use Rattle.percent_encoding.specs.Percent.{percent_decode, percent_encode}
 use Rattle.percent_encoding.proofs.AsciiSetLemmas.{escaped_from_inside, kept_from_outside}
 use Rattle.percent_encoding.proofs.PercentLemmas.{All-percent_encode, IsByte, IsEscapeByte, percent_encode_kept, round_trip}
-use Rattle.isle_lsp_escapes.specs.Uris.{bare, is_absolute, path_after, path_in, path_with, uri_of, without_host}
-use Rattle.isle_lsp_escapes.specs.declared.uris.TheConstants.{ESCAPED}
+use Rattle.isle_lsp_frames.specs.Uris.{bare, is_absolute, path_after, path_in, path_with, uri_of, without_host}
+use Rattle.isle_lsp_frames.specs.declared.uris.TheConstants.{ESCAPED}
 
 -- ---- the part before a query
 

@@ -1,6 +1,6 @@
 use Rattle.std.proofs.Common.{◌++◌, ap, ◌∙◌, append_assoc, sym}
-use Rattle.isle_lsp_escapes.proofs.Mendings.{mended_short, mended_step, run_kept}
-use Rattle.isle_lsp_escapes.proofs.mending.mended.Goals as goal
+use Rattle.isle_lsp_frames.proofs.Mendings.{mended_short, mended_step, run_kept}
+use Rattle.isle_lsp_frames.proofs.mending.mended.Goals as goal
 
 pub loop-rest-preserved-then-run-gt0 : goal.loop-rest-preserved-then-run-gt0
 loop-rest-preserved-then-run-gt0 c =

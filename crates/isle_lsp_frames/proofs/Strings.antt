@@ -4,8 +4,8 @@ use Rattle.std.specs.Char.{digit_value, is_digit, encode_utf8}
 use Rattle.std.proofs.lemmas.Bool.{and_parts, cases_Bool, cond-false, cond-true, false_from_ne_true, ltb-true}
 use Rattle.std.proofs.lemmas.Bool.Decides.{nat_tests}
 use Rattle.json.specs.Text.{after_high, code_unit, content, is_high_surrogate, is_low_surrogate, plain, prepend, short_escape, surrogate_pair}
-use Rattle.isle_lsp_escapes.specs.Mending.{is_half, is_high, is_lone, is_low, mended_after}
-use Rattle.isle_lsp_escapes.proofs.Mendings.{byte_kept, escape_is, half_is, mended_short}
+use Rattle.isle_lsp_frames.specs.Mending.{is_half, is_high, is_lone, is_low, mended_after}
+use Rattle.isle_lsp_frames.proofs.Mendings.{byte_kept, escape_is, half_is, mended_short}
 
 -- ---- what mending keeps
 

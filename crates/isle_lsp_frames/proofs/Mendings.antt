@@ -1,7 +1,7 @@
 -- Mending, one step after another.
 use Rattle.std.proofs.Common.{◌≡◌, ℕ, ◌<◌, ◌≤◌, List, [], ◌∷◌, ◌++◌, length, take, drop, Bool, true, false, ◌||◌, ◌==◌, inl, inr, arith, refl, ap, ◌∙◌, if◌then◌else◌, zero, suc, get_or, sym, length-append}
 use Rattle.std.proofs.lemmas.Bool.{cases_Bool}
-use Rattle.isle_lsp_escapes.specs.Mending.{front_len, is_half, is_high, is_lone, is_low, mended_after, mended_front, replacement}
+use Rattle.isle_lsp_frames.specs.Mending.{front_len, is_half, is_high, is_lone, is_low, mended_after, mended_front, replacement}
 
 or_false : (x y : Bool) → (x || y) ≡ false → (x ≡ false) × (y ≡ false)
 or_false false false h = (refl, refl)

@@ -7,7 +7,7 @@ ghost use Rattle.std.specs.Prelude.{◌≡◌, ◌≤◌, ◌<◌, ◌==◌, ℕ
 ghost use Rattle.std.specs.Prelude.{false, length, slice_index};
 ghost use Rattle.std.specs.Char.{digit_value};
 ghost use Rattle.json.specs.Text.{content, plain};
-ghost use Rattle.isle_lsp_escapes.specs.Mending as wanted;
+ghost use Rattle.isle_lsp_frames.specs.Mending as wanted;
 
 use std::alloc::{AllocError, Global};
 

@@ -3,7 +3,7 @@ use Rattle.std.specs.Prelude.{ℕ, List, [], ◌∷◌, ◌++◌, length, take, 
 use Rattle.std.specs.List.{list_any}
 use Rattle.std.specs.Str.{is_utf8, str_eq_ignore_ascii_case}
 use Rattle.percent_encoding.specs.Percent.{percent_decode, percent_encode}
-use Rattle.isle_lsp_escapes.specs.declared.uris.TheConstants.{ESCAPED}
+use Rattle.isle_lsp_frames.specs.declared.uris.TheConstants.{ESCAPED}
 
 -- the URI of the file at a path
 unfoldable pub uri_of : List ℕ → List ℕ
