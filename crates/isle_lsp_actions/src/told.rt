@@ -14,7 +14,7 @@ use serde_json::Value;
 const SOURCE: &str = "isle";
 
 /// What a diagnostic of a lint tells about a text.
-#[derive(Clone, Copy, Debug)]
+#[derive(Clone, Copy)]
 pub struct Told {
     /// The lint.
     pub lint: Lint,

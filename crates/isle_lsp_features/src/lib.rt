@@ -38,7 +38,7 @@ use serde_json::Value;
 use std::alloc::{AllocError, Global};
 
 /// A text of a program.
-#[derive(Clone, Copy, Debug)]
+#[derive(Clone, Copy)]
 pub struct Text<'a> {
     /// Its URI, as the client spells it.
     pub uri: &'a str,
@@ -53,7 +53,7 @@ pub struct Text<'a> {
 }
 
 /// A request about the names of a program.
-#[derive(Clone, Copy, Debug)]
+#[derive(Clone, Copy)]
 pub struct Question<'a> {
     /// The request.
     pub request: Request,

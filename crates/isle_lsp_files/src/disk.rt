@@ -9,7 +9,7 @@ use crate::documents::Document;
 use std::alloc::{AllocError, Global};
 
 /// A file on the disk.
-#[derive(Debug, Drop)]
+#[derive(Drop)]
 pub struct File {
     /// Its real path, without links.
     pub path: String,
@@ -20,7 +20,7 @@ pub struct File {
 }
 
 /// What a look at the disk shows.
-#[derive(Debug, Drop)]
+#[derive(Drop)]
 pub struct View {
     /// The file that a URI names: its real path, or the URI itself if it names none.
     pub file: String,

@@ -9,7 +9,7 @@ ghost use Rattle.isle_lsp_files.specs.Documents.{without};
 use std::alloc::{AllocError, Global};
 
 /// An open document.
-#[derive(Debug, Drop)]
+#[derive(Drop)]
 pub struct Document {
     /// The URI by which the editor names it.
     pub uri: String,

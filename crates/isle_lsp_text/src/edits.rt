@@ -8,7 +8,7 @@ ghost use Rattle.isle_lsp_text.specs.Edits.{first_line, part};
 use std::alloc::{AllocError, Global};
 
 /// An edit: a part of the new text replaces a part of the old one. Offsets count bytes.
-#[derive(Clone, Copy, Debug, PartialEq, Eq)]
+#[derive(Clone, Copy)]
 pub struct Edit {
     /// The start of the part of the old text.
     pub start: usize,
