@@ -14,6 +14,8 @@ files = ["prelude.isle", "isa/x64/lower.isle"]
 name = "arm"
 files = ["prelude.isle", "isa/arm/lower.isle", "made/absent.isle"]
 """
+MANY = "".join(f'[[program]]\nname = "{it}"\nfiles = ["{it}.isle"]\n' for it in range(10))
+MISTAKEN = TOML.replace("files", "file", 1)
 FOLDERS = TOML.replace("isa/x64/lower.isle", "isa/x64").replace("isa/arm/lower.isle", "isa/arm/*.isle")
 X64_FILE, ARM_FILE = "isa/x64/lower.isle", "isa/arm/lower.isle"
 TREE = {"prelude.isle": PRELUDE, X64_FILE: X64, ARM_FILE: ARM}
@@ -148,7 +150,60 @@ PROGRAMS = [
     Case(
         "programs: isle.toml that is no TOML does not end the server",
         {**TWO, "isle.toml": "[[program\n"},
-        [("definition", "a.isle", "foo", "a.isle:2:7"), ("remove", "isle.toml"), ("rename", "b.isle", "foo", "bar", TWO_BAR)],
+        [
+            ("definition", "a.isle", "foo", "a.isle:2:7"),
+            ("refused", "b.isle", "foo", "bar"),
+            ("remove", "isle.toml"),
+            ("rename", "b.isle", "foo", "bar", TWO_BAR),
+        ],
+    ),
+    Case(
+        "programs: isle.toml that has a mistake: nothing is renamed, and the reason tells it",
+        {**TREE, "isle.toml": MISTAKEN},
+        [
+            ("refused", X64_FILE, "lower", "low", "cannot rename: {root}/isle.toml:3:1: error: unknown key 'file'"),
+            ("definition", X64_FILE, "shared", "prelude.isle:2:7"),
+            ("references", ARM_FILE, "lower", f"{ARM_FILE}:2:7", f"{ARM_FILE}:3:8", f"{ARM_FILE}:3:27"),
+            ("open", X64_FILE),
+            ("refused", X64_FILE, "lower", "low", "cannot rename: {root}/isle.toml:3:1: error: unknown key 'file'"),
+            ("write", "isle.toml", TOML),
+            ("rename", X64_FILE, "lower#2", "low", {X64_FILE: renames(X64, "lower", "low")}),
+            ("write", "isle.toml", MISTAKEN),
+            ("refused", ARM_FILE, "lower", "low", "cannot rename: {root}/isle.toml:3:1: error: unknown key 'file'"),
+        ],
+    ),
+    Case(
+        "programs: isle.toml that can't be read: nothing is renamed",
+        {**TWO, "isle.toml": b"\xff\n"},
+        [
+            ("refused", "b.isle", "foo", "bar", "cannot rename: {root}/isle.toml: cannot be read"),
+            ("references", "a.isle", "foo", "a.isle:2:7", "b.isle:1:8"),
+        ],
+    ),
+    Case(
+        "programs: isle.toml that has a mistake, in one of two folders: nothing is renamed in either",
+        {**{f"one/{path}": text for path, text in {**TREE, "isle.toml": MISTAKEN}.items()}, "two/a.isle": A, "two/b.isle": B},
+        [
+            ("refused", "two/b.isle", "foo", "bar", "cannot rename: {root}/one/isle.toml:3:1: error: unknown key 'file'"),
+            ("references", "two/a.isle", "foo", "two/a.isle:2:7", "two/b.isle:1:8"),
+        ],
+        {"workspaceFolders": BOTH},
+    ),
+    Case(
+        "programs: requests that alternate between programs, more than the server keeps indexes of, while texts change",
+        {"isle.toml": MANY, **{f"{it}.isle": B + "\n" * it + A for it in range(10)}},
+        [
+            *[("definition", f"{it}.isle", "foo", f"{it}.isle:{it + 3}:7") for it in [*range(10), *range(10)]],
+            ("write", "3.isle", B + "\n" * 20 + A),
+            ("definition", "3.isle", "foo", "3.isle:23:7"),
+            ("definition", "2.isle", "foo", "2.isle:5:7"),
+            ("open", "2.isle"),
+            ("insert", "2.isle", "", "\n"),
+            ("definition", "3.isle", "foo", "3.isle:23:7"),
+            ("definition", "2.isle", "foo", "2.isle:6:7"),
+            *[("rename", f"{it}.isle", "foo", "bar", {f"{it}.isle": B_BAR + "\n" * it + A_BAR}) for it in (0, 9, 1)],
+            ("definition", "0.isle", "bar", "0.isle:3:7"),
+        ],
     ),
     Case(
         "programs: without isle.toml a folder that declares no term twice is one program",

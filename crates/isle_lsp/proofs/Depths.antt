@@ -3,9 +3,6 @@ use Rattle.std.proofs.Common.{◌≡◌, ℕ, ◌≤◌, inl, inr, Bool, List, O
 use Rattle.serde_json.specs.Data.{Data, depth}
 use Rattle.serde_json.specs.Read.{read}
 use Rattle.serde_json.proofs.Nesting.{depth-read}
-use Rattle.isle_lsp_diagnostics.specs.Published.{range_of}
-use Rattle.isle_lsp_text.specs.Edits.{part}
-use Rattle.isle_lsp_text.specs.declared.edits.Edit.{Edit}
 use Rattle.isle_lsp_actions.proofs.Depths.{answer_depth}
 use Rattle.isle_lsp_actions.specs.Answers.{AreActions}
 use Rattle.isle_lsp_colours.proofs.Depths.{tokens_shallow}
@@ -26,10 +23,10 @@ use Rattle.isle_lsp_protocol.specs.Replies.{IsTextOf, Outcome, error_response, f
 use Rattle.isle_lsp_protocol.specs.declared.machine.ErrorCode.{ErrorCode}
 use Rattle.isle_lsp_protocol.specs.declared.machine.Request as requests
 use Rattle.isle_lsp_protocol.specs.declared.machine.Request.TheVariants.{Initialize, Shutdown, Document as Alone, DocumentSymbol, WorkspaceSymbol, Definition, References, DocumentHighlight, Hover, Completion, ResolveCompletion, PrepareRename, Rename, Unknown}
-use Rattle.isle_lsp_protocol.proofs.Depths.{IsWithin, at_most, initialized_depth, items_shallow, map_shallow, reply_depth, text_edit_depth, within}
+use Rattle.isle_lsp_protocol.proofs.Depths.{IsWithin, at_most, initialized_depth, reply_depth, within}
 use Rattle.isle_lsp_features.proofs.Depths.{IsAboutNames, answer_within}
 use Rattle.isle_lsp.specs.Alone.{Gives, GivesAt, GivesWithin, IsAlone, IsFormattingWithin, IsOfDocument}
-use Rattle.isle_lsp.specs.Formatted.{IsFormatting, edit_data, edits_data}
+use Rattle.isle_lsp.specs.Formatted.{IsFormatting}
 use Rattle.isle_lsp.specs.Serving.{Held, IsNamed, IsResult, IsResultOf, IsShallow, document_in, question}
 
 -- what was decoded nests no deeper than JSON is read
@@ -37,12 +34,9 @@ pub decoded : (body : List ℕ) (json : Option Data) → Decodes body json → I
 decoded body None d = tt
 decoded body (Some x) d = omega (arith, depth-read _ x d.1)
 
-edits_depth : (old new : List ℕ) (es : List Edit) → depth (edits_data old new es) ≤ 126
-edits_depth old new es = omega (arith, items_shallow 4 _ (map_shallow 4 (edit_data old new) es (λ e. text_edit_depth (range_of old e.start e.end) (part new e.from e.to))))
-
 formatting_depth : (text : List ℕ) (d : Data) → IsFormatting text d → depth d ≤ 126
 formatting_depth text d (inl h) = at_most 126 _ _ h.1 (omega arith)
-formatting_depth text d (inr (tidy, is_tidy, change)) = at_most 126 _ _ change.2 (edits_depth text tidy change.0)
+formatting_depth text d (inr (tidy, is_tidy, change)) = at_most 126 _ _ change.2 (omega (arith, ranges.edits_depth text tidy change.0))
 
 lines_depth : (text : List ℕ) (range : Range) (d : Data) → IsFormattingWithin text range d → depth d ≤ 126
 lines_depth text range d (inl h) = at_most 126 _ _ h.1 (omega arith)

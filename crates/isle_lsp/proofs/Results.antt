@@ -1,12 +1,14 @@
 -- What the requests about names get.
-use Rattle.std.proofs.Common.{◌≡◌, Some, refl}
+use Rattle.std.proofs.Common.{◌≡◌, ℕ, List, None, Option, Some, refl, subst, sym}
 use Rattle.serde_json.specs.Data.{Data}
+use Rattle.serde_json.specs.Read.{read}
 use Rattle.isle_lsp_protocol.specs.declared.machine.DocumentRequest.{DocumentRequest}
 use Rattle.isle_lsp_protocol.specs.declared.machine.Request as requests
 use Rattle.isle_lsp_protocol.specs.declared.machine.Request.TheVariants.{Initialize, Shutdown, Document, DocumentSymbol, WorkspaceSymbol, Definition, References, DocumentHighlight, Hover, Completion, ResolveCompletion, PrepareRename, Rename, Unknown}
-use Rattle.isle_lsp_protocol.specs.Replies.{Outcome}
+use Rattle.isle_lsp_protocol.specs.Replies.{Outcome, error_response, reply_id}
+use Rattle.isle_lsp_protocol.specs.declared.machine.ErrorCode.TheVariants.{RequestFailed}
 use Rattle.isle_lsp_files.specs.Disks.{Asked, View}
-use Rattle.isle_lsp.specs.Serving.{Held, IsNamed, IsResult, asked_for}
+use Rattle.isle_lsp.specs.Serving.{Held, IsNamed, IsReplyUnless, IsResult, asked_for, mistake_for}
 
 pub named_result : (request : requests.Request) (d : Data) (held : Held) (view : View) (o : Outcome) → (request ≡ Initialize → ⊥) → (request ≡ Shutdown → ⊥) → ((alone : DocumentRequest) → request ≡ Document alone → ⊥) → (request ≡ Unknown → ⊥) → IsNamed request d held view o → IsResult request d held view o
 named_result Initialize d held view o a b c e n = absurd (a refl)
@@ -40,3 +42,30 @@ named_asks Completion question a b c e = refl
 named_asks ResolveCompletion question a b c e = refl
 named_asks PrepareRename question a b c e = refl
 named_asks Rename question a b c e = refl
+
+-- a request that does not rename is not refused for settings that are broken
+pub no_mistake : (request : requests.Request) (view : View) → (request ≡ Rename → ⊥) → (request ≡ PrepareRename → ⊥) → None ≡ mistake_for request view
+no_mistake Rename view a b = absurd (a refl)
+no_mistake PrepareRename view a b = absurd (b refl)
+no_mistake Initialize view a b = refl
+no_mistake Shutdown view a b = refl
+no_mistake (Document alone) view a b = refl
+no_mistake Unknown view a b = refl
+no_mistake DocumentSymbol view a b = refl
+no_mistake WorkspaceSymbol view a b = refl
+no_mistake Definition view a b = refl
+no_mistake References view a b = refl
+no_mistake DocumentHighlight view a b = refl
+no_mistake Hover view a b = refl
+no_mistake Completion view a b = refl
+no_mistake ResolveCompletion view a b = refl
+
+-- the reply to a request that is refused
+pub replies_refused : (request : requests.Request) (json : Option Data) (held : Held) (view : View) (mistake text : List ℕ) → mistake_for request view ≡ Some mistake
+    → read text ≡ Some (error_response (reply_id json) RequestFailed mistake) → IsReplyUnless (mistake_for request view) request json held view text
+replies_refused request json held view mistake text is h = subst (λ m. IsReplyUnless m request json held view text) (sym is) h
+
+-- the reply to one that is not
+pub replies_answered : (request : requests.Request) (json : Option Data) (held : Held) (view : View) (text : List ℕ) → mistake_for request view ≡ None
+    → IsReplyUnless None request json held view text → IsReplyUnless (mistake_for request view) request json held view text
+replies_answered request json held view text is h = subst (λ m. IsReplyUnless m request json held view text) (sym is) h

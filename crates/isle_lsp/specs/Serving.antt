@@ -1,15 +1,15 @@
 -- The server's handling of a message.
-use Rattle.std.specs.Prelude.{◌≡◌, ◌≤◌, ℕ, List, [], ◌∷◌, ◌++◌, Bool, false, true, ◌&&◌, ◌||◌, not, Option, None, Some, bytes_eq, filter, is_some, map, option_and_then, string_bytes}
+use Rattle.std.specs.Prelude.{◌≡◌, ◌≤◌, ℕ, ℤ, List, [], ◌∷◌, ◌++◌, Bool, false, true, ◌&&◌, ◌||◌, not, Option, None, Some, bytes_eq, filter, is_some, map, option_and_then, option_map, string_bytes}
 use Rattle.serde_json.specs.Data.{Data, depth, null}
 use Rattle.serde_json.specs.Read.{read}
 use Rattle.isle_lsp_files.specs.Disks.{Asked, Moment, View, no_view}
-use Rattle.isle_lsp_files.specs.Documents.{Document, document, document_at, document_of, text_of, without}
+use Rattle.isle_lsp_files.specs.Documents.{Document, document, document_at, document_of, without}
 use Rattle.isle_lsp_files.specs.Texts.{is_together, program_of, programs_of}
-use Rattle.isle_lsp_protocol.specs.declared.machine.ErrorCode.TheVariants.{InvalidParams, MethodNotFound}
+use Rattle.isle_lsp_protocol.specs.declared.machine.ErrorCode.TheVariants.{InvalidParams, MethodNotFound, RequestFailed}
 use Rattle.isle_lsp_protocol.specs.declared.machine.Notification as notifications
 use Rattle.isle_lsp_protocol.specs.declared.machine.Notification.TheVariants.{Initialized, DidOpen, DidChange, DidClose, DidChangeWorkspaceFolders, DidChangeWatchedFiles}
 use Rattle.isle_lsp_protocol.specs.declared.machine.Request as requests
-use Rattle.isle_lsp_protocol.specs.declared.machine.Request.TheVariants.{Initialize, Shutdown, Document as Alone, Unknown}
+use Rattle.isle_lsp_protocol.specs.declared.machine.Request.TheVariants.{Initialize, Shutdown, Document as Alone, PrepareRename, Rename, Unknown}
 use Rattle.isle_lsp_protocol.specs.declared.machine.State.{State}
 use Rattle.isle_lsp_protocol.specs.declared.machine.Action as actions
 use Rattle.isle_lsp_protocol.specs.declared.machine.Action.TheVariants.{Ignore, Answer, Reject, Handle}
@@ -167,10 +167,19 @@ abbrev pub watches_after : actions.Action → Option Data → Bool → Bool
 watches_after (Answer Initialize) (Some d) watches = parameters.watches_files d
 watches_after action d watches = watches
 
+-- the version of a document, if it is open and the client gave one
+abbrev pub version_of : Option Document → Option ℤ
+version_of document = option_and_then (λ d. d.version) document
+
+-- the text of a document, if it is open
+abbrev pub text_of : Option Document → Option (List ℕ)
+text_of document = option_map (λ d. d.text) document
+
 -- the text publishes the diagnostics of a document, which is this file, or none if it is not open: those of its text, and those of the programs
 -- that have the file, as their files are open or as the disk shows them
 abbrev pub IsReport : List Document → View → (uri file text : List ℕ) → Type 0
-IsReport docs view uri file text = IsPublished uri (programs_of docs view file) file (text_of uri docs) text
+IsReport docs view uri file text =
+    IsPublished uri (version_of (document_at uri docs)) (programs_of docs view file) file (text_of (document_at uri docs)) text
 
 abbrev pub is_named : Option (List ℕ) → Document → Bool
 is_named None d = false
@@ -226,9 +235,20 @@ abbrev pub IsShallow : Option Data → Type 0
 IsShallow None = Unit {0}
 IsShallow (Some d) = depth d ≤ 127
 
+-- why a request is refused, whatever the texts are: it renames, or prepares that, and the settings of a folder are broken
+abbrev pub mistake_for : requests.Request → View → Option (List ℕ)
+mistake_for PrepareRename view = view.mistake
+mistake_for Rename view = view.mistake
+mistake_for request view = None
+
+-- the text replies to a request: with its outcome, unless it is refused
+abbrev pub IsReplyUnless : (mistake : Option (List ℕ)) → requests.Request → Option Data → Held → View → (text : List ℕ) → Type 0
+IsReplyUnless None request d held view text = (o : Outcome) × IsResultOf request d held view o × (read text ≡ Some (reply (reply_id d) o))
+IsReplyUnless (Some mistake) request d held view text = read text ≡ Some (replies.error_response (reply_id d) RequestFailed mistake)
+
 -- the text replies to a request
 abbrev pub IsReply : requests.Request → Option Data → Held → View → (text : List ℕ) → Type 0
-IsReply request d held view text = (o : Outcome) × IsResultOf request d held view o × (read text ≡ Some (reply (reply_id d) o))
+IsReply request d held view text = IsReplyUnless (mistake_for request view) request d held view text
 
 -- the messages that an action sends, with the state after it and what the disk showed
 abbrev pub Sends : actions.Action → Option Data → Held → View → List (List ℕ) → Type 0

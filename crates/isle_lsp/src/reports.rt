@@ -19,7 +19,7 @@ use crate::server::{Server, one};
 use isle_cli::failure::Failure;
 use isle_lsp_diagnostics::{Checks, publish_diagnostics};
 use isle_lsp_files::disk::View;
-use isle_lsp_files::documents::{Document, text_of};
+use isle_lsp_files::documents::{Document, document_at};
 use isle_lsp_files::texts::{is_together, programs_of};
 use isle_lsp_protocol::machine::Notification;
 use isle_lsp_protocol::parameters::uri_of;
@@ -175,5 +175,28 @@ fn publish(
     ensures err { IfErr result (λ failure. failure ≡ Memory) }
 {
     let programs = programs_of(alloc, documents, shown, file)?;
-    publish_diagnostics(alloc, checks, uri, &programs, file, text_of(documents, uri))
+    let document = document_at(documents, uri);
+    let (version, text) = (version_of(document), text_of(document));
+    publish_diagnostics(alloc, checks, uri, version, &programs, file, text)
+}
+
+/// The version of a document, if it is open and the client gave one.
+fn version_of(document: Option<&Document>) -> Option<i64>
+    ensures { result ≡ serving.version_of (option_map (λ d. document_of d.now) document.entry) }
+{
+    match document {
+        Some(document) => document.version,
+        None => None,
+    }
+}
+
+/// The text of a document, if it is open.
+fn text_of(document: Option<&Document>) -> Option<&str>
+    ensures { option_map (λ text. text.now) result
+        ≡ serving.text_of (option_map (λ d. document_of d.now) document.entry) }
+{
+    match document {
+        Some(document) => Some(document.text.as_str()),
+        None => None,
+    }
 }

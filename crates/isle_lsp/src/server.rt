@@ -1,6 +1,7 @@
 //! The state of the server, and its handlers of messages.
 
-ghost use Rattle.std.specs.Prelude.{◌≡◌, ◌∷◌, [], IfErr, IfOk, OnOk, Some, map, option_map};
+ghost use Rattle.std.specs.Prelude.{◌≡◌, ◌∷◌, [], IfErr, IfOk, None, OnOk, Some, map};
+ghost use Rattle.std.specs.Prelude.{option_map};
 ghost use Rattle.std.specs.Prelude.{string_bytes};
 ghost use Rattle.serde_json.specs.Read.{read};
 ghost use Rattle.serde_json.specs.View.{view};
@@ -16,7 +17,7 @@ ghost use Rattle.isle_lsp.specs.Serving as serving;
 ghost use Rattle.isle_lsp.specs.Serving.{IsNamed, IsReply, IsResult, IsResultOf, IsShallow, Sends};
 ghost use Rattle.isle_lsp.specs.Serving.{document_in, documents_after, documents_noted, held_of};
 ghost use Rattle.isle_lsp.specs.Serving.{documents_after_notification, folders_after, takes_after};
-ghost use Rattle.isle_lsp.specs.Serving.{watches_after};
+ghost use Rattle.isle_lsp.specs.Serving.{IsReplyUnless, watches_after};
 
 use crate::alone::outcome_alone;
 use crate::reports::handle;
@@ -70,7 +71,7 @@ impl Server {
 /// it.
 #[derive(Drop)]
 pub struct Kept {
-    /// The index of the program that was asked about last.
+    /// The indexes of the programs that were asked about last.
     pub gathered: Gathered,
     /// What was found in the programs that were checked last.
     pub checks: Checks,
@@ -189,7 +190,7 @@ fn initialize(alloc: Global, server: &mut Server, message: &Option<Value>) -> Re
     Ok(())
 }
 
-/// The text of an error response to a message.
+/// The text of an error response to a message, with the usual message of its code.
 fn error_response(
     alloc: Global,
     message: &Option<Value>,
@@ -198,8 +199,21 @@ fn error_response(
     ensures { IfOk result (λ text. read (string_bytes text) ≡ Some (replies_of.error_response
         (replies_of.reply_id (option_map view message.now)) code (replies_of.reason_of code))) }
 {
+    refusal(alloc, message, code, reason_of(code))
+}
+
+/// The text of an error response to a message.
+fn refusal(
+    alloc: Global,
+    message: &Option<Value>,
+    code: ErrorCode,
+    reason: &str,
+) -> Result<String, AllocError>
+    ensures { IfOk result (λ text. read (string_bytes text) ≡ Some (replies_of.error_response
+        (replies_of.reply_id (option_map view message.now)) code reason.now)) }
+{
     let id = reply_id(message)?;
-    replies::error_response(alloc, id, code, reason_of(code))
+    replies::error_response(alloc, id, code, reason)
 }
 
 /// Notes what a notification changes.
@@ -308,7 +322,8 @@ fn did_change(
     open(alloc, documents, uri, file, version_of(message), after)
 }
 
-/// The text of the response to a request.
+/// The text of the response to a request. Nothing is renamed while settings are broken, since they
+/// say which programs have a name.
 fn response(
     alloc: Global,
     server: &Server,
@@ -319,6 +334,47 @@ fn response(
 ) -> Result<String, Failure>
     ensures ok { IsShallow (option_map view message.now) → IfOk result (λ text. IsReply request
         (option_map view message.now) (held_of server.now) (view_of shown.now)
+        (string_bytes text)) }
+    ensures err { IfErr result (λ failure. failure ≡ Memory) }
+{
+    match mistake_for(request, shown) {
+        Some(mistake) => Ok(refusal(alloc, message, ErrorCode::RequestFailed, mistake)?),
+        None => answer(alloc, server, gathered, request, message, shown),
+    }
+}
+
+/// Why a request is refused, whatever the texts are: it renames, and settings are broken.
+fn mistake_for<'a>(request: Request, shown: &'a View) -> Option<&'a str>
+    ensures { option_map (λ mistake. mistake.now) result
+        ≡ serving.mistake_for request (view_of shown.now) }
+{
+    match request {
+        Request::Rename | Request::PrepareRename => mistake_in(shown),
+        _ => None,
+    }
+}
+
+/// Why nothing is renamed, if a view shows that settings are broken.
+fn mistake_in(shown: &View) -> Option<&str>
+    ensures { option_map (λ mistake. mistake.now) result ≡ option_map string_bytes shown.now.mistake }
+{
+    match &shown.mistake {
+        Some(mistake) => Some(mistake.as_str()),
+        None => None,
+    }
+}
+
+/// The text of the response to a request that is not refused.
+fn answer(
+    alloc: Global,
+    server: &Server,
+    gathered: &mut Gathered,
+    request: Request,
+    message: &Option<Value>,
+    shown: &View,
+) -> Result<String, Failure>
+    ensures ok { IsShallow (option_map view message.now) → IfOk result (λ text. IsReplyUnless None
+        request (option_map view message.now) (held_of server.now) (view_of shown.now)
         (string_bytes text)) }
     ensures err { IfErr result (λ failure. failure ≡ Memory) }
 {

@@ -17,7 +17,7 @@ use serde_json::Value;
 use std::alloc::{AllocError, Global};
 
 /// An action.
-#[derive(Debug, Drop)]
+#[derive(Drop)]
 pub struct Action {
     /// What the client shows.
     pub title: String,

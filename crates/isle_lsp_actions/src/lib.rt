@@ -27,7 +27,7 @@ use std::alloc::{AllocError, Global};
 use told::{diagnostics_in, wants_fixes};
 
 /// An open document.
-#[derive(Clone, Copy, Debug)]
+#[derive(Clone, Copy)]
 pub struct Document<'a> {
     /// Its URI, as the client spells it.
     pub uri: &'a str,

@@ -11,7 +11,7 @@ use isle_lsp_text::lists::ListSpan;
 use std::alloc::{AllocError, Global};
 
 /// A symbol.
-#[derive(Clone, Copy, Debug)]
+#[derive(Clone, Copy)]
 pub struct Name<'a> {
     /// The byte offset at which it begins.
     pub offset: usize,

@@ -4,9 +4,9 @@ ghost use Rattle.std.specs.Prelude.{◌≡◌, codes, option_and_then, option_ma
 ghost use Rattle.serde_json.specs.Find.{as_array, pointer};
 ghost use Rattle.serde_json.specs.View.{items_view, view};
 ghost use Rattle.isle_lsp_actions.specs.Told as wanted;
-ghost use Rattle.isle_lsp_protocol.specs.Parameters.{position_in};
 
 use isle_lint_core::Lint;
+use isle_lsp_protocol::parameters::position_in;
 use isle_lsp_text::positions::{Position, offset_of};
 use serde_json::Value;
 
@@ -14,7 +14,7 @@ use serde_json::Value;
 const SOURCE: &str = "isle";
 
 /// What a diagnostic of a lint tells about a text.
-#[derive(Clone, Copy, Debug)]
+#[derive(Clone, Copy)]
 pub struct Told {
     /// The lint.
     pub lint: Lint,
@@ -68,18 +68,6 @@ fn position_at(value: &Value, path: &str) -> Option<Position>
     ensures { result ≡ wanted.position_at path.now (view value.now) }
 {
     position_in(value.pointer(path)?)
-}
-
-#[tactic(auto, unfolding(isle_lsp_protocol::specs::Parameters::position_in))]
-fn position_in(value: &Value) -> Option<Position>
-    ensures { result ≡ position_in (view value.now) }
-{
-    let line = value.get("line").and_then(Value::as_u64)?;
-    let unit = value.get("character").and_then(Value::as_u64)?;
-    Some(Position {
-        line: line as usize,
-        unit: unit as usize,
-    })
 }
 
 /// The diagnostics that the client shows at the place of the request.

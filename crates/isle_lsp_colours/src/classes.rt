@@ -9,7 +9,7 @@ use serde_json::{Value, json};
 use std::alloc::{AllocError, Global};
 
 /// What a token is.
-#[derive(Clone, Copy, Debug, PartialEq, Eq)]
+#[derive(Clone, Copy)]
 pub enum TokenKind {
     /// A word of the language.
     Keyword,
@@ -30,7 +30,7 @@ pub enum TokenKind {
 }
 
 /// The class of a token.
-#[derive(Clone, Copy, Debug, PartialEq, Eq)]
+#[derive(Clone, Copy)]
 pub struct Class {
     /// What it is.
     pub kind: TokenKind,

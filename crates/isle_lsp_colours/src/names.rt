@@ -19,7 +19,7 @@ use std::alloc::{AllocError, Global};
 use std::slice;
 
 /// A name of a text.
-#[derive(Clone, Copy, Debug)]
+#[derive(Clone, Copy)]
 pub struct NameAt {
     /// The byte offset at which it begins.
     pub offset: usize,

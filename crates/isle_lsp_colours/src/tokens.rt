@@ -13,7 +13,7 @@ use isle_base::scanner::{Scanner, TokenRef};
 use std::alloc::{AllocError, Global};
 
 /// A token of a text that has a class.
-#[derive(Clone, Copy, Debug)]
+#[derive(Clone, Copy)]
 pub struct Token {
     /// The byte offset at which it begins.
     pub from: usize,

@@ -1,19 +1,20 @@
 -- Tokens that were written for diagnostics are read back as these.
-use Rattle.std.proofs.Common.{◌≡◌, ℕ, ◌^◌, ◌<◌, min, List, [], ◌∷◌, Some, length, map, refl, subst, arith}
+use Rattle.std.proofs.Common.{◌≡◌, ℕ, ℤ, ◌^◌, ◌<◌, min, List, [], ◌∷◌, Option, Some, SFits, w64, length, map, refl, subst, arith}
 use Rattle.serde_json.proofs.Numbers.{number_of-decimal}
 use Rattle.serde_json.specs.Read.{of_items}
 use Rattle.serde_json.specs.View.{items_of}
 use Rattle.serde_json.specs.Written.{items_outline}
 use Rattle.isle_lint_core.specs.Lint.{name}
 use Rattle.isle_lsp_diagnostics.specs.Marks.{Finder, Mark, check, lint, parser}
+use Rattle.isle_lsp_protocol.proofs.Ids.{integer_reads}
 use Rattle.isle_lsp_protocol.proofs.Readings.{checked_reads, error_reads, position_reads, range_reads, warning_reads}
-use Rattle.isle_lsp_protocol.specs.Replies.{publishing}
 use Rattle.isle_lsp_protocol.specs.Results.{position_data, range_data}
 use Rattle.isle_lsp_protocol.specs.Written.{Reads}
 use Rattle.isle_lsp_text.proofs.Places.{clamped, few_lines, few_units_on}
 use Rattle.isle_lsp_text.specs.Positions.{position_at}
 use Rattle.isle_lsp_text.specs.declared.positions.Range.{Range}
-use Rattle.isle_lsp_diagnostics.specs.Published.{diagnostics_data, mark_data, diagnostic_data_at, range_of}
+use Rattle.isle_lsp_diagnostics.specs.Published.{diagnostics_data, mark_data, diagnostic_data_at, publishing, range_of}
+use Rattle.isle_lsp_diagnostics.specs.Versions.{VersionReads}
 
 told_reads : (r : Range) (finder : Finder) (message : List ℕ) → Reads (range_data r) → Reads (diagnostic_data_at r finder message)
 told_reads r parser message h = error_reads r message h
@@ -38,5 +39,9 @@ items_read text small (m ∷ ms) = rw (mark_reads text small m) (rw (items_read 
 diagnostics_read : (text : List ℕ) → length text < 2 ^ 63 → (ms : List Mark) → Reads (diagnostics_data text ms)
 diagnostics_read text small ms = rw (items_read text small ms) refl
 
-pub publishing_reads : (uri text : List ℕ) → length text < 2 ^ 63 → (ms : List Mark) → Reads (publishing uri (diagnostics_data text ms))
-publishing_reads uri text small ms = rw (diagnostics_read text small ms) refl
+pub version_reads : (version : ℤ) → SFits w64 version → VersionReads (Some version)
+version_reads version fits = rw (integer_reads version fits) refl
+
+pub publishing_reads : (uri : List ℕ) (version : Option ℤ) (text : List ℕ) → length text < 2 ^ 63 → (ms : List Mark) → VersionReads version
+    → Reads (publishing uri version (diagnostics_data text ms))
+publishing_reads uri version text small ms h = rw (diagnostics_read text small ms) (rw h refl)

@@ -1,15 +1,15 @@
 -- What is sent of a document, from what is told of its text.
-use Rattle.std.proofs.Common.{◌≡◌, ℕ, List, Some, map, refl, subst, sym}
+use Rattle.std.proofs.Common.{◌≡◌, ℕ, ℤ, List, Option, Some, map, refl, subst, sym}
 use Rattle.isle_lsp_diagnostics.specs.Diagnostics.{AreMarks}
 use Rattle.isle_lsp_diagnostics.specs.Marks.{mark_of}
 use Rattle.isle_lsp_diagnostics.specs.declared.diagnostics.Diagnostic.{Diagnostic}
 use Rattle.isle_lsp_features.specs.Programs.{Text}
 use Rattle.serde_json.specs.Read.{read}
-use Rattle.isle_lsp_protocol.specs.Replies.{publishing}
-use Rattle.isle_lsp_diagnostics.specs.Published.{IsPublished, diagnostics_data}
+use Rattle.isle_lsp_diagnostics.specs.Published.{IsPublished, diagnostics_data, publishing}
 
-pub told_published : (programs : List (List Text)) (file uri text sent : List ℕ) (given told : List Diagnostic) → given ≡ told → AreMarks programs file text (map mark_of told) →
-    read sent ≡ Some (publishing uri (diagnostics_data text (map mark_of given))) → IsPublished uri programs file (Some text) sent
-told_published programs file uri text sent given told same marks is =
+pub told_published : (programs : List (List Text)) (file uri : List ℕ) (version : Option ℤ) (text sent : List ℕ) (given told : List Diagnostic) → given ≡ told
+    → AreMarks programs file text (map mark_of told) → read sent ≡ Some (publishing uri version (diagnostics_data text (map mark_of given)))
+    → IsPublished uri version programs file (Some text) sent
+told_published programs file uri version text sent given told same marks is =
     let Of : List Diagnostic → Type 0 = λ ds. AreMarks programs file text (map mark_of ds) in
     (diagnostics_data text (map mark_of given), (map mark_of given, subst Of (sym same) marks, refl), is)

@@ -2,3 +2,4 @@ pub mod Checked
 pub mod Marks
 pub mod Diagnostics
 pub mod Published
+pub mod Versions

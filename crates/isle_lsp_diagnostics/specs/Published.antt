@@ -1,13 +1,13 @@
 -- The diagnostics of a document.
-use Rattle.std.specs.Prelude.{◌≡◌, ℕ, List, codes, map, Option, None, Some}
-use Rattle.serde_json.specs.Data.{Data, array, member, no_items, no_members, object, string}
+use Rattle.std.specs.Prelude.{◌≡◌, ℕ, ℤ, List, codes, map, Option, None, Some}
+use Rattle.serde_json.specs.Data.{Data, Members, array, member, no_items, no_members, number, object, string}
+use Rattle.serde_json.specs.Find.{of_integer}
 use Rattle.serde_json.specs.Read.{read}
 use Rattle.serde_json.specs.View.{items_of}
 use Rattle.isle_lint_core.specs.Lint.{name}
 use Rattle.isle_lsp_diagnostics.specs.Diagnostics.{AreMarks}
 use Rattle.isle_lsp_diagnostics.specs.Marks.{Finder, Mark, check, lint, parser}
 use Rattle.isle_lsp_features.specs.Programs.{Text}
-use Rattle.isle_lsp_protocol.specs.Replies.{publishing}
 use Rattle.isle_lsp_protocol.specs.Results.{checked_data, error_data, warning_data}
 use Rattle.isle_lsp_text.specs.Positions.{position_at}
 use Rattle.isle_lsp_text.specs.declared.positions.Range.{Range}
@@ -33,10 +33,20 @@ abbrev pub AreDiagnostics : (programs : List (List Text)) → (file : List ℕ) 
 AreDiagnostics programs file None d = d ≡ array no_items
 AreDiagnostics programs file (Some text) d = (marks : List Mark) × AreMarks programs file text marks × (d ≡ diagnostics_data text marks)
 
--- the parameters of the notification with the diagnostics of a document
-abbrev pub parameters_data : List ℕ → Data → Data
-parameters_data uri diagnostics = object (member (codes "diagnostics") diagnostics (member (codes "uri") (string uri) no_members))
+-- the version of a document, if it is known
+abbrev pub version_member : Option ℤ → Members
+version_member None = no_members
+version_member (Some version) = member (codes "version") (number (of_integer version)) no_members
 
--- the notification for a document, which is this file of the programs, with its text, or for one that is not open
-abbrev pub IsPublished : (uri : List ℕ) → (programs : List (List Text)) → (file : List ℕ) → Option (List ℕ) → List ℕ → Type 0
-IsPublished uri programs file text sent = (d : Data) × AreDiagnostics programs file text d × (read sent ≡ Some (publishing uri d))
+-- the parameters of the notification with the diagnostics of a document
+abbrev pub parameters_data : (uri : List ℕ) → (version : Option ℤ) → Data → Data
+parameters_data uri version diagnostics = object (member (codes "diagnostics") diagnostics (member (codes "uri") (string uri) (version_member version)))
+
+abbrev pub publishing : (uri : List ℕ) → (version : Option ℤ) → Data → Data
+publishing uri version diagnostics =
+    object (member (codes "jsonrpc") (string (codes "2.0")) (member (codes "method") (string (codes "textDocument/publishDiagnostics"))
+    (member (codes "params") (parameters_data uri version diagnostics) no_members)))
+
+-- the notification for a document, which is this file of the programs, with its version, if that is known, and its text, or for one that is not open
+abbrev pub IsPublished : (uri : List ℕ) → (version : Option ℤ) → (programs : List (List Text)) → (file : List ℕ) → Option (List ℕ) → List ℕ → Type 0
+IsPublished uri version programs file text sent = (d : Data) × AreDiagnostics programs file text d × (read sent ≡ Some (publishing uri version d))

@@ -24,7 +24,7 @@ use std::marker::Model;
 use std::mem;
 
 /// What a finding tells, or one of its notes.
-#[derive(Debug, Drop)]
+#[derive(Drop)]
 pub struct Told {
     /// The position that it is reported at.
     pub pos: Pos,

@@ -35,7 +35,7 @@ use isle_program::trees::read_shallow_defs;
 use std::alloc::{AllocError, Global};
 
 /// Who found what a diagnostic tells.
-#[derive(Clone, Copy, Debug)]
+#[derive(Clone, Copy)]
 pub enum Finder {
     /// The parser: the text nests too deeply, or has a parse error.
     Parser,
@@ -51,7 +51,7 @@ pub enum Finder {
 }
 
 /// A message about a part of a text.
-#[derive(Debug, Drop)]
+#[derive(Drop)]
 pub struct Diagnostic {
     /// The byte offset at which the part begins.
     pub start: usize,

@@ -4,16 +4,17 @@ ghost use Rattle.std.specs.Prelude.{◌≡◌, ◌++◌, ◌∷◌, IfErr, IfOk,
 ghost use Rattle.std.specs.Prelude.{option_map};
 ghost use Rattle.std.specs.Prelude.{string_bytes};
 ghost use Rattle.json.specs.Token.{key};
-ghost use Rattle.json.specs.Tree.{json_tokens};
+ghost use Rattle.json.specs.Tree.{json_tokens, members_tokens};
 ghost use Rattle.serde_json.specs.Read.{read};
-ghost use Rattle.serde_json.specs.Written.{outline};
+ghost use Rattle.serde_json.specs.Written.{members_outline, outline};
 ghost use Rattle.isle_cli.specs.declared.failure.Failure.TheVariants.{Memory};
 ghost use Rattle.isle_lsp_features.specs.Programs.{text_of};
-ghost use Rattle.isle_lsp_protocol.specs.Replies.{publishing};
 ghost use Rattle.isle_lsp_text.specs.Positions.{IsPlace};
 ghost use Rattle.isle_lsp_diagnostics.specs.Marks.{finder_of, mark_of};
 ghost use Rattle.isle_lsp_diagnostics.specs.Published.{IsPublished, diagnostics_data, mark_data};
-ghost use Rattle.isle_lsp_diagnostics.specs.Published.{parameters_data, diagnostic_data_at};
+ghost use Rattle.isle_lsp_diagnostics.specs.Published.{diagnostic_data_at, parameters_data};
+ghost use Rattle.isle_lsp_diagnostics.specs.Published.{publishing, version_member};
+ghost use Rattle.isle_lsp_diagnostics.specs.Versions.{VersionReads};
 
 use crate::checks::Checks;
 use crate::diagnostics::{Diagnostic, Finder, diagnostics};
@@ -25,16 +26,18 @@ use json::Writer;
 use std::alloc::{AllocError, Global};
 
 /// The text of the notification with the diagnostics of a document, which is this file of the
-/// programs. Without a text there are none. The only error is `Memory`.
+/// programs, and with its version, if that is known. Without a text there are none. The only error
+/// is `Memory`.
 pub fn publish_diagnostics(
     alloc: Global,
     checks: &mut Checks,
     uri: &str,
+    version: Option<i64>,
     programs: &[Vec<Text>],
     file: &str,
     text: Option<&str>,
 ) -> Result<String, Failure>
-    ensures ok { IfOk result (λ sent. IsPublished uri.now
+    ensures ok { IfOk result (λ sent. IsPublished uri.now version
         (map (λ p. map text_of p.items) programs.now) file.now
         (option_map (λ t. t.now) text.entry) (string_bytes sent)) }
     ensures err { IfErr result (λ failure. failure ≡ Memory) }
@@ -42,9 +45,9 @@ pub fn publish_diagnostics(
     match text {
         Some(text) => {
             let found = diagnostics(alloc, checks, programs, file, text)?;
-            Ok(notification(alloc, uri, text, &found)?)
+            Ok(notification(alloc, uri, version, text, &found)?)
         }
-        None => Ok(notification(alloc, uri, "", &[])?),
+        None => Ok(notification(alloc, uri, version, "", &[])?),
     }
 }
 
@@ -52,32 +55,35 @@ pub fn publish_diagnostics(
 fn notification(
     alloc: Global,
     uri: &str,
+    version: Option<i64>,
     text: &str,
     diagnostics: &[Diagnostic],
 ) -> Result<String, AllocError>
-    ensures { IfOk result (λ sent. read (string_bytes sent) ≡ Some (publishing uri.now
+    ensures { IfOk result (λ sent. read (string_bytes sent) ≡ Some (publishing uri.now version
         (diagnostics_data text.now (map mark_of diagnostics.now)))) }
 {
     let mut out = Writer::new(Vec::new(alloc));
-    put_notification(&mut out, uri, text, diagnostics)?;
+    put_notification(&mut out, uri, version, text, diagnostics)?;
     Ok(into_text(out))
 }
 
 fn put_notification(
     out: &mut Writer,
     uri: &str,
+    version: Option<i64>,
     text: &str,
     diagnostics: &[Diagnostic],
 ) -> Result<(), AllocError>
     ensures before { out.new.before ≡ out.old.before }
     ensures tokens { OnOk result (out.new.tokens ≡ out.old.tokens
-        ++ json_tokens (outline (publishing uri.now
+        ++ json_tokens (outline (publishing uri.now version
         (diagnostics_data text.now (map mark_of diagnostics.now))))) }
+    ensures reads { OnOk result (VersionReads version) }
 {
     out.begin_object()?;
     put_text(out, "jsonrpc", "2.0")?;
     put_text(out, "method", "textDocument/publishDiagnostics")?;
-    put_parameters(out, uri, text, diagnostics)?;
+    put_parameters(out, uri, version, text, diagnostics)?;
     out.end_object()
 }
 
@@ -85,18 +91,45 @@ fn put_notification(
 fn put_parameters(
     out: &mut Writer,
     uri: &str,
+    version: Option<i64>,
     text: &str,
     diagnostics: &[Diagnostic],
 ) -> Result<(), AllocError>
     ensures before { out.new.before ≡ out.old.before }
     ensures tokens { OnOk result (out.new.tokens ≡ out.old.tokens
-        ++ key (codes "params") ∷ json_tokens (outline (parameters_data uri.now
+        ++ key (codes "params") ∷ json_tokens (outline (parameters_data uri.now version
         (diagnostics_data text.now (map mark_of diagnostics.now))))) }
+    ensures reads { OnOk result (VersionReads version) }
 {
     out.key("params")?;
     out.begin_object()?;
     put_diagnostics(out, text, diagnostics)?;
     put_text(out, "uri", uri)?;
+    end_version(out, version)
+}
+
+/// Writes the version of a document, if it is known, as the last member of an object, and ends the
+/// object.
+fn end_version(out: &mut Writer, version: Option<i64>) -> Result<(), AllocError>
+    ensures before { out.new.before ≡ out.old.before }
+    ensures tokens { OnOk result (out.new.tokens ≡ out.old.tokens
+        ++ members_tokens (members_outline (version_member version))) }
+    ensures reads { OnOk result (VersionReads version) }
+{
+    match version {
+        Some(version) => end_known_version(out, version),
+        None => out.end_object(),
+    }
+}
+
+fn end_known_version(out: &mut Writer, version: i64) -> Result<(), AllocError>
+    ensures before { out.new.before ≡ out.old.before }
+    ensures tokens { OnOk result (out.new.tokens ≡ out.old.tokens
+        ++ members_tokens (members_outline (version_member (Some version)))) }
+    ensures reads { VersionReads (Some version) }
+{
+    out.key("version")?;
+    out.i64(version)?;
     out.end_object()
 }
 

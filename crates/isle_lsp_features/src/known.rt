@@ -8,7 +8,7 @@ ghost use Rattle.isle_lsp_features.specs.Gathered.{bytes_in, events_in, kept_of,
 use std::alloc::AllocError;
 
 /// A text whose known definitions an index has.
-#[derive(Debug, Drop)]
+#[derive(Drop)]
 pub struct Known {
     /// The text.
     pub text: String,

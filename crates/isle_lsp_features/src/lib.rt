@@ -38,7 +38,7 @@ use serde_json::Value;
 use std::alloc::{AllocError, Global};
 
 /// A text of a program.
-#[derive(Clone, Copy, Debug)]
+#[derive(Clone, Copy)]
 pub struct Text<'a> {
     /// Its URI, as the client spells it.
     pub uri: &'a str,
@@ -53,7 +53,7 @@ pub struct Text<'a> {
 }
 
 /// A request about the names of a program.
-#[derive(Clone, Copy, Debug)]
+#[derive(Clone, Copy)]
 pub struct Question<'a> {
     /// The request.
     pub request: Request,
@@ -68,8 +68,8 @@ pub struct Question<'a> {
 /// Answers a request about the names of a program.
 ///
 /// A text that does not parse contributes what the module `pieces` knows of it. While there is one,
-/// `rename` and `prepareRename` fail. Only texts that differ from those of the last request are
-/// parsed. The only `Err` is `Memory`.
+/// `rename` and `prepareRename` fail. Only texts that differ from those of the last request about
+/// the same files are parsed. The only `Err` is `Memory`.
 pub fn answer<'a>(
     alloc: Global,
     gathered: &mut Gathered,

@@ -25,7 +25,7 @@ use std::slice;
 const MOST_PIECES: usize = 100;
 
 /// Why a piece of a text is refused.
-#[derive(Debug, Drop)]
+#[derive(Drop)]
 pub enum Refusal {
     /// It does not parse.
     Error(Error),

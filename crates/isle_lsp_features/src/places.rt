@@ -10,7 +10,7 @@ use isle_lsp_protocol::parameters::position_of;
 use isle_lsp_text::positions::offset_of;
 
 /// A text of a program.
-#[derive(Clone, Copy, Debug)]
+#[derive(Clone, Copy)]
 pub struct File<'a> {
     /// Its number.
     pub number: usize,
@@ -19,7 +19,7 @@ pub struct File<'a> {
 }
 
 /// A place in a program.
-#[derive(Clone, Copy, Debug)]
+#[derive(Clone, Copy)]
 pub struct Place<'a> {
     /// The number of its text, and the byte offset in it.
     pub pos: Pos,

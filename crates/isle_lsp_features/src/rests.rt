@@ -13,7 +13,7 @@ use isle_base::scanner::{Scanner, TokenRef};
 use std::alloc::{AllocError, Global};
 
 /// Which lists have yet to end at a token of a text.
-#[derive(Clone, Copy, Debug)]
+#[derive(Clone, Copy)]
 pub struct Lists {
     /// How many that are in no other list have yet to end.
     pub left: usize,

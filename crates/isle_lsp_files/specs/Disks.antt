@@ -1,5 +1,5 @@
 -- What the disk shows of an editor's folders, from moment to moment.
-use Rattle.std.specs.Prelude.{◌≡◌, ℕ, List, [], ◌∷◌, Option, None, Some, Result, Ok, Err, map, string_bytes}
+use Rattle.std.specs.Prelude.{◌≡◌, ℕ, List, [], ◌∷◌, Option, None, Some, Result, Ok, Err, map, option_map, string_bytes}
 use Rattle.isle_lsp_files.specs.Documents.{Document}
 use Rattle.isle_lsp_files.specs.declared.disk.File.{File as CodeFile}
 use Rattle.isle_lsp_files.specs.declared.disk.View.{View as CodeView}
@@ -13,17 +13,25 @@ pub record File : Type 0 where
 abbrev pub file_of : CodeFile → File
 file_of f = record { path = string_bytes f.path; uri = string_bytes f.uri; text = string_bytes f.text }
 
--- the file that a URI names; and of some folders their files, and the programs that these make, by their paths
+-- the file that a URI names; and of some folders their files, the programs that these make, by their paths, and why nothing is renamed, if their
+-- settings are broken
 pub record View : Type 0 where
   pub file : List ℕ
   pub files : List File
   pub programs : List (List (List ℕ))
+  pub mistake : Option (List ℕ)
 
 abbrev pub view_of : CodeView → View
-view_of v = record { file = string_bytes v.file; files = map file_of v.files.items; programs = map (λ p. map string_bytes p.items) v.programs.items }
+view_of v =
+    record {
+      file = string_bytes v.file;
+      files = map file_of v.files.items;
+      programs = map (λ p. map string_bytes p.items) v.programs.items;
+      mistake = option_map string_bytes v.mistake;
+    }
 
 abbrev pub no_view : View
-no_view = record { file = []; files = []; programs = [] }
+no_view = record { file = []; files = []; programs = []; mistake = None }
 
 -- what is asked of the disk: of folders, by their URIs, where some documents are open; and of the URI of a document
 pub record Asked : Type 0 where

@@ -21,11 +21,6 @@ abbrev pub document_at : List ℕ → List Document → Option Document
 document_at uri [] = None
 document_at uri (d ∷ ds) = if bytes_eq d.uri uri then Some d else document_at uri ds
 
--- the text of the document with this URI
-abbrev pub text_of : List ℕ → List Document → Option (List ℕ)
-text_of uri [] = None
-text_of uri (d ∷ ds) = if bytes_eq d.uri uri then Some d.text else text_of uri ds
-
 -- the documents without the one with this URI
 abbrev pub without : List ℕ → List Document → List Document
 without uri [] = []

@@ -9,7 +9,7 @@ use crate::documents::Document;
 use std::alloc::{AllocError, Global};
 
 /// A file on the disk.
-#[derive(Debug, Drop)]
+#[derive(Drop)]
 pub struct File {
     /// Its real path, without links.
     pub path: String,
@@ -20,7 +20,7 @@ pub struct File {
 }
 
 /// What a look at the disk shows.
-#[derive(Debug, Drop)]
+#[derive(Drop)]
 pub struct View {
     /// The file that a URI names: its real path, or the URI itself if it names none.
     pub file: String,
@@ -28,6 +28,8 @@ pub struct View {
     pub files: Vec<File>,
     /// The programs that they make, each as a list of paths.
     pub programs: Vec<Vec<String>>,
+    /// Why nothing is renamed: the mistake in the nearest `isle.toml` of a folder, if there is one.
+    pub mistake: Option<String>,
 }
 
 impl View {
@@ -39,6 +41,7 @@ impl View {
             file: String::new(alloc),
             files: Vec::new(alloc),
             programs: Vec::new(alloc),
+            mistake: None,
         }
     }
 }

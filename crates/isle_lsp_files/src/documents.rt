@@ -4,12 +4,12 @@ ghost use Rattle.std.specs.Prelude.{◌≡◌, ◌<◌, ◌++◌, ◌∷◌, [],
 ghost use Rattle.std.specs.Prelude.{option_map, string_bytes};
 ghost use Rattle.std.specs.List.{remove};
 ghost use Rattle.isle_lsp_files.specs.Documents.{document, document_at, document_of, has_file};
-ghost use Rattle.isle_lsp_files.specs.Documents.{text_of, without};
+ghost use Rattle.isle_lsp_files.specs.Documents.{without};
 
 use std::alloc::{AllocError, Global};
 
 /// An open document.
-#[derive(Debug, Drop)]
+#[derive(Drop)]
 pub struct Document {
     /// The URI by which the editor names it.
     pub uri: String,
@@ -29,19 +29,6 @@ pub fn document_at<'a>(documents: &'a [Document], uri: &str) -> Option<&'a Docum
     for document in documents {
         if document.uri.as_str() == uri {
             return Some(document);
-        }
-    }
-    None
-}
-
-/// The text of the document with this URI, if it is open.
-pub fn text_of<'a>(documents: &'a [Document], uri: &str) -> Option<&'a str>
-    ensures { option_map (λ text. text.now) result
-        ≡ text_of uri.now (map document_of documents.now) }
-{
-    for document in documents {
-        if document.uri.as_str() == uri {
-            return Some(document.text.as_str());
         }
     }
     None

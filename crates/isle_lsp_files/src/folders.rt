@@ -2,10 +2,12 @@
 
 use crate::disk::{Disk, File, View};
 use crate::documents::{Document, document_at};
+use isle_base_source::files::LineMap;
 use isle_cli::folders::files_of;
+use isle_cli::messages::message_line;
 use isle_cli::patterns::covers;
 use isle_cli::sources::{SourceFault, read_file};
-use isle_lsp_escapes::uris::{path_of, uri_of};
+use isle_lsp_frames::uris::{path_of, uri_of};
 use isle_program_manifest::disk::{NOBODY, find, is_listed, paths_of};
 use isle_program_manifest::manifest::{Manifest, ManifestFault, ProgramFiles, manifest_of};
 use isle_program_manifest::membership::has_file;
@@ -120,8 +122,8 @@ fn real_folders<R: Files + AllocGlobal>(
 }
 
 /// Adds the files of one of the editor's folders, each once, and the programs that they make: those
-/// of the nearest `isle.toml` in the folder or above it. Without one, a folder below another one of
-/// the editor's has its files there.
+/// of the nearest `isle.toml` in the folder or above it. Without one, or if it has a mistake, a
+/// folder below another one of the editor's has its files there.
 fn add_folder<R: Files + AllocGlobal + Clone + Drop>(
     rt: &R,
     folder: &str,
@@ -131,10 +133,10 @@ fn add_folder<R: Files + AllocGlobal + Clone + Drop>(
 ) -> Result<(), AllocError> {
     if let Some(path) = find(rt, folder)? {
         let top = folder_of(path.as_str());
-        let manifest = manifest_at(rt, path.as_str())?;
-        if let Some(manifest) = manifest {
-            if !top.is_empty() {
-                return add_manifest(rt, top, &manifest, documents, view);
+        if !top.is_empty() {
+            match manifest_at(rt, path.as_str())? {
+                Ok(manifest) => return add_manifest(rt, top, &manifest, documents, view),
+                Err(mistake) => view.mistake = Some(mistake),
             }
         }
     }
@@ -168,21 +170,46 @@ fn add_manifest<R: Files + AllocGlobal + Clone + Drop>(
     Ok(())
 }
 
-/// The manifest in a file, or `None` if it is none.
+/// The manifest in a file, or why nothing is renamed while it is there.
 fn manifest_at<R: Files + AllocGlobal + Clone + Drop>(
     rt: &R,
     path: &str,
-) -> Result<Option<Manifest>, AllocError> {
-    let text = match read_file(rt, path) {
-        Ok(text) => text,
-        Err(SourceFault::Memory) => return Err(AllocError),
-        Err(_) => return Ok(None),
-    };
-    match manifest_of(rt.alloc(), text.as_str()) {
-        Ok(manifest) => Ok(Some(manifest)),
-        Err(ManifestFault::Memory) => Err(AllocError),
-        Err(ManifestFault::Rejected { .. }) => Ok(None),
+) -> Result<Result<Manifest, String>, AllocError> {
+    match read_file(rt, path) {
+        Ok(text) => manifest_in(rt.alloc(), path, text.as_str()),
+        Err(SourceFault::Memory) => Err(AllocError),
+        Err(_) => Ok(Err(format!(in rt.alloc(); "cannot rename: {path}: cannot be read")?)),
     }
+}
+
+/// The manifest with this path and text, or why nothing is renamed while it is there.
+fn manifest_in(
+    alloc: Global,
+    path: &str,
+    text: &str,
+) -> Result<Result<Manifest, String>, AllocError> {
+    match manifest_of(alloc, text) {
+        Ok(manifest) => Ok(Ok(manifest)),
+        Err(ManifestFault::Memory) => Err(AllocError),
+        Err(ManifestFault::Rejected { offset, message }) => {
+            Ok(Err(mistake_at(alloc, path, text, offset, message.as_str())?))
+        }
+    }
+}
+
+/// Why nothing is renamed while a manifest has a mistake.
+fn mistake_at(
+    alloc: Global,
+    path: &str,
+    text: &str,
+    offset: usize,
+    message: &str,
+) -> Result<String, AllocError> {
+    let lines = LineMap::from_str(alloc, text)?;
+    let offset = offset.min(usize::MAX - 1);
+    let line = message_line(alloc, path, text, &lines, offset, "error", message)?;
+    let line = line.as_str().trim_end();
+    format!(in alloc; "cannot rename: {line}")
 }
 
 /// Adds a program of the manifest in a folder, and those of its files that are not there yet. An

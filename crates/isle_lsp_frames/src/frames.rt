@@ -39,7 +39,7 @@ const MAX_LEN: usize = 67_108_864;
 const LENGTH_NAME: &[u8] = b"content-length:";
 
 /// The reason why a message cannot be read.
-#[derive(Debug, Drop)]
+#[derive(Drop)]
 pub enum FrameFault {
     /// The header is malformed, or does not state the length exactly once.
     Malformed,

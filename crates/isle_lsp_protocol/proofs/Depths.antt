@@ -8,7 +8,7 @@ use Rattle.isle_lsp_text.specs.declared.positions.Range.{Range}
 use Rattle.isle_lsp_protocol.specs.Capabilities.{initialize_result}
 use Rattle.isle_lsp_protocol.specs.Items.{edits_data}
 use Rattle.isle_lsp_protocol.specs.Parameters.{if_object, item_of}
-use Rattle.isle_lsp_protocol.specs.Replies.{Outcome, done, failed, publishing, reply, reply_id, usable_id}
+use Rattle.isle_lsp_protocol.specs.Replies.{Outcome, done, failed, reply, reply_id, usable_id}
 use Rattle.isle_lsp_protocol.specs.Results.{checked_data, completion_item, document_edits, document_symbol, error_data, hover, location, markdown, position_data, range_data, ranged, text_edit, version_data, warning_data, with_documentation, workspace_symbol}
 
 -- data that is equal to other data is no deeper
@@ -175,6 +175,3 @@ within n o p same h = subst (IsWithin n) (sym same) h
 pub reply_depth : (d : Option Data) (o : Outcome) (n : ℕ) → 2 ≤ n → IsWithin n o → depth (reply (reply_id d) o) ≤ n + 1
 reply_depth d (done x) n h w = omega (arith, reply_id_depth d, w)
 reply_depth d (failed c reason) n h w = omega (arith, reply_id_depth d)
-
-pub publishing_depth : (uri : List ℕ) (d : Data) → depth d ≤ 10 → depth (publishing uri d) ≤ 12
-publishing_depth uri d h = omega (arith, h)

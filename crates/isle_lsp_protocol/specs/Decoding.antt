@@ -3,7 +3,7 @@ use Rattle.std.specs.Prelude.{◌≡◌, List, ℕ, codes, Bool, ◌||◌, Optio
 use Rattle.serde_json.specs.Data.{Data}
 use Rattle.serde_json.specs.Find.{get, as_str, as_number, as_object}
 use Rattle.serde_json.specs.Read.{read}
-use Rattle.isle_lsp_escapes.specs.Mending.{mended}
+use Rattle.isle_lsp_frames.specs.Mending.{mended}
 use Rattle.isle_lsp_protocol.specs.declared.machine.Request as requests
 use Rattle.isle_lsp_protocol.specs.declared.machine.Request.TheVariants.{Initialize, Shutdown, Document, DocumentSymbol, WorkspaceSymbol, Definition, References, DocumentHighlight, Hover, Completion, ResolveCompletion, PrepareRename, Rename, Unknown}
 use Rattle.isle_lsp_protocol.specs.declared.machine.DocumentRequest.TheVariants.{Formatting, RangeFormatting, FoldingRange, SelectionRange, SemanticTokens, SemanticTokensRange, CodeAction}

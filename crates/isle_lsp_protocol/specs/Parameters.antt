@@ -2,7 +2,7 @@
 use Rattle.std.specs.Prelude.{ℕ, ℤ, List, [], ◌∷◌, ◌++◌, codes, bytes_eq, filter, Bool, false, not, ◌||◌, Option, None, Some, is_some, option_and_then, option_to_list, if◌then◌else◌}
 use Rattle.serde_json.specs.Data.{Data, Items, no_items, item}
 use Rattle.serde_json.specs.Find.{get, pointer, as_str, as_bool, as_number, as_object, as_i64, as_u64, as_array}
-use Rattle.isle_lsp_escapes.specs.Uris.{uri_of as uri_of_path}
+use Rattle.isle_lsp_frames.specs.Uris.{uri_of as uri_of_path}
 use Rattle.isle_lsp_text.specs.Changes.{apply_change}
 use Rattle.isle_lsp_text.specs.declared.positions.Position.{Position}
 use Rattle.isle_lsp_text.specs.declared.positions.Range.{Range}

@@ -74,10 +74,3 @@ error_outcome c = failed c (reason_of c)
 abbrev pub reply : Data → Outcome → Data
 reply id (done d) = response id d
 reply id (failed c reason) = error_response id c reason
-
--- ---- notifications
-
-abbrev pub publishing : List ℕ → Data → Data
-publishing uri diagnostics =
-    object (member (codes "jsonrpc") (string (codes "2.0")) (member (codes "method") (string (codes "textDocument/publishDiagnostics"))
-    (member (codes "params") (object (member (codes "diagnostics") diagnostics (member (codes "uri") (string uri) no_members))) no_members)))

@@ -9,7 +9,7 @@ ghost use Rattle.isle_lsp_protocol.specs.Decoding.{notification_of, request_in, 
 
 use crate::machine::{DocumentRequest, Message, Notification, Request};
 use isle_cli::failure::Failure;
-use isle_lsp_escapes::mending::mended;
+use isle_lsp_frames::mending::mended;
 use serde_json::{Category, Value};
 use std::alloc::Global;
 

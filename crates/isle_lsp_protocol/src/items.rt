@@ -19,7 +19,7 @@ use serde_json::{Map, Value, json, put};
 use std::alloc::{AllocError, Global};
 
 /// A result that is a list.
-#[derive(Debug, Drop)]
+#[derive(Drop)]
 pub enum Listing<'a> {
     /// A list.
     Items(Vec<Item<'a>>),
@@ -30,7 +30,7 @@ pub enum Listing<'a> {
 }
 
 /// An item of a list.
-#[derive(Debug, Drop)]
+#[derive(Drop)]
 pub enum Item<'a> {
     /// A part of a document.
     Location {

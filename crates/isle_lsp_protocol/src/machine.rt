@@ -6,7 +6,7 @@ ghost use Rattle.std.specs.Prelude.{◌≡◌, ◌≢◌};
 ghost use Rattle.isle_lsp_protocol.specs.Machine.{next_state, action_of};
 
 /// The state of a session.
-#[derive(Clone, Copy, Debug, PartialEq, Eq)]
+#[derive(Clone, Copy)]
 pub enum State {
     /// Only `initialize` is answered.
     Fresh,
@@ -21,7 +21,7 @@ pub enum State {
 }
 
 /// The method of a request.
-#[derive(Clone, Copy, Debug, PartialEq, Eq)]
+#[derive(Clone, Copy)]
 pub enum Request {
     /// The capabilities of the server.
     Initialize,
@@ -55,7 +55,7 @@ pub enum Request {
 
 /// The method of a request that is answered from the text of an open document, without the files on
 /// disk.
-#[derive(Clone, Copy, Debug, PartialEq, Eq)]
+#[derive(Clone, Copy)]
 pub enum DocumentRequest {
     /// The edits that format the document.
     Formatting,
@@ -74,7 +74,7 @@ pub enum DocumentRequest {
 }
 
 /// The method of a notification.
-#[derive(Clone, Copy, Debug, PartialEq, Eq)]
+#[derive(Clone, Copy)]
 pub enum Notification {
     /// The client has received the response to `initialize`.
     Initialized,
@@ -95,7 +95,7 @@ pub enum Notification {
 }
 
 /// A message from the client.
-#[derive(Clone, Copy, Debug, PartialEq, Eq)]
+#[derive(Clone, Copy)]
 pub enum Message {
     /// A request.
     Request(Request),
@@ -110,7 +110,7 @@ pub enum Message {
 }
 
 /// The code of an error response.
-#[derive(Clone, Copy, Debug, PartialEq, Eq)]
+#[derive(Clone, Copy)]
 pub enum ErrorCode {
     /// The message is not JSON: -32700.
     ParseError,
@@ -127,7 +127,7 @@ pub enum ErrorCode {
 }
 
 /// The server's action on a message.
-#[derive(Clone, Copy, Debug, PartialEq, Eq)]
+#[derive(Clone, Copy)]
 pub enum Action {
     /// Ignore it.
     Ignore,

@@ -6,7 +6,7 @@ ghost use Rattle.serde_json.specs.Find.{as_array, as_str, pointer};
 ghost use Rattle.serde_json.specs.View.{items_view, view};
 ghost use Rattle.isle_lsp_protocol.specs.Parameters as wanted;
 
-use isle_lsp_escapes::uris;
+use isle_lsp_frames::uris;
 use isle_lsp_text::changes::apply_change;
 use isle_lsp_text::positions::{Position, Range};
 use serde_json::Value;
@@ -302,8 +302,9 @@ fn with_all(alloc: Global, uris: Vec<String>, added: &[String]) -> Result<Vec<St
     Ok(all)
 }
 
+/// Reads a position.
 #[tactic(auto, unfolding(crate::specs::Parameters::position_in))]
-fn position_in(value: &Value) -> Option<Position>
+pub fn position_in(value: &Value) -> Option<Position>
     ensures { result ≡ wanted.position_in (view value.now) }
 {
     let line = value.get("line").and_then(Value::as_u64);

@@ -11,7 +11,7 @@ ghost use Rattle.isle_lsp_ranges.specs.LineEdits.{AreEditsWithin, IsPair, IsRang
 ghost use Rattle.isle_lsp_ranges.specs.LineEdits.{edit_data, edits_data, is_within, lines_end};
 
 use isle_lsp_protocol::results::text_edit;
-use isle_lsp_text::edits::{Edit, replacement};
+use isle_lsp_text::edits::{Edit, next_line, replacement};
 use isle_lsp_text::positions::{Place, Position, Range, START, offset_of, place_at};
 use serde_json::Value;
 use std::alloc::{AllocError, Global};
@@ -163,26 +163,6 @@ fn visible(bytes: &[u8]) -> usize {
         .count()
 }
 
-/// The offset after the line that begins at `start`.
-fn next_line(text: &[u8], start: usize) -> usize
-    requires { start ≤ length text.now }
-    ensures order { start ≤ result }
-    ensures within { result ≤ length text.now }
-    ensures on { start < length text.now → start < result }
-    ensures line { IsLineStart text.now result }
-    ensures first { part text.now start result ≡ first_line (drop start text.now) }
-{
-    let mut end = start;
-    while end < text.len() {
-        let byte = text[end];
-        end += 1;
-        if byte == b'\n' {
-            return end;
-        }
-    }
-    text.len()
-}
-
 /// Returns whether the parts of an edit differ.
 fn is_changed(old: &[u8], new: &[u8], edit: Edit) -> bool
     requires old_order { edit.start ≤ edit.end }
@@ -197,8 +177,8 @@ fn is_changed(old: &[u8], new: &[u8], edit: Edit) -> bool
     old[edit.start..edit.end] != new[edit.from..edit.to]
 }
 
-/// Edits as JSON, each at its range of the old text.
-fn edits_value(alloc: Global, old: &str, new: &str, edits: &[Edit]) -> Result<Value, AllocError>
+/// Edits as JSON, each at its range of the old text, in the order of their places.
+pub fn edits_value(alloc: Global, old: &str, new: &str, edits: &[Edit]) -> Result<Value, AllocError>
     requires { (i : ℕ) (d : texts.Edit) → i < length edits.now
         → IsEdit old.now new.now (slice_index_or edits.now i d) }
     ensures { IfOk result (λ value. view value ≡ edits_data old.now new.now edits.now) }

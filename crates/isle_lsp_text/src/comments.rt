@@ -12,7 +12,7 @@ use isle_base::lexer::line_comment_end;
 use std::alloc::{AllocError, Global};
 
 /// The contents of a line so far.
-#[derive(Clone, Copy, Debug, PartialEq, Eq)]
+#[derive(Clone, Copy)]
 pub enum Line {
     /// Blanks alone, or nothing.
     Blank,

@@ -8,7 +8,7 @@ ghost use Rattle.isle_lsp_text.specs.Edits.{first_line, part};
 use std::alloc::{AllocError, Global};
 
 /// An edit: a part of the new text replaces a part of the old one. Offsets count bytes.
-#[derive(Clone, Copy, Debug, PartialEq, Eq)]
+#[derive(Clone, Copy)]
 pub struct Edit {
     /// The start of the part of the old text.
     pub start: usize,
@@ -73,8 +73,8 @@ fn line_edits(alloc: Global, old: &str, new: &str) -> Result<Vec<Edit>, AllocErr
     Ok(edits)
 }
 
-/// The offset after the line that begins at `start`.
-fn next_line(text: &[u8], start: usize) -> usize
+/// The offset after the line that begins at `start`. Lines end with LF here.
+pub fn next_line(text: &[u8], start: usize) -> usize
     requires { start ≤ length text.now }
     ensures order { start ≤ result }
     ensures within { result ≤ length text.now }

@@ -10,7 +10,7 @@ use isle_base::scanner::{Scanner, TokenRef};
 use std::alloc::{AllocError, Global};
 
 /// A list of a text.
-#[derive(Clone, Copy, Debug, PartialEq, Eq)]
+#[derive(Clone, Copy)]
 pub struct ListSpan {
     /// The offset of its `(`.
     pub from: usize,

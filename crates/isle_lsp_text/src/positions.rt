@@ -6,7 +6,7 @@ ghost use Rattle.isle_lsp_text.specs.Positions.{IsPlace, IsWhole, ends_line, is_
 ghost use Rattle.isle_lsp_text.specs.Positions.{offset_from, position_at, unit_count};
 
 /// A position in a text, as the protocol counts.
-#[derive(Clone, Copy, Debug, PartialEq, Eq)]
+#[derive(Clone, Copy)]
 pub struct Position {
     /// The line.
     pub line: usize,
@@ -15,7 +15,7 @@ pub struct Position {
 }
 
 /// A part of a text, as the protocol counts.
-#[derive(Clone, Copy, Debug, PartialEq, Eq)]
+#[derive(Clone, Copy)]
 pub struct Range {
     /// Its start.
     pub start: Position,
@@ -24,7 +24,7 @@ pub struct Range {
 }
 
 /// A place in a text: a byte offset, and its position.
-#[derive(Clone, Copy, Debug, PartialEq, Eq)]
+#[derive(Clone, Copy)]
 pub struct Place {
     /// The byte offset.
     pub offset: usize,

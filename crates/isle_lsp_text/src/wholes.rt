@@ -6,7 +6,7 @@ ghost use Rattle.isle_lsp_text.specs.Wholes.{part_at, whole_of};
 use crate::lists::{ListSpan, list_around};
 
 /// A part of a text.
-#[derive(Clone, Copy, Debug)]
+#[derive(Clone, Copy)]
 pub struct Part {
     /// The byte offset at which it begins.
     pub from: usize,

@@ -1,14 +1,5 @@
-use Rattle.std.proofs.Common.{ap, map, option_map, string_bytes, subst, ◌∙◌}
-use Rattle.std.proofs.lemmas.Result.{IfOk-weaker}
-use Rattle.serde_json.specs.View.{view}
-use Rattle.isle_lsp_protocol.specs.Replies.{IsTextOf, error_response, reason_of}
-use Rattle.isle_lsp.proofs.Depths.{rejection_reads}
+use Rattle.std.proofs.Common.{◌≡◌}
 use Rattle.isle_lsp.proofs.server.error_response.Goals as goal
 
 pub returns : goal.returns
-returns c =
-    let message = option_map view c.args.message.now in
-    IfOk-weaker c.error_response.result _ _
-    (λ text is. rejection_reads message c.args.code (reason_of c.args.code) (string_bytes text)
-    (rw (c.in_ok-id.ensures.same, c.reason_of.ensures) at is))
-    c.error_response.ensures
+returns c = rw c.reason_of.ensures at c.refusal.ensures

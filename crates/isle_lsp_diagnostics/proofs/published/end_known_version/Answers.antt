@@ -1,0 +1,11 @@
+use Rattle.std.proofs.Common.{[], ◌∷◌, ◌++◌, Some, SFits, w64, ap, ◌∙◌, append_assoc, arith, codes, refl}
+use Rattle.std.proofs.lemmas.Result.{on_ok_weaker}
+use Rattle.std.specs.Fmt.{signed_decimal}
+use Rattle.json.specs.Token.{end_object, key, number}
+use Rattle.isle_lsp_diagnostics.proofs.Readings.{version_reads}
+use Rattle.isle_lsp_diagnostics.proofs.published.end_known_version.Goals as goal
+
+pub returns-clause-reads : goal.returns-clause-reads
+returns-clause-reads c =
+    let fits : SFits w64 c.args.version = grind arith in
+    version_reads c.args.version fits

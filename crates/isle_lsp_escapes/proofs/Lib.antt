@@ -1,3 +1,0 @@
-pub mod FileUris
-pub mod Mendings
-pub mod Strings

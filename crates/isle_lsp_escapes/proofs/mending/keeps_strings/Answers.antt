@@ -1,6 +1,0 @@
-use Rattle.std.proofs.Common.{length, arith}
-use Rattle.isle_lsp_escapes.proofs.Strings.{strings_stay}
-use Rattle.isle_lsp_escapes.proofs.mending.keeps_strings.Goals as goal
-
-pub returns : goal.returns
-returns c = λ bytes text. strings_stay (length bytes) bytes (omega arith) text

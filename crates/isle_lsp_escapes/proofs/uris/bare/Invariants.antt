@@ -1,6 +1,0 @@
-use Rattle.std.proofs.Common.{◌≡◌, ◌++◌, take, drop}
-use Rattle.isle_lsp_escapes.specs.Uris.{bare}
-use Rattle.isle_lsp_escapes.proofs.uris.bare.Given as goal
-
-abbrev pub invariant-loop-i : goal.invariant-loop-i
-invariant-loop-i l = bare l.text ≡ take l.i l.text ++ bare (drop l.i l.text)

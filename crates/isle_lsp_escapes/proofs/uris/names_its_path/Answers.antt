@@ -1,5 +1,0 @@
-use Rattle.isle_lsp_escapes.proofs.FileUris.{names_path}
-use Rattle.isle_lsp_escapes.proofs.uris.names_its_path.Goals as goal
-
-pub returns : goal.returns
-returns c = names_path
