@@ -1,5 +1,5 @@
 -- Several texts as one program, and what is written of it.
-use Rattle.std.specs.Prelude.{◌≡◌, ◌≢◌, ◌||◌, ℕ, ◌+◌, ◌==◌, List, [], ◌∷◌, ◌++◌, Result, Ok, Err, IsUtf8, drop, filter, length, not, take}
+use Rattle.std.specs.Prelude.{◌≡◌, ◌≢◌, ◌||◌, ℕ, ◌+◌, ◌==◌, List, [], ◌∷◌, ◌++◌, Bool, Result, Ok, Err, IsUtf8, drop, filter, length, not, take}
 use Rattle.std.specs.Global.{Vec}
 use Rattle.std.specs.List.{All, Contains, flat_map, sum}
 use Rattle.isle_ast.specs.Spelt.{IsSpelt}
@@ -45,9 +45,12 @@ pub record IsCheck (texts : List (List ℕ)) (answer : List ℕ) : Type 0 where
   pub program : IsProgram texts definitions
   pub written : answer ≡ encoded_checks definitions
 
--- the lints that are on by default for 0, and all lints for any other number
+-- for 0 a lint is chosen that is on by default, and for any other number each lint
+abbrev pub is_chosen : ℕ → Lint → Bool
+is_chosen all lint = not (all == 0) || is_default lint
+
 abbrev pub lints_for : ℕ → List Lint
-lints_for all = filter (λ lint. not (all == 0) || is_default lint) all_lints
+lints_for all = filter (is_chosen all) all_lints
 
 -- the answer is the encoding of what these lints find in the program
 pub record IsLint (all : ℕ) (texts : List (List ℕ)) (answer : List ℕ) : Type 0 where

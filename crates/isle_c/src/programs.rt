@@ -8,9 +8,7 @@ ghost use Rattle.isle_ast.specs.TreeView.{definitions_of};
 ghost use Rattle.isle_base.specs.Steps.{IfError};
 ghost use Rattle.isle_c.specs.Programs.{Adds, IsCheck, IsLint, IsProgram, IsProgramFailure};
 ghost use Rattle.isle_c.specs.Programs.{IsReadingFailure, IsTextsFailure, IsTreeOf, Stops};
-ghost use Rattle.isle_c.specs.Programs.{lints_for, parts};
-ghost use Rattle.isle_c.specs.declared.calls.NoAnswer.TheVariants.{Memory, NotUtf8};
-ghost use Rattle.isle_lint_core.specs.Lint.{all_lints};
+ghost use Rattle.isle_c.specs.Programs.{is_chosen, lints_for, parts};
 ghost use Rattle.isle_syntax.specs.Format.{IsRefused};
 
 use crate::calls::NoAnswer;
@@ -58,8 +56,8 @@ fn add_up(lengths: &[usize], total: usize) -> bool
     ensures { result ≡ (sum lengths.now == total) }
 {
     let mut left = total;
-    for length in lengths {
-        match left.checked_sub(*length) {
+    for len in lengths {
+        match left.checked_sub(*len) {
             Some(rest) => left = rest,
             None => return false,
         }
@@ -77,8 +75,8 @@ fn texts_of<'a>(alloc: Global, bytes: &'a [u8], lengths: &[usize]) -> Result<Vec
 {
     let mut texts = Vec::new(alloc);
     let mut rest = bytes;
-    for length in lengths {
-        let (text, behind) = rest.split_at(*length);
+    for len in lengths {
+        let (text, behind) = rest.split_at(*len);
         add_text(&mut texts, text)?;
         rest = behind;
     }
@@ -124,13 +122,20 @@ fn lint_of(alloc: Global, texts: &[&str], all: u32) -> Result<String, NoAnswer>
 fn lints_for(alloc: Global, all: u32) -> Result<Vec<Lint>, AllocError>
     ensures { IfOk result (λ lints. lints.items ≡ lints_for all) }
 {
-    let mut lints = Vec::new(alloc);
-    for lint in &Lint::ALL {
+    lints_among(alloc, all, &Lint::ALL)
+}
+
+/// Those of the lints that are on by default, if this is 0, and otherwise all of them.
+fn lints_among(alloc: Global, all: u32, lints: &[Lint]) -> Result<Vec<Lint>, AllocError>
+    ensures { IfOk result (λ chosen. chosen.items ≡ filter (is_chosen all) lints.now) }
+{
+    let mut chosen = Vec::new(alloc);
+    for lint in lints {
         if all != 0 || lint.is_default() {
-            lints.push(*lint)?;
+            chosen.push(*lint)?;
         }
     }
-    Ok(lints)
+    Ok(chosen)
 }
 
 /// The definitions of these texts, each of which is the file with its index.

@@ -28,8 +28,8 @@ pub fn put_notes(out: &mut String, notes: &[Note]) -> Result<(), AllocError>
         ≡ string_bytes out.old ++ list note (notes_of notes.now)) }
 {
     put_number(out, notes.len())?;
-    for note in notes {
-        put_note(out, note)?;
+    for one in notes {
+        put_note(out, one)?;
     }
     Ok(())
 }
