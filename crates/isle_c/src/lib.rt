@@ -1,5 +1,5 @@
-//! The syntax layer of ISLE, tidying, checking and linting as a static library, for callers in C and
-//! other languages.
+//! The syntax layer of ISLE, tidying, checking and linting as a static library, for callers in C
+//! and other languages.
 //!
 //! Texts are passed as slices of bytes. The output is written to a slice of the caller's, and its
 //! whole length is returned, even if the slice is too short. No pointer is handed out, no state is

@@ -7,8 +7,8 @@
 //! since all bytes outside of texts are below 128.
 //!
 //! Each `put_..` function appends the encoding of its argument. `specs/Encoded.antt` defines the
-//! encoding, and the law `laws::encodings_end` says that it loses nothing. Numbers, flags, texts and
-//! positions are public, so that other encodings write them the same way.
+//! encoding, and the law `laws::encodings_end` says that it loses nothing. What puts numbers,
+//! flags, texts and positions is public, so that other encodings have them the same way.
 #![tactic(auto)]
 
 ghost use Rattle.std.specs.Prelude.{◌≡◌, ◌++◌, [], ◌∷◌, IfOk, OnOk, string_bytes};

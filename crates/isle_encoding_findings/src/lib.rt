@@ -1,9 +1,9 @@
 //! An encoding as bytes of what `isle-check` and `isle-lint` find, for callers in other languages.
 //!
 //! It is a version and the list of the findings. A finding is a flag, 1 for an error and 0 for a
-//! warning, then the name of its kind or of its lint, its position, its message, and the list of its
-//! notes. A note is a position and a message. Numbers, flags, lists, texts and positions are written
-//! as by `isle_encoding`, so the result is valid UTF-8.
+//! warning, then the name of its kind or of its lint, its position, its message, and the list of
+//! its notes. A note is a position and a message. Numbers, flags, lists, texts and positions are
+//! written as by `isle_encoding`, so the result is valid UTF-8.
 //!
 //! `specs/Encoded.antt` defines the encoding, and the law `laws::encodings_end` says that it loses
 //! nothing.
