@@ -17,7 +17,7 @@ use isle_resolve::scopes::{Bound, bind};
 use std::alloc::{AllocError, Global};
 
 /// A name that can be written at a position.
-#[derive(Debug, Drop)]
+#[derive(Drop)]
 pub struct Candidate {
     pub kind: SymbolKind,
     /// Its text in the source of a rule: `TYPE.VARIANT` for a variant, and with its `$` for a

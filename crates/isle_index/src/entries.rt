@@ -11,7 +11,7 @@ use isle_resolve::event::{Event, Kind, Role, Word};
 use isle_resolve::scopes::Seen;
 
 /// A name as it occurs in the source, packed.
-#[derive(Clone, Copy, Debug)]
+#[derive(Clone, Copy)]
 pub struct Spot {
     /// The number of its text in the index.
     pub text: u32,
@@ -23,7 +23,7 @@ pub struct Spot {
 
 /// A packed `Event`, whose number is the index of its entry. `Occurs` and `Reads` also hold the
 /// number of the event that binds the variable, if one does.
-#[derive(Clone, Copy, Debug)]
+#[derive(Clone, Copy)]
 pub enum Entry {
     Defines(Kind, Spot),
     Uses(Kind, Spot),

@@ -16,7 +16,7 @@ use isle_resolve::scopes::Seen;
 use std::alloc::{AllocError, Global};
 
 /// A name as it occurs in the source. Occurrences are ordered by position.
-#[derive(Clone, Copy, Debug, PartialEq, Eq, PartialOrd, Ord)]
+#[derive(Clone, Copy, PartialEq, Eq, PartialOrd, Ord)]
 pub struct Occurrence {
     /// The position of its first byte, which for a constant is the `$`.
     pub pos: Pos,

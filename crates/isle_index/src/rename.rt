@@ -24,7 +24,7 @@ use isle_resolve::scopes::{Seen, bind, binder};
 use std::alloc::{AllocError, Global};
 
 /// Why a name cannot be renamed.
-#[derive(Clone, Copy, Debug, PartialEq, Eq)]
+#[derive(Clone, Copy, PartialEq, Eq)]
 pub enum Refusal {
     /// The new text is no identifier, begins with `$`, or is a keyword.
     NotAName,

@@ -11,7 +11,7 @@ use isle_resolve::names::full_name;
 use std::alloc::{AllocError, Global};
 
 /// The kind of a symbol or a candidate.
-#[derive(Clone, Copy, Debug, PartialEq, Eq)]
+#[derive(Clone, Copy, PartialEq, Eq)]
 pub enum SymbolKind {
     /// A term declared by a `decl`.
     Term,
@@ -24,7 +24,7 @@ pub enum SymbolKind {
 }
 
 /// A name that is defined.
-#[derive(Debug, Drop)]
+#[derive(Drop)]
 pub struct Symbol {
     pub kind: SymbolKind,
     /// Its name: `TYPE.VARIANT` for a variant, and without its `$` for a constant.

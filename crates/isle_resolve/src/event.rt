@@ -9,7 +9,7 @@ use isle_base::lexer::Pos;
 use std::alloc::AllocError;
 
 /// The kind of a name that is visible in the whole program.
-#[derive(Clone, Copy, Debug, PartialEq, Eq)]
+#[derive(Clone, Copy, PartialEq, Eq)]
 pub enum Kind {
     /// A term declared by a `decl`, or a variant of a type, `TYPE.VARIANT`.
     Term,
@@ -20,7 +20,7 @@ pub enum Kind {
 }
 
 /// What a variable in a pattern is, or the parameter of an extractor.
-#[derive(Clone, Copy, Debug, PartialEq, Eq)]
+#[derive(Clone, Copy, PartialEq, Eq)]
 pub enum Role {
     /// A variable in a pattern of a rule.
     Plain,
@@ -35,7 +35,7 @@ pub enum Role {
 }
 
 /// A name as it occurs in the source.
-#[derive(Clone, Copy, Debug)]
+#[derive(Clone, Copy)]
 pub struct Word<'a> {
     /// Its text, which for a constant has no `$`.
     pub text: &'a str,
@@ -55,7 +55,7 @@ impl<'a> Word<'a> {
 }
 
 /// What happens to a name at one place of the source, or the end of a scope.
-#[derive(Clone, Copy, Debug)]
+#[derive(Clone, Copy)]
 pub enum Event<'a> {
     /// A `decl`, a `type` or an `extern const` defines a name.
     Defines(Kind, Word<'a>),

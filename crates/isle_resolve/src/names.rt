@@ -12,7 +12,7 @@ use crate::scopes::Seen;
 use std::alloc::{AllocError, Global};
 
 /// A name, by what it means.
-#[derive(Debug, Drop)]
+#[derive(Drop)]
 pub enum Name {
     /// A name that is visible in the whole program.
     Global {

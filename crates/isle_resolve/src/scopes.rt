@@ -8,7 +8,7 @@ use crate::event::{Event, Word};
 use std::alloc::AllocError;
 
 /// A variable that is bound.
-#[derive(Clone, Copy, Debug)]
+#[derive(Clone, Copy)]
 pub struct Bound<'a> {
     pub text: &'a str,
     /// The number of the event that binds it.
@@ -16,7 +16,7 @@ pub struct Bound<'a> {
 }
 
 /// An event among those of a program.
-#[derive(Clone, Copy, Debug)]
+#[derive(Clone, Copy)]
 pub struct Seen<'a> {
     pub event: Event<'a>,
     /// Its place among them, from 0.

@@ -49,7 +49,7 @@ pub fn read_regular<R: Files + AllocGlobal>(rt: &R, name: &str) -> Result<FileTe
 }
 
 /// Why a file can't be written.
-#[derive(Clone, Copy, Debug)]
+#[derive(Clone, Copy)]
 pub enum WriteFault {
     /// The user may not write it, or no file beside it.
     Denied,

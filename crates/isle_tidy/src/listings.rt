@@ -19,7 +19,7 @@ use std::alloc::Global;
 use std::io::Write;
 
 /// What is listed of texts that would change.
-#[derive(Clone, Copy, Debug)]
+#[derive(Clone, Copy)]
 pub enum Listing {
     /// Their names, each in a line.
     Names,

@@ -12,7 +12,7 @@ use isle_base::lexer::line_comment_end;
 use std::alloc::AllocError;
 
 /// What ends a line.
-#[derive(Clone, Copy, Debug)]
+#[derive(Clone, Copy)]
 pub enum LineEnd {
     /// LF.
     Lf,

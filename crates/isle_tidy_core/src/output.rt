@@ -23,7 +23,7 @@ use std::alloc::AllocError;
 const MOST: usize = 64 * 1024;
 
 /// A range of the text that is next in the tidy text as it is, but is not written yet.
-#[derive(Clone, Copy, Debug)]
+#[derive(Clone, Copy)]
 pub struct PendingRange {
     /// The byte offset of its first byte.
     pub from: usize,

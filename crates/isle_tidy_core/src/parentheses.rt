@@ -17,7 +17,7 @@ use isle_base::scanner::{Scanner, TokenRef};
 use std::alloc::{AllocError, Global};
 
 /// The lists that are open after some tokens of a text.
-#[derive(Clone, Copy, Debug)]
+#[derive(Clone, Copy)]
 pub struct Parentheses {
     /// How many there are.
     depth: usize,
@@ -81,7 +81,7 @@ impl Parentheses {
 }
 
 /// What `take_next` found.
-#[derive(Clone, Copy, Debug)]
+#[derive(Clone, Copy)]
 pub enum Found {
     /// A token, which is counted.
     Token,

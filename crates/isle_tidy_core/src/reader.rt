@@ -15,7 +15,7 @@ use isle_tidy_layout::entries::{Entry, Gap};
 
 /// A run of blanks before a lexeme. It is canonical if it has the very bytes that its gap is
 /// written as.
-#[derive(Clone, Copy, Debug)]
+#[derive(Clone, Copy)]
 pub struct Blanks {
     /// The gap that they make.
     pub gap: Gap,
@@ -26,7 +26,7 @@ pub struct Blanks {
 }
 
 /// The place of an entry.
-#[derive(Clone, Copy, Debug)]
+#[derive(Clone, Copy)]
 pub struct Span {
     /// The byte offset of its lexeme.
     pub start: usize,

@@ -30,7 +30,7 @@ use std::alloc::{AllocError, Global};
 ///
 /// It borrows the text, and holds no copy of it. Its tidy text it holds only if the text has a CR,
 /// or a byte order mark that stands apart.
-#[derive(Debug, Drop)]
+#[derive(Drop)]
 pub struct Tidying<'src> {
     text: &'src str,
     /// The byte offset after the last entry.

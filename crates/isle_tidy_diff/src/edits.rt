@@ -8,7 +8,7 @@ use crate::lines::lines;
 use std::alloc::{AllocError, Global};
 
 /// What becomes of a line.
-#[derive(Clone, Copy, Debug)]
+#[derive(Clone, Copy)]
 pub enum Change {
     /// It is in both texts.
     Kept,
@@ -19,7 +19,7 @@ pub enum Change {
 }
 
 /// A line with its LF, which only the last one of a text may lack, and what becomes of it.
-#[derive(Clone, Copy, Debug)]
+#[derive(Clone, Copy)]
 pub struct Edit<'a> {
     pub change: Change,
     pub line: &'a [u8],

@@ -15,7 +15,7 @@ use std::simd::prelude::*;
 const LANES: usize = 32;
 
 /// A column of the source, and its column in the result.
-#[derive(Clone, Copy, Debug)]
+#[derive(Clone, Copy)]
 pub struct Columns {
     pub source: usize,
     pub result: usize,

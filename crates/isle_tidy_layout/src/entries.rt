@@ -1,7 +1,7 @@
 //! The entries of a document: its lexemes, and the gap before each.
 
 /// The gap before an entry.
-#[derive(Clone, Copy, Debug, PartialEq, Eq)]
+#[derive(Clone, Copy, PartialEq, Eq)]
 pub enum Gap {
     /// On the same line, after this many spaces.
     Beside(usize),
@@ -13,7 +13,7 @@ pub enum Gap {
 }
 
 /// A lexeme as it is written. Its text is borrowed from the source.
-#[derive(Clone, Copy, Debug)]
+#[derive(Clone, Copy)]
 pub enum Lexeme<'src> {
     /// The `(` of a list.
     Opening,
@@ -30,7 +30,7 @@ pub enum Lexeme<'src> {
 }
 
 /// A lexeme, and the gap before it.
-#[derive(Clone, Copy, Debug)]
+#[derive(Clone, Copy)]
 pub struct Entry<'src> {
     pub gap: Gap,
     pub lexeme: Lexeme<'src>,

@@ -32,7 +32,7 @@ const MAX_COLUMNS: usize = 1 << 62;
 /// Places the entries of a document, one after another.
 ///
 /// It keeps the open lists and their arguments, but no entries.
-#[derive(Debug, Drop)]
+#[derive(Drop)]
 pub struct Placer {
     /// The kind of the last entry.
     pub before: Kind,

@@ -9,7 +9,7 @@ ghost use Rattle.isle_tidy_layout.specs.Placing.{result_width as width_in_result
 use crate::entries::Lexeme;
 
 /// The kind of an entry, or the start of the text.
-#[derive(Clone, Copy, Debug, PartialEq, Eq)]
+#[derive(Clone, Copy, PartialEq, Eq)]
 pub enum Kind {
     /// The start of the text.
     Start,
@@ -26,7 +26,7 @@ pub enum Kind {
 }
 
 /// The kind of a list's first item, on which the column of a new line in the list depends.
-#[derive(Clone, Copy, Debug, PartialEq, Eq)]
+#[derive(Clone, Copy, PartialEq, Eq)]
 pub enum Head {
     /// There is no item yet.
     NoHead,

@@ -17,7 +17,7 @@ use crate::placing::{Head, Kind};
 
 /// An open list. All open lists keep their arguments in one vector, an inner list after an outer
 /// one.
-#[derive(Clone, Copy, Debug)]
+#[derive(Clone, Copy)]
 pub struct Opened {
     /// The line number of its `(`.
     pub row: usize,
