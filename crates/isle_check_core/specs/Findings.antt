@@ -17,8 +17,8 @@ use Rattle.isle_check_extractors.specs.Externs.{extern_faults_by}
 use Rattle.isle_check_extractors.specs.Extractors.{extractor_faults_by}
 use Rattle.isle_check_extractors.specs.Roots.{root_faults_by}
 use Rattle.isle_check_recursion.specs.Recursion.{RecursionNode, recursions}
-use Rattle.isle_check_signatures.specs.Environment.{EnvironmentNode, environment}
-use Rattle.isle_check_signatures.specs.Signatures.{TermNode}
+use Rattle.isle_check_environment.specs.signatures.Environment.{EnvironmentNode, environment}
+use Rattle.isle_check_environment.specs.signatures.Signatures.{TermNode}
 use Rattle.isle_check_typing.specs.Faults as typing
 use Rattle.isle_check_rules.specs.RuleFaults.{rule_faults}
 use Rattle.isle_check_rules.specs.RuleTypes.{RulesTyping}

@@ -14,8 +14,8 @@ ghost use Rattle.isle_check_declarations.specs.Views.{faults_of, term_in};
 ghost use Rattle.isle_check_overlaps.specs.Views as overlaps;
 ghost use Rattle.isle_check_recursion.specs.Views.{names_at, recursions_at};
 ghost use Rattle.isle_check_rules.specs.Views.{rules_typing_of, typed_rules_of};
-ghost use Rattle.isle_check_signatures.specs.Environment.{environment};
-ghost use Rattle.isle_check_signatures.specs.Views.{environment_of};
+ghost use Rattle.isle_check_environment.specs.signatures.Environment.{environment};
+ghost use Rattle.isle_check_environment.specs.signatures.Views.{environment_of};
 ghost use Rattle.isle_check_typing.specs.Views as typing;
 
 use crate::finding::{Finding, Kind};
@@ -29,7 +29,7 @@ use isle_check_matchings::rule_overlaps;
 use isle_check_overlaps::Comparison;
 use isle_check_recursion::{Recursion, recursions};
 use isle_check_rules::{RuleRefusal, RulesTyping, TypedRule, rule_faults};
-use isle_check_signatures::Environment;
+use isle_check_environment::signatures::Environment;
 use std::alloc::{AllocError, Global};
 
 /// How many patterns or expressions of a rule may lie in one another once templates are filled and

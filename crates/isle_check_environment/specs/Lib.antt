@@ -4,3 +4,4 @@ pub mod Types
 pub mod Parts
 pub mod Terms
 pub mod Views
+pub mod signatures

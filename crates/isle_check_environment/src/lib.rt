@@ -5,5 +5,6 @@
 pub mod by_text;
 pub mod names;
 pub mod parts;
+pub mod signatures;
 pub mod terms;
 pub mod types;

@@ -4,7 +4,7 @@ ghost use Rattle.std.specs.Prelude.{[], map, string_bytes};
 ghost use Rattle.isle_ast_names.specs.TreeView.{name_of};
 ghost use Rattle.isle_ast_rules.specs.TreeView.{expression_list_of, expression_of};
 ghost use Rattle.isle_ast_rules.specs.TreeView.{expressions_of, let_list_of, single_lets_of};
-ghost use Rattle.isle_check_signatures.specs.Views.{environment_of, term_of};
+ghost use Rattle.isle_check_environment.specs.signatures.Views.{environment_of, term_of};
 ghost use Rattle.isle_check_typing.specs.Progress.{find};
 ghost use Rattle.isle_check_typing.specs.Views.{GivesTyping, GivesTypings, progress_of};
 ghost use Rattle.isle_check_expressions.specs.ExpressionTypes.{arguments_by, expression_at};
@@ -21,7 +21,7 @@ use crate::uses::{converting, count_arguments, count_expressions, use_term};
 use isle_ast_names::Ident;
 use isle_ast_rules::{Expr, LetDef};
 use isle_base::lexer::Pos;
-use isle_check_signatures::{Environment, Term};
+use isle_check_environment::signatures::{Environment, Term};
 use isle_check_typing::{Kind, Progress, Refusal, bind, find, hide_since, tell};
 use std::alloc::Global;
 

@@ -2,7 +2,7 @@
 
 ghost use Rattle.std.specs.Prelude.{◌≡◌, IfOk, Some, option_map, string_bytes};
 ghost use Rattle.isle_ast_names.specs.TreeView.{name_of};
-ghost use Rattle.isle_check_signatures.specs.Views.{environment_of};
+ghost use Rattle.isle_check_environment.specs.signatures.Views.{environment_of};
 ghost use Rattle.isle_check_typing.specs.Views.{progress_of};
 ghost use Rattle.isle_check_expressions.specs.ExpressionTypes.{other_than, type_bool};
 ghost use Rattle.isle_check_expressions.specs.ExpressionTypes.{type_constant, type_integer};
@@ -12,7 +12,7 @@ ghost use Rattle.isle_check_expressions.specs.Views.{type_text};
 use crate::typed::TypedExpression;
 use isle_ast_names::Ident;
 use isle_base::lexer::Pos;
-use isle_check_signatures::Environment;
+use isle_check_environment::signatures::Environment;
 use isle_check_typing::{Kind, Progress, tell};
 use std::alloc::{AllocError, Global};
 

@@ -2,7 +2,7 @@
 
 ghost use Rattle.std.specs.Prelude.{◌≡◌, OnOk, option_map, string_bytes};
 ghost use Rattle.isle_ast_rules.specs.TreeView.{expression_list_of, expressions_of};
-ghost use Rattle.isle_check_signatures.specs.Views.{environment_of, term_of};
+ghost use Rattle.isle_check_environment.specs.signatures.Views.{environment_of, term_of};
 ghost use Rattle.isle_check_typing.specs.Views.{progress_of};
 ghost use Rattle.isle_check_expressions.specs.ExpressionTypes.{converting, count_arguments};
 ghost use Rattle.isle_check_expressions.specs.ExpressionTypes.{count_expressions, use_term};
@@ -10,7 +10,7 @@ ghost use Rattle.isle_check_expressions.specs.ExpressionTypes.{count_expressions
 use crate::flags::Flags;
 use isle_ast_rules::Expr;
 use isle_base::lexer::Pos;
-use isle_check_signatures::{Environment, Term};
+use isle_check_environment::signatures::{Environment, Term};
 use isle_check_typing::{Kind, Progress, tell};
 use std::alloc::AllocError;
 

@@ -1,7 +1,7 @@
 -- Typed expressions are closed, if none of their terms is multi.
 use Rattle.std.proofs.Common.{◌≡◌, ℕ, List, [], ◌∷◌, ◌++◌, length, true, Option, Some, refl, ap, sym, ◌∙◌, subst, append_assoc, append-nil}
 use Rattle.isle_ast_rules.specs.Tree.{Expression, term_expression, var_expression, ExpressionList, no_expression, more_expression, LetList}
-use Rattle.isle_check_signatures.specs.Environment.{EnvironmentNode}
+use Rattle.isle_check_environment.specs.signatures.Environment.{EnvironmentNode}
 use Rattle.isle_check_typing.specs.Progress.{VariableNode}
 use Rattle.isle_check_expressions.specs.declared.flags.Flags.{Flags}
 use Rattle.isle_check_expressions.specs.TypedExpressions.{TypedExpressionNode, TypedLetNode, typed_expression_list, typed_let_list}

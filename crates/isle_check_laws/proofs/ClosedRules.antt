@@ -1,7 +1,7 @@
 -- A typed rule is closed, if none of its terms is multi.
 use Rattle.std.proofs.Common.{◌≡◌, ℕ, List, [], ◌++◌, None, ap}
 use Rattle.isle_ast_rules.specs.Tree.{RuleDefinition, Condition}
-use Rattle.isle_check_signatures.specs.Environment.{EnvironmentNode}
+use Rattle.isle_check_environment.specs.signatures.Environment.{EnvironmentNode}
 use Rattle.isle_check_typing.specs.Progress.{VariableNode}
 use Rattle.isle_check_typing.specs.TypedView.{typed_list_of}
 use Rattle.isle_check_expressions.specs.declared.flags.Flags.{Flags}

@@ -10,8 +10,8 @@ use Rattle.isle_ast.specs.Tree.{Declaration, Definition, EnumVariant, ExternDefi
 use Rattle.isle_check_declarations.specs.TermFaults.{variants_of}
 use Rattle.isle_check_environment.specs.Parts.{ConstantNode, constant_in, constants_in, decl_in, decls_in, extractor_in, extractors_in, rule_in, type_in, types_in}
 use Rattle.isle_check_environment.specs.Terms.{content_names, extern_in, full_names, name_list, ruled_name, template_name, variant_names}
-use Rattle.isle_check_signatures.specs.Entries.{Entry, entry}
-use Rattle.isle_check_signatures.specs.Signatures.{TermNode, constant_entry, constructor_name, content_entries, declared_entry, declared_term, extractor_name, template_entry, variant_entries, variant_entry, variants_entries}
+use Rattle.isle_check_environment.specs.signatures.Entries.{Entry, entry}
+use Rattle.isle_check_environment.specs.signatures.Signatures.{TermNode, constant_entry, constructor_name, content_entries, declared_entry, declared_term, extractor_name, template_entry, variant_entries, variant_entry, variants_entries}
 use Rattle.isle_check_laws.specs.BrokenExterns.{HasRule}
 use Rattle.isle_check_laws.specs.BrokenExtractors.{HasExtractor}
 use Rattle.isle_check_laws.specs.BrokenRecursions.{template_of}

@@ -1,7 +1,7 @@
 -- The entries of a list by their texts.
 use Rattle.std.proofs.Common.{◌≡◌, ℕ, List, [], ◌∷◌, Bool, true, false, Option, None, Some, Contains, refl, ap, sym, ◌∙◌, bytes_eq, if◌then◌else◌}
 use Rattle.std.proofs.lemmas.Option.{none-some}
-use Rattle.isle_check_signatures.specs.Entries.{Entry, or_else, value_of}
+use Rattle.isle_check_environment.specs.signatures.Entries.{Entry, or_else, value_of}
 use Rattle.isle_check_laws.proofs.Lists.{either, first_or_later, here, later, no_element}
 use Rattle.isle_check_laws.proofs.Names.{other_text, same_text}
 

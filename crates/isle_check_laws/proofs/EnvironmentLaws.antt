@@ -6,9 +6,9 @@ use Rattle.isle_ast.specs.Tree.{Conversion, Definition}
 use Rattle.isle_check_environment.specs.Names.{has}
 use Rattle.isle_check_environment.specs.Parts.{converters_in, types_in}
 use Rattle.isle_check_environment.specs.Terms.{ruled_name, template_name, variant_names}
-use Rattle.isle_check_signatures.specs.Entries.{entry}
-use Rattle.isle_check_signatures.specs.Environment.{converting, environment}
-use Rattle.isle_check_signatures.specs.Signatures.{constant_entry, constructor_name, declared_entry, declared_term, extractor_name, template_entry, variant_entries, variant_entry}
+use Rattle.isle_check_environment.specs.signatures.Entries.{entry}
+use Rattle.isle_check_environment.specs.signatures.Environment.{converting, environment}
+use Rattle.isle_check_environment.specs.signatures.Signatures.{constant_entry, constructor_name, declared_entry, declared_term, extractor_name, template_entry, variant_entries, variant_entry}
 use Rattle.isle_check_laws.specs.BrokenRecursions.{template_of}
 use Rattle.isle_check_laws.specs.Environments.{IsTermOf, IsTrueOf}
 use Rattle.isle_check_laws.proofs.Definitions.{constant_from, constant_given, constructor_named, declared_given, external_named, extractor_named, rule_named, template_given, term_by, variant_given, variant_named}

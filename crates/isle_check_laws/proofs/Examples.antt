@@ -3,7 +3,7 @@ use Rattle.std.proofs.Common.{◌≡◌, ◌∙◌, sym, subst, arith, ltb-false
 use Rattle.std.proofs.lemmas.Bool.Decides.{Decides-eqb}
 use Rattle.std.proofs.lemmas.Option.{none-some, same_Some}
 use Rattle.std.specs.List.{sum_by}
-use Rattle.isle_check_signatures.specs.Signatures.{TermNode}
+use Rattle.isle_check_environment.specs.signatures.Signatures.{TermNode}
 use Rattle.isle_check_typing.specs.Typed.{TypedNode, typed_bind, typed_var, typed_int, typed_term, typed_wildcard, typed_and, no_typed, more_typed}
 use Rattle.isle_check_expressions.specs.TypedExpressions.{typed_var_expression, typed_int_expression, typed_term_expression, typed_let_expression, no_typed_expression, more_typed_expression, more_typed_let, no_typed_let}
 use Rattle.isle_check_rules.specs.TypedRules.{TypedCondition, TypedRuleNode}

@@ -2,7 +2,7 @@
 use Rattle.std.proofs.Common.{◌≡◌, ◌↔◌, ℕ, ◌+◌, List, [], Option, refl, ap, sym, ◌∙◌, subst, le_refl, arith}
 use Rattle.std.proofs.lemmas.Option.{same_Some}
 use Rattle.isle_ast_rules.specs.Tree.{Expression, ExpressionList}
-use Rattle.isle_check_signatures.specs.Environment.{EnvironmentNode}
+use Rattle.isle_check_environment.specs.signatures.Environment.{EnvironmentNode}
 use Rattle.isle_check_typing.specs.Progress.{ProgressNode, VariableNode}
 use Rattle.isle_check_typing.specs.Typings.{Typing, gives}
 use Rattle.isle_check_expressions.specs.declared.flags.Flags.{Flags}

@@ -1,7 +1,7 @@
 -- The type of a typed expression.
 use Rattle.std.proofs.Common.{ℕ, List, Option, Some, refl}
 use Rattle.isle_ast_rules.specs.Tree.{Expression, term_expression, var_expression, no_expression, more_expression}
-use Rattle.isle_check_signatures.specs.Environment.{EnvironmentNode}
+use Rattle.isle_check_environment.specs.signatures.Environment.{EnvironmentNode}
 use Rattle.isle_check_typing.specs.Progress.{VariableNode}
 use Rattle.isle_check_expressions.specs.declared.flags.Flags.{Flags}
 use Rattle.isle_check_expressions.specs.TypedExpressions.{TypedExpressionNode, type_of_expression}

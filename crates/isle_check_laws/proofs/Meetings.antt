@@ -4,7 +4,7 @@ use Rattle.std.specs.List.{All, filter}
 use Rattle.std.proofs.lemmas.List.{length-map}
 use Rattle.std.proofs.lemmas.List.Elements.{All-append, All-contains, All-nil, All-take}
 use Rattle.isle_base_source.specs.declared.pos.Pos.{Pos}
-use Rattle.isle_check_signatures.specs.Signatures.{TermNode}
+use Rattle.isle_check_environment.specs.signatures.Signatures.{TermNode}
 use Rattle.isle_check_overlaps.specs.Candidates.{CandidateNode, candidates, hides}
 use Rattle.isle_check_overlaps.specs.Faults.{FaultNode, OtherNode, fault, hidden_by, if_hidden, meetings, met_at, most_told, other, overlaps, shadow_at, shadows, star_at, star_of, stars_of}
 use Rattle.isle_check_overlaps.specs.Matchings.{MatchingNode}

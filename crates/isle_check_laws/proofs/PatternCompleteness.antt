@@ -3,8 +3,8 @@ use Rattle.std.proofs.Common.{◌≡◌, ◌≢◌, ℕ, zero, suc, ◌+◌, ◌
 use Rattle.isle_base_source.specs.declared.pos.Pos.{Pos}
 use Rattle.isle_ast_names.specs.Tree.{Name}
 use Rattle.isle_ast_rules.specs.Tree.{PatternNode, var_pattern, bind_pattern, bool_pattern, int_pattern, constant_pattern, term_pattern, wildcard_pattern, and_pattern, PatternList, no_pattern, more_pattern}
-use Rattle.isle_check_signatures.specs.Environment.{EnvironmentNode}
-use Rattle.isle_check_signatures.specs.Signatures.{TermNode}
+use Rattle.isle_check_environment.specs.signatures.Environment.{EnvironmentNode}
+use Rattle.isle_check_environment.specs.signatures.Signatures.{TermNode}
 use Rattle.isle_check_typing.specs.Faults.{FaultNode, integer_type, bool_type, constant_type, variable_bound, variable_type, argument_count, no_extractor}
 use Rattle.isle_check_typing.specs.PatternTypes.{Below, arguments_by, constant_by, converted_by, converting, count_patterns, each_by, filled_by, if_extracts, own_by, step, term_by, type_at, type_bind, use_by, variable_by}
 use Rattle.isle_check_typing.specs.Progress.{ProgressNode, VariableNode, bind, unless}

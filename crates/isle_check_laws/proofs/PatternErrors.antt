@@ -4,8 +4,8 @@ use Rattle.isle_base_source.specs.declared.pos.Pos.{Pos}
 use Rattle.isle_ast_names.specs.Tree.{Name}
 use Rattle.isle_ast_rules.specs.Templates.{plug}
 use Rattle.isle_ast_rules.specs.Tree.{PatternList, PatternNode, RuleDefinition, and_pattern, bind_pattern, bool_pattern, constant_pattern, int_pattern, macro_arg_pattern, more_pattern, no_pattern, term_pattern, var_pattern, wildcard_pattern}
-use Rattle.isle_check_signatures.specs.Environment.{EnvironmentNode}
-use Rattle.isle_check_signatures.specs.Signatures.{TermNode}
+use Rattle.isle_check_environment.specs.signatures.Environment.{EnvironmentNode}
+use Rattle.isle_check_environment.specs.signatures.Signatures.{TermNode}
 use Rattle.isle_check_typing.specs.Faults as kinds
 use Rattle.isle_check_typing.specs.Faults.{FaultNode}
 use Rattle.isle_check_typing.specs.PatternTypes.{arguments_by, bound_by, constant_by, converted_by, converting, count_patterns, each_by, filled_by, if_extracts, list_list, own_by, step, term_by, type_at, use_by, variable_by}

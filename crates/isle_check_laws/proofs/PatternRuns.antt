@@ -1,7 +1,7 @@
 -- Where a pattern matches a value, what it asks of the value's place holds.
 use Rattle.std.proofs.Common.{◌≡◌, ℕ, suc, List, [], ◌∷◌, ◌++◌, ◌==◌, length, Bool, true, false, Option, Some, None, refl, ap, sym, ◌∙◌, subst, append_assoc, append-nil, if◌then◌else◌}
 use Rattle.std.proofs.lemmas.Option.{none-some, same_Some}
-use Rattle.isle_check_signatures.specs.Signatures.{TermNode}
+use Rattle.isle_check_environment.specs.signatures.Signatures.{TermNode}
 use Rattle.isle_check_typing.specs.Typed.{TypedNode, typed_bind, typed_var, typed_bool, typed_int, typed_const, typed_term, typed_wildcard, typed_and, TypedList, no_typed, more_typed}
 use Rattle.isle_check_places.specs.Under.{UnderNode, same, fields, parts, place_under, parts_of}
 use Rattle.isle_check_places.specs.Places.{Place, field, content, part, each, extracted, present, step_on, ConstraintNode, of_variant, of_bool, of_int, of_constant}

@@ -6,8 +6,8 @@ use Rattle.isle_base_source.specs.declared.pos.Pos.{Pos}
 use Rattle.isle_ast_names.specs.Tree.{Name}
 use Rattle.isle_ast_rules.specs.Templates.{plug}
 use Rattle.isle_ast_rules.specs.Tree.{PatternNode, var_pattern, bind_pattern, bool_pattern, int_pattern, constant_pattern, term_pattern, wildcard_pattern, and_pattern, macro_arg_pattern, PatternList, no_pattern, more_pattern}
-use Rattle.isle_check_signatures.specs.Environment.{EnvironmentNode}
-use Rattle.isle_check_signatures.specs.Signatures.{TermNode}
+use Rattle.isle_check_environment.specs.signatures.Environment.{EnvironmentNode}
+use Rattle.isle_check_environment.specs.signatures.Signatures.{TermNode}
 use Rattle.isle_check_typing.specs.Faults.{integer_type, bool_type, constant_unknown, constant_type, variable_bound, variable_type, term_unknown, term_type, argument_count, no_extractor, parameter_without_argument, macro_argument}
 use Rattle.isle_check_typing.specs.PatternTypes.{Below, arguments_by, bound_by, constant_by, converted_by, converting, count_patterns, each_by, filled_by, if_extracts, list_list, own_by, step, term_by, type_and, type_at, type_bind, use_by, variable_by}
 use Rattle.isle_check_typing.specs.Progress.{FoundNode, ProgressNode, bind, find, tell, unless}

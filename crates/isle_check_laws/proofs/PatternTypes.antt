@@ -1,7 +1,7 @@
 -- The type of a typed pattern.
 use Rattle.std.proofs.Common.{◌≡◌, ℕ, List, refl}
 use Rattle.isle_ast_rules.specs.Tree.{PatternNode, term_pattern, no_pattern, more_pattern}
-use Rattle.isle_check_signatures.specs.Environment.{EnvironmentNode}
+use Rattle.isle_check_environment.specs.signatures.Environment.{EnvironmentNode}
 use Rattle.isle_check_typing.specs.Progress.{VariableNode}
 use Rattle.isle_check_typing.specs.Typed.{TypedNode, type_of}
 use Rattle.isle_check_laws.specs.HasType.{HasType, binds, compares, names, is_bool, is_integer, is_constant, is_anything, are_all, extracts, expands, converts}

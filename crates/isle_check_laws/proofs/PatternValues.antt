@@ -1,6 +1,6 @@
 -- Where what a closed pattern asks of a value's place holds, it matches the value.
 use Rattle.std.proofs.Common.{◌≡◌, ℕ, suc, List, [], ◌∷◌, ◌++◌, length, Bool, true, false, Option, Some, None, refl, ap, sym, ◌∙◌, subst, append_assoc, append-nil, option_and_then}
-use Rattle.isle_check_signatures.specs.Signatures.{TermNode}
+use Rattle.isle_check_environment.specs.signatures.Signatures.{TermNode}
 use Rattle.isle_check_typing.specs.Typed.{TypedNode, typed_bind, typed_var, typed_bool, typed_int, typed_const, typed_term, typed_wildcard, typed_and, TypedList, no_typed, more_typed}
 use Rattle.isle_check_places.specs.Under.{UnderNode, same, place_under}
 use Rattle.isle_check_places.specs.Places.{Place, content, extracted, present, step_on, ConstraintNode, of_variant, of_bool, of_int, of_constant}

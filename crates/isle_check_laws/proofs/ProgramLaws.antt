@@ -9,8 +9,8 @@ use Rattle.isle_ast_rules.specs.TermHeads.{expression_heads}
 use Rattle.isle_ast_rules.specs.Tree.{RuleDefinition}
 use Rattle.isle_ast.specs.Tree.{Declaration, Definition}
 use Rattle.isle_check_environment.specs.Parts.{decls_in, rules_in}
-use Rattle.isle_check_signatures.specs.Environment.{EnvironmentNode}
-use Rattle.isle_check_signatures.specs.Signatures.{TermNode}
+use Rattle.isle_check_environment.specs.signatures.Environment.{EnvironmentNode}
+use Rattle.isle_check_environment.specs.signatures.Signatures.{TermNode}
 use Rattle.isle_check_typing.specs.Faults.{FaultNode, term_undefined}
 use Rattle.isle_check_rules.specs.Constructors.{lacks_constructor, without_constructor}
 use Rattle.isle_check_rules.specs.RuleFaults.{constructor_fault, terms_without_constructor, undefined_term, undefined_terms, with_faults}

@@ -11,9 +11,9 @@ use Rattle.isle_ast_rules.specs.Tree.{ExtractorDefinition, PatternNode}
 use Rattle.isle_ast.specs.Tree.{Declaration, Definition, attr, converter, decl, external, extractor, form, instantiation, model, rule, spec, spec_macro, state, type_def}
 use Rattle.isle_check_recursion.specs.Walks.{ends_from}
 use Rattle.isle_check_environment.specs.Parts.{decls_in, extractor_in}
-use Rattle.isle_check_signatures.specs.Entries.{Entry, entry, value_of}
-use Rattle.isle_check_signatures.specs.Environment.{environment}
-use Rattle.isle_check_signatures.specs.Signatures.{template_entry}
+use Rattle.isle_check_environment.specs.signatures.Entries.{Entry, entry, value_of}
+use Rattle.isle_check_environment.specs.signatures.Environment.{environment}
+use Rattle.isle_check_environment.specs.signatures.Signatures.{template_entry}
 use Rattle.isle_check_recursion.specs.Recursion.{RecursionNode, endless_walk, last_template, name_of_number, names, number, numbered, recursion, recursion_to, recursions, recursions_from, used_at, uses, uses_of}
 use Rattle.isle_check_laws.specs.BrokenRecursions.{AreLinked, HasTemplate, IsBrokenRecursion, UsesTerm, template_of}
 use Rattle.isle_check_laws.proofs.Entries.{entry_of, same_some}

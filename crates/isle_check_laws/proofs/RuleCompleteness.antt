@@ -1,7 +1,7 @@
 -- A rule that is well typed by the rules is typed so, without an error, where enough depth is given.
 use Rattle.std.proofs.Common.{◌≡◌, ℕ, ◌+◌, ◌≤◌, pos, List, [], ◌∷◌, ◌++◌, length, Option, None, Some, is_none, unwrap_or, option_map, ap, sym, ◌∙◌, append-nil, append_assoc, arith, eq-eqb}
 use Rattle.isle_ast_rules.specs.Tree.{Condition, RuleDefinition}
-use Rattle.isle_check_signatures.specs.Environment.{EnvironmentNode}
+use Rattle.isle_check_environment.specs.signatures.Environment.{EnvironmentNode}
 use Rattle.isle_check_typing.specs.Faults.{FaultNode, argument_count, priority_in_multi}
 use Rattle.isle_check_typing.specs.PatternTypes.{arguments_by, count_patterns, type_at}
 use Rattle.isle_check_typing.specs.Progress.{VariableNode, unless}

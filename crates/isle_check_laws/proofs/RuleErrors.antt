@@ -9,8 +9,8 @@ use Rattle.isle_ast_rules.specs.TermHeads.{expression_heads}
 use Rattle.isle_ast_rules.specs.Tree.{Condition, PatternList, PatternNode, RuleDefinition, and_pattern, bind_pattern, bool_pattern, constant_pattern, int_pattern, macro_arg_pattern, term_pattern, var_pattern, wildcard_pattern}
 use Rattle.isle_ast.specs.Tree.{Definition}
 use Rattle.isle_check_environment.specs.Parts.{decls_in, rules_in}
-use Rattle.isle_check_signatures.specs.Environment.{EnvironmentNode}
-use Rattle.isle_check_signatures.specs.Signatures.{TermNode}
+use Rattle.isle_check_environment.specs.signatures.Environment.{EnvironmentNode}
+use Rattle.isle_check_environment.specs.signatures.Signatures.{TermNode}
 use Rattle.isle_check_typing.specs.Faults as kinds
 use Rattle.isle_check_typing.specs.Faults.{FaultNode}
 use Rattle.isle_check_typing.specs.PatternTypes.{arguments_by, count_patterns, type_at}

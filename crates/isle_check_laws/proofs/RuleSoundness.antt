@@ -4,8 +4,8 @@ use Rattle.std.proofs.lemmas.Option.{none-some, same_Some}
 use Rattle.isle_base_source.specs.declared.pos.Pos.{Pos}
 use Rattle.isle_ast_names.specs.Tree.{Name}
 use Rattle.isle_ast_rules.specs.Tree.{PatternNode, var_pattern, bind_pattern, bool_pattern, int_pattern, constant_pattern, term_pattern, wildcard_pattern, and_pattern, macro_arg_pattern, PatternList, Condition, RuleDefinition}
-use Rattle.isle_check_signatures.specs.Environment.{EnvironmentNode}
-use Rattle.isle_check_signatures.specs.Signatures.{TermNode}
+use Rattle.isle_check_environment.specs.signatures.Environment.{EnvironmentNode}
+use Rattle.isle_check_environment.specs.signatures.Signatures.{TermNode}
 use Rattle.isle_check_typing.specs.Faults.{argument_count, priority_in_multi}
 use Rattle.isle_check_typing.specs.PatternTypes.{arguments_by, count_patterns, type_at}
 use Rattle.isle_check_typing.specs.Progress.{ProgressNode, VariableNode, unless}

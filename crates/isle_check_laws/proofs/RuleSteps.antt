@@ -4,7 +4,7 @@ use Rattle.std.specs.List.{All}
 use Rattle.std.proofs.lemmas.List.Elements.{All-push, Contains-append_cases, Contains-push_cases}
 use Rattle.isle_base_source.specs.declared.pos.Pos.{Pos}
 use Rattle.isle_check_typing.specs.Faults.{FaultNode, KindNode}
-use Rattle.isle_check_signatures.specs.Entries.{or_else}
+use Rattle.isle_check_environment.specs.signatures.Entries.{or_else}
 use Rattle.isle_check_typing.specs.Progress.{FoundNode, ProgressNode, VariableNode, bind, find, find_from, hidden, hide_since, tell, unless}
 use Rattle.isle_check_typing.specs.Typings.{and_then}
 use Rattle.isle_check_laws.proofs.Lists.{both_true, either, first_or_later, from_map, here, later, no_element}

@@ -4,7 +4,7 @@ use Rattle.std.proofs.lemmas.Bool.Decides.{Decides-eqb}
 use Rattle.std.proofs.lemmas.List.{take_at, drop_at}
 use Rattle.std.proofs.lemmas.Option.{none-some, same_Some}
 use Rattle.std.specs.List.{list_any}
-use Rattle.isle_check_signatures.specs.Entries.{or_else}
+use Rattle.isle_check_environment.specs.signatures.Entries.{or_else}
 use Rattle.isle_check_typing.specs.Progress.{FoundNode, VariableNode, find, find_from, hidden}
 use Rattle.isle_check_laws.specs.HasExpressionType.{bound_behind}
 use Rattle.isle_check_laws.specs.HasType.{bound_more}

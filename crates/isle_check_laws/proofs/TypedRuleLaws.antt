@@ -2,7 +2,7 @@
 use Rattle.std.proofs.Common.{◌≡◌, ◌≢◌, ◌↔◌, inl, inr, ℕ, ◌+◌, ◌⊎◌, [], Option, None, Some, refl, ap, sym, ◌∙◌, subst, le_refl, arith}
 use Rattle.std.proofs.lemmas.Option.{none-some, same_Some}
 use Rattle.isle_ast_rules.specs.Tree.{RuleDefinition}
-use Rattle.isle_check_signatures.specs.Environment.{EnvironmentNode}
+use Rattle.isle_check_environment.specs.signatures.Environment.{EnvironmentNode}
 use Rattle.isle_check_rules.specs.RuleTypes.{RuleTyping, type_rule}
 use Rattle.isle_check_rules.specs.TypedRules.{TypedRuleNode}
 use Rattle.isle_check_laws.specs.IsTypedRule.{IsTypedRule}

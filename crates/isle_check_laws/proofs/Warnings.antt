@@ -10,8 +10,8 @@ use Rattle.isle_check_recursion.specs.Conversions.{endless_conversions}
 use Rattle.isle_check_environment.specs.Names.{has}
 use Rattle.isle_check_environment.specs.Parts.{ConstantNode, constants_in, extractors_in, rules_in}
 use Rattle.isle_check_places.specs.Settling.{SettledNode, endless, settled, unequal}
-use Rattle.isle_check_signatures.specs.Environment.{EnvironmentNode}
-use Rattle.isle_check_signatures.specs.Signatures.{TermNode}
+use Rattle.isle_check_environment.specs.signatures.Environment.{EnvironmentNode}
+use Rattle.isle_check_environment.specs.signatures.Signatures.{TermNode}
 use Rattle.isle_check_rules.specs.TypedRules.{TypedRuleNode}
 use Rattle.isle_check_rules.specs.Warnings as warned
 use Rattle.isle_check_overlaps.specs.Candidates.{CandidateNode, candidates, hides_with_equals}

@@ -6,7 +6,7 @@ use Rattle.isle_ast_rules.specs.Tree.{RuleDefinition}
 use Rattle.isle_ast.specs.Tree.{Definition}
 use Rattle.isle_check_environment.specs.Parts.{rules_in}
 use Rattle.isle_check_declarations.specs.Faults as declarations
-use Rattle.isle_check_signatures.specs.Environment.{environment}
+use Rattle.isle_check_environment.specs.signatures.Environment.{environment}
 use Rattle.isle_check_typing.specs.Faults as typing
 use Rattle.isle_check_rules.specs.RuleFaults.{rule_faults}
 use Rattle.isle_check_rules.specs.RuleTypes.{RulesTyping, type_rule}

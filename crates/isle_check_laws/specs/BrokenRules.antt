@@ -8,8 +8,8 @@ use Rattle.isle_ast_rules.specs.Templates.{plug}
 use Rattle.isle_ast_rules.specs.Tree.{Expression, ExpressionList, LetList, PatternList, PatternNode, RuleDefinition, bind_pattern, bool_expression, bool_pattern, constant_expression, constant_pattern, int_expression, int_pattern, let_expression, macro_arg_pattern, term_expression, term_pattern, var_expression, var_pattern}
 use Rattle.isle_ast.specs.Tree.{Declaration, Definition}
 use Rattle.isle_check_environment.specs.Parts.{decls_in, rules_in}
-use Rattle.isle_check_signatures.specs.Environment.{EnvironmentNode}
-use Rattle.isle_check_signatures.specs.Signatures.{TermNode}
+use Rattle.isle_check_environment.specs.signatures.Environment.{EnvironmentNode}
+use Rattle.isle_check_environment.specs.signatures.Signatures.{TermNode}
 use Rattle.isle_check_typing.specs.Faults as kinds
 use Rattle.isle_check_typing.specs.PatternTypes.{count_patterns, list_list}
 use Rattle.isle_check_expressions.specs.declared.flags.Flags.{Flags}

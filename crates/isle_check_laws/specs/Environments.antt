@@ -7,8 +7,8 @@ use Rattle.isle_ast.specs.Tree.{Conversion, Declaration, Definition, EnumVariant
 use Rattle.isle_check_declarations.specs.TermFaults.{variants_of}
 use Rattle.isle_check_environment.specs.Parts.{ConstantNode, constants_in, converters_in, decls_in, extractors_in, types_in}
 use Rattle.isle_check_environment.specs.Terms.{externs_in}
-use Rattle.isle_check_signatures.specs.Environment.{EnvironmentNode}
-use Rattle.isle_check_signatures.specs.Signatures.{TermNode, declared_term, variant_term}
+use Rattle.isle_check_environment.specs.signatures.Environment.{EnvironmentNode}
+use Rattle.isle_check_environment.specs.signatures.Signatures.{TermNode, declared_term, variant_term}
 use Rattle.isle_check_laws.specs.BrokenExterns.{HasRule, IsConstructorOf, IsExtractorOf}
 use Rattle.isle_check_laws.specs.BrokenExtractors.{HasExtractor}
 use Rattle.isle_check_laws.specs.Named.{HasVariantOf, IsUnknownTerm, IsUnknownType}

@@ -9,7 +9,7 @@ use Rattle.isle_check_extractors.specs.Externs.{extern_faults}
 use Rattle.isle_check_extractors.specs.Extractors.{extractor_faults}
 use Rattle.isle_check_extractors.specs.Roots.{root_faults}
 use Rattle.isle_check_recursion.specs.Recursion.{recursions}
-use Rattle.isle_check_signatures.specs.Environment.{environment}
+use Rattle.isle_check_environment.specs.signatures.Environment.{environment}
 use Rattle.isle_check_rules.specs.RuleFaults.{rule_faults}
 use Rattle.isle_check_rules.specs.RuleTypes.{RulesTyping}
 use Rattle.isle_check_matchings.specs.Matchings.{rule_overlaps}

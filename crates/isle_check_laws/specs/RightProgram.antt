@@ -7,7 +7,7 @@ use Rattle.isle_ast_rules.specs.TermHeads.{expression_heads}
 use Rattle.isle_ast_rules.specs.Tree.{RuleDefinition}
 use Rattle.isle_ast.specs.Tree.{Declaration, Definition}
 use Rattle.isle_check_environment.specs.Parts.{decls_in, rules_in}
-use Rattle.isle_check_signatures.specs.Environment.{EnvironmentNode}
+use Rattle.isle_check_environment.specs.signatures.Environment.{EnvironmentNode}
 use Rattle.isle_check_typing.specs.Faults.{FaultNode}
 use Rattle.isle_check_rules.specs.RuleFaults.{rule_faults}
 use Rattle.isle_check_rules.specs.RuleTypes.{RulesTyping}

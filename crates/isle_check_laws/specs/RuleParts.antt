@@ -5,8 +5,8 @@ use Rattle.isle_base_source.specs.declared.pos.Pos.{Pos}
 use Rattle.isle_ast_names.specs.Tree.{Name}
 use Rattle.isle_ast_rules.specs.Templates.{plug}
 use Rattle.isle_ast_rules.specs.Tree.{Condition, Expression, ExpressionList, LetList, PatternList, PatternNode, RuleDefinition, and_pattern, bind_pattern, bool_expression, constant_expression, int_expression, let_expression, more_expression, more_let, more_pattern, no_expression, no_let, no_pattern, term_expression, term_pattern, var_expression, var_pattern}
-use Rattle.isle_check_signatures.specs.Environment.{EnvironmentNode}
-use Rattle.isle_check_signatures.specs.Signatures.{TermNode}
+use Rattle.isle_check_environment.specs.signatures.Environment.{EnvironmentNode}
+use Rattle.isle_check_environment.specs.signatures.Signatures.{TermNode}
 use Rattle.isle_check_typing.specs.PatternTypes.{list_list}
 use Rattle.isle_check_expressions.specs.declared.flags.Flags.{Flags}
 use Rattle.isle_check_rules.specs.RuleTypes.{condition_flags, rule_flags}

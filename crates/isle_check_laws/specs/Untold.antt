@@ -1,8 +1,8 @@
 -- Typing at some depth that adds no error.
 use Rattle.std.specs.Prelude.{◌≡◌, ℕ, List, [], length, Option, None, Some}
 use Rattle.isle_ast_rules.specs.Tree.{PatternNode, var_pattern, bind_pattern, bool_pattern, int_pattern, constant_pattern, term_pattern, wildcard_pattern, and_pattern, macro_arg_pattern, PatternList, Expression, ExpressionList, RuleDefinition}
-use Rattle.isle_check_signatures.specs.Environment.{EnvironmentNode}
-use Rattle.isle_check_signatures.specs.Signatures.{TermNode}
+use Rattle.isle_check_environment.specs.signatures.Environment.{EnvironmentNode}
+use Rattle.isle_check_environment.specs.signatures.Signatures.{TermNode}
 use Rattle.isle_check_typing.specs.Faults.{FaultNode}
 use Rattle.isle_check_typing.specs.PatternTypes.{count_patterns, type_at}
 use Rattle.isle_check_typing.specs.PatternTypes as patterns

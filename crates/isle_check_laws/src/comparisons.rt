@@ -3,7 +3,7 @@
 ghost use Rattle.std.specs.Prelude.{◌≡◌, ◌≢◌, ◌↔◌, Decides, ℕ, List, [], false, int_lt};
 ghost use Rattle.std.specs.Prelude.{true};
 ghost use Rattle.isle_ast_rules.specs.Tree.{RuleDefinition};
-ghost use Rattle.isle_check_signatures.specs.Environment.{EnvironmentNode};
+ghost use Rattle.isle_check_environment.specs.signatures.Environment.{EnvironmentNode};
 ghost use Rattle.isle_check_rules.specs.TypedRules.{TypedRuleNode};
 ghost use Rattle.isle_check_laws.specs.IsTypedRule.{IsTypedRule};
 ghost use Rattle.isle_check_places.specs.Clashes.{clashes_after};

@@ -9,7 +9,7 @@ ghost use Rattle.isle_check_extractors.specs.Converters.{converter_faults};
 ghost use Rattle.isle_check_extractors.specs.Externs.{extern_faults};
 ghost use Rattle.isle_check_extractors.specs.Extractors.{extractor_faults};
 ghost use Rattle.isle_check_extractors.specs.Roots.{root_faults};
-ghost use Rattle.isle_check_signatures.specs.Environment.{EnvironmentNode, environment};
+ghost use Rattle.isle_check_environment.specs.signatures.Environment.{EnvironmentNode, environment};
 ghost use Rattle.isle_check_recursion.specs.Recursion.{recursions};
 ghost use Rattle.isle_check_rules.specs.RuleFaults.{rule_faults};
 ghost use Rattle.isle_check_rules.specs.RuleTypes.{RulesTyping};

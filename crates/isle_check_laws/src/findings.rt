@@ -3,7 +3,7 @@
 ghost use Rattle.std.specs.Prelude.{◌≡◌, List, false, true};
 ghost use Rattle.std.specs.List.{All};
 ghost use Rattle.isle_ast.specs.Tree.{Definition};
-ghost use Rattle.isle_check_signatures.specs.Environment.{environment};
+ghost use Rattle.isle_check_environment.specs.signatures.Environment.{environment};
 ghost use Rattle.isle_check_rules.specs.TypedRules.{TypedRuleNode};
 ghost use Rattle.isle_check_laws.specs.RightProgram.{AreRight};
 ghost use Rattle.isle_check_core.specs.Findings.{findings, has_error, is_error};

@@ -6,7 +6,7 @@ ghost use Rattle.isle_ast_rules.specs.Tree.{Expression, ExpressionList, PatternL
 ghost use Rattle.isle_ast_rules.specs.Tree.{PatternNode, RuleDefinition};
 ghost use Rattle.isle_ast.specs.Tree.{Definition};
 ghost use Rattle.isle_check_environment.specs.Parts.{rules_in};
-ghost use Rattle.isle_check_signatures.specs.Environment.{EnvironmentNode};
+ghost use Rattle.isle_check_environment.specs.signatures.Environment.{EnvironmentNode};
 ghost use Rattle.isle_check_typing.specs.PatternTypes.{type_at};
 ghost use Rattle.isle_check_typing.specs.Progress.{ProgressNode, VariableNode};
 ghost use Rattle.isle_check_typing.specs.Typed.{TypedNode, type_of};

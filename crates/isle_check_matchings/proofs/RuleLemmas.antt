@@ -7,7 +7,7 @@ use Rattle.isle_base_source.specs.declared.pos.Pos.{Pos}
 use Rattle.isle_ast.specs.Tree.{Definition}
 use Rattle.isle_check_environment.specs.ByText.{ByText}
 use Rattle.isle_check_environment.specs.Names.{Knows}
-use Rattle.isle_check_signatures.specs.Environment.{EnvironmentNode}
+use Rattle.isle_check_environment.specs.signatures.Environment.{EnvironmentNode}
 use Rattle.isle_check_rules.specs.declared.typed.TypedRule.{TypedRule}
 use Rattle.isle_check_rules.specs.TypedRules.{TypedRuleNode}
 use Rattle.isle_check_rules.specs.Views.{typed_rule_of, typed_rules_of}

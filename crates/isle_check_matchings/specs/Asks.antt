@@ -1,6 +1,6 @@
 -- What typed patterns ask of the values at places.
 use Rattle.std.specs.Prelude.{ℕ, suc, List, [], ◌∷◌, ◌++◌, Bool, Option, None, Some, length, if◌then◌else◌}
-use Rattle.isle_check_signatures.specs.Signatures.{TermNode}
+use Rattle.isle_check_environment.specs.signatures.Signatures.{TermNode}
 use Rattle.isle_check_typing.specs.Typed.{TypedNode, typed_bind, typed_var, typed_bool, typed_int, typed_const, typed_term, typed_wildcard, typed_and, TypedList, no_typed, more_typed}
 use Rattle.isle_check_places.specs.Under.{UnderNode, same, fields, place_under, parts_of}
 use Rattle.isle_check_places.specs.Places.{Place, content, each, extracted, step_on, ConstraintNode, of_variant, of_bool, of_int, of_constant, present}

@@ -4,7 +4,7 @@ use Rattle.std.specs.List.{flat_map}
 use Rattle.isle_ast_names.specs.Tree.{Name}
 use Rattle.isle_ast.specs.Tree.{ExternDefinition, extern_extractor, Definition, external}
 use Rattle.isle_check_environment.specs.Names.{has}
-use Rattle.isle_check_signatures.specs.Environment.{EnvironmentNode}
+use Rattle.isle_check_environment.specs.signatures.Environment.{EnvironmentNode}
 use Rattle.isle_check_matchings.specs.Asks.{TermsNode}
 
 abbrev pub infallible_of_extern : ExternDefinition → List Name

@@ -1,7 +1,7 @@
 -- What is asked of places, and values, of code, as pure values.
 use Rattle.std.specs.Prelude.{List, is_some, map}
 use Rattle.std.specs.HashMap.{get_by_text}
-use Rattle.isle_check_signatures.specs.Views.{environment_of}
+use Rattle.isle_check_environment.specs.signatures.Views.{environment_of}
 use Rattle.isle_check_places.specs.Views.{constraint_of, place_of, places_of}
 use Rattle.isle_check_matchings.specs.declared.asks.Ask.{Ask}
 use Rattle.isle_check_matchings.specs.declared.asks.Ask.TheVariants as said

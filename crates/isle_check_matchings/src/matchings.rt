@@ -11,7 +11,7 @@ ghost use Rattle.isle_check_overlaps.specs.Views.{matching_of, matchings_of, com
 ghost use Rattle.isle_check_places.specs.Views.{all_constrained_of, all_equalities_of};
 ghost use Rattle.isle_check_rules.specs.Views.{typed_rule_of, typed_rules_of};
 ghost use Rattle.isle_check_rules.specs.Warnings.{multi_by};
-ghost use Rattle.isle_check_signatures.specs.Views.{environment_of, term_of};
+ghost use Rattle.isle_check_environment.specs.signatures.Views.{environment_of, term_of};
 
 use crate::asks::Ask;
 use crate::infallible::infallible_extractors;
@@ -22,7 +22,7 @@ use isle_ast::ast::Def;
 use isle_check_overlaps::{Comparison, Matching, compare};
 use isle_check_places::{Constrained, Equality, clashes, copied, settle};
 use isle_check_rules::{TypedRule, Warning, multi_extractors};
-use isle_check_signatures::{Environment, Term};
+use isle_check_environment::signatures::{Environment, Term};
 use std::alloc::{AllocError, Global};
 use std::slice;
 

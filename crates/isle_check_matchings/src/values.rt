@@ -4,7 +4,7 @@ ghost use Rattle.std.specs.Prelude.{◌≡◌, ◌++◌, ◌∷◌, [], IfOk, ma
 ghost use Rattle.isle_check_expressions.specs.TypedExpressions.{typed_expression_list};
 ghost use Rattle.isle_check_expressions.specs.TypedExpressions.{typed_let_list};
 ghost use Rattle.isle_check_expressions.specs.TypedView.{typed_expression_of, typed_let_of};
-ghost use Rattle.isle_check_signatures.specs.Views.{term_of};
+ghost use Rattle.isle_check_environment.specs.signatures.Views.{term_of};
 ghost use Rattle.isle_check_matchings.specs.Values.{answered, called, known_with};
 ghost use Rattle.isle_check_matchings.specs.Values.{term_value, value};
 ghost use Rattle.isle_check_matchings.specs.Values.{value_at, values, variable_value};
@@ -15,7 +15,7 @@ use crate::asks::Ask;
 use crate::openings::Terms;
 use isle_check_expressions::{TypedExpression, TypedLet};
 use isle_check_places::{Place, Step, begin, copied, step_on};
-use isle_check_signatures::Term;
+use isle_check_environment::signatures::Term;
 use std::alloc::{AllocError, Global};
 
 /// The place of a value, and the answers that must be there for it.

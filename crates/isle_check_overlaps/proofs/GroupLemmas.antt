@@ -13,7 +13,7 @@ use Rattle.isle_check_environment.specs.ByText.{ByText}
 use Rattle.isle_check_places.specs.Places.{Place}
 use Rattle.isle_check_places.specs.Comparing.{apart, within}
 use Rattle.isle_check_places.specs.Following.{all_follow}
-use Rattle.isle_check_signatures.specs.Signatures.{TermNode}
+use Rattle.isle_check_environment.specs.signatures.Signatures.{TermNode}
 use Rattle.isle_check_overlaps.specs.Candidates.{CandidateNode, comes_first_and, hides, hides_with_equals}
 use Rattle.isle_check_overlaps.specs.Faults.{FaultNode, equal_shadow_at, hidden_by, if_hidden, met_at, shadow_at, shadows, shadows_with_equals, star_at}
 use Rattle.isle_check_overlaps.specs.Groups.{AreGroups, AreRanked, HasGroup, IsGroup, RankedNode, alike, alike_by, all_ranked_of, asked, asks_other, is_of, is_other, mixed, near, near_by, place_by}

@@ -3,7 +3,7 @@ use Rattle.std.proofs.Common.{◌≡◌, ◌≢◌, ◌==◌, ◌<◌, ◌≤◌
 use Rattle.isle_check_overlaps.specs.Faults.{OtherNode, fault, most_told, other, overlaps, star_of}
 use Rattle.isle_check_overlaps.specs.Candidates.{CandidateNode}
 use Rattle.isle_check_overlaps.specs.declared.candidates.Candidate.{Candidate}
-use Rattle.isle_check_signatures.specs.Signatures.{TermNode}
+use Rattle.isle_check_environment.specs.signatures.Signatures.{TermNode}
 use Rattle.std.proofs.lemmas.List.{length-map}
 use Rattle.std.proofs.lemmas.Bool.{true≢false}
 use Rattle.isle_check_overlaps.specs.declared.stars.Pair.{Pair}

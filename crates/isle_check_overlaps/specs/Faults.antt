@@ -6,7 +6,7 @@ use Rattle.isle_base_source.specs.declared.pos.Pos.{Pos}
 use Rattle.isle_check_places.specs.Places.{ConstraintNode, of_variant, of_bool, of_int, of_constant, present}
 use Rattle.isle_check_places.specs.Clashes.{ClashNode}
 use Rattle.isle_check_places.specs.Settling.{SettledNode, settled, unequal, endless}
-use Rattle.isle_check_signatures.specs.Signatures.{TermNode}
+use Rattle.isle_check_environment.specs.signatures.Signatures.{TermNode}
 use Rattle.isle_check_values.specs.Values.{ValueNode, value}
 use Rattle.isle_check_overlaps.specs.Matchings.{MatchingNode}
 use Rattle.isle_check_overlaps.specs.Candidates.{CandidateNode, candidates, hides, hides_with_equals}

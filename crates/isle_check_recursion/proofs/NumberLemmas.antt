@@ -7,7 +7,7 @@ use Rattle.isle_ast.specs.Tree.{Declaration}
 use Rattle.isle_ast.specs.TreeView.{declaration_of}
 use Rattle.isle_ast.specs.declared.ast.Decl.{Decl}
 use Rattle.isle_check_environment.specs.Views.{decls_at}
-use Rattle.isle_check_signatures.specs.Entries.{entry}
+use Rattle.isle_check_environment.specs.signatures.Entries.{entry}
 use Rattle.isle_check_recursion.specs.Recursion.{name_of_number, numbered}
 
 numbered-last : (n : ℕ) (ds : List Declaration) (d : Declaration) (m : ℕ) → m ≡ n + length ds → numbered n (ds ++ d ∷ []) ≡ numbered n ds ++ entry d.term.text m ∷ []

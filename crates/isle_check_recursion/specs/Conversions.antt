@@ -4,7 +4,7 @@ use Rattle.std.specs.Str.{bytes_eq}
 use Rattle.isle_ast.specs.Tree.{Conversion, Definition}
 use Rattle.isle_check_recursion.specs.Walks.{ends_from}
 use Rattle.isle_check_environment.specs.Parts.{converters_in}
-use Rattle.isle_check_signatures.specs.Signatures.{TermNode}
+use Rattle.isle_check_environment.specs.signatures.Signatures.{TermNode}
 
 -- the number of the first converter of these types, of which the first one has this number
 abbrev pub number_from : ℕ → List Conversion → (inner outer : List ℕ) → Option ℕ

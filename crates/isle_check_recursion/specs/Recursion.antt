@@ -9,8 +9,8 @@ use Rattle.isle_ast_rules.specs.Tree.{PatternNode}
 use Rattle.isle_ast.specs.Tree.{Declaration, Definition}
 use Rattle.isle_check_recursion.specs.Walks.{ends_from}
 use Rattle.isle_check_environment.specs.Parts.{decls_in}
-use Rattle.isle_check_signatures.specs.Entries.{Entry, entry, value_of}
-use Rattle.isle_check_signatures.specs.Environment.{environment}
+use Rattle.isle_check_environment.specs.signatures.Entries.{Entry, entry, value_of}
+use Rattle.isle_check_environment.specs.signatures.Environment.{environment}
 
 -- terms each of which uses the next one; the last one comes twice. The position is that of its template
 pub record RecursionNode : Type 0 where

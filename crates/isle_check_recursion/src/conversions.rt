@@ -10,15 +10,15 @@ ghost use Rattle.isle_check_recursion.specs.Conversions.{needed_before, needs, n
 ghost use Rattle.isle_check_recursion.specs.Conversions.{needs_of, number_from};
 ghost use Rattle.isle_check_recursion.specs.Walks.{AreEnds};
 ghost use Rattle.isle_check_environment.specs.Views.{converters_at};
-ghost use Rattle.isle_check_signatures.specs.ByTexts.{get_by_texts};
-ghost use Rattle.isle_check_signatures.specs.Views.{environment_of, term_of};
+ghost use Rattle.isle_check_environment.specs.signatures.ByTexts.{get_by_texts};
+ghost use Rattle.isle_check_environment.specs.signatures.Views.{environment_of, term_of};
 
 use crate::cycles::{ends, is_set};
 use isle_ast::ast::{Converter, Def};
 use isle_check_environment::by_text::ByText;
 use isle_check_environment::parts::converters_in;
-use isle_check_signatures::by_texts::{ByTexts, put_value, value_at};
-use isle_check_signatures::{Environment, Term};
+use isle_check_environment::signatures::by_texts::{ByTexts, put_value, value_at};
+use isle_check_environment::signatures::{Environment, Term};
 use std::alloc::{AllocError, Global};
 
 /// The numbers of converters, by the inner and the outer type.

@@ -1,6 +1,7 @@
 //! Which walks through a graph come to an end.
 
-ghost use Rattle.std.specs.Prelude.{◌≡◌, ◌&&◌, ◌+◌, ◌<◌, ◌≤◌, IfOk, OnOk, [], false, get_or, length};
+ghost use Rattle.std.specs.Prelude.{◌≡◌, ◌&&◌, ◌+◌, ◌<◌, ◌≤◌, IfOk, OnOk, [], false, get_or};
+ghost use Rattle.std.specs.Prelude.{length};
 ghost use Rattle.std.specs.Prelude.{map, not, suc, true};
 ghost use Rattle.isle_check_recursion.specs.Walks.{AreEnds, IsClosed, IsSound, all_end, unended};
 

@@ -15,15 +15,15 @@ ghost use Rattle.isle_check_recursion.specs.Recursion.{last_template, name_of_nu
 ghost use Rattle.isle_check_recursion.specs.Recursion.{recursion, recursions, recursions_from};
 ghost use Rattle.isle_check_recursion.specs.Recursion.{recursions_of};
 ghost use Rattle.isle_check_recursion.specs.Views.{names_at, recursions_at};
-ghost use Rattle.isle_check_signatures.specs.Environment.{environment};
-ghost use Rattle.isle_check_signatures.specs.Views.{environment_of};
+ghost use Rattle.isle_check_environment.specs.signatures.Environment.{environment};
+ghost use Rattle.isle_check_environment.specs.signatures.Views.{environment_of};
 
 pub use conversions::endless_conversions;
 use cycles::{ends, is_set};
 use isle_ast::ast::{Decl, Def, Ident, Pattern};
 use isle_base::lexer::Pos;
 use isle_check_environment::parts::decls_in;
-use isle_check_signatures::Environment;
+use isle_check_environment::signatures::Environment;
 use std::alloc::{AllocError, Global};
 use uses::uses_of;
 use walks::endless_walk;

@@ -10,12 +10,12 @@ ghost use Rattle.isle_check_environment.specs.Views.{decls_at};
 ghost use Rattle.isle_check_recursion.specs.Recursion.{number, numbered, used, used_at};
 ghost use Rattle.isle_check_recursion.specs.Recursion.{uses, uses_of};
 ghost use Rattle.isle_check_recursion.specs.Views.{number_in};
-ghost use Rattle.isle_check_signatures.specs.Entries.{Entry, Holds, entry};
-ghost use Rattle.isle_check_signatures.specs.Views.{environment_of};
+ghost use Rattle.isle_check_environment.specs.signatures.Entries.{Entry, Holds, entry};
+ghost use Rattle.isle_check_environment.specs.signatures.Views.{environment_of};
 
 use isle_ast::ast::{Decl, Ident, Pattern};
 use isle_check_environment::by_text::ByText;
-use isle_check_signatures::Environment;
+use isle_check_environment::signatures::Environment;
 use std::alloc::{AllocError, Global};
 
 /// Declared terms by name, each with the number of its last declaration.

@@ -4,8 +4,8 @@ use Rattle.isle_base_source.specs.declared.pos.Pos.{Pos}
 use Rattle.isle_ast_rules.specs.Tree.{PatternNode, var_pattern, bind_pattern, bool_pattern, int_pattern, constant_pattern, term_pattern, wildcard_pattern, and_pattern, macro_arg_pattern, PatternList, no_pattern, more_pattern, Condition, RuleDefinition}
 use Rattle.isle_ast.specs.Tree.{Definition}
 use Rattle.isle_check_environment.specs.Parts.{decls_in, rules_in}
-use Rattle.isle_check_signatures.specs.Environment.{EnvironmentNode}
-use Rattle.isle_check_signatures.specs.Signatures.{TermNode}
+use Rattle.isle_check_environment.specs.signatures.Environment.{EnvironmentNode}
+use Rattle.isle_check_environment.specs.signatures.Signatures.{TermNode}
 use Rattle.isle_check_typing.proofs.Keeping.{map-keeps, then-keeps}
 use Rattle.isle_check_typing.proofs.Keeping as patterns
 use Rattle.isle_check_typing.specs.Faults.{FaultNode, argument_count}

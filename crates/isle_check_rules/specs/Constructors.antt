@@ -5,7 +5,7 @@ use Rattle.isle_base_source.specs.declared.pos.Pos.{Pos}
 use Rattle.isle_ast_names.specs.Tree.{Name}
 use Rattle.isle_ast_rules.specs.TermHeads.{expression_heads}
 use Rattle.isle_ast_rules.specs.Tree.{Expression}
-use Rattle.isle_check_signatures.specs.Environment.{EnvironmentNode}
+use Rattle.isle_check_environment.specs.signatures.Environment.{EnvironmentNode}
 
 -- a term that is known and has no constructor
 abbrev pub lacks_constructor : EnvironmentNode → Pos × Name → Bool

@@ -7,7 +7,7 @@ use Rattle.isle_ast_names.specs.Tree.{Name}
 use Rattle.isle_ast_rules.specs.Tree.{RuleDefinition}
 use Rattle.isle_ast.specs.Tree.{Declaration, Definition}
 use Rattle.isle_check_environment.specs.Parts.{decls_in, rules_in}
-use Rattle.isle_check_signatures.specs.Environment.{EnvironmentNode}
+use Rattle.isle_check_environment.specs.signatures.Environment.{EnvironmentNode}
 use Rattle.isle_check_typing.specs.Faults.{FaultNode, no_constructor, term_undefined}
 use Rattle.isle_check_rules.specs.Constructors.{without_constructor}
 use Rattle.isle_check_rules.specs.RuleTypes.{RulesTyping, type_rules}

@@ -4,8 +4,8 @@
 use Rattle.std.specs.Prelude.{ℕ, pos, List, [], ◌∷◌, ◌++◌, ◌==◌, length, true, not, ◌||◌, Option, None, Some, is_none, option_map, unwrap_or, Result, Ok, Err}
 use Rattle.isle_base_source.specs.declared.pos.Pos.{Pos}
 use Rattle.isle_ast_rules.specs.Tree.{PatternNode, term_pattern, PatternList, Condition, RuleDefinition}
-use Rattle.isle_check_signatures.specs.Environment.{EnvironmentNode}
-use Rattle.isle_check_signatures.specs.Signatures.{TermNode}
+use Rattle.isle_check_environment.specs.signatures.Environment.{EnvironmentNode}
+use Rattle.isle_check_environment.specs.signatures.Signatures.{TermNode}
 use Rattle.isle_check_typing.specs.Faults.{FaultNode, argument_count, priority_in_multi}
 use Rattle.isle_check_typing.specs.PatternTypes.{arguments_by, count_patterns, type_at}
 use Rattle.isle_check_typing.specs.Progress.{ProgressNode, unless}

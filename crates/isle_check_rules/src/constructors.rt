@@ -8,14 +8,14 @@ ghost use Rattle.isle_ast_rules.specs.TermHeads.{let_list_heads};
 ghost use Rattle.isle_ast_rules.specs.TreeView.{expression_list_of, expression_of};
 ghost use Rattle.isle_ast_rules.specs.TreeView.{expressions_of, let_list_of, single_let_of};
 ghost use Rattle.isle_ast_rules.specs.TreeView.{single_lets_of};
-ghost use Rattle.isle_check_signatures.specs.Views.{environment_of};
+ghost use Rattle.isle_check_environment.specs.signatures.Views.{environment_of};
 ghost use Rattle.isle_check_rules.specs.Constructors.{lacks_constructor};
 ghost use Rattle.isle_check_rules.specs.Views.{heads_at};
 
 use isle_ast_names::Ident;
 use isle_ast_rules::{Expr, LetDef};
 use isle_base::lexer::Pos;
-use isle_check_signatures::Environment;
+use isle_check_environment::signatures::Environment;
 use std::alloc::AllocError;
 
 /// A term with its position.

@@ -2,7 +2,7 @@
 
 ghost use Rattle.std.specs.Prelude.{◌≡◌, ◌++◌, ◌∷◌, [], IfOk, OnOk, map, string_bytes};
 ghost use Rattle.std.specs.List.{filter, flat_map};
-ghost use Rattle.isle_check_signatures.specs.Views.{environment_of};
+ghost use Rattle.isle_check_environment.specs.signatures.Views.{environment_of};
 ghost use Rattle.isle_check_typing.specs.TypedView.{all_typed_of, typed_list_of, typed_of};
 ghost use Rattle.isle_check_rules.specs.Views.{texts_at, typed_conditions_of, typed_rule_of};
 ghost use Rattle.isle_check_rules.specs.Views.{typed_rules_of, warnings_of};
@@ -13,7 +13,7 @@ ghost use Rattle.isle_check_rules.specs.Warnings.{terms_in, terms_in_patterns};
 use crate::typed::{TypedIfLet, TypedRule};
 use crate::warnings::{Warning, WarningKind};
 use isle_base::lexer::Pos;
-use isle_check_signatures::Environment;
+use isle_check_environment::signatures::Environment;
 use isle_check_typing::TypedPattern;
 use std::alloc::{AllocError, Global};
 

@@ -4,7 +4,7 @@ ghost use Rattle.std.specs.Prelude.{◌≡◌, ◌++◌, [], OnOk, map};
 ghost use Rattle.isle_ast.specs.TreeView.{declaration_of, definitions_of};
 ghost use Rattle.isle_ast_rules.specs.TreeView.{expression_of};
 ghost use Rattle.isle_check_environment.specs.Views.{decls_at, rules_at};
-ghost use Rattle.isle_check_signatures.specs.Views.{environment_of};
+ghost use Rattle.isle_check_environment.specs.signatures.Views.{environment_of};
 ghost use Rattle.isle_check_typing.specs.Views.{faults_of};
 ghost use Rattle.isle_check_rules.specs.Constructors.{without_constructor};
 ghost use Rattle.isle_check_rules.specs.RuleFaults.{constructor_fault, rule_faults};
@@ -21,7 +21,7 @@ use crate::typed::{RuleTyping, RulesTyping};
 use isle_ast::ast::{Decl, Def};
 use isle_ast_rules::{Expr, Rule};
 use isle_check_environment::parts::{decls_in, rules_in};
-use isle_check_signatures::Environment;
+use isle_check_environment::signatures::Environment;
 use isle_check_typing::{Fault, Kind, Refusal};
 use std::alloc::{AllocError, Global};
 

@@ -2,7 +2,7 @@
 
 ghost use Rattle.std.specs.Prelude.{◌≡◌, ℕ, List, Ok, suc};
 ghost use Rattle.isle_ast.specs.Tree.{Definition};
-ghost use Rattle.isle_check_signatures.specs.Environment.{EnvironmentNode};
+ghost use Rattle.isle_check_environment.specs.signatures.Environment.{EnvironmentNode};
 ghost use Rattle.isle_check_rules.specs.RuleFaults.{rule_faults};
 ghost use Rattle.isle_check_rules.specs.RuleTypes.{RulesTyping};
 

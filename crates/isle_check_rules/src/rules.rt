@@ -4,7 +4,7 @@ ghost use Rattle.std.specs.Prelude.{◌≡◌, ◌==◌, ◌||◌, [], IfOk, OnO
 ghost use Rattle.std.specs.Prelude.{option_map, pos, string_bytes, unwrap_or};
 ghost use Rattle.isle_ast_rules.specs.TreeView.{condition_of, conditions_of, pattern_list_of};
 ghost use Rattle.isle_ast_rules.specs.TreeView.{pattern_of, patterns_of, rule_of};
-ghost use Rattle.isle_check_signatures.specs.Views.{environment_of, term_of};
+ghost use Rattle.isle_check_environment.specs.signatures.Views.{environment_of, term_of};
 ghost use Rattle.isle_check_typing.specs.Faults.{argument_count, priority_in_multi};
 ghost use Rattle.isle_check_typing.specs.PatternTypes.{count_patterns};
 ghost use Rattle.isle_check_typing.specs.Progress.{unless};
@@ -22,7 +22,7 @@ use crate::typed::{RuleTyping, TypedIfLet, TypedRule};
 use isle_ast_rules::{IfLet, Pattern, Rule};
 use isle_base::lexer::Pos;
 use isle_check_expressions::{Flags, TypedExpression, type_expression};
-use isle_check_signatures::{Environment, Term};
+use isle_check_environment::signatures::{Environment, Term};
 use isle_check_typing::{
     Kind, Progress, Refusal, TypedPattern, no_progress, tell, type_arguments, type_pattern,
 };

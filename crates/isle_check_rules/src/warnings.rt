@@ -5,7 +5,7 @@ ghost use Rattle.isle_ast.specs.TreeView.{definitions_of};
 ghost use Rattle.isle_ast_rules.specs.TreeView.{expression_of, rule_of};
 ghost use Rattle.isle_check_environment.specs.Parts.{rules_in};
 ghost use Rattle.isle_check_environment.specs.Views.{rules_at};
-ghost use Rattle.isle_check_signatures.specs.Views.{environment_of};
+ghost use Rattle.isle_check_environment.specs.signatures.Views.{environment_of};
 ghost use Rattle.isle_check_rules.specs.Constructors.{without_constructor};
 ghost use Rattle.isle_check_rules.specs.Views.{heads_at, warnings_of};
 ghost use Rattle.isle_check_rules.specs.Warnings.{conditions_without_constructor};
@@ -16,7 +16,7 @@ use isle_ast::ast::Def;
 use isle_ast_rules::{Expr, Rule};
 use isle_base::lexer::Pos;
 use isle_check_environment::parts::rules_in;
-use isle_check_signatures::Environment;
+use isle_check_environment::signatures::Environment;
 use std::alloc::{AllocError, Global};
 
 /// Something in a rule that upstream accepts without an error, and does not compile.

@@ -2,7 +2,7 @@
 use Rattle.std.specs.Prelude.{ℕ, ◌+◌, List, [], ◌∷◌, ◌++◌, map, take, drop, Bool, true, false, ◌&&◌, Option, None, Some, if◌then◌else◌}
 use Rattle.std.specs.Str.{bytes_eq}
 use Rattle.isle_base_source.specs.declared.pos.Pos.{Pos}
-use Rattle.isle_check_signatures.specs.Entries.{or_else}
+use Rattle.isle_check_environment.specs.signatures.Entries.{or_else}
 use Rattle.isle_check_typing.specs.Faults.{KindNode, FaultNode}
 
 pub record VariableNode : Type 0 where

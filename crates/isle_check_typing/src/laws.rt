@@ -2,7 +2,7 @@
 
 ghost use Rattle.std.specs.Prelude.{◌≡◌, ℕ, List, Some, suc};
 ghost use Rattle.isle_ast_rules.specs.Tree.{PatternNode};
-ghost use Rattle.isle_check_signatures.specs.Environment.{EnvironmentNode};
+ghost use Rattle.isle_check_environment.specs.signatures.Environment.{EnvironmentNode};
 ghost use Rattle.isle_check_typing.specs.PatternTypes.{type_at};
 ghost use Rattle.isle_check_typing.specs.Progress.{ProgressNode};
 ghost use Rattle.isle_check_typing.specs.Typed.{TypedNode};

@@ -5,7 +5,7 @@ ghost use Rattle.std.specs.Prelude.{string_bytes};
 ghost use Rattle.isle_ast_names.specs.TreeView.{name_of};
 ghost use Rattle.isle_ast_rules.specs.Templates.{plug};
 ghost use Rattle.isle_ast_rules.specs.TreeView.{pattern_list_of, pattern_of, patterns_of};
-ghost use Rattle.isle_check_signatures.specs.Views.{environment_of, term_of};
+ghost use Rattle.isle_check_environment.specs.signatures.Views.{environment_of, term_of};
 ghost use Rattle.isle_check_typing.specs.Faults.{argument_count};
 ghost use Rattle.isle_check_typing.specs.PatternTypes.{arguments_by, bind_to};
 ghost use Rattle.isle_check_typing.specs.PatternTypes.{converting, count_patterns, each_by};
@@ -25,7 +25,7 @@ use crate::typed::TypedPattern;
 use isle_ast_names::Ident;
 use isle_ast_rules::Pattern;
 use isle_base::lexer::Pos;
-use isle_check_signatures::{Environment, Term};
+use isle_check_environment::signatures::{Environment, Term};
 use std::alloc::{AllocError, Global};
 
 /// Types a pattern that matches values of the type `ty`. Binds its variables and tells its errors

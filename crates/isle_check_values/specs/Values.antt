@@ -1,6 +1,6 @@
 -- The value that rules of one term match, written as a pattern.
 use Rattle.std.specs.Prelude.{ℕ, zero, suc, List, [], ◌∷◌, ◌++◌, Bool, Option, None, Some, length, max, if◌then◌else◌}
-use Rattle.isle_check_signatures.specs.Signatures.{TermNode}
+use Rattle.isle_check_environment.specs.signatures.Signatures.{TermNode}
 use Rattle.isle_check_places.specs.Under.{UnderNode, arguments, fields, place_under, parts_of}
 use Rattle.isle_check_places.specs.Places.{Place, extracted, step_on, ConstraintNode, present, ConstrainedNode}
 use Rattle.isle_check_places.specs.Comparing.{within}

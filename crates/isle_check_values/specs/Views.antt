@@ -1,7 +1,7 @@
 -- What is known and said of values, and values, of code, as pure values.
 use Rattle.std.specs.Prelude.{ℕ, List, map, string_bytes}
 use Rattle.std.specs.Borrow.{Bor}
-use Rattle.isle_check_signatures.specs.Views.{environment_of}
+use Rattle.isle_check_environment.specs.signatures.Views.{environment_of}
 use Rattle.isle_check_places.specs.Views.{all_constrained_of}
 use Rattle.isle_check_values.specs.declared.said.Said.{Said}
 use Rattle.isle_check_values.specs.declared.said.Said.TheVariants as said

@@ -2,7 +2,7 @@
 
 ghost use Rattle.std.specs.Prelude.{◌≡◌, ℕ, ◌≤◌, ◌++◌, List, Option, true, All, Contains};
 ghost use Rattle.isle_check_places.specs.Places.{ConstrainedNode};
-ghost use Rattle.isle_check_signatures.specs.Signatures.{TermNode};
+ghost use Rattle.isle_check_environment.specs.signatures.Signatures.{TermNode};
 ghost use Rattle.isle_check_values.specs.Values.{KnownNode, argument_shapes, longest, value};
 ghost use Rattle.isle_check_values.specs.Values.{value_asks};
 

@@ -17,7 +17,7 @@ use crate::written::{Answer, Written, add_answer, answer_place, constrain};
 use isle_check_places::{
     Constrained, Constraint, Step, Under, constraint_at, parts_of, place_under, step_on,
 };
-use isle_check_signatures::Environment;
+use isle_check_environment::signatures::Environment;
 use std::alloc::{AllocError, Global};
 
 /// What shapes are made from.

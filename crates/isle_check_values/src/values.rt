@@ -2,14 +2,14 @@
 
 ghost use Rattle.std.specs.Prelude.{◌≡◌, ◌++◌, IfOk, OnOk};
 ghost use Rattle.isle_check_places.specs.Views.{all_constrained_of};
-ghost use Rattle.isle_check_signatures.specs.Views.{environment_of};
+ghost use Rattle.isle_check_environment.specs.signatures.Views.{environment_of};
 ghost use Rattle.isle_check_values.specs.Values.{known_value, longest, value};
 ghost use Rattle.isle_check_values.specs.Views.{known_of, value_of};
 
 use crate::shapes::{Known, argument_count, put_term};
 use crate::written::Written;
 use isle_check_places::{Constrained, Under, copied, within};
-use isle_check_signatures::Environment;
+use isle_check_environment::signatures::Environment;
 use std::alloc::{AllocError, Global};
 
 /// A value, written as a pattern.

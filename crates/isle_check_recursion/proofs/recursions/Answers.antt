@@ -3,7 +3,7 @@ use Rattle.isle_ast.specs.TreeView.{definitions_of}
 use Rattle.isle_check_environment.specs.Views.{decls_at}
 use Rattle.isle_check_recursion.specs.Recursion.{recursions_of}
 use Rattle.isle_check_recursion.specs.Views.{recursions_at}
-use Rattle.isle_check_signatures.specs.Environment.{environment}
+use Rattle.isle_check_environment.specs.signatures.Environment.{environment}
 use Rattle.isle_check_recursion.proofs.recursions.Goals as goal
 
 pub returns : goal.returns

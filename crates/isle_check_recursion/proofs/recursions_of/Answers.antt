@@ -2,7 +2,7 @@ use Rattle.std.proofs.Common.{◌≡◌, IfOk, ap, map, subst, ◌∙◌}
 use Rattle.isle_check_environment.specs.Views.{decls_at}
 use Rattle.isle_check_recursion.specs.Recursion.{recursions_from}
 use Rattle.isle_check_recursion.specs.Views.{recursions_at}
-use Rattle.isle_check_signatures.specs.Views.{environment_of}
+use Rattle.isle_check_environment.specs.signatures.Views.{environment_of}
 use Rattle.isle_check_recursion.proofs.recursions_of.Goals as goal
 
 pub returns : goal.returns

@@ -4,7 +4,7 @@ use Rattle.isle_ast.specs.TreeView.{definitions_of}
 use Rattle.isle_check_core.specs.Findings.{root_findings, root_findings_by}
 use Rattle.isle_check_core.specs.Views.{findings_of}
 use Rattle.isle_check_declarations.specs.Terms.{terms}
-use Rattle.isle_check_signatures.specs.Views.{environment_of}
+use Rattle.isle_check_environment.specs.signatures.Views.{environment_of}
 use Rattle.isle_check_core.proofs.checks.root_findings.Goals as goal
 
 pub returns : goal.returns

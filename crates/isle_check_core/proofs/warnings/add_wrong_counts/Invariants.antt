@@ -2,7 +2,7 @@ use Rattle.std.proofs.Common.{◌≡◌, ◌++◌, drop}
 use Rattle.isle_check_core.specs.Findings.{wrong_counts}
 use Rattle.isle_check_core.specs.Views.{findings_of}
 use Rattle.isle_check_environment.specs.Views.{extractors_at}
-use Rattle.isle_check_signatures.specs.Views.{environment_of}
+use Rattle.isle_check_environment.specs.signatures.Views.{environment_of}
 use Rattle.isle_check_core.proofs.warnings.add_wrong_counts.Given as goal
 
 abbrev pub invariant-loop-extractor : goal.invariant-loop-extractor

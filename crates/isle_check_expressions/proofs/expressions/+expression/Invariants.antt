@@ -1,6 +1,6 @@
 use Rattle.std.proofs.Common.{◌≡◌, ◌+◌, ◌*◌, [], drop, map, string_bytes}
 use Rattle.isle_ast_rules.specs.TreeView.{expression_list_of, expressions_of, let_list_of, single_lets_of}
-use Rattle.isle_check_signatures.specs.Views.{environment_of}
+use Rattle.isle_check_environment.specs.signatures.Views.{environment_of}
 use Rattle.isle_check_typing.specs.Views.{progress_of}
 use Rattle.isle_check_expressions.specs.ExpressionTypes.{arguments_by, lets_by}
 use Rattle.isle_check_expressions.specs.TypedView.{typed_expression_of, typed_let_of}

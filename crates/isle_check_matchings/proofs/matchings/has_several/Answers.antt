@@ -2,7 +2,7 @@ use Rattle.std.proofs.Common.{not, ◌==◌, length, refl, sym, ap, ◌∙◌}
 use Rattle.std.proofs.lemmas.List.{length-map}
 use Rattle.isle_check_rules.specs.Views.{typed_rule_of, typed_rules_of, warning_of}
 use Rattle.isle_check_rules.specs.Warnings.{multi_extractors}
-use Rattle.isle_check_signatures.specs.Views.{environment_of}
+use Rattle.isle_check_environment.specs.signatures.Views.{environment_of}
 use Rattle.isle_check_matchings.specs.Views.{terms_of}
 use Rattle.isle_check_matchings.proofs.RuleLemmas.{several_found}
 use Rattle.isle_check_matchings.proofs.matchings.has_several.Goals as goal

@@ -4,7 +4,7 @@ use Rattle.isle_ast.specs.TreeView.{definitions_of}
 use Rattle.isle_check_overlaps.specs.Faults as faults
 use Rattle.isle_check_overlaps.specs.Views as seen
 use Rattle.isle_check_rules.specs.Views.{typed_rules_of}
-use Rattle.isle_check_signatures.specs.Views.{environment_of}
+use Rattle.isle_check_environment.specs.signatures.Views.{environment_of}
 use Rattle.isle_check_matchings.specs.Infallible.{program_terms}
 use Rattle.isle_check_matchings.specs.Matchings.{matchings, rule_overlaps}
 use Rattle.isle_check_matchings.proofs.RuleLemmas.{terms_known}

@@ -1,5 +1,5 @@
 use Rattle.std.proofs.Common.{◌++◌}
-use Rattle.isle_check_signatures.specs.Views.{environment_of}
+use Rattle.isle_check_environment.specs.signatures.Views.{environment_of}
 use Rattle.isle_check_overlaps.specs.Faults.{meetings_by}
 use Rattle.isle_check_overlaps.specs.Views.{candidates_of, faults_of, stars_of}
 use Rattle.isle_check_overlaps.proofs.GroupLemmas.{met_step}

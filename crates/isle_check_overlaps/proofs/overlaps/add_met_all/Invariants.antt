@@ -1,6 +1,6 @@
 use Rattle.std.proofs.Common.{◌≡◌, ◌++◌, drop}
 use Rattle.std.specs.List.{flat_map}
-use Rattle.isle_check_signatures.specs.Views.{environment_of}
+use Rattle.isle_check_environment.specs.signatures.Views.{environment_of}
 use Rattle.isle_check_overlaps.specs.Faults.{met_at}
 use Rattle.isle_check_overlaps.specs.Views.{candidates_of, faults_of, stars_of}
 use Rattle.isle_check_overlaps.proofs.overlaps.add_met_all.Given as goal

@@ -1,6 +1,6 @@
 use Rattle.std.proofs.Common.{◌≡◌, ◌++◌, drop}
 use Rattle.std.specs.List.{flat_map}
-use Rattle.isle_check_signatures.specs.Views.{environment_of}
+use Rattle.isle_check_environment.specs.signatures.Views.{environment_of}
 use Rattle.isle_check_overlaps.specs.Faults.{star_at}
 use Rattle.isle_check_overlaps.specs.Views.{candidate_of, faults_of, stars_of}
 use Rattle.isle_check_overlaps.proofs.overlaps.add_stars.Given as goal

@@ -1,4 +1,4 @@
-use Rattle.isle_check_signatures.specs.Views.{environment_of}
+use Rattle.isle_check_environment.specs.signatures.Views.{environment_of}
 use Rattle.isle_check_overlaps.specs.Views.{candidate_of, others_of}
 use Rattle.isle_check_overlaps.proofs.StarLemmas.{star_parts}
 use Rattle.isle_check_overlaps.proofs.overlaps.star_fault.Goals as goal

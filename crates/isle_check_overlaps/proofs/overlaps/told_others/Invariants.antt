@@ -1,5 +1,5 @@
 use Rattle.std.proofs.Common.{◌≡◌, ◌++◌, drop, map}
-use Rattle.isle_check_signatures.specs.Views.{environment_of}
+use Rattle.isle_check_environment.specs.signatures.Views.{environment_of}
 use Rattle.isle_check_overlaps.specs.Faults.{other}
 use Rattle.isle_check_overlaps.specs.Views.{candidate_of, candidates_at, others_of}
 use Rattle.isle_check_overlaps.proofs.overlaps.told_others.Given as goal

@@ -2,7 +2,7 @@ use Rattle.std.proofs.Common.{ap, ◌∙◌}
 use Rattle.std.proofs.lemmas.Result.{IfOk-weaker}
 use Rattle.isle_check_recursion.specs.Conversions.{needs_of}
 use Rattle.isle_check_environment.specs.Views.{converters_at}
-use Rattle.isle_check_signatures.specs.Views.{environment_of}
+use Rattle.isle_check_environment.specs.signatures.Views.{environment_of}
 use Rattle.isle_check_recursion.proofs.conversions.needs.Goals as goal
 
 pub returns : goal.returns

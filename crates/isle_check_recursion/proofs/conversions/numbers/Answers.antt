@@ -2,7 +2,7 @@ use Rattle.std.proofs.Common.{◌≡◌, ◌-◌, ◌+◌, drop, ap, ◌∙◌, 
 use Rattle.isle_ast.specs.TreeView.{conversion_of}
 use Rattle.isle_check_recursion.specs.Conversions.{number_from}
 use Rattle.isle_check_environment.specs.Views.{converters_at}
-use Rattle.isle_check_signatures.proofs.ConverterLemmas.{one-before}
+use Rattle.isle_check_environment.proofs.signatures.ConverterLemmas.{one-before}
 use Rattle.isle_check_recursion.proofs.conversions.numbers.Goals as goal
 
 pub loop-number-preserved : goal.loop-number-preserved

@@ -1,7 +1,7 @@
 use Rattle.std.proofs.Common.{◌++◌, ◌∷◌, [], ap, sym, take, ◌∙◌}
 use Rattle.isle_check_environment.specs.Views.{decls_at}
 use Rattle.isle_check_recursion.specs.Recursion.{numbered}
-use Rattle.isle_check_signatures.specs.Entries.{entry, value_of}
+use Rattle.isle_check_environment.specs.signatures.Entries.{entry, value_of}
 use Rattle.isle_check_recursion.proofs.NumberLemmas.{numbered-more}
 use Rattle.isle_check_recursion.proofs.uses.numbers.Goals as goal
 

@@ -1,7 +1,7 @@
 use Rattle.std.proofs.Common.{take}
 use Rattle.isle_check_environment.specs.Views.{decls_at}
 use Rattle.isle_check_recursion.specs.Recursion.{numbered}
-use Rattle.isle_check_signatures.specs.Entries.{Holds}
+use Rattle.isle_check_environment.specs.signatures.Entries.{Holds}
 use Rattle.isle_check_recursion.proofs.uses.numbers.Given as goal
 
 abbrev pub invariant-loop-number : goal.invariant-loop-number

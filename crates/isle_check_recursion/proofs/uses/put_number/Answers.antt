@@ -1,5 +1,5 @@
 use Rattle.std.proofs.Common.{string_bytes}
-use Rattle.isle_check_signatures.proofs.EntryLemmas.{Holds-put}
+use Rattle.isle_check_environment.proofs.signatures.EntryLemmas.{Holds-put}
 use Rattle.isle_check_recursion.proofs.uses.put_number.Goals as goal
 
 pub returns : goal.returns

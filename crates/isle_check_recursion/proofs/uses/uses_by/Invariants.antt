@@ -2,7 +2,7 @@ use Rattle.std.proofs.Common.{◌≡◌, ◌++◌, drop, map}
 use Rattle.isle_check_environment.specs.Views.{decls_at}
 use Rattle.isle_check_recursion.specs.Recursion.{uses_of}
 use Rattle.isle_check_recursion.specs.Views.{number_in}
-use Rattle.isle_check_signatures.specs.Views.{environment_of}
+use Rattle.isle_check_environment.specs.signatures.Views.{environment_of}
 use Rattle.isle_check_recursion.proofs.uses.uses_by.Given as goal
 
 abbrev pub invariant-loop-decl : goal.invariant-loop-decl

@@ -1,7 +1,7 @@
 use Rattle.std.proofs.Common.{◌≡◌, IfOk, map, subst}
 use Rattle.isle_check_environment.specs.Views.{decls_at}
 use Rattle.isle_check_recursion.specs.Recursion.{uses_of}
-use Rattle.isle_check_signatures.specs.Views.{environment_of}
+use Rattle.isle_check_environment.specs.signatures.Views.{environment_of}
 use Rattle.isle_check_recursion.proofs.uses.uses_of.Goals as goal
 
 pub returns : goal.returns

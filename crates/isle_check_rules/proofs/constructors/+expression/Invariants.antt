@@ -2,7 +2,7 @@ use Rattle.std.proofs.Common.{◌≡◌, ◌++◌, drop}
 use Rattle.std.specs.List.{filter}
 use Rattle.isle_ast_rules.specs.TermHeads.{expression_list_heads, let_list_heads}
 use Rattle.isle_ast_rules.specs.TreeView.{expression_list_of, expressions_of, let_list_of, single_lets_of}
-use Rattle.isle_check_signatures.specs.Views.{environment_of}
+use Rattle.isle_check_environment.specs.signatures.Views.{environment_of}
 use Rattle.isle_check_rules.specs.Constructors.{lacks_constructor}
 use Rattle.isle_check_rules.specs.Views.{heads_at}
 use Rattle.isle_check_rules.proofs.constructors.+expression.Given as goal

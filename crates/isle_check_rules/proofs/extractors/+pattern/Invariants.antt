@@ -1,6 +1,6 @@
 use Rattle.std.proofs.Common.{◌≡◌, ◌++◌, drop}
 use Rattle.std.specs.List.{filter}
-use Rattle.isle_check_signatures.specs.Views.{environment_of}
+use Rattle.isle_check_environment.specs.signatures.Views.{environment_of}
 use Rattle.isle_check_typing.specs.TypedView.{all_typed_of, typed_list_of}
 use Rattle.isle_check_rules.specs.Views.{texts_at}
 use Rattle.isle_check_rules.specs.Warnings.{is_multi, list_terms_in}

@@ -1,6 +1,6 @@
 use Rattle.std.proofs.Common.{◌≡◌, ◌++◌, drop}
 use Rattle.std.specs.List.{filter, flat_map}
-use Rattle.isle_check_signatures.specs.Views.{environment_of}
+use Rattle.isle_check_environment.specs.signatures.Views.{environment_of}
 use Rattle.isle_check_rules.specs.Views.{texts_at, typed_conditions_of}
 use Rattle.isle_check_rules.specs.Warnings.{is_multi, terms_in}
 use Rattle.isle_check_rules.proofs.extractors.add_of_conditions.Given as goal

@@ -1,5 +1,5 @@
 use Rattle.std.proofs.Common.{◌≡◌, take}
-use Rattle.isle_check_signatures.specs.Views.{environment_of}
+use Rattle.isle_check_environment.specs.signatures.Views.{environment_of}
 use Rattle.isle_check_rules.specs.Views.{typed_rules_of, warnings_of}
 use Rattle.isle_check_rules.specs.Warnings.{multi_extractors}
 use Rattle.isle_check_rules.proofs.extractors.multi_extractors.Given as goal

@@ -1,6 +1,6 @@
 use Rattle.std.proofs.Common.{◌≡◌, ◌++◌, take}
 use Rattle.isle_check_environment.specs.Views.{decls_at}
-use Rattle.isle_check_signatures.specs.Views.{environment_of}
+use Rattle.isle_check_environment.specs.signatures.Views.{environment_of}
 use Rattle.isle_check_typing.specs.Views.{faults_of}
 use Rattle.isle_check_rules.specs.RuleFaults.{undefined_terms}
 use Rattle.isle_check_rules.proofs.faults.add_undefined_terms.Given as goal

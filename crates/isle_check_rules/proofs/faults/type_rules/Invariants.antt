@@ -1,6 +1,6 @@
 use Rattle.std.proofs.Common.{◌≡◌, [], drop}
 use Rattle.isle_check_environment.specs.Views.{rules_at}
-use Rattle.isle_check_signatures.specs.Views.{environment_of}
+use Rattle.isle_check_environment.specs.signatures.Views.{environment_of}
 use Rattle.isle_check_rules.specs.RuleTypes.{type_rules}
 use Rattle.isle_check_rules.specs.Views.{rules_typing_of}
 use Rattle.isle_check_rules.proofs.faults.type_rules.Given as goal

@@ -1,6 +1,6 @@
 use Rattle.std.proofs.Common.{◌≡◌, [], drop}
 use Rattle.isle_ast_rules.specs.TreeView.{conditions_of}
-use Rattle.isle_check_signatures.specs.Views.{environment_of}
+use Rattle.isle_check_environment.specs.signatures.Views.{environment_of}
 use Rattle.isle_check_typing.specs.Views.{progress_of}
 use Rattle.isle_check_rules.specs.RuleTypes.{type_conditions}
 use Rattle.isle_check_rules.specs.Views.{typed_conditions_of}

@@ -1,6 +1,6 @@
 use Rattle.std.proofs.Common.{◌≡◌, ◌++◌, take}
 use Rattle.isle_check_environment.specs.Views.{rules_at}
-use Rattle.isle_check_signatures.specs.Views.{environment_of}
+use Rattle.isle_check_environment.specs.signatures.Views.{environment_of}
 use Rattle.isle_check_rules.specs.Views.{warnings_of}
 use Rattle.isle_check_rules.specs.Warnings.{conditions_without_constructor}
 use Rattle.isle_check_rules.proofs.warnings.add_conditions.Given as goal

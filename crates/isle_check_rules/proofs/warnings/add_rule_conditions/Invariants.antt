@@ -1,7 +1,7 @@
 use Rattle.std.proofs.Common.{◌≡◌, ◌++◌, map, take}
 use Rattle.std.specs.List.{flat_map}
 use Rattle.isle_ast_rules.specs.TreeView.{conditions_of}
-use Rattle.isle_check_signatures.specs.Views.{environment_of}
+use Rattle.isle_check_environment.specs.signatures.Views.{environment_of}
 use Rattle.isle_check_rules.specs.Constructors.{without_constructor}
 use Rattle.isle_check_rules.specs.Views.{warnings_of}
 use Rattle.isle_check_rules.specs.Warnings.{constructor_warning}

@@ -1,6 +1,6 @@
 use Rattle.std.proofs.Common.{◌≡◌, ◌+◌, ◌*◌, [], drop, map, string_bytes}
 use Rattle.isle_ast_rules.specs.TreeView.{pattern_list_of, patterns_of}
-use Rattle.isle_check_signatures.specs.Views.{environment_of}
+use Rattle.isle_check_environment.specs.signatures.Views.{environment_of}
 use Rattle.isle_check_typing.specs.PatternTypes.{arguments_by, each_by, type_at}
 use Rattle.isle_check_typing.specs.TypedView.{all_typed_of}
 use Rattle.isle_check_typing.specs.Views.{progress_of}

@@ -1,5 +1,5 @@
 use Rattle.std.proofs.Common.{◌≡◌, drop, option_map}
-use Rattle.isle_check_signatures.specs.Entries.{or_else}
+use Rattle.isle_check_environment.specs.signatures.Entries.{or_else}
 use Rattle.isle_check_typing.specs.Progress.{find, find_from}
 use Rattle.isle_check_typing.specs.Views.{found_of, variables_of}
 use Rattle.isle_check_typing.proofs.progress.find.Given as goal

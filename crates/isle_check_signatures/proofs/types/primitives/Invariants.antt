@@ -1,9 +1,0 @@
-use Rattle.std.proofs.Common.{take}
-use Rattle.std.specs.List.{flat_map}
-use Rattle.isle_ast.specs.TreeView.{definitions_of}
-use Rattle.isle_check_environment.specs.Names.{Knows}
-use Rattle.isle_check_signatures.specs.Signatures.{primitive_name}
-use Rattle.isle_check_signatures.proofs.types.primitives.Given as goal
-
-abbrev pub invariant-loop-def : goal.invariant-loop-def
-invariant-loop-def l = Knows l.names (flat_map primitive_name (definitions_of (take l.def-index l.defs)))
