@@ -12,10 +12,10 @@ use Rattle.isle_check_declarations.specs.Faults as declarations
 use Rattle.isle_check_declarations.specs.TypeFaults.{type_faults}
 use Rattle.isle_check_declarations.specs.TermFaults.{term_faults}
 use Rattle.isle_check_declarations.specs.Terms as named
-use Rattle.isle_check_extractors.specs.Converters.{converter_faults_by}
-use Rattle.isle_check_extractors.specs.Externs.{extern_faults_by}
-use Rattle.isle_check_extractors.specs.Extractors.{extractor_faults_by}
-use Rattle.isle_check_extractors.specs.Roots.{root_faults_by}
+use Rattle.isle_check_declarations.specs.naming.Converters.{converter_faults_by}
+use Rattle.isle_check_declarations.specs.naming.Externs.{extern_faults_by}
+use Rattle.isle_check_declarations.specs.naming.Extractors.{extractor_faults_by}
+use Rattle.isle_check_declarations.specs.naming.Roots.{root_faults_by}
 use Rattle.isle_check_recursion.specs.Recursion.{RecursionNode, recursions}
 use Rattle.isle_check_environment.specs.signatures.Environment.{EnvironmentNode, environment}
 use Rattle.isle_check_environment.specs.signatures.Signatures.{TermNode}

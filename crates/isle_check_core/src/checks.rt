@@ -24,7 +24,7 @@ use isle_ast::ast::{Def, Ident};
 use isle_base::lexer::Pos;
 use isle_check_declarations::lookup::TermLookup;
 use isle_check_declarations::{Fault, term_faults, type_faults};
-use isle_check_extractors::{converter_faults, extern_faults, extractor_faults, root_faults};
+use isle_check_declarations::naming::{converter_faults, extern_faults, extractor_faults, root_faults};
 use isle_check_matchings::rule_overlaps;
 use isle_check_overlaps::Comparison;
 use isle_check_recursion::{Recursion, recursions};

@@ -3,3 +3,4 @@ pub mod TypeFaults
 pub mod TermFaults
 pub mod Terms
 pub mod Views
+pub mod naming

@@ -4,6 +4,7 @@
 
 mod fault;
 pub mod lookup;
+pub mod naming;
 mod terms;
 mod types;
 

@@ -9,7 +9,7 @@ use Rattle.isle_check_declarations.specs.TermFaults.{term_faults}
 use Rattle.isle_check_declarations.specs.Terms.{is_unknown, terms}
 use Rattle.isle_check_environment.specs.Parts.{converters_in, type_names, types_in}
 use Rattle.isle_check_environment.specs.Types.{is_type}
-use Rattle.isle_check_extractors.specs.Converters.{converter_faults, counted, counted_by, doubled_converter, has_pair, unknown_name, wrong_converter, wrong_converter_by, wrong_converters}
+use Rattle.isle_check_declarations.specs.naming.Converters.{converter_faults, counted, counted_by, doubled_converter, has_pair, unknown_name, wrong_converter, wrong_converter_by, wrong_converters}
 use Rattle.isle_check_laws.specs.BrokenConverters as broken
 use Rattle.isle_check_laws.specs.BrokenConverters.{IsBrokenConverter}
 use Rattle.isle_check_laws.specs.Named.{StandsBehind}

@@ -14,8 +14,8 @@ use Rattle.isle_check_declarations.specs.Terms.{TermNode, declared_term, terms, 
 use Rattle.isle_check_environment.specs.Names.{has, place_of}
 use Rattle.isle_check_environment.specs.Parts.{extractors_in, rule_in}
 use Rattle.isle_check_environment.specs.Terms.{externs_in, name_list, ruled_name}
-use Rattle.isle_check_extractors.specs.Externs.{constructor_kind_of, doubled_external, extern_faults, faults_at, known, with_extern_constructor, with_extern_extractor, wrong_extern, wrong_externs, wrong_extractor_of}
-use Rattle.isle_check_extractors.specs.Extractors.{reached, template_names}
+use Rattle.isle_check_declarations.specs.naming.Externs.{constructor_kind_of, doubled_external, extern_faults, faults_at, known, with_extern_constructor, with_extern_extractor, wrong_extern, wrong_externs, wrong_extractor_of}
+use Rattle.isle_check_declarations.specs.naming.Extractors.{reached, template_names}
 use Rattle.isle_check_laws.specs.BrokenExterns as broken
 use Rattle.isle_check_laws.specs.BrokenExterns.{HasRule, IsBrokenExtern, IsConstructorOf, IsExtractorOf}
 use Rattle.isle_check_laws.specs.Named.{StandsBehind}

@@ -7,7 +7,7 @@ use Rattle.isle_ast.specs.Tree.{ExternDefinition, extern_const, extern_construct
 use Rattle.isle_check_declarations.specs.Faults.{KindNode}
 use Rattle.isle_check_declarations.specs.Terms.{TermNode, declared_term, unknown_term, variant_term}
 use Rattle.isle_check_environment.specs.Names.{place_of}
-use Rattle.isle_check_extractors.specs.Externs.{KnownNode, added, constructor_kind, new_external, with_extern_constructor, with_extern_extractor, with_extractor_of}
+use Rattle.isle_check_declarations.specs.naming.Externs.{KnownNode, added, constructor_kind, new_external, with_extern_constructor, with_extern_extractor, with_extractor_of}
 use Rattle.isle_check_laws.specs.BrokenExterns.{IsConstructorOf, IsExtractorOf}
 use Rattle.isle_check_laws.proofs.Lists.{either, no_element, only}
 

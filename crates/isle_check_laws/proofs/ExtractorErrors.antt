@@ -14,7 +14,7 @@ use Rattle.isle_check_declarations.specs.TermFaults.{term_faults}
 use Rattle.isle_check_declarations.specs.Terms.{TermNode, declared_term, is_unknown, terms, unknown_term, variant_term}
 use Rattle.isle_check_environment.specs.Names.{place_of}
 use Rattle.isle_check_environment.specs.Parts.{extractors_in}
-use Rattle.isle_check_extractors.specs.Extractors.{doubled_extractor, extractor_faults, new_template, reached, template_names, unknown_term_at, unknown_terms, with_template, with_template_of, wrong_extractor, wrong_extractors, wrong_term}
+use Rattle.isle_check_declarations.specs.naming.Extractors.{doubled_extractor, extractor_faults, new_template, reached, template_names, unknown_term_at, unknown_terms, with_template, with_template_of, wrong_extractor, wrong_extractors, wrong_term}
 use Rattle.isle_check_laws.specs.BrokenExtractors as broken
 use Rattle.isle_check_laws.specs.BrokenExtractors.{IsBrokenExtractor}
 use Rattle.isle_check_laws.specs.Named.{StandsBehind}

@@ -8,7 +8,7 @@ use Rattle.isle_ast_rules.specs.Tree.{PatternNode, RuleDefinition, and_pattern, 
 use Rattle.isle_ast.specs.Tree.{Definition}
 use Rattle.isle_check_declarations.specs.Terms.{TermNode, declared_term, terms, unknown_term, variant_term}
 use Rattle.isle_check_environment.specs.Parts.{rules_in}
-use Rattle.isle_check_extractors.specs.Roots.{wrong_root, wrong_root_at, wrong_root_term}
+use Rattle.isle_check_declarations.specs.naming.Roots.{wrong_root, wrong_root_at, wrong_root_term}
 use Rattle.isle_check_environment.specs.signatures.Environment.{environment}
 use Rattle.isle_check_typing.specs.Faults as typing
 use Rattle.isle_check_rules.specs.RuleFaults.{rule_faults}

@@ -11,7 +11,7 @@ use Rattle.isle_check_declarations.specs.Faults.{FaultNode, fault}
 use Rattle.isle_check_declarations.specs.TermFaults.{term_faults}
 use Rattle.isle_check_declarations.specs.Terms.{TermNode, declared_term, terms, unknown_term, variant_term}
 use Rattle.isle_check_environment.specs.Parts.{rules_in}
-use Rattle.isle_check_extractors.specs.Roots.{root_faults, wrong_root, wrong_root_at, wrong_root_term}
+use Rattle.isle_check_declarations.specs.naming.Roots.{root_faults, wrong_root, wrong_root_at, wrong_root_term}
 use Rattle.isle_check_laws.specs.BrokenRoots as broken
 use Rattle.isle_check_laws.specs.BrokenRoots.{IsBrokenRoot}
 use Rattle.isle_check_laws.proofs.Lists.{all_parts, one}

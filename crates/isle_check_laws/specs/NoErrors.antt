@@ -4,10 +4,10 @@ use Rattle.std.specs.List.{All}
 use Rattle.isle_ast.specs.Tree.{Definition}
 use Rattle.isle_check_declarations.specs.TermFaults.{term_faults}
 use Rattle.isle_check_declarations.specs.TypeFaults.{type_faults}
-use Rattle.isle_check_extractors.specs.Converters.{converter_faults}
-use Rattle.isle_check_extractors.specs.Externs.{extern_faults}
-use Rattle.isle_check_extractors.specs.Extractors.{extractor_faults}
-use Rattle.isle_check_extractors.specs.Roots.{root_faults}
+use Rattle.isle_check_declarations.specs.naming.Converters.{converter_faults}
+use Rattle.isle_check_declarations.specs.naming.Externs.{extern_faults}
+use Rattle.isle_check_declarations.specs.naming.Extractors.{extractor_faults}
+use Rattle.isle_check_declarations.specs.naming.Roots.{root_faults}
 use Rattle.isle_check_recursion.specs.Recursion.{recursions}
 use Rattle.isle_check_environment.specs.signatures.Environment.{environment}
 use Rattle.isle_check_rules.specs.RuleFaults.{rule_faults}
