@@ -3,8 +3,8 @@ use Rattle.std.proofs.Common.{◌≡◌, ℕ, List, [], ◌∷◌, ◌++◌, len
 use Rattle.isle_ast_rules.specs.Tree.{Expression, term_expression, var_expression, ExpressionList, no_expression, more_expression, LetList}
 use Rattle.isle_check_environment.specs.signatures.Environment.{EnvironmentNode}
 use Rattle.isle_check_typing.specs.Progress.{VariableNode}
-use Rattle.isle_check_expressions.specs.declared.flags.Flags.{Flags}
-use Rattle.isle_check_expressions.specs.TypedExpressions.{TypedExpressionNode, TypedLetNode, typed_expression_list, typed_let_list}
+use Rattle.isle_check_typing.specs.declared.expressions.flags.Flags.{Flags}
+use Rattle.isle_check_typing.specs.expressions.TypedExpressions.{TypedExpressionNode, TypedLetNode, typed_expression_list, typed_let_list}
 use Rattle.isle_check_laws.specs.HasExpressionType.{HasExpressionType, gives_integer, gives_bool, gives_constant, gives_variable, constructs, converts_variable, converts_term, lets, HaveExpressionTypes, no_value, one_value, AreDefined, no_variable, one_variable}
 use Rattle.isle_check_laws.specs.HasType.{bound_more}
 use Rattle.isle_check_matchings.specs.Asks.{TermsNode}

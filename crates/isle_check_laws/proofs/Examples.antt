@@ -5,7 +5,7 @@ use Rattle.std.proofs.lemmas.Option.{none-some, same_Some}
 use Rattle.std.specs.List.{sum_by}
 use Rattle.isle_check_environment.specs.signatures.Signatures.{TermNode}
 use Rattle.isle_check_typing.specs.Typed.{TypedNode, typed_bind, typed_var, typed_int, typed_term, typed_wildcard, typed_and, no_typed, more_typed}
-use Rattle.isle_check_expressions.specs.TypedExpressions.{typed_var_expression, typed_int_expression, typed_term_expression, typed_let_expression, no_typed_expression, more_typed_expression, more_typed_let, no_typed_let}
+use Rattle.isle_check_typing.specs.expressions.TypedExpressions.{typed_var_expression, typed_int_expression, typed_term_expression, typed_let_expression, no_typed_expression, more_typed_expression, more_typed_let, no_typed_let}
 use Rattle.isle_check_rules.specs.TypedRules.{TypedCondition, TypedRuleNode}
 use Rattle.isle_check_places.specs.Places.{ConstraintNode, of_int, present}
 use Rattle.isle_check_matchings.specs.Asks.{TermsNode}

@@ -8,9 +8,9 @@ use Rattle.isle_check_environment.specs.signatures.Signatures.{TermNode}
 use Rattle.isle_check_typing.specs.Faults.{FaultNode, integer_type, argument_count, let_type_unknown, impure_term, multi_term, partial_term}
 use Rattle.isle_check_typing.specs.Progress.{FoundNode, ProgressNode, VariableNode, tell, unless}
 use Rattle.isle_check_typing.specs.Typings.{Typing, Typings, and_then, gives, gives_none, with_typed}
-use Rattle.isle_check_expressions.specs.declared.flags.Flags.{Flags}
-use Rattle.isle_check_expressions.specs.ExpressionTypes.{Below, arguments_by, bool_by, close, constant_as, constant_by, count_arguments, count_expressions, define, expression_at, if_constructs, lets_by, own_by, step, term_as, term_by, term_converted, variable_as, variable_by, variable_converted}
-use Rattle.isle_check_expressions.specs.TypedExpressions.{TypedExpressionNode, typed_var_expression, typed_bool_expression, typed_int_expression, typed_const_expression, typed_term_expression, typed_let_expression, TypedLetNode, type_of_expression, typed_expression_list, typed_let_list}
+use Rattle.isle_check_typing.specs.declared.expressions.flags.Flags.{Flags}
+use Rattle.isle_check_typing.specs.expressions.ExpressionTypes.{Below, arguments_by, bool_by, close, constant_as, constant_by, count_arguments, count_expressions, define, expression_at, if_constructs, lets_by, own_by, step, term_as, term_by, term_converted, variable_as, variable_by, variable_converted}
+use Rattle.isle_check_typing.specs.expressions.TypedExpressions.{TypedExpressionNode, typed_var_expression, typed_bool_expression, typed_int_expression, typed_const_expression, typed_term_expression, typed_let_expression, TypedLetNode, type_of_expression, typed_expression_list, typed_let_list}
 use Rattle.isle_check_laws.specs.HasExpressionType.{HasExpressionType, HaveExpressionTypes, AreDefined, IsAllowed, bound_behind, gives_integer, gives_bool, gives_constant, gives_variable, constructs, converts_variable, converts_term, lets, no_value, one_value, no_variable, one_variable}
 use Rattle.isle_check_laws.specs.HasType.{bound_more}
 use Rattle.isle_check_laws.specs.Untold.{progress, gives_all}

@@ -9,9 +9,9 @@ use Rattle.isle_check_typing.specs.Faults as kinds
 use Rattle.isle_check_typing.specs.Faults.{FaultNode}
 use Rattle.isle_check_typing.specs.Progress.{FoundNode, ProgressNode, find, tell, unless}
 use Rattle.isle_check_typing.specs.Typings.{Typing, Typings, gives_none, with_typed}
-use Rattle.isle_check_expressions.specs.declared.flags.Flags.{Flags}
-use Rattle.isle_check_expressions.specs.ExpressionTypes.{arguments_by, bool_by, constant_as, constant_by, converting, count_arguments, count_expressions, define, defined_by, expression_at, if_constructs, let_by, lets_by, other_than, own_by, step, term_as, term_by, term_converted, type_integer, type_let, use_term, variable_as, variable_by, variable_converted}
-use Rattle.isle_check_expressions.specs.TypedExpressions.{TypedExpressionNode, TypedLetNode}
+use Rattle.isle_check_typing.specs.declared.expressions.flags.Flags.{Flags}
+use Rattle.isle_check_typing.specs.expressions.ExpressionTypes.{arguments_by, bool_by, constant_as, constant_by, converting, count_arguments, count_expressions, define, defined_by, expression_at, if_constructs, let_by, lets_by, other_than, own_by, step, term_as, term_by, term_converted, type_integer, type_let, use_term, variable_as, variable_by, variable_converted}
+use Rattle.isle_check_typing.specs.expressions.TypedExpressions.{TypedExpressionNode, TypedLetNode}
 use Rattle.isle_check_laws.specs.BrokenRules as broken
 use Rattle.isle_check_laws.specs.BrokenRules.{CannotConstruct, IsBrokenExpression}
 use Rattle.isle_check_laws.specs.RuleParts as parts

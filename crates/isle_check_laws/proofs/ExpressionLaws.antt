@@ -5,8 +5,8 @@ use Rattle.isle_ast_rules.specs.Tree.{Expression, ExpressionList}
 use Rattle.isle_check_environment.specs.signatures.Environment.{EnvironmentNode}
 use Rattle.isle_check_typing.specs.Progress.{ProgressNode, VariableNode}
 use Rattle.isle_check_typing.specs.Typings.{Typing, gives}
-use Rattle.isle_check_expressions.specs.declared.flags.Flags.{Flags}
-use Rattle.isle_check_expressions.specs.TypedExpressions.{TypedExpressionNode}
+use Rattle.isle_check_typing.specs.declared.expressions.flags.Flags.{Flags}
+use Rattle.isle_check_typing.specs.expressions.TypedExpressions.{TypedExpressionNode}
 use Rattle.isle_check_laws.specs.HasExpressionType.{HasExpressionType, HaveExpressionTypes}
 use Rattle.isle_check_laws.specs.Untold.{IsExpressionTypedAs, AreExpressionsTypedAs, progress, gives_all}
 use Rattle.isle_check_laws.proofs.ExpressionCompleteness.{complete, complete_arguments}

@@ -3,8 +3,8 @@ use Rattle.std.proofs.Common.{ℕ, List, Option, Some, refl}
 use Rattle.isle_ast_rules.specs.Tree.{Expression, term_expression, var_expression, no_expression, more_expression}
 use Rattle.isle_check_environment.specs.signatures.Environment.{EnvironmentNode}
 use Rattle.isle_check_typing.specs.Progress.{VariableNode}
-use Rattle.isle_check_expressions.specs.declared.flags.Flags.{Flags}
-use Rattle.isle_check_expressions.specs.TypedExpressions.{TypedExpressionNode, type_of_expression}
+use Rattle.isle_check_typing.specs.declared.expressions.flags.Flags.{Flags}
+use Rattle.isle_check_typing.specs.expressions.TypedExpressions.{TypedExpressionNode, type_of_expression}
 use Rattle.isle_check_laws.specs.HasExpressionType.{HasExpressionType, IsWanted, gives_integer, gives_bool, gives_constant, gives_variable, constructs, converts_variable, converts_term, lets}
 
 module _ (env : EnvironmentNode) (flags : Flags) where

@@ -3,7 +3,7 @@ use Rattle.std.proofs.Common.{◌≡◌, ℕ, suc, List, [], ◌∷◌, ◌++◌
 use Rattle.std.proofs.lemmas.List.{map-append}
 use Rattle.std.specs.List.{list_any}
 use Rattle.isle_check_environment.specs.signatures.Signatures.{TermNode}
-use Rattle.isle_check_expressions.specs.TypedExpressions.{TypedExpressionNode, typed_var_expression, typed_bool_expression, typed_int_expression, typed_const_expression, typed_term_expression, typed_let_expression, TypedExpressionList, no_typed_expression, more_typed_expression, TypedLetList, no_typed_let, more_typed_let}
+use Rattle.isle_check_typing.specs.expressions.TypedExpressions.{TypedExpressionNode, typed_var_expression, typed_bool_expression, typed_int_expression, typed_const_expression, typed_term_expression, typed_let_expression, TypedExpressionList, no_typed_expression, more_typed_expression, TypedLetList, no_typed_let, more_typed_let}
 use Rattle.isle_check_places.specs.Places.{Place, ConstraintNode, content, computed, each, present, step_on}
 use Rattle.isle_check_matchings.specs.Asks.{TermsNode, AskNode, constrains, equals, binds}
 use Rattle.isle_check_matchings.specs.Values as places

@@ -7,9 +7,9 @@ use Rattle.isle_check_environment.specs.signatures.Environment.{EnvironmentNode}
 use Rattle.isle_check_environment.specs.signatures.Signatures.{TermNode}
 use Rattle.isle_check_typing.specs.Progress.{FoundNode, ProgressNode, find}
 use Rattle.isle_check_typing.specs.Typings.{Typing, Typings}
-use Rattle.isle_check_expressions.specs.declared.flags.Flags.{Flags}
-use Rattle.isle_check_expressions.specs.ExpressionTypes.{arguments_by, close, constant_by, count_arguments, count_expressions, expression_at, lets_by, term_by, use_term, variable_by}
-use Rattle.isle_check_expressions.specs.TypedExpressions.{TypedExpressionNode, TypedLetNode, type_of_expression}
+use Rattle.isle_check_typing.specs.declared.expressions.flags.Flags.{Flags}
+use Rattle.isle_check_typing.specs.expressions.ExpressionTypes.{arguments_by, close, constant_by, count_arguments, count_expressions, expression_at, lets_by, term_by, use_term, variable_by}
+use Rattle.isle_check_typing.specs.expressions.TypedExpressions.{TypedExpressionNode, TypedLetNode, type_of_expression}
 use Rattle.isle_check_laws.specs.RuleParts.{HasOwnType}
 use Rattle.isle_check_laws.proofs.RuleSteps.{map_some, then_some}
 

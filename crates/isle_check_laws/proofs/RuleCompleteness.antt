@@ -7,8 +7,8 @@ use Rattle.isle_check_typing.specs.PatternTypes.{arguments_by, count_patterns, t
 use Rattle.isle_check_typing.specs.Progress.{VariableNode, unless}
 use Rattle.isle_check_typing.specs.Typed.{TypedNode}
 use Rattle.isle_check_typing.specs.Typings.{Typing, Typings, and_then, gives, with_typed}
-use Rattle.isle_check_expressions.specs.declared.flags.Flags.{Flags}
-use Rattle.isle_check_expressions.specs.TypedExpressions.{TypedExpressionNode, type_of_expression}
+use Rattle.isle_check_typing.specs.declared.expressions.flags.Flags.{Flags}
+use Rattle.isle_check_typing.specs.expressions.TypedExpressions.{TypedExpressionNode, type_of_expression}
 use Rattle.isle_check_rules.specs.RuleTypes.{condition_flags, matched_by, no_progress, of_sides, pattern_by, right_by, root_by, rule_by, rule_flags, type_conditions, type_right, type_rule}
 use Rattle.isle_check_rules.specs.TypedRules.{TypedCondition, TypedRuleNode}
 use Rattle.isle_check_laws.specs.IsTypedRule.{AreConditions, no_condition, one_condition, IsTypedRule, rewrites}

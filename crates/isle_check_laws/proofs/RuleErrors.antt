@@ -17,8 +17,8 @@ use Rattle.isle_check_typing.specs.PatternTypes.{arguments_by, count_patterns, t
 use Rattle.isle_check_typing.specs.Progress.{ProgressNode, unless}
 use Rattle.isle_check_typing.specs.Typed.{TypedNode}
 use Rattle.isle_check_typing.specs.Typings.{Typing, Typings, with_typed}
-use Rattle.isle_check_expressions.specs.ExpressionTypes.{expression_at}
-use Rattle.isle_check_expressions.specs.TypedExpressions.{TypedExpressionNode, type_of_expression}
+use Rattle.isle_check_typing.specs.expressions.ExpressionTypes.{expression_at}
+use Rattle.isle_check_typing.specs.expressions.TypedExpressions.{TypedExpressionNode, type_of_expression}
 use Rattle.isle_check_rules.specs.Constructors.{lacks_constructor, without_constructor}
 use Rattle.isle_check_rules.specs.RuleFaults.{constructor_fault, rule_faults, terms_without_constructor, undefined_term, undefined_terms, with_faults}
 use Rattle.isle_check_rules.specs.RuleTypes.{RuleTyping, RulesTyping, behind, condition_flags, matched_by, no_progress, of_sides, pattern_by, right_by, root_by, rule_by, rule_flags, type_condition, type_conditions, type_right, type_rule, type_rules, type_sides, with_typing}

@@ -11,8 +11,8 @@ use Rattle.isle_check_typing.specs.Faults.{FaultNode}
 use Rattle.isle_check_typing.specs.Progress.{ProgressNode}
 use Rattle.isle_check_typing.specs.Typed.{TypedNode}
 use Rattle.isle_check_typing.specs.Typings.{Typing, Typings, and_then, with_typed}
-use Rattle.isle_check_expressions.specs.ExpressionTypes.{expression_at}
-use Rattle.isle_check_expressions.specs.TypedExpressions.{TypedExpressionNode}
+use Rattle.isle_check_typing.specs.expressions.ExpressionTypes.{expression_at}
+use Rattle.isle_check_typing.specs.expressions.TypedExpressions.{TypedExpressionNode}
 use Rattle.isle_check_rules.specs.RuleFaults.{rule_faults, with_faults}
 use Rattle.isle_check_rules.specs.RuleTypes.{RuleTyping, RulesTyping, behind, condition_flags, of_sides, right_by, root_by, rule_by, rule_flags, type_conditions, type_rule, type_rules, type_sides, with_typing}
 use Rattle.isle_check_rules.specs.TypedRules.{TypedCondition, TypedRuleNode}

@@ -2,7 +2,7 @@
 use Rattle.std.proofs.Common.{◌≡◌, ◌≢◌, ℕ, List, Bool, true, false, not, ◌||◌, Option, None, Some, refl, ap, sym, ◌∙◌, subst, bytes_eq, if◌then◌else◌}
 use Rattle.std.proofs.lemmas.Option.{none-some, same_Some}
 use Rattle.isle_check_environment.specs.signatures.Environment.{EnvironmentNode}
-use Rattle.isle_check_expressions.specs.ExpressionTypes.{if_constructs, other_than}
+use Rattle.isle_check_typing.specs.expressions.ExpressionTypes.{if_constructs, other_than}
 use Rattle.isle_check_laws.specs.HasExpressionType.{IsWanted}
 use Rattle.isle_check_laws.proofs.Telling.{differs, equal_text, other_text, same_text}
 

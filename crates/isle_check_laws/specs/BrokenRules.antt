@@ -12,8 +12,8 @@ use Rattle.isle_check_environment.specs.signatures.Environment.{EnvironmentNode}
 use Rattle.isle_check_environment.specs.signatures.Signatures.{TermNode}
 use Rattle.isle_check_typing.specs.Faults as kinds
 use Rattle.isle_check_typing.specs.PatternTypes.{count_patterns, list_list}
-use Rattle.isle_check_expressions.specs.declared.flags.Flags.{Flags}
-use Rattle.isle_check_expressions.specs.ExpressionTypes.{count_expressions}
+use Rattle.isle_check_typing.specs.declared.expressions.flags.Flags.{Flags}
+use Rattle.isle_check_typing.specs.expressions.ExpressionTypes.{count_expressions}
 use Rattle.isle_check_laws.specs.RuleParts.{BindsVariable, HasRoot, IsExpression, IsPattern, LetVariable, let_variables}
 
 -- a converter from the one type to the other cannot stand in a pattern

@@ -8,7 +8,7 @@ use Rattle.isle_ast_rules.specs.Tree.{Condition, Expression, ExpressionList, Let
 use Rattle.isle_check_environment.specs.signatures.Environment.{EnvironmentNode}
 use Rattle.isle_check_environment.specs.signatures.Signatures.{TermNode}
 use Rattle.isle_check_typing.specs.PatternTypes.{list_list}
-use Rattle.isle_check_expressions.specs.declared.flags.Flags.{Flags}
+use Rattle.isle_check_typing.specs.declared.expressions.flags.Flags.{Flags}
 use Rattle.isle_check_rules.specs.RuleTypes.{condition_flags, rule_flags}
 
 -- expressions in a list

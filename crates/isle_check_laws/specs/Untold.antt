@@ -9,10 +9,10 @@ use Rattle.isle_check_typing.specs.PatternTypes as patterns
 use Rattle.isle_check_typing.specs.Progress.{ProgressNode, VariableNode}
 use Rattle.isle_check_typing.specs.Typed.{TypedNode}
 use Rattle.isle_check_typing.specs.Typings.{Typing, Typings, gives}
-use Rattle.isle_check_expressions.specs.declared.flags.Flags.{Flags}
-use Rattle.isle_check_expressions.specs.ExpressionTypes.{count_expressions, expression_at}
-use Rattle.isle_check_expressions.specs.ExpressionTypes as expressions
-use Rattle.isle_check_expressions.specs.TypedExpressions.{TypedExpressionNode}
+use Rattle.isle_check_typing.specs.declared.expressions.flags.Flags.{Flags}
+use Rattle.isle_check_typing.specs.expressions.ExpressionTypes.{count_expressions, expression_at}
+use Rattle.isle_check_typing.specs.expressions.ExpressionTypes as expressions
+use Rattle.isle_check_typing.specs.expressions.TypedExpressions.{TypedExpressionNode}
 use Rattle.isle_check_rules.specs.RuleTypes.{RuleTyping, type_rule}
 use Rattle.isle_check_rules.specs.TypedRules.{TypedRuleNode}
 

@@ -2,7 +2,7 @@
 use Rattle.std.specs.Prelude.{◌≡◌, ℕ, List, [], ◌∷◌, ◌++◌, true, not}
 use Rattle.std.specs.List.{list_all}
 use Rattle.isle_check_typing.specs.TypedView.{typed_list_of}
-use Rattle.isle_check_expressions.specs.TypedExpressions.{TypedExpressionNode, typed_var_expression, typed_bool_expression, typed_int_expression, typed_const_expression, typed_term_expression, typed_let_expression, TypedExpressionList, no_typed_expression, more_typed_expression, TypedLetList, no_typed_let, more_typed_let}
+use Rattle.isle_check_typing.specs.expressions.TypedExpressions.{TypedExpressionNode, typed_var_expression, typed_bool_expression, typed_int_expression, typed_const_expression, typed_term_expression, typed_let_expression, TypedExpressionList, no_typed_expression, more_typed_expression, TypedLetList, no_typed_let, more_typed_let}
 use Rattle.isle_check_rules.specs.TypedRules.{TypedCondition, TypedRuleNode}
 use Rattle.isle_check_rules.specs.Warnings.{list_terms_in, multi_by, terms_in}
 use Rattle.isle_check_matchings.specs.Asks.{TermsNode}

@@ -2,9 +2,9 @@
 use Rattle.std.proofs.Common.{◌≡◌, ℕ, List, [], ◌∷◌, ◌++◌, length, map, refl, sym, ap, ◌∙◌, arith, append_assoc}
 use Rattle.isle_check_typing.specs.declared.typed.TypedPattern.{TypedPattern}
 use Rattle.isle_check_typing.specs.TypedView.{all_typed_of, typed_list_of}
-use Rattle.isle_check_expressions.specs.declared.typed.TypedExpression.{TypedExpression}
-use Rattle.isle_check_expressions.specs.TypedExpressions.{typed_expression_list}
-use Rattle.isle_check_expressions.specs.TypedView.{typed_expression_of}
+use Rattle.isle_check_typing.specs.declared.expressions.typed.TypedExpression.{TypedExpression}
+use Rattle.isle_check_typing.specs.expressions.TypedExpressions.{typed_expression_list}
+use Rattle.isle_check_typing.specs.expressions.TypedView.{typed_expression_of}
 use Rattle.isle_check_places.specs.Under.{UnderNode}
 use Rattle.isle_check_places.specs.Places.{Place}
 use Rattle.isle_check_matchings.specs.Asks.{TermsNode, AskNode, OpeningNode, count_typed, list_asks, term_asks, term_opening}

@@ -1,7 +1,7 @@
 -- The places of the values of typed expressions.
 use Rattle.std.specs.Prelude.{ℕ, suc, List, [], ◌∷◌, ◌++◌, ◌==◌, Option, None, Some, if◌then◌else◌}
 use Rattle.isle_check_environment.specs.signatures.Signatures.{TermNode}
-use Rattle.isle_check_expressions.specs.TypedExpressions.{TypedExpressionNode, typed_var_expression, typed_bool_expression, typed_int_expression, typed_const_expression, typed_term_expression, typed_let_expression, TypedExpressionList, no_typed_expression, more_typed_expression, TypedLetList, no_typed_let, more_typed_let}
+use Rattle.isle_check_typing.specs.expressions.TypedExpressions.{TypedExpressionNode, typed_var_expression, typed_bool_expression, typed_int_expression, typed_const_expression, typed_term_expression, typed_let_expression, TypedExpressionList, no_typed_expression, more_typed_expression, TypedLetList, no_typed_let, more_typed_let}
 use Rattle.isle_check_places.specs.Places.{Place, content, each, computed, bool_value, int_value, constant_value, step_on}
 use Rattle.isle_check_matchings.specs.Asks.{TermsNode, AskNode, constrains, binds, equals}
 

@@ -1,9 +1,9 @@
 //! The places of the values of typed expressions.
 
 ghost use Rattle.std.specs.Prelude.{◌≡◌, ◌++◌, ◌∷◌, [], IfOk, map, option_map};
-ghost use Rattle.isle_check_expressions.specs.TypedExpressions.{typed_expression_list};
-ghost use Rattle.isle_check_expressions.specs.TypedExpressions.{typed_let_list};
-ghost use Rattle.isle_check_expressions.specs.TypedView.{typed_expression_of, typed_let_of};
+ghost use Rattle.isle_check_typing.specs.expressions.TypedExpressions.{typed_expression_list};
+ghost use Rattle.isle_check_typing.specs.expressions.TypedExpressions.{typed_let_list};
+ghost use Rattle.isle_check_typing.specs.expressions.TypedView.{typed_expression_of, typed_let_of};
 ghost use Rattle.isle_check_environment.specs.signatures.Views.{term_of};
 ghost use Rattle.isle_check_matchings.specs.Values.{answered, called, known_with};
 ghost use Rattle.isle_check_matchings.specs.Values.{term_value, value};
@@ -13,7 +13,7 @@ ghost use Rattle.isle_check_places.specs.Views.{place_of, places_of};
 
 use crate::asks::Ask;
 use crate::openings::Terms;
-use isle_check_expressions::{TypedExpression, TypedLet};
+use isle_check_typing::expressions::{TypedExpression, TypedLet};
 use isle_check_places::{Place, Step, begin, copied, step_on};
 use isle_check_environment::signatures::Term;
 use std::alloc::{AllocError, Global};

@@ -11,9 +11,9 @@ use Rattle.isle_check_typing.specs.PatternTypes.{arguments_by, count_patterns, t
 use Rattle.isle_check_typing.specs.Progress.{ProgressNode, unless}
 use Rattle.isle_check_typing.specs.Typed.{TypedNode}
 use Rattle.isle_check_typing.specs.Typings.{Typing, Typings, and_then, gives, gives_none, with_typed}
-use Rattle.isle_check_expressions.specs.declared.flags.Flags.{Flags}
-use Rattle.isle_check_expressions.specs.ExpressionTypes.{expression_at}
-use Rattle.isle_check_expressions.specs.TypedExpressions.{TypedExpressionNode, type_of_expression}
+use Rattle.isle_check_typing.specs.declared.expressions.flags.Flags.{Flags}
+use Rattle.isle_check_typing.specs.expressions.ExpressionTypes.{expression_at}
+use Rattle.isle_check_typing.specs.expressions.TypedExpressions.{TypedExpressionNode, type_of_expression}
 use Rattle.isle_check_rules.specs.TypedRules.{TypedCondition, TypedRuleNode}
 
 -- a rule's typed rule, if it has one, and its errors

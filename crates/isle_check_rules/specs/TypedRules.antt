@@ -2,7 +2,7 @@
 use Rattle.std.specs.Prelude.{ℕ, ℤ, List}
 use Rattle.isle_base_source.specs.declared.pos.Pos.{Pos}
 use Rattle.isle_check_typing.specs.Typed.{TypedNode}
-use Rattle.isle_check_expressions.specs.TypedExpressions.{TypedExpressionNode}
+use Rattle.isle_check_typing.specs.expressions.TypedExpressions.{TypedExpressionNode}
 
 -- a condition: the value of the expression matches the pattern
 pub record TypedCondition : Type 0 where

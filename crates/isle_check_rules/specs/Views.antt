@@ -9,7 +9,7 @@ use Rattle.isle_ast_names.specs.Tree.{Name}
 use Rattle.isle_ast_names.specs.TreeView.{name_of}
 use Rattle.isle_check_typing.specs.TypedView.{all_typed_of, typed_of}
 use Rattle.isle_check_typing.specs.Views.{faults_of}
-use Rattle.isle_check_expressions.specs.TypedView.{typed_expression_of}
+use Rattle.isle_check_typing.specs.expressions.TypedView.{typed_expression_of}
 use Rattle.isle_check_rules.specs.declared.refusal.RuleRefusal.{RuleRefusal}
 use Rattle.isle_check_rules.specs.declared.refusal.RuleRefusal.TheVariants as refusals
 use Rattle.isle_check_rules.specs.declared.typed.RuleTyping as code_rule

@@ -10,7 +10,7 @@ ghost use Rattle.isle_check_typing.specs.PatternTypes.{count_patterns};
 ghost use Rattle.isle_check_typing.specs.Progress.{unless};
 ghost use Rattle.isle_check_typing.specs.TypedView.{all_typed_of};
 ghost use Rattle.isle_check_typing.specs.Views.{Gives, GivesTyping, GivesTypings, progress_of};
-ghost use Rattle.isle_check_expressions.specs.TypedView.{typed_expression_of};
+ghost use Rattle.isle_check_typing.specs.expressions.TypedView.{typed_expression_of};
 ghost use Rattle.isle_check_rules.specs.RuleTypes.{condition_flags, pattern_by, right_by};
 ghost use Rattle.isle_check_rules.specs.RuleTypes.{rule_by, rule_flags, type_condition};
 ghost use Rattle.isle_check_rules.specs.RuleTypes.{type_conditions, type_right, type_rule};
@@ -21,7 +21,7 @@ ghost use Rattle.isle_check_rules.specs.Views.{typed_conditions_of, typed_rule_o
 use crate::typed::{RuleTyping, TypedIfLet, TypedRule};
 use isle_ast_rules::{IfLet, Pattern, Rule};
 use isle_base::lexer::Pos;
-use isle_check_expressions::{Flags, TypedExpression, type_expression};
+use isle_check_typing::expressions::{Flags, TypedExpression, type_expression};
 use isle_check_environment::signatures::{Environment, Term};
 use isle_check_typing::{
     Kind, Progress, Refusal, TypedPattern, no_progress, tell, type_arguments, type_pattern,

@@ -1,7 +1,7 @@
 //! Typed rules.
 
 use isle_base::lexer::Pos;
-use isle_check_expressions::TypedExpression;
+use isle_check_typing::expressions::TypedExpression;
 use isle_check_typing::{Fault, TypedPattern};
 
 /// A rule whose patterns and expressions are typed. Its variables are numbered in the order in

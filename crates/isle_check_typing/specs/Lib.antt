@@ -5,3 +5,4 @@ pub mod TypedView
 pub mod Typings
 pub mod Views
 pub mod PatternTypes
+pub mod expressions

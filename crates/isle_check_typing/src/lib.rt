@@ -2,6 +2,7 @@
 //! errors, as upstream reports them.
 #![tactic(auto)]
 
+pub mod expressions;
 mod fault;
 pub mod laws;
 mod patterns;

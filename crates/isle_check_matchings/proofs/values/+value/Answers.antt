@@ -1,7 +1,7 @@
 use Rattle.std.proofs.Common.{◌≡◌, map, ◌∙◌, rules}
 use Rattle.std.proofs.lemmas.Result.{IfOk-weaker}
-use Rattle.isle_check_expressions.specs.TypedExpressions.{typed_expression_list}
-use Rattle.isle_check_expressions.specs.TypedView.{typed_expression_of}
+use Rattle.isle_check_typing.specs.expressions.TypedExpressions.{typed_expression_list}
+use Rattle.isle_check_typing.specs.expressions.TypedView.{typed_expression_of}
 use Rattle.isle_check_matchings.specs.Values.{called, term_value}
 use Rattle.isle_check_matchings.specs.Views.{asks_of, terms_of, value_of}
 use Rattle.isle_check_matchings.proofs.AskLemmas.{call_step}

@@ -1,6 +1,6 @@
 use Rattle.std.proofs.Common.{◌≡◌, drop, map}
-use Rattle.isle_check_expressions.specs.TypedExpressions.{typed_expression_list, typed_let_list}
-use Rattle.isle_check_expressions.specs.TypedView.{typed_expression_of, typed_let_of}
+use Rattle.isle_check_typing.specs.expressions.TypedExpressions.{typed_expression_list, typed_let_list}
+use Rattle.isle_check_typing.specs.expressions.TypedView.{typed_expression_of, typed_let_of}
 use Rattle.isle_check_places.specs.Views.{place_of, places_of}
 use Rattle.isle_check_matchings.specs.Values.{join, known_with, value_at, values}
 use Rattle.isle_check_matchings.specs.Views.{asks_of, terms_of}

@@ -4,8 +4,8 @@ use Rattle.std.specs.Prelude.{ℕ, List, Option, option_map, string_bytes}
 use Rattle.std.specs.declared.alloc.Global.{Global}
 use Rattle.std.specs.declared.string.String.{String}
 use Rattle.isle_check_environment.specs.signatures.Views.{environment_of}
-use Rattle.isle_check_expressions.specs.declared.expressions.Typer.{Typer}
-use Rattle.isle_check_expressions.specs.ExpressionTypes.{Below, expression_at}
+use Rattle.isle_check_typing.specs.declared.expressions.expressions.Typer.{Typer}
+use Rattle.isle_check_typing.specs.expressions.ExpressionTypes.{Below, expression_at}
 
 -- a type, if there is one
 abbrev pub type_text : Option (Bor (String Global)) → Option (List ℕ)

@@ -4,14 +4,14 @@ ghost use Rattle.std.specs.Prelude.{◌≡◌, OnOk, option_map, string_bytes};
 ghost use Rattle.isle_ast_rules.specs.TreeView.{expression_list_of, expressions_of};
 ghost use Rattle.isle_check_environment.specs.signatures.Views.{environment_of, term_of};
 ghost use Rattle.isle_check_typing.specs.Views.{progress_of};
-ghost use Rattle.isle_check_expressions.specs.ExpressionTypes.{converting, count_arguments};
-ghost use Rattle.isle_check_expressions.specs.ExpressionTypes.{count_expressions, use_term};
+ghost use Rattle.isle_check_typing.specs.expressions.ExpressionTypes.{converting, count_arguments};
+ghost use Rattle.isle_check_typing.specs.expressions.ExpressionTypes.{count_expressions, use_term};
 
-use crate::flags::Flags;
+use crate::expressions::flags::Flags;
 use isle_ast_rules::Expr;
 use isle_base::lexer::Pos;
 use isle_check_environment::signatures::{Environment, Term};
-use isle_check_typing::{Kind, Progress, tell};
+use crate::{Kind, Progress, tell};
 use std::alloc::AllocError;
 
 /// Tells if a term is used where its flags don't allow it.
@@ -67,7 +67,7 @@ pub fn count_arguments(
 }
 
 /// Counts expressions.
-#[tactic(auto, using(crate::proofs::Counts::count_of))]
+#[tactic(auto, using(crate::proofs::expressions::Counts::count_of))]
 pub fn count_expressions(exprs: &Vec<Expr>) -> usize
     ensures { result ≡ count_expressions (expression_list_of (expressions_of exprs.now.items)) }
 {

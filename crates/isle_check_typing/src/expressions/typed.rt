@@ -1,8 +1,8 @@
 //! Typed expressions.
 
 ghost use Rattle.std.specs.Prelude.{◌≡◌, IfOk, string_bytes};
-ghost use Rattle.isle_check_expressions.specs.TypedExpressions.{type_of_expression};
-ghost use Rattle.isle_check_expressions.specs.TypedView.{typed_expression_of};
+ghost use Rattle.isle_check_typing.specs.expressions.TypedExpressions.{type_of_expression};
+ghost use Rattle.isle_check_typing.specs.expressions.TypedView.{typed_expression_of};
 
 use std::alloc::AllocError;
 

@@ -5,9 +5,9 @@ ghost use Rattle.isle_ast_rules.specs.Tree.{Expression};
 ghost use Rattle.isle_check_environment.specs.signatures.Environment.{EnvironmentNode};
 ghost use Rattle.isle_check_typing.specs.Progress.{ProgressNode};
 ghost use Rattle.isle_check_typing.specs.Typings.{Typing};
-ghost use Rattle.isle_check_expressions.specs.declared.flags.Flags.{Flags};
-ghost use Rattle.isle_check_expressions.specs.ExpressionTypes.{expression_at};
-ghost use Rattle.isle_check_expressions.specs.TypedExpressions.{TypedExpressionNode};
+ghost use Rattle.isle_check_typing.specs.declared.expressions.flags.Flags.{Flags};
+ghost use Rattle.isle_check_typing.specs.expressions.ExpressionTypes.{expression_at};
+ghost use Rattle.isle_check_typing.specs.expressions.TypedExpressions.{TypedExpressionNode};
 
 /// A law, which runs no code: once the depth is enough, more depth changes nothing.
 pub fn more_depth_changes_nothing()

@@ -1,10 +1,10 @@
 -- The typed expressions of code, as pure values.
 use Rattle.std.specs.Prelude.{string_bytes}
-use Rattle.isle_check_expressions.specs.TypedExpressions.{TypedExpressionNode, typed_var_expression, typed_bool_expression, typed_int_expression, typed_const_expression, typed_term_expression, typed_let_expression, TypedLetNode, typed_expression_list, typed_let_list}
-use Rattle.isle_check_expressions.specs.declared.typed.TypedExpression.{TypedExpression}
-use Rattle.isle_check_expressions.specs.declared.typed.TypedExpression.TheOpen.{TypedExpression-F, TypedLet-F}
-use Rattle.isle_check_expressions.specs.declared.typed.TypedExpression.TheFolds.{fold-TypedExpression, fold-TypedLet}
-use Rattle.isle_check_expressions.specs.declared.typed.TypedLet.{TypedLet}
+use Rattle.isle_check_typing.specs.expressions.TypedExpressions.{TypedExpressionNode, typed_var_expression, typed_bool_expression, typed_int_expression, typed_const_expression, typed_term_expression, typed_let_expression, TypedLetNode, typed_expression_list, typed_let_list}
+use Rattle.isle_check_typing.specs.declared.expressions.typed.TypedExpression.{TypedExpression}
+use Rattle.isle_check_typing.specs.declared.expressions.typed.TypedExpression.TheOpen.{TypedExpression-F, TypedLet-F}
+use Rattle.isle_check_typing.specs.declared.expressions.typed.TypedExpression.TheFolds.{fold-TypedExpression, fold-TypedLet}
+use Rattle.isle_check_typing.specs.declared.expressions.typed.TypedLet.{TypedLet}
 
 -- one node, with its parts as pure values
 abbrev pub typed_expression_step : TypedExpression-F TypedExpressionNode TypedLetNode → TypedExpressionNode

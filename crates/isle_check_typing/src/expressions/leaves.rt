@@ -4,16 +4,16 @@ ghost use Rattle.std.specs.Prelude.{◌≡◌, IfOk, Some, option_map, string_by
 ghost use Rattle.isle_ast_names.specs.TreeView.{name_of};
 ghost use Rattle.isle_check_environment.specs.signatures.Views.{environment_of};
 ghost use Rattle.isle_check_typing.specs.Views.{progress_of};
-ghost use Rattle.isle_check_expressions.specs.ExpressionTypes.{other_than, type_bool};
-ghost use Rattle.isle_check_expressions.specs.ExpressionTypes.{type_constant, type_integer};
-ghost use Rattle.isle_check_expressions.specs.TypedView.{typed_expression_of};
-ghost use Rattle.isle_check_expressions.specs.Views.{type_text};
+ghost use Rattle.isle_check_typing.specs.expressions.ExpressionTypes.{other_than, type_bool};
+ghost use Rattle.isle_check_typing.specs.expressions.ExpressionTypes.{type_constant, type_integer};
+ghost use Rattle.isle_check_typing.specs.expressions.TypedView.{typed_expression_of};
+ghost use Rattle.isle_check_typing.specs.expressions.Views.{type_text};
 
-use crate::typed::TypedExpression;
+use crate::expressions::typed::TypedExpression;
 use isle_ast_names::Ident;
 use isle_base::lexer::Pos;
 use isle_check_environment::signatures::Environment;
-use isle_check_typing::{Kind, Progress, tell};
+use crate::{Kind, Progress, tell};
 use std::alloc::{AllocError, Global};
 
 /// Returns the type that is wanted, if it is another one than what is found.

@@ -1,6 +1,5 @@
 //! The types of expressions: the typed expression of an expression, the numbers of its variables
 //! and its errors, as upstream reports them.
-#![tactic(auto)]
 
 mod expressions;
 mod flags;

@@ -8,9 +8,9 @@ use Rattle.isle_check_typing.proofs.Keeping.{choose-keeps, map-keeps, then-keeps
 use Rattle.isle_check_typing.specs.Faults.{expression_term_type, let_type_unknown}
 use Rattle.isle_check_typing.specs.Progress.{FoundNode, ProgressNode, find, tell}
 use Rattle.isle_check_typing.specs.Typings.{Typing, Typings, gives, gives_none, with_typed}
-use Rattle.isle_check_expressions.specs.declared.flags.Flags.{Flags}
-use Rattle.isle_check_expressions.specs.ExpressionTypes.{Below, arguments_by, close, converting, count_arguments, count_expressions, define, expression_at, let_by, lets_by, other_than, own_by, put_by, step, term_as, term_by, term_converted, type_let, use_term, variable_as, variable_by, variable_converted}
-use Rattle.isle_check_expressions.specs.TypedExpressions.{TypedExpressionNode, TypedLetNode, typed_expression_list, typed_term_expression}
+use Rattle.isle_check_typing.specs.declared.expressions.flags.Flags.{Flags}
+use Rattle.isle_check_typing.specs.expressions.ExpressionTypes.{Below, arguments_by, close, converting, count_arguments, count_expressions, define, expression_at, let_by, lets_by, other_than, own_by, put_by, step, term_as, term_by, term_converted, type_let, use_term, variable_as, variable_by, variable_converted}
+use Rattle.isle_check_typing.specs.expressions.TypedExpressions.{TypedExpressionNode, TypedLetNode, typed_expression_list, typed_term_expression}
 
 module _ (below above : Below) (keeps : (e : Expression) (wanted : Option (List ℕ)) (s : ProgressNode) (made : Typing TypedExpressionNode) → below e wanted s ≡ Some made → above e wanted s ≡ Some made) (env : EnvironmentNode) (flags : Flags) where
   keep-put : (converter : List ℕ) (e : Expression) (place : Pos) (ty : List ℕ) (s : ProgressNode) (made : Typing TypedExpressionNode) →

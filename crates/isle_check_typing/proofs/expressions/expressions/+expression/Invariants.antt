@@ -2,10 +2,10 @@ use Rattle.std.proofs.Common.{◌≡◌, ◌+◌, ◌*◌, [], drop, map, string
 use Rattle.isle_ast_rules.specs.TreeView.{expression_list_of, expressions_of, let_list_of, single_lets_of}
 use Rattle.isle_check_environment.specs.signatures.Views.{environment_of}
 use Rattle.isle_check_typing.specs.Views.{progress_of}
-use Rattle.isle_check_expressions.specs.ExpressionTypes.{arguments_by, lets_by}
-use Rattle.isle_check_expressions.specs.TypedView.{typed_expression_of, typed_let_of}
-use Rattle.isle_check_expressions.specs.Views.{parts_by}
-use Rattle.isle_check_expressions.proofs.expressions.+expression.Given as goal
+use Rattle.isle_check_typing.specs.expressions.ExpressionTypes.{arguments_by, lets_by}
+use Rattle.isle_check_typing.specs.expressions.TypedView.{typed_expression_of, typed_let_of}
+use Rattle.isle_check_typing.specs.expressions.Views.{parts_by}
+use Rattle.isle_check_typing.proofs.expressions.expressions.+expression.Given as goal
 
 abbrev pub invariant-type_arguments-loop-number : goal.invariant-type_arguments-loop-number
 invariant-type_arguments-loop-number l =

@@ -7,22 +7,24 @@ ghost use Rattle.isle_ast_rules.specs.TreeView.{expressions_of, let_list_of, sin
 ghost use Rattle.isle_check_environment.specs.signatures.Views.{environment_of, term_of};
 ghost use Rattle.isle_check_typing.specs.Progress.{find};
 ghost use Rattle.isle_check_typing.specs.Views.{GivesTyping, GivesTypings, progress_of};
-ghost use Rattle.isle_check_expressions.specs.ExpressionTypes.{arguments_by, expression_at};
-ghost use Rattle.isle_check_expressions.specs.ExpressionTypes.{let_by, lets_by, own_by, put_by};
-ghost use Rattle.isle_check_expressions.specs.ExpressionTypes.{step, term_as, term_by, type_let};
-ghost use Rattle.isle_check_expressions.specs.ExpressionTypes.{other_than, variable_by};
-ghost use Rattle.isle_check_expressions.specs.TypedView.{typed_expression_of, typed_let_of};
-ghost use Rattle.isle_check_expressions.specs.Views.{parts_by, type_text};
+ghost use Rattle.isle_check_typing.specs.expressions.ExpressionTypes.{arguments_by, expression_at};
+ghost use Rattle.isle_check_typing.specs.expressions.ExpressionTypes.{let_by, lets_by, own_by};
+ghost use Rattle.isle_check_typing.specs.expressions.ExpressionTypes.{put_by};
+ghost use Rattle.isle_check_typing.specs.expressions.ExpressionTypes.{step, term_as, term_by};
+ghost use Rattle.isle_check_typing.specs.expressions.ExpressionTypes.{type_let};
+ghost use Rattle.isle_check_typing.specs.expressions.ExpressionTypes.{other_than, variable_by};
+ghost use Rattle.isle_check_typing.specs.expressions.TypedView.{typed_expression_of, typed_let_of};
+ghost use Rattle.isle_check_typing.specs.expressions.Views.{parts_by, type_text};
 
-use crate::flags::Flags;
-use crate::leaves::{other_than, type_bool, type_constant, type_integer};
-use crate::typed::{TypedExpression, TypedLet};
-use crate::uses::{converting, count_arguments, count_expressions, use_term};
+use crate::expressions::flags::Flags;
+use crate::expressions::leaves::{other_than, type_bool, type_constant, type_integer};
+use crate::expressions::typed::{TypedExpression, TypedLet};
+use crate::expressions::uses::{converting, count_arguments, count_expressions, use_term};
 use isle_ast_names::Ident;
 use isle_ast_rules::{Expr, LetDef};
 use isle_base::lexer::Pos;
 use isle_check_environment::signatures::{Environment, Term};
-use isle_check_typing::{Kind, Progress, Refusal, bind, find, hide_since, tell};
+use crate::{Kind, Progress, Refusal, bind, find, hide_since, tell};
 use std::alloc::Global;
 
 /// What the parts of an expression are typed with.
