@@ -1,6 +1,6 @@
 -- The words of each kind of error of rules beside one another: the name of the kind, and the message.
 use Rattle.std.specs.Prelude.{ℕ, List, [], ◌∷◌, ◌++◌, Bool, true, false, codes}
-use Rattle.isle_check_values.specs.Values.{ValueNode}
+use Rattle.isle_check_places.specs.values.Values.{ValueNode}
 use Rattle.isle_check_overlaps.specs.Faults.{KindNode, OtherNode, two_constraints, unequal_constraints, part_of_itself, overlaps, shadows, shadows_with_equals}
 use Rattle.isle_check_messages.specs.Words.{WordsNode, words}
 

@@ -5,11 +5,11 @@ ghost use Rattle.isle_check_messages.specs.OverlapWords.{both_text, first_text, 
 ghost use Rattle.isle_check_messages.specs.Words as Node;
 ghost use Rattle.isle_check_messages.specs.Words.{words_of};
 ghost use Rattle.isle_check_overlaps.specs.Views.{kind_of, others_of};
-ghost use Rattle.isle_check_values.specs.Views.{value_of};
+ghost use Rattle.isle_check_places.specs.values.Views.{value_of};
 
 use crate::words::{Words, about_two, plain};
 use isle_check_overlaps::{Kind, Other};
-use isle_check_values::Value;
+use isle_check_places::values::Value;
 use std::alloc::{AllocError, Global};
 
 /// Returns the words of an error of rules beside one another, or of a warning. An `Err` means out

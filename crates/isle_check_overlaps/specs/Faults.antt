@@ -7,7 +7,7 @@ use Rattle.isle_check_places.specs.Places.{ConstraintNode, of_variant, of_bool, 
 use Rattle.isle_check_places.specs.Clashes.{ClashNode}
 use Rattle.isle_check_places.specs.Settling.{SettledNode, settled, unequal, endless}
 use Rattle.isle_check_environment.specs.signatures.Signatures.{TermNode}
-use Rattle.isle_check_values.specs.Values.{ValueNode, value}
+use Rattle.isle_check_places.specs.values.Values.{ValueNode, value}
 use Rattle.isle_check_overlaps.specs.Matchings.{MatchingNode}
 use Rattle.isle_check_overlaps.specs.Candidates.{CandidateNode, candidates, hides, hides_with_equals}
 use Rattle.isle_check_overlaps.specs.Stars.{StarNode, PairNode, pairs, stars}

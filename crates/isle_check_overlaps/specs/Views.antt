@@ -6,7 +6,7 @@ use Rattle.isle_check_overlaps.specs.declared.matching.Matching.{Matching}
 use Rattle.isle_check_overlaps.specs.declared.candidates.Candidate.{Candidate}
 use Rattle.isle_check_overlaps.specs.declared.stars.Pair.{Pair}
 use Rattle.isle_check_overlaps.specs.declared.stars.Star.{Star}
-use Rattle.isle_check_values.specs.Views.{value_of}
+use Rattle.isle_check_places.specs.values.Views.{value_of}
 use Rattle.isle_check_overlaps.specs.declared.fault.Fault.{Fault}
 use Rattle.isle_check_overlaps.specs.declared.fault.Other.{Other}
 use Rattle.isle_check_overlaps.specs.declared.fault.Kind.{Kind}

@@ -1,7 +1,7 @@
 //! What is found when rules are compared.
 
 use isle_base_source::pos::Pos;
-use isle_check_values::Value;
+use isle_check_places::values::Value;
 
 /// Something that is wrong with a rule, beside others or by itself.
 #[derive(Drop)]

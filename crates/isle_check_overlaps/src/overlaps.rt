@@ -25,7 +25,7 @@ use crate::stars::{Pair, Star, grouped, stars};
 use crate::unreachable::{add_unreachable, endless_rules};
 use isle_base_source::pos::Pos;
 use isle_check_environment::signatures::Environment;
-use isle_check_values::{Value, value_of_both};
+use isle_check_places::values::{Value, value_of_both};
 use std::alloc::{AllocError, Global};
 
 /// How many of the rules that overlap with a rule, or that it hides, are told.

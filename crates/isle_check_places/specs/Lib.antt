@@ -7,3 +7,4 @@ pub mod UnderView
 pub mod Following
 pub mod JoinView
 pub mod Views
+pub mod values

@@ -8,6 +8,7 @@ mod following;
 mod places;
 mod settling;
 mod under;
+pub mod values;
 
 pub use clashing::{Clash, clashes};
 pub use comparing::{apart, within};
