@@ -14,11 +14,11 @@ use Rattle.isle_lint_core.specs.Uses.{uses, uses_after}
 use Rattle.isle_lint_core.specs.Variables.{list_variables, variables}
 use Rattle.isle_lint_core.specs.Variables as lint
 use Rattle.isle_lint_core.specs.declared.patterns.Wanted.{Wanted}
-use Rattle.isle_lint_laws.specs.Patterns.{IsIdle, IsReadInRule, wanted_variables}
-use Rattle.isle_lint_laws.specs.Rules.{HasExpression, of_condition, of_rule, HaveExpression, in_first_condition, in_later_condition}
-use Rattle.isle_lint_laws.proofs.Names.{filtered, kept_is, passed, twice}
-use Rattle.isle_lint_laws.proofs.Rules.{all_rule_variables}
-use Rattle.isle_lint_laws.proofs.Uses.{not_read, text_same, used}
+use Rattle.isle_scope_laws.specs.lints.Patterns.{IsIdle, IsReadInRule, wanted_variables}
+use Rattle.isle_scope_laws.specs.lints.Rules.{HasExpression, of_condition, of_rule, HaveExpression, in_first_condition, in_later_condition}
+use Rattle.isle_scope_laws.proofs.lints.Names.{filtered, kept_is, passed, twice}
+use Rattle.isle_scope_laws.proofs.lints.Rules.{all_rule_variables}
+use Rattle.isle_scope_laws.proofs.lints.Uses.{not_read, text_same, used}
 
 -- wanted variables are variables
 

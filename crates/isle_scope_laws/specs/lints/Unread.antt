@@ -8,9 +8,9 @@ use Rattle.isle_index.specs.Renamed.{are_apart, places_of}
 use Rattle.isle_resolve.specs.Scopes.{seen}
 use Rattle.isle_scope_laws.specs.Reads.{IsReadAs}
 use Rattle.isle_lint_core.specs.declared.patterns.Wanted.{Wanted}
-use Rattle.isle_lint_laws.specs.Finds.{OfRule}
-use Rattle.isle_lint_laws.specs.Lets.{RuleBinds}
-use Rattle.isle_lint_laws.specs.Patterns.{occurrences, wanted_variables}
+use Rattle.isle_scope_laws.specs.lints.Finds.{OfRule}
+use Rattle.isle_scope_laws.specs.lints.Lets.{RuleBinds}
+use Rattle.isle_scope_laws.specs.lints.Patterns.{occurrences, wanted_variables}
 
 -- no two names of the program share a position
 abbrev pub HasNamesApart : List Definition → Type 0

@@ -6,10 +6,10 @@ use Rattle.isle_ast_names.specs.Tree.{Name}
 use Rattle.isle_ast_rules.specs.Tree.{Expression, term_expression, let_expression, ExpressionList, more_expression, LetList, no_let, more_let}
 use Rattle.isle_scope_laws.specs.Reads.{Reads, itself, in_argument, in_body, in_value, AreRead, in_first, in_later, ValuesRead, in_this, in_next, meant, with_lets}
 use Rattle.isle_lint_core.specs.Uses.{let_uses, list_uses, uses}
-use Rattle.isle_lint_laws.specs.Lets.{Binds, binds_in_argument, binds_in_body, binds_in_let, Bind, binds_in_first, binds_in_later, LetBinds, binds_this, binds_in_value, binds_next}
-use Rattle.isle_lint_laws.proofs.Counted as counted
-use Rattle.isle_lint_laws.proofs.Lets.{FoundBy, IsBy}
-use Rattle.isle_lint_laws.proofs.Uses.{text_is, text_same}
+use Rattle.isle_scope_laws.specs.lints.Lets.{Binds, binds_in_argument, binds_in_body, binds_in_let, Bind, binds_in_first, binds_in_later, LetBinds, binds_this, binds_in_value, binds_next}
+use Rattle.isle_scope_laws.proofs.lints.Counted as counted
+use Rattle.isle_scope_laws.proofs.lints.Lets.{FoundBy, IsBy}
+use Rattle.isle_scope_laws.proofs.lints.Uses.{text_is, text_same}
 
 -- what is read behind a `let` is read
 

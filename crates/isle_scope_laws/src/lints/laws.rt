@@ -10,11 +10,12 @@ ghost use Rattle.isle_lint_core.specs.Shadowed.{shadowed_variables};
 ghost use Rattle.isle_lint_core.specs.Unused.{rule_idle, unused_lets};
 ghost use Rattle.isle_lint_core.specs.declared.lint.Lint.{Lint};
 ghost use Rattle.isle_lint_core.specs.declared.patterns.Wanted.{Wanted};
-ghost use Rattle.isle_lint_laws.specs.Finds.{IsFinding};
-ghost use Rattle.isle_lint_laws.specs.Lets.{IsShadowing, IsUnusedLet};
-ghost use Rattle.isle_lint_laws.specs.Patterns.{IsIdle};
-ghost use Rattle.isle_lint_laws.specs.Rules.{HasExpression};
-ghost use Rattle.isle_lint_laws.specs.Unread.{HasNamesApart, IsOfLet, IsUnread, IsWrittenOnce};
+ghost use Rattle.isle_scope_laws.specs.lints.Finds.{IsFinding};
+ghost use Rattle.isle_scope_laws.specs.lints.Lets.{IsShadowing, IsUnusedLet};
+ghost use Rattle.isle_scope_laws.specs.lints.Patterns.{IsIdle};
+ghost use Rattle.isle_scope_laws.specs.lints.Rules.{HasExpression};
+ghost use Rattle.isle_scope_laws.specs.lints.Unread.{HasNamesApart, IsOfLet, IsUnread};
+ghost use Rattle.isle_scope_laws.specs.lints.Unread.{IsWrittenOnce};
 ghost use Rattle.isle_scope_laws.specs.Reads.{Reads, RuleReads};
 
 /// A law, which runs no code: what a rule reads is what its expressions read, each in its scope.

@@ -16,14 +16,14 @@ use Rattle.isle_lint_core.specs.declared.lint.Lint.{Lint}
 use Rattle.isle_lint_core.specs.declared.lint.Lint.TheVariants as lints
 use Rattle.isle_lint_core.specs.Shadowed.{shadowed_variables}
 use Rattle.isle_lint_core.specs.Unused.{rule_idle, unused_lets}
-use Rattle.isle_lint_laws.specs.Finds.{IsFinding, IsRepeated, IsSought, OfRule, name_found}
-use Rattle.isle_lint_laws.specs.Lets.{IsShadowing, IsUnusedLet}
-use Rattle.isle_lint_laws.specs.Patterns.{IsIdle}
-use Rattle.isle_lint_laws.proofs.Definitions.{rule_or_other}
-use Rattle.isle_lint_laws.proofs.Names.{filtered, kept, kept_is, passed}
-use Rattle.isle_lint_laws.proofs.Patterns.{idle_variables}
-use Rattle.isle_lint_laws.proofs.Rules.{shadowing_variables, unused_variables}
-use Rattle.isle_lint_laws.proofs.Uses.{text_is, text_same}
+use Rattle.isle_scope_laws.specs.lints.Finds.{IsFinding, IsRepeated, IsSought, OfRule, name_found}
+use Rattle.isle_scope_laws.specs.lints.Lets.{IsShadowing, IsUnusedLet}
+use Rattle.isle_scope_laws.specs.lints.Patterns.{IsIdle}
+use Rattle.isle_scope_laws.proofs.lints.Definitions.{rule_or_other}
+use Rattle.isle_scope_laws.proofs.lints.Names.{filtered, kept, kept_is, passed}
+use Rattle.isle_scope_laws.proofs.lints.Patterns.{idle_variables}
+use Rattle.isle_scope_laws.proofs.lints.Rules.{shadowing_variables, unused_variables}
+use Rattle.isle_scope_laws.proofs.lints.Uses.{text_is, text_same}
 
 -- elements of lists that are joined, or mapped
 

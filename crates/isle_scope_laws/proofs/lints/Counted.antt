@@ -23,10 +23,10 @@ use Rattle.isle_lint_core.specs.Findings.{of_rule, of_rules}
 use Rattle.isle_lint_core.specs.Names.{kept_if}
 use Rattle.isle_lint_core.specs.Unused.{unused_lets}
 use Rattle.isle_lint_core.specs.Uses as lint
-use Rattle.isle_lint_laws.specs.Unread.{HasNamesApart}
-use Rattle.isle_lint_laws.proofs.Definitions.{rule_or_other}
-use Rattle.isle_lint_laws.proofs.Lets.{let_lets_by, lets_by, list_lets_by}
-use Rattle.isle_lint_laws.proofs.Rules.{rule_lets_by, rule_unused_are}
+use Rattle.isle_scope_laws.specs.lints.Unread.{HasNamesApart}
+use Rattle.isle_scope_laws.proofs.lints.Definitions.{rule_or_other}
+use Rattle.isle_scope_laws.proofs.lints.Lets.{let_lets_by, lets_by, list_lets_by}
+use Rattle.isle_scope_laws.proofs.lints.Rules.{rule_lets_by, rule_unused_are}
 
 -- names
 

@@ -7,8 +7,8 @@ use Rattle.isle_lint_core.specs.Finding.{Found}
 use Rattle.isle_lint_core.specs.Names.{is_private}
 use Rattle.isle_lint_core.specs.declared.lint.Lint.{Lint}
 use Rattle.isle_lint_core.specs.declared.lint.Lint.TheVariants as lints
-use Rattle.isle_lint_laws.specs.Lets.{IsShadowing, IsUnusedLet}
-use Rattle.isle_lint_laws.specs.Patterns.{IsIdle}
+use Rattle.isle_scope_laws.specs.lints.Lets.{IsShadowing, IsUnusedLet}
+use Rattle.isle_scope_laws.specs.lints.Patterns.{IsIdle}
 
 -- one of the rules has this
 abbrev pub OfRule : List Definition → (RuleDefinition → Type 0) → Type 0

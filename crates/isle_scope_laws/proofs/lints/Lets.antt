@@ -11,8 +11,8 @@ use Rattle.isle_lint_core.specs.Names.{has, kept_if}
 use Rattle.isle_lint_core.specs.Shadowed.{let_names, let_shadowed, list_shadowed, shadowed}
 use Rattle.isle_lint_core.specs.Unused.{let_unused, list_unused, unused}
 use Rattle.isle_lint_core.specs.Uses.{let_uses, uses}
-use Rattle.isle_lint_laws.specs.Lets.{Binds, binds_in_argument, binds_in_body, binds_in_let, Bind, binds_in_first, binds_in_later, LetBinds, binds_this, binds_in_value, binds_next}
-use Rattle.isle_lint_laws.proofs.Names.{SameTexts, kept, kept_is, same_push}
+use Rattle.isle_scope_laws.specs.lints.Lets.{Binds, binds_in_argument, binds_in_body, binds_in_let, Bind, binds_in_first, binds_in_later, LetBinds, binds_this, binds_in_value, binds_next}
+use Rattle.isle_scope_laws.proofs.lints.Names.{SameTexts, kept, kept_is, same_push}
 
 -- a `let` binds the variable at a place with this
 abbrev pub FoundBy : (B P : List Name → Expression → Type 0) → Type 0

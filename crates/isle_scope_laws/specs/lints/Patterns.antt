@@ -7,7 +7,7 @@ use Rattle.isle_ast_rules.specs.Tree.{Expression, RuleDefinition}
 use Rattle.isle_scope_laws.specs.Reads.{Reads, meant, rule_variables}
 use Rattle.isle_lint_core.specs.Variables.{variables}
 use Rattle.isle_lint_core.specs.declared.patterns.Wanted.{Wanted}
-use Rattle.isle_lint_laws.specs.Rules.{HasExpression}
+use Rattle.isle_scope_laws.specs.lints.Rules.{HasExpression}
 
 -- the wanted variables of a rule's patterns
 abbrev pub wanted_variables : Wanted → RuleDefinition → List Name

@@ -4,7 +4,7 @@ use Rattle.isle_base_source.specs.declared.pos.Pos.{Pos}
 use Rattle.isle_ast_names.specs.Tree.{Name}
 use Rattle.isle_ast_rules.specs.Tree.{Expression, term_expression, let_expression, ExpressionList, more_expression, LetList, more_let, RuleDefinition}
 use Rattle.isle_scope_laws.specs.Reads.{Reads, meant, with_lets}
-use Rattle.isle_lint_laws.specs.Rules.{HasExpression}
+use Rattle.isle_scope_laws.specs.lints.Rules.{HasExpression}
 
 -- `Binds scope x var around behind` says: a `let` in the expression, which has this scope, binds this variable. `around` is
 -- in scope there, and `behind` is what is left of the `let`: its later definitions and its body

@@ -12,19 +12,19 @@ use Rattle.isle_lint_core.specs.Findings.{of_rule, of_rules}
 use Rattle.isle_lint_core.specs.Unused.{rule_idle, unused_lets}
 use Rattle.isle_lint_core.specs.Uses.{uses}
 use Rattle.isle_lint_core.specs.declared.patterns.Wanted.{Wanted}
-use Rattle.isle_lint_laws.specs.Finds.{OfRule}
-use Rattle.isle_lint_laws.specs.Lets.{IsReadBehind, IsUnusedLet}
-use Rattle.isle_lint_laws.specs.Patterns.{IsIdle, IsReadInRule}
-use Rattle.isle_lint_laws.specs.Rules.{HasExpression, of_condition, of_rule as of_the_rule, HaveExpression, in_first_condition, in_later_condition}
-use Rattle.isle_lint_laws.specs.Unread.{HasNamesApart, IsOfLet, IsUnread, IsWrittenOnce}
-use Rattle.isle_lint_laws.proofs.Counted.{at, at-append, at_itself, itself, one_at, used_lets}
-use Rattle.isle_lint_laws.proofs.Finds.{join, of_all}
-use Rattle.isle_lint_laws.proofs.Lets.{found_lets}
-use Rattle.isle_lint_laws.proofs.Meanings.{read_behind, read_means}
-use Rattle.isle_lint_laws.proofs.Patterns.{idle_variables, wanted_in_rule}
-use Rattle.isle_lint_laws.proofs.Rules.{expressions_read, in_rule_lets, unused_variables}
-use Rattle.isle_lint_laws.proofs.Names.{single}
-use Rattle.isle_lint_laws.proofs.Uses.{text_is, text_same, used}
+use Rattle.isle_scope_laws.specs.lints.Finds.{OfRule}
+use Rattle.isle_scope_laws.specs.lints.Lets.{IsReadBehind, IsUnusedLet}
+use Rattle.isle_scope_laws.specs.lints.Patterns.{IsIdle, IsReadInRule}
+use Rattle.isle_scope_laws.specs.lints.Rules.{HasExpression, of_condition, of_rule as of_the_rule, HaveExpression, in_first_condition, in_later_condition}
+use Rattle.isle_scope_laws.specs.lints.Unread.{HasNamesApart, IsOfLet, IsUnread, IsWrittenOnce}
+use Rattle.isle_scope_laws.proofs.lints.Counted.{at, at-append, at_itself, itself, one_at, used_lets}
+use Rattle.isle_scope_laws.proofs.lints.Finds.{join, of_all}
+use Rattle.isle_scope_laws.proofs.lints.Lets.{found_lets}
+use Rattle.isle_scope_laws.proofs.lints.Meanings.{read_behind, read_means}
+use Rattle.isle_scope_laws.proofs.lints.Patterns.{idle_variables, wanted_in_rule}
+use Rattle.isle_scope_laws.proofs.lints.Rules.{expressions_read, in_rule_lets, unused_variables}
+use Rattle.isle_scope_laws.proofs.lints.Names.{single}
+use Rattle.isle_scope_laws.proofs.lints.Uses.{text_is, text_same, used}
 
 -- the scope of an expression has variables of the rule's patterns
 

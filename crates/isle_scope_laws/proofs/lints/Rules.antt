@@ -14,11 +14,11 @@ use Rattle.isle_lint_core.specs.Unused.{unused, unused_lets}
 use Rattle.isle_lint_core.specs.Uses.{uses}
 use Rattle.isle_lint_core.specs.Variables.{all, condition_variables, list_variables, variables}
 use Rattle.isle_lint_core.specs.Variables as lint
-use Rattle.isle_lint_laws.specs.Rules.{HasExpression, of_condition, of_rule, HaveExpression, in_first_condition, in_later_condition}
-use Rattle.isle_lint_laws.specs.Lets.{Binds, IsShadowing, IsUnusedLet}
-use Rattle.isle_lint_laws.proofs.Lets.{FoundBy, IsBy, IsHad, found_lets, found_shadowed, lets_by, lets_found, shadowed_found, unused_are}
-use Rattle.isle_lint_laws.proofs.Names.{SameTexts, had_meant, meant_had, same_more}
-use Rattle.isle_lint_laws.proofs.Uses.{not_read, used}
+use Rattle.isle_scope_laws.specs.lints.Rules.{HasExpression, of_condition, of_rule, HaveExpression, in_first_condition, in_later_condition}
+use Rattle.isle_scope_laws.specs.lints.Lets.{Binds, IsShadowing, IsUnusedLet}
+use Rattle.isle_scope_laws.proofs.lints.Lets.{FoundBy, IsBy, IsHad, found_lets, found_shadowed, lets_by, lets_found, shadowed_found, unused_are}
+use Rattle.isle_scope_laws.proofs.lints.Names.{SameTexts, had_meant, meant_had, same_more}
+use Rattle.isle_scope_laws.proofs.lints.Uses.{not_read, used}
 
 -- reads are those of the expressions
 
