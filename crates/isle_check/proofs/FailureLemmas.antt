@@ -14,7 +14,7 @@ use Rattle.isle_cli.specs.Arguments.{Asked, Given, asked, given_of, setting_give
 use Rattle.isle_cli.specs.declared.arguments.Argument.{Argument}
 use Rattle.isle_cli.specs.declared.arguments.Options.{Options}
 use Rattle.isle_check.specs.Options.{are_usable, is_usable}
-use Rattle.isle_program_messages.specs.Colours.{colour_in, is_auto, settled}
+use Rattle.isle_program.specs.reports.Colours.{colour_in, is_auto, settled}
 use Rattle.isle_check.specs.Doing.{AreAllOptions, AreOptions, Ask, Cuts, IsFailureText, IsFailureTextOf, IsProgram, Tells}
 
 -- this program

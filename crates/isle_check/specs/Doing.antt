@@ -16,7 +16,7 @@ use Rattle.isle_check.specs.Options.{are_usable}
 use Rattle.isle_check.specs.Programs.{IsProgramsReport}
 use Rattle.isle_check.specs.Report.{IsReport, ReportNode}
 use Rattle.isle_program_manifest.specs.Levels.{NameLevel, with_levels}
-use Rattle.isle_program_messages.specs.Colours.{settled}
+use Rattle.isle_program.specs.reports.Colours.{settled}
 
 -- the status of a report with this many errors
 abbrev pub told_status : ℕ → ℕ

@@ -5,8 +5,8 @@ use Rattle.std.specs.Str.{bytes_eq}
 use Rattle.isle_cli.specs.Arguments.{Given, flag_given, setting_given, name_given}
 use Rattle.isle_check_core.specs.Kinds.{is_kind}
 use Rattle.isle_program_manifest.specs.Levels.{NameLevel}
-use Rattle.isle_program_messages.specs.Colours.{is_colour_usable}
-use Rattle.isle_program_messages.specs.Formats.{is_format_usable}
+use Rattle.isle_program.specs.reports.Colours.{is_colour_usable}
+use Rattle.isle_program.specs.reports.Formats.{is_format_usable}
 
 -- an argument is this option with this kind
 abbrev pub is_naming : (option kind : List ℕ) → Given → Bool

@@ -8,7 +8,7 @@ use Rattle.isle_ast.specs.Tree.{Definition}
 use Rattle.isle_cli.specs.Arguments.{Given}
 use Rattle.isle_check.specs.Report.{LineNode, ReportNode, lines_of, refused_lines, rendered}
 use Rattle.isle_program.specs.Reading.{IsReading}
-use Rattle.isle_program_messages.specs.Formats.{format_in}
+use Rattle.isle_program.specs.reports.Formats.{format_in}
 
 -- the text of this number is the program's
 abbrev pub is_own : (has : List Bool) → ℕ → Bool

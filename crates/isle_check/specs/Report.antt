@@ -13,13 +13,13 @@ use Rattle.isle_check_messages.specs.Notes.{NoteNode}
 use Rattle.isle_check.specs.Options.{counts_as_error, is_allowed}
 use Rattle.isle_program.specs.Reading.{IsReading, refused_count}
 use Rattle.isle_program.specs.SeveralPrograms.{several_programs_note}
-use Rattle.isle_program_messages.specs.Formats.{format_in}
-use Rattle.isle_program_messages.specs.Lines.{told_line}
-use Rattle.isle_program_messages.specs.Messages.{MessageNode}
-use Rattle.isle_program_messages.specs.Refusals.{is_refused, told_count, told_refusal_of}
-use Rattle.isle_program_messages.specs.declared.format.Format.{Format}
-use Rattle.isle_program_messages.specs.declared.message.Severity.{Severity}
-use Rattle.isle_program_messages.specs.declared.message.Severity.TheVariants as severities
+use Rattle.isle_program.specs.reports.Formats.{format_in}
+use Rattle.isle_program.specs.reports.Lines.{told_line}
+use Rattle.isle_program.specs.reports.Messages.{MessageNode}
+use Rattle.isle_program.specs.reports.Refusals.{is_refused, told_count, told_refusal_of}
+use Rattle.isle_program.specs.declared.reports.format.Format.{Format}
+use Rattle.isle_program.specs.declared.reports.message.Severity.{Severity}
+use Rattle.isle_program.specs.declared.reports.message.Severity.TheVariants as severities
 
 -- a finding's line and those of its notes, each with its newline, and whether it tells an error
 pub record LineNode : Type 0 where

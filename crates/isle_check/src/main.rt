@@ -12,7 +12,7 @@ use isle_cli::program::report as report_failure;
 use isle_cli::streams::Streams;
 use isle_cli::words::taken_words;
 use isle_program_manifest::asking::asked_programs;
-use isle_program_messages::terminals::shows_colours;
+use isle_program::reports::terminals::shows_colours;
 use listing::asked_list;
 pub use listing::print_programs;
 use manifests::OPTIONS;

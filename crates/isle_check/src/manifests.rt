@@ -6,7 +6,7 @@ ghost use Rattle.isle_cli.specs.Arguments.{given_of};
 ghost use Rattle.isle_check.specs.Doing.{CutsPrograms, Ends, EndsReport, ExplainsEnd};
 ghost use Rattle.isle_check.specs.Doing.{ExplainsReport, TellsPrograms};
 ghost use Rattle.isle_program_manifest.specs.Levels.{name_level_of, with_levels};
-ghost use Rattle.isle_program_messages.specs.Colours.{settled};
+ghost use Rattle.isle_program.specs.reports.Colours.{settled};
 
 use crate::options::{are_usable, unknown_kind};
 use crate::program::{PROGRAM, status_of};
@@ -22,8 +22,8 @@ use isle_program_manifest::asking::{
 use isle_program_manifest::choice::{Choice, Chosen, missing_notes, unknown_level};
 use isle_program_manifest::levels::{Tool, add_levels};
 use isle_program_manifest::membership::has_file;
-use isle_program_messages::colours::{COLOUR_OPTION, settle};
-use isle_program_messages::format::FORMAT_OPTION;
+use isle_program::reports::colours::{COLOUR_OPTION, settle};
+use isle_program::reports::format::FORMAT_OPTION;
 use std::alloc::{AllocError, Global};
 use std::env::Env;
 use std::fs::Files;

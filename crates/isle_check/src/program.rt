@@ -10,7 +10,7 @@ ghost use Rattle.isle_check.specs.Doing.{IsFailureText, IsFailureTextOf, IsMisus
 ghost use Rattle.isle_check.specs.Doing.{told_status};
 ghost use Rattle.isle_check.specs.Options.{are_usable};
 ghost use Rattle.isle_program.specs.SeveralPrograms.{IsNote};
-ghost use Rattle.isle_program_messages.specs.Colours.{settled};
+ghost use Rattle.isle_program.specs.reports.Colours.{settled};
 
 use crate::listing;
 use crate::options::{HELP, VERSION, are_usable};
@@ -21,8 +21,8 @@ use isle_cli::program::{Program, put, report, tell};
 use isle_cli::sources::read_sources;
 use isle_cli::streams::{Streams, write_whole};
 use isle_cli::usage::report_words;
-use isle_program_messages::colours::{COLOUR_OPTION, settle};
-use isle_program_messages::format::FORMAT_OPTION;
+use isle_program::reports::colours::{COLOUR_OPTION, settle};
+use isle_program::reports::format::FORMAT_OPTION;
 use std::fs::Files;
 use std::io::{Read, Write};
 

@@ -16,7 +16,7 @@ use isle_cli::arguments::Argument;
 use isle_cli::failure::Failure;
 use isle_cli::sources::Source;
 use isle_program::trees::{Reading, drop_reading, read_all};
-use isle_program_messages::format::format_of;
+use isle_program::reports::format::format_of;
 use std::alloc::{AllocError, Global};
 
 /// A program among texts.

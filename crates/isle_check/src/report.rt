@@ -16,7 +16,7 @@ ghost use Rattle.isle_check.specs.Report.{severity};
 ghost use Rattle.isle_check.specs.Report.{note_line, report_in, told_at};
 ghost use Rattle.isle_check.specs.ReportView.{lines_at, report_of};
 ghost use Rattle.isle_program.specs.Reading.{IsReading};
-ghost use Rattle.isle_program_messages.specs.Messages.{message_of};
+ghost use Rattle.isle_program.specs.reports.Messages.{message_of};
 
 use crate::options::{counts_as_error, is_allowed};
 use isle_ast::ast::Def;
@@ -29,10 +29,10 @@ use isle_cli::failure::Failure;
 use isle_cli::sources::Source;
 use isle_program::several_programs::several_programs_note;
 use isle_program::trees::{Reading, drop_reading, read_all, refused_count};
-use isle_program_messages::format::{Format, format_of};
-use isle_program_messages::lines::told_line;
-use isle_program_messages::message::{Message, Severity};
-use isle_program_messages::refusals::{is_refused, told_count, told_refusal_of};
+use isle_program::reports::format::{Format, format_of};
+use isle_program::reports::lines::told_line;
+use isle_program::reports::message::{Message, Severity};
+use isle_program::reports::refusals::{is_refused, told_count, told_refusal_of};
 use std::alloc::{AllocError, Global};
 
 /// A line of a report.

@@ -18,8 +18,8 @@ use Rattle.isle_expand_core.specs.Misuses.{IsFirstMisuse, MisuseNode, misuse_pos
 use Rattle.isle_expand_warnings.specs.Warnings.{WarningNode, warning_pos, warning_text, warnings_in}
 use Rattle.isle_program.specs.Messages.{line_at}
 use Rattle.isle_program.specs.Reading.{IsReading, refused_count}
-use Rattle.isle_program_messages.specs.Refusals.{told_refusals}
-use Rattle.isle_program_messages.specs.declared.format.Format.TheVariants as formats
+use Rattle.isle_program.specs.reports.Refusals.{told_refusals}
+use Rattle.isle_program.specs.declared.reports.format.Format.TheVariants as formats
 
 -- The texts spell this program: each has its one tree, and these are the definitions of all, one text after another.
 pub record IsProgramOf (sources : List Source) (tree : List Definition) : Type 0 where

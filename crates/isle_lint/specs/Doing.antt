@@ -17,7 +17,7 @@ use Rattle.isle_lint.specs.Options.{are_usable, lints_on}
 use Rattle.isle_program.specs.Reading.{IsReading}
 use Rattle.isle_program.specs.SeveralPrograms.{several_programs_note}
 use Rattle.isle_program_manifest.specs.Levels.{NameLevel, with_levels}
-use Rattle.isle_program_messages.specs.Colours.{settled}
+use Rattle.isle_program.specs.reports.Colours.{settled}
 use Rattle.isle_cli.specs.declared.arguments.Options.{Options}
 use Rattle.isle_cli.specs.declared.program.Program.{Program}
 use Rattle.isle_lint.specs.declared.options.TheConstants.{HELP, VERSION}

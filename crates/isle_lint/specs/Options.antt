@@ -7,8 +7,8 @@ use Rattle.isle_cli.specs.Arguments.{Given, flag_given, setting_given, name_give
 use Rattle.isle_lint_core.specs.Lint.{all_lints, is_default, name}
 use Rattle.isle_lint_core.specs.declared.lint.Lint.{Lint}
 use Rattle.isle_program_manifest.specs.Levels.{NameLevel}
-use Rattle.isle_program_messages.specs.Colours.{is_colour_usable}
-use Rattle.isle_program_messages.specs.Formats.{is_format_usable}
+use Rattle.isle_program.specs.reports.Colours.{is_colour_usable}
+use Rattle.isle_program.specs.reports.Formats.{is_format_usable}
 
 -- an option with a value names a lint
 abbrev pub is_naming : List ℕ → Lint → Given → Bool

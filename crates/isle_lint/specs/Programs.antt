@@ -13,9 +13,9 @@ use Rattle.isle_lint_core.specs.Lint.{name}
 use Rattle.isle_lint_core.specs.declared.finding.Finding.{Finding}
 use Rattle.isle_lint_core.specs.declared.lint.Lint.{Lint}
 use Rattle.isle_program.specs.Reading.{IsReading, refused_count}
-use Rattle.isle_program_messages.specs.Formats.{format_in}
-use Rattle.isle_program_messages.specs.Refusals.{told_count, told_refusal_of}
-use Rattle.isle_program_messages.specs.declared.format.Format.{Format}
+use Rattle.isle_program.specs.reports.Formats.{format_in}
+use Rattle.isle_program.specs.reports.Refusals.{told_count, told_refusal_of}
+use Rattle.isle_program.specs.declared.reports.format.Format.{Format}
 use Rattle.isle_lint.specs.Report.{AreToldIn, ReportNode, finding_line, is_clean}
 use Rattle.isle_lint.specs.declared.programs.Told.{Told}
 use Rattle.isle_lint.specs.declared.programs.Linted as linted_code

@@ -15,12 +15,12 @@ use Rattle.isle_lint_core.specs.declared.lint.Lint.{Lint}
 use Rattle.isle_lint.specs.Options.{is_warned}
 use Rattle.isle_program.specs.Allowances.{Allowance, AreAllowances, is_allowed}
 use Rattle.isle_program.specs.Reading.{refused_count}
-use Rattle.isle_program_messages.specs.Formats.{format_in}
-use Rattle.isle_program_messages.specs.Lines.{told_line}
-use Rattle.isle_program_messages.specs.Messages.{MessageNode}
-use Rattle.isle_program_messages.specs.Refusals.{told_count, told_refusal_of}
-use Rattle.isle_program_messages.specs.declared.format.Format.{Format}
-use Rattle.isle_program_messages.specs.declared.message.Severity.TheVariants.{Warning}
+use Rattle.isle_program.specs.reports.Formats.{format_in}
+use Rattle.isle_program.specs.reports.Lines.{told_line}
+use Rattle.isle_program.specs.reports.Messages.{MessageNode}
+use Rattle.isle_program.specs.reports.Refusals.{told_count, told_refusal_of}
+use Rattle.isle_program.specs.declared.reports.format.Format.{Format}
+use Rattle.isle_program.specs.declared.reports.message.Severity.TheVariants.{Warning}
 
 -- a finding is in the file of this number, and no comment turns it off
 abbrev pub is_told : ℕ → List Allowance → Found → Bool

@@ -11,7 +11,7 @@ use isle_cli::program::report as report_failure;
 use isle_cli::streams::Streams;
 use isle_cli::words::taken_words;
 use isle_program_manifest::asking::asked_programs;
-use isle_program_messages::terminals::shows_colours;
+use isle_program::reports::terminals::shows_colours;
 use manifests::OPTIONS;
 pub use manifests::run_programs;
 use program::PROGRAM;

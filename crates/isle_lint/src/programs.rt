@@ -23,8 +23,8 @@ use isle_cli::failure::Failure;
 use isle_cli::sources::Source;
 use isle_lint_core::{Finding, Lint};
 use isle_program::trees::{Reading, drop_reading, read_all, refused_count};
-use isle_program_messages::format::{Format, format_of};
-use isle_program_messages::refusals::{told_count, told_refusal};
+use isle_program::reports::format::{Format, format_of};
+use isle_program::reports::refusals::{told_count, told_refusal};
 use std::alloc::{AllocError, Global};
 
 /// A program among texts.

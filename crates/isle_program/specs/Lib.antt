@@ -5,3 +5,4 @@ pub mod Openings
 pub mod Reading
 pub mod SeveralPrograms
 pub mod SharedView
+pub mod reports

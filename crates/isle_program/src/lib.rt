@@ -6,5 +6,6 @@ pub mod allowances;
 pub mod messages;
 pub mod nesting;
 pub mod openings;
+pub mod reports;
 pub mod several_programs;
 pub mod trees;

@@ -1,6 +1,6 @@
 use Rattle.std.proofs.Common.{map}
 use Rattle.isle_cli.specs.Arguments.{given_of}
-use Rattle.isle_program_messages.specs.Colours.{settled}
+use Rattle.isle_program.specs.reports.Colours.{settled}
 use Rattle.isle_check.proofs.EndLemmas.{ends-cut, ends-done, ends-statuses, ends-unwritten, failed-cut, failed-low, failed-statuses, failed-unwritten}
 use Rattle.isle_check.proofs.manifests.run_programs.Goals as goal
 

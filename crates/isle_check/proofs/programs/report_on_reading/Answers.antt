@@ -5,7 +5,7 @@ use Rattle.isle_cli.specs.Sources.{source_of}
 use Rattle.isle_check.specs.Programs.{AreTold}
 use Rattle.isle_check.specs.Report.{rendered}
 use Rattle.isle_check.specs.ReportView.{has_of, lines_at}
-use Rattle.isle_program_messages.specs.Formats.{format_in}
+use Rattle.isle_program.specs.reports.Formats.{format_in}
 use Rattle.isle_check.proofs.programs.report_on_reading.Goals as goal
 
 pub returns-clause-ok : goal.returns-clause-ok

@@ -3,7 +3,7 @@ use Rattle.isle_ast.specs.TreeView.{definitions_of}
 use Rattle.isle_cli.specs.Arguments.{given_of}
 use Rattle.isle_cli.specs.Sources.{source_of}
 use Rattle.isle_program.specs.Reading.{refused_count}
-use Rattle.isle_program_messages.specs.Formats.{format_in}
+use Rattle.isle_program.specs.reports.Formats.{format_in}
 use Rattle.isle_check.specs.Report.{lines_of, refused, rendered}
 use Rattle.isle_check.specs.ReportView.{lines_at, report_of}
 use Rattle.isle_check.proofs.report.report_in.Goals as goal

@@ -4,7 +4,7 @@ use Rattle.std.proofs.lemmas.Option.{slice_get-get_or, slice_get-map}
 use Rattle.isle_base_source.specs.Lines.{line_ends}
 use Rattle.isle_cli.specs.Sources.{source_of}
 use Rattle.isle_check.specs.Report.{told_of}
-use Rattle.isle_program_messages.specs.Messages.{message_of}
+use Rattle.isle_program.specs.reports.Messages.{message_of}
 use Rattle.isle_check.proofs.report.told_at.Goals as goal
 
 pub told_line-requires : goal.told_line-requires
