@@ -12,10 +12,10 @@ use isle_cli::arguments::{Argument, EXCLUDE_OPTION, Options, Request, has_flag, 
 use isle_cli::failure::Failure;
 use isle_cli::program::{report, tell};
 use isle_cli::streams::{Streams, write_whole};
-use isle_program_manifest::asking::{ALL_OPTION, NAME_OPTION, chosen_programs, tell_choice};
-use isle_program_manifest::choice::{Chosen, missing_notes};
 use isle_program::reports::colours::COLOUR_OPTION;
 use isle_program::reports::format::FORMAT_OPTION;
+use isle_program_manifest::asking::{ALL_OPTION, NAME_OPTION, chosen_programs, tell_choice};
+use isle_program_manifest::choice::{Chosen, missing_notes};
 use std::alloc::{AllocError, Global};
 use std::env::Env;
 use std::fs::Files;

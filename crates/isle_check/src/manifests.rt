@@ -16,14 +16,14 @@ use isle_cli::failure::Failure;
 use isle_cli::program::{put, report};
 use isle_cli::sources::Source;
 use isle_cli::streams::{Streams, write_whole};
+use isle_program::reports::colours::{COLOUR_OPTION, settle};
+use isle_program::reports::format::FORMAT_OPTION;
 use isle_program_manifest::asking::{
     ALL_OPTION, NAME_OPTION, asked_choice, read_texts, tell_choice,
 };
 use isle_program_manifest::choice::{Choice, Chosen, missing_notes, unknown_level};
 use isle_program_manifest::levels::{Tool, add_levels};
 use isle_program_manifest::membership::has_file;
-use isle_program::reports::colours::{COLOUR_OPTION, settle};
-use isle_program::reports::format::FORMAT_OPTION;
 use std::alloc::{AllocError, Global};
 use std::env::Env;
 use std::fs::Files;

@@ -11,9 +11,9 @@ ghost use Rattle.isle_program_manifest.specs.Levels.{name_level_of};
 use isle_check_core::is_kind;
 use isle_cli::arguments::Argument;
 use isle_cli::version;
-use isle_program_manifest::levels::NameLevel;
 use isle_program::reports::colours::is_colour_usable;
 use isle_program::reports::format::is_format_usable;
+use isle_program_manifest::levels::NameLevel;
 
 /// The version.
 pub const VERSION: &str = version!("isle-check");

@@ -15,8 +15,8 @@ use isle_base_source::error::Error;
 use isle_cli::arguments::Argument;
 use isle_cli::failure::Failure;
 use isle_cli::sources::Source;
-use isle_program::trees::{Reading, drop_reading, read_all};
 use isle_program::reports::format::format_of;
+use isle_program::trees::{Reading, drop_reading, read_all};
 use std::alloc::{AllocError, Global};
 
 /// A program among texts.

@@ -23,13 +23,15 @@ use crate::warnings::{add_endless_converters, add_warnings};
 use isle_ast::ast::{Def, Ident};
 use isle_base::lexer::Pos;
 use isle_check_declarations::lookup::TermLookup;
+use isle_check_declarations::naming::{
+    converter_faults, extern_faults, extractor_faults, root_faults,
+};
 use isle_check_declarations::{Fault, term_faults, type_faults};
-use isle_check_declarations::naming::{converter_faults, extern_faults, extractor_faults, root_faults};
+use isle_check_environment::signatures::Environment;
 use isle_check_matchings::rule_overlaps;
 use isle_check_overlaps::Comparison;
 use isle_check_recursion::{Recursion, recursions};
 use isle_check_rules::{RuleRefusal, RulesTyping, TypedRule, rule_faults};
-use isle_check_environment::signatures::Environment;
 use std::alloc::{AllocError, Global};
 
 /// How many patterns or expressions of a rule may lie in one another once templates are filled and

@@ -16,11 +16,11 @@ ghost use Rattle.isle_check_environment.specs.signatures.Views.{environment_of, 
 
 use crate::finding::{Finding, Kind};
 use isle_ast::ast::{Converter, Def, Extractor};
-use isle_check_recursion::endless_conversions;
 use isle_check_environment::names::{Names, add_name, has, no_names};
 use isle_check_environment::parts::{Constant, constants_in, extractors_in};
-use isle_check_rules::{TypedRule, Warning, conditions_without_constructor, multi_extractors};
 use isle_check_environment::signatures::{Environment, Term};
+use isle_check_recursion::endless_conversions;
+use isle_check_rules::{TypedRule, Warning, conditions_without_constructor, multi_extractors};
 use std::alloc::{AllocError, Global};
 
 /// Adds the warnings of a program without an error to `found`. `env` is the environment of the

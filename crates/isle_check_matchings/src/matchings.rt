@@ -19,10 +19,10 @@ use crate::openings::Terms;
 use crate::rules::rule_asks;
 use crate::values::variable_value;
 use isle_ast::ast::Def;
+use isle_check_environment::signatures::{Environment, Term};
 use isle_check_overlaps::{Comparison, Matching, compare};
 use isle_check_places::{Constrained, Equality, clashes, copied, settle};
 use isle_check_rules::{TypedRule, Warning, multi_extractors};
-use isle_check_environment::signatures::{Environment, Term};
 use std::alloc::{AllocError, Global};
 use std::slice;
 

@@ -8,8 +8,8 @@ ghost use Rattle.isle_check_places.specs.Views.{place_of};
 
 use crate::asks::{Ask, constrain};
 use isle_check_environment::names::{Names, has};
-use isle_check_places::{Constraint, Place, Step, Under, copied, parts_of, step_on};
 use isle_check_environment::signatures::{Environment, Term};
+use isle_check_places::{Constraint, Place, Step, Under, copied, parts_of, step_on};
 use std::alloc::{AllocError, Global};
 
 /// The terms of a program.

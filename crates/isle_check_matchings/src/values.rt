@@ -13,9 +13,9 @@ ghost use Rattle.isle_check_places.specs.Views.{place_of, places_of};
 
 use crate::asks::Ask;
 use crate::openings::Terms;
-use isle_check_typing::expressions::{TypedExpression, TypedLet};
-use isle_check_places::{Place, Step, begin, copied, step_on};
 use isle_check_environment::signatures::Term;
+use isle_check_places::{Place, Step, begin, copied, step_on};
+use isle_check_typing::expressions::{TypedExpression, TypedLet};
 use std::alloc::{AllocError, Global};
 
 /// The place of a value, and the answers that must be there for it.

@@ -21,8 +21,8 @@ ghost use Rattle.isle_check_rules.specs.Views.{typed_conditions_of, typed_rule_o
 use crate::typed::{RuleTyping, TypedIfLet, TypedRule};
 use isle_ast_rules::{IfLet, Pattern, Rule};
 use isle_base::lexer::Pos;
-use isle_check_typing::expressions::{Flags, TypedExpression, type_expression};
 use isle_check_environment::signatures::{Environment, Term};
+use isle_check_typing::expressions::{Flags, TypedExpression, type_expression};
 use isle_check_typing::{
     Kind, Progress, Refusal, TypedPattern, no_progress, tell, type_arguments, type_pattern,
 };

@@ -14,9 +14,9 @@ use isle_cli::arguments::{Argument, has_flag};
 use isle_cli::failure::Failure;
 use isle_cli::version;
 use isle_lint_core::Lint;
-use isle_program_manifest::levels::NameLevel;
 use isle_program::reports::colours::is_colour_usable;
 use isle_program::reports::format::is_format_usable;
+use isle_program_manifest::levels::NameLevel;
 use std::alloc::{AllocError, Global};
 
 /// The version.

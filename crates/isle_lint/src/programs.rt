@@ -22,9 +22,9 @@ use isle_cli::arguments::Argument;
 use isle_cli::failure::Failure;
 use isle_cli::sources::Source;
 use isle_lint_core::{Finding, Lint};
-use isle_program::trees::{Reading, drop_reading, read_all, refused_count};
 use isle_program::reports::format::{Format, format_of};
 use isle_program::reports::refusals::{told_count, told_refusal};
+use isle_program::trees::{Reading, drop_reading, read_all, refused_count};
 use std::alloc::{AllocError, Global};
 
 /// A program among texts.

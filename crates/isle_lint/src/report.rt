@@ -23,12 +23,12 @@ use isle_cli::failure::Failure;
 use isle_cli::sources::Source;
 use isle_lint_core::{Finding, Lint, findings};
 use isle_program::allowances::Allowances;
-use isle_program::several_programs::several_programs_note;
-use isle_program::trees::{Reading, drop_reading, read_all, refused_count};
 use isle_program::reports::format::{Format, format_of};
 use isle_program::reports::lines::told_line;
 use isle_program::reports::message::{Message, Severity};
 use isle_program::reports::refusals::{told_count, told_refusal};
+use isle_program::several_programs::several_programs_note;
+use isle_program::trees::{Reading, drop_reading, read_all, refused_count};
 use std::alloc::{AllocError, Global};
 
 /// A report.

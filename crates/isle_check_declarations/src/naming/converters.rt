@@ -14,9 +14,9 @@ ghost use Rattle.isle_check_declarations.specs.naming.Converters.{wrong_converte
 ghost use Rattle.isle_check_declarations.specs.naming.Converters.{wrong_converters};
 ghost use Rattle.isle_check_declarations.specs.naming.Views.{KnowsPairs};
 
-use isle_ast::ast::{Converter, Def};
 use crate::lookup::TermLookup;
 use crate::{Fault, Kind};
+use isle_ast::ast::{Converter, Def};
 use isle_check_environment::names::Names;
 use isle_check_environment::parts::{converters_in, types_in};
 use isle_check_environment::types::{is_type, type_names};

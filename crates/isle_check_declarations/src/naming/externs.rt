@@ -19,11 +19,11 @@ ghost use Rattle.isle_check_declarations.specs.naming.Externs.{wrong_constructor
 ghost use Rattle.isle_check_declarations.specs.naming.Externs.{wrong_externs, wrong_extractor};
 ghost use Rattle.isle_check_declarations.specs.naming.Views.{known_of};
 
+use crate::lookup::{Term, TermLookup};
 use crate::naming::extractors::{add_wrong_extractors, reached};
+use crate::{Fault, Kind, add_fault};
 use isle_ast::ast::{Def, Extern, Ident};
 use isle_base::lexer::Pos;
-use crate::lookup::{Term, TermLookup};
-use crate::{Fault, Kind, add_fault};
 use isle_check_environment::names::{Names, add_text, has, no_names, place_of};
 use isle_check_environment::parts::extractors_in;
 use isle_check_environment::terms::{externs_in, ruled_terms};

@@ -16,10 +16,10 @@ ghost use Rattle.isle_check_declarations.specs.naming.Extractors.{wrong_extracto
 ghost use Rattle.isle_check_declarations.specs.naming.Extractors.{wrong_extractors};
 ghost use Rattle.isle_check_declarations.specs.naming.Extractors.{wrong_term};
 
-use crate::naming::templates::add_unknown_terms;
-use isle_ast::ast::{Def, Extractor};
 use crate::lookup::{Term, TermLookup};
+use crate::naming::templates::add_unknown_terms;
 use crate::{Fault, Kind, add_fault};
+use isle_ast::ast::{Def, Extractor};
 use isle_check_environment::names::{Names, add_text, no_names, place_of};
 use isle_check_environment::parts::extractors_in;
 use std::alloc::{AllocError, Global};

@@ -10,10 +10,10 @@ ghost use Rattle.isle_check_declarations.specs.naming.Roots.{root_faults_by, wro
 ghost use Rattle.isle_check_declarations.specs.naming.Roots.{wrong_root_term};
 ghost use Rattle.isle_check_declarations.specs.naming.Roots.{wrong_roots};
 
-use isle_ast::ast::{Def, Ident, Rule};
-use isle_base::lexer::Pos;
 use crate::lookup::{Term, TermLookup};
 use crate::{Fault, Kind, add_fault};
+use isle_ast::ast::{Def, Ident, Rule};
+use isle_base::lexer::Pos;
 use isle_check_environment::parts::rules_in;
 use std::alloc::{AllocError, Global};
 

@@ -7,10 +7,10 @@ ghost use Rattle.isle_ast_rules.specs.TreeView.{pattern_list_of, pattern_of, pat
 ghost use Rattle.isle_check_declarations.specs.Views.{faults_of, term_in};
 ghost use Rattle.isle_check_declarations.specs.naming.Extractors.{unknown_term_at, unknown_terms};
 
-use isle_ast::ast::{Ident, Pattern};
-use isle_base::lexer::Pos;
 use crate::lookup::TermLookup;
 use crate::{Fault, Kind, add_fault};
+use isle_ast::ast::{Ident, Pattern};
+use isle_base::lexer::Pos;
 use std::alloc::AllocError;
 
 /// Adds an error for each term of a pattern that is not known.

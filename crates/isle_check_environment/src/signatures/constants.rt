@@ -6,8 +6,8 @@ ghost use Rattle.isle_ast.specs.TreeView.{definition_of, definitions_of};
 ghost use Rattle.isle_check_environment.specs.signatures.Entries.{Entry, Holds, entry};
 ghost use Rattle.isle_check_environment.specs.signatures.Signatures.{constant_entry};
 
-use isle_ast::ast::{Def, Extern};
 use crate::by_text::ByText;
+use isle_ast::ast::{Def, Extern};
 use std::alloc::{AllocError, Global};
 
 /// Returns the type of each constant. If a constant is declared twice, its last type counts. An

@@ -7,10 +7,10 @@ ghost use Rattle.isle_check_environment.specs.Parts.{converters_in};
 ghost use Rattle.isle_check_environment.specs.Views.{converters_at};
 ghost use Rattle.isle_check_environment.specs.signatures.Views.{Converts};
 
-use crate::signatures::by_texts::{ByTexts, put_value};
-use isle_ast::ast::{Converter, Def};
 use crate::by_text::ByText;
 use crate::parts::converters_in;
+use crate::signatures::by_texts::{ByTexts, put_value};
+use isle_ast::ast::{Converter, Def};
 use std::alloc::{AllocError, Global};
 
 /// The terms that convert, by the inner and the outer type.

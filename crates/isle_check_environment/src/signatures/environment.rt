@@ -7,6 +7,9 @@ ghost use Rattle.isle_ast_rules.specs.TreeView.{pattern_of};
 ghost use Rattle.isle_check_environment.specs.signatures.Environment.{environment};
 ghost use Rattle.isle_check_environment.specs.signatures.Views.{environment_of, term_of};
 
+use crate::by_text::ByText;
+use crate::names::{Names, has};
+use crate::parts::types_in;
 use crate::signatures::by_texts::value_at;
 use crate::signatures::constants::constants;
 use crate::signatures::converters::{Converters, converters};
@@ -14,12 +17,9 @@ use crate::signatures::externals::{constructors, extractors};
 use crate::signatures::templates::templates;
 use crate::signatures::terms::{Term, terms_by_text};
 use crate::signatures::types::primitives;
-use isle_ast::ast::{Def, Pattern};
-use crate::by_text::ByText;
-use crate::names::{Names, has};
-use crate::parts::types_in;
 use crate::terms::{Terms, known_terms};
 use crate::types::{is_integer_type, is_type, type_names};
+use isle_ast::ast::{Def, Pattern};
 use std::alloc::{AllocError, Global};
 
 /// What the definitions of a program declare, by text.

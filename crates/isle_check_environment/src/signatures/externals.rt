@@ -8,8 +8,8 @@ ghost use Rattle.isle_check_environment.specs.Names.{Knows};
 ghost use Rattle.isle_check_environment.specs.signatures.Signatures.{constructor_name};
 ghost use Rattle.isle_check_environment.specs.signatures.Signatures.{extractor_name};
 
-use isle_ast::ast::{Def, Extern};
 use crate::names::{Names, add_name, no_names};
+use isle_ast::ast::{Def, Extern};
 use std::alloc::{AllocError, Global};
 
 /// Returns the terms that have an external constructor. An `Err` means out of memory.

@@ -9,8 +9,8 @@ ghost use Rattle.isle_ast_rules.specs.TreeView.{pattern_of};
 ghost use Rattle.isle_check_environment.specs.signatures.Entries.{Entry, Holds, entry};
 ghost use Rattle.isle_check_environment.specs.signatures.Signatures.{template_entry};
 
-use isle_ast::ast::{Def, Pattern};
 use crate::by_text::ByText;
+use isle_ast::ast::{Def, Pattern};
 use std::alloc::{AllocError, Global};
 
 /// Returns the template of each term that has an internal extractor: its pattern, in which macro

@@ -15,8 +15,8 @@ ghost use Rattle.isle_check_environment.specs.signatures.Signatures.{variant_ent
 ghost use Rattle.isle_check_environment.specs.signatures.Signatures.{variants_entries, texts};
 ghost use Rattle.isle_check_environment.specs.signatures.Views.{term_of};
 
-use isle_ast::ast::{Decl, Def, Fields, Ident, StructField, TupleField, TypeValue, Variant};
 use crate::by_text::ByText;
+use isle_ast::ast::{Decl, Def, Fields, Ident, StructField, TupleField, TypeValue, Variant};
 use std::alloc::{AllocError, Global};
 
 /// A term: what its arguments and its result are, and how it may be used.

@@ -7,8 +7,8 @@ ghost use Rattle.isle_ast_names.specs.Tree.{Name};
 ghost use Rattle.isle_check_environment.specs.Names.{Knows};
 ghost use Rattle.isle_check_environment.specs.signatures.Signatures.{primitive_name};
 
-use isle_ast::ast::{Def, TypeValue};
 use crate::names::{Names, add_name, no_names};
+use isle_ast::ast::{Def, TypeValue};
 use std::alloc::{AllocError, Global};
 
 /// Returns the names of the primitive types that are defined. An `Err` means out of memory.

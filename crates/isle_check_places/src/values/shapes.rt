@@ -15,9 +15,7 @@ ghost use Rattle.isle_check_places.specs.values.Views.{all_said_of, answer_of, k
 use crate::values::next::goes_on_with_each;
 use crate::values::said::{Said, said_at};
 use crate::values::written::{Answer, Written, add_answer, answer_place, constrain};
-use crate::{
-    Constrained, Constraint, Step, Under, constraint_at, parts_of, place_under, step_on,
-};
+use crate::{Constrained, Constraint, Step, Under, constraint_at, parts_of, place_under, step_on};
 use isle_check_environment::signatures::Environment;
 use std::alloc::{AllocError, Global};
 

@@ -20,11 +20,11 @@ use crate::expressions::flags::Flags;
 use crate::expressions::leaves::{other_than, type_bool, type_constant, type_integer};
 use crate::expressions::typed::{TypedExpression, TypedLet};
 use crate::expressions::uses::{converting, count_arguments, count_expressions, use_term};
+use crate::{Kind, Progress, Refusal, bind, find, hide_since, tell};
 use isle_ast_names::Ident;
 use isle_ast_rules::{Expr, LetDef};
 use isle_base::lexer::Pos;
 use isle_check_environment::signatures::{Environment, Term};
-use crate::{Kind, Progress, Refusal, bind, find, hide_since, tell};
 use std::alloc::Global;
 
 /// What the parts of an expression are typed with.

@@ -10,10 +10,10 @@ ghost use Rattle.isle_check_typing.specs.expressions.TypedView.{typed_expression
 ghost use Rattle.isle_check_typing.specs.expressions.Views.{type_text};
 
 use crate::expressions::typed::TypedExpression;
+use crate::{Kind, Progress, tell};
 use isle_ast_names::Ident;
 use isle_base::lexer::Pos;
 use isle_check_environment::signatures::Environment;
-use crate::{Kind, Progress, tell};
 use std::alloc::{AllocError, Global};
 
 /// Returns the type that is wanted, if it is another one than what is found.

@@ -8,10 +8,10 @@ ghost use Rattle.isle_check_typing.specs.expressions.ExpressionTypes.{converting
 ghost use Rattle.isle_check_typing.specs.expressions.ExpressionTypes.{count_expressions, use_term};
 
 use crate::expressions::flags::Flags;
+use crate::{Kind, Progress, tell};
 use isle_ast_rules::Expr;
 use isle_base::lexer::Pos;
 use isle_check_environment::signatures::{Environment, Term};
-use crate::{Kind, Progress, tell};
 use std::alloc::AllocError;
 
 /// Tells if a term is used where its flags don't allow it.
