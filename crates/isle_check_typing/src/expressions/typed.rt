@@ -8,7 +8,7 @@ use std::alloc::AllocError;
 
 /// An expression in which conversions are written out, with the type of each part. A variable is
 /// its number among the variables of its rule, in the order in which they are bound, from 0.
-#[cycle(typed)]
+#[cycle(typed_expression)]
 #[derive(Drop)]
 pub enum TypedExpression {
     /// A variable.
@@ -46,7 +46,7 @@ pub enum TypedExpression {
 }
 
 /// A variable of a `let`, and its value.
-#[cycle(typed)]
+#[cycle(typed_expression)]
 #[derive(Drop)]
 pub struct TypedLet {
     /// The number of the variable.
