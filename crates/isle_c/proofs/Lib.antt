@@ -3,4 +3,3 @@ pub mod ParsingLaw
 pub mod RefusalLemmas
 pub mod StatusLemmas
 pub mod TidyLemmas
-pub mod ProgramLemmas

@@ -3,4 +3,3 @@ pub mod Refusals
 pub mod NoAnswers
 pub mod Tidying
 pub mod Parsing
-pub mod Programs
