@@ -1,12 +1,13 @@
 //! The texts of a program: the files on the disk, each as it is open or as it is there, and the
 //! open documents that are none of these.
 
-ghost use Rattle.std.specs.Prelude.{◌≡◌, ◌++◌, IfOk, OnOk, filter, map, not, option_map};
+ghost use Rattle.std.specs.Prelude.{◌≡◌, ◌++◌, ◌&&◌, IfOk, OnOk, filter, map, not, option_map};
 ghost use Rattle.std.specs.Prelude.{string_bytes};
 ghost use Rattle.isle_lsp_files.specs.Disks.{file_of, view_of};
 ghost use Rattle.isle_lsp_files.specs.Documents.{document_of};
 ghost use Rattle.isle_lsp_files.specs.Texts as wanted;
 ghost use Rattle.isle_lsp_features.specs.Programs.{text_of};
+ghost use Rattle.isle_program_manifest.specs.Membership as Membership;
 
 use crate::disk::{File, View};
 use crate::documents::{Document, has_file};
@@ -232,13 +233,18 @@ pub fn is_together(view: &View, file: &str) -> bool
     ensures { result ≡ wanted.is_together (view_of view.now) file.now }
 {
     for program in &view.programs {
-        if membership::has_file(program, view.file.as_str())
-            && membership::has_file(program, file)
-        {
+        if has_both(program, view.file.as_str(), file) {
             return true;
         }
     }
     false
+}
+
+fn has_both(program: &[String], file: &str, other: &str) -> bool
+    ensures { result ≡ (Membership.has_file file.now (map string_bytes program.now)
+        && Membership.has_file other.now (map string_bytes program.now)) }
+{
+    membership::has_file(program, file) && membership::has_file(program, other)
 }
 
 /// Returns whether each of these files has a text.
