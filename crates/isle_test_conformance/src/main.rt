@@ -98,6 +98,7 @@ mod shared;
 mod terms;
 mod texts;
 mod trees;
+mod words;
 
 use answers::answer;
 use case::Case;

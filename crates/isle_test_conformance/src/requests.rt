@@ -2,6 +2,7 @@
 
 use crate::answers::shown;
 use crate::case::Case;
+use crate::words::{kind_word, refusal_word, symbol_word};
 use isle_index::{Candidate, Index, Name, Occurrence, Symbol};
 use isle_syntax::ast::Def;
 use isle_syntax::lexer::Pos;
@@ -75,7 +76,7 @@ fn push_occurrence(
 fn shown_name(alloc: Global, name: &Name) -> Result<String, AllocError> {
     let text = name.text();
     match name {
-        Name::Global { kind, .. } => format!(in alloc; "{kind:?} {text}:"),
+        Name::Global { kind, .. } => format!(in alloc; "{} {text}:", kind_word(*kind)),
         Name::Variable { .. } => format!(in alloc; "Variable {text}:"),
     }
 }
@@ -90,9 +91,9 @@ fn symbols(alloc: Global, index: &Index) -> Result<String, AllocError> {
 }
 
 fn push_symbol(alloc: Global, symbol: &Symbol, answer: &mut String) -> Result<(), AllocError> {
-    let (kind, text) = (symbol.kind, symbol.text.as_str());
+    let (kind, text) = (symbol_word(symbol.kind), symbol.text.as_str());
     let (offset, len) = (symbol.pos.offset, symbol.len);
-    let part = format!(in alloc; "{kind:?} {text} {offset}+{len}\n")?;
+    let part = format!(in alloc; "{kind} {text} {offset}+{len}\n")?;
     answer.push_str(part.as_str())
 }
 
@@ -111,8 +112,8 @@ fn push_candidate(
     candidate: &Candidate,
     answer: &mut String,
 ) -> Result<(), AllocError> {
-    let (kind, text) = (candidate.kind, candidate.text.as_str());
-    let part = format!(in alloc; "{kind:?} {text}\n")?;
+    let (kind, text) = (symbol_word(candidate.kind), candidate.text.as_str());
+    let part = format!(in alloc; "{kind} {text}\n")?;
     answer.push_str(part.as_str())
 }
 
@@ -138,7 +139,7 @@ fn rename(alloc: Global, index: &Index, place: Pos, new: &str) -> Result<String,
 fn renamed(alloc: Global, index: &Index, name: &Name, new: &str) -> Result<String, AllocError> {
     match index.rename(alloc, name, new)? {
         Ok(places) => told_of_places(alloc, name, &places),
-        Err(refusal) => format!(in alloc; "{refusal:?}\n"),
+        Err(refusal) => format!(in alloc; "{}\n", refusal_word(refusal)),
     }
 }
 
