@@ -1,5 +1,5 @@
 -- Tokens that were written for diagnostics are read back as these.
-use Rattle.std.proofs.Common.{◌≡◌, ℕ, ℤ, ◌^◌, ◌<◌, min, List, [], ◌∷◌, Option, Some, SFits, w64, length, map, refl, subst, arith}
+use Rattle.std.proofs.Common.{◌≡◌, ℕ, ℤ, ◌^◌, ◌<◌, min, List, [], ◌∷◌, Option, None, Some, SFits, w64, length, map, refl, subst, arith}
 use Rattle.serde_json.proofs.Numbers.{number_of-decimal}
 use Rattle.serde_json.specs.Read.{of_items}
 use Rattle.serde_json.specs.View.{items_of}
@@ -40,8 +40,9 @@ diagnostics_read : (text : List ℕ) → length text < 2 ^ 63 → (ms : List Mar
 diagnostics_read text small ms = rw (items_read text small ms) refl
 
 pub version_reads : (version : ℤ) → SFits w64 version → VersionReads (Some version)
-version_reads version fits = rw (integer_reads version fits) refl
+version_reads version fits = integer_reads version fits
 
 pub publishing_reads : (uri : List ℕ) (version : Option ℤ) (text : List ℕ) → length text < 2 ^ 63 → (ms : List Mark) → VersionReads version
     → Reads (publishing uri version (diagnostics_data text ms))
-publishing_reads uri version text small ms h = rw (diagnostics_read text small ms) (rw h refl)
+publishing_reads uri None text small ms h = rw (diagnostics_read text small ms) refl
+publishing_reads uri (Some version) text small ms h = rw (diagnostics_read text small ms) (rw h refl)
