@@ -66,6 +66,6 @@ pub mod Clashes
 pub mod OverlapErrors
 pub mod Groups
 pub mod Warnings
-pub mod Errors
+pub mod FindingErrors
 pub mod EmptyGroups
 pub mod RightPrograms
