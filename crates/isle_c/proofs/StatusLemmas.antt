@@ -12,15 +12,18 @@ refused_format text reasons.Accepted said is = absurd said
 refused_format text reasons.Refused said is = said.1
 refused_format text reasons.NotUtf8 said is = absurd (cc is)
 refused_format text reasons.Memory said is = absurd (cc is)
+refused_format text reasons.BadLengths said is = absurd said
 
 pub refused_refusal : (text : List ℕ) (why : NoAnswer) → IsRefusalFailure text why → status_of why ≡ REFUSED → IsRefused text
 refused_refusal text reasons.Accepted said is = absurd (cc is)
 refused_refusal text reasons.Refused said is = absurd said
 refused_refusal text reasons.NotUtf8 said is = absurd (cc is)
 refused_refusal text reasons.Memory said is = absurd (cc is)
+refused_refusal text reasons.BadLengths said is = absurd said
 
 pub refused_tidy : (text : List ℕ) (why : NoAnswer) → IsTidyFailure text why → status_of why ≡ REFUSED → HasNoDocument text
 refused_tidy text reasons.Accepted said is = absurd said
 refused_tidy text reasons.Refused said is = said.1
 refused_tidy text reasons.NotUtf8 said is = absurd (cc is)
 refused_tidy text reasons.Memory said is = absurd (cc is)
+refused_tidy text reasons.BadLengths said is = absurd said
