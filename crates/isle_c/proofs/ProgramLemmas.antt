@@ -1,9 +1,10 @@
 -- The tree of a text, from what lexer and parser promise; and programs, as they grow by one text.
-use Rattle.std.proofs.Common.{◌≡◌, ℕ, ◌+◌, ◌<◌, Bool, false, suc, length, get_or, take, List, [], ◌∷◌, ◌++◌, Result, Ok, Err, IfOk, IfErr, map, refl, sym, ap, subst, ◌∙◌, arith}
+use Rattle.std.proofs.Common.{◌≡◌, ℕ, ◌+◌, ◌<◌, Bool, false, suc, length, get_or, take, List, [], ◌∷◌, ◌++◌, Result, Ok, Err, IfOk, IfErr, IsUtf8, drop, map, refl, sym, ap, subst, ◌∙◌, arith}
 use Rattle.std.specs.Global.{Vec}
-use Rattle.std.specs.List.{Contains, flat_map}
+use Rattle.std.specs.List.{All, Contains, flat_map}
 use Rattle.std.proofs.lemmas.Grind.{flat_map-append, take_at_read}
-use Rattle.std.proofs.lemmas.List.{append-nil, length-map, length-take-le, map-append}
+use Rattle.std.proofs.lemmas.List.{append-nil, drop_more, length-map, length-take-le, map-append}
+use Rattle.std.proofs.lemmas.List.Elements.{All-cons, All-head, All-nil, All-tail}
 use Rattle.std.proofs.lemmas.List.Folds.{list_any-append}
 use Rattle.isle_ast.specs.MacroArgs.{definition_has_macro_arg, definitions_have_macro_arg}
 use Rattle.isle_ast.specs.Spelt.{Spells}
@@ -16,7 +17,7 @@ use Rattle.isle_base.specs.Steps.{IfError}
 use Rattle.isle_base.specs.Token.{Feed}
 use Rattle.isle_base.specs.declared.fault.Fault.{Fault}
 use Rattle.isle_base.specs.declared.fault.Fault.TheVariants as faults
-use Rattle.isle_c.specs.Programs.{Adds, AreTrees, IsProgram, IsReadingFailure, IsTreeOf, Stops}
+use Rattle.isle_c.specs.Programs.{Adds, AreTrees, IsProgram, IsReadingFailure, IsTextsFailure, IsTreeOf, Stops, parts}
 use Rattle.isle_c.specs.declared.calls.NoAnswer.{NoAnswer}
 use Rattle.isle_c.specs.declared.calls.NoAnswer.TheVariants as reasons
 use Rattle.isle_c.proofs.ParsingLaw.{IsSpelt-placed, placed-IsSpelt, refused_parse}
@@ -94,3 +95,22 @@ pub reading_stops : (texts : List (List ℕ)) (text : List ℕ) (read : Result (
 reading_stops texts text (Err (faults.Error e)) reasons.Refused one refused stops = (text, one, refused)
 reading_stops texts text read reasons.Memory one refused stops = tt
 reading_stops texts text read why one refused stops = absurd stops
+
+-- the first of the texts that are left
+pub part_read : (lengths rest : List ℕ) (i d : ℕ) → i < length lengths
+    → parts (drop i lengths) rest ≡ take (get_or lengths i d) rest ∷ parts (drop (i + 1) lengths) (drop (get_or lengths i d) rest)
+part_read lengths rest i d within = ap (λ ns. parts ns rest) (drop_more lengths i d within)
+
+all_behind : {X : Type 0} (P : X → Type 0) (xs ys : List X) → All P (xs ++ ys) → All P ys
+all_behind P [] ys all = all
+all_behind P (x ∷ xs) ys all = all_behind P xs ys (All-tail P x (xs ++ ys) all)
+
+-- if it is not UTF-8, not all texts are
+pub texts_stop : (whole : List (List ℕ)) (front : List (List ℕ)) (text : List ℕ) (more : List (List ℕ)) (why : NoAnswer)
+    → front ++ text ∷ more ≡ whole → IsTextsFailure (text ∷ []) why → IsTextsFailure whole why
+texts_stop whole front text more reasons.Accepted same said = said
+texts_stop whole front text more reasons.Refused same said = said
+texts_stop whole front text more reasons.NotUtf8 same said =
+    λ all. said (All-cons IsUtf8 text [] (All-head IsUtf8 text more (all_behind IsUtf8 front (text ∷ more) (subst (All IsUtf8) (sym same) all))) (All-nil IsUtf8))
+texts_stop whole front text more reasons.Memory same said = said
+texts_stop whole front text more reasons.BadLengths same said = said

@@ -25,6 +25,7 @@ use std::alloc::{AllocError, Global};
 pub fn checked(alloc: Global, bytes: &[u8], lengths: &[usize]) -> Result<String, NoAnswer>
     ensures ok { IfOk result
         (λ answer. IsCheck (parts lengths.now bytes.now) (string_bytes answer)) }
+    ensures add_up { OnOk result (sum lengths.now ≡ length bytes.now) }
     ensures utf8 { OnOk result (All IsUtf8 (parts lengths.now bytes.now)) }
     ensures err { IfErr result (IsProgramFailure lengths.now bytes.now) }
 {
@@ -40,6 +41,7 @@ pub fn checked(alloc: Global, bytes: &[u8], lengths: &[usize]) -> Result<String,
 pub fn linted(alloc: Global, bytes: &[u8], lengths: &[usize], all: u32) -> Result<String, NoAnswer>
     ensures ok { IfOk result
         (λ answer. IsLint all (parts lengths.now bytes.now) (string_bytes answer)) }
+    ensures add_up { OnOk result (sum lengths.now ≡ length bytes.now) }
     ensures utf8 { OnOk result (All IsUtf8 (parts lengths.now bytes.now)) }
     ensures err { IfErr result (IsProgramFailure lengths.now bytes.now) }
 {
