@@ -1,9 +1,9 @@
 -- The tree of a text, from what lexer and parser promise; and programs, as they grow by one text.
-use Rattle.std.proofs.Common.{◌≡◌, ℕ, ◌+◌, ◌<◌, Bool, false, suc, length, get_or, take, List, [], ◌∷◌, ◌++◌, Result, Ok, Err, IfOk, IfErr, IsUtf8, drop, map, refl, sym, ap, subst, ◌∙◌, arith}
+use Rattle.std.proofs.Common.{◌≡◌, ℕ, ◌+◌, ◌<◌, ◌≤◌, append_assoc, Bool, false, suc, length, get_or, take, List, [], ◌∷◌, ◌++◌, Result, Ok, Err, IfOk, IfErr, IsUtf8, drop, map, refl, sym, ap, subst, ◌∙◌, arith}
 use Rattle.std.specs.Global.{Vec}
 use Rattle.std.specs.List.{All, Contains, flat_map}
 use Rattle.std.proofs.lemmas.Grind.{flat_map-append, take_at_read}
-use Rattle.std.proofs.lemmas.List.{append-nil, drop_more, length-map, length-take-le, map-append}
+use Rattle.std.proofs.lemmas.List.{append-nil, drop_all, drop_more, length-map, length-take-le, map-append}
 use Rattle.std.proofs.lemmas.List.Elements.{All-cons, All-head, All-nil, All-tail}
 use Rattle.std.proofs.lemmas.List.Folds.{list_any-append}
 use Rattle.isle_ast.specs.MacroArgs.{definition_has_macro_arg, definitions_have_macro_arg}
@@ -114,3 +114,22 @@ texts_stop whole front text more reasons.NotUtf8 same said =
     λ all. said (All-cons IsUtf8 text [] (All-head IsUtf8 text more (all_behind IsUtf8 front (text ∷ more) (subst (All IsUtf8) (sym same) all))) (All-nil IsUtf8))
 texts_stop whole front text more reasons.Memory same said = said
 texts_stop whole front text more reasons.BadLengths same said = said
+
+-- a text more is read of what is left
+pub texts_step : (lengths rest : List ℕ) (i n d : ℕ) (before after whole : List (List ℕ)) (text behind : List ℕ) → i < length lengths → n ≡ get_or lengths i d
+    → text ≡ take n rest → behind ≡ drop n rest → after ≡ before ++ text ∷ [] → before ++ parts (drop i lengths) rest ≡ whole
+    → after ++ parts (drop (i + 1) lengths) behind ≡ whole
+texts_step lengths rest i n d before after whole text behind within is front back grown so_far =
+    let more = parts (drop (i + 1) lengths) behind in
+    let read : parts (drop i lengths) rest ≡ text ∷ more =
+        part_read lengths rest i d within
+        ∙ ap (λ t. t ∷ parts (drop (i + 1) lengths) (drop (get_or lengths i d) rest)) (sym (front ∙ ap (λ k. take k rest) is))
+        ∙ ap (λ b. text ∷ parts (drop (i + 1) lengths) b) (sym (back ∙ ap (λ k. drop k rest) is)) in
+    ap (λ l. l ++ more) grown ∙ append_assoc before (text ∷ []) more ∙ ap (λ l. before ++ l) (sym read) ∙ so_far
+
+-- all texts are UTF-8 where those so far are, and none is left
+pub texts_end : (lengths rest : List ℕ) (i : ℕ) (before whole : List (List ℕ)) → length lengths ≤ i → before ++ parts (drop i lengths) rest ≡ whole
+    → All IsUtf8 before → All IsUtf8 whole
+texts_end lengths rest i before whole past so_far all =
+    let none : parts (drop i lengths) rest ≡ [] = ap (λ ns. parts ns rest) (drop_all i lengths past) in
+    subst (All IsUtf8) (sym (append-nil before) ∙ ap (λ l. before ++ l) (sym none) ∙ so_far) all
