@@ -1,5 +1,5 @@
-//! What is sent after a notification. Most are diagnostics: those of the document that it names, and
-//! those of the other open documents that are in a program with its file. After a document is
+//! What is sent after a notification. Most are diagnostics: those of the document that it names,
+//! and those of the other open documents that are in a program with its file. After a document is
 //! closed they are those of all others, since its file may be in no program any more, and after
 //! files on disk have changed those of all.
 

@@ -356,7 +356,8 @@ fn mistake_for<'a>(request: Request, shown: &'a View) -> Option<&'a str>
 
 /// Why nothing is renamed, if a view shows that settings are broken.
 fn mistake_in(shown: &View) -> Option<&str>
-    ensures { option_map (λ mistake. mistake.now) result ≡ option_map string_bytes shown.now.mistake }
+    ensures { option_map (λ mistake. mistake.now) result
+        ≡ option_map string_bytes shown.now.mistake }
 {
     match &shown.mistake {
         Some(mistake) => Some(mistake.as_str()),

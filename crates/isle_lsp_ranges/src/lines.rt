@@ -1,10 +1,10 @@
 //! The formatting of a part of a text, line by line.
 
 ghost use Rattle.std.specs.Prelude.{◌≡◌, ◌≢◌, ◌⊎◌, ◌<◌, ◌≤◌, ◌++◌, ◌∷◌, [], IfOk, OnOk, ℕ};
-ghost use Rattle.std.specs.Prelude.{drop, false, filter, length, slice_index_or, true};
+ghost use Rattle.std.specs.Prelude.{false, filter, length, slice_index_or, true};
 ghost use Rattle.serde_json.specs.Data.{depth};
 ghost use Rattle.serde_json.specs.View.{view};
-ghost use Rattle.isle_lsp_text.specs.Edits.{IsEdit, IsLineStart, first_line, part};
+ghost use Rattle.isle_lsp_text.specs.Edits.{IsEdit, IsLineStart, part};
 ghost use Rattle.isle_lsp_text.specs.Positions.{IsPlace};
 ghost use Rattle.isle_lsp_text.specs.declared.edits.Edit as texts;
 ghost use Rattle.isle_lsp_ranges.specs.LineEdits.{AreEditsWithin, IsPair, IsRangeFormatting};
