@@ -12,7 +12,7 @@ use Rattle.isle_base.specs.Token.{Feed, end}
 use Rattle.isle_base.specs.declared.fault.Fault.{Fault}
 use Rattle.isle_base.specs.declared.fault.Fault.TheVariants as faults
 use Rattle.isle_c.specs.Parsing.{ArePut, IsAtStartIn, IsEncodedTree, IsPutNext}
-use Rattle.isle_encoding.specs.Encoded.{definition, definitions, encoded}
+use Rattle.isle_encoding.specs.Encoded.{definition, definitions}
 use Rattle.isle_parser.proofs.NextDefinition.{loop_stops_at, loop_whole}
 use Rattle.isle_parser.proofs.Whole.{IfError-map}
 use Rattle.isle_parser.specs.NextDefinition.{RefusesNext, has_failed}
@@ -22,7 +22,7 @@ use Rattle.isle_parser_cursor.specs.Outcomes.{placing, tokens}
 use Rattle.isle_syntax.proofs.FormatLaw.{IsRefused-from, IsSpelt-Spells, fault_spells_nothing}
 use Rattle.isle_syntax.proofs.ReadingLaw.{Read, never_failed_read, nothing_read, one_more_read, read_takes, refusal, refused_erased, says_failed_too}
 use Rattle.isle_syntax.specs.Format.{IsRefused}
-use Rattle.isle_syntax.specs.Streaming.{IsDone, IsRead}
+use Rattle.isle_syntax.specs.Streaming.{IsDone}
 use Rattle.isle_ast.specs.declared.ast.Def.{Def}
 
 -- What was read so far is put behind what was there.

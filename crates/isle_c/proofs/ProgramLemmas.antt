@@ -1,5 +1,5 @@
 -- The tree of a text, from what lexer and parser promise; and programs, as they grow by one text.
-use Rattle.std.proofs.Common.{◌≡◌, ℕ, ◌+◌, ◌<◌, ◌≤◌, append_assoc, Bool, false, suc, length, get_or, take, List, [], ◌∷◌, ◌++◌, Result, Ok, Err, IfOk, IfErr, IsUtf8, drop, map, refl, sym, ap, subst, ◌∙◌, arith}
+use Rattle.std.proofs.Common.{◌≡◌, ℕ, ◌+◌, ◌<◌, ◌≤◌, append_assoc, false, suc, length, get_or, take, List, [], ◌∷◌, ◌++◌, Result, Ok, Err, IfOk, IfErr, IsUtf8, drop, map, refl, sym, ap, subst, ◌∙◌, arith}
 use Rattle.std.specs.Borrow.{Bor}
 use Rattle.std.specs.Global.{Vec}
 use Rattle.std.specs.List.{All, Contains, flat_map, sum}

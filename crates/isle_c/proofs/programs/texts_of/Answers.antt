@@ -1,4 +1,4 @@
-use Rattle.std.proofs.Common.{◌+◌, drop, get_or, map, refl}
+use Rattle.std.proofs.Common.{get_or, map, refl}
 use Rattle.std.proofs.lemmas.Result.{err_from_is_err_and}
 use Rattle.isle_c.specs.Programs.{parts}
 use Rattle.isle_c.proofs.ProgramLemmas.{left_step, texts_end, texts_step, texts_stop, utf8_step}
