@@ -102,7 +102,7 @@ fn shows_a_refusal_into_a_slice_of_every_length() {
 #[test]
 fn tidies_into_a_slice_of_every_length() {
     at_every_length(b"a ; b\n", |into| tidy(b"a; b  ", into));
-    at_every_length(b"(a\n b)\n", |into| tidy(b"(a\r\n b )", into));
+    at_every_length(b"(a\r\n b)\r\n", |into| tidy(b"(a\r\n b )", into));
     at_every_length(b"", |into| tidy(b" \n", into));
     at_every_length(TIDY, |into| tidy(UNTIDY, into));
 }
