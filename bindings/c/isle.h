@@ -40,7 +40,9 @@ enum {
     /* Out of memory, whatever the text is. */
     ISLE_MEMORY = 5,
     /* The text can be tidied, and isn't tidy. */
-    ISLE_UNTIDY = 6
+    ISLE_UNTIDY = 6,
+    /* The lengths of the texts of a program do not add up to the length of all of them. */
+    ISLE_BAD_LENGTHS = 7
 };
 
 /* How a call ended, and the length of its whole answer, 0 if there is none. */
@@ -118,6 +120,28 @@ uint32_t isle_c_is_tidy(const uint8_t *text, size_t text_len);
  * ISLE_NOT_UTF8 or ISLE_MEMORY. */
 isle_answer isle_c_tidy_refusal(const uint8_t *text, size_t text_len,
                                 uint8_t *reason, size_t reason_len, isle_place *place);
+
+/* Checks a program: writes the encoding of the errors that isle-check reports, or without an error
+ * of its warnings. crates/isle_encoding_findings/src/lib.rt describes the bytes.
+ *
+ * The texts of its files stand one behind the other, with the length of each in `lengths`. A
+ * position in the answer is a byte offset in a text, with the index of the text for its file. A
+ * text that nests more than 500 lists, which isle-check refuses, is checked like any other.
+ *
+ * ISLE_WRITTEN, ISLE_TOO_SHORT, ISLE_REFUSED if a text is not valid (isle_c_refusal of it says
+ * why), ISLE_NOT_UTF8 if a text isn't, ISLE_BAD_LENGTHS or ISLE_MEMORY. */
+isle_answer isle_c_check_program(const uint8_t *texts, size_t texts_len,
+                                 const size_t *lengths, size_t lengths_len,
+                                 uint8_t *into, size_t into_len);
+
+/* Runs lints on a program: writes the encoding of what they find. These are the lints that
+ * isle-lint runs by default if `all` is 0, and otherwise all. Comments that allow a lint change
+ * nothing.
+ *
+ * Texts and statuses are those of isle_c_check_program. */
+isle_answer isle_c_lint_program(const uint8_t *texts, size_t texts_len,
+                                const size_t *lengths, size_t lengths_len, uint32_t all,
+                                uint8_t *into, size_t into_len);
 
 /* The version of cranelift-isle whose behaviour the library has. */
 isle_version isle_c_version(void);

@@ -21,6 +21,8 @@ pub(crate) enum Told {
     Memory,
     /// The text can be tidied, and isn't tidy.
     Untidy,
+    /// The lengths of several texts do not add up to the length of all of them.
+    BadLengths,
 }
 
 /// The status and the length of an answer, as they cross.
@@ -45,6 +47,7 @@ impl Answer {
             4 => Told::NotUtf8,
             5 => Told::Memory,
             6 => Told::Untidy,
+            7 => Told::BadLengths,
             status => unreachable!("{status} is above each number that the library's clauses name"),
         }
     }
@@ -116,6 +119,25 @@ unsafe extern "C" {
         reason: *mut u8,
         reason_len: usize,
         place: *mut Place,
+    ) -> Answer;
+
+    fn isle_c_check_program(
+        texts: *const u8,
+        texts_len: usize,
+        lengths: *const usize,
+        lengths_len: usize,
+        into: *mut u8,
+        into_len: usize,
+    ) -> Answer;
+
+    fn isle_c_lint_program(
+        texts: *const u8,
+        texts_len: usize,
+        lengths: *const usize,
+        lengths_len: usize,
+        all: u32,
+        into: *mut u8,
+        into_len: usize,
     ) -> Answer;
 
     safe fn isle_c_version() -> Version;
@@ -225,6 +247,41 @@ pub(crate) fn tidy_refusal(text: &[u8], reason: &mut [u8], place: &mut Place) ->
             reason.as_mut_ptr(),
             reason.len(),
             place,
+        )
+    };
+    answer.told()
+}
+
+/// Writes the encoding of the errors and warnings of a program, whose texts have these lengths.
+pub(crate) fn check_program(texts: &[u8], lengths: &[usize], into: &mut [u8]) -> Told {
+    // SAFETY: the declaration fits the library's. Each pointer and length are those of one slice,
+    // which is borrowed for the call, `into` for it alone. The call has no `requires`.
+    let answer = unsafe {
+        isle_c_check_program(
+            texts.as_ptr(),
+            texts.len(),
+            lengths.as_ptr(),
+            lengths.len(),
+            into.as_mut_ptr(),
+            into.len(),
+        )
+    };
+    answer.told()
+}
+
+/// Writes the encoding of what lints find in a program, whose texts have these lengths.
+pub(crate) fn lint_program(texts: &[u8], lengths: &[usize], all: bool, into: &mut [u8]) -> Told {
+    // SAFETY: the declaration fits the library's. Each pointer and length are those of one slice,
+    // which is borrowed for the call, `into` for it alone. The call has no `requires`.
+    let answer = unsafe {
+        isle_c_lint_program(
+            texts.as_ptr(),
+            texts.len(),
+            lengths.as_ptr(),
+            lengths.len(),
+            u32::from(all),
+            into.as_mut_ptr(),
+            into.len(),
         )
     };
     answer.told()

@@ -5,8 +5,11 @@
 //! as the bytes demand.
 
 mod definitions;
+mod findings;
 mod rules;
 mod specs;
+
+pub(crate) use self::findings::{ToldFinding, ToldNote, findings};
 
 use self::Stop::{Broken, Memory};
 use crate::ast::{Def, Ident};
@@ -249,6 +252,15 @@ impl<'a> Reader<'a> {
         };
         self.at = end;
         Ok(Ident(text, self.pos()?))
+    }
+
+    /// A text: its length, and then its bytes.
+    fn string(&mut self) -> Read<String> {
+        let len = self.number()?;
+        let end = self.at.checked_add(len).ok_or(Broken)?;
+        let text = self.text.get(self.at..end).ok_or(Broken)?;
+        self.at = end;
+        owned(text)
     }
 
     fn names(&mut self) -> Read<Vec<Ident>> {

@@ -1,4 +1,5 @@
-//! Tidies, checks and formats ISLE, the rewriting language of Cranelift's instruction selection.
+//! Tidies, checks, lints and formats ISLE, the rewriting language of Cranelift's instruction
+//! selection.
 //!
 //! ```
 //! let tidied = isle_syntax::tidy("(rule (lower (iadd x y)) ; why\n    ( add x y))")?;
@@ -20,6 +21,9 @@
 //! out one definition after another. The library writes a tree as bytes, whose meaning is proved;
 //! the decoder in this package is only tested.
 //!
+//! [`check_program`] and [`lint_program`] return what `isle-check` and `isle-lint` find in the
+//! files of a program.
+//!
 //! A program over the syntax layer of `cranelift-isle` compiles with the name of the crate changed:
 //! the modules [`ast`], [`error`], [`files`], [`lexer`], [`parser`] and [`printer`] have upstream's
 //! names and signatures. `docs/CALLING.md` in the repository lists what is missing.
@@ -29,10 +33,10 @@
 //!
 //! # Deep nesting
 //!
-//! [`check`], [`parse`], [`format()`] and [`diagnostic`] recurse, so the depth of nesting is
-//! limited by the thread's stack, and an input that is too deep aborts the process. [`with_stack`]
-//! runs calls on a thread with a stack of a given size. 8 MiB suffice for these depths, counted in
-//! parentheses around the innermost part:
+//! [`check`], [`parse`], [`format()`], [`diagnostic`], [`check_program`] and [`lint_program`]
+//! recurse, so the depth of nesting is limited by the thread's stack, and an input that is too deep
+//! aborts the process. [`with_stack`] runs calls on a thread with a stack of a given size. 8 MiB
+//! suffice for these depths, counted in parentheses around the innermost part:
 //!
 //! | Nest | Levels |
 //! |---|---|
@@ -55,13 +59,18 @@ mod decode;
 pub mod error;
 mod fault;
 pub mod files;
+mod findings;
 pub mod lexer;
 pub mod parser;
 pub mod printer;
 
-use archive::{Place, Told};
+use archive::Told;
 use ast::Def;
 pub use fault::{Fault, Refusal};
+pub use findings::{
+    FileRefusal, Finding, Note, Place, ProgramFault, Severity, check_program, lint_program,
+    try_check_program, try_lint_program,
+};
 use std::alloc::{Layout, handle_alloc_error};
 use std::panic::resume_unwind;
 use std::thread;
@@ -358,7 +367,7 @@ fn whole(room: usize, mut call: impl FnMut(&mut [u8]) -> Told) -> Result<String,
 }
 
 /// A call that writes the message and the place of an error.
-type Reason = fn(&[u8], &mut [u8], &mut Place) -> Told;
+type Reason = fn(&[u8], &mut [u8], &mut archive::Place) -> Told;
 
 /// The fault of a text that does not parse.
 fn fault(text: &str, told: Told) -> Fault {
@@ -380,7 +389,7 @@ fn fault_of(text: &str, told: Told, reason: Reason) -> Fault {
 
 /// The message and the place of the error in a text that was rejected.
 fn refusal(text: &str, reason: Reason) -> Result<Refusal, Fault> {
-    let mut place = Place::default();
+    let mut place = archive::Place::default();
     let call = |into: &mut [u8]| reason(text.as_bytes(), into, &mut place);
     // The text is rejected, so the only other status is out of memory.
     let message = whole(MESSAGE_ROOM, call).map_err(|_| Fault::Memory)?;

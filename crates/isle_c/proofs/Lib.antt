@@ -3,3 +3,4 @@ pub mod ParsingLaw
 pub mod RefusalLemmas
 pub mod StatusLemmas
 pub mod TidyLemmas
+pub mod ProgramLemmas

@@ -12,7 +12,7 @@ use Rattle.isle_base.specs.Token.{Feed, end}
 use Rattle.isle_base.specs.declared.fault.Fault.{Fault}
 use Rattle.isle_base.specs.declared.fault.Fault.TheVariants as faults
 use Rattle.isle_c.specs.Parsing.{ArePut, IsAtStartIn, IsEncodedTree, IsPutNext}
-use Rattle.isle_encoding.specs.Encoded.{definition, definitions, encoded}
+use Rattle.isle_encoding.specs.Encoded.{definition, definitions}
 use Rattle.isle_parser.proofs.NextDefinition.{loop_stops_at, loop_whole}
 use Rattle.isle_parser.proofs.Whole.{IfError-map}
 use Rattle.isle_parser.specs.NextDefinition.{RefusesNext, has_failed}
@@ -22,7 +22,7 @@ use Rattle.isle_parser_cursor.specs.Outcomes.{placing, tokens}
 use Rattle.isle_syntax.proofs.FormatLaw.{IsRefused-from, IsSpelt-Spells, fault_spells_nothing}
 use Rattle.isle_syntax.proofs.ReadingLaw.{Read, never_failed_read, nothing_read, one_more_read, read_takes, refusal, refused_erased, says_failed_too}
 use Rattle.isle_syntax.specs.Format.{IsRefused}
-use Rattle.isle_syntax.specs.Streaming.{IsDone, IsRead}
+use Rattle.isle_syntax.specs.Streaming.{IsDone}
 use Rattle.isle_ast.specs.declared.ast.Def.{Def}
 
 -- What was read so far is put behind what was there.
@@ -61,10 +61,10 @@ pub put_takes : (now next : Parser) (before after : List ℕ) → IsPutNext now 
 put_takes now next before after put = read_takes now next put.read
 
 -- what a lexer of the whole text has to give spells what the text spells, with its positions
-placed-IsSpelt : (file : ℕ) (text : List ℕ) (feed : Feed) (ds : List Definition) → lexes text feed.coming feed.ending → Spells (in_file file) feed ds → IsSpelt (in_file file) text ds
+pub placed-IsSpelt : (file : ℕ) (text : List ℕ) (feed : Feed) (ds : List Definition) → lexes text feed.coming feed.ending → Spells (in_file file) feed ds → IsSpelt (in_file file) text ds
 placed-IsSpelt file text feed ds l s = (feed.coming, subst (λ e. lexes text feed.coming e) s.0 l, s.1)
 
-IsSpelt-placed : (file : ℕ) (text : List ℕ) (feed : Feed) (ds : List Definition) → lexes text feed.coming feed.ending → IsSpelt (in_file file) text ds → Spells (in_file file) feed ds
+pub IsSpelt-placed : (file : ℕ) (text : List ℕ) (feed : Feed) (ds : List Definition) → lexes text feed.coming feed.ending → IsSpelt (in_file file) text ds → Spells (in_file file) feed ds
 IsSpelt-placed file text feed ds l s =
     let same = Lexes-unique (length text) text s.0 feed.coming end feed.ending s.1 l in
     (sym same.1, subst (λ tokens. SpellsDefinitions ds (placed (in_file file) tokens)) same.0 s.2)
@@ -99,6 +99,14 @@ refused_next file text before middle start now f s has fails refused =
     IfError-map (RefusesWith nowhere feed) (λ _. IsRefused text) f
     (λ e refused. IsRefused-from text (λ ds spelt. refused.0 ds (IsSpelt-Spells text feed ds s.lexed spelt)))
     (refused_erased feed f placed_refusal)
+
+-- where the parser refuses a whole text, so is it
+pub refused_parse : (text : List ℕ) (feed : Feed) (f : Fault) → lexes text feed.coming feed.ending → RefusesText (in_file feed.file) feed f
+    → IfError (λ _. IsRefused text) f
+refused_parse text feed f lexed refused =
+    IfError-map (RefusesWith nowhere feed) (λ _. IsRefused text) f
+    (λ e refused. IsRefused-from text (λ ds spelt. refused.0 ds (IsSpelt-Spells text feed ds lexed spelt)))
+    (refused_erased feed f refused)
 
 -- and it isn't for a failure before
 pub never_failed : (start now : Parser) (before middle : List ℕ) (f : Fault) → HasPut start now before middle → (refusal Bool f ≡ refusal Bool faults.Failed) ↔ (has_failed now ≡ true)

@@ -3,3 +3,4 @@ pub mod Refusals
 pub mod NoAnswers
 pub mod Tidying
 pub mod Parsing
+pub mod Programs

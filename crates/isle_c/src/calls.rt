@@ -11,7 +11,7 @@ ghost use Rattle.isle_syntax.specs.Format.{IsFormatted, IsRefused};
 ghost use Rattle.isle_syntax.specs.Streaming.{IsRefusedWith};
 
 use crate::slices::text_of;
-use crate::{ACCEPTED, Answer, MEMORY, NOT_UTF8, Place, REFUSED};
+use crate::{ACCEPTED, Answer, BAD_LENGTHS, MEMORY, NOT_UTF8, Place, REFUSED};
 use isle_base::diagnostics::diagnostic;
 use isle_syntax::error::Error;
 use isle_syntax::files::LineMap;
@@ -29,6 +29,8 @@ pub enum NoAnswer {
     NotUtf8,
     /// Out of memory.
     Memory,
+    /// The lengths of several texts do not add up to the slice's.
+    BadLengths,
 }
 
 impl From<AllocError> for NoAnswer {
@@ -57,6 +59,7 @@ impl NoAnswer {
             NoAnswer::Refused => REFUSED,
             NoAnswer::NotUtf8 => NOT_UTF8,
             NoAnswer::Memory => MEMORY,
+            NoAnswer::BadLengths => BAD_LENGTHS,
         }
     }
 

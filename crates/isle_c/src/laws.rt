@@ -2,7 +2,7 @@
 
 ghost use Rattle.std.specs.Prelude.{◌≡◌};
 
-use crate::{ACCEPTED, MEMORY, NOT_UTF8, REFUSED, TOO_SHORT, UNTIDY, WRITTEN};
+use crate::{ACCEPTED, BAD_LENGTHS, MEMORY, NOT_UTF8, REFUSED, TOO_SHORT, UNTIDY, WRITTEN};
 
 /// A law, which runs no code: these are the numbers of the statuses.
 pub fn numbers_are_these()
@@ -13,4 +13,5 @@ pub fn numbers_are_these()
     ensures not_utf8 { NOT_UTF8 ≡ 4 }
     ensures memory { MEMORY ≡ 5 }
     ensures untidy { UNTIDY ≡ 6 }
+    ensures bad_lengths { BAD_LENGTHS ≡ 7 }
 {}

@@ -1,4 +1,5 @@
-//! The syntax layer of ISLE and tidying as a static library, for callers in C and other languages.
+//! The syntax layer of ISLE, tidying, checking and linting as a static library, for callers in C
+//! and other languages.
 //!
 //! Texts are passed as slices of bytes. The output is written to a slice of the caller's, and its
 //! whole length is returned, even if the slice is too short. No pointer is handed out, no state is
@@ -6,9 +7,11 @@
 //! `requires`. `bindings/c/isle.h` has the obligations of a caller.
 #![tactic(auto)]
 
-ghost use Rattle.std.specs.Prelude.{◌≡◌, ◌≢◌, ◌↔◌, ◌≤◌, IsUtf8};
+ghost use Rattle.std.specs.Prelude.{◌≡◌, ◌≢◌, ◌↔◌, ◌≤◌, IsUtf8, length};
+ghost use Rattle.std.specs.List.{All, sum};
 ghost use Rattle.isle_c.specs.Answers.{Wants, Writes};
 ghost use Rattle.isle_c.specs.Parsing.{IsEncodedTree};
+ghost use Rattle.isle_c.specs.Programs.{IsCheck, IsLint, IsRefusedProgram, parts};
 ghost use Rattle.isle_c.specs.Refusals.{IsDiagnosticOf, IsRefusedAt, IsUntidiableAt};
 ghost use Rattle.isle_tidy_core.specs.Refused.{HasDocument, HasNoDocument};
 ghost use Rattle.isle_tidy_core.specs.Tidied.{IsTidyTextOf, IsUntidy};
@@ -17,11 +20,13 @@ ghost use Rattle.isle_syntax.specs.Format.{IsFormatted, IsRefused, SpellsTree};
 mod calls;
 pub mod laws;
 mod parsing;
+mod programs;
 mod slices;
 mod tidying;
 
 use calls::{diagnostic_of, formatted, refusal_of, refused};
 use parsing::encoded_tree;
+use programs::{checked, linted};
 use slices::write;
 use std::alloc::Global;
 use tidying::{is_tidy, tidied, tidy_refusal_of};
@@ -46,6 +51,9 @@ pub const MEMORY: u32 = 5;
 
 /// The text can be tidied, but isn't tidy.
 pub const UNTIDY: u32 = 6;
+
+/// The lengths of several texts do not add up to the slice's.
+pub const BAD_LENGTHS: u32 = 7;
 
 /// The status of a call, and the length of its output.
 #[repr(C)]
@@ -272,6 +280,75 @@ pub extern "C" fn isle_c_tidy_refusal(
             *place = refusal.place;
             write(&refusal.reason, reason)
         }
+        Err(why) => why.answer(),
+    }
+}
+
+/// Checks a program as `isle_check_core::check` does, and writes the encoding of what is found: its
+/// errors, or without an error its warnings.
+///
+/// The texts of its files stand one behind the other, and have these lengths. Each position is a
+/// byte offset in a text, with the index of the text for its file. The crate
+/// `isle_encoding_findings` describes the encoding, which is UTF-8. The status is `REFUSED` if a
+/// text does not parse, which `isle_c_refusal` of that text explains; and `BAD_LENGTHS` if the sum
+/// of the lengths is not the length of the slice.
+#[unsafe(no_mangle)]
+pub extern "C" fn isle_c_check_program(
+    alloc: Global,
+    texts: &[u8],
+    lengths: &[usize],
+    into: &mut [u8],
+) -> Answer
+    ensures written { result.status ≡ WRITTEN
+        → Writes into.old into.new result.len (IsCheck (parts lengths.now texts.now)) }
+    ensures too_short { result.status ≡ TOO_SHORT
+        → Wants into.old result.len (IsCheck (parts lengths.now texts.now)) }
+
+    // Why there is no output.
+    ensures refused { result.status ≡ REFUSED → IsRefusedProgram (parts lengths.now texts.now) }
+    ensures not_utf8 { result.status ≡ NOT_UTF8
+        → (¬ (All IsUtf8 (parts lengths.now texts.now))) }
+    ensures utf8 { result.status ≤ REFUSED → All IsUtf8 (parts lengths.now texts.now) }
+    ensures bad_lengths { (result.status ≡ BAD_LENGTHS) ↔ (sum lengths.now ≢ length texts.now) }
+    ensures statuses { (result.status ≢ ACCEPTED) × (result.status ≢ UNTIDY)
+        × (result.status ≤ BAD_LENGTHS) }
+    ensures kept { result.status ≢ WRITTEN → into.new ≡ into.old }
+{
+    match checked(alloc, texts, lengths) {
+        Ok(answer) => write(&answer, into),
+        Err(why) => why.answer(),
+    }
+}
+
+/// Runs lints on a program as `isle_lint_core::findings` does, and writes the encoding of what they
+/// find: the lints that are on by default if `all` is 0, and otherwise all lints.
+///
+/// Comments that allow a lint change nothing. All else is as for `isle_c_check_program`.
+#[unsafe(no_mangle)]
+pub extern "C" fn isle_c_lint_program(
+    alloc: Global,
+    texts: &[u8],
+    lengths: &[usize],
+    all: u32,
+    into: &mut [u8],
+) -> Answer
+    ensures written { result.status ≡ WRITTEN
+        → Writes into.old into.new result.len (IsLint all (parts lengths.now texts.now)) }
+    ensures too_short { result.status ≡ TOO_SHORT
+        → Wants into.old result.len (IsLint all (parts lengths.now texts.now)) }
+
+    // Why there is no output.
+    ensures refused { result.status ≡ REFUSED → IsRefusedProgram (parts lengths.now texts.now) }
+    ensures not_utf8 { result.status ≡ NOT_UTF8
+        → (¬ (All IsUtf8 (parts lengths.now texts.now))) }
+    ensures utf8 { result.status ≤ REFUSED → All IsUtf8 (parts lengths.now texts.now) }
+    ensures bad_lengths { (result.status ≡ BAD_LENGTHS) ↔ (sum lengths.now ≢ length texts.now) }
+    ensures statuses { (result.status ≢ ACCEPTED) × (result.status ≢ UNTIDY)
+        × (result.status ≤ BAD_LENGTHS) }
+    ensures kept { result.status ≢ WRITTEN → into.new ≡ into.old }
+{
+    match linted(alloc, texts, lengths, all) {
+        Ok(answer) => write(&answer, into),
         Err(why) => why.answer(),
     }
 }

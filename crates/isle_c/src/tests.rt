@@ -88,3 +88,39 @@ fn tells_why_a_text_is_not_tidied(rt: HostRuntime) {
     assert_eq!(rt; &reason[..answer.len], UNMATCHED);
     assert_eq!(rt; (place.offset, place.line, place.column), (4, 2, 3));
 }
+
+/// Two files of one program, one behind the other: the rule's `x` has no definition.
+const PROGRAM: &[u8] = b"(type A (primitive A))(decl f (A) A)(rule g (f y) x)";
+
+const LENGTHS: [usize; 2] = [22, 30];
+
+/// An error, `unknown-variable`, at offset 28 of file 1.
+const FOUND: &[u8] = b"\x01\x01\x01\x10unknown-variable\x01\x1c\x14Unknown variable 'x'\x00";
+
+#[test]
+fn checks_a_program(rt: HostRuntime) {
+    let mut into = [b'#'; 80];
+    let answer = isle_c_check_program(rt.alloc(), PROGRAM, &LENGTHS, &mut into);
+    assert_eq!(rt; answer.status, WRITTEN);
+    assert_eq!(rt; &into[..answer.len], FOUND);
+    let answer = isle_c_check_program(rt.alloc(), PROGRAM, &[22], &mut into);
+    assert_eq!(rt; answer.status, BAD_LENGTHS);
+}
+
+/// No finding.
+const NOTHING: &[u8] = b"\x01\x00";
+
+/// A warning, `unused-pattern-variable`, at offset 25 of file 1.
+const LINTED: &[u8] =
+    b"\x01\x01\x00\x17unused-pattern-variable\x01\x19\x1bunused pattern variable 'y'\x00";
+
+#[test]
+fn lints_a_program(rt: HostRuntime) {
+    let mut into = [b'#'; 80];
+    let answer = isle_c_lint_program(rt.alloc(), PROGRAM, &LENGTHS, 1, &mut into);
+    assert_eq!(rt; answer.status, WRITTEN);
+    assert_eq!(rt; &into[..answer.len], LINTED);
+    let answer = isle_c_lint_program(rt.alloc(), PROGRAM, &LENGTHS, 0, &mut into);
+    assert_eq!(rt; answer.status, WRITTEN);
+    assert_eq!(rt; &into[..answer.len], NOTHING);
+}

@@ -7,7 +7,8 @@
 //! since all bytes outside of texts are below 128.
 //!
 //! Each `put_..` function appends the encoding of its argument. `specs/Encoded.antt` defines the
-//! encoding, and the law `laws::encodings_end` says that it loses nothing.
+//! encoding, and the law `laws::encodings_end` says that it loses nothing. What puts numbers,
+//! flags, texts and positions is public, so that other encodings have them the same way.
 #![tactic(auto)]
 
 ghost use Rattle.std.specs.Prelude.{◌≡◌, ◌++◌, [], ◌∷◌, IfOk, OnOk, string_bytes};
@@ -24,7 +25,9 @@ mod verification;
 
 pub use definitions::put_definition;
 use isle_ast::ast::Def;
+pub use names::{put_position, put_text};
 use numbers::put_byte;
+pub use numbers::{put_flag, put_number};
 use std::alloc::{AllocError, Global};
 
 /// Encodes a tree.

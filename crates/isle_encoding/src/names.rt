@@ -10,6 +10,7 @@ use isle_ast_names::Ident;
 use isle_base::lexer::Pos;
 use std::alloc::AllocError;
 
+/// Appends a text: its length in bytes, and its bytes.
 pub fn put_text(out: &mut String, value: &str) -> Result<(), AllocError>
     ensures { OnOk result (string_bytes out.new ≡ string_bytes out.old ++ text value.now) }
 {
@@ -17,6 +18,7 @@ pub fn put_text(out: &mut String, value: &str) -> Result<(), AllocError>
     out.push_str(value)
 }
 
+/// Appends a position: the number of its file, and its offset.
 pub fn put_position(out: &mut String, pos: Pos) -> Result<(), AllocError>
     ensures { OnOk result (string_bytes out.new ≡ string_bytes out.old ++ position pos) }
 {

@@ -14,6 +14,7 @@ pub fn put_byte(out: &mut String, byte: u8) -> Result<(), AllocError>
     out.push(byte as char)
 }
 
+/// Appends a number.
 #[tactic(auto, using(crate::proofs::Digits::number_few))]
 pub fn put_number(out: &mut String, value: usize) -> Result<(), AllocError>
     ensures { OnOk result (string_bytes out.new ≡ string_bytes out.old ++ number value) }
@@ -39,6 +40,7 @@ pub fn put_large_number(out: &mut String, value: u128) -> Result<(), AllocError>
     put_byte(out, rest as u8)
 }
 
+/// Appends a flag: 1 if it is true, and 0 if not.
 pub fn put_flag(out: &mut String, value: bool) -> Result<(), AllocError>
     ensures { OnOk result (string_bytes out.new ≡ string_bytes out.old ++ flag value) }
 {

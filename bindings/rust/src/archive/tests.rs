@@ -102,7 +102,7 @@ fn shows_a_refusal_into_a_slice_of_every_length() {
 #[test]
 fn tidies_into_a_slice_of_every_length() {
     at_every_length(b"a ; b\n", |into| tidy(b"a; b  ", into));
-    at_every_length(b"(a\n b)\n", |into| tidy(b"(a\r\n b )", into));
+    at_every_length(b"(a\r\n b)\r\n", |into| tidy(b"(a\r\n b )", into));
     at_every_length(b"", |into| tidy(b" \n", into));
     at_every_length(TIDY, |into| tidy(UNTIDY, into));
 }
@@ -188,4 +188,41 @@ fn checks() {
     assert_eq!(check(DECL), Told::Accepted);
     assert_eq!(check(REFUSED), Told::Refused);
     assert_eq!(check(NO_UTF8), Told::NotUtf8);
+}
+
+/// Two files of one program, one behind the other: the rule's `x` has no definition.
+const PROGRAM: &[u8] = b"(type A (primitive A))(decl f (A) A)(rule (f y) x)";
+
+#[test]
+fn checks_a_program_into_a_slice_of_every_length() {
+    let found = b"\x01\x01\x01\x10unknown-variable\x01\x1a\x14Unknown variable 'x'\x00";
+    at_every_length(found, |into| check_program(PROGRAM, &[22, 28], into));
+    at_every_length(b"\x01\x00", |into| check_program(b"", &[], into));
+    at_every_length(b"\x01\x00", |into| check_program(b"", &[0, 0], into));
+}
+
+#[test]
+fn lints_a_program_into_a_slice_of_every_length() {
+    let found =
+        b"\x01\x01\x00\x17unused-pattern-variable\x01\x17\x1bunused pattern variable 'y'\x00";
+    at_every_length(found, |into| lint_program(PROGRAM, &[22, 28], true, into));
+    at_every_length(b"\x01\x00", |into| {
+        lint_program(PROGRAM, &[22, 28], false, into)
+    });
+}
+
+#[test]
+fn tells_why_a_program_has_no_answer() {
+    let check =
+        |texts: &[u8], lengths: &[usize]| told_alone(|into| check_program(texts, lengths, into));
+    assert_eq!(check(PROGRAM, &[22]), Told::BadLengths);
+    assert_eq!(check(PROGRAM, &[22, 29]), Told::BadLengths);
+    assert_eq!(check(PROGRAM, &[usize::MAX, 51]), Told::BadLengths);
+    assert_eq!(check(PROGRAM, &[21, 29]), Told::Refused);
+    at_every_length(b"\x01\x00", |into| check_program(b"; \xc3\xa4", &[4], into));
+    assert_eq!(check(b"; \xc3\xa4", &[3, 1]), Told::NotUtf8);
+    assert_eq!(
+        told_alone(|into| lint_program(NO_UTF8, &[NO_UTF8.len()], true, into)),
+        Told::NotUtf8
+    );
 }

@@ -168,3 +168,36 @@ fn a_length_past_the_bytes_takes_no_memory() {
     let read: Read<ModelType> = reader(text).model_type();
     assert_eq!(read, Err(Broken));
 }
+
+/// The bytes of an error with a note.
+const FINDING: [u8; 17] = [
+    1, 1, 1, 1, b'k', 0, 9, 2, b'n', b'o', 1, 1, 64, 1, 2, b's', b'o',
+];
+
+#[test]
+fn decodes_a_finding() {
+    let note = ToldNote {
+        pos: Pos {
+            file: 1,
+            offset: 64,
+        },
+        message: "so".to_string(),
+    };
+    let finding = ToldFinding {
+        is_error: true,
+        kind: "k".to_string(),
+        pos: Pos { file: 0, offset: 9 },
+        message: "no".to_string(),
+        notes: vec![note],
+    };
+    assert_eq!(findings(&FINDING), Ok(vec![finding]));
+    assert_eq!(findings(&[1, 0]), Ok(vec![]));
+}
+
+#[test]
+fn each_beginning_of_findings_is_broken() {
+    for len in 0..FINDING.len() {
+        assert_eq!(findings(&FINDING[..len]), Err(Broken), "of {len}");
+    }
+    assert_eq!(findings(&[1, 0, 0]), Err(Broken));
+}
