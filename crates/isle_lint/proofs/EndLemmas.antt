@@ -2,10 +2,7 @@
 use Rattle.std.proofs.Common.{◌≡◌, ◌⊎◌, ℕ, ◌≤◌, List, Bool, true, false, Option, inl, inr, sym, subst, arith}
 use Rattle.std.specs.Io.KnownBytes.{Keeps}
 use Rattle.isle_cli.specs.Arguments.{Given}
-use Rattle.isle_cli.specs.Failure.{status_of}
-use Rattle.isle_cli.specs.declared.failure.Failure.{Failure}
-use Rattle.isle_cli.specs.declared.failure.Failure.TheVariants as failures
-use Rattle.isle_lint.specs.Doing.{CutsPrograms, Ends, ExplainsEnd, TellsPrograms, told_status}
+use Rattle.isle_lint.specs.Doing.{CutsPrograms, Ends, TellsPrograms, told_status}
 
 -- what is told has status 0, 1 or 3
 told-status : (is_read is_clean : Bool) → (told_status is_read is_clean ≤ 1) ⊎ (told_status is_read is_clean ≡ 3)
@@ -43,39 +40,3 @@ module _ (given : List Given) (output output' : Option (List ℕ)) where
   ends-cut status (inl (inl two, _)) five = absurd (omega arith)
   ends-cut status (inl (inr three, _)) five = absurd (omega arith)
   ends-cut status (inr told) five = elim (told-ends status told) [ inl low ↦ absurd (omega arith) | inr three ↦ absurd (omega arith) ]
-
-  pub failed-statuses : (failure : Failure) (status : ℕ) → ExplainsEnd failure given output output' → status ≡ status_of failure → status ≤ 5
-  failed-statuses (failures.Refused _) status why is = absurd why
-  failed-statuses failures.Usage status why is = omega arith
-  failed-statuses failures.Input status why is = absurd why
-  failed-statuses failures.Memory status why is = omega arith
-  failed-statuses failures.Output status why is = omega arith
-
-  pub failed-low : (failure : Failure) (status : ℕ) → ExplainsEnd failure given output output' → status ≡ status_of failure → status ≤ 1 → ⊥
-  failed-low (failures.Refused _) status why is low = why
-  failed-low failures.Usage status why is low = omega arith
-  failed-low failures.Input status why is low = why
-  failed-low failures.Memory status why is low = omega arith
-  failed-low failures.Output status why is low = omega arith
-
-  pub failed-three : (failure : Failure) (status : ℕ) → ExplainsEnd failure given output output' → status ≡ status_of failure → status ≡ 3 → ⊥
-  failed-three (failures.Refused _) status why is three = why
-  failed-three failures.Usage status why is three = omega arith
-  failed-three failures.Input status why is three = why
-  failed-three failures.Memory status why is three = omega arith
-  failed-three failures.Output status why is three = omega arith
-
-  pub failed-unwritten : (failure : Failure) (status : ℕ) → ExplainsEnd failure given output output' → status ≡ status_of failure → (status ≡ 2) ⊎ (status ≡ 4) → Keeps output output'
-  failed-unwritten (failures.Refused _) status why is which = absurd why
-  failed-unwritten failures.Usage status why is which = why
-  failed-unwritten failures.Input status why is which = absurd why
-  failed-unwritten failures.Memory status why is which = why
-  failed-unwritten failures.Output status why is (inl two) = absurd (omega arith)
-  failed-unwritten failures.Output status why is (inr four) = absurd (omega arith)
-
-  pub failed-cut : (failure : Failure) (status : ℕ) → ExplainsEnd failure given output output' → status ≡ status_of failure → status ≡ 5 → CutsPrograms given output output'
-  failed-cut (failures.Refused _) status why is five = absurd why
-  failed-cut failures.Usage status why is five = absurd (omega arith)
-  failed-cut failures.Input status why is five = absurd why
-  failed-cut failures.Memory status why is five = absurd (omega arith)
-  failed-cut failures.Output status why is five = why

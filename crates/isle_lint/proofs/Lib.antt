@@ -1,5 +1,4 @@
 pub mod DoingLemmas
 pub mod EndLemmas
-pub mod FailureLemmas
-pub mod ProgramLemmas
 pub mod ReportLemmas
+pub mod ThisLemmas

@@ -13,14 +13,15 @@ use Rattle.isle_lint_core.specs.declared.lint.Lint.{Lint}
 use Rattle.isle_cli.specs.Arguments.{Given}
 use Rattle.isle_cli.specs.Sources.{source_of}
 use Rattle.isle_cli.specs.declared.sources.Source as source_code
-use Rattle.isle_lint.specs.Report.{AreTold, ReportNode, is_told, kept_if, report_in, told_in}
+use Rattle.isle_lint.specs.Report.{AddsTold, AreTold, is_told, kept_if, report_in, told_in}
 use Rattle.isle_program.specs.Allowances.{Allowance, AreAllowances}
+use Rattle.isle_program_findings.specs.ReportView.{ReportNode}
 
 -- the report on refusals and findings, in other words
 pub reported-as : (given : List Given) (sources : List Source) (refused refusals : List (Option Error)) (found all : List Found) (report : ReportNode) →
-    refused ≡ refusals → found ≡ all → report ≡ report_in given sources refused found → report ≡ report_in given sources refusals all
+    refused ≡ refusals → found ≡ all → report ≡ report_in given [] sources refused found → report ≡ report_in given [] sources refusals all
 reported-as given sources refused refusals found all report same told is =
-    is ∙ ap (λ r. report_in given sources r found) same ∙ ap (λ fs. report_in given sources refusals fs) told
+    is ∙ ap (λ r. report_in given [] sources r found) same ∙ ap (λ fs. report_in given [] sources refusals fs) told
 
 pub found-as : (lints : List Lint) (defs own : List Def) (found : List Found) → defs ≡ own →
     IsPermutation (findings_in lints (definitions_of defs)) found → IsPermutation (findings_in lints (definitions_of own)) found
@@ -53,14 +54,14 @@ Goes-on file sources found told =
     (more : List Found) → AreTold file (map source_of (drop file sources)) found more → AreTold 0 (map source_of sources) found (told ++ more)
 
 -- one file on
-pub told-file : (file : ℕ) (sources : List source_code.Source) (x : source_code.Source) (found old new : List Found) (allowances : List Allowance) →
-    file < length sources → x ≡ get_or sources file x → AreAllowances (source_of x).text allowances → new ≡ old ++ told_in file allowances found →
+pub told-file : (file : ℕ) (sources : List source_code.Source) (x : source_code.Source) (found old new : List Found) →
+    file < length sources → x ≡ get_or sources file x → AddsTold file (source_of x) found old new →
     Goes-on file sources found old → Goes-on (file + 1) sources found new
-told-file file sources x found old new allowances within is allowing adds so_far more rest =
-    let here : List Found = told_in file allowances found in
+told-file file sources x found old new within is adds so_far more rest =
+    let here : List Found = told_in file adds.0 found in
     let begins : AreTold file (map source_of (drop file sources)) found (here ++ more) =
-    subst (λ ss. AreTold file (map source_of ss) found (here ++ more)) (sym (drop_more sources file x within)) (allowances, more, subst (λ y. AreAllowances (source_of y).text allowances) is allowing, rest, refl) in
-    subst (AreTold 0 (map source_of sources) found) (sym (append_assoc old here more) ∙ ap (λ fs. fs ++ more) (sym adds)) (so_far (here ++ more) begins)
+    subst (λ ss. AreTold file (map source_of ss) found (here ++ more)) (sym (drop_more sources file x within)) (adds.0, more, subst (λ y. AreAllowances (source_of y).text adds.0) is adds.1, rest, refl) in
+    subst (AreTold 0 (map source_of sources) found) (sym (append_assoc old here more) ∙ ap (λ fs. fs ++ more) (sym adds.2)) (so_far (here ++ more) begins)
 
 -- after the last file
 pub told-all : (file : ℕ) (sources : List source_code.Source) (found told : List Found) → length sources ≤ file → Goes-on file sources found told →

@@ -6,13 +6,10 @@ use Rattle.isle_base_source.specs.declared.error.Error.{Error}
 use Rattle.isle_ast.specs.Tree.{Definition}
 use Rattle.isle_lint_core.specs.Finding.{Found}
 use Rattle.isle_lint_core.specs.declared.lint.Lint.{Lint}
-use Rattle.isle_cli.specs.Arguments.{Asked, Given, asked, help_asked, version_asked, work_asked}
-use Rattle.isle_cli.specs.Failure.{IsDiagnostic}
+use Rattle.isle_cli.specs.Arguments.{Asked, Given, help_asked, version_asked, work_asked}
 use Rattle.isle_cli.specs.Sources.{IsReadFrom}
 use Rattle.isle_cli.specs.Streams.{AppendsBeginning}
-use Rattle.isle_cli.specs.Usage.{IsDiagnosticOf}
 use Rattle.isle_cli.specs.declared.failure.Failure.{Failure}
-use Rattle.isle_cli.specs.declared.failure.Failure.TheVariants as failures
 use Rattle.isle_lint.specs.Options.{are_usable, lints_on}
 use Rattle.isle_program.specs.Reading.{IsReading}
 use Rattle.isle_program.specs.SeveralPrograms.{several_programs_note}
@@ -21,8 +18,12 @@ use Rattle.isle_program.specs.reports.Colours.{settled}
 use Rattle.isle_cli.specs.declared.arguments.Options.{Options}
 use Rattle.isle_cli.specs.declared.program.Program.{Program}
 use Rattle.isle_lint.specs.declared.options.TheConstants.{HELP, VERSION}
-use Rattle.isle_lint.specs.Programs.{IsProgramsReport, Part}
-use Rattle.isle_lint.specs.Report.{AreToldIn, ReportNode, report_in}
+use Rattle.isle_lint.specs.Programs.{IsProgramsReport}
+use Rattle.isle_lint.specs.Report.{AreToldIn, report_in}
+use Rattle.isle_program_findings.specs.Calls as calls
+use Rattle.isle_program_findings.specs.Calls.{ExplainsBy}
+use Rattle.isle_program_findings.specs.Programs.{Part}
+use Rattle.isle_program_findings.specs.ReportView.{ReportNode}
 
 -- What is shown is what these lints find in the trees of the texts, each finding once, in order of place, but for what
 -- comments turn off; and which texts spell no tree; and for people how many there are of both. It is known whether any counts.
@@ -33,7 +34,7 @@ pub record IsReport (given : List Given) (lints : List Lint) (sources : List Sou
   pub read : IsReading sources definitions refusals
   pub told : List Found
   pub are_told : AreToldIn lints sources definitions told
-  pub is : report ≡ report_in given sources refusals told
+  pub is : report ≡ report_in given [] sources refusals told
   pub noted : note ≡ several_programs_note sources definitions
 
 abbrev pub is_empty : List ℕ → Bool
@@ -62,50 +63,57 @@ AreAllOptions options =
 
 -- the words ask this of the program
 abbrev pub Ask : List (List ℕ) → Option Asked → Type 0
-Ask words what = (options : Options) × AreOptions options × (asked options words ≡ what)
+Ask words what = calls.Ask AreOptions words what
 
 -- the text that goes with a status past 1
 abbrev pub IsFailureText : ℕ → List ℕ → Type 0
-IsFailureText status text = (program : Program) × IsProgram program × IsDiagnostic program status text
+IsFailureText status text = calls.IsFailureText IsProgram status text
 
 -- the same, where the program is called with these words
 abbrev pub IsFailureTextOf : (words : List (List ℕ)) → (status : ℕ) → (text : List ℕ) → Type 0
-IsFailureTextOf words status text =
-    (program : Program) × (own : Options) × (all : Options) × IsProgram program × AreOptions own × AreAllOptions all
-    × IsDiagnosticOf program own all words status text
+IsFailureTextOf words status text = calls.IsFailureTextOf IsProgram AreOptions AreAllOptions words status text
 
--- What was read of what the arguments name, and what is to be told of it; Holds is said of the lines about what can't be
--- read, of what is told, and of the note.
-pub record Looks (given : List Given) (input input' : Option (List ℕ)) (Holds : (lines : List ℕ) → ReportNode → (note : List ℕ) → Type 0) : Type 0 where
+-- What was read of what the arguments name; Holds is said of the lines about what can't be read, and of the texts.
+pub record Reads (given : List Given) (input input' : Option (List ℕ)) (Holds : (lines : List ℕ) → List Source → Type 0) : Type 0 where
   pub usable : are_usable given ≡ true
   pub program : Program
   pub is_program : IsProgram program
   pub sources : List Source
   pub lines : List ℕ
   pub read : IsReadFrom given program input input' sources lines
+  pub holds : Holds lines sources
+
+-- The report is told, and this is the status; standard error got the lines about what can't be read, and then the note, as
+-- far as it took them.
+pub record Told (given : List Given) (status : ℕ) (output output' faults faults' : Option (List ℕ)) (lines : List ℕ) (sources : List Source) : Type 0 where
   pub report : ReportNode
   pub note : List ℕ
   pub is_report : IsReport given (lints_on given) sources report note
-  pub holds : Holds lines report note
+  pub ends : status ≡ told_status (is_empty lines) report.is_clean
+  pub written : Appends output output' report.text
+  pub begun : AppendsBeginning faults faults' (lines ++ note)
 
--- It is told, and this is the status; standard error got the lines about what can't be read, and then the note, as far as
--- it took them.
 abbrev pub Tells : List Given → ℕ → (input input' output output' faults faults' : Option (List ℕ)) → Type 0
-Tells given status input input' output output' faults faults' =
-    Looks given input input' (λ lines report note. (status ≡ told_status (is_empty lines) report.is_clean) × Appends output output' report.text
-    × AppendsBeginning faults faults' (lines ++ note))
+Tells given status input input' output output' faults faults' = Reads given input input' (Told given status output output' faults faults')
 
--- the output got a beginning of it
+-- the output got a beginning of the report
+pub record IsCut (given : List Given) (output output' : Option (List ℕ)) (lines : List ℕ) (sources : List Source) : Type 0 where
+  pub report : ReportNode
+  pub note : List ℕ
+  pub is_report : IsReport given (lints_on given) sources report note
+  pub begun : AppendsBeginning output output' report.text
+
 abbrev pub Cuts : List Given → (input input' output output' : Option (List ℕ)) → Type 0
-Cuts given input input' output output' = Looks given input input' (λ lines report note. AppendsBeginning output output' report.text)
+Cuts given input input' output output' = Reads given input input' (IsCut given output output')
+
+-- what a failure says of the output, of texts that were read
+abbrev pub ExplainsTexts : Failure → List Given → (output output' : Option (List ℕ)) → (lines : List ℕ) → List Source → Type 0
+ExplainsTexts failure given output output' lines sources = ExplainsBy ⊥ (Keeps output output') (IsCut given output output' lines sources) failure
 
 -- what a failure says of the input and the output
 abbrev pub Explains : Failure → List Given → (input input' output output' : Option (List ℕ)) → Type 0
-Explains (failures.Refused text) given input input' output output' = ⊥
-Explains failures.Usage given input input' output output' = (are_usable given ≡ false) × Keeps input input' × Keeps output output'
-Explains failures.Input given input input' output output' = ⊥
-Explains failures.Memory given input input' output output' = Keeps output output'
-Explains failures.Output given input input' output output' = Cuts given input input' output output'
+Explains failure given input input' output output' =
+    ExplainsBy ((are_usable given ≡ false) × Keeps input input' × Keeps output output') (Keeps output output') (Cuts given input input' output output') failure
 
 -- the words are none of the usage, or name a lint, a format or a choice of colours that there is none of
 abbrev pub IsMisuse : List (List ℕ) → Type 0
@@ -113,7 +121,7 @@ IsMisuse words = Ask words None ⊎ ((given : List Given) × Ask words (Some (wo
 
 -- the words ask something of the program, and P holds of it
 abbrev pub AsAsked : List (List ℕ) → (Asked → Type 0) → Type 0
-AsAsked words P = (what : Asked) × Ask words (Some what) × P what
+AsAsked words P = calls.AsAsked AreOptions words P
 
 -- what is asked for is done, with this status, and with colours if no option says otherwise, or without
 abbrev pub Does : (shows_colours : Bool) → Asked → ℕ → (input input' output output' faults faults' : Option (List ℕ)) → Type 0
@@ -167,15 +175,7 @@ Ends given status output output' = ((status ≡ 2 ⊎ status ≡ 3) × Keeps out
 
 -- what a failure says of the output
 abbrev pub ExplainsReport : Failure → List Given → (output output' : Option (List ℕ)) → Type 0
-ExplainsReport (failures.Refused text) given output output' = ⊥
-ExplainsReport failures.Usage given output output' = Keeps output output'
-ExplainsReport failures.Input given output output' = ⊥
-ExplainsReport failures.Memory given output output' = Keeps output output'
-ExplainsReport failures.Output given output output' = CutsReport given output output'
+ExplainsReport failure given output output' = ExplainsBy (Keeps output output') (Keeps output output') (CutsReport given output output') failure
 
 abbrev pub ExplainsEnd : Failure → List Given → (output output' : Option (List ℕ)) → Type 0
-ExplainsEnd (failures.Refused text) given output output' = ⊥
-ExplainsEnd failures.Usage given output output' = Keeps output output'
-ExplainsEnd failures.Input given output output' = ⊥
-ExplainsEnd failures.Memory given output output' = Keeps output output'
-ExplainsEnd failures.Output given output output' = CutsPrograms given output output'
+ExplainsEnd failure given output output' = ExplainsBy (Keeps output output') (Keeps output output') (CutsPrograms given output output') failure

@@ -1,5 +1,5 @@
 pub mod Options
+pub mod Linted
 pub mod Report
-pub mod ReportView
 pub mod Programs
 pub mod Doing

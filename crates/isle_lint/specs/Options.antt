@@ -1,23 +1,19 @@
 -- Which lints a command line turns on.
 use Rattle.std.specs.Prelude.{ℕ, List, [], ◌∷◌, Bool, false, true, not, ◌&&◌, ◌||◌, Option, None, Some, codes, filter, if◌then◌else◌}
-use Rattle.std.specs.List.{find, list_all, list_any}
+use Rattle.std.specs.List.{find, list_all}
 use Rattle.std.specs.Option.{is_some}
 use Rattle.std.specs.Str.{bytes_eq}
 use Rattle.isle_cli.specs.Arguments.{Given, flag_given, setting_given, name_given, gives_flag}
 use Rattle.isle_lint_core.specs.Lint.{all_lints, is_default, name}
 use Rattle.isle_lint_core.specs.declared.lint.Lint.{Lint}
 use Rattle.isle_program_manifest.specs.Levels.{NameLevel}
+use Rattle.isle_program_findings.specs.Naming.{counts, is_named}
 use Rattle.isle_program.specs.reports.Colours.{is_colour_usable}
 use Rattle.isle_program.specs.reports.Formats.{is_format_usable}
 
--- an option with a value names a lint
-abbrev pub is_naming : List ℕ → Lint → Given → Bool
-is_naming option lint (flag_given _) = false
-is_naming option lint (setting_given o value) = bytes_eq o option && bytes_eq value (name lint)
-is_naming option lint (name_given _) = false
-
+-- an option names a lint
 abbrev pub names_lint : List ℕ → Lint → List Given → Bool
-names_lint option lint given = list_any (is_naming option lint) given
+names_lint option lint given = is_named option (name lint) given
 
 -- an option that enables lints names it
 abbrev pub is_asked_for : List Given → Lint → Bool
@@ -35,16 +31,8 @@ abbrev pub lints_on : List Given → List Lint
 lints_on given = filter (is_on given) all_lints
 
 -- the last of `--warn` and `--deny` that names a lint is `--warn`
-abbrev pub warned_after : Lint → (before : Bool) → Given → Bool
-warned_after lint before given =
-    if is_naming (codes "--warn") lint given then true else if is_naming (codes "--deny") lint given then false else before
-
-abbrev pub warned_from : (before : Bool) → List Given → Lint → Bool
-warned_from before [] lint = before
-warned_from before (given ∷ more) lint = warned_from (warned_after lint before given) more lint
-
 abbrev pub is_warned : List Given → Lint → Bool
-is_warned given lint = warned_from false given lint
+is_warned given lint = not (counts true given (name lint))
 
 -- the options whose values are names of lints
 abbrev pub is_lint_option : List ℕ → Bool

@@ -12,6 +12,7 @@ use Rattle.isle_lint_core.specs.Findings.{findings_in}
 use Rattle.isle_lint_core.specs.declared.finding.Finding.{Finding}
 use Rattle.isle_lint_core.specs.Lint.{message, name}
 use Rattle.isle_lint_core.specs.declared.lint.Lint.{Lint}
+use Rattle.isle_lint.specs.Linted.{Linted, programs_of}
 use Rattle.isle_lint.specs.Options.{is_warned}
 use Rattle.isle_program.specs.Allowances.{Allowance, AreAllowances, is_allowed}
 use Rattle.isle_program.specs.Reading.{refused_count}
@@ -19,6 +20,7 @@ use Rattle.isle_program.specs.reports.Formats.{format_in}
 use Rattle.isle_program.specs.reports.Lines.{told_line}
 use Rattle.isle_program.specs.reports.Messages.{MessageNode}
 use Rattle.isle_program.specs.reports.Refusals.{told_count, told_refusal_of}
+use Rattle.isle_program_findings.specs.ReportView.{ReportNode}
 use Rattle.isle_program.specs.declared.reports.format.Format.{Format}
 use Rattle.isle_program.specs.declared.reports.message.Severity.TheVariants.{Warning}
 
@@ -37,10 +39,6 @@ are_warned given found = list_all (λ f. is_warned given f.lint) found
 abbrev pub is_clean : List Given → List (Option Error) → List Found → Bool
 is_clean given refusals found = (refused_count refusals == 0) && are_warned given found
 
-pub record ReportNode : Type 0 where
-  pub text : List ℕ
-  pub is_clean : Bool
-
 -- a finding, where it counts
 abbrev pub kept_if : Bool → Found → List Found
 kept_if counts f = if counts then f ∷ [] else []
@@ -51,6 +49,11 @@ AreTold file [] found told = told ≡ []
 AreTold file (source ∷ sources) found told =
     (allowances : List Allowance) × (more : List Found) × AreAllowances source.text allowances × AreTold (file + 1) sources found more
     × (told ≡ told_in file allowances found ++ more)
+
+-- what was told grows by what is told of the findings in one file
+abbrev pub AddsTold : (file : ℕ) → Source → (found old new : List Found) → Type 0
+AddsTold file source found old new =
+    (allowances : List Allowance) × AreAllowances source.text allowances × (new ≡ old ++ told_in file allowances found)
 
 -- These are told of texts with these definitions: what the lints find in the definitions, each finding once, in order of
 -- place, but for what comments turn off.
@@ -70,22 +73,31 @@ finding_message programs f = record { severity = Warning; kind = name f.lint; te
 abbrev pub finding_line : Format → (programs : List ℕ) → Source → Found → List ℕ
 finding_line format programs source f = told_line format source f.pos.offset (finding_message programs f)
 
+-- the line of a finding, with the names of the programs that have it, where another one has its file
+abbrev pub tagged_line : Format → List Linted → Source → Found → List ℕ
+tagged_line format linted source f = finding_line format (programs_of f linted) source f
+
+-- the lines of the findings in the file of this number
+abbrev pub tagged_lines : Format → List Linted → ℕ → Source → List Found → List ℕ
+tagged_lines format linted file source found = flat_map (tagged_line format linted source) (filter (λ f. f.pos.file == file) found)
+
 -- the lines of the file of this number
-abbrev pub source_text : Format → ℕ → Source → List (Option Error) → List Found → List ℕ
-source_text format file source refusals found =
-    told_refusal_of format source (slice_get refusals file) ++ flat_map (finding_line format [] source) (filter (λ f. f.pos.file == file) found)
+abbrev pub source_text : Format → List Linted → ℕ → Source → List (Option Error) → List Found → List ℕ
+source_text format linted file source refusals found =
+    told_refusal_of format source (slice_get refusals file) ++ tagged_lines format linted file source found
 
 -- those of the files from this number on
-abbrev pub sources_text : Format → ℕ → List Source → List (Option Error) → List Found → List ℕ
-sources_text format file [] refusals found = []
-sources_text format file (source ∷ sources) refusals found =
-    source_text format file source refusals found ++ sources_text format (file + 1) sources refusals found
+abbrev pub sources_text : Format → List Linted → ℕ → List Source → List (Option Error) → List Found → List ℕ
+sources_text format linted file [] refusals found = []
+sources_text format linted file (source ∷ sources) refusals found =
+    source_text format linted file source refusals found ++ sources_text format linted (file + 1) sources refusals found
 
 -- all lines, and for people how many there are
-abbrev pub report_text : Format → List Source → List (Option Error) → List Found → List ℕ
-report_text format sources refusals found =
-    sources_text format 0 sources refusals found ++ told_count format (refused_count refusals) (length found)
+abbrev pub report_text : Format → List Linted → List Source → List (Option Error) → List Found → List ℕ
+report_text format linted sources refusals found =
+    sources_text format linted 0 sources refusals found ++ told_count format (refused_count refusals) (length found)
 
-abbrev pub report_in : List Given → List Source → List (Option Error) → List Found → ReportNode
-report_in given sources refusals found =
-    record { text = report_text (format_in given) sources refusals found; is_clean = is_clean given refusals found }
+-- the report on these findings; it names no programs where none are linted apart
+abbrev pub report_in : List Given → List Linted → List Source → List (Option Error) → List Found → ReportNode
+report_in given linted sources refusals found =
+    record { text = report_text (format_in given) linted sources refusals found; is_clean = is_clean given refusals found }

@@ -1,6 +1,7 @@
 //! `isle-lint [OPTION ..] [FILE ..]`: lints ISLE source.
 #![tactic(auto)]
 
+mod linted;
 mod manifests;
 mod options;
 mod program;

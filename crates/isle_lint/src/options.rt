@@ -6,8 +6,8 @@ ghost use Rattle.std.specs.Option.{option_copied};
 ghost use Rattle.isle_cli.specs.Arguments.{given_of};
 ghost use Rattle.isle_cli.specs.declared.failure.Failure.TheVariants.{Memory, Usage};
 ghost use Rattle.isle_lint.specs.Options.{are_usable, is_asked_for, is_lint_option};
-ghost use Rattle.isle_lint.specs.Options.{is_lint_usable, is_naming, is_on, is_usable, is_warned};
-ghost use Rattle.isle_lint.specs.Options.{lints_on, names_lint, unknown_lint, warned_after};
+ghost use Rattle.isle_lint.specs.Options.{is_lint_usable, is_on, is_usable, is_warned, lints_on};
+ghost use Rattle.isle_lint.specs.Options.{names_lint, unknown_lint};
 ghost use Rattle.isle_program_manifest.specs.Levels.{name_level_of};
 
 use isle_cli::arguments::{Argument, has_flag};
@@ -16,6 +16,7 @@ use isle_cli::version;
 use isle_lint_core::Lint;
 use isle_program::reports::colours::is_colour_usable;
 use isle_program::reports::format::is_format_usable;
+use isle_program_findings::naming::{counts, is_named};
 use isle_program_manifest::levels::NameLevel;
 use std::alloc::{AllocError, Global};
 
@@ -187,51 +188,17 @@ fn is_asked_for(arguments: &[Argument], lint: Lint) -> bool
         || names_lint(arguments, "--deny", lint)
 }
 
+/// Returns whether some argument is this option with this lint.
+fn names_lint(arguments: &[Argument], option: &str, lint: Lint) -> bool
+    ensures { result ≡ names_lint option.now lint (map given_of arguments.now) }
+{
+    is_named(arguments, option, lint.name())
+}
+
 /// Returns whether the findings of a lint leave the exit status at 0: of `--warn` and `--deny`, the
 /// last one that names it is `--warn`.
 pub fn is_warned(arguments: &[Argument], lint: Lint) -> bool
     ensures { result ≡ is_warned (map given_of arguments.now) lint }
 {
-    let mut is_warned = false;
-    for argument in arguments {
-        is_warned = warned_after(argument, lint, is_warned);
-    }
-    is_warned
-}
-
-/// Returns whether a lint is warned of after an argument, if it is before it, or not.
-fn warned_after(argument: &Argument, lint: Lint, before: bool) -> bool
-    ensures { result ≡ warned_after lint before (given_of argument.now) }
-{
-    if is_naming(argument, "--warn", lint) {
-        return true;
-    }
-    if is_naming(argument, "--deny", lint) {
-        return false;
-    }
-    before
-}
-
-/// Returns whether some argument is this option with this lint.
-fn names_lint(arguments: &[Argument], option: &str, lint: Lint) -> bool
-    ensures { result ≡ names_lint option.now lint (map given_of arguments.now) }
-{
-    for argument in arguments {
-        if is_naming(argument, option, lint) {
-            return true;
-        }
-    }
-    false
-}
-
-/// Returns whether an argument is this option with this lint.
-fn is_naming(argument: &Argument, option: &str, lint: Lint) -> bool
-    ensures { result ≡ is_naming option.now lint (given_of argument.now) }
-{
-    match argument {
-        Argument::Setting(given, value) => {
-            given.as_str() == option && value.as_str() == lint.name()
-        }
-        Argument::Flag(_) | Argument::Name(_) => false,
-    }
+    !counts(arguments, lint.name(), true)
 }

@@ -5,24 +5,27 @@ ghost use Rattle.std.specs.Prelude.{string_bytes};
 ghost use Rattle.std.specs.Io.KnownBytes.{Keeps};
 ghost use Rattle.isle_cli.specs.Arguments.{given_of};
 ghost use Rattle.isle_cli.specs.Streams.{WritesBeginning};
-ghost use Rattle.isle_lint.specs.Doing.{AsAsked, Cuts, CutsAsked, Does, Explains};
-ghost use Rattle.isle_lint.specs.Doing.{IsFailureText, IsFailureTextOf, IsMisuse, Tells};
+ghost use Rattle.isle_cli.specs.Sources.{source_of};
+ghost use Rattle.isle_lint.specs.Doing.{AsAsked, Cuts, CutsAsked, Does, Explains, ExplainsTexts};
+ghost use Rattle.isle_lint.specs.Doing.{IsFailureText, IsFailureTextOf, IsMisuse, Tells, Told};
 ghost use Rattle.isle_lint.specs.Doing.{told_status};
-ghost use Rattle.isle_lint.specs.Options.{are_usable};
+ghost use Rattle.isle_lint.specs.Options.{are_usable, lints_on};
 ghost use Rattle.isle_program.specs.SeveralPrograms.{IsNote};
 ghost use Rattle.isle_program.specs.reports.Colours.{settled};
 
 use crate::manifests;
 use crate::options::{HELP, VERSION, lints_of};
 use crate::report::report_on;
-use isle_cli::arguments::{Argument, EXCLUDE_OPTION, Options, Request, requested};
+use isle_cli::arguments::{Argument, EXCLUDE_OPTION, Options};
 use isle_cli::failure::Failure;
-use isle_cli::program::{Program, put, report, tell};
-use isle_cli::sources::read_sources;
-use isle_cli::streams::{Streams, write_whole};
-use isle_cli::usage::report_words;
+use isle_cli::program::{Program, report};
+use isle_cli::sources::{Sources, read_sources};
+use isle_cli::streams::Streams;
+use isle_lint_core::Lint;
 use isle_program::reports::colours::{COLOUR_OPTION, settle};
 use isle_program::reports::format::FORMAT_OPTION;
+use isle_program_findings::calls::{requested_work, tell_aside};
+use isle_program_findings::report::write_report;
 use std::alloc::{AllocError, Global};
 use std::fs::Files;
 use std::io::{Read, Write};
@@ -106,30 +109,15 @@ pub fn run<R: Files + AllocGlobal + Clone + Drop, I: Read, W: Write, E: Write>(
         (E.contents streams.new.faults) (IsFailureTextOf (map string_bytes words.now) result) }
     ensures statuses { result ≤ 5 }
 {
-    match requested(rt.alloc(), &OPTIONS, words) {
-        Ok(Request::Help) => {
-            tell(
-                &PROGRAM,
-                PROGRAM.help,
-                &mut streams.output,
-                &mut streams.faults,
-            )
-        }
-        Ok(Request::Version) => {
-            tell(
-                &PROGRAM,
-                PROGRAM.version,
-                &mut streams.output,
-                &mut streams.faults,
-            )
-        }
-        Ok(Request::Work(arguments)) => work(rt, arguments, shows_colours, streams),
-        Err(failure) => {
-            report_words(
+    match requested_work(rt.alloc(), &OPTIONS, words) {
+        Ok(arguments) => work(rt, arguments, shows_colours, streams),
+        Err(aside) => {
+            tell_aside(
                 &PROGRAM,
                 &manifests::OPTIONS,
                 words,
-                &failure,
+                &aside,
+                &mut streams.output,
                 &mut streams.faults,
             )
         }
@@ -163,39 +151,40 @@ fn work<R: Files + AllocGlobal + Clone + Drop, I: Read, W: Write, E: Write>(
     ensures told { 2 ≤ result → result ≢ 3 → WritesBeginning (E.contents streams.old.faults)
         (E.contents streams.new.faults) (IsFailureText result) }
 {
-    match lint(rt, arguments, shows_colours, streams) {
+    let mut arguments = arguments;
+    match lint(rt, &mut arguments, shows_colours, streams) {
         Ok(status) => status,
         Err(failure) => report(&PROGRAM, &failure, &mut streams.faults),
     }
 }
 
-/// Lints the files that the arguments name, and returns the exit status.
+/// Lints the files that the arguments name, and returns the exit status. Colours are settled among
+/// the arguments.
 fn lint<R: Files + AllocGlobal + Clone + Drop, I: Read, W: Write, E: Write>(
     rt: &R,
-    arguments: Vec<Argument>,
+    arguments: &mut Vec<Argument>,
     shows_colours: bool,
     streams: &mut Streams<I, W, E>,
 ) -> Result<u8, Failure>
     ensures ok { IfOk result (λ status. Tells
-        (settled shows_colours (map given_of arguments.items)) status
+        (settled shows_colours (map given_of arguments.old.items)) status
         (I.remaining streams.old.input) (I.remaining streams.new.input)
         (W.contents streams.old.output) (W.contents streams.new.output)
         (E.contents streams.old.faults) (E.contents streams.new.faults)) }
     ensures err { IfErr result (λ failure. Explains failure
-        (settled shows_colours (map given_of arguments.items))
+        (settled shows_colours (map given_of arguments.old.items))
         (I.remaining streams.old.input) (I.remaining streams.new.input)
         (W.contents streams.old.output) (W.contents streams.new.output)) }
     ensures quiet { MatchResult result
         (λ status. (status ≤ 3) × (status ≢ 2))
         (λ _. Keeps (E.contents streams.old.faults) (E.contents streams.new.faults)) }
 {
-    let mut arguments = arguments;
-    settle(rt.alloc(), shows_colours, &mut arguments)?;
-    lint_settled(rt, &arguments, streams)
+    settle(rt.alloc(), shows_colours, arguments)?;
+    lint_files(rt, arguments, streams)
 }
 
-/// Lints the files that the arguments name, and returns the exit status. Colours are settled.
-fn lint_settled<R: Files + AllocGlobal + Clone + Drop, I: Read, W: Write, E: Write>(
+/// Lints the files that the arguments name, and returns the exit status.
+fn lint_files<R: Files + AllocGlobal + Clone + Drop, I: Read, W: Write, E: Write>(
     rt: &R,
     arguments: &[Argument],
     streams: &mut Streams<I, W, E>,
@@ -213,14 +202,43 @@ fn lint_settled<R: Files + AllocGlobal + Clone + Drop, I: Read, W: Write, E: Wri
 {
     let lints = lints_of(rt.alloc(), arguments)?;
     let sources = read_sources(rt, &PROGRAM, arguments, &mut streams.input)?;
-    let told = report_on(rt.alloc(), arguments, &sources.list, &lints)?;
-    let lines = with_note(rt.alloc(), sources.faults.as_str(), told.note.as_str())?;
-    match put(&mut streams.output, told.report.text.as_str()) {
-        Ok(()) => {}
-        Err(_) => return Err(Failure::Output),
+    lint_texts(
+        rt.alloc(),
+        arguments,
+        &lints,
+        &sources,
+        &mut streams.output,
+        &mut streams.faults,
+    )
+}
+
+/// Lints texts, with the lints that the arguments enable, and returns the exit status.
+fn lint_texts<W: Write, E: Write>(
+    alloc: Global,
+    arguments: &[Argument],
+    lints: &[Lint],
+    sources: &Sources,
+    output: &mut W,
+    faults: &mut E,
+) -> Result<u8, Failure>
+    requires { lints.now ≡ lints_on (map given_of arguments.now) }
+    ensures ok { IfOk result (λ status. Told (map given_of arguments.now) status
+        (W.contents output.old) (W.contents output.new)
+        (E.contents faults.old) (E.contents faults.new)
+        (string_bytes sources.now.faults) (map source_of sources.now.list.items)) }
+    ensures err { IfErr result (λ failure. ExplainsTexts failure (map given_of arguments.now)
+        (W.contents output.old) (W.contents output.new)
+        (string_bytes sources.now.faults) (map source_of sources.now.list.items)) }
+    ensures quiet { MatchResult result
+        (λ status. (status ≤ 3) × (status ≢ 2))
+        (λ _. Keeps (E.contents faults.old) (E.contents faults.new)) }
+{
+    let told = report_on(alloc, arguments, &sources.list, lints)?;
+    let lines = with_note(alloc, sources.faults.as_str(), told.note.as_str())?;
+    match write_report(told.report.text.as_str(), lines.as_str(), output, faults) {
+        Ok(()) => Ok(status_of(sources.faults.is_empty(), told.report.is_clean)),
+        Err(failure) => Err(failure),
     }
-    let _ = write_whole(&mut streams.faults, lines.as_bytes());
-    Ok(status_of(sources.faults.is_empty(), told.report.is_clean))
 }
 
 /// The lines about what can't be read, and the note behind them.

@@ -9,12 +9,15 @@ ghost use Rattle.isle_cli.specs.Sources.{source_of};
 ghost use Rattle.isle_cli.specs.declared.failure.Failure.TheVariants.{Memory};
 ghost use Rattle.isle_lint_core.specs.Finding.{finding_of};
 ghost use Rattle.isle_lint.specs.Doing.{IsReport};
-ghost use Rattle.isle_lint.specs.Report.{AreTold, AreToldIn, finding_line, is_told, kept_if};
-ghost use Rattle.isle_lint.specs.Report.{are_warned, is_clean, message_text, report_in};
-ghost use Rattle.isle_lint.specs.Report.{report_text, source_text, sources_text, told_in};
-ghost use Rattle.isle_lint.specs.ReportView.{report_of};
+ghost use Rattle.isle_lint.specs.Linted.{linted_of};
+ghost use Rattle.isle_lint.specs.Report.{AddsTold, AreTold, AreToldIn, are_warned, finding_line};
+ghost use Rattle.isle_lint.specs.Report.{is_clean, is_told, kept_if, message_text, report_in};
+ghost use Rattle.isle_lint.specs.Report.{report_text, source_text, sources_text, tagged_line};
+ghost use Rattle.isle_lint.specs.Report.{tagged_lines, told_in};
 ghost use Rattle.isle_program.specs.Reading.{IsReading};
+ghost use Rattle.isle_program_findings.specs.ReportView.{report_of};
 
+use crate::linted::{Linted, programs_of};
 use crate::options::is_warned;
 use isle_base_source::error::Error;
 use isle_base_source::files::LineMap;
@@ -26,30 +29,14 @@ use isle_program::allowances::Allowances;
 use isle_program::reports::format::{Format, format_of};
 use isle_program::reports::lines::told_line;
 use isle_program::reports::message::{Message, Severity};
-use isle_program::reports::refusals::{told_count, told_refusal};
-use isle_program::several_programs::several_programs_note;
+use isle_program::reports::refusals::told_refusal_of;
 use isle_program::trees::{Reading, drop_reading, read_all, refused_count};
+use isle_program_findings::report::{NotedReport, Report, add_count, noted};
 use std::alloc::{AllocError, Global};
 
-/// A report.
-#[derive(Drop)]
-pub struct Report {
-    /// The lines, and for people one that counts them. It is empty if there are none.
-    pub text: String,
-    /// Whether each text parses, and `--warn` names the lint of each finding.
-    pub is_clean: bool,
-}
-
-/// A report on texts that are taken for one program.
-#[derive(Drop)]
-pub struct NotedReport {
-    pub report: Report,
-    /// The note that they look like several programs; empty if they do not.
-    pub note: String,
-}
-
 /// The report of these lints on a program: a line for each finding and for each text that does not
-/// parse, in order of file and position, and for people a line that counts them.
+/// parse, in order of file and position, and for people a line that counts them. It is clean if
+/// each text parses, and `--warn` names the lint of each finding.
 pub fn report_on(
     alloc: Global,
     arguments: &[Argument],
@@ -80,9 +67,8 @@ fn report_on_reading(
         (map source_of sources.now) (report_of noted.report) (string_bytes noted.note)) }
 {
     let told = told_in_reading(alloc, sources, lints, reading)?;
-    let report = whole_report(alloc, arguments, sources, &reading.refusals, &told)?;
-    let note = several_programs_note(alloc, sources, &reading.defs)?;
-    Ok(NotedReport { report, note })
+    let report = report_in(alloc, arguments, sources, &[], &reading.refusals, &told)?;
+    noted(alloc, sources, reading, report)
 }
 
 /// The findings of these lints in a program that is parsed, but for what comments disable, in order
@@ -101,19 +87,23 @@ pub fn told_in_reading<'a>(
     Ok(told)
 }
 
-/// The report of these parse errors and findings.
-fn whole_report(
+/// The report of these parse errors and findings. `linted` are the programs, if each is linted by
+/// itself.
+pub fn report_in(
     alloc: Global,
     arguments: &[Argument],
     sources: &[Source],
+    linted: &[Linted],
     refusals: &[Option<Error>],
-    told: &[Finding],
+    found: &[Finding],
 ) -> Result<Report, AllocError>
     ensures { IfOk result (λ report. report_of report ≡ report_in (map given_of arguments.now)
-        (map source_of sources.now) refusals.now (map finding_of told.now)) }
+        (map linted_of linted.now) (map source_of sources.now) refusals.now
+        (map finding_of found.now)) }
 {
-    let text = report_text(alloc, format_of(arguments), sources, refusals, told)?;
-    let is_clean = is_clean(arguments, refusals, told);
+    let format = format_of(arguments);
+    let text = report_text(alloc, format, sources, linted, refusals, found)?;
+    let is_clean = is_clean(arguments, refusals, found);
     Ok(Report { text, is_clean })
 }
 
@@ -122,20 +112,28 @@ fn report_text(
     alloc: Global,
     format: Format,
     sources: &[Source],
+    linted: &[Linted],
     refusals: &[Option<Error>],
-    told: &[Finding],
+    found: &[Finding],
 ) -> Result<String, AllocError>
-    ensures { IfOk result (λ text. string_bytes text
-        ≡ report_text format (map source_of sources.now) refusals.now (map finding_of told.now)) }
+    ensures { IfOk result (λ text. string_bytes text ≡ report_text format
+        (map linted_of linted.now) (map source_of sources.now) refusals.now
+        (map finding_of found.now)) }
 {
-    let mut report = sources_text(alloc, format, sources, refusals, told)?;
-    let count = told_count(alloc, format, refused_count(refusals), told.len())?;
-    report.push_str(count.as_str())?;
-    Ok(report)
+    let mut text = String::new(alloc);
+    add_sources(alloc, format, sources, linted, refusals, found, &mut text)?;
+    add_count(
+        alloc,
+        format,
+        refused_count(refusals),
+        found.len(),
+        &mut text,
+    )?;
+    Ok(text)
 }
 
 /// Returns whether each text parses, and `--warn` names the lint of each finding.
-pub fn is_clean(arguments: &[Argument], refusals: &[Option<Error>], told: &[Finding]) -> bool
+fn is_clean(arguments: &[Argument], refusals: &[Option<Error>], told: &[Finding]) -> bool
     ensures { result
         ≡ is_clean (map given_of arguments.now) refusals.now (map finding_of told.now) }
 {
@@ -165,10 +163,25 @@ fn told<'a>(
 {
     let mut told = Vec::new(alloc);
     for (file, source) in sources.iter().enumerate() {
-        let allowances = Allowances::of(alloc, source.text.as_str())?;
-        add_told(file, &allowances, found, &mut told)?;
+        add_told_in(alloc, file, source, found, &mut told)?;
     }
     Ok(told)
+}
+
+/// Adds the findings in the file with this number that no comment of its text disables.
+fn add_told_in<'a>(
+    alloc: Global,
+    file: usize,
+    source: &Source,
+    found: &[Finding<'a>],
+    told: &mut Vec<Finding<'a>>,
+) -> Result<(), AllocError>
+    ensures { OnOk result (AddsTold file (source_of source.now) (map finding_of found.now)
+        (map finding_of told.old.items) (map finding_of told.new.items)) }
+{
+    let allowances = Allowances::of(alloc, source.text.as_str())?;
+    add_told(file, &allowances, found, told)?;
+    Ok(())
 }
 
 /// Adds the findings in the file with this number that no comment disables.
@@ -210,54 +223,90 @@ fn is_told(file: usize, allowances: &Allowances, finding: &Finding) -> bool
     finding.pos.file == file && !allowances.allow(finding)
 }
 
-/// The lines of the parse errors and of the findings.
-fn sources_text(
+/// Adds the lines of the parse errors and of the findings.
+fn add_sources(
     alloc: Global,
     format: Format,
     sources: &[Source],
+    linted: &[Linted],
     refusals: &[Option<Error>],
-    told: &[Finding],
-) -> Result<String, AllocError>
-    ensures { IfOk result (λ text. string_bytes text
-        ≡ sources_text format 0 (map source_of sources.now) refusals.now
-        (map finding_of told.now)) }
+    found: &[Finding],
+    text: &mut String,
+) -> Result<(), AllocError>
+    ensures { OnOk result (string_bytes text.new ≡ string_bytes text.old
+        ++ sources_text format (map linted_of linted.now) 0 (map source_of sources.now)
+        refusals.now (map finding_of found.now)) }
 {
-    let mut report = String::new(alloc);
     for (file, source) in sources.iter().enumerate() {
-        let text = source_text(alloc, format, file, source, refusals, told)?;
-        report.push_str(text.as_str())?;
+        add_source(alloc, format, linted, file, source, refusals, found, text)?;
     }
-    Ok(report)
+    Ok(())
 }
 
-/// The lines of the file with this number.
-fn source_text(
+/// Adds the lines of the file with this number.
+fn add_source(
     alloc: Global,
     format: Format,
+    linted: &[Linted],
     file: usize,
     source: &Source,
     refusals: &[Option<Error>],
-    told: &[Finding],
-) -> Result<String, AllocError>
-    ensures { IfOk result (λ text. string_bytes text
-        ≡ source_text format file (source_of source.now) refusals.now (map finding_of told.now)) }
+    found: &[Finding],
+    text: &mut String,
+) -> Result<(), AllocError>
+    ensures { OnOk result (string_bytes text.new ≡ string_bytes text.old
+        ++ source_text format (map linted_of linted.now) file (source_of source.now)
+        refusals.now (map finding_of found.now)) }
+{
+    let refusal = told_refusal_of(alloc, format, source, file, refusals)?;
+    text.push_str(refusal.as_str())?;
+    add_findings(alloc, format, linted, file, source, found, text)
+}
+
+/// Adds the lines of the findings in the file with this number.
+fn add_findings(
+    alloc: Global,
+    format: Format,
+    linted: &[Linted],
+    file: usize,
+    source: &Source,
+    found: &[Finding],
+    text: &mut String,
+) -> Result<(), AllocError>
+    ensures { OnOk result (string_bytes text.new ≡ string_bytes text.old
+        ++ tagged_lines format (map linted_of linted.now) file (source_of source.now)
+        (map finding_of found.now)) }
 {
     let lines = LineMap::from_str(alloc, source.text.as_str())?;
-    let mut report = match refusals.get(file) {
-        Some(Some(error)) => told_refusal(alloc, format, source, &lines, error)?,
-        _ => String::new(alloc),
-    };
-    for finding in told {
+    for finding in found {
         if finding.pos.file == file {
-            let line = finding_line(alloc, format, source, &lines, finding, "")?;
-            report.push_str(line.as_str())?;
+            add_finding(alloc, format, linted, source, &lines, finding, text)?;
         }
     }
-    Ok(report)
+    Ok(())
+}
+
+/// Adds the line of a finding. `lines` are the text's.
+fn add_finding(
+    alloc: Global,
+    format: Format,
+    linted: &[Linted],
+    source: &Source,
+    lines: &LineMap,
+    finding: &Finding,
+    text: &mut String,
+) -> Result<(), AllocError>
+    requires { lines.now ≡ line_ends (string_bytes source.now.text) }
+    ensures { OnOk result (string_bytes text.new ≡ string_bytes text.old ++ tagged_line format
+        (map linted_of linted.now) (source_of source.now) (finding_of finding.now)) }
+{
+    let programs = programs_of(alloc, linted, finding)?;
+    let line = finding_line(alloc, format, source, lines, finding, programs.as_str())?;
+    text.push_str(line.as_str())
 }
 
 /// The line of a finding, which is told of these programs.
-pub fn finding_line(
+fn finding_line(
     alloc: Global,
     format: Format,
     source: &Source,

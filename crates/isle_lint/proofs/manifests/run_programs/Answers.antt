@@ -1,7 +1,10 @@
 use Rattle.std.proofs.Common.{map}
+use Rattle.std.specs.Io.KnownBytes.{Keeps}
 use Rattle.isle_cli.specs.Arguments.{given_of}
 use Rattle.isle_program.specs.reports.Colours.{settled}
-use Rattle.isle_lint.proofs.EndLemmas.{ends-cut, ends-done, ends-statuses, ends-unread, ends-unwritten, failed-cut, failed-low, failed-statuses, failed-three, failed-unwritten}
+use Rattle.isle_lint.proofs.EndLemmas.{ends-cut, ends-done, ends-statuses, ends-unread, ends-unwritten}
+use Rattle.isle_lint.specs.Doing.{CutsPrograms}
+use Rattle.isle_program_findings.proofs.CallLemmas.{fails-cut, fails-not-three, fails-past-one, fails-statuses, fails-unwritten}
 use Rattle.isle_lint.proofs.manifests.run_programs.Goals as goal
 
 pub returns-in-Ok : goal.returns-in-Ok
@@ -17,17 +20,19 @@ returns-in-Ok g c =
       cut = ends-cut given before after c.in-Ok.status c.in-Ok.ensures.ok;
     }
 
-pub returns-in-Err : goal.returns-in-Err
-returns-in-Err g c =
+pub returns : goal.returns
+returns g c =
     let given = settled c.args.shows_colours (map given_of c.args.arguments.items) in
     let before = g.W.Write.contents c.args.streams.now.output in
     let after = g.W.Write.contents c.lint_programs.new.streams.output in
+    let kept = Keeps before after in
+    let cut = CutsPrograms given before after in
     let why = c.in-Err.ensures.err in
     let is = c.report.ensures.status in
     record {
-      statuses = failed-statuses given before after c.in-Err.failure c.report.result why is;
-      done = λ low. absurd (failed-low given before after c.in-Err.failure c.report.result why is low);
-      unread = λ three. absurd (failed-three given before after c.in-Err.failure c.report.result why is three);
-      unwritten = failed-unwritten given before after c.in-Err.failure c.report.result why is;
-      cut = failed-cut given before after c.in-Err.failure c.report.result why is;
+      statuses = fails-statuses kept kept cut c.in-Err.failure c.report.result why is;
+      done = λ low. absurd (fails-past-one kept kept cut c.in-Err.failure c.report.result why is low);
+      unread = λ three. absurd (fails-not-three kept kept cut c.in-Err.failure c.report.result why is three);
+      unwritten = fails-unwritten kept cut c.in-Err.failure c.report.result why is;
+      cut = fails-cut kept kept cut c.in-Err.failure c.report.result why is;
     }

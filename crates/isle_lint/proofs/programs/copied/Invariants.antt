@@ -1,7 +1,7 @@
 -- The findings so far, and then the others, are all.
 use Rattle.std.proofs.Common.{◌≡◌, ◌++◌, drop, map}
 use Rattle.isle_lint_core.specs.Finding.{finding_of}
-use Rattle.isle_lint.specs.Programs.{found_of}
+use Rattle.isle_lint.specs.Linted.{found_of}
 use Rattle.isle_lint.proofs.programs.copied.Given as goal
 
 abbrev pub invariant-loop-finding : goal.invariant-loop-finding

@@ -1,7 +1,7 @@
 -- No finding so far is this one.
 use Rattle.std.proofs.Common.{◌≡◌, drop, map}
 use Rattle.isle_lint_core.specs.Finding.{finding_of}
-use Rattle.isle_lint.specs.Programs.{is_among}
+use Rattle.isle_lint.specs.Linted.{is_among}
 use Rattle.isle_lint.proofs.programs.is_among.Given as goal
 
 abbrev pub invariant-loop-other : goal.invariant-loop-other

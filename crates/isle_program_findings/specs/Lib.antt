@@ -1,0 +1,4 @@
+pub mod Calls
+pub mod Naming
+pub mod Programs
+pub mod ReportView
