@@ -147,12 +147,8 @@ pub fn expression_value<'a>(
 {
     match expr {
         TypedExpression::Var { variable, .. } => variable_value(alloc, known, *variable),
-        TypedExpression::Bool { val, ty } => {
-            plain(alloc, begin(alloc, Step::Bool(*val, ty.as_str()))?)
-        }
-        TypedExpression::Int { val, ty } => {
-            plain(alloc, begin(alloc, Step::Int(*val, ty.as_str()))?)
-        }
+        TypedExpression::Bool { val } => plain(alloc, begin(alloc, Step::Bool(*val, "bool"))?),
+        TypedExpression::Int { val, ty } => plain(alloc, begin(alloc, Step::Int(*val, ty))?),
         TypedExpression::Const { name, .. } => {
             plain(alloc, begin(alloc, Step::Const(name.as_str()))?)
         }

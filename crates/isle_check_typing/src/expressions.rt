@@ -5,6 +5,7 @@ mod expressions;
 mod flags;
 pub mod laws;
 mod leaves;
+mod names;
 mod typed;
 mod uses;
 

@@ -35,16 +35,16 @@ use std::alloc::{AllocError, Global};
 /// conversions are written out. `Memory` means out of memory. After both nothing is known of
 /// `progress`.
 #[cycle(pattern)]
-pub fn type_pattern(
+pub fn type_pattern<'e>(
     alloc: Global,
     depth: usize,
-    env: &Environment,
+    env: &'e Environment,
     pattern: &Pattern,
-    ty: &String,
-    progress: &mut Progress,
-) -> Result<Option<TypedPattern>, Refusal>
+    ty: &'e str,
+    progress: &mut Progress<'e>,
+) -> Result<Option<TypedPattern<'e>>, Refusal>
     ensures { GivesTyping typed_of result progress.new
-        (type_at depth (environment_of env.now) (pattern_of pattern.now) (string_bytes ty.now)
+        (type_at depth (environment_of env.now) (pattern_of pattern.now) ty.now
         (progress_of progress.old)) }
 {
     if depth == 0 {
@@ -54,17 +54,17 @@ pub fn type_pattern(
 }
 
 #[cycle(pattern)]
-fn type_step(
+fn type_step<'e>(
     alloc: Global,
     depth: usize,
-    env: &Environment,
+    env: &'e Environment,
     pattern: &Pattern,
-    ty: &String,
-    progress: &mut Progress,
-) -> Result<Option<TypedPattern>, Refusal>
+    ty: &'e str,
+    progress: &mut Progress<'e>,
+) -> Result<Option<TypedPattern<'e>>, Refusal>
     ensures { GivesTyping typed_of result progress.new
         (step (type_at depth (environment_of env.now)) (environment_of env.now)
-        (pattern_of pattern.now) (string_bytes ty.now) (progress_of progress.old)) }
+        (pattern_of pattern.now) ty.now (progress_of progress.old)) }
 {
     match pattern {
         Pattern::Var { var, pos } => Ok(Some(type_variable(alloc, var, *pos, ty, progress)?)),
@@ -75,12 +75,14 @@ fn type_step(
             }
         }
         Pattern::ConstBool { val, pos } => Ok(Some(type_bool(alloc, *val, *pos, ty, progress)?)),
-        Pattern::ConstInt { val, pos } => Ok(Some(type_integer(env, *val, *pos, ty, progress)?)),
-        Pattern::ConstPrim { val, pos } => Ok(type_constant(env, val, *pos, ty, progress)?),
+        Pattern::ConstInt { val, pos } => Ok(Some(type_integer(
+            alloc, env, *val, *pos, ty, progress,
+        )?)),
+        Pattern::ConstPrim { val, pos } => Ok(type_constant(alloc, env, val, *pos, ty, progress)?),
         Pattern::Term { sym, args, pos } => {
             type_term(alloc, depth, env, pattern, sym, args, *pos, ty, progress)
         }
-        Pattern::Wildcard { .. } => Ok(Some(TypedPattern::Wildcard { ty: ty.clone()? })),
+        Pattern::Wildcard { .. } => Ok(Some(TypedPattern::Wildcard { ty })),
         Pattern::And { subpats, .. } => type_and(alloc, depth, env, subpats, ty, progress),
         Pattern::MacroArg { pos, .. } => {
             tell(progress, Kind::MacroArgument, *pos)?;
@@ -90,44 +92,41 @@ fn type_step(
 }
 
 #[cycle(pattern)]
-fn type_and(
+fn type_and<'e>(
     alloc: Global,
     depth: usize,
-    env: &Environment,
+    env: &'e Environment,
     subpats: &Vec<Pattern>,
-    ty: &String,
-    progress: &mut Progress,
-) -> Result<Option<TypedPattern>, Refusal>
+    ty: &'e str,
+    progress: &mut Progress<'e>,
+) -> Result<Option<TypedPattern<'e>>, Refusal>
     ensures { GivesTyping typed_of result progress.new
         (type_and (type_at depth (environment_of env.now))
-        (pattern_list_of (patterns_of subpats.now.items)) (string_bytes ty.now)
+        (pattern_list_of (patterns_of subpats.now.items)) ty.now
         (progress_of progress.old)) }
 {
     let subpats = type_each(alloc, depth, env, subpats, ty, progress)?;
-    Ok(Some(TypedPattern::And {
-        ty: ty.clone()?,
-        subpats,
-    }))
+    Ok(Some(TypedPattern::And { ty, subpats }))
 }
 
 /// Types a term with arguments.
 #[cycle(pattern)]
-fn type_term(
+fn type_term<'e>(
     alloc: Global,
     depth: usize,
-    env: &Environment,
+    env: &'e Environment,
     pattern: &Pattern,
     sym: &Ident,
     args: &Vec<Pattern>,
     pos: Pos,
-    ty: &String,
-    progress: &mut Progress,
-) -> Result<Option<TypedPattern>, Refusal>
+    ty: &'e str,
+    progress: &mut Progress<'e>,
+) -> Result<Option<TypedPattern<'e>>, Refusal>
     ensures { GivesTyping typed_of result progress.new
         (term_by (type_at depth (environment_of env.now)) (environment_of env.now)
         ((environment_of env.now).terms (name_of sym.now).text) (pattern_of pattern.now)
         (name_of sym.now).text (pattern_list_of (patterns_of args.now.items)) pos
-        (string_bytes ty.now) (progress_of progress.old)) }
+        ty.now (progress_of progress.old)) }
 {
     match env.term(sym.0.as_str()) {
         None => {
@@ -144,32 +143,32 @@ fn type_term(
 
 /// Types a term that is known.
 #[cycle(pattern)]
-fn type_found(
+fn type_found<'e>(
     alloc: Global,
     depth: usize,
-    env: &Environment,
+    env: &'e Environment,
     pattern: &Pattern,
-    term: &Term,
+    term: &'e Term,
     sym: &String,
     args: &Vec<Pattern>,
     pos: Pos,
-    ty: &String,
-    progress: &mut Progress,
-) -> Result<Option<TypedPattern>, Refusal>
+    ty: &'e str,
+    progress: &mut Progress<'e>,
+) -> Result<Option<TypedPattern<'e>>, Refusal>
     ensures { GivesTyping typed_of result progress.new
         (found_by (type_at depth (environment_of env.now)) (environment_of env.now)
         (pattern_of pattern.now) (term_of term.now) (string_bytes sym.now)
-        (pattern_list_of (patterns_of args.now.items)) pos (string_bytes ty.now)
+        (pattern_list_of (patterns_of args.now.items)) pos ty.now
         (progress_of progress.old)) }
 {
-    if term.ret.as_str() == ty.as_str() {
+    if term.ret.as_str() == ty {
         return type_own(alloc, depth, env, term, sym, args, pos, ty, progress);
     }
-    match converting(env, term.ret.as_str(), ty.as_str()) {
+    match converting(env, term.ret.as_str(), ty) {
         Some(converter) => type_put(alloc, depth, env, converter, pattern, pos, ty, progress),
         None => {
             let kind = Kind::TermType {
-                expected: ty.clone()?,
+                expected: String::from_str(alloc, ty)?,
                 found: term.ret.clone()?,
             };
             tell(progress, kind, pos)?;
@@ -180,19 +179,19 @@ fn type_found(
 
 /// Types a pattern that is put into a converter.
 #[cycle(pattern)]
-fn type_put(
+fn type_put<'e>(
     alloc: Global,
     depth: usize,
-    env: &Environment,
+    env: &'e Environment,
     converter: &String,
     pattern: &Pattern,
     pos: Pos,
-    ty: &String,
-    progress: &mut Progress,
-) -> Result<Option<TypedPattern>, Refusal>
+    ty: &'e str,
+    progress: &mut Progress<'e>,
+) -> Result<Option<TypedPattern<'e>>, Refusal>
     ensures { GivesTyping typed_of result progress.new
         (put_by (type_at depth (environment_of env.now)) (string_bytes converter.now)
-        (pattern_of pattern.now) pos (string_bytes ty.now) (progress_of progress.old)) }
+        (pattern_of pattern.now) pos ty.now (progress_of progress.old)) }
 {
     let mut args = Vec::new(alloc);
     args.push(pattern.clone()?)?;
@@ -206,21 +205,21 @@ fn type_put(
 
 /// Types a term that isn't converted.
 #[cycle(pattern)]
-fn type_own(
+fn type_own<'e>(
     alloc: Global,
     depth: usize,
-    env: &Environment,
-    term: &Term,
+    env: &'e Environment,
+    term: &'e Term,
     sym: &String,
     args: &Vec<Pattern>,
     pos: Pos,
-    ty: &String,
-    progress: &mut Progress,
-) -> Result<Option<TypedPattern>, Refusal>
+    ty: &'e str,
+    progress: &mut Progress<'e>,
+) -> Result<Option<TypedPattern<'e>>, Refusal>
     ensures { GivesTyping typed_of result progress.new
         (own_by (type_at depth (environment_of env.now)) (environment_of env.now)
         (term_of term.now) (string_bytes sym.now) (pattern_list_of (patterns_of args.now.items))
-        pos (string_bytes ty.now) (progress_of progress.old)) }
+        pos ty.now (progress_of progress.old)) }
 {
     let given = count_patterns(args);
     let counts = tell_count(term, sym, given, pos, progress)?;
@@ -236,22 +235,22 @@ fn type_own(
 
 /// Types what a template stands for with these arguments.
 #[cycle(pattern)]
-fn type_filled(
+fn type_filled<'e>(
     alloc: Global,
     depth: usize,
-    env: &Environment,
+    env: &'e Environment,
     template: &Pattern,
     args: &Vec<Pattern>,
     counts: bool,
     sym: &String,
     pos: Pos,
-    ty: &String,
-    progress: &mut Progress,
-) -> Result<Option<TypedPattern>, Refusal>
+    ty: &'e str,
+    progress: &mut Progress<'e>,
+) -> Result<Option<TypedPattern<'e>>, Refusal>
     ensures { GivesTyping typed_of result progress.new
         (filled_by (type_at depth (environment_of env.now)) (plug (pattern_of template.now)
         (list_list (pattern_list_of (patterns_of args.now.items)))) counts
-        (string_bytes sym.now) pos (string_bytes ty.now) (progress_of progress.old)) }
+        (string_bytes sym.now) pos ty.now (progress_of progress.old)) }
 {
     match filled(alloc, template, args)? {
         None => {
@@ -266,16 +265,16 @@ fn type_filled(
 
 /// Types a term that has no template.
 #[cycle(pattern)]
-fn type_extracted(
+fn type_extracted<'e>(
     alloc: Global,
     depth: usize,
-    env: &Environment,
-    term: &Term,
+    env: &'e Environment,
+    term: &'e Term,
     sym: &String,
     args: &Vec<Pattern>,
     pos: Pos,
-    progress: &mut Progress,
-) -> Result<Option<TypedPattern>, Refusal>
+    progress: &mut Progress<'e>,
+) -> Result<Option<TypedPattern<'e>>, Refusal>
     ensures { GivesTyping typed_of result progress.new
         (extracted_by (type_at depth (environment_of env.now)) (environment_of env.now)
         (term_of term.now) (string_bytes sym.now) (pattern_list_of (patterns_of args.now.items))
@@ -287,27 +286,27 @@ fn type_extracted(
     let args = type_arguments(alloc, depth, env, args, &term.args, progress)?;
     Ok(Some(TypedPattern::Term {
         term: sym.clone()?,
-        ty: term.ret.clone()?,
+        ty: term.ret.as_str(),
         args,
     }))
 }
 
 /// Types patterns that match one value.
 #[cycle(pattern)]
-fn type_each(
+fn type_each<'e>(
     alloc: Global,
     depth: usize,
-    env: &Environment,
+    env: &'e Environment,
     patterns: &Vec<Pattern>,
-    ty: &String,
-    progress: &mut Progress,
-) -> Result<Vec<TypedPattern>, Refusal>
+    ty: &'e str,
+    progress: &mut Progress<'e>,
+) -> Result<Vec<TypedPattern<'e>>, Refusal>
     ensures { GivesTypings typed_of result progress.new
         (each_by (type_at depth (environment_of env.now))
-        (pattern_list_of (patterns_of patterns.now.items)) (string_bytes ty.now) []
+        (pattern_list_of (patterns_of patterns.now.items)) ty.now []
         (progress_of progress.old)) }
 {
-    let mut typed = Vec::new(alloc);
+    let mut typed = Vec::with_capacity(alloc, patterns.len())?;
     for pattern in patterns {
         if let Some(made) = type_pattern(alloc, depth, env, pattern, ty, progress)? {
             typed.push(made)?;
@@ -319,25 +318,25 @@ fn type_each(
 /// Types patterns, each for a value of its type, as many as there are types. Returns the typed
 /// patterns of those that have one, in order. Errors are those of `type_pattern`.
 #[cycle(pattern)]
-pub fn type_arguments(
+pub fn type_arguments<'e>(
     alloc: Global,
     depth: usize,
-    env: &Environment,
+    env: &'e Environment,
     patterns: &Vec<Pattern>,
-    types: &Vec<String>,
-    progress: &mut Progress,
-) -> Result<Vec<TypedPattern>, Refusal>
+    types: &'e Vec<String>,
+    progress: &mut Progress<'e>,
+) -> Result<Vec<TypedPattern<'e>>, Refusal>
     ensures { GivesTypings typed_of result progress.new
         (arguments_by (type_at depth (environment_of env.now))
         (pattern_list_of (patterns_of patterns.now.items)) (map string_bytes types.now.items) []
         (progress_of progress.old)) }
 {
-    let mut typed = Vec::new(alloc);
+    let mut typed = Vec::with_capacity(alloc, patterns.len())?;
     for (number, pattern) in patterns.iter().enumerate() {
         if number >= types.len() {
             return Ok(typed);
         }
-        let ty = &types[number];
+        let ty = types[number].as_str();
         if let Some(made) = type_pattern(alloc, depth, env, pattern, ty, progress)? {
             typed.push(made)?;
         }
@@ -411,69 +410,67 @@ fn converting<'a>(env: &'a Environment, inner: &str, outer: &str) -> Option<&'a 
 }
 
 /// Types a variable: the first of its name is bound, a later one is compared.
-fn type_variable(
+fn type_variable<'e>(
     alloc: Global,
     var: &Ident,
     pos: Pos,
-    ty: &String,
-    progress: &mut Progress,
-) -> Result<TypedPattern, AllocError>
+    ty: &'e str,
+    progress: &mut Progress<'e>,
+) -> Result<TypedPattern<'e>, AllocError>
     ensures { IfOk result (λ made. record {
       typed = Some (typed_of made);
       after = progress_of progress.new;
     }
-        ≡ type_variable (name_of var.now) pos (string_bytes ty.now) (progress_of progress.old)) }
+        ≡ type_variable (name_of var.now) pos ty.now (progress_of progress.old)) }
 {
     match find(&progress.bound, var.0.as_str()) {
         None => {
             let variable = progress.bound.len();
-            let subpat = TypedPattern::Wildcard { ty: ty.clone()? };
-            bind(progress, var.0.clone()?, ty.clone()?)?;
+            let subpat = TypedPattern::Wildcard { ty };
+            bind(progress, var.0.clone()?, ty)?;
             Ok(TypedPattern::Bind {
                 variable,
-                ty: ty.clone()?,
+                ty,
                 subpat: Box::new(alloc, subpat)?,
             })
         }
         Some(found) => {
-            let variable = found.number;
-            let known = found.ty.clone()?;
-            if known.as_str() != ty.as_str() {
+            if found.ty != ty {
                 let kind = Kind::VariableType {
                     name: var.0.clone()?,
-                    expected: ty.clone()?,
-                    found: known.clone()?,
+                    expected: String::from_str(alloc, ty)?,
+                    found: String::from_str(alloc, found.ty)?,
                 };
                 tell(progress, kind, pos)?;
             }
             Ok(TypedPattern::Var {
-                variable,
-                ty: known,
+                variable: found.number,
+                ty: found.ty,
             })
         }
     }
 }
 
 /// Binds a variable to the value that a typed pattern matches. It isn't bound before.
-fn bind_to(
+fn bind_to<'e>(
     alloc: Global,
-    inner: TypedPattern,
+    inner: TypedPattern<'e>,
     var: &Ident,
     pos: Pos,
-    progress: &mut Progress,
-) -> Result<TypedPattern, AllocError>
+    progress: &mut Progress<'e>,
+) -> Result<TypedPattern<'e>, AllocError>
     ensures { IfOk result (λ made. record {
       typed = Some (typed_of made);
       after = progress_of progress.new;
     }
         ≡ bind_to (typed_of inner) (name_of var.now) pos (progress_of progress.old)) }
 {
-    let ty = inner.ty()?;
+    let ty = inner.ty();
     let variable = progress.bound.len();
     if find(&progress.bound, var.0.as_str()).is_some() {
         tell(progress, Kind::VariableBound(var.0.clone()?), pos)?;
     }
-    bind(progress, var.0.clone()?, ty.clone()?)?;
+    bind(progress, var.0.clone()?, ty)?;
     Ok(TypedPattern::Bind {
         variable,
         ty,
@@ -482,73 +479,69 @@ fn bind_to(
 }
 
 /// Types `true` or `false`.
-fn type_bool(
+fn type_bool<'e>(
     alloc: Global,
     val: bool,
     pos: Pos,
-    ty: &String,
-    progress: &mut Progress,
-) -> Result<TypedPattern, AllocError>
+    ty: &'e str,
+    progress: &mut Progress<'e>,
+) -> Result<TypedPattern<'e>, AllocError>
     ensures { IfOk result (λ made. record {
       typed = Some (typed_of made);
       after = progress_of progress.new;
     }
-        ≡ type_bool val pos (string_bytes ty.now) (progress_of progress.old)) }
+        ≡ type_bool val pos ty.now (progress_of progress.old)) }
 {
-    if ty.as_str() != "bool" {
+    if ty != "bool" {
         let kind = Kind::BoolType {
             val,
-            ty: ty.clone()?,
+            ty: String::from_str(alloc, ty)?,
         };
         tell(progress, kind, pos)?;
     }
-    Ok(TypedPattern::Bool {
-        val,
-        ty: String::from_str(alloc, "bool")?,
-    })
+    Ok(TypedPattern::Bool { val })
 }
 
 /// Types an integer.
-fn type_integer(
-    env: &Environment,
+fn type_integer<'e>(
+    alloc: Global,
+    env: &'e Environment,
     val: i128,
     pos: Pos,
-    ty: &String,
-    progress: &mut Progress,
-) -> Result<TypedPattern, AllocError>
+    ty: &'e str,
+    progress: &mut Progress<'e>,
+) -> Result<TypedPattern<'e>, AllocError>
     ensures { IfOk result (λ made. record {
       typed = Some (typed_of made);
       after = progress_of progress.new;
     }
-        ≡ type_integer (environment_of env.now) val pos (string_bytes ty.now)
+        ≡ type_integer (environment_of env.now) val pos ty.now
         (progress_of progress.old)) }
 {
-    if !env.is_number(ty.as_str()) {
+    if !env.is_number(ty) {
         let kind = Kind::IntegerType {
             val,
-            ty: ty.clone()?,
+            ty: String::from_str(alloc, ty)?,
         };
         tell(progress, kind, pos)?;
     }
-    Ok(TypedPattern::Int {
-        val,
-        ty: ty.clone()?,
-    })
+    Ok(TypedPattern::Int { val, ty })
 }
 
 /// Types a constant.
-fn type_constant(
-    env: &Environment,
+fn type_constant<'e>(
+    alloc: Global,
+    env: &'e Environment,
     name: &Ident,
     pos: Pos,
-    ty: &String,
-    progress: &mut Progress,
-) -> Result<Option<TypedPattern>, AllocError>
+    ty: &'e str,
+    progress: &mut Progress<'e>,
+) -> Result<Option<TypedPattern<'e>>, AllocError>
     ensures { IfOk result (λ made. record {
       typed = option_map typed_of made;
       after = progress_of progress.new;
     }
-        ≡ type_constant (environment_of env.now) (name_of name.now) pos (string_bytes ty.now)
+        ≡ type_constant (environment_of env.now) (name_of name.now) pos ty.now
         (progress_of progress.old)) }
 {
     match env.constant(name.0.as_str()) {
@@ -557,16 +550,16 @@ fn type_constant(
             Ok(None)
         }
         Some(known) => {
-            if known.as_str() != ty.as_str() {
+            if known.as_str() != ty {
                 let kind = Kind::ConstantType {
-                    expected: ty.clone()?,
+                    expected: String::from_str(alloc, ty)?,
                     found: known.clone()?,
                 };
                 tell(progress, kind, pos)?;
             }
             Ok(Some(TypedPattern::Const {
                 name: name.0.clone()?,
-                ty: known.clone()?,
+                ty: known.as_str(),
             }))
         }
     }

@@ -8,8 +8,8 @@ use Rattle.isle_check_typing.proofs.patterns.+pattern.Given as goal
 
 abbrev pub invariant-type_each-loop-pattern : goal.invariant-type_each-loop-pattern
 invariant-type_each-loop-pattern l =
-    each_by (type_at l.depth (environment_of l.env)) (pattern_list_of (patterns_of (drop l.pattern-index l.pattern-items))) (string_bytes l.ty) (all_typed_of l.typed.items) (progress_of l.progress)
-    ≡ each_by (type_at l.depth (environment_of l.env)) (pattern_list_of (patterns_of l.pattern-items)) (string_bytes l.ty) [] (progress_of l.fn.progress)
+    each_by (type_at l.depth (environment_of l.env)) (pattern_list_of (patterns_of (drop l.pattern-index l.pattern-items))) l.ty (all_typed_of l.typed.items) (progress_of l.progress)
+    ≡ each_by (type_at l.depth (environment_of l.env)) (pattern_list_of (patterns_of l.pattern-items)) l.ty [] (progress_of l.fn.progress)
 
 abbrev pub invariant-type_arguments-loop-number : goal.invariant-type_arguments-loop-number
 invariant-type_arguments-loop-number l =
