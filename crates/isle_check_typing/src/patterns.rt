@@ -27,6 +27,7 @@ use isle_ast_rules::Pattern;
 use isle_base::lexer::Pos;
 use isle_check_environment::signatures::{Environment, Term};
 use std::alloc::{AllocError, Global};
+use std::slice;
 
 /// Types a pattern that matches values of the type `ty`. Binds its variables and tells its errors
 /// in `progress`. Returns its typed pattern, if it has one.
@@ -117,7 +118,7 @@ fn type_term<'e>(
     env: &'e Environment,
     pattern: &Pattern,
     sym: &Ident,
-    args: &Vec<Pattern>,
+    args: &[Pattern],
     pos: Pos,
     ty: &'e str,
     progress: &mut Progress<'e>,
@@ -125,7 +126,7 @@ fn type_term<'e>(
     ensures { GivesTyping typed_of result progress.new
         (term_by (type_at depth (environment_of env.now)) (environment_of env.now)
         ((environment_of env.now).terms (name_of sym.now).text) (pattern_of pattern.now)
-        (name_of sym.now).text (pattern_list_of (patterns_of args.now.items)) pos
+        (name_of sym.now).text (pattern_list_of (patterns_of args.now)) pos
         ty.now (progress_of progress.old)) }
 {
     match env.term(sym.0.as_str()) {
@@ -150,7 +151,7 @@ fn type_found<'e>(
     pattern: &Pattern,
     term: &'e Term,
     sym: &String,
-    args: &Vec<Pattern>,
+    args: &[Pattern],
     pos: Pos,
     ty: &'e str,
     progress: &mut Progress<'e>,
@@ -158,7 +159,7 @@ fn type_found<'e>(
     ensures { GivesTyping typed_of result progress.new
         (found_by (type_at depth (environment_of env.now)) (environment_of env.now)
         (pattern_of pattern.now) (term_of term.now) (string_bytes sym.now)
-        (pattern_list_of (patterns_of args.now.items)) pos ty.now
+        (pattern_list_of (patterns_of args.now)) pos ty.now
         (progress_of progress.old)) }
 {
     if term.ret.as_str() == ty {
@@ -177,9 +178,46 @@ fn type_found<'e>(
     }
 }
 
-/// Types a pattern that is put into a converter.
+/// Types a pattern that is put into a converter. One that matches values of the wanted type needs
+/// no conversion, so the pattern isn't copied for it.
 #[cycle(pattern)]
 fn type_put<'e>(
+    alloc: Global,
+    depth: usize,
+    env: &'e Environment,
+    converter: &String,
+    pattern: &Pattern,
+    pos: Pos,
+    ty: &'e str,
+    progress: &mut Progress<'e>,
+) -> Result<Option<TypedPattern<'e>>, Refusal>
+    ensures { GivesTyping typed_of result progress.new
+        (put_by (type_at depth (environment_of env.now)) (string_bytes converter.now)
+        (pattern_of pattern.now) pos ty.now (progress_of progress.old)) }
+{
+    let Some(term) = env.term(converter.as_str()) else {
+        return type_copied(alloc, depth, env, converter, pattern, pos, ty, progress);
+    };
+    if depth == 0 || term.ret.as_str() != ty {
+        return type_copied(alloc, depth, env, converter, pattern, pos, ty, progress);
+    }
+    let args = slice::from_ref(pattern);
+    type_own(
+        alloc,
+        depth - 1,
+        env,
+        term,
+        converter,
+        args,
+        pos,
+        ty,
+        progress,
+    )
+}
+
+/// Types the term of a converter with a copy of a pattern.
+#[cycle(pattern)]
+fn type_copied<'e>(
     alloc: Global,
     depth: usize,
     env: &'e Environment,
@@ -211,14 +249,14 @@ fn type_own<'e>(
     env: &'e Environment,
     term: &'e Term,
     sym: &String,
-    args: &Vec<Pattern>,
+    args: &[Pattern],
     pos: Pos,
     ty: &'e str,
     progress: &mut Progress<'e>,
 ) -> Result<Option<TypedPattern<'e>>, Refusal>
     ensures { GivesTyping typed_of result progress.new
         (own_by (type_at depth (environment_of env.now)) (environment_of env.now)
-        (term_of term.now) (string_bytes sym.now) (pattern_list_of (patterns_of args.now.items))
+        (term_of term.now) (string_bytes sym.now) (pattern_list_of (patterns_of args.now))
         pos ty.now (progress_of progress.old)) }
 {
     let given = count_patterns(args);
@@ -240,7 +278,7 @@ fn type_filled<'e>(
     depth: usize,
     env: &'e Environment,
     template: &Pattern,
-    args: &Vec<Pattern>,
+    args: &[Pattern],
     counts: bool,
     sym: &String,
     pos: Pos,
@@ -249,7 +287,7 @@ fn type_filled<'e>(
 ) -> Result<Option<TypedPattern<'e>>, Refusal>
     ensures { GivesTyping typed_of result progress.new
         (filled_by (type_at depth (environment_of env.now)) (plug (pattern_of template.now)
-        (list_list (pattern_list_of (patterns_of args.now.items)))) counts
+        (list_list (pattern_list_of (patterns_of args.now)))) counts
         (string_bytes sym.now) pos ty.now (progress_of progress.old)) }
 {
     match filled(alloc, template, args)? {
@@ -271,13 +309,13 @@ fn type_extracted<'e>(
     env: &'e Environment,
     term: &'e Term,
     sym: &String,
-    args: &Vec<Pattern>,
+    args: &[Pattern],
     pos: Pos,
     progress: &mut Progress<'e>,
 ) -> Result<Option<TypedPattern<'e>>, Refusal>
     ensures { GivesTyping typed_of result progress.new
         (extracted_by (type_at depth (environment_of env.now)) (environment_of env.now)
-        (term_of term.now) (string_bytes sym.now) (pattern_list_of (patterns_of args.now.items))
+        (term_of term.now) (string_bytes sym.now) (pattern_list_of (patterns_of args.now))
         pos (progress_of progress.old)) }
 {
     if !env.has_extractor(sym.as_str()) {
@@ -322,13 +360,13 @@ pub fn type_arguments<'e>(
     alloc: Global,
     depth: usize,
     env: &'e Environment,
-    patterns: &Vec<Pattern>,
+    patterns: &[Pattern],
     types: &'e Vec<String>,
     progress: &mut Progress<'e>,
 ) -> Result<Vec<TypedPattern<'e>>, Refusal>
     ensures { GivesTypings typed_of result progress.new
         (arguments_by (type_at depth (environment_of env.now))
-        (pattern_list_of (patterns_of patterns.now.items)) (map string_bytes types.now.items) []
+        (pattern_list_of (patterns_of patterns.now)) (map string_bytes types.now.items) []
         (progress_of progress.old)) }
 {
     let mut typed = Vec::with_capacity(alloc, patterns.len())?;
@@ -375,19 +413,19 @@ fn tell_count(
 fn filled(
     alloc: Global,
     template: &Pattern,
-    args: &Vec<Pattern>,
+    args: &[Pattern],
 ) -> Result<Option<Pattern>, AllocError>
     ensures { IfOk result (λ made. option_map pattern_of made
         ≡ plug (pattern_of template.now)
-        (list_list (pattern_list_of (patterns_of args.now.items)))) }
+        (list_list (pattern_list_of (patterns_of args.now)))) }
 {
     template.subst_macro_args(alloc, args)
 }
 
 /// Counts patterns.
 #[tactic(auto, using(crate::proofs::Counts::count_of))]
-fn count_patterns(patterns: &Vec<Pattern>) -> usize
-    ensures { result ≡ count_patterns (pattern_list_of (patterns_of patterns.now.items)) }
+fn count_patterns(patterns: &[Pattern]) -> usize
+    ensures { result ≡ count_patterns (pattern_list_of (patterns_of patterns.now)) }
 {
     patterns.len()
 }

@@ -27,6 +27,7 @@ use isle_ast_rules::{Expr, LetDef};
 use isle_base::lexer::Pos;
 use isle_check_environment::signatures::{Environment, Term};
 use std::alloc::Global;
+use std::slice;
 
 /// What the parts of an expression are typed with.
 #[derive(Clone, Copy)]
@@ -132,9 +133,46 @@ fn type_part<'e>(
     )
 }
 
-/// Types an expression that is put into a converter.
+/// Types an expression that is put into a converter. One that gives the wanted type needs no
+/// conversion, so the expression isn't copied for it.
 #[cycle(expression)]
 fn type_put<'e>(
+    typer: Typer<'e, '_>,
+    converter: &String,
+    expr: &Expr,
+    pos: Pos,
+    ty: &'e str,
+    progress: &mut Progress<'e>,
+) -> Result<Option<TypedExpression<'e>>, Refusal>
+    ensures { GivesTyping typed_expression_of result progress.new
+        (put_by (parts_by typer.entry) (string_bytes converter.now) (expression_of expr.now) pos
+        ty.now (progress_of progress.old)) }
+{
+    let Some(term) = typer.env.term(converter.as_str()) else {
+        return type_copied(typer, converter, expr, pos, ty, progress);
+    };
+    if typer.depth == 0 || term.ret.as_str() != ty {
+        return type_copied(typer, converter, expr, pos, ty, progress);
+    }
+    let deeper = Typer {
+        alloc: typer.alloc,
+        depth: typer.depth - 1,
+        env: typer.env,
+        flags: typer.flags,
+    };
+    type_own(
+        deeper,
+        term,
+        converter,
+        slice::from_ref(expr),
+        pos,
+        progress,
+    )
+}
+
+/// Types the term of a converter with a copy of an expression.
+#[cycle(expression)]
+fn type_copied<'e>(
     typer: Typer<'e, '_>,
     converter: &String,
     expr: &Expr,
@@ -198,7 +236,7 @@ fn type_term<'e>(
     typer: Typer<'e, '_>,
     expr: &Expr,
     sym: &Ident,
-    args: &Vec<Expr>,
+    args: &[Expr],
     pos: Pos,
     wanted: Option<&'e str>,
     progress: &mut Progress<'e>,
@@ -206,7 +244,7 @@ fn type_term<'e>(
     ensures { GivesTyping typed_expression_of result progress.new
         (term_by (parts_by typer.entry) (environment_of typer.entry.env.now) typer.entry.flags
         ((environment_of typer.entry.env.now).terms (name_of sym.now).text) (expression_of expr.now)
-        (name_of sym.now).text (expression_list_of (expressions_of args.now.items)) pos
+        (name_of sym.now).text (expression_list_of (expressions_of args.now)) pos
         (type_text wanted.entry) (progress_of progress.old)) }
 {
     let Some(term) = typer.env.term(sym.0.as_str()) else {
@@ -229,7 +267,7 @@ fn type_term_as<'e>(
     expr: &Expr,
     term: &'e Term,
     sym: &String,
-    args: &Vec<Expr>,
+    args: &[Expr],
     pos: Pos,
     other: Option<&'e str>,
     progress: &mut Progress<'e>,
@@ -237,7 +275,7 @@ fn type_term_as<'e>(
     ensures { GivesTyping typed_expression_of result progress.new
         (term_as (parts_by typer.entry) (environment_of typer.entry.env.now) typer.entry.flags
         (term_of term.now) (type_text other.entry) (expression_of expr.now) (string_bytes sym.now)
-        (expression_list_of (expressions_of args.now.items)) pos (progress_of progress.old)) }
+        (expression_list_of (expressions_of args.now)) pos (progress_of progress.old)) }
 {
     if let Some(ty) = other {
         if let Some(converter) = converting(typer.env, term.ret.as_str(), ty) {
@@ -258,13 +296,13 @@ fn type_own<'e>(
     typer: Typer<'e, '_>,
     term: &'e Term,
     sym: &String,
-    args: &Vec<Expr>,
+    args: &[Expr],
     pos: Pos,
     progress: &mut Progress<'e>,
 ) -> Result<Option<TypedExpression<'e>>, Refusal>
     ensures { GivesTyping typed_expression_of result progress.new
         (own_by (parts_by typer.entry) typer.entry.flags (term_of term.now) (string_bytes sym.now)
-        (expression_list_of (expressions_of args.now.items)) pos (progress_of progress.old)) }
+        (expression_list_of (expressions_of args.now)) pos (progress_of progress.old)) }
 {
     use_term(typer.flags, term, sym, pos, progress)?;
     count_arguments(term, sym, count_expressions(args), pos, progress)?;
@@ -280,12 +318,12 @@ fn type_own<'e>(
 #[cycle(expression)]
 fn type_arguments<'e>(
     typer: Typer<'e, '_>,
-    exprs: &Vec<Expr>,
+    exprs: &[Expr],
     types: &'e Vec<String>,
     progress: &mut Progress<'e>,
 ) -> Result<Vec<TypedExpression<'e>>, Refusal>
     ensures { GivesTypings typed_expression_of result progress.new
-        (arguments_by (parts_by typer.entry) (expression_list_of (expressions_of exprs.now.items))
+        (arguments_by (parts_by typer.entry) (expression_list_of (expressions_of exprs.now))
         (map string_bytes types.now.items) [] (progress_of progress.old)) }
 {
     let mut typed = Vec::with_capacity(typer.alloc, exprs.len())?;

@@ -68,8 +68,8 @@ pub fn count_arguments(
 
 /// Counts expressions.
 #[tactic(auto, using(crate::proofs::expressions::Counts::count_of))]
-pub fn count_expressions(exprs: &Vec<Expr>) -> usize
-    ensures { result ≡ count_expressions (expression_list_of (expressions_of exprs.now.items)) }
+pub fn count_expressions(exprs: &[Expr]) -> usize
+    ensures { result ≡ count_expressions (expression_list_of (expressions_of exprs.now)) }
 {
     exprs.len()
 }

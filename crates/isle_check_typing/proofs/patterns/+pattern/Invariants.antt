@@ -37,8 +37,11 @@ decreases-type_extracted l = 8 * l.depth + 3
 abbrev pub decreases-type_and : goal.decreases-type_and
 decreases-type_and l = 8 * l.depth + 2
 
+abbrev pub decreases-type_copied : goal.decreases-type_copied
+decreases-type_copied l = 8 * l.depth + 1
+
 abbrev pub decreases-type_put : goal.decreases-type_put
-decreases-type_put l = 8 * l.depth + 1
+decreases-type_put l = 8 * l.depth + 2
 
 abbrev pub decreases-type_filled : goal.decreases-type_filled
 decreases-type_filled l = 8 * l.depth + 1

@@ -23,8 +23,11 @@ decreases-type_expression l = 8 * l.depth
 abbrev pub decreases-type_part : goal.decreases-type_part
 decreases-type_part l = 8 * l.typer.depth + 1
 
+abbrev pub decreases-type_copied : goal.decreases-type_copied
+decreases-type_copied l = 8 * l.typer.depth + 2
+
 abbrev pub decreases-type_put : goal.decreases-type_put
-decreases-type_put l = 8 * l.typer.depth + 2
+decreases-type_put l = 8 * l.typer.depth + 3
 
 abbrev pub decreases-type_arguments : goal.decreases-type_arguments
 decreases-type_arguments l = 8 * l.typer.depth + 2
