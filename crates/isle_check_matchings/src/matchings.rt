@@ -87,8 +87,8 @@ fn matching<'a>(
     let clashes = clashes(alloc, &constraints)?;
     let settled = settle(alloc, constraints, equal)?;
     Ok(Matching {
-        term: rule.term.as_str(),
-        is_multi: is_multi(terms.env.term(rule.term.as_str())),
+        term: rule.term,
+        is_multi: is_multi(terms.env.term(rule.term)),
         has_several,
         prio: rule.prio,
         pos: rule.pos,

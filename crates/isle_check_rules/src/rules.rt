@@ -24,7 +24,8 @@ use isle_base::lexer::Pos;
 use isle_check_environment::signatures::{Environment, Term};
 use isle_check_typing::expressions::{Flags, TypedExpression, type_expression};
 use isle_check_typing::{
-    Kind, Progress, Refusal, TypedPattern, no_progress, tell, type_arguments, type_pattern,
+    Kind, Progress, Refusal, TypedPattern, known_term, no_progress, tell, type_arguments,
+    type_pattern,
 };
 use std::alloc::{AllocError, Global};
 
@@ -43,10 +44,10 @@ pub fn type_rule<'e>(
         (type_rule depth (environment_of env.now) (rule_of rule.now)) }
 {
     match &rule.pattern {
-        Pattern::Term { sym, args, .. } => {
-            let term = env.term(sym.0.as_str());
-            type_root(alloc, depth, env, term, &sym.0, args, rule)
-        }
+        Pattern::Term { sym, args, .. } => match known_term(env, sym.0.as_str()) {
+            None => Ok(no_typing(alloc)),
+            Some((name, term)) => type_root(alloc, depth, env, term, name, args, rule),
+        },
         _ => Ok(no_typing(alloc)),
     }
 }
@@ -61,32 +62,26 @@ fn no_typing<'e>(alloc: Global) -> RuleTyping<'e>
     }
 }
 
-/// Types a rule of a term, if the term is known.
+/// Types a rule of a term that is known.
 fn type_root<'e>(
     alloc: Global,
     depth: usize,
     env: &'e Environment,
-    term: Option<&'e Term>,
-    sym: &String,
+    term: &'e Term,
+    sym: &'e str,
     args: &Vec<Pattern>,
     rule: &Rule,
 ) -> Result<RuleTyping<'e>, Refusal>
     ensures { Gives rule_typing_of result
-        (rule_by depth (environment_of env.now) (option_map (λ t. term_of t.now) term.entry)
-        (string_bytes sym.now) (pattern_list_of (patterns_of args.now.items))
-        (rule_of rule.now)) }
+        (rule_by depth (environment_of env.now) (Some (term_of term.now)) sym.now
+        (pattern_list_of (patterns_of args.now.items)) (rule_of rule.now)) }
 {
-    match term {
-        None => Ok(no_typing(alloc)),
-        Some(term) => {
-            let mut progress = no_progress(alloc);
-            let typed = type_sides(alloc, depth, env, term, sym, args, rule, &mut progress)?;
-            Ok(RuleTyping {
-                typed,
-                faults: progress.faults,
-            })
-        }
-    }
+    let mut progress = no_progress(alloc);
+    let typed = type_sides(alloc, depth, env, term, sym, args, rule, &mut progress)?;
+    Ok(RuleTyping {
+        typed,
+        faults: progress.faults,
+    })
 }
 
 /// Types the arguments, the conditions and the right side of a rule.
@@ -95,17 +90,17 @@ fn type_sides<'e>(
     depth: usize,
     env: &'e Environment,
     term: &'e Term,
-    sym: &String,
+    sym: &'e str,
     args: &Vec<Pattern>,
     rule: &Rule,
     progress: &mut Progress<'e>,
 ) -> Result<Option<TypedRule<'e>>, Refusal>
     ensures { GivesTyping typed_rule_of result progress.new
-        (type_sides depth (environment_of env.now) (term_of term.now) (string_bytes sym.now)
+        (type_sides depth (environment_of env.now) (term_of term.now) sym.now
         (pattern_list_of (patterns_of args.now.items)) (rule_of rule.now)
         (progress_of progress.old)) }
 {
-    tell_count(term, sym, count_patterns(args), rule.pos, progress)?;
+    tell_count(alloc, term, sym, count_patterns(args), rule.pos, progress)?;
     let args = type_arguments(alloc, depth, env, args, &term.args, progress)?;
     let flags = condition_flags(term);
     let iflets = type_conditions(alloc, depth, env, flags, &rule.iflets, progress)?;
@@ -122,21 +117,22 @@ fn count_patterns(patterns: &Vec<Pattern>) -> usize
 
 /// Tells if a term has another number of arguments than are declared.
 fn tell_count(
+    alloc: Global,
     term: &Term,
-    sym: &String,
+    sym: &str,
     given: usize,
     pos: Pos,
     progress: &mut Progress,
 ) -> Result<(), AllocError>
     ensures { OnOk result (progress_of progress.new
         ≡ unless (length (term_of term.now).args == given)
-        (argument_count (string_bytes sym.now) given (length (term_of term.now).args)) pos
+        (argument_count sym.now given (length (term_of term.now).args)) pos
         (progress_of progress.old)) }
 {
     let expected = term.args.len();
     if expected != given {
         let kind = Kind::ArgumentCount {
-            term: sym.clone()?,
+            term: String::from_str(alloc, sym)?,
             given,
             expected,
         };
@@ -233,14 +229,14 @@ fn type_right<'e>(
     depth: usize,
     env: &'e Environment,
     term: &'e Term,
-    sym: &String,
+    sym: &'e str,
     args: Vec<TypedPattern<'e>>,
     iflets: Vec<TypedIfLet<'e>>,
     rule: &Rule,
     progress: &mut Progress<'e>,
 ) -> Result<Option<TypedRule<'e>>, Refusal>
     ensures { GivesTyping typed_rule_of result progress.new
-        (type_right depth (environment_of env.now) (term_of term.now) (string_bytes sym.now)
+        (type_right depth (environment_of env.now) (term_of term.now) sym.now
         (all_typed_of args.items) (typed_conditions_of iflets.items) (rule_of rule.now)
         (progress_of progress.old)) }
 {
@@ -254,7 +250,7 @@ fn type_right<'e>(
 /// none.
 fn finish<'e>(
     term: &'e Term,
-    sym: &String,
+    sym: &'e str,
     args: Vec<TypedPattern<'e>>,
     iflets: Vec<TypedIfLet<'e>>,
     rule: &Rule,
@@ -265,7 +261,7 @@ fn finish<'e>(
       typed = option_map typed_rule_of made;
       after = progress_of progress.new;
     }
-        ≡ right_by (term_of term.now) (string_bytes sym.now) (all_typed_of args.items)
+        ≡ right_by (term_of term.now) sym.now (all_typed_of args.items)
         (typed_conditions_of iflets.items) (rule_of rule.now)
         (option_map typed_expression_of expr) (progress_of progress.old)) }
 {
@@ -274,7 +270,7 @@ fn finish<'e>(
     };
     tell_priority(term, rule.prio, rule.pos, progress)?;
     Ok(Some(TypedRule {
-        term: sym.clone()?,
+        term: sym,
         args,
         iflets,
         expr,

@@ -4,12 +4,12 @@ use isle_base::lexer::Pos;
 use isle_check_typing::expressions::TypedExpression;
 use isle_check_typing::{Fault, TypedPattern};
 
-/// A rule whose patterns and expressions are typed, with types that the environment of its program
-/// holds. Its variables are numbered in the order in which they are bound, from 0.
+/// A rule whose patterns and expressions are typed. The environment of its program holds all names.
+/// Its variables are numbered in the order in which they are bound, from 0.
 #[derive(Drop)]
 pub struct TypedRule<'e> {
     /// The term of its left side.
-    pub term: String,
+    pub term: &'e str,
     /// The typed patterns of the term's arguments, in order, without those that have none.
     pub args: Vec<TypedPattern<'e>>,
     /// The conditions, in order, without those that have no typed pattern or expression.

@@ -1,5 +1,5 @@
 -- The typed patterns of code, as pure values.
-use Rattle.std.specs.Prelude.{[], List, ◌∷◌, codes, map, string_bytes}
+use Rattle.std.specs.Prelude.{[], List, ◌∷◌, codes, map}
 use Rattle.isle_check_typing.specs.Typed.{TypedNode, typed_bind, typed_var, typed_bool, typed_int, typed_const, typed_term, typed_wildcard, typed_and, TypedList, no_typed, more_typed}
 use Rattle.isle_check_typing.specs.declared.typed.TypedPattern.{TypedPattern}
 use Rattle.isle_check_typing.specs.declared.typed.TypedPattern.TheOpen.{TypedPattern-F}
@@ -15,8 +15,8 @@ typed_step (TypedPattern-F.Bind variable ty subpat) = typed_bind variable ty.now
 typed_step (TypedPattern-F.Var variable ty) = typed_var variable ty.now
 typed_step (TypedPattern-F.Bool val) = typed_bool val (codes "bool")
 typed_step (TypedPattern-F.Int val ty) = typed_int val ty.now
-typed_step (TypedPattern-F.Const name ty) = typed_const (string_bytes name) ty.now
-typed_step (TypedPattern-F.Term term ty args) = typed_term (string_bytes term) ty.now (typed_list_of args.items)
+typed_step (TypedPattern-F.Const name ty) = typed_const name.now ty.now
+typed_step (TypedPattern-F.Term term ty args) = typed_term term.now ty.now (typed_list_of args.items)
 typed_step (TypedPattern-F.Wildcard ty) = typed_wildcard ty.now
 typed_step (TypedPattern-F.And ty subpats) = typed_and ty.now (typed_list_of subpats.items)
 

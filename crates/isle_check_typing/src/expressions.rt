@@ -5,7 +5,6 @@ mod expressions;
 mod flags;
 pub mod laws;
 mod leaves;
-mod names;
 mod typed;
 mod uses;
 

@@ -19,6 +19,7 @@ ghost use Rattle.isle_check_typing.specs.TypedView.{typed_of};
 ghost use Rattle.isle_check_typing.specs.Views.{GivesTyping, GivesTypings, progress_of};
 
 use crate::fault::Kind;
+use crate::names::{known_constant, known_term};
 use crate::progress::{Progress, bind, find, tell};
 use crate::refusal::Refusal;
 use crate::typed::TypedPattern;
@@ -129,14 +130,14 @@ fn type_term<'e>(
         (name_of sym.now).text (pattern_list_of (patterns_of args.now)) pos
         ty.now (progress_of progress.old)) }
 {
-    match env.term(sym.0.as_str()) {
+    match known_term(env, sym.0.as_str()) {
         None => {
             tell(progress, Kind::TermUnknown(sym.0.clone()?), pos)?;
             Ok(None)
         }
-        Some(term) => {
+        Some((name, term)) => {
             type_found(
-                alloc, depth, env, pattern, term, &sym.0, args, pos, ty, progress,
+                alloc, depth, env, pattern, term, name, args, pos, ty, progress,
             )
         }
     }
@@ -150,7 +151,7 @@ fn type_found<'e>(
     env: &'e Environment,
     pattern: &Pattern,
     term: &'e Term,
-    sym: &String,
+    sym: &'e str,
     args: &[Pattern],
     pos: Pos,
     ty: &'e str,
@@ -158,7 +159,7 @@ fn type_found<'e>(
 ) -> Result<Option<TypedPattern<'e>>, Refusal>
     ensures { GivesTyping typed_of result progress.new
         (found_by (type_at depth (environment_of env.now)) (environment_of env.now)
-        (pattern_of pattern.now) (term_of term.now) (string_bytes sym.now)
+        (pattern_of pattern.now) (term_of term.now) sym.now
         (pattern_list_of (patterns_of args.now)) pos ty.now
         (progress_of progress.old)) }
 {
@@ -195,24 +196,14 @@ fn type_put<'e>(
         (put_by (type_at depth (environment_of env.now)) (string_bytes converter.now)
         (pattern_of pattern.now) pos ty.now (progress_of progress.old)) }
 {
-    let Some(term) = env.term(converter.as_str()) else {
+    let Some((name, term)) = known_term(env, converter.as_str()) else {
         return type_copied(alloc, depth, env, converter, pattern, pos, ty, progress);
     };
     if depth == 0 || term.ret.as_str() != ty {
         return type_copied(alloc, depth, env, converter, pattern, pos, ty, progress);
     }
     let args = slice::from_ref(pattern);
-    type_own(
-        alloc,
-        depth - 1,
-        env,
-        term,
-        converter,
-        args,
-        pos,
-        ty,
-        progress,
-    )
+    type_own(alloc, depth - 1, env, term, name, args, pos, ty, progress)
 }
 
 /// Types the term of a converter with a copy of a pattern.
@@ -248,7 +239,7 @@ fn type_own<'e>(
     depth: usize,
     env: &'e Environment,
     term: &'e Term,
-    sym: &String,
+    sym: &'e str,
     args: &[Pattern],
     pos: Pos,
     ty: &'e str,
@@ -256,12 +247,12 @@ fn type_own<'e>(
 ) -> Result<Option<TypedPattern<'e>>, Refusal>
     ensures { GivesTyping typed_of result progress.new
         (own_by (type_at depth (environment_of env.now)) (environment_of env.now)
-        (term_of term.now) (string_bytes sym.now) (pattern_list_of (patterns_of args.now))
+        (term_of term.now) sym.now (pattern_list_of (patterns_of args.now))
         pos ty.now (progress_of progress.old)) }
 {
     let given = count_patterns(args);
-    let counts = tell_count(term, sym, given, pos, progress)?;
-    match env.template(sym.as_str()) {
+    let counts = tell_count(alloc, term, sym, given, pos, progress)?;
+    match env.template(sym) {
         None => type_extracted(alloc, depth, env, term, sym, args, pos, progress),
         Some(template) => {
             type_filled(
@@ -280,7 +271,7 @@ fn type_filled<'e>(
     template: &Pattern,
     args: &[Pattern],
     counts: bool,
-    sym: &String,
+    sym: &'e str,
     pos: Pos,
     ty: &'e str,
     progress: &mut Progress<'e>,
@@ -288,12 +279,13 @@ fn type_filled<'e>(
     ensures { GivesTyping typed_of result progress.new
         (filled_by (type_at depth (environment_of env.now)) (plug (pattern_of template.now)
         (list_list (pattern_list_of (patterns_of args.now)))) counts
-        (string_bytes sym.now) pos ty.now (progress_of progress.old)) }
+        sym.now pos ty.now (progress_of progress.old)) }
 {
     match filled(alloc, template, args)? {
         None => {
             if counts {
-                tell(progress, Kind::ParameterWithoutArgument(sym.clone()?), pos)?;
+                let term = String::from_str(alloc, sym)?;
+                tell(progress, Kind::ParameterWithoutArgument(term), pos)?;
             }
             Ok(None)
         }
@@ -308,22 +300,23 @@ fn type_extracted<'e>(
     depth: usize,
     env: &'e Environment,
     term: &'e Term,
-    sym: &String,
+    sym: &'e str,
     args: &[Pattern],
     pos: Pos,
     progress: &mut Progress<'e>,
 ) -> Result<Option<TypedPattern<'e>>, Refusal>
     ensures { GivesTyping typed_of result progress.new
         (extracted_by (type_at depth (environment_of env.now)) (environment_of env.now)
-        (term_of term.now) (string_bytes sym.now) (pattern_list_of (patterns_of args.now))
+        (term_of term.now) sym.now (pattern_list_of (patterns_of args.now))
         pos (progress_of progress.old)) }
 {
-    if !env.has_extractor(sym.as_str()) {
-        tell(progress, Kind::NoExtractor(sym.clone()?), pos)?;
+    if !env.has_extractor(sym) {
+        let term = String::from_str(alloc, sym)?;
+        tell(progress, Kind::NoExtractor(term), pos)?;
     }
     let args = type_arguments(alloc, depth, env, args, &term.args, progress)?;
     Ok(Some(TypedPattern::Term {
-        term: sym.clone()?,
+        term: sym,
         ty: term.ret.as_str(),
         args,
     }))
@@ -384,8 +377,9 @@ pub fn type_arguments<'e>(
 
 /// Tells if a term has another number of arguments than are declared. Returns whether it has not.
 fn tell_count(
+    alloc: Global,
     term: &Term,
-    sym: &String,
+    sym: &str,
     given: usize,
     pos: Pos,
     progress: &mut Progress,
@@ -393,7 +387,7 @@ fn tell_count(
     ensures counts { IfOk result (λ counts. counts ≡ (length (term_of term.now).args == given)) }
     ensures told { OnOk result (progress_of progress.new
         ≡ unless (length (term_of term.now).args == given)
-        (argument_count (string_bytes sym.now) given (length (term_of term.now).args)) pos
+        (argument_count sym.now given (length (term_of term.now).args)) pos
         (progress_of progress.old)) }
 {
     let expected = term.args.len();
@@ -401,7 +395,7 @@ fn tell_count(
         return Ok(true);
     }
     let kind = Kind::ArgumentCount {
-        term: sym.clone()?,
+        term: String::from_str(alloc, sym)?,
         given,
         expected,
     };
@@ -582,23 +576,20 @@ fn type_constant<'e>(
         ≡ type_constant (environment_of env.now) (name_of name.now) pos ty.now
         (progress_of progress.old)) }
 {
-    match env.constant(name.0.as_str()) {
+    match known_constant(env, name.0.as_str()) {
         None => {
             tell(progress, Kind::ConstantUnknown(name.0.clone()?), pos)?;
             Ok(None)
         }
-        Some(known) => {
-            if known.as_str() != ty {
+        Some((name, known)) => {
+            if known != ty {
                 let kind = Kind::ConstantType {
                     expected: String::from_str(alloc, ty)?,
-                    found: known.clone()?,
+                    found: String::from_str(alloc, known)?,
                 };
                 tell(progress, kind, pos)?;
             }
-            Ok(Some(TypedPattern::Const {
-                name: name.0.clone()?,
-                ty: known.as_str(),
-            }))
+            Ok(Some(TypedPattern::Const { name, ty: known }))
         }
     }
 }

@@ -5,7 +5,7 @@ ghost use Rattle.isle_check_typing.specs.Typed.{type_of};
 ghost use Rattle.isle_check_typing.specs.TypedView.{typed_of};
 
 /// A pattern in which templates are filled and conversions are written out, with the type of each
-/// part, which the environment of the program holds. A variable is its number among the variables
+/// part. The environment of the program holds all names. A variable is its number among the variables
 /// of its rule, in the order in which they are bound, from 0.
 #[cycle(typed)]
 #[derive(Drop)]
@@ -32,12 +32,12 @@ pub enum TypedPattern<'e> {
     },
     /// A constant.
     Const {
-        name: String,
+        name: &'e str,
         ty: &'e str,
     },
     /// A term that matches by an external extractor, or a variant.
     Term {
-        term: String,
+        term: &'e str,
         ty: &'e str,
         args: Vec<TypedPattern<'e>>,
     },

@@ -18,9 +18,9 @@ ghost use Rattle.isle_check_typing.specs.expressions.Views.{parts_by, type_text}
 
 use crate::expressions::flags::Flags;
 use crate::expressions::leaves::{other_than, type_bool, type_constant, type_integer};
-use crate::expressions::names::known_type;
 use crate::expressions::typed::{TypedExpression, TypedLet};
 use crate::expressions::uses::{converting, count_arguments, count_expressions, use_term};
+use crate::names::{known_term, known_type};
 use crate::{Kind, Progress, Refusal, bind, find, hide_since, tell};
 use isle_ast_names::Ident;
 use isle_ast_rules::{Expr, LetDef};
@@ -148,7 +148,7 @@ fn type_put<'e>(
         (put_by (parts_by typer.entry) (string_bytes converter.now) (expression_of expr.now) pos
         ty.now (progress_of progress.old)) }
 {
-    let Some(term) = typer.env.term(converter.as_str()) else {
+    let Some((name, term)) = known_term(typer.env, converter.as_str()) else {
         return type_copied(typer, converter, expr, pos, ty, progress);
     };
     if typer.depth == 0 || term.ret.as_str() != ty {
@@ -160,14 +160,7 @@ fn type_put<'e>(
         env: typer.env,
         flags: typer.flags,
     };
-    type_own(
-        deeper,
-        term,
-        converter,
-        slice::from_ref(expr),
-        pos,
-        progress,
-    )
+    type_own(deeper, term, name, slice::from_ref(expr), pos, progress)
 }
 
 /// Types the term of a converter with a copy of an expression.
@@ -247,7 +240,7 @@ fn type_term<'e>(
         (name_of sym.now).text (expression_list_of (expressions_of args.now)) pos
         (type_text wanted.entry) (progress_of progress.old)) }
 {
-    let Some(term) = typer.env.term(sym.0.as_str()) else {
+    let Some((name, term)) = known_term(typer.env, sym.0.as_str()) else {
         let is_variable = find(&progress.bound, sym.0.as_str()).is_some();
         let kind = Kind::ExpressionTermUnknown {
             term: sym.0.clone()?,
@@ -257,7 +250,7 @@ fn type_term<'e>(
         return Ok(None);
     };
     let other = other_than(term.ret.as_str(), wanted);
-    type_term_as(typer, expr, term, &sym.0, args, pos, other, progress)
+    type_term_as(typer, expr, term, name, args, pos, other, progress)
 }
 
 /// Types a term that is known. `other` is the type that is wanted, if the term has another one.
@@ -266,7 +259,7 @@ fn type_term_as<'e>(
     typer: Typer<'e, '_>,
     expr: &Expr,
     term: &'e Term,
-    sym: &String,
+    sym: &'e str,
     args: &[Expr],
     pos: Pos,
     other: Option<&'e str>,
@@ -274,7 +267,7 @@ fn type_term_as<'e>(
 ) -> Result<Option<TypedExpression<'e>>, Refusal>
     ensures { GivesTyping typed_expression_of result progress.new
         (term_as (parts_by typer.entry) (environment_of typer.entry.env.now) typer.entry.flags
-        (term_of term.now) (type_text other.entry) (expression_of expr.now) (string_bytes sym.now)
+        (term_of term.now) (type_text other.entry) (expression_of expr.now) sym.now
         (expression_list_of (expressions_of args.now)) pos (progress_of progress.old)) }
 {
     if let Some(ty) = other {
@@ -295,20 +288,21 @@ fn type_term_as<'e>(
 fn type_own<'e>(
     typer: Typer<'e, '_>,
     term: &'e Term,
-    sym: &String,
+    sym: &'e str,
     args: &[Expr],
     pos: Pos,
     progress: &mut Progress<'e>,
 ) -> Result<Option<TypedExpression<'e>>, Refusal>
     ensures { GivesTyping typed_expression_of result progress.new
-        (own_by (parts_by typer.entry) typer.entry.flags (term_of term.now) (string_bytes sym.now)
+        (own_by (parts_by typer.entry) typer.entry.flags (term_of term.now) sym.now
         (expression_list_of (expressions_of args.now)) pos (progress_of progress.old)) }
 {
-    use_term(typer.flags, term, sym, pos, progress)?;
-    count_arguments(term, sym, count_expressions(args), pos, progress)?;
+    use_term(typer.alloc, typer.flags, term, sym, pos, progress)?;
+    let given = count_expressions(args);
+    count_arguments(typer.alloc, term, sym, given, pos, progress)?;
     let args = type_arguments(typer, args, &term.args, progress)?;
     Ok(Some(TypedExpression::Term {
-        term: sym.clone()?,
+        term: sym,
         ty: term.ret.as_str(),
         args,
     }))

@@ -10,6 +10,7 @@ ghost use Rattle.isle_check_typing.specs.expressions.TypedView.{typed_expression
 ghost use Rattle.isle_check_typing.specs.expressions.Views.{type_text};
 
 use crate::expressions::typed::TypedExpression;
+use crate::names::known_constant;
 use crate::{Kind, Progress, tell};
 use isle_ast_names::Ident;
 use isle_base::lexer::Pos;
@@ -100,21 +101,21 @@ pub fn type_constant<'e>(
         ≡ type_constant (environment_of env.now) (name_of name.now).text pos
         (type_text wanted.entry) (progress_of progress.old)) }
 {
-    match env.constant(name.0.as_str()) {
+    match known_constant(env, name.0.as_str()) {
         None => {
             tell(progress, Kind::ConstantUnknown(name.0.clone()?), pos)?;
             Ok(None)
         }
-        Some(known) => match other_than(known.as_str(), wanted) {
+        Some((text, known)) => match other_than(known, wanted) {
             None => Ok(Some(TypedExpression::Const {
-                name: name.0.clone()?,
-                ty: known.as_str(),
+                name: text,
+                ty: known,
             })),
             Some(ty) => {
                 let kind = Kind::ExpressionConstantType {
                     name: name.0.clone()?,
                     expected: String::from_str(alloc, ty)?,
-                    found: known.clone()?,
+                    found: String::from_str(alloc, known)?,
                 };
                 tell(progress, kind, pos)?;
                 Ok(None)

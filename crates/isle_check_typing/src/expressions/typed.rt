@@ -4,8 +4,8 @@ ghost use Rattle.std.specs.Prelude.{◌≡◌};
 ghost use Rattle.isle_check_typing.specs.expressions.TypedExpressions.{type_of_expression};
 ghost use Rattle.isle_check_typing.specs.expressions.TypedView.{typed_expression_of};
 
-/// An expression in which conversions are written out, with the type of each part, which the
-/// environment of the program holds. A variable is its number among the variables of its rule, in
+/// An expression in which conversions are written out, with the type of each part. The environment
+/// of the program holds all names. A variable is its number among the variables of its rule, in
 /// the order in which they are bound, from 0.
 #[cycle(typed_expression)]
 #[derive(Drop)]
@@ -26,12 +26,12 @@ pub enum TypedExpression<'e> {
     },
     /// A constant.
     Const {
-        name: String,
+        name: &'e str,
         ty: &'e str,
     },
     /// A term with its arguments.
     Term {
-        term: String,
+        term: &'e str,
         ty: &'e str,
         args: Vec<TypedExpression<'e>>,
     },
