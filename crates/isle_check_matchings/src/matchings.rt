@@ -114,7 +114,7 @@ fn are_none(found: &Vec<Warning>) -> bool
 
 fn constraints_of<'a>(alloc: Global, asks: Vec<Ask<'a>>) -> Result<Vec<Constrained<'a>>, AllocError>
     ensures { IfOk result
-        (λ made. all_constrained_of made.items ≡ constraints_of (asks_of asks.items)) }
+        (λ made. all_constrained_of made.items ≡ constraints_of (asks_of asks.entry.items)) }
 {
     let mut made = Vec::new(alloc);
     for ask in asks {

@@ -76,7 +76,7 @@ fn type_rules<'e>(
 /// Adds the typed rule and the errors of a rule.
 fn add_typing<'e>(typing: RuleTyping<'e>, made: &mut RulesTyping<'e>) -> Result<(), AllocError>
     ensures { OnOk result (rules_typing_of made.new
-        ≡ with_typing (rules_typing_of made.old) (rule_typing_of typing)) }
+        ≡ with_typing (rules_typing_of made.old) (rule_typing_of typing.entry)) }
 {
     let RuleTyping { typed, mut faults } = typing;
     if let Some(rule) = typed {

@@ -215,7 +215,7 @@ fn type_matched<'e>(
 ) -> Result<Option<TypedIfLet<'e>>, Refusal>
     ensures { GivesTyping typed_condition_of result progress.new
         (pattern_by depth (environment_of env.now) (pattern_of pattern.now)
-        (Some (typed_expression_of expr)) (progress_of progress.old)) }
+        (Some (typed_expression_of expr.entry)) (progress_of progress.old)) }
 {
     match type_pattern(alloc, depth, env, pattern, expr.ty(), progress)? {
         None => Ok(None),
@@ -237,7 +237,7 @@ fn type_right<'e>(
 ) -> Result<Option<TypedRule<'e>>, Refusal>
     ensures { GivesTyping typed_rule_of result progress.new
         (type_right depth (environment_of env.now) (term_of term.now) sym.now
-        (all_typed_of args.items) (typed_conditions_of iflets.items) (rule_of rule.now)
+        (all_typed_of args.entry.items) (typed_conditions_of iflets.entry.items) (rule_of rule.now)
         (progress_of progress.old)) }
 {
     let flags = rule_flags(term);
@@ -261,9 +261,9 @@ fn finish<'e>(
       typed = option_map typed_rule_of made;
       after = progress_of progress.new;
     }
-        ≡ right_by (term_of term.now) sym.now (all_typed_of args.items)
-        (typed_conditions_of iflets.items) (rule_of rule.now)
-        (option_map typed_expression_of expr) (progress_of progress.old)) }
+        ≡ right_by (term_of term.now) sym.now (all_typed_of args.entry.items)
+        (typed_conditions_of iflets.entry.items) (rule_of rule.now)
+        (option_map typed_expression_of expr.entry) (progress_of progress.old)) }
 {
     let Some(expr) = expr else {
         return Ok(None);

@@ -495,7 +495,7 @@ fn bind_to<'e>(
       typed = Some (typed_of made);
       after = progress_of progress.new;
     }
-        ≡ bind_to (typed_of inner) (name_of var.now) pos (progress_of progress.old)) }
+        ≡ bind_to (typed_of inner.entry) (name_of var.now) pos (progress_of progress.old)) }
 {
     let ty = inner.ty();
     let variable = progress.bound.len();

@@ -13,8 +13,8 @@ invariant-type_each-loop-pattern l =
 
 abbrev pub invariant-type_arguments-loop-number : goal.invariant-type_arguments-loop-number
 invariant-type_arguments-loop-number l =
-    arguments_by (type_at l.depth (environment_of l.env)) (pattern_list_of (patterns_of (drop l.number l.pattern-items))) (map string_bytes (drop l.number l.types.items)) (all_typed_of l.typed.items) (progress_of l.progress)
-    ≡ arguments_by (type_at l.depth (environment_of l.env)) (pattern_list_of (patterns_of l.pattern-items)) (map string_bytes l.types.items) [] (progress_of l.fn.progress)
+    arguments_by (type_at l.depth (environment_of l.env)) (pattern_list_of (patterns_of (drop l.number l.patterns))) (map string_bytes (drop l.number l.types.items)) (all_typed_of l.typed.items) (progress_of l.progress)
+    ≡ arguments_by (type_at l.depth (environment_of l.env)) (pattern_list_of (patterns_of l.patterns)) (map string_bytes l.types.items) [] (progress_of l.fn.progress)
 
 abbrev pub decreases-type_pattern : goal.decreases-type_pattern
 decreases-type_pattern l = 8 * l.depth

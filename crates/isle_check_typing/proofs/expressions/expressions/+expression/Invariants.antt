@@ -9,8 +9,8 @@ use Rattle.isle_check_typing.proofs.expressions.expressions.+expression.Given as
 
 abbrev pub invariant-type_arguments-loop-number : goal.invariant-type_arguments-loop-number
 invariant-type_arguments-loop-number l =
-    arguments_by (parts_by l.typer) (expression_list_of (expressions_of (drop l.number l.expr-items))) (map string_bytes (drop l.number l.types.items)) (map typed_expression_of l.typed.items) (progress_of l.progress)
-    ≡ arguments_by (parts_by l.typer) (expression_list_of (expressions_of l.expr-items)) (map string_bytes l.types.items) [] (progress_of l.fn.progress)
+    arguments_by (parts_by l.typer) (expression_list_of (expressions_of (drop l.number l.exprs))) (map string_bytes (drop l.number l.types.items)) (map typed_expression_of l.typed.items) (progress_of l.progress)
+    ≡ arguments_by (parts_by l.typer) (expression_list_of (expressions_of l.exprs)) (map string_bytes l.types.items) [] (progress_of l.fn.progress)
 
 abbrev pub invariant-type_lets-loop-def : goal.invariant-type_lets-loop-def
 invariant-type_lets-loop-def l =
