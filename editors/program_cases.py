@@ -190,6 +190,20 @@ PROGRAMS = [
         {"workspaceFolders": BOTH},
     ),
     Case(
+        "programs: isle.toml that has a mistake, in each of two folders: the reason tells that of the file's",
+        {
+            **{f"one/{path}": text for path, text in {**TREE, "isle.toml": MISTAKEN}.items()},
+            **{"two/a.isle": A, "two/b.isle": B, "two/isle.toml": "\n" + MISTAKEN},
+        },
+        [
+            ("refused", "two/b.isle", "foo", "bar", "cannot rename: {root}/two/isle.toml:4:1: error: unknown key 'file'"),
+            ("refused", f"one/{X64_FILE}", "lower", "low", "cannot rename: {root}/one/isle.toml:3:1: error: unknown key 'file'"),
+            ("open", "two/b.isle"),
+            ("refused", "two/b.isle", "foo", "bar", "cannot rename: {root}/two/isle.toml:4:1: error: unknown key 'file'"),
+        ],
+        {"workspaceFolders": BOTH},
+    ),
+    Case(
         "programs: requests that alternate between programs, more than the server keeps indexes of, while texts change",
         {"isle.toml": MANY, **{f"{it}.isle": B + "\n" * it + A for it in range(10)}},
         [

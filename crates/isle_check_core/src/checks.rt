@@ -139,7 +139,7 @@ fn of_typing<'a>(
 ) -> Result<Vec<Finding<'a>>, AllocError>
     ensures { IfOk result (λ found. findings_of found.items
         ≡ of_rules (environment_of env.now) (definitions_of defs.now)
-        (Ok (rules_typing_of made))) }
+        (Ok (rules_typing_of made.entry))) }
 {
     let RulesTyping { typed, faults } = made;
     let mut found = of_rule_faults(alloc, faults)?;

@@ -82,13 +82,13 @@ fn matching<'a>(
 {
     let has_several = has_several(alloc, terms, rule)?;
     let asks = rule_asks(alloc, terms, rule)?;
-    let constraints = constraints_of(alloc, &asks)?;
     let equal = equalities_of(alloc, &asks)?;
+    let constraints = constraints_of(alloc, asks)?;
     let clashes = clashes(alloc, &constraints)?;
     let settled = settle(alloc, constraints, equal)?;
     Ok(Matching {
-        term: rule.term.as_str(),
-        is_multi: is_multi(terms.env.term(rule.term.as_str())),
+        term: rule.term,
+        is_multi: is_multi(terms.env.term(rule.term)),
         has_several,
         prio: rule.prio,
         pos: rule.pos,
@@ -112,18 +112,14 @@ fn are_none(found: &Vec<Warning>) -> bool
     found.is_empty()
 }
 
-fn constraints_of<'a>(alloc: Global, asks: &[Ask<'a>]) -> Result<Vec<Constrained<'a>>, AllocError>
+fn constraints_of<'a>(alloc: Global, asks: Vec<Ask<'a>>) -> Result<Vec<Constrained<'a>>, AllocError>
     ensures { IfOk result
-        (λ made. all_constrained_of made.items ≡ constraints_of (asks_of asks.now)) }
+        (λ made. all_constrained_of made.items ≡ constraints_of (asks_of asks.entry.items)) }
 {
     let mut made = Vec::new(alloc);
     for ask in asks {
         if let Ask::Constrains(at, constraint) = ask {
-            let at = copied(alloc, at)?;
-            made.push(Constrained {
-                at,
-                constraint: *constraint,
-            })?;
+            made.push(Constrained { at, constraint })?;
         }
     }
     Ok(made)

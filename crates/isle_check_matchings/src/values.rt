@@ -147,18 +147,10 @@ pub fn expression_value<'a>(
 {
     match expr {
         TypedExpression::Var { variable, .. } => variable_value(alloc, known, *variable),
-        TypedExpression::Bool { val, ty } => {
-            plain(alloc, begin(alloc, Step::Bool(*val, ty.as_str()))?)
-        }
-        TypedExpression::Int { val, ty } => {
-            plain(alloc, begin(alloc, Step::Int(*val, ty.as_str()))?)
-        }
-        TypedExpression::Const { name, .. } => {
-            plain(alloc, begin(alloc, Step::Const(name.as_str()))?)
-        }
-        TypedExpression::Term { term, args, .. } => {
-            called(alloc, terms, known, term.as_str(), args)
-        }
+        TypedExpression::Bool { val } => plain(alloc, begin(alloc, Step::Bool(*val, "bool"))?),
+        TypedExpression::Int { val, ty } => plain(alloc, begin(alloc, Step::Int(*val, ty))?),
+        TypedExpression::Const { name, .. } => { plain(alloc, begin(alloc, Step::Const(name))?) }
+        TypedExpression::Term { term, args, .. } => { called(alloc, terms, known, term, args) }
         TypedExpression::Let { defs, body, .. } => {
             let inner = known_with(alloc, terms, known, defs)?;
             expression_value(alloc, terms, &inner, body)

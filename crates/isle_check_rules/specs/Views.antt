@@ -1,8 +1,6 @@
 -- Typed rules, warnings and answers of code, as pure values.
 use Rattle.std.specs.Prelude.{◌≡◌, ℕ, List, Result, Ok, Err, map, option_map, string_bytes}
 use Rattle.std.specs.Borrow.{Bor}
-use Rattle.std.specs.declared.alloc.Global.{Global}
-use Rattle.std.specs.declared.string.String.{String}
 use Rattle.isle_base_source.specs.declared.pos.Pos.{Pos}
 use Rattle.isle_ast_names.specs.declared.Ident.{Ident}
 use Rattle.isle_ast_names.specs.Tree.{Name}
@@ -32,7 +30,7 @@ typed_conditions_of cs = map typed_condition_of cs
 abbrev pub typed_rule_of : TypedRule → TypedRuleNode
 typed_rule_of r =
     record {
-      term = string_bytes r.term;
+      term = r.term.now;
       args = all_typed_of r.args.items;
       iflets = typed_conditions_of r.iflets.items;
       expr = typed_expression_of r.expr;
@@ -53,8 +51,8 @@ rules_typing_of r = record { typed = typed_rules_of r.typed.items; faults = faul
 abbrev pub heads_at : List (Pos × Bor Ident) → List (Pos × Name)
 heads_at hs = map (λ h. (h.0, name_of h.1.now)) hs
 
-abbrev pub texts_at : List (Bor (String Global)) → List (List ℕ)
-texts_at ts = map (λ t. string_bytes t.now) ts
+abbrev pub texts_at : List (Bor (List ℕ)) → List (List ℕ)
+texts_at ts = map (λ t. t.now) ts
 
 abbrev pub warning_kind_of : WarningKind → WarningKindNode
 warning_kind_of (kinds.NoConstructor term) = no_constructor (string_bytes term)

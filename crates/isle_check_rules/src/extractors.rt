@@ -1,6 +1,6 @@
 //! Extractors of multi terms in the patterns of rules.
 
-ghost use Rattle.std.specs.Prelude.{◌≡◌, ◌++◌, ◌∷◌, [], IfOk, OnOk, map, string_bytes};
+ghost use Rattle.std.specs.Prelude.{◌≡◌, ◌++◌, ◌∷◌, [], IfOk, OnOk, map};
 ghost use Rattle.std.specs.List.{filter, flat_map};
 ghost use Rattle.isle_check_environment.specs.signatures.Views.{environment_of};
 ghost use Rattle.isle_check_typing.specs.TypedView.{all_typed_of, typed_list_of, typed_of};
@@ -45,11 +45,11 @@ fn add_multi_extractors(
     ensures { OnOk result (warnings_of found.new.items ≡ warnings_of found.old.items
         ++ rule_multi_extractors (environment_of env.now) (typed_rule_of rule.now)) }
 {
-    if is_multi(env, rule.term.as_str()) {
+    if is_multi(env, rule.term) {
         return Ok(());
     }
     let terms = multi_terms(alloc, env, rule)?;
-    add_multi_warnings(rule.pos, &terms, found)
+    add_multi_warnings(alloc, rule.pos, &terms, found)
 }
 
 /// Returns whether a term is known, and multi.
@@ -67,7 +67,7 @@ fn multi_terms<'a>(
     alloc: Global,
     env: &Environment,
     rule: &'a TypedRule,
-) -> Result<Vec<&'a String>, AllocError>
+) -> Result<Vec<&'a str>, AllocError>
     ensures { IfOk result (λ found. texts_at found.items
         ≡ filter (is_multi (environment_of env.now)) (terms_in_patterns (typed_rule_of rule.now))) }
 {
@@ -80,7 +80,7 @@ fn multi_terms<'a>(
 fn add_of_conditions<'a>(
     env: &Environment,
     iflets: &'a [TypedIfLet],
-    found: &mut Vec<&'a String>,
+    found: &mut Vec<&'a str>,
 ) -> Result<(), AllocError>
     ensures { OnOk result (texts_at found.new.items ≡ texts_at found.old.items
         ++ filter (is_multi (environment_of env.now))
@@ -97,7 +97,7 @@ fn add_of_conditions<'a>(
 fn add_multi_terms<'a>(
     env: &Environment,
     pattern: &'a TypedPattern,
-    found: &mut Vec<&'a String>,
+    found: &mut Vec<&'a str>,
 ) -> Result<(), AllocError>
     ensures { OnOk result (texts_at found.new.items ≡ texts_at found.old.items
         ++ filter (is_multi (environment_of env.now)) (terms_in (typed_of pattern.now))) }
@@ -121,7 +121,7 @@ fn add_multi_terms<'a>(
 fn add_multi_terms_of<'a>(
     env: &Environment,
     patterns: &'a Vec<TypedPattern>,
-    found: &mut Vec<&'a String>,
+    found: &mut Vec<&'a str>,
 ) -> Result<(), AllocError>
     ensures { OnOk result (texts_at found.new.items ≡ texts_at found.old.items
         ++ filter (is_multi (environment_of env.now))
@@ -135,21 +135,22 @@ fn add_multi_terms_of<'a>(
 
 fn add_if_multi<'a>(
     env: &Environment,
-    term: &'a String,
-    found: &mut Vec<&'a String>,
+    term: &'a str,
+    found: &mut Vec<&'a str>,
 ) -> Result<(), AllocError>
     ensures { OnOk result (texts_at found.new.items ≡ texts_at found.old.items
-        ++ filter (is_multi (environment_of env.now)) (string_bytes term.now ∷ [])) }
+        ++ filter (is_multi (environment_of env.now)) (term.now ∷ [])) }
 {
-    if is_multi(env, term.as_str()) {
+    if is_multi(env, term) {
         found.push(term)?;
     }
     Ok(())
 }
 
 fn add_multi_warnings(
+    alloc: Global,
     pos: Pos,
-    terms: &[&String],
+    terms: &[&str],
     found: &mut Vec<Warning>,
 ) -> Result<(), AllocError>
     ensures { OnOk result (warnings_of found.new.items
@@ -157,7 +158,7 @@ fn add_multi_warnings(
 {
     for term in terms {
         found.push(Warning {
-            kind: WarningKind::MultiExtractor((*term).clone()?),
+            kind: WarningKind::MultiExtractor(String::from_str(alloc, term)?),
             pos,
         })?;
     }

@@ -32,12 +32,12 @@ use std::alloc::{AllocError, Global};
 /// `TooDeep` gives the position of the first rule in which more than `depth` patterns or
 /// expressions lie in one another once templates are filled and conversions are written out.
 /// `Memory` means out of memory.
-pub fn rule_faults(
+pub fn rule_faults<'e>(
     alloc: Global,
     depth: usize,
-    env: &Environment,
+    env: &'e Environment,
     defs: &[Def],
-) -> Result<RulesTyping, RuleRefusal>
+) -> Result<RulesTyping<'e>, RuleRefusal>
     ensures { GivesRules rules_typing_of result
         (rule_faults depth (environment_of env.now) (definitions_of defs.now)) }
 {
@@ -49,18 +49,18 @@ pub fn rule_faults(
     Ok(made)
 }
 
-fn type_rules(
+fn type_rules<'e>(
     alloc: Global,
     depth: usize,
-    env: &Environment,
+    env: &'e Environment,
     rules: &[&Rule],
-) -> Result<RulesTyping, RuleRefusal>
+) -> Result<RulesTyping<'e>, RuleRefusal>
     ensures { GivesRules rules_typing_of result
         (type_rules depth (environment_of env.now) (rules_at rules.now)
         (record { typed = []; faults = [] })) }
 {
     let mut made = RulesTyping {
-        typed: Vec::new(alloc),
+        typed: Vec::with_capacity(alloc, rules.len())?,
         faults: Vec::new(alloc),
     };
     for rule in rules {
@@ -74,9 +74,9 @@ fn type_rules(
 }
 
 /// Adds the typed rule and the errors of a rule.
-fn add_typing(typing: RuleTyping, made: &mut RulesTyping) -> Result<(), AllocError>
+fn add_typing<'e>(typing: RuleTyping<'e>, made: &mut RulesTyping<'e>) -> Result<(), AllocError>
     ensures { OnOk result (rules_typing_of made.new
-        ≡ with_typing (rules_typing_of made.old) (rule_typing_of typing)) }
+        ≡ with_typing (rules_typing_of made.old) (rule_typing_of typing.entry)) }
 {
     let RuleTyping { typed, mut faults } = typing;
     if let Some(rule) = typed {

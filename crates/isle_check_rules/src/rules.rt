@@ -24,7 +24,8 @@ use isle_base::lexer::Pos;
 use isle_check_environment::signatures::{Environment, Term};
 use isle_check_typing::expressions::{Flags, TypedExpression, type_expression};
 use isle_check_typing::{
-    Kind, Progress, Refusal, TypedPattern, no_progress, tell, type_arguments, type_pattern,
+    Kind, Progress, Refusal, TypedPattern, known_term, no_progress, tell, type_arguments,
+    type_pattern,
 };
 use std::alloc::{AllocError, Global};
 
@@ -33,26 +34,26 @@ use std::alloc::{AllocError, Global};
 ///
 /// `TooDeep` means that more than `depth` patterns or expressions lie in one another once templates
 /// are filled and conversions are written out. `Memory` means out of memory.
-pub fn type_rule(
+pub fn type_rule<'e>(
     alloc: Global,
     depth: usize,
-    env: &Environment,
+    env: &'e Environment,
     rule: &Rule,
-) -> Result<RuleTyping, Refusal>
+) -> Result<RuleTyping<'e>, Refusal>
     ensures { Gives rule_typing_of result
         (type_rule depth (environment_of env.now) (rule_of rule.now)) }
 {
     match &rule.pattern {
-        Pattern::Term { sym, args, .. } => {
-            let term = env.term(sym.0.as_str());
-            type_root(alloc, depth, env, term, &sym.0, args, rule)
-        }
+        Pattern::Term { sym, args, .. } => match known_term(env, sym.0.as_str()) {
+            None => Ok(no_typing(alloc)),
+            Some((name, term)) => type_root(alloc, depth, env, term, name, args, rule),
+        },
         _ => Ok(no_typing(alloc)),
     }
 }
 
 /// Returns the answer for a rule whose left side is no term that is known.
-fn no_typing(alloc: Global) -> RuleTyping
+fn no_typing<'e>(alloc: Global) -> RuleTyping<'e>
     ensures { rule_typing_of result ≡ record { typed = None; faults = [] } }
 {
     RuleTyping {
@@ -61,51 +62,45 @@ fn no_typing(alloc: Global) -> RuleTyping
     }
 }
 
-/// Types a rule of a term, if the term is known.
-fn type_root(
+/// Types a rule of a term that is known.
+fn type_root<'e>(
     alloc: Global,
     depth: usize,
-    env: &Environment,
-    term: Option<&Term>,
-    sym: &String,
+    env: &'e Environment,
+    term: &'e Term,
+    sym: &'e str,
     args: &Vec<Pattern>,
     rule: &Rule,
-) -> Result<RuleTyping, Refusal>
+) -> Result<RuleTyping<'e>, Refusal>
     ensures { Gives rule_typing_of result
-        (rule_by depth (environment_of env.now) (option_map (λ t. term_of t.now) term.entry)
-        (string_bytes sym.now) (pattern_list_of (patterns_of args.now.items))
-        (rule_of rule.now)) }
+        (rule_by depth (environment_of env.now) (Some (term_of term.now)) sym.now
+        (pattern_list_of (patterns_of args.now.items)) (rule_of rule.now)) }
 {
-    match term {
-        None => Ok(no_typing(alloc)),
-        Some(term) => {
-            let mut progress = no_progress(alloc);
-            let typed = type_sides(alloc, depth, env, term, sym, args, rule, &mut progress)?;
-            Ok(RuleTyping {
-                typed,
-                faults: progress.faults,
-            })
-        }
-    }
+    let mut progress = no_progress(alloc);
+    let typed = type_sides(alloc, depth, env, term, sym, args, rule, &mut progress)?;
+    Ok(RuleTyping {
+        typed,
+        faults: progress.faults,
+    })
 }
 
 /// Types the arguments, the conditions and the right side of a rule.
-fn type_sides(
+fn type_sides<'e>(
     alloc: Global,
     depth: usize,
-    env: &Environment,
-    term: &Term,
-    sym: &String,
+    env: &'e Environment,
+    term: &'e Term,
+    sym: &'e str,
     args: &Vec<Pattern>,
     rule: &Rule,
-    progress: &mut Progress,
-) -> Result<Option<TypedRule>, Refusal>
+    progress: &mut Progress<'e>,
+) -> Result<Option<TypedRule<'e>>, Refusal>
     ensures { GivesTyping typed_rule_of result progress.new
-        (type_sides depth (environment_of env.now) (term_of term.now) (string_bytes sym.now)
+        (type_sides depth (environment_of env.now) (term_of term.now) sym.now
         (pattern_list_of (patterns_of args.now.items)) (rule_of rule.now)
         (progress_of progress.old)) }
 {
-    tell_count(term, sym, count_patterns(args), rule.pos, progress)?;
+    tell_count(alloc, term, sym, count_patterns(args), rule.pos, progress)?;
     let args = type_arguments(alloc, depth, env, args, &term.args, progress)?;
     let flags = condition_flags(term);
     let iflets = type_conditions(alloc, depth, env, flags, &rule.iflets, progress)?;
@@ -122,21 +117,22 @@ fn count_patterns(patterns: &Vec<Pattern>) -> usize
 
 /// Tells if a term has another number of arguments than are declared.
 fn tell_count(
+    alloc: Global,
     term: &Term,
-    sym: &String,
+    sym: &str,
     given: usize,
     pos: Pos,
     progress: &mut Progress,
 ) -> Result<(), AllocError>
     ensures { OnOk result (progress_of progress.new
         ≡ unless (length (term_of term.now).args == given)
-        (argument_count (string_bytes sym.now) given (length (term_of term.now).args)) pos
+        (argument_count sym.now given (length (term_of term.now).args)) pos
         (progress_of progress.old)) }
 {
     let expected = term.args.len();
     if expected != given {
         let kind = Kind::ArgumentCount {
-            term: sym.clone()?,
+            term: String::from_str(alloc, sym)?,
             given,
             expected,
         };
@@ -168,19 +164,19 @@ fn rule_flags(term: &Term) -> Flags
 }
 
 /// Types conditions, one after another. Returns the typed conditions of those that have one.
-fn type_conditions(
+fn type_conditions<'e>(
     alloc: Global,
     depth: usize,
-    env: &Environment,
+    env: &'e Environment,
     flags: Flags,
     iflets: &[IfLet],
-    progress: &mut Progress,
-) -> Result<Vec<TypedIfLet>, Refusal>
+    progress: &mut Progress<'e>,
+) -> Result<Vec<TypedIfLet<'e>>, Refusal>
     ensures { GivesTypings typed_condition_of result progress.new
         (type_conditions depth (environment_of env.now) flags
         (conditions_of iflets.now) [] (progress_of progress.old)) }
 {
-    let mut typed = Vec::new(alloc);
+    let mut typed = Vec::with_capacity(alloc, iflets.len())?;
     for iflet in iflets {
         if let Some(made) = type_condition(alloc, depth, env, flags, iflet, progress)? {
             typed.push(made)?;
@@ -190,14 +186,14 @@ fn type_conditions(
 }
 
 /// Types a condition: first the expression, and then the pattern by the expression's type.
-fn type_condition(
+fn type_condition<'e>(
     alloc: Global,
     depth: usize,
-    env: &Environment,
+    env: &'e Environment,
     flags: Flags,
     iflet: &IfLet,
-    progress: &mut Progress,
-) -> Result<Option<TypedIfLet>, Refusal>
+    progress: &mut Progress<'e>,
+) -> Result<Option<TypedIfLet<'e>>, Refusal>
     ensures { GivesTyping typed_condition_of result progress.new
         (type_condition depth (environment_of env.now) flags
         (condition_of iflet.now) (progress_of progress.old)) }
@@ -209,73 +205,72 @@ fn type_condition(
 }
 
 /// Types the pattern of a condition by the type of its typed expression.
-fn type_matched(
+fn type_matched<'e>(
     alloc: Global,
     depth: usize,
-    env: &Environment,
+    env: &'e Environment,
     pattern: &Pattern,
-    expr: TypedExpression,
-    progress: &mut Progress,
-) -> Result<Option<TypedIfLet>, Refusal>
+    expr: TypedExpression<'e>,
+    progress: &mut Progress<'e>,
+) -> Result<Option<TypedIfLet<'e>>, Refusal>
     ensures { GivesTyping typed_condition_of result progress.new
         (pattern_by depth (environment_of env.now) (pattern_of pattern.now)
-        (Some (typed_expression_of expr)) (progress_of progress.old)) }
+        (Some (typed_expression_of expr.entry)) (progress_of progress.old)) }
 {
-    let ty = expr.ty()?;
-    match type_pattern(alloc, depth, env, pattern, &ty, progress)? {
+    match type_pattern(alloc, depth, env, pattern, expr.ty(), progress)? {
         None => Ok(None),
         Some(pattern) => Ok(Some(TypedIfLet { pattern, expr })),
     }
 }
 
 /// Types the right side of a rule.
-fn type_right(
+fn type_right<'e>(
     alloc: Global,
     depth: usize,
-    env: &Environment,
-    term: &Term,
-    sym: &String,
-    args: Vec<TypedPattern>,
-    iflets: Vec<TypedIfLet>,
+    env: &'e Environment,
+    term: &'e Term,
+    sym: &'e str,
+    args: Vec<TypedPattern<'e>>,
+    iflets: Vec<TypedIfLet<'e>>,
     rule: &Rule,
-    progress: &mut Progress,
-) -> Result<Option<TypedRule>, Refusal>
+    progress: &mut Progress<'e>,
+) -> Result<Option<TypedRule<'e>>, Refusal>
     ensures { GivesTyping typed_rule_of result progress.new
-        (type_right depth (environment_of env.now) (term_of term.now) (string_bytes sym.now)
-        (all_typed_of args.items) (typed_conditions_of iflets.items) (rule_of rule.now)
+        (type_right depth (environment_of env.now) (term_of term.now) sym.now
+        (all_typed_of args.entry.items) (typed_conditions_of iflets.entry.items) (rule_of rule.now)
         (progress_of progress.old)) }
 {
     let flags = rule_flags(term);
-    let wanted = Some(&term.ret);
+    let wanted = Some(term.ret.as_str());
     let expr = type_expression(alloc, depth, env, flags, &rule.expr, wanted, progress)?;
     Ok(finish(term, sym, args, iflets, rule, expr, progress)?)
 }
 
 /// Returns the typed rule, if the right side is typed. Tells its priority then, if it must have
 /// none.
-fn finish(
-    term: &Term,
-    sym: &String,
-    args: Vec<TypedPattern>,
-    iflets: Vec<TypedIfLet>,
+fn finish<'e>(
+    term: &'e Term,
+    sym: &'e str,
+    args: Vec<TypedPattern<'e>>,
+    iflets: Vec<TypedIfLet<'e>>,
     rule: &Rule,
-    expr: Option<TypedExpression>,
-    progress: &mut Progress,
-) -> Result<Option<TypedRule>, AllocError>
+    expr: Option<TypedExpression<'e>>,
+    progress: &mut Progress<'e>,
+) -> Result<Option<TypedRule<'e>>, AllocError>
     ensures { IfOk result (λ made. record {
       typed = option_map typed_rule_of made;
       after = progress_of progress.new;
     }
-        ≡ right_by (term_of term.now) (string_bytes sym.now) (all_typed_of args.items)
-        (typed_conditions_of iflets.items) (rule_of rule.now)
-        (option_map typed_expression_of expr) (progress_of progress.old)) }
+        ≡ right_by (term_of term.now) sym.now (all_typed_of args.entry.items)
+        (typed_conditions_of iflets.entry.items) (rule_of rule.now)
+        (option_map typed_expression_of expr.entry) (progress_of progress.old)) }
 {
     let Some(expr) = expr else {
         return Ok(None);
     };
     tell_priority(term, rule.prio, rule.pos, progress)?;
     Ok(Some(TypedRule {
-        term: sym.clone()?,
+        term: sym,
         args,
         iflets,
         expr,

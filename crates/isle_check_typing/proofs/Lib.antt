@@ -1,3 +1,4 @@
 pub mod Counts
 pub mod Hiding
 pub mod Keeping
+pub mod Puts

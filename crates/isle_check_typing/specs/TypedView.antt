@@ -1,5 +1,5 @@
 -- The typed patterns of code, as pure values.
-use Rattle.std.specs.Prelude.{[], List, ◌∷◌, map, string_bytes}
+use Rattle.std.specs.Prelude.{[], List, ◌∷◌, codes, map}
 use Rattle.isle_check_typing.specs.Typed.{TypedNode, typed_bind, typed_var, typed_bool, typed_int, typed_const, typed_term, typed_wildcard, typed_and, TypedList, no_typed, more_typed}
 use Rattle.isle_check_typing.specs.declared.typed.TypedPattern.{TypedPattern}
 use Rattle.isle_check_typing.specs.declared.typed.TypedPattern.TheOpen.{TypedPattern-F}
@@ -11,14 +11,14 @@ typed_list_of (p ∷ ps) = more_typed p (typed_list_of ps)
 
 -- one node, with its parts as pure values
 abbrev pub typed_step : TypedPattern-F TypedNode → TypedNode
-typed_step (TypedPattern-F.Bind variable ty subpat) = typed_bind variable (string_bytes ty) subpat.value
-typed_step (TypedPattern-F.Var variable ty) = typed_var variable (string_bytes ty)
-typed_step (TypedPattern-F.Bool val ty) = typed_bool val (string_bytes ty)
-typed_step (TypedPattern-F.Int val ty) = typed_int val (string_bytes ty)
-typed_step (TypedPattern-F.Const name ty) = typed_const (string_bytes name) (string_bytes ty)
-typed_step (TypedPattern-F.Term term ty args) = typed_term (string_bytes term) (string_bytes ty) (typed_list_of args.items)
-typed_step (TypedPattern-F.Wildcard ty) = typed_wildcard (string_bytes ty)
-typed_step (TypedPattern-F.And ty subpats) = typed_and (string_bytes ty) (typed_list_of subpats.items)
+typed_step (TypedPattern-F.Bind variable ty subpat) = typed_bind variable ty.now subpat.value
+typed_step (TypedPattern-F.Var variable ty) = typed_var variable ty.now
+typed_step (TypedPattern-F.Bool val) = typed_bool val (codes "bool")
+typed_step (TypedPattern-F.Int val ty) = typed_int val ty.now
+typed_step (TypedPattern-F.Const name ty) = typed_const name.now ty.now
+typed_step (TypedPattern-F.Term term ty args) = typed_term term.now ty.now (typed_list_of args.items)
+typed_step (TypedPattern-F.Wildcard ty) = typed_wildcard ty.now
+typed_step (TypedPattern-F.And ty subpats) = typed_and ty.now (typed_list_of subpats.items)
 
 abbrev pub typed_of : TypedPattern → TypedNode
 typed_of = fold-TypedPattern TypedNode typed_step

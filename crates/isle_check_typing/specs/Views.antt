@@ -48,7 +48,7 @@ abbrev pub faults_of : List Fault → List FaultNode
 faults_of fs = map fault_of fs
 
 abbrev pub variable_of : Variable → VariableNode
-variable_of v = record { name = string_bytes v.name; ty = string_bytes v.ty; is_visible = v.is_visible }
+variable_of v = record { name = string_bytes v.name; ty = v.ty.now; is_visible = v.is_visible }
 
 abbrev pub variables_of : List Variable → List VariableNode
 variables_of vs = map variable_of vs
@@ -57,7 +57,7 @@ abbrev pub progress_of : Progress → ProgressNode
 progress_of p = record { bound = variables_of p.bound.items; faults = faults_of p.faults.items }
 
 abbrev pub found_of : Found → FoundNode
-found_of f = record { number = f.number; ty = string_bytes f.ty.now }
+found_of f = record { number = f.number; ty = f.ty.now }
 
 abbrev pub Refuses : {Y : Type 0} → Refusal → Option Y → Type 0
 Refuses refusals.TooDeep made = made ≡ None

@@ -5,12 +5,14 @@
 pub mod expressions;
 mod fault;
 pub mod laws;
+mod names;
 mod patterns;
 mod progress;
 mod refusal;
 mod typed;
 
 pub use fault::{Fault, Kind};
+pub use names::known_term;
 pub use patterns::{type_arguments, type_pattern};
 pub use progress::{Found, Progress, Variable, bind, find, hide_since, no_progress, tell};
 pub use refusal::Refusal;

@@ -19,6 +19,7 @@ ghost use Rattle.isle_check_typing.specs.TypedView.{typed_of};
 ghost use Rattle.isle_check_typing.specs.Views.{GivesTyping, GivesTypings, progress_of};
 
 use crate::fault::Kind;
+use crate::names::{known_constant, known_term};
 use crate::progress::{Progress, bind, find, tell};
 use crate::refusal::Refusal;
 use crate::typed::TypedPattern;
@@ -27,6 +28,7 @@ use isle_ast_rules::Pattern;
 use isle_base::lexer::Pos;
 use isle_check_environment::signatures::{Environment, Term};
 use std::alloc::{AllocError, Global};
+use std::slice;
 
 /// Types a pattern that matches values of the type `ty`. Binds its variables and tells its errors
 /// in `progress`. Returns its typed pattern, if it has one.
@@ -35,16 +37,16 @@ use std::alloc::{AllocError, Global};
 /// conversions are written out. `Memory` means out of memory. After both nothing is known of
 /// `progress`.
 #[cycle(pattern)]
-pub fn type_pattern(
+pub fn type_pattern<'e>(
     alloc: Global,
     depth: usize,
-    env: &Environment,
+    env: &'e Environment,
     pattern: &Pattern,
-    ty: &String,
-    progress: &mut Progress,
-) -> Result<Option<TypedPattern>, Refusal>
+    ty: &'e str,
+    progress: &mut Progress<'e>,
+) -> Result<Option<TypedPattern<'e>>, Refusal>
     ensures { GivesTyping typed_of result progress.new
-        (type_at depth (environment_of env.now) (pattern_of pattern.now) (string_bytes ty.now)
+        (type_at depth (environment_of env.now) (pattern_of pattern.now) ty.now
         (progress_of progress.old)) }
 {
     if depth == 0 {
@@ -54,17 +56,17 @@ pub fn type_pattern(
 }
 
 #[cycle(pattern)]
-fn type_step(
+fn type_step<'e>(
     alloc: Global,
     depth: usize,
-    env: &Environment,
+    env: &'e Environment,
     pattern: &Pattern,
-    ty: &String,
-    progress: &mut Progress,
-) -> Result<Option<TypedPattern>, Refusal>
+    ty: &'e str,
+    progress: &mut Progress<'e>,
+) -> Result<Option<TypedPattern<'e>>, Refusal>
     ensures { GivesTyping typed_of result progress.new
         (step (type_at depth (environment_of env.now)) (environment_of env.now)
-        (pattern_of pattern.now) (string_bytes ty.now) (progress_of progress.old)) }
+        (pattern_of pattern.now) ty.now (progress_of progress.old)) }
 {
     match pattern {
         Pattern::Var { var, pos } => Ok(Some(type_variable(alloc, var, *pos, ty, progress)?)),
@@ -75,12 +77,14 @@ fn type_step(
             }
         }
         Pattern::ConstBool { val, pos } => Ok(Some(type_bool(alloc, *val, *pos, ty, progress)?)),
-        Pattern::ConstInt { val, pos } => Ok(Some(type_integer(env, *val, *pos, ty, progress)?)),
-        Pattern::ConstPrim { val, pos } => Ok(type_constant(env, val, *pos, ty, progress)?),
+        Pattern::ConstInt { val, pos } => Ok(Some(type_integer(
+            alloc, env, *val, *pos, ty, progress,
+        )?)),
+        Pattern::ConstPrim { val, pos } => Ok(type_constant(alloc, env, val, *pos, ty, progress)?),
         Pattern::Term { sym, args, pos } => {
             type_term(alloc, depth, env, pattern, sym, args, *pos, ty, progress)
         }
-        Pattern::Wildcard { .. } => Ok(Some(TypedPattern::Wildcard { ty: ty.clone()? })),
+        Pattern::Wildcard { .. } => Ok(Some(TypedPattern::Wildcard { ty })),
         Pattern::And { subpats, .. } => type_and(alloc, depth, env, subpats, ty, progress),
         Pattern::MacroArg { pos, .. } => {
             tell(progress, Kind::MacroArgument, *pos)?;
@@ -90,53 +94,50 @@ fn type_step(
 }
 
 #[cycle(pattern)]
-fn type_and(
+fn type_and<'e>(
     alloc: Global,
     depth: usize,
-    env: &Environment,
+    env: &'e Environment,
     subpats: &Vec<Pattern>,
-    ty: &String,
-    progress: &mut Progress,
-) -> Result<Option<TypedPattern>, Refusal>
+    ty: &'e str,
+    progress: &mut Progress<'e>,
+) -> Result<Option<TypedPattern<'e>>, Refusal>
     ensures { GivesTyping typed_of result progress.new
         (type_and (type_at depth (environment_of env.now))
-        (pattern_list_of (patterns_of subpats.now.items)) (string_bytes ty.now)
+        (pattern_list_of (patterns_of subpats.now.items)) ty.now
         (progress_of progress.old)) }
 {
     let subpats = type_each(alloc, depth, env, subpats, ty, progress)?;
-    Ok(Some(TypedPattern::And {
-        ty: ty.clone()?,
-        subpats,
-    }))
+    Ok(Some(TypedPattern::And { ty, subpats }))
 }
 
 /// Types a term with arguments.
 #[cycle(pattern)]
-fn type_term(
+fn type_term<'e>(
     alloc: Global,
     depth: usize,
-    env: &Environment,
+    env: &'e Environment,
     pattern: &Pattern,
     sym: &Ident,
-    args: &Vec<Pattern>,
+    args: &[Pattern],
     pos: Pos,
-    ty: &String,
-    progress: &mut Progress,
-) -> Result<Option<TypedPattern>, Refusal>
+    ty: &'e str,
+    progress: &mut Progress<'e>,
+) -> Result<Option<TypedPattern<'e>>, Refusal>
     ensures { GivesTyping typed_of result progress.new
         (term_by (type_at depth (environment_of env.now)) (environment_of env.now)
         ((environment_of env.now).terms (name_of sym.now).text) (pattern_of pattern.now)
-        (name_of sym.now).text (pattern_list_of (patterns_of args.now.items)) pos
-        (string_bytes ty.now) (progress_of progress.old)) }
+        (name_of sym.now).text (pattern_list_of (patterns_of args.now)) pos
+        ty.now (progress_of progress.old)) }
 {
-    match env.term(sym.0.as_str()) {
+    match known_term(env, sym.0.as_str()) {
         None => {
             tell(progress, Kind::TermUnknown(sym.0.clone()?), pos)?;
             Ok(None)
         }
-        Some(term) => {
+        Some((name, term)) => {
             type_found(
-                alloc, depth, env, pattern, term, &sym.0, args, pos, ty, progress,
+                alloc, depth, env, pattern, term, name, args, pos, ty, progress,
             )
         }
     }
@@ -144,32 +145,32 @@ fn type_term(
 
 /// Types a term that is known.
 #[cycle(pattern)]
-fn type_found(
+fn type_found<'e>(
     alloc: Global,
     depth: usize,
-    env: &Environment,
+    env: &'e Environment,
     pattern: &Pattern,
-    term: &Term,
-    sym: &String,
-    args: &Vec<Pattern>,
+    term: &'e Term,
+    sym: &'e str,
+    args: &[Pattern],
     pos: Pos,
-    ty: &String,
-    progress: &mut Progress,
-) -> Result<Option<TypedPattern>, Refusal>
+    ty: &'e str,
+    progress: &mut Progress<'e>,
+) -> Result<Option<TypedPattern<'e>>, Refusal>
     ensures { GivesTyping typed_of result progress.new
         (found_by (type_at depth (environment_of env.now)) (environment_of env.now)
-        (pattern_of pattern.now) (term_of term.now) (string_bytes sym.now)
-        (pattern_list_of (patterns_of args.now.items)) pos (string_bytes ty.now)
+        (pattern_of pattern.now) (term_of term.now) sym.now
+        (pattern_list_of (patterns_of args.now)) pos ty.now
         (progress_of progress.old)) }
 {
-    if term.ret.as_str() == ty.as_str() {
+    if term.ret.as_str() == ty {
         return type_own(alloc, depth, env, term, sym, args, pos, ty, progress);
     }
-    match converting(env, term.ret.as_str(), ty.as_str()) {
+    match converting(env, term.ret.as_str(), ty) {
         Some(converter) => type_put(alloc, depth, env, converter, pattern, pos, ty, progress),
         None => {
             let kind = Kind::TermType {
-                expected: ty.clone()?,
+                expected: String::from_str(alloc, ty)?,
                 found: term.ret.clone()?,
             };
             tell(progress, kind, pos)?;
@@ -178,21 +179,48 @@ fn type_found(
     }
 }
 
-/// Types a pattern that is put into a converter.
+/// Types a pattern that is put into a converter. One that matches values of the wanted type needs
+/// no conversion, so the pattern isn't copied for it.
 #[cycle(pattern)]
-fn type_put(
+fn type_put<'e>(
     alloc: Global,
     depth: usize,
-    env: &Environment,
+    env: &'e Environment,
     converter: &String,
     pattern: &Pattern,
     pos: Pos,
-    ty: &String,
-    progress: &mut Progress,
-) -> Result<Option<TypedPattern>, Refusal>
+    ty: &'e str,
+    progress: &mut Progress<'e>,
+) -> Result<Option<TypedPattern<'e>>, Refusal>
     ensures { GivesTyping typed_of result progress.new
         (put_by (type_at depth (environment_of env.now)) (string_bytes converter.now)
-        (pattern_of pattern.now) pos (string_bytes ty.now) (progress_of progress.old)) }
+        (pattern_of pattern.now) pos ty.now (progress_of progress.old)) }
+{
+    let Some((name, term)) = known_term(env, converter.as_str()) else {
+        return type_copied(alloc, depth, env, converter, pattern, pos, ty, progress);
+    };
+    if depth == 0 || term.ret.as_str() != ty {
+        return type_copied(alloc, depth, env, converter, pattern, pos, ty, progress);
+    }
+    let args = slice::from_ref(pattern);
+    type_own(alloc, depth - 1, env, term, name, args, pos, ty, progress)
+}
+
+/// Types the term of a converter with a copy of a pattern.
+#[cycle(pattern)]
+fn type_copied<'e>(
+    alloc: Global,
+    depth: usize,
+    env: &'e Environment,
+    converter: &String,
+    pattern: &Pattern,
+    pos: Pos,
+    ty: &'e str,
+    progress: &mut Progress<'e>,
+) -> Result<Option<TypedPattern<'e>>, Refusal>
+    ensures { GivesTyping typed_of result progress.new
+        (put_by (type_at depth (environment_of env.now)) (string_bytes converter.now)
+        (pattern_of pattern.now) pos ty.now (progress_of progress.old)) }
 {
     let mut args = Vec::new(alloc);
     args.push(pattern.clone()?)?;
@@ -206,25 +234,25 @@ fn type_put(
 
 /// Types a term that isn't converted.
 #[cycle(pattern)]
-fn type_own(
+fn type_own<'e>(
     alloc: Global,
     depth: usize,
-    env: &Environment,
-    term: &Term,
-    sym: &String,
-    args: &Vec<Pattern>,
+    env: &'e Environment,
+    term: &'e Term,
+    sym: &'e str,
+    args: &[Pattern],
     pos: Pos,
-    ty: &String,
-    progress: &mut Progress,
-) -> Result<Option<TypedPattern>, Refusal>
+    ty: &'e str,
+    progress: &mut Progress<'e>,
+) -> Result<Option<TypedPattern<'e>>, Refusal>
     ensures { GivesTyping typed_of result progress.new
         (own_by (type_at depth (environment_of env.now)) (environment_of env.now)
-        (term_of term.now) (string_bytes sym.now) (pattern_list_of (patterns_of args.now.items))
-        pos (string_bytes ty.now) (progress_of progress.old)) }
+        (term_of term.now) sym.now (pattern_list_of (patterns_of args.now))
+        pos ty.now (progress_of progress.old)) }
 {
     let given = count_patterns(args);
-    let counts = tell_count(term, sym, given, pos, progress)?;
-    match env.template(sym.as_str()) {
+    let counts = tell_count(alloc, term, sym, given, pos, progress)?;
+    match env.template(sym) {
         None => type_extracted(alloc, depth, env, term, sym, args, pos, progress),
         Some(template) => {
             type_filled(
@@ -236,27 +264,28 @@ fn type_own(
 
 /// Types what a template stands for with these arguments.
 #[cycle(pattern)]
-fn type_filled(
+fn type_filled<'e>(
     alloc: Global,
     depth: usize,
-    env: &Environment,
+    env: &'e Environment,
     template: &Pattern,
-    args: &Vec<Pattern>,
+    args: &[Pattern],
     counts: bool,
-    sym: &String,
+    sym: &'e str,
     pos: Pos,
-    ty: &String,
-    progress: &mut Progress,
-) -> Result<Option<TypedPattern>, Refusal>
+    ty: &'e str,
+    progress: &mut Progress<'e>,
+) -> Result<Option<TypedPattern<'e>>, Refusal>
     ensures { GivesTyping typed_of result progress.new
         (filled_by (type_at depth (environment_of env.now)) (plug (pattern_of template.now)
-        (list_list (pattern_list_of (patterns_of args.now.items)))) counts
-        (string_bytes sym.now) pos (string_bytes ty.now) (progress_of progress.old)) }
+        (list_list (pattern_list_of (patterns_of args.now)))) counts
+        sym.now pos ty.now (progress_of progress.old)) }
 {
     match filled(alloc, template, args)? {
         None => {
             if counts {
-                tell(progress, Kind::ParameterWithoutArgument(sym.clone()?), pos)?;
+                let term = String::from_str(alloc, sym)?;
+                tell(progress, Kind::ParameterWithoutArgument(term), pos)?;
             }
             Ok(None)
         }
@@ -266,48 +295,49 @@ fn type_filled(
 
 /// Types a term that has no template.
 #[cycle(pattern)]
-fn type_extracted(
+fn type_extracted<'e>(
     alloc: Global,
     depth: usize,
-    env: &Environment,
-    term: &Term,
-    sym: &String,
-    args: &Vec<Pattern>,
+    env: &'e Environment,
+    term: &'e Term,
+    sym: &'e str,
+    args: &[Pattern],
     pos: Pos,
-    progress: &mut Progress,
-) -> Result<Option<TypedPattern>, Refusal>
+    progress: &mut Progress<'e>,
+) -> Result<Option<TypedPattern<'e>>, Refusal>
     ensures { GivesTyping typed_of result progress.new
         (extracted_by (type_at depth (environment_of env.now)) (environment_of env.now)
-        (term_of term.now) (string_bytes sym.now) (pattern_list_of (patterns_of args.now.items))
+        (term_of term.now) sym.now (pattern_list_of (patterns_of args.now))
         pos (progress_of progress.old)) }
 {
-    if !env.has_extractor(sym.as_str()) {
-        tell(progress, Kind::NoExtractor(sym.clone()?), pos)?;
+    if !env.has_extractor(sym) {
+        let term = String::from_str(alloc, sym)?;
+        tell(progress, Kind::NoExtractor(term), pos)?;
     }
     let args = type_arguments(alloc, depth, env, args, &term.args, progress)?;
     Ok(Some(TypedPattern::Term {
-        term: sym.clone()?,
-        ty: term.ret.clone()?,
+        term: sym,
+        ty: term.ret.as_str(),
         args,
     }))
 }
 
 /// Types patterns that match one value.
 #[cycle(pattern)]
-fn type_each(
+fn type_each<'e>(
     alloc: Global,
     depth: usize,
-    env: &Environment,
+    env: &'e Environment,
     patterns: &Vec<Pattern>,
-    ty: &String,
-    progress: &mut Progress,
-) -> Result<Vec<TypedPattern>, Refusal>
+    ty: &'e str,
+    progress: &mut Progress<'e>,
+) -> Result<Vec<TypedPattern<'e>>, Refusal>
     ensures { GivesTypings typed_of result progress.new
         (each_by (type_at depth (environment_of env.now))
-        (pattern_list_of (patterns_of patterns.now.items)) (string_bytes ty.now) []
+        (pattern_list_of (patterns_of patterns.now.items)) ty.now []
         (progress_of progress.old)) }
 {
-    let mut typed = Vec::new(alloc);
+    let mut typed = Vec::with_capacity(alloc, patterns.len())?;
     for pattern in patterns {
         if let Some(made) = type_pattern(alloc, depth, env, pattern, ty, progress)? {
             typed.push(made)?;
@@ -319,25 +349,25 @@ fn type_each(
 /// Types patterns, each for a value of its type, as many as there are types. Returns the typed
 /// patterns of those that have one, in order. Errors are those of `type_pattern`.
 #[cycle(pattern)]
-pub fn type_arguments(
+pub fn type_arguments<'e>(
     alloc: Global,
     depth: usize,
-    env: &Environment,
-    patterns: &Vec<Pattern>,
-    types: &Vec<String>,
-    progress: &mut Progress,
-) -> Result<Vec<TypedPattern>, Refusal>
+    env: &'e Environment,
+    patterns: &[Pattern],
+    types: &'e Vec<String>,
+    progress: &mut Progress<'e>,
+) -> Result<Vec<TypedPattern<'e>>, Refusal>
     ensures { GivesTypings typed_of result progress.new
         (arguments_by (type_at depth (environment_of env.now))
-        (pattern_list_of (patterns_of patterns.now.items)) (map string_bytes types.now.items) []
+        (pattern_list_of (patterns_of patterns.now)) (map string_bytes types.now.items) []
         (progress_of progress.old)) }
 {
-    let mut typed = Vec::new(alloc);
+    let mut typed = Vec::with_capacity(alloc, patterns.len())?;
     for (number, pattern) in patterns.iter().enumerate() {
         if number >= types.len() {
             return Ok(typed);
         }
-        let ty = &types[number];
+        let ty = types[number].as_str();
         if let Some(made) = type_pattern(alloc, depth, env, pattern, ty, progress)? {
             typed.push(made)?;
         }
@@ -347,8 +377,9 @@ pub fn type_arguments(
 
 /// Tells if a term has another number of arguments than are declared. Returns whether it has not.
 fn tell_count(
+    alloc: Global,
     term: &Term,
-    sym: &String,
+    sym: &str,
     given: usize,
     pos: Pos,
     progress: &mut Progress,
@@ -356,7 +387,7 @@ fn tell_count(
     ensures counts { IfOk result (λ counts. counts ≡ (length (term_of term.now).args == given)) }
     ensures told { OnOk result (progress_of progress.new
         ≡ unless (length (term_of term.now).args == given)
-        (argument_count (string_bytes sym.now) given (length (term_of term.now).args)) pos
+        (argument_count sym.now given (length (term_of term.now).args)) pos
         (progress_of progress.old)) }
 {
     let expected = term.args.len();
@@ -364,7 +395,7 @@ fn tell_count(
         return Ok(true);
     }
     let kind = Kind::ArgumentCount {
-        term: sym.clone()?,
+        term: String::from_str(alloc, sym)?,
         given,
         expected,
     };
@@ -376,19 +407,19 @@ fn tell_count(
 fn filled(
     alloc: Global,
     template: &Pattern,
-    args: &Vec<Pattern>,
+    args: &[Pattern],
 ) -> Result<Option<Pattern>, AllocError>
     ensures { IfOk result (λ made. option_map pattern_of made
         ≡ plug (pattern_of template.now)
-        (list_list (pattern_list_of (patterns_of args.now.items)))) }
+        (list_list (pattern_list_of (patterns_of args.now)))) }
 {
     template.subst_macro_args(alloc, args)
 }
 
 /// Counts patterns.
 #[tactic(auto, using(crate::proofs::Counts::count_of))]
-fn count_patterns(patterns: &Vec<Pattern>) -> usize
-    ensures { result ≡ count_patterns (pattern_list_of (patterns_of patterns.now.items)) }
+fn count_patterns(patterns: &[Pattern]) -> usize
+    ensures { result ≡ count_patterns (pattern_list_of (patterns_of patterns.now)) }
 {
     patterns.len()
 }
@@ -411,69 +442,67 @@ fn converting<'a>(env: &'a Environment, inner: &str, outer: &str) -> Option<&'a 
 }
 
 /// Types a variable: the first of its name is bound, a later one is compared.
-fn type_variable(
+fn type_variable<'e>(
     alloc: Global,
     var: &Ident,
     pos: Pos,
-    ty: &String,
-    progress: &mut Progress,
-) -> Result<TypedPattern, AllocError>
+    ty: &'e str,
+    progress: &mut Progress<'e>,
+) -> Result<TypedPattern<'e>, AllocError>
     ensures { IfOk result (λ made. record {
       typed = Some (typed_of made);
       after = progress_of progress.new;
     }
-        ≡ type_variable (name_of var.now) pos (string_bytes ty.now) (progress_of progress.old)) }
+        ≡ type_variable (name_of var.now) pos ty.now (progress_of progress.old)) }
 {
     match find(&progress.bound, var.0.as_str()) {
         None => {
             let variable = progress.bound.len();
-            let subpat = TypedPattern::Wildcard { ty: ty.clone()? };
-            bind(progress, var.0.clone()?, ty.clone()?)?;
+            let subpat = TypedPattern::Wildcard { ty };
+            bind(progress, var.0.clone()?, ty)?;
             Ok(TypedPattern::Bind {
                 variable,
-                ty: ty.clone()?,
+                ty,
                 subpat: Box::new(alloc, subpat)?,
             })
         }
         Some(found) => {
-            let variable = found.number;
-            let known = found.ty.clone()?;
-            if known.as_str() != ty.as_str() {
+            if found.ty != ty {
                 let kind = Kind::VariableType {
                     name: var.0.clone()?,
-                    expected: ty.clone()?,
-                    found: known.clone()?,
+                    expected: String::from_str(alloc, ty)?,
+                    found: String::from_str(alloc, found.ty)?,
                 };
                 tell(progress, kind, pos)?;
             }
             Ok(TypedPattern::Var {
-                variable,
-                ty: known,
+                variable: found.number,
+                ty: found.ty,
             })
         }
     }
 }
 
 /// Binds a variable to the value that a typed pattern matches. It isn't bound before.
-fn bind_to(
+fn bind_to<'e>(
     alloc: Global,
-    inner: TypedPattern,
+    inner: TypedPattern<'e>,
     var: &Ident,
     pos: Pos,
-    progress: &mut Progress,
-) -> Result<TypedPattern, AllocError>
+    progress: &mut Progress<'e>,
+) -> Result<TypedPattern<'e>, AllocError>
     ensures { IfOk result (λ made. record {
       typed = Some (typed_of made);
       after = progress_of progress.new;
     }
-        ≡ bind_to (typed_of inner) (name_of var.now) pos (progress_of progress.old)) }
+        ≡ bind_to (typed_of inner.entry) (name_of var.now) pos (progress_of progress.old)) }
 {
-    let ty = inner.ty()?;
+    let ty = inner.ty();
     let variable = progress.bound.len();
     if find(&progress.bound, var.0.as_str()).is_some() {
         tell(progress, Kind::VariableBound(var.0.clone()?), pos)?;
     }
-    bind(progress, var.0.clone()?, ty.clone()?)?;
+    bind(progress, var.0.clone()?, ty)?;
     Ok(TypedPattern::Bind {
         variable,
         ty,
@@ -482,92 +511,85 @@ fn bind_to(
 }
 
 /// Types `true` or `false`.
-fn type_bool(
+fn type_bool<'e>(
     alloc: Global,
     val: bool,
     pos: Pos,
-    ty: &String,
-    progress: &mut Progress,
-) -> Result<TypedPattern, AllocError>
+    ty: &'e str,
+    progress: &mut Progress<'e>,
+) -> Result<TypedPattern<'e>, AllocError>
     ensures { IfOk result (λ made. record {
       typed = Some (typed_of made);
       after = progress_of progress.new;
     }
-        ≡ type_bool val pos (string_bytes ty.now) (progress_of progress.old)) }
+        ≡ type_bool val pos ty.now (progress_of progress.old)) }
 {
-    if ty.as_str() != "bool" {
+    if ty != "bool" {
         let kind = Kind::BoolType {
             val,
-            ty: ty.clone()?,
+            ty: String::from_str(alloc, ty)?,
         };
         tell(progress, kind, pos)?;
     }
-    Ok(TypedPattern::Bool {
-        val,
-        ty: String::from_str(alloc, "bool")?,
-    })
+    Ok(TypedPattern::Bool { val })
 }
 
 /// Types an integer.
-fn type_integer(
-    env: &Environment,
+fn type_integer<'e>(
+    alloc: Global,
+    env: &'e Environment,
     val: i128,
     pos: Pos,
-    ty: &String,
-    progress: &mut Progress,
-) -> Result<TypedPattern, AllocError>
+    ty: &'e str,
+    progress: &mut Progress<'e>,
+) -> Result<TypedPattern<'e>, AllocError>
     ensures { IfOk result (λ made. record {
       typed = Some (typed_of made);
       after = progress_of progress.new;
     }
-        ≡ type_integer (environment_of env.now) val pos (string_bytes ty.now)
+        ≡ type_integer (environment_of env.now) val pos ty.now
         (progress_of progress.old)) }
 {
-    if !env.is_number(ty.as_str()) {
+    if !env.is_number(ty) {
         let kind = Kind::IntegerType {
             val,
-            ty: ty.clone()?,
+            ty: String::from_str(alloc, ty)?,
         };
         tell(progress, kind, pos)?;
     }
-    Ok(TypedPattern::Int {
-        val,
-        ty: ty.clone()?,
-    })
+    Ok(TypedPattern::Int { val, ty })
 }
 
 /// Types a constant.
-fn type_constant(
-    env: &Environment,
+fn type_constant<'e>(
+    alloc: Global,
+    env: &'e Environment,
     name: &Ident,
     pos: Pos,
-    ty: &String,
-    progress: &mut Progress,
-) -> Result<Option<TypedPattern>, AllocError>
+    ty: &'e str,
+    progress: &mut Progress<'e>,
+) -> Result<Option<TypedPattern<'e>>, AllocError>
     ensures { IfOk result (λ made. record {
       typed = option_map typed_of made;
       after = progress_of progress.new;
     }
-        ≡ type_constant (environment_of env.now) (name_of name.now) pos (string_bytes ty.now)
+        ≡ type_constant (environment_of env.now) (name_of name.now) pos ty.now
         (progress_of progress.old)) }
 {
-    match env.constant(name.0.as_str()) {
+    match known_constant(env, name.0.as_str()) {
         None => {
             tell(progress, Kind::ConstantUnknown(name.0.clone()?), pos)?;
             Ok(None)
         }
-        Some(known) => {
-            if known.as_str() != ty.as_str() {
+        Some((name, known)) => {
+            if known != ty {
                 let kind = Kind::ConstantType {
-                    expected: ty.clone()?,
-                    found: known.clone()?,
+                    expected: String::from_str(alloc, ty)?,
+                    found: String::from_str(alloc, known)?,
                 };
                 tell(progress, kind, pos)?;
             }
-            Ok(Some(TypedPattern::Const {
-                name: name.0.clone()?,
-                ty: known.clone()?,
-            }))
+            Ok(Some(TypedPattern::Const { name, ty: known }))
         }
     }
 }

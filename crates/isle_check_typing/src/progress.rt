@@ -10,35 +10,35 @@ use std::alloc::{AllocError, Global};
 
 /// A variable that was bound.
 #[derive(Drop)]
-pub struct Variable {
+pub struct Variable<'e> {
     /// Its name.
     pub name: String,
     /// Its type.
-    pub ty: String,
+    pub ty: &'e str,
     /// Whether it may be named: it is no variable of a `let` that has ended.
     pub is_visible: bool,
 }
 
 /// What is known after a part of a rule.
 #[derive(Drop)]
-pub struct Progress {
+pub struct Progress<'e> {
     /// The variables that were bound, in order. A variable's number is its index.
-    pub bound: Vec<Variable>,
+    pub bound: Vec<Variable<'e>>,
     /// The errors, in order.
     pub faults: Vec<Fault>,
 }
 
 /// A variable that was found.
 #[derive(Clone, Copy)]
-pub struct Found<'a> {
+pub struct Found<'e> {
     /// Its number.
     pub number: usize,
     /// Its type.
-    pub ty: &'a String,
+    pub ty: &'e str,
 }
 
 /// Returns the progress before a rule: nothing is bound.
-pub fn no_progress(alloc: Global) -> Progress
+pub fn no_progress<'e>(alloc: Global) -> Progress<'e>
     ensures { progress_of result ≡ record { bound = []; faults = [] } }
 {
     Progress {
@@ -57,10 +57,10 @@ pub fn tell(progress: &mut Progress, kind: Kind, pos: Pos) -> Result<(), AllocEr
 }
 
 /// Binds a variable. An `Err` means out of memory.
-pub fn bind(progress: &mut Progress, name: String, ty: String) -> Result<(), AllocError>
+pub fn bind<'e>(progress: &mut Progress<'e>, name: String, ty: &'e str) -> Result<(), AllocError>
     ensures { OnOk result
         (progress_of progress.new
-        ≡ bind (string_bytes name) (string_bytes ty) (progress_of progress.old)) }
+        ≡ bind (string_bytes name) ty.now (progress_of progress.old)) }
 {
     progress.bound.push(Variable {
         name,
@@ -80,7 +80,7 @@ pub fn hide_since(progress: &mut Progress, count: usize)
 }
 
 /// Returns the last variable of this name that is visible.
-pub fn find<'a>(bound: &'a [Variable], name: &str) -> Option<Found<'a>>
+pub fn find<'e>(bound: &[Variable<'e>], name: &str) -> Option<Found<'e>>
     ensures { option_map found_of result ≡ find (variables_of bound.now) name.now }
 {
     let mut found = None;
@@ -88,7 +88,7 @@ pub fn find<'a>(bound: &'a [Variable], name: &str) -> Option<Found<'a>>
         if variable.is_visible && variable.name.as_str() == name {
             found = Some(Found {
                 number,
-                ty: &variable.ty,
+                ty: variable.ty,
             });
         }
     }

@@ -30,17 +30,31 @@ word_at texts s = record { text = text_at texts s.text; pos = record { file = s.
 abbrev pub with_binder : EventNode → ℕ → Option ℕ → SeenNode
 with_binder event number binder = record { event = event; number = number; binder = binder }
 
+-- the event of an entry
+abbrev pub event_in : List (String Global) → Entry → EventNode
+event_in texts (entries.Defines kind spot) = defines kind (word_at texts spot)
+event_in texts (entries.Uses kind spot) = uses kind (word_at texts spot)
+event_in texts (entries.DefinesVariant owner member) = defines_variant (word_at texts owner) (word_at texts member)
+event_in texts (entries.Occurs role spot binder) = occurs role (word_at texts spot)
+event_in texts (entries.Binds spot) = binds (word_at texts spot)
+event_in texts (entries.Reads spot binder) = reads (word_at texts spot)
+event_in texts entries.Closes = closes
+event_in texts entries.Ends = ends
+
+-- the number of the event that binds the variable of an entry with this number, if it has a bound variable
+abbrev pub binder_in : ℕ → Entry → Option ℕ
+binder_in number (entries.Defines kind spot) = None
+binder_in number (entries.Uses kind spot) = None
+binder_in number (entries.DefinesVariant owner member) = None
+binder_in number (entries.Occurs role spot binder) = Some binder
+binder_in number (entries.Binds spot) = Some number
+binder_in number (entries.Reads spot binder) = binder
+binder_in number entries.Closes = None
+binder_in number entries.Ends = None
+
 -- the event of an entry with this number
 abbrev pub unpacked : List (String Global) → ℕ → Entry → SeenNode
-unpacked texts number (entries.Defines kind spot) = with_binder (defines kind (word_at texts spot)) number None
-unpacked texts number (entries.Uses kind spot) = with_binder (uses kind (word_at texts spot)) number None
-unpacked texts number (entries.DefinesVariant owner member) =
-    with_binder (defines_variant (word_at texts owner) (word_at texts member)) number None
-unpacked texts number (entries.Occurs role spot binder) = with_binder (occurs role (word_at texts spot)) number (Some binder)
-unpacked texts number (entries.Binds spot) = with_binder (binds (word_at texts spot)) number (Some number)
-unpacked texts number (entries.Reads spot binder) = with_binder (reads (word_at texts spot)) number binder
-unpacked texts number entries.Closes = with_binder closes number None
-unpacked texts number entries.Ends = with_binder ends number None
+unpacked texts number e = with_binder (event_in texts e) number (binder_in number e)
 
 -- the events of entries, the first of which has this number
 abbrev pub unpacked_from : List (String Global) → ℕ → List Entry → List SeenNode

@@ -1,14 +1,14 @@
 //! Where names occur in the source.
 
 ghost use Rattle.std.specs.Prelude.{◌≡◌, IfOk, option_map};
-ghost use Rattle.isle_index.specs.Entries.{all_of};
+ghost use Rattle.isle_index.specs.Entries.{all_of, unpacked};
 ghost use Rattle.isle_resolve.specs.Names.{named_of};
 ghost use Rattle.isle_index.specs.Occurrences.{covers, definitions, is_covered, occurrence};
 ghost use Rattle.isle_index.specs.Occurrences.{occurrences, place, seen_at, written_len};
 ghost use Rattle.isle_resolve.specs.Scopes.{seen_of};
 ghost use Rattle.isle_resolve.specs.EventView.{word_of};
 
-use crate::entries::Entries;
+use crate::entries::{Entries, Entry};
 use isle_base::lexer::Pos;
 use isle_resolve::event::{Event, Kind, Word};
 use isle_resolve::names::{Name, is_number};
@@ -38,9 +38,8 @@ pub fn occurrences(
 {
     let mut found = Vec::new(alloc);
     for (number, entry) in entries.items.iter().enumerate() {
-        let event = entries.unpack(number, entry);
-        if name.is_of(&event) {
-            if let Some(occurrence) = occurrence_in(&event) {
+        if entries.is_of(name, number, entry) {
+            if let Some(occurrence) = occurrence_in(&entries.unpack(number, entry)) {
                 found.push(occurrence)?;
             }
         }
@@ -108,12 +107,31 @@ pub fn event_at<'a>(entries: &Entries<'a>, place: Pos) -> Option<Seen<'a>>
     ensures { option_map seen_of result ≡ seen_at place (all_of entries.now) }
 {
     for (number, entry) in entries.items.iter().enumerate() {
-        let event = entries.unpack(number, entry);
-        if is_covered(place, occurrence_in(&event)) {
-            return Some(event);
+        if is_at(entries, number, entry, place) {
+            return Some(entries.unpack(number, entry));
         }
     }
     None
+}
+
+/// Returns whether the name of the event of `entry`, whose number is `number`, covers `place`. Only
+/// an event of the same file is unpacked.
+fn is_at(entries: &Entries, number: usize, entry: &Entry, place: Pos) -> bool
+    ensures { result
+        ≡ is_covered place (occurrence (unpacked entries.now.texts.now number entry.now)) }
+{
+    match entry {
+        Entry::Defines(_, spot)
+        | Entry::Uses(_, spot)
+        | Entry::DefinesVariant { member: spot, .. }
+        | Entry::Occurs(_, spot, _)
+        | Entry::Binds(spot)
+        | Entry::Reads(spot, _) => {
+            spot.file as usize == place.file
+                && is_covered(place, occurrence_in(&entries.unpack(number, entry)))
+        }
+        Entry::Closes | Entry::Ends => false,
+    }
 }
 
 fn is_covered(place: Pos, occurrence: Option<Occurrence>) -> bool

@@ -2,7 +2,7 @@
 
 ghost use Rattle.std.specs.Prelude.{◌≡◌, IfOk, map, option_map};
 ghost use Rattle.std.specs.List.{list_any};
-ghost use Rattle.isle_index.specs.Entries.{all_of};
+ghost use Rattle.isle_index.specs.Entries.{all_of, event_in, unpacked};
 ghost use Rattle.isle_resolve.specs.Names.{is_number, named_of};
 ghost use Rattle.isle_index.specs.Renaming.{can_be_renamed, changed_places, changes, defines_it};
 ghost use Rattle.isle_index.specs.Renaming.{has_left, is_fixed, is_left, leaves};
@@ -15,11 +15,11 @@ ghost use Rattle.isle_index.specs.Renaming.{same_binders, with_text, writes_memb
 ghost use Rattle.isle_resolve.specs.Scopes.{seen, seen_of};
 ghost use Rattle.isle_resolve.specs.EventView.{event_of};
 
-use crate::entries::Entries;
+use crate::entries::{Entries, Entry};
 use isle_ast_names::identifier::is_identifier;
 use isle_base::lexer::Pos;
 use isle_resolve::event::{Event, Kind, Role, Word};
-use isle_resolve::names::{Name, full_name, gives, is_full_name, is_number};
+use isle_resolve::names::{Name, full_name, is_full_name, is_number};
 use isle_resolve::scopes::{Seen, bind, binder};
 use std::alloc::{AllocError, Global};
 
@@ -129,8 +129,7 @@ fn is_defined(entries: &Entries, name: &Name) -> bool
     ensures { result ≡ list_any (defines_it (named_of name.now)) (all_of entries.now) }
 {
     for (number, entry) in entries.items.iter().enumerate() {
-        let event = entries.unpack(number, entry);
-        if name.is_of(&event) && is_definition(&event) {
+        if entries.is_of(name, number, entry) && is_definition(&entries.unpack(number, entry)) {
             return true;
         }
     }
@@ -155,12 +154,22 @@ fn is_variant(entries: &Entries, name: &Name) -> bool
     ensures { result ≡ list_any (gives_variant (named_of name.now)) (all_of entries.now) }
 {
     for (number, entry) in entries.items.iter().enumerate() {
-        let event = entries.unpack(number, entry);
-        if name.is_of(&event) && matches!(event.event, Event::DefinesVariant { .. }) {
+        if gives_variant(entries, name, number, entry) {
             return true;
         }
     }
     false
+}
+
+/// Returns whether the event of `entry`, whose number is `number`, defines a variant of this name.
+fn gives_variant(entries: &Entries, name: &Name, number: usize, entry: &Entry) -> bool
+    ensures { result ≡ gives_variant (named_of name.now)
+        (unpacked entries.now.texts.now number entry.now) }
+{
+    match entry {
+        Entry::DefinesVariant { .. } => entries.is_of(name, number, entry),
+        _ => false,
+    }
 }
 
 /// Returns whether something else has the new name already.
@@ -231,27 +240,32 @@ fn has_shared(
     ensures { IfOk result (λ shared. shared ≡ list_any
         (λ s. shares owner.now (map (λ m. m.now) members.now) s.event) (all_of entries.now)) }
 {
-    for (number, entry) in entries.items.iter().enumerate() {
-        let event = entries.unpack(number, entry);
-        if shares(alloc, &event.event, owner, members)? {
+    for entry in entries.items {
+        if shares(alloc, entries, entry, owner, members)? {
             return Ok(true);
         }
     }
     Ok(false)
 }
 
-/// Returns whether an event defines a variant of another type that is the same term as one of
-/// `owner`'s.
-fn shares(alloc: Global, event: &Event, owner: &str, members: &[&str]) -> Result<bool, AllocError>
-    ensures { IfOk result (λ shared. shared
-        ≡ shares owner.now (map (λ m. m.now) members.now) (event_of event.now)) }
+/// Returns whether the event of an entry defines a variant of another type that is the same term as
+/// one of `owner`'s.
+fn shares(
+    alloc: Global,
+    entries: &Entries,
+    entry: &Entry,
+    owner: &str,
+    members: &[&str],
+) -> Result<bool, AllocError>
+    ensures { IfOk result (λ shared. shared ≡ shares owner.now (map (λ m. m.now) members.now)
+        (event_in entries.now.texts.now entry.now)) }
 {
-    match event {
-        Event::DefinesVariant {
+    match entry {
+        Entry::DefinesVariant {
             owner: other,
             member,
-        } if other.text != owner => {
-            let term = full_name(alloc, other.text, member.text)?;
+        } if entries.text_of(other) != owner => {
+            let term = full_name(alloc, entries.text_of(other), entries.text_of(member))?;
             Ok(is_member(term.as_str(), owner, members))
         }
         _ => Ok(false),
@@ -261,21 +275,23 @@ fn shares(alloc: Global, event: &Event, owner: &str, members: &[&str]) -> Result
 fn has(entries: &Entries, kind: Kind, text: &str) -> bool
     ensures { result ≡ has kind text.now (all_of entries.now) }
 {
-    for (number, entry) in entries.items.iter().enumerate() {
-        let event = entries.unpack(number, entry);
-        if gives(&event.event, kind, text) {
+    for entry in entries.items {
+        if entries.gives(entry, kind, text) {
             return true;
         }
     }
     false
 }
 
-/// The variant of the type `owner` that an event defines, if it defines one.
-fn member_of<'a>(event: &Event<'a>, owner: &str) -> Option<&'a str>
-    ensures { option_map (λ m. m.now) result ≡ member_of owner.now (event_of event.now) }
+/// The variant of the type `owner` that the event of an entry defines, if it defines one.
+fn member_of<'a>(entries: &Entries<'a>, entry: &Entry, owner: &str) -> Option<&'a str>
+    ensures { option_map (λ m. m.now) result
+        ≡ member_of owner.now (event_in entries.now.texts.now entry.now) }
 {
-    match event {
-        Event::DefinesVariant { owner: of, member } if of.text == owner => Some(member.text),
+    match entry {
+        Entry::DefinesVariant { owner: of, member } if entries.text_of(of) == owner => {
+            Some(entries.text_of(member))
+        }
         _ => None,
     }
 }
@@ -289,23 +305,22 @@ fn members<'a>(
         ≡ members owner.now (all_of entries.now)) }
 {
     let mut found = Vec::new(alloc);
-    for (number, entry) in entries.items.iter().enumerate() {
-        let event = entries.unpack(number, entry);
-        if let Some(member) = member_of(&event.event, owner) {
+    for entry in entries.items {
+        if let Some(member) = member_of(entries, entry, owner) {
             found.push(member)?;
         }
     }
     Ok(found)
 }
 
-/// Returns whether an event is a term `OWNER.MEMBER`, for one of `members`.
-fn writes_member(event: &Event, owner: &str, members: &[&str]) -> bool
-    ensures { result
-        ≡ writes_member owner.now (map (λ m. m.now) members.now) (event_of event.now) }
+/// Returns whether the event of an entry is a term `OWNER.MEMBER`, for one of `members`.
+fn writes_member(entries: &Entries, entry: &Entry, owner: &str, members: &[&str]) -> bool
+    ensures { result ≡ writes_member owner.now (map (λ m. m.now) members.now)
+        (event_in entries.now.texts.now entry.now) }
 {
-    match event {
-        Event::Defines(Kind::Term, word) | Event::Uses(Kind::Term, word) => {
-            is_member(word.text, owner, members)
+    match entry {
+        Entry::Defines(Kind::Term, spot) | Entry::Uses(Kind::Term, spot) => {
+            is_member(entries.text_of(spot), owner, members)
         }
         _ => false,
     }
@@ -324,18 +339,23 @@ fn is_member(text: &str, owner: &str, members: &[&str]) -> bool
 }
 
 /// Returns whether renaming `name`, whose variants are `members` if it is a type, changes the text
-/// of an event.
-fn changes(seen: &Seen, name: &Name, members: &[&str]) -> bool
-    ensures { result
-        ≡ changes (map (λ m. m.now) members.now) (named_of name.now) (seen_of seen.now) }
+/// of the event of `entry`, whose number is `number`.
+fn changes(entries: &Entries, number: usize, entry: &Entry, name: &Name, members: &[&str]) -> bool
+    ensures { result ≡ changes (map (λ m. m.now) members.now) (named_of name.now)
+        (unpacked entries.now.texts.now number entry.now) }
 {
     match name {
         Name::Global {
             kind: Kind::Type,
             text,
-        } => name.is_of(seen) || writes_member(&seen.event, text.as_str(), members),
-        Name::Global { .. } => name.is_of(seen),
-        Name::Variable { binder, text } => is_variable(seen, *binder, text.as_str()),
+        } => {
+            entries.is_of(name, number, entry)
+                || writes_member(entries, entry, text.as_str(), members)
+        }
+        Name::Global { .. } => entries.is_of(name, number, entry),
+        Name::Variable { binder, text } => {
+            is_variable(&entries.unpack(number, entry), *binder, text.as_str())
+        }
     }
 }
 
@@ -347,9 +367,8 @@ pub fn changed_places(alloc: Global, entries: &Entries, name: &Name) -> Result<V
     let members = members(alloc, entries, name.text())?;
     let mut places = Vec::new(alloc);
     for (number, entry) in entries.items.iter().enumerate() {
-        let event = entries.unpack(number, entry);
-        if changes(&event, name, &members) {
-            if let Some(place) = position(&event.event) {
+        if changes(entries, number, entry, name, &members) {
+            if let Some(place) = position(&entries.event_of(entry)) {
                 places.push(place)?;
             }
         }

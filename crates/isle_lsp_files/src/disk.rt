@@ -15,7 +15,7 @@ pub struct File {
     pub path: String,
     /// The URI of that path.
     pub uri: String,
-    /// Its text.
+    /// Its text. Where the file is open, its document has the text, and this one is empty.
     pub text: String,
 }
 
@@ -29,6 +29,7 @@ pub struct View {
     /// The programs that they make, each as a list of paths.
     pub programs: Vec<Vec<String>>,
     /// Why nothing is renamed: the mistake in the nearest `isle.toml` of a folder, if there is one.
+    /// Of several mistakes that in the `isle.toml` nearest to the file is told.
     pub mistake: Option<String>,
 }
 

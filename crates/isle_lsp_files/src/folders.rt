@@ -1,7 +1,7 @@
 //! The files below an editor's folders, read from the machine's disk.
 
 use crate::disk::{Disk, File, View};
-use crate::documents::{Document, document_at};
+use crate::documents::{Document, document_at, has_file};
 use isle_base_source::files::LineMap;
 use isle_cli::folders::files_of;
 use isle_cli::messages::message_line;
@@ -10,7 +10,7 @@ use isle_cli::sources::{SourceFault, read_file};
 use isle_lsp_frames::uris::{path_of, uri_of};
 use isle_program_manifest::disk::{NOBODY, find, is_listed, paths_of};
 use isle_program_manifest::manifest::{Manifest, ManifestFault, ProgramFiles, manifest_of};
-use isle_program_manifest::membership::has_file;
+use isle_program_manifest::membership;
 use std::alloc::{AllocError, Global};
 use std::collections::HashMap;
 use std::fs::{Files, canonicalize};
@@ -61,14 +61,11 @@ fn add_asked<R: Files + AllocGlobal + Clone + Drop>(
     view: &mut View,
 ) -> Result<(), AllocError> {
     let path = view.file.as_str();
-    let is_open = documents
-        .iter()
-        .any(|document| document.file.as_str() == path);
     let is_known = view.files.iter().any(|file| file.path.as_str() == path);
-    if is_open || is_known || !path.starts_with('/') {
+    if is_known || has_file(documents, path) || !path.starts_with('/') {
         return Ok(());
     }
-    add_file(rt, path, &mut view.files)
+    add_file(rt, path, documents, &mut view.files)
 }
 
 /// The file that a URI names: its real path, or the URI itself if it names none.
@@ -136,7 +133,7 @@ fn add_folder<R: Files + AllocGlobal + Clone + Drop>(
         if !top.is_empty() {
             match manifest_at(rt, path.as_str())? {
                 Ok(manifest) => return add_manifest(rt, top, &manifest, documents, view),
-                Err(mistake) => view.mistake = Some(mistake),
+                Err(mistake) => note_mistake(rt, path.as_str(), mistake, view)?,
             }
         }
     }
@@ -144,6 +141,32 @@ fn add_folder<R: Files + AllocGlobal + Clone + Drop>(
         return Ok(());
     }
     add_all_files(rt, folder, documents, view)
+}
+
+/// Notes the mistake in a manifest. Of several mistakes that in the manifest nearest to the view's
+/// file is noted, or else the first.
+fn note_mistake<R: Files + AllocGlobal + Clone + Drop>(
+    rt: &R,
+    path: &str,
+    mistake: String,
+    view: &mut View,
+) -> Result<(), AllocError> {
+    if view.mistake.is_none() || is_nearest(rt, path, view.file.as_str())? {
+        view.mistake = Some(mistake);
+    }
+    Ok(())
+}
+
+/// Returns whether a manifest is the nearest one in the folder of a file or above it.
+fn is_nearest<R: Files + AllocGlobal + Clone + Drop>(
+    rt: &R,
+    path: &str,
+    file: &str,
+) -> Result<bool, AllocError> {
+    match find(rt, folder_of(file))? {
+        Some(nearest) => Ok(nearest.as_str() == path),
+        None => Ok(false),
+    }
 }
 
 /// Returns whether a folder is below one of these.
@@ -226,7 +249,7 @@ fn add_program<R: Files + AllocGlobal + Clone + Drop>(
     for path in listed.paths {
         if let Some(path) = existing_path(rt, path.as_str())? {
             if !view.files.iter().any(|file| file.path == path) {
-                add_file(rt, path.as_str(), &mut view.files)?;
+                add_file(rt, path.as_str(), documents, &mut view.files)?;
             }
             add_path(&mut paths, path)?;
         }
@@ -236,7 +259,7 @@ fn add_program<R: Files + AllocGlobal + Clone + Drop>(
     }
     for document in documents {
         let path = document.file.as_str();
-        if is_covered(rt.alloc(), top, program, path)? && !has_file(&paths, path) {
+        if is_covered(rt.alloc(), top, program, path)? && !membership::has_file(&paths, path) {
             paths.push(String::from_str(rt.alloc(), path)?)?;
         }
     }
@@ -246,7 +269,7 @@ fn add_program<R: Files + AllocGlobal + Clone + Drop>(
 
 /// Adds a path, unless it is there.
 fn add_path(paths: &mut Vec<String>, path: String) -> Result<(), AllocError> {
-    if has_file(paths, path.as_str()) {
+    if membership::has_file(paths, path.as_str()) {
         return Ok(());
     }
     paths.push(path)?;
@@ -268,24 +291,37 @@ fn is_covered(
     }
 }
 
-/// Adds a file, unless it can't be read. Only a regular file is opened.
+/// Adds a file, unless it can't be read. Only a regular file is read, and none that is open.
 fn add_file<R: Files + AllocGlobal + Clone + Drop>(
     rt: &R,
     path: &str,
+    documents: &[Document],
     files: &mut Vec<File>,
 ) -> Result<(), AllocError> {
     if !is_file(rt, path) {
         return Ok(());
     }
+    if let Some(text) = text_of(rt, path, documents)? {
+        let uri = uri_of(rt.alloc(), path)?;
+        let path = String::from_str(rt.alloc(), path)?;
+        files.push(File { path, uri, text })?;
+    }
+    Ok(())
+}
+
+/// The text of a file, if it can be read. That of an open one is left out.
+fn text_of<R: Files + AllocGlobal + Clone + Drop>(
+    rt: &R,
+    path: &str,
+    documents: &[Document],
+) -> Result<Option<String>, AllocError> {
+    if has_file(documents, path) {
+        return Ok(Some(String::new(rt.alloc())));
+    }
     match read_file(rt, path) {
-        Ok(text) => {
-            let uri = uri_of(rt.alloc(), path)?;
-            let path = String::from_str(rt.alloc(), path)?;
-            files.push(File { path, uri, text })?;
-            Ok(())
-        }
+        Ok(text) => Ok(Some(text)),
         Err(SourceFault::Memory) => Err(AllocError),
-        Err(_) => Ok(()),
+        Err(_) => Ok(None),
     }
 }
 
@@ -303,7 +339,7 @@ fn add_all_files<R: Files + AllocGlobal + Clone + Drop>(
     documents: &[Document],
     view: &mut View,
 ) -> Result<(), AllocError> {
-    let files = read_folder(rt, folder)?;
+    let files = read_folder(rt, folder, documents)?;
     let texts = folder_texts(rt.alloc(), folder, &files, documents)?;
     add_programs(rt.alloc(), &texts, &mut view.programs)?;
     drop(texts);
@@ -322,11 +358,12 @@ fn add_all_files<R: Files + AllocGlobal + Clone + Drop>(
 fn read_folder<R: Files + AllocGlobal + Clone + Drop>(
     rt: &R,
     folder: &str,
+    documents: &[Document],
 ) -> Result<Vec<File>, AllocError> {
     let mut files = Vec::new(rt.alloc());
     let mut faults = String::new(rt.alloc());
     for path in files_of(rt, &NOBODY, folder, &[], &mut faults)? {
-        add_file(rt, path.as_str(), &mut files)?;
+        add_file(rt, path.as_str(), documents, &mut files)?;
     }
     Ok(files)
 }
@@ -376,20 +413,26 @@ fn add_programs(
     texts: &[FolderText],
     programs: &mut Vec<Vec<String>>,
 ) -> Result<(), AllocError> {
-    if !declares_twice(alloc, texts)? {
+    let folders = folders_in(alloc, texts)?;
+    if !declares_twice(alloc, texts, &folders)? {
         programs.push(all_paths(alloc, texts)?)?;
         return Ok(());
     }
+    for folder in folders {
+        programs.push(paths_above(alloc, texts, folder)?)?;
+    }
+    Ok(())
+}
+
+/// The folders of files, each once, sorted.
+fn folders_in<'a>(alloc: Global, texts: &[FolderText<'a>]) -> Result<Vec<&'a str>, AllocError> {
     let mut folders = Vec::new(alloc);
     for text in texts {
         folders.push(folder_of(text.path))?;
     }
     folders.sort()?;
     folders.dedup();
-    for folder in folders {
-        programs.push(paths_above(alloc, texts, folder)?)?;
-    }
-    Ok(())
+    Ok(folders)
 }
 
 /// The paths of the files that are in a folder or in one above it, sorted.
@@ -442,44 +485,71 @@ fn is_visible(folder: &str, path: &str) -> bool {
 }
 
 /// Returns whether two files declare one term, neither of which is in a folder above the other's.
-/// Declarations are the lines that begin with `(decl `.
-fn declares_twice(alloc: Global, texts: &[FolderText]) -> Result<bool, AllocError> {
-    let mut folders = HashMap::new(alloc);
+/// A declaration begins a line with `(decl `. A file whose folder is above or below each other one
+/// need not be read.
+fn declares_twice(
+    alloc: Global,
+    texts: &[FolderText],
+    folders: &[&str],
+) -> Result<bool, AllocError> {
+    let mut declared = HashMap::new(alloc);
     for text in texts {
         let folder = folder_of(text.path);
-        for line in text.text.as_bytes().split(|byte| *byte == b'\n') {
-            if let Some(name) = declared_name(line) {
-                if !is_declared_in(&mut folders, name, folder)? {
-                    return Ok(true);
-                }
-            }
+        if is_apart(folder, folders) && !are_declared_in(&mut declared, text.text, folder)? {
+            return Ok(true);
         }
     }
     Ok(false)
 }
 
+/// Returns whether one of these folders is neither above a folder nor below it.
+fn is_apart(folder: &str, folders: &[&str]) -> bool {
+    folders.iter().any(|other| !is_above(folder, other) && !is_above(other, folder))
+}
+
+/// Notes the terms that a text of a folder declares, until one is declared elsewhere. Returns
+/// whether there is none.
+fn are_declared_in<'a>(
+    declared: &mut HashMap<&'a str, &'a str>,
+    text: &'a str,
+    folder: &'a str,
+) -> Result<bool, AllocError> {
+    for (number, part) in text.split("\n(decl ").enumerate() {
+        let words = if number == 0 {
+            part.strip_prefix("(decl ").unwrap_or("")
+        } else {
+            part
+        };
+        if let Some(name) = declared_name(words) {
+            if !is_declared_in(declared, name, folder)? {
+                return Ok(false);
+            }
+        }
+    }
+    Ok(true)
+}
+
 /// Notes that a file of a folder declares a term. The deepest such folder so far is kept for each
 /// term. Returns whether that is the same folder as this one, or above it, or below it.
 fn is_declared_in<'a>(
-    folders: &mut HashMap<&'a str, &'a str>,
+    declared: &mut HashMap<&'a str, &'a str>,
     name: &'a str,
     folder: &'a str,
 ) -> Result<bool, AllocError> {
-    match folders.get(name).copied() {
-        Some(deepest) if is_above(folder, deepest) => Ok(true),
-        Some(deepest) if !is_above(deepest, folder) => Ok(false),
-        _ => {
-            folders.insert(name, folder)?;
+    match declared.insert(name, folder)? {
+        Some(deepest) if is_above(folder, deepest) => {
+            declared.insert(name, deepest)?;
             Ok(true)
         }
+        Some(deepest) => Ok(is_above(deepest, folder)),
+        None => Ok(true),
     }
 }
 
-fn declared_name(line: &[u8]) -> Option<&str> {
-    let words = line.strip_prefix(b"(decl ")?;
-    let word = str::from_utf8(words)
-        .ok()?
-        .split_whitespace()
+/// The term that the words after `(decl ` declare.
+fn declared_name(words: &str) -> Option<&str> {
+    let word = words
+        .split_ascii_whitespace()
         .find(|word| !DECLARATION_WORDS.contains(word))?;
     word.split(['(', ')', ';']).next()
 }

@@ -20,12 +20,14 @@ use crate::expressions::flags::Flags;
 use crate::expressions::leaves::{other_than, type_bool, type_constant, type_integer};
 use crate::expressions::typed::{TypedExpression, TypedLet};
 use crate::expressions::uses::{converting, count_arguments, count_expressions, use_term};
+use crate::names::{known_term, known_type};
 use crate::{Kind, Progress, Refusal, bind, find, hide_since, tell};
 use isle_ast_names::Ident;
 use isle_ast_rules::{Expr, LetDef};
 use isle_base::lexer::Pos;
 use isle_check_environment::signatures::{Environment, Term};
 use std::alloc::Global;
+use std::slice;
 
 /// What the parts of an expression are typed with.
 #[derive(Clone, Copy)]
@@ -44,15 +46,15 @@ pub struct Typer<'e, 'a> {
 /// `TooDeep` means that more than `depth` expressions lie in one another once conversions are
 /// written out. `Memory` means out of memory. After both nothing is known of `progress`.
 #[cycle(expression)]
-pub fn type_expression(
+pub fn type_expression<'e>(
     alloc: Global,
     depth: usize,
-    env: &Environment,
+    env: &'e Environment,
     flags: Flags,
     expr: &Expr,
-    wanted: Option<&String>,
-    progress: &mut Progress,
-) -> Result<Option<TypedExpression>, Refusal>
+    wanted: Option<&'e str>,
+    progress: &mut Progress<'e>,
+) -> Result<Option<TypedExpression<'e>>, Refusal>
     ensures { GivesTyping typed_expression_of result progress.new
         (expression_at depth (environment_of env.now) flags (expression_of expr.now)
         (type_text wanted.entry) (progress_of progress.old)) }
@@ -70,12 +72,12 @@ pub fn type_expression(
 }
 
 #[cycle(expression)]
-fn type_step(
-    typer: Typer,
+fn type_step<'e>(
+    typer: Typer<'e, '_>,
     expr: &Expr,
-    wanted: Option<&String>,
-    progress: &mut Progress,
-) -> Result<Option<TypedExpression>, Refusal>
+    wanted: Option<&'e str>,
+    progress: &mut Progress<'e>,
+) -> Result<Option<TypedExpression<'e>>, Refusal>
     ensures { GivesTyping typed_expression_of result progress.new
         (step (parts_by typer.entry) (environment_of typer.entry.env.now) typer.entry.flags
         (expression_of expr.now) (type_text wanted.entry) (progress_of progress.old)) }
@@ -88,20 +90,34 @@ fn type_step(
         Expr::ConstBool { val, pos } => {
             Ok(Some(type_bool(typer.alloc, *val, *pos, wanted, progress)?))
         }
-        Expr::ConstInt { val, pos } => Ok(type_integer(typer.env, *val, *pos, wanted, progress)?),
-        Expr::ConstPrim { val, pos } => Ok(type_constant(typer.env, val, *pos, wanted, progress)?),
+        Expr::ConstInt { val, pos } => Ok(type_integer(
+            typer.alloc,
+            typer.env,
+            *val,
+            *pos,
+            wanted,
+            progress,
+        )?),
+        Expr::ConstPrim { val, pos } => Ok(type_constant(
+            typer.alloc,
+            typer.env,
+            val,
+            *pos,
+            wanted,
+            progress,
+        )?),
         Expr::Let { defs, body, pos } => type_let(typer, defs, body, *pos, wanted, progress),
     }
 }
 
 /// Types a part of an expression.
 #[cycle(expression)]
-fn type_part(
-    typer: Typer,
+fn type_part<'e>(
+    typer: Typer<'e, '_>,
     expr: &Expr,
-    wanted: Option<&String>,
-    progress: &mut Progress,
-) -> Result<Option<TypedExpression>, Refusal>
+    wanted: Option<&'e str>,
+    progress: &mut Progress<'e>,
+) -> Result<Option<TypedExpression<'e>>, Refusal>
     ensures { GivesTyping typed_expression_of result progress.new
         (parts_by typer.entry (expression_of expr.now) (type_text wanted.entry)
         (progress_of progress.old)) }
@@ -117,19 +133,49 @@ fn type_part(
     )
 }
 
-/// Types an expression that is put into a converter.
+/// Types an expression that is put into a converter. One that gives the wanted type needs no
+/// conversion, so the expression isn't copied for it.
 #[cycle(expression)]
-fn type_put(
-    typer: Typer,
+fn type_put<'e>(
+    typer: Typer<'e, '_>,
     converter: &String,
     expr: &Expr,
     pos: Pos,
-    ty: &String,
-    progress: &mut Progress,
-) -> Result<Option<TypedExpression>, Refusal>
+    ty: &'e str,
+    progress: &mut Progress<'e>,
+) -> Result<Option<TypedExpression<'e>>, Refusal>
     ensures { GivesTyping typed_expression_of result progress.new
         (put_by (parts_by typer.entry) (string_bytes converter.now) (expression_of expr.now) pos
-        (string_bytes ty.now) (progress_of progress.old)) }
+        ty.now (progress_of progress.old)) }
+{
+    let Some((name, term)) = known_term(typer.env, converter.as_str()) else {
+        return type_copied(typer, converter, expr, pos, ty, progress);
+    };
+    if typer.depth == 0 || term.ret.as_str() != ty {
+        return type_copied(typer, converter, expr, pos, ty, progress);
+    }
+    let deeper = Typer {
+        alloc: typer.alloc,
+        depth: typer.depth - 1,
+        env: typer.env,
+        flags: typer.flags,
+    };
+    type_own(deeper, term, name, slice::from_ref(expr), pos, progress)
+}
+
+/// Types the term of a converter with a copy of an expression.
+#[cycle(expression)]
+fn type_copied<'e>(
+    typer: Typer<'e, '_>,
+    converter: &String,
+    expr: &Expr,
+    pos: Pos,
+    ty: &'e str,
+    progress: &mut Progress<'e>,
+) -> Result<Option<TypedExpression<'e>>, Refusal>
+    ensures { GivesTyping typed_expression_of result progress.new
+        (put_by (parts_by typer.entry) (string_bytes converter.now) (expression_of expr.now) pos
+        ty.now (progress_of progress.old)) }
 {
     let mut args = Vec::new(typer.alloc);
     args.push(expr.clone()?)?;
@@ -143,14 +189,14 @@ fn type_put(
 
 /// Types a variable.
 #[cycle(expression)]
-fn type_variable(
-    typer: Typer,
+fn type_variable<'e>(
+    typer: Typer<'e, '_>,
     expr: &Expr,
     name: &Ident,
     pos: Pos,
-    wanted: Option<&String>,
-    progress: &mut Progress,
-) -> Result<Option<TypedExpression>, Refusal>
+    wanted: Option<&'e str>,
+    progress: &mut Progress<'e>,
+) -> Result<Option<TypedExpression<'e>>, Refusal>
     ensures { GivesTyping typed_expression_of result progress.new
         (variable_by (parts_by typer.entry) (environment_of typer.entry.env.now)
         (find (progress_of progress.old).bound (name_of name.now).text) (expression_of expr.now)
@@ -160,43 +206,41 @@ fn type_variable(
         tell(progress, Kind::VariableUnknown(name.0.clone()?), pos)?;
         return Ok(None);
     };
-    let variable = found.number;
-    let known = found.ty.clone()?;
-    if let Some(ty) = other_than(known.as_str(), wanted) {
-        if let Some(converter) = converting(typer.env, known.as_str(), ty.as_str()) {
+    if let Some(ty) = other_than(found.ty, wanted) {
+        if let Some(converter) = converting(typer.env, found.ty, ty) {
             return type_put(typer, converter, expr, pos, ty, progress);
         }
         let kind = Kind::ExpressionVariableType {
             name: name.0.clone()?,
-            expected: ty.clone()?,
-            found: known.clone()?,
+            expected: String::from_str(typer.alloc, ty)?,
+            found: String::from_str(typer.alloc, found.ty)?,
         };
         tell(progress, kind, pos)?;
     }
     Ok(Some(TypedExpression::Var {
-        variable,
-        ty: known,
+        variable: found.number,
+        ty: found.ty,
     }))
 }
 
 /// Types a term with arguments.
 #[cycle(expression)]
-fn type_term(
-    typer: Typer,
+fn type_term<'e>(
+    typer: Typer<'e, '_>,
     expr: &Expr,
     sym: &Ident,
-    args: &Vec<Expr>,
+    args: &[Expr],
     pos: Pos,
-    wanted: Option<&String>,
-    progress: &mut Progress,
-) -> Result<Option<TypedExpression>, Refusal>
+    wanted: Option<&'e str>,
+    progress: &mut Progress<'e>,
+) -> Result<Option<TypedExpression<'e>>, Refusal>
     ensures { GivesTyping typed_expression_of result progress.new
         (term_by (parts_by typer.entry) (environment_of typer.entry.env.now) typer.entry.flags
         ((environment_of typer.entry.env.now).terms (name_of sym.now).text) (expression_of expr.now)
-        (name_of sym.now).text (expression_list_of (expressions_of args.now.items)) pos
+        (name_of sym.now).text (expression_list_of (expressions_of args.now)) pos
         (type_text wanted.entry) (progress_of progress.old)) }
 {
-    let Some(term) = typer.env.term(sym.0.as_str()) else {
+    let Some((name, term)) = known_term(typer.env, sym.0.as_str()) else {
         let is_variable = find(&progress.bound, sym.0.as_str()).is_some();
         let kind = Kind::ExpressionTermUnknown {
             term: sym.0.clone()?,
@@ -206,32 +250,32 @@ fn type_term(
         return Ok(None);
     };
     let other = other_than(term.ret.as_str(), wanted);
-    type_term_as(typer, expr, term, &sym.0, args, pos, other, progress)
+    type_term_as(typer, expr, term, name, args, pos, other, progress)
 }
 
 /// Types a term that is known. `other` is the type that is wanted, if the term has another one.
 #[cycle(expression)]
-fn type_term_as(
-    typer: Typer,
+fn type_term_as<'e>(
+    typer: Typer<'e, '_>,
     expr: &Expr,
-    term: &Term,
-    sym: &String,
-    args: &Vec<Expr>,
+    term: &'e Term,
+    sym: &'e str,
+    args: &[Expr],
     pos: Pos,
-    other: Option<&String>,
-    progress: &mut Progress,
-) -> Result<Option<TypedExpression>, Refusal>
+    other: Option<&'e str>,
+    progress: &mut Progress<'e>,
+) -> Result<Option<TypedExpression<'e>>, Refusal>
     ensures { GivesTyping typed_expression_of result progress.new
         (term_as (parts_by typer.entry) (environment_of typer.entry.env.now) typer.entry.flags
-        (term_of term.now) (type_text other.entry) (expression_of expr.now) (string_bytes sym.now)
-        (expression_list_of (expressions_of args.now.items)) pos (progress_of progress.old)) }
+        (term_of term.now) (type_text other.entry) (expression_of expr.now) sym.now
+        (expression_list_of (expressions_of args.now)) pos (progress_of progress.old)) }
 {
     if let Some(ty) = other {
-        if let Some(converter) = converting(typer.env, term.ret.as_str(), ty.as_str()) {
+        if let Some(converter) = converting(typer.env, term.ret.as_str(), ty) {
             return type_put(typer, converter, expr, pos, ty, progress);
         }
         let kind = Kind::ExpressionTermType {
-            expected: ty.clone()?,
+            expected: String::from_str(typer.alloc, ty)?,
             found: term.ret.clone()?,
         };
         tell(progress, kind, pos)?;
@@ -241,46 +285,47 @@ fn type_term_as(
 
 /// Types a term that isn't converted.
 #[cycle(expression)]
-fn type_own(
-    typer: Typer,
-    term: &Term,
-    sym: &String,
-    args: &Vec<Expr>,
+fn type_own<'e>(
+    typer: Typer<'e, '_>,
+    term: &'e Term,
+    sym: &'e str,
+    args: &[Expr],
     pos: Pos,
-    progress: &mut Progress,
-) -> Result<Option<TypedExpression>, Refusal>
+    progress: &mut Progress<'e>,
+) -> Result<Option<TypedExpression<'e>>, Refusal>
     ensures { GivesTyping typed_expression_of result progress.new
-        (own_by (parts_by typer.entry) typer.entry.flags (term_of term.now) (string_bytes sym.now)
-        (expression_list_of (expressions_of args.now.items)) pos (progress_of progress.old)) }
+        (own_by (parts_by typer.entry) typer.entry.flags (term_of term.now) sym.now
+        (expression_list_of (expressions_of args.now)) pos (progress_of progress.old)) }
 {
-    use_term(typer.flags, term, sym, pos, progress)?;
-    count_arguments(term, sym, count_expressions(args), pos, progress)?;
+    use_term(typer.alloc, typer.flags, term, sym, pos, progress)?;
+    let given = count_expressions(args);
+    count_arguments(typer.alloc, term, sym, given, pos, progress)?;
     let args = type_arguments(typer, args, &term.args, progress)?;
     Ok(Some(TypedExpression::Term {
-        term: sym.clone()?,
-        ty: term.ret.clone()?,
+        term: sym,
+        ty: term.ret.as_str(),
         args,
     }))
 }
 
 /// Types expressions, each of its type, as many as there are types.
 #[cycle(expression)]
-fn type_arguments(
-    typer: Typer,
-    exprs: &Vec<Expr>,
-    types: &Vec<String>,
-    progress: &mut Progress,
-) -> Result<Vec<TypedExpression>, Refusal>
+fn type_arguments<'e>(
+    typer: Typer<'e, '_>,
+    exprs: &[Expr],
+    types: &'e Vec<String>,
+    progress: &mut Progress<'e>,
+) -> Result<Vec<TypedExpression<'e>>, Refusal>
     ensures { GivesTypings typed_expression_of result progress.new
-        (arguments_by (parts_by typer.entry) (expression_list_of (expressions_of exprs.now.items))
+        (arguments_by (parts_by typer.entry) (expression_list_of (expressions_of exprs.now))
         (map string_bytes types.now.items) [] (progress_of progress.old)) }
 {
-    let mut typed = Vec::new(typer.alloc);
+    let mut typed = Vec::with_capacity(typer.alloc, exprs.len())?;
     for (number, expr) in exprs.iter().enumerate() {
         if number >= types.len() {
             return Ok(typed);
         }
-        if let Some(made) = type_part(typer, expr, Some(&types[number]), progress)? {
+        if let Some(made) = type_part(typer, expr, Some(types[number].as_str()), progress)? {
             typed.push(made)?;
         }
     }
@@ -289,14 +334,14 @@ fn type_arguments(
 
 /// Types a `let`.
 #[cycle(expression)]
-fn type_let(
-    typer: Typer,
+fn type_let<'e>(
+    typer: Typer<'e, '_>,
     defs: &Vec<LetDef>,
     body: &Expr,
     pos: Pos,
-    wanted: Option<&String>,
-    progress: &mut Progress,
-) -> Result<Option<TypedExpression>, Refusal>
+    wanted: Option<&'e str>,
+    progress: &mut Progress<'e>,
+) -> Result<Option<TypedExpression<'e>>, Refusal>
     ensures { GivesTyping typed_expression_of result progress.new
         (type_let (parts_by typer.entry) (environment_of typer.entry.env.now)
         (let_list_of (single_lets_of defs.now.items)) (expression_of body.now) pos
@@ -309,7 +354,7 @@ fn type_let(
     match body {
         None => Ok(None),
         Some(body) => Ok(Some(TypedExpression::Let {
-            ty: body.ty()?,
+            ty: body.ty(),
             defs,
             body: Box::new(typer.alloc, body)?,
         })),
@@ -318,17 +363,17 @@ fn type_let(
 
 /// Types the values of the variables of a `let` at this position, and binds the variables.
 #[cycle(expression)]
-fn type_lets(
-    typer: Typer,
+fn type_lets<'e>(
+    typer: Typer<'e, '_>,
     defs: &Vec<LetDef>,
     pos: Pos,
-    progress: &mut Progress,
-) -> Result<Vec<TypedLet>, Refusal>
+    progress: &mut Progress<'e>,
+) -> Result<Vec<TypedLet<'e>>, Refusal>
     ensures { GivesTypings typed_let_of result progress.new
         (lets_by (parts_by typer.entry) (environment_of typer.entry.env.now) pos
         (let_list_of (single_lets_of defs.now.items)) [] (progress_of progress.old)) }
 {
-    let mut typed = Vec::new(typer.alloc);
+    let mut typed = Vec::with_capacity(typer.alloc, defs.len())?;
     for def in defs {
         if let Some(made) = type_let_def(typer, def, pos, progress)? {
             typed.push(made)?;
@@ -339,32 +384,31 @@ fn type_lets(
 
 /// Types the value of a variable of a `let` at this position, and binds the variable.
 #[cycle(expression)]
-fn type_let_def(
-    typer: Typer,
+fn type_let_def<'e>(
+    typer: Typer<'e, '_>,
     def: &LetDef,
     pos: Pos,
-    progress: &mut Progress,
-) -> Result<Option<TypedLet>, Refusal>
+    progress: &mut Progress<'e>,
+) -> Result<Option<TypedLet<'e>>, Refusal>
     ensures { GivesTyping typed_let_of result progress.new
         (let_by (parts_by typer.entry) (environment_of typer.entry.env.now) pos
         (name_of def.now.var).text (name_of def.now.ty).text (expression_of def.now.val.value)
         (progress_of progress.old)) }
 {
     let name = &def.var.0;
-    let ty = &def.ty.0;
-    if !typer.env.is_type(ty.as_str()) {
+    let Some(ty) = known_type(typer.env, def.ty.0.as_str()) else {
         let kind = Kind::LetTypeUnknown {
             name: name.clone()?,
-            ty: ty.clone()?,
+            ty: def.ty.0.clone()?,
         };
         tell(progress, kind, pos)?;
         return Ok(None);
-    }
+    };
     let Some(val) = type_part(typer, &def.val, Some(ty), progress)? else {
         return Ok(None);
     };
     let variable = progress.bound.len();
-    bind(progress, name.clone()?, ty.clone()?)?;
+    bind(progress, name.clone()?, ty)?;
     Ok(Some(TypedLet {
         variable,
         val: Box::new(typer.alloc, val)?,

@@ -1,6 +1,6 @@
 //! The types of literals and constants.
 
-ghost use Rattle.std.specs.Prelude.{◌≡◌, IfOk, Some, option_map, string_bytes};
+ghost use Rattle.std.specs.Prelude.{◌≡◌, IfOk, Some, option_map};
 ghost use Rattle.isle_ast_names.specs.TreeView.{name_of};
 ghost use Rattle.isle_check_environment.specs.signatures.Views.{environment_of};
 ghost use Rattle.isle_check_typing.specs.Views.{progress_of};
@@ -10,6 +10,7 @@ ghost use Rattle.isle_check_typing.specs.expressions.TypedView.{typed_expression
 ghost use Rattle.isle_check_typing.specs.expressions.Views.{type_text};
 
 use crate::expressions::typed::TypedExpression;
+use crate::names::known_constant;
 use crate::{Kind, Progress, tell};
 use isle_ast_names::Ident;
 use isle_base::lexer::Pos;
@@ -17,23 +18,23 @@ use isle_check_environment::signatures::Environment;
 use std::alloc::{AllocError, Global};
 
 /// Returns the type that is wanted, if it is another one than what is found.
-pub fn other_than<'a>(found: &str, wanted: Option<&'a String>) -> Option<&'a String>
+pub fn other_than<'e>(found: &str, wanted: Option<&'e str>) -> Option<&'e str>
     ensures { type_text result ≡ other_than found.now (type_text wanted.entry) }
 {
     match wanted {
         None => None,
-        Some(ty) => { if found == ty.as_str() { None } else { Some(ty) } }
+        Some(ty) => { if found == ty { None } else { Some(ty) } }
     }
 }
 
 /// Types `true` or `false`.
-pub fn type_bool(
+pub fn type_bool<'e>(
     alloc: Global,
     val: bool,
     pos: Pos,
-    wanted: Option<&String>,
-    progress: &mut Progress,
-) -> Result<TypedExpression, AllocError>
+    wanted: Option<&'e str>,
+    progress: &mut Progress<'e>,
+) -> Result<TypedExpression<'e>, AllocError>
     ensures { IfOk result (λ made. record {
       typed = Some (typed_expression_of made);
       after = progress_of progress.new;
@@ -43,24 +44,22 @@ pub fn type_bool(
     if let Some(ty) = other_than("bool", wanted) {
         let kind = Kind::BoolType {
             val,
-            ty: ty.clone()?,
+            ty: String::from_str(alloc, ty)?,
         };
         tell(progress, kind, pos)?;
     }
-    Ok(TypedExpression::Bool {
-        val,
-        ty: String::from_str(alloc, "bool")?,
-    })
+    Ok(TypedExpression::Bool { val })
 }
 
 /// Types an integer.
-pub fn type_integer(
-    env: &Environment,
+pub fn type_integer<'e>(
+    alloc: Global,
+    env: &'e Environment,
     val: i128,
     pos: Pos,
-    wanted: Option<&String>,
-    progress: &mut Progress,
-) -> Result<Option<TypedExpression>, AllocError>
+    wanted: Option<&'e str>,
+    progress: &mut Progress<'e>,
+) -> Result<Option<TypedExpression<'e>>, AllocError>
     ensures { IfOk result (λ made. record {
       typed = option_map typed_expression_of made;
       after = progress_of progress.new;
@@ -74,29 +73,27 @@ pub fn type_integer(
             Ok(None)
         }
         Some(ty) => {
-            if !env.is_number(ty.as_str()) {
+            if !env.is_number(ty) {
                 let kind = Kind::IntegerType {
                     val,
-                    ty: ty.clone()?,
+                    ty: String::from_str(alloc, ty)?,
                 };
                 tell(progress, kind, pos)?;
             }
-            Ok(Some(TypedExpression::Int {
-                val,
-                ty: ty.clone()?,
-            }))
+            Ok(Some(TypedExpression::Int { val, ty }))
         }
     }
 }
 
 /// Types a constant.
-pub fn type_constant(
-    env: &Environment,
+pub fn type_constant<'e>(
+    alloc: Global,
+    env: &'e Environment,
     name: &Ident,
     pos: Pos,
-    wanted: Option<&String>,
-    progress: &mut Progress,
-) -> Result<Option<TypedExpression>, AllocError>
+    wanted: Option<&'e str>,
+    progress: &mut Progress<'e>,
+) -> Result<Option<TypedExpression<'e>>, AllocError>
     ensures { IfOk result (λ made. record {
       typed = option_map typed_expression_of made;
       after = progress_of progress.new;
@@ -104,21 +101,21 @@ pub fn type_constant(
         ≡ type_constant (environment_of env.now) (name_of name.now).text pos
         (type_text wanted.entry) (progress_of progress.old)) }
 {
-    match env.constant(name.0.as_str()) {
+    match known_constant(env, name.0.as_str()) {
         None => {
             tell(progress, Kind::ConstantUnknown(name.0.clone()?), pos)?;
             Ok(None)
         }
-        Some(known) => match other_than(known.as_str(), wanted) {
+        Some((text, known)) => match other_than(known, wanted) {
             None => Ok(Some(TypedExpression::Const {
-                name: name.0.clone()?,
-                ty: known.clone()?,
+                name: text,
+                ty: known,
             })),
             Some(ty) => {
                 let kind = Kind::ExpressionConstantType {
                     name: name.0.clone()?,
-                    expected: ty.clone()?,
-                    found: known.clone()?,
+                    expected: String::from_str(alloc, ty)?,
+                    found: String::from_str(alloc, known)?,
                 };
                 tell(progress, kind, pos)?;
                 Ok(None)

@@ -1,73 +1,70 @@
 //! Typed expressions.
 
-ghost use Rattle.std.specs.Prelude.{◌≡◌, IfOk, string_bytes};
+ghost use Rattle.std.specs.Prelude.{◌≡◌};
 ghost use Rattle.isle_check_typing.specs.expressions.TypedExpressions.{type_of_expression};
 ghost use Rattle.isle_check_typing.specs.expressions.TypedView.{typed_expression_of};
 
-use std::alloc::AllocError;
-
-/// An expression in which conversions are written out, with the type of each part. A variable is
-/// its number among the variables of its rule, in the order in which they are bound, from 0.
+/// An expression in which conversions are written out, with the type of each part. The environment
+/// of the program holds all names. A variable is its number among the variables of its rule, in
+/// the order in which they are bound, from 0.
 #[cycle(typed_expression)]
 #[derive(Drop)]
-pub enum TypedExpression {
+pub enum TypedExpression<'e> {
     /// A variable.
     Var {
         variable: usize,
-        ty: String,
+        ty: &'e str,
     },
     /// `true` or `false`.
     Bool {
         val: bool,
-        ty: String,
     },
     /// An integer.
     Int {
         val: i128,
-        ty: String,
+        ty: &'e str,
     },
     /// A constant.
     Const {
-        name: String,
-        ty: String,
+        name: &'e str,
+        ty: &'e str,
     },
     /// A term with its arguments.
     Term {
-        term: String,
-        ty: String,
-        args: Vec<TypedExpression>,
+        term: &'e str,
+        ty: &'e str,
+        args: Vec<TypedExpression<'e>>,
     },
     /// An expression with variables of its own.
     Let {
-        ty: String,
-        defs: Vec<TypedLet>,
-        body: Box<TypedExpression>,
+        ty: &'e str,
+        defs: Vec<TypedLet<'e>>,
+        body: Box<TypedExpression<'e>>,
     },
 }
 
 /// A variable of a `let`, and its value.
 #[cycle(typed_expression)]
 #[derive(Drop)]
-pub struct TypedLet {
+pub struct TypedLet<'e> {
     /// The number of the variable.
     pub variable: usize,
     /// Its value.
-    pub val: Box<TypedExpression>,
+    pub val: Box<TypedExpression<'e>>,
 }
 
-impl TypedExpression {
-    /// Returns the type of a typed expression. An `Err` means out of memory.
-    pub fn ty(&self) -> Result<String, AllocError>
-        ensures { IfOk result
-            (λ ty. string_bytes ty ≡ type_of_expression (typed_expression_of self.now)) }
+impl<'e> TypedExpression<'e> {
+    /// Returns the type of a typed expression.
+    pub fn ty(&self) -> &'e str
+        ensures { result.now ≡ type_of_expression (typed_expression_of self.now) }
     {
         match self {
-            TypedExpression::Var { ty, .. } => ty.clone(),
-            TypedExpression::Bool { ty, .. } => ty.clone(),
-            TypedExpression::Int { ty, .. } => ty.clone(),
-            TypedExpression::Const { ty, .. } => ty.clone(),
-            TypedExpression::Term { ty, .. } => ty.clone(),
-            TypedExpression::Let { ty, .. } => ty.clone(),
+            TypedExpression::Var { ty, .. } => ty,
+            TypedExpression::Bool { .. } => "bool",
+            TypedExpression::Int { ty, .. } => ty,
+            TypedExpression::Const { ty, .. } => ty,
+            TypedExpression::Term { ty, .. } => ty,
+            TypedExpression::Let { ty, .. } => ty,
         }
     }
 }

@@ -12,29 +12,32 @@ use crate::{Kind, Progress, tell};
 use isle_ast_rules::Expr;
 use isle_base::lexer::Pos;
 use isle_check_environment::signatures::{Environment, Term};
-use std::alloc::AllocError;
+use std::alloc::{AllocError, Global};
 
 /// Tells if a term is used where its flags don't allow it.
 pub fn use_term(
+    alloc: Global,
     flags: Flags,
     term: &Term,
-    sym: &String,
+    sym: &str,
     pos: Pos,
     progress: &mut Progress,
 ) -> Result<(), AllocError>
     ensures { OnOk result (progress_of progress.new
-        ≡ use_term flags (term_of term.now) (string_bytes sym.now) pos
+        ≡ use_term flags (term_of term.now) sym.now pos
         (progress_of progress.old)) }
 {
     if flags.pure && !term.pure && !term.is_variant {
-        tell(progress, Kind::ImpureTerm(sym.clone()?), pos)?;
+        let term = String::from_str(alloc, sym)?;
+        tell(progress, Kind::ImpureTerm(term), pos)?;
     }
     if term.multi && !flags.multi {
-        tell(progress, Kind::MultiTerm(sym.clone()?), pos)?;
+        let term = String::from_str(alloc, sym)?;
+        tell(progress, Kind::MultiTerm(term), pos)?;
     }
     if term.partial && !flags.partial {
         let kind = Kind::PartialTerm {
-            term: sym.clone()?,
+            term: String::from_str(alloc, sym)?,
             is_multi: flags.multi,
         };
         tell(progress, kind, pos)?;
@@ -44,20 +47,21 @@ pub fn use_term(
 
 /// Tells if a term has another number of arguments than are declared.
 pub fn count_arguments(
+    alloc: Global,
     term: &Term,
-    sym: &String,
+    sym: &str,
     given: usize,
     pos: Pos,
     progress: &mut Progress,
 ) -> Result<(), AllocError>
     ensures { OnOk result (progress_of progress.new
-        ≡ count_arguments (term_of term.now) (string_bytes sym.now) given pos
+        ≡ count_arguments (term_of term.now) sym.now given pos
         (progress_of progress.old)) }
 {
     let expected = term.args.len();
     if expected != given {
         let kind = Kind::ArgumentCount {
-            term: sym.clone()?,
+            term: String::from_str(alloc, sym)?,
             given,
             expected,
         };
@@ -68,8 +72,8 @@ pub fn count_arguments(
 
 /// Counts expressions.
 #[tactic(auto, using(crate::proofs::expressions::Counts::count_of))]
-pub fn count_expressions(exprs: &Vec<Expr>) -> usize
-    ensures { result ≡ count_expressions (expression_list_of (expressions_of exprs.now.items)) }
+pub fn count_expressions(exprs: &[Expr]) -> usize
+    ensures { result ≡ count_expressions (expression_list_of (expressions_of exprs.now)) }
 {
     exprs.len()
 }

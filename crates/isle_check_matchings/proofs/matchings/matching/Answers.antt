@@ -16,10 +16,10 @@ returns c =
     let rule = typed_rule_of c.args.rule.now in
     let asks = rule_asks k rule in
     let cs : all_constrained_of c.in_ok-constraints.constraints.items ≡ constraints_of asks =
-    c.in_ok-constraints.ensures ∙ (ap (λ xs. constraints_of (asks_of xs)) c.deref.ensures.value ∙ ap constraints_of c.in_ok-asks.ensures) in
+    c.in_ok-constraints.ensures ∙ ap constraints_of c.in_ok-asks.ensures in
     let es : all_equalities_of c.in_ok-equal.equal.items ≡ equalities_of asks =
-    c.in_ok-equal.ensures ∙ (ap (λ xs. equalities_of (asks_of xs)) c.deref-2.ensures.value ∙ ap equalities_of c.in_ok-asks.ensures) in
-    matching_parts k rule asks _ c.as_str.ensures.value (c.is_multi.ensures ∙ ap multi_by (c.term.ensures ∙ ap k.terms c.as_str-2.ensures.value)) c.in_ok-has_several.ensures (search rules) refl
-    (c.in_ok-clashes.ensures ∙ (ap (λ xs. clashes_after [] (all_constrained_of xs)) c.deref-3.ensures.value ∙ ap (λ x. clashes_after [] x) cs))
+    c.in_ok-equal.ensures ∙ (ap (λ xs. equalities_of (asks_of xs)) c.deref.ensures.value ∙ ap equalities_of c.in_ok-asks.ensures) in
+    matching_parts k rule asks _ refl (c.is_multi.ensures ∙ ap multi_by c.term.ensures) c.in_ok-has_several.ensures (search rules) refl
+    (c.in_ok-clashes.ensures ∙ (ap (λ xs. clashes_after [] (all_constrained_of xs)) c.deref-2.ensures.value ∙ ap (λ x. clashes_after [] x) cs))
     (c.in_ok-settled.ensures
     ∙ (ap (λ x. settle most_sweeps x (all_equalities_of c.in_ok-equal.equal.items)) cs ∙ ap (λ x. settle most_sweeps (constraints_of asks) x) es))

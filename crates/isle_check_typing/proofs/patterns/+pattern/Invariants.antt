@@ -8,13 +8,13 @@ use Rattle.isle_check_typing.proofs.patterns.+pattern.Given as goal
 
 abbrev pub invariant-type_each-loop-pattern : goal.invariant-type_each-loop-pattern
 invariant-type_each-loop-pattern l =
-    each_by (type_at l.depth (environment_of l.env)) (pattern_list_of (patterns_of (drop l.pattern-index l.pattern-items))) (string_bytes l.ty) (all_typed_of l.typed.items) (progress_of l.progress)
-    ≡ each_by (type_at l.depth (environment_of l.env)) (pattern_list_of (patterns_of l.pattern-items)) (string_bytes l.ty) [] (progress_of l.fn.progress)
+    each_by (type_at l.depth (environment_of l.env)) (pattern_list_of (patterns_of (drop l.pattern-index l.pattern-items))) l.ty (all_typed_of l.typed.items) (progress_of l.progress)
+    ≡ each_by (type_at l.depth (environment_of l.env)) (pattern_list_of (patterns_of l.pattern-items)) l.ty [] (progress_of l.fn.progress)
 
 abbrev pub invariant-type_arguments-loop-number : goal.invariant-type_arguments-loop-number
 invariant-type_arguments-loop-number l =
-    arguments_by (type_at l.depth (environment_of l.env)) (pattern_list_of (patterns_of (drop l.number l.pattern-items))) (map string_bytes (drop l.number l.types.items)) (all_typed_of l.typed.items) (progress_of l.progress)
-    ≡ arguments_by (type_at l.depth (environment_of l.env)) (pattern_list_of (patterns_of l.pattern-items)) (map string_bytes l.types.items) [] (progress_of l.fn.progress)
+    arguments_by (type_at l.depth (environment_of l.env)) (pattern_list_of (patterns_of (drop l.number l.patterns))) (map string_bytes (drop l.number l.types.items)) (all_typed_of l.typed.items) (progress_of l.progress)
+    ≡ arguments_by (type_at l.depth (environment_of l.env)) (pattern_list_of (patterns_of l.patterns)) (map string_bytes l.types.items) [] (progress_of l.fn.progress)
 
 abbrev pub decreases-type_pattern : goal.decreases-type_pattern
 decreases-type_pattern l = 8 * l.depth
@@ -37,8 +37,11 @@ decreases-type_extracted l = 8 * l.depth + 3
 abbrev pub decreases-type_and : goal.decreases-type_and
 decreases-type_and l = 8 * l.depth + 2
 
+abbrev pub decreases-type_copied : goal.decreases-type_copied
+decreases-type_copied l = 8 * l.depth + 1
+
 abbrev pub decreases-type_put : goal.decreases-type_put
-decreases-type_put l = 8 * l.depth + 1
+decreases-type_put l = 8 * l.depth + 2
 
 abbrev pub decreases-type_filled : goal.decreases-type_filled
 decreases-type_filled l = 8 * l.depth + 1

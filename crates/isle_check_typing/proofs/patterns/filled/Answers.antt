@@ -9,8 +9,8 @@ use Rattle.isle_check_typing.proofs.patterns.filled.Goals as goal
 pub returns : goal.returns
 returns c =
     let template = pattern_of c.args.template.now in
-    let args = patterns_of c.args.args.now.items in
-    IfOk-weaker c.subst_macro_args.result (λ made. option_map pattern_of made ≡ plug template (patterns_of c.deref.result.now))
+    let args = patterns_of c.args.args.now in
+    IfOk-weaker c.subst_macro_args.result (λ made. option_map pattern_of made ≡ plug template args)
     (λ made. option_map pattern_of made ≡ plug template (list_list (pattern_list_of args)))
-    (λ made e. e ∙ ap (λ ps. plug template (patterns_of ps)) c.deref.ensures.value ∙ ap (plug template) (sym (list_listed args)))
+    (λ made e. e ∙ ap (plug template) (sym (list_listed args)))
     c.subst_macro_args.ensures.plugged

@@ -9,8 +9,8 @@ use Rattle.isle_check_typing.proofs.expressions.expressions.+expression.Given as
 
 abbrev pub invariant-type_arguments-loop-number : goal.invariant-type_arguments-loop-number
 invariant-type_arguments-loop-number l =
-    arguments_by (parts_by l.typer) (expression_list_of (expressions_of (drop l.number l.expr-items))) (map string_bytes (drop l.number l.types.items)) (map typed_expression_of l.typed.items) (progress_of l.progress)
-    ≡ arguments_by (parts_by l.typer) (expression_list_of (expressions_of l.expr-items)) (map string_bytes l.types.items) [] (progress_of l.fn.progress)
+    arguments_by (parts_by l.typer) (expression_list_of (expressions_of (drop l.number l.exprs))) (map string_bytes (drop l.number l.types.items)) (map typed_expression_of l.typed.items) (progress_of l.progress)
+    ≡ arguments_by (parts_by l.typer) (expression_list_of (expressions_of l.exprs)) (map string_bytes l.types.items) [] (progress_of l.fn.progress)
 
 abbrev pub invariant-type_lets-loop-def : goal.invariant-type_lets-loop-def
 invariant-type_lets-loop-def l =
@@ -23,8 +23,11 @@ decreases-type_expression l = 8 * l.depth
 abbrev pub decreases-type_part : goal.decreases-type_part
 decreases-type_part l = 8 * l.typer.depth + 1
 
+abbrev pub decreases-type_copied : goal.decreases-type_copied
+decreases-type_copied l = 8 * l.typer.depth + 2
+
 abbrev pub decreases-type_put : goal.decreases-type_put
-decreases-type_put l = 8 * l.typer.depth + 2
+decreases-type_put l = 8 * l.typer.depth + 3
 
 abbrev pub decreases-type_arguments : goal.decreases-type_arguments
 decreases-type_arguments l = 8 * l.typer.depth + 2
