@@ -1,7 +1,10 @@
-//! Laws of renaming. Names keep what they mean, and each that can be renamed can get some text. A
-//! renaming that `isle_index` accepts keeps definitions writable, and the tokens with the new text
-//! spell the renamed definitions.
+//! Laws of names. Those of renaming are about trees, tokens (`laws`) and texts (`edits`), and about
+//! which names can be renamed, and what they mean afterwards (`names`). `scopes` says what each
+//! variable means, and what each lint finds; `actions` what a code action leaves.
 #![tactic(auto)]
 
+pub mod actions;
+pub mod edits;
 pub mod laws;
 pub mod names;
+pub mod scopes;

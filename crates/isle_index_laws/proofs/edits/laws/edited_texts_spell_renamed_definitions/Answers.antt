@@ -1,0 +1,5 @@
+use Rattle.isle_index_laws.proofs.edits.Parsed.{edited_text_spells}
+use Rattle.isle_index_laws.proofs.edits.laws.edited_texts_spell_renamed_definitions.Goals as goal
+
+pub returns : goal.returns
+returns c = edited_text_spells

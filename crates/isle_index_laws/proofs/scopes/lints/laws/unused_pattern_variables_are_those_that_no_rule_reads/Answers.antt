@@ -1,0 +1,5 @@
+use Rattle.isle_index_laws.proofs.scopes.lints.Unread.{unread_variables}
+use Rattle.isle_index_laws.proofs.scopes.lints.laws.unused_pattern_variables_are_those_that_no_rule_reads.Goals as goal
+
+pub returns : goal.returns
+returns c = unread_variables

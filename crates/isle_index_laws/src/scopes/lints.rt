@@ -1,0 +1,3 @@
+//! Laws of lints: what each lint finds, said by the scopes of trees that `scopes` defines.
+
+pub mod laws;

@@ -1,4 +1,0 @@
-//! Laws of code actions: what the tokens of a text are after an action is applied.
-#![tactic(auto)]
-
-pub mod laws;

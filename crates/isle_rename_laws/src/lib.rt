@@ -1,5 +1,0 @@
-//! Laws of renaming in texts: a text that is edited where a name is renamed lexes to the renamed
-//! tokens, and so it is parsed as the renamed tree.
-#![tactic(auto)]
-
-pub mod laws;

@@ -1,5 +1,0 @@
-use Rattle.isle_scope_laws.proofs.lints.Rules.{expressions_read}
-use Rattle.isle_scope_laws.proofs.lints.laws.reads_of_rules_are_those_of_expressions.Goals as goal
-
-pub returns : goal.returns
-returns c = expressions_read

@@ -1,5 +1,0 @@
-use Rattle.isle_scope_laws.proofs.lints.Patterns.{idle_variables}
-use Rattle.isle_scope_laws.proofs.lints.laws.unused_pattern_variables_are_never_read.Goals as goal
-
-pub returns : goal.returns
-returns c = idle_variables

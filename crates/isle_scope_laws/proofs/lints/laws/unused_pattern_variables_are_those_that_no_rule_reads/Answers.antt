@@ -1,5 +1,0 @@
-use Rattle.isle_scope_laws.proofs.lints.Unread.{unread_variables}
-use Rattle.isle_scope_laws.proofs.lints.laws.unused_pattern_variables_are_those_that_no_rule_reads.Goals as goal
-
-pub returns : goal.returns
-returns c = unread_variables
