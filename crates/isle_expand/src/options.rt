@@ -29,8 +29,8 @@ usage: isle-expand [--width N] [--exclude PATTERN] [--stdin-name NAME] [--progra
                    [FILE ..]
 
 Inlines every extractor of a complete ISLE program, and prints the result. Extractors, declarations
-that only they define, and comments are dropped. The result compiles to the same code, except in
-three cases, and each of those prints a warning.
+that only they define, and comments are dropped. The result should compile to the same code, except
+in three cases, and each of those prints a warning.
 
 The files are one program. A folder stands for every .isle file below it, and - for standard input.
 With no FILE, standard input is expanded.
