@@ -1,14 +1,14 @@
 -- What is told of a finding, and its encoding.
-use Rattle.std.specs.Prelude.{◌≡◌, ℕ, List, [], ◌++◌, Bool, false, codes, map}
+use Rattle.std.specs.Prelude.{◌≡◌, ℕ, List, [], ◌++◌, Bool, false, map}
 use Rattle.std.specs.List.Sorted.{IsPermutation, IsSortedByKey}
 use Rattle.isle_base_source.specs.declared.pos.Pos.{Pos}
 use Rattle.isle_ast.specs.Tree.{Definition}
 use Rattle.isle_check_core.specs.Findings.{FindingNode, findings, is_error}
 use Rattle.isle_check_core.specs.FindingWords.{finding_notes, kind_words}
 use Rattle.isle_check_messages.specs.Notes.{NoteNode, notes_of}
-use Rattle.isle_lint_core.specs.Finding.{Found, finding_cmp, finding_of}
+use Rattle.isle_lint_core.specs.Finding.{Found, finding_cmp, finding_of, message_of}
 use Rattle.isle_lint_core.specs.Findings.{findings_in}
-use Rattle.isle_lint_core.specs.Lint.{message, name}
+use Rattle.isle_lint_core.specs.Lint.{name}
 use Rattle.isle_lint_core.specs.declared.finding.Finding.{Finding}
 use Rattle.isle_lint_core.specs.declared.lint.Lint.{Lint}
 use Rattle.isle_encoding.specs.Names.{position, text}
@@ -37,12 +37,9 @@ told f = record {
   notes = finding_notes f;
 }
 
-abbrev pub lint_message : Found → List ℕ
-lint_message f = message f.lint ++ codes " '" ++ f.name ++ codes "'"
-
 -- of a finding of a lint, which is a warning
 abbrev pub told_lint : Found → ToldNode
-told_lint f = record { is_error = false; name = name f.lint; pos = f.pos; message = lint_message f; notes = [] }
+told_lint f = record { is_error = false; name = name f.lint; pos = f.pos; message = message_of f; notes = [] }
 
 abbrev pub note : NoteNode → List ℕ
 note n = position n.pos ++ text n.message

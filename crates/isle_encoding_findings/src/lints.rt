@@ -1,8 +1,8 @@
 //! Encodes the findings of lints.
 
-ghost use Rattle.std.specs.Prelude.{◌≡◌, ◌++◌, IfOk, OnOk, map, string_bytes};
+ghost use Rattle.std.specs.Prelude.{◌≡◌, ◌++◌, OnOk, map, string_bytes};
 ghost use Rattle.isle_lint_core.specs.Finding.{finding_of};
-ghost use Rattle.isle_encoding_findings.specs.Encoded.{encoded, finding, lint_message, told_lint};
+ghost use Rattle.isle_encoding_findings.specs.Encoded.{encoded, finding, told_lint};
 
 use crate::notes::put_start;
 use crate::told::{Told, put_told};
@@ -29,7 +29,7 @@ fn put_lint_finding(alloc: Global, out: &mut String, value: &Finding) -> Result<
     ensures { OnOk result (string_bytes out.new
         ≡ string_bytes out.old ++ finding (told_lint (finding_of value.now))) }
 {
-    let message = lint_message(alloc, value)?;
+    let message = value.message(alloc)?;
     let told = Told {
         is_error: false,
         name: value.lint.name(),
@@ -38,15 +38,4 @@ fn put_lint_finding(alloc: Global, out: &mut String, value: &Finding) -> Result<
         notes: &[],
     };
     put_told(out, &told)
-}
-
-fn lint_message(alloc: Global, value: &Finding) -> Result<String, AllocError>
-    ensures { IfOk result
-        (λ text. string_bytes text ≡ lint_message (finding_of value.now)) }
-{
-    let mut text = String::from_str(alloc, value.lint.message())?;
-    text.push_str(" '")?;
-    text.push_str(value.name)?;
-    text.push_str("'")?;
-    Ok(text)
 }

@@ -1,5 +1,5 @@
 -- What is told of a program: a line for each text that spells no tree, and for each finding.
-use Rattle.std.specs.Prelude.{◌≡◌, ℕ, ◌+◌, ◌==◌, List, [], ◌∷◌, ◌++◌, Bool, not, ◌&&◌, if◌then◌else◌, Option, codes, filter, length, map, slice_get}
+use Rattle.std.specs.Prelude.{◌≡◌, ℕ, ◌+◌, ◌==◌, List, [], ◌∷◌, ◌++◌, Bool, not, ◌&&◌, if◌then◌else◌, Option, filter, length, map, slice_get}
 use Rattle.std.specs.List.{flat_map, list_all}
 use Rattle.std.specs.List.Sorted.{IsPermutation, IsSortedByKey}
 use Rattle.isle_base_source.specs.PositionOrder.{position_cmp}
@@ -7,10 +7,10 @@ use Rattle.isle_base_source.specs.Source.{Source}
 use Rattle.isle_base_source.specs.declared.error.Error.{Error}
 use Rattle.isle_ast.specs.Tree.{Definition}
 use Rattle.isle_cli.specs.Arguments.{Given}
-use Rattle.isle_lint_core.specs.Finding.{Found, finding_of}
+use Rattle.isle_lint_core.specs.Finding.{Found, finding_of, message_of}
 use Rattle.isle_lint_core.specs.Findings.{findings_in}
 use Rattle.isle_lint_core.specs.declared.finding.Finding.{Finding}
-use Rattle.isle_lint_core.specs.Lint.{message, name}
+use Rattle.isle_lint_core.specs.Lint.{name}
 use Rattle.isle_lint_core.specs.declared.lint.Lint.{Lint}
 use Rattle.isle_lint.specs.Linted.{Linted, programs_of}
 use Rattle.isle_lint.specs.Options.{is_warned}
@@ -63,12 +63,9 @@ pub record AreToldIn (lints : List Lint) (sources : List Source) (ds : List Defi
   pub in_order : IsSortedByKey (λ f. f.pos) position_cmp found
   pub are : AreTold 0 sources (map finding_of found) told
 
-abbrev pub message_text : Found → List ℕ
-message_text f = message f.lint ++ codes " '" ++ f.name ++ codes "'"
-
 -- a finding as a message, which is told of these programs
 abbrev pub finding_message : (programs : List ℕ) → Found → MessageNode
-finding_message programs f = record { severity = Warning; kind = name f.lint; text = message_text f; programs = programs }
+finding_message programs f = record { severity = Warning; kind = name f.lint; text = message_of f; programs = programs }
 
 abbrev pub finding_line : Format → (programs : List ℕ) → Source → Found → List ℕ
 finding_line format programs source f = told_line format source f.pos.offset (finding_message programs f)

@@ -11,7 +11,7 @@ ghost use Rattle.isle_lint_core.specs.Finding.{finding_of};
 ghost use Rattle.isle_lint.specs.Doing.{IsReport};
 ghost use Rattle.isle_lint.specs.Linted.{linted_of};
 ghost use Rattle.isle_lint.specs.Report.{AddsTold, AreTold, AreToldIn, are_warned, finding_line};
-ghost use Rattle.isle_lint.specs.Report.{is_clean, is_told, kept_if, message_text, report_in};
+ghost use Rattle.isle_lint.specs.Report.{is_clean, is_told, kept_if, report_in};
 ghost use Rattle.isle_lint.specs.Report.{report_text, source_text, sources_text, tagged_line};
 ghost use Rattle.isle_lint.specs.Report.{tagged_lines, told_in};
 ghost use Rattle.isle_program.specs.Reading.{IsReading};
@@ -318,7 +318,7 @@ fn finding_line(
     ensures { IfOk result (λ line. string_bytes line
         ≡ finding_line format programs.now (source_of source.now) (finding_of finding.now)) }
 {
-    let text = message_text(alloc, finding)?;
+    let text = finding.message(alloc)?;
     let message = Message {
         severity: Severity::Warning,
         kind: finding.lint.name(),
@@ -326,15 +326,4 @@ fn finding_line(
         programs,
     };
     told_line(alloc, format, source, lines, finding.pos.offset, &message)
-}
-
-/// The message of a finding, without the name of its lint.
-fn message_text(alloc: Global, finding: &Finding) -> Result<String, AllocError>
-    ensures { IfOk result (λ text. string_bytes text ≡ message_text (finding_of finding.now)) }
-{
-    let mut text = String::from_str(alloc, finding.lint.message())?;
-    text.push_str(" '")?;
-    text.push_str(finding.name)?;
-    text.push_str("'")?;
-    Ok(text)
 }

@@ -1,14 +1,14 @@
 //! Findings.
 
-ghost use Rattle.std.specs.Prelude.{◌≡◌, ◌++◌, OnOk, map};
-ghost use Rattle.isle_lint_core.specs.Finding.{all_found, finding_of};
+ghost use Rattle.std.specs.Prelude.{◌≡◌, ◌++◌, IfOk, OnOk, map, string_bytes};
+ghost use Rattle.isle_lint_core.specs.Finding.{all_found, finding_of, message_of};
 ghost use Rattle.isle_lint_core.specs.Names.{names_at};
 
 use crate::lint::Lint;
 use crate::names::is_private;
 use isle_ast::ast::Ident;
 use isle_base::lexer::Pos;
-use std::alloc::AllocError;
+use std::alloc::{AllocError, Global};
 
 /// A name that a lint finds. Findings are ordered by position, then by lint, then by name.
 #[derive(Clone, Copy, Debug, PartialEq, Eq, PartialOrd, Ord)]
@@ -17,6 +17,20 @@ pub struct Finding<'a> {
     pub pos: Pos,
     pub lint: Lint,
     pub name: &'a str,
+}
+
+impl<'a> Finding<'a> {
+    /// Returns the message of the lint, with the name: `unused variable 'x'`. An `Err` means out of
+    /// memory.
+    pub fn message(&self, alloc: Global) -> Result<String, AllocError>
+        ensures { IfOk result (λ text. string_bytes text ≡ message_of (finding_of self.now)) }
+    {
+        let mut text = String::from_str(alloc, self.lint.message())?;
+        text.push_str(" '")?;
+        text.push_str(self.name)?;
+        text.push_str("'")?;
+        Ok(text)
+    }
 }
 
 /// Adds a finding of a lint for each name that doesn't begin with `_`.

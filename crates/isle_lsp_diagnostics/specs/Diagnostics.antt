@@ -6,9 +6,9 @@ use Rattle.isle_ast.specs.Tree.{Definition}
 use Rattle.isle_base_source.specs.PositionOrder.{position_cmp}
 use Rattle.isle_base_source.specs.declared.error.Error as errors
 use Rattle.isle_base_source.specs.declared.error.Error.TheVariants.{ParseError}
-use Rattle.isle_lint_core.specs.Finding.{Found, finding_of}
+use Rattle.isle_lint_core.specs.Finding.{Found, finding_of, message_of}
 use Rattle.isle_lint_core.specs.Findings.{findings_in}
-use Rattle.isle_lint_core.specs.Lint.{all_lints, is_default, message}
+use Rattle.isle_lint_core.specs.Lint.{all_lints, is_default}
 use Rattle.isle_lint_core.specs.declared.finding.Finding.{Finding}
 use Rattle.isle_program.specs.Allowances.{Allowance, AreAllowances, is_allowed}
 use Rattle.isle_program.specs.Nesting.{FirstDeep}
@@ -20,15 +20,11 @@ use Rattle.isle_lsp_features.specs.declared.pieces.Refusal.TheVariants as refuse
 use Rattle.isle_lsp_diagnostics.specs.Checked.{AreChecked, all_added}
 use Rattle.isle_lsp_diagnostics.specs.Marks.{Mark, lint, parser}
 
--- the message of a finding
-abbrev pub found_text : Found → List ℕ
-found_text f = message f.lint ++ (codes " '" ++ (f.name ++ codes "'"))
-
 -- the diagnostic of a finding, at its name, cut at the end of the text
 abbrev pub found_mark : List ℕ → Found → Mark
 found_mark text f =
     let start : ℕ = min f.pos.offset (length text) in
-    record { start = start; end = start + min (length f.name) (length text - start); finder = lint f.lint; message = found_text f }
+    record { start = start; end = start + min (length f.name) (length text - start); finder = lint f.lint; message = message_of f }
 
 -- the diagnostic of a text that spells no tree
 abbrev pub error_mark : List ℕ → errors.Error → List Mark

@@ -16,7 +16,7 @@ ghost use Rattle.isle_lsp_features.specs.Programs.{text_of};
 ghost use Rattle.isle_lsp_diagnostics.specs.Checked.{AreChecked};
 ghost use Rattle.isle_lsp_diagnostics.specs.Diagnostics.{AreMarks, AreMarksOf, AreRefusedMarks};
 ghost use Rattle.isle_lsp_diagnostics.specs.Diagnostics.{AreTreeMarks, deep_mark, error_mark};
-ghost use Rattle.isle_lsp_diagnostics.specs.Diagnostics.{found_mark, found_text, refusal_marks};
+ghost use Rattle.isle_lsp_diagnostics.specs.Diagnostics.{found_mark, refusal_marks};
 ghost use Rattle.isle_lsp_diagnostics.specs.Diagnostics.{shown};
 ghost use Rattle.isle_lsp_diagnostics.specs.Marks.{mark_of};
 
@@ -252,18 +252,6 @@ fn diagnostic_of(alloc: Global, text: &str, finding: &Finding) -> Result<Diagnos
         start,
         end: start + finding.name.len().min(left),
         finder: Finder::Lint(finding.lint),
-        message: message_of(alloc, finding)?,
+        message: finding.message(alloc)?,
     })
-}
-
-/// The message of a finding, with the name that it is about.
-fn message_of(alloc: Global, finding: &Finding) -> Result<String, AllocError>
-    ensures { IfOk result
-        (λ message. string_bytes message ≡ found_text (finding_of finding.now)) }
-{
-    let mut message = String::from_str(alloc, finding.lint.message())?;
-    message.push_str(" '")?;
-    message.push_str(finding.name)?;
-    message.push_str("'")?;
-    Ok(message)
 }
