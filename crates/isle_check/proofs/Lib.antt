@@ -1,4 +1,4 @@
-pub mod DoingLemmas
+pub mod FailureLemmas
 pub mod EndLemmas
+pub mod DoingLemmas
 pub mod ProgramLemmas
-pub mod ThisLemmas
