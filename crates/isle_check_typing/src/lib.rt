@@ -5,10 +5,13 @@
 pub mod expressions;
 mod fault;
 pub mod laws;
+mod leaves;
 mod names;
+mod parts;
 mod patterns;
 mod progress;
 mod refusal;
+mod tells;
 mod typed;
 
 pub use fault::{Fault, Kind};
@@ -16,4 +19,5 @@ pub use names::known_term;
 pub use patterns::{type_arguments, type_pattern};
 pub use progress::{Found, Progress, Variable, bind, find, hide_since, no_progress, tell};
 pub use refusal::Refusal;
+pub use tells::tell_count;
 pub use typed::TypedPattern;
