@@ -9,7 +9,7 @@ ghost use Rattle.isle_check_typing.specs.TypedView.{typed_of};
 ghost use Rattle.isle_check_typing.specs.Views.{progress_of};
 
 use crate::names::known_constant;
-use crate::progress::{Progress, bind, find};
+use crate::progress::{Progress, bind_next, find};
 use crate::tells::{
     tell_bool, tell_constant_type, tell_constant_unknown, tell_integer, tell_variable_type,
 };
@@ -58,8 +58,7 @@ fn new_variable<'e>(
     }
         ≡ new_variable (name_of var.now) ty.now (progress_of progress.old)) }
 {
-    let variable = progress.bound.len();
-    bind(progress, var.0.clone()?, ty)?;
+    let variable = bind_next(progress, var, ty)?;
     let subpat = TypedPattern::Wildcard { ty };
     Ok(TypedPattern::Bind {
         variable,

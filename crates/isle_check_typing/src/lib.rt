@@ -19,5 +19,4 @@ pub use names::known_term;
 pub use patterns::{type_arguments, type_pattern};
 pub use progress::{Found, Progress, Variable, bind, find, hide_since, no_progress, tell};
 pub use refusal::Refusal;
-pub use tells::tell_count;
 pub use typed::TypedPattern;

@@ -16,9 +16,10 @@ ghost use Rattle.isle_check_typing.specs.expressions.ExpressionTypes.{expression
 ghost use Rattle.isle_check_typing.specs.expressions.ExpressionTypes.{put_by, put_in};
 ghost use Rattle.isle_check_typing.specs.expressions.TypedView.{typed_expression_of, typed_let_of};
 
+use crate::Progress;
 use crate::expressions::typed::{TypedExpression, TypedLet};
 use crate::names::known_term;
-use crate::{Progress, bind};
+use crate::progress::bind_next;
 use isle_ast_names::Ident;
 use isle_ast_rules::Expr;
 use isle_base::lexer::Pos;
@@ -106,8 +107,7 @@ pub fn define<'e>(
     let Some(val) = val else {
         return Ok(None);
     };
-    let variable = progress.bound.len();
-    bind(progress, name.0.clone()?, ty)?;
+    let variable = bind_next(progress, name, ty)?;
     Ok(Some(TypedLet {
         variable,
         val: Box::new(alloc, val)?,

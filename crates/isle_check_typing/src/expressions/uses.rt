@@ -5,12 +5,13 @@ ghost use Rattle.isle_ast_rules.specs.TreeView.{expression_list_of, expressions_
 ghost use Rattle.isle_check_environment.specs.signatures.Views.{environment_of, term_of};
 ghost use Rattle.isle_check_typing.specs.Views.{progress_of};
 ghost use Rattle.isle_check_typing.specs.expressions.ExpressionTypes.{converting, count_arguments};
-ghost use Rattle.isle_check_typing.specs.expressions.ExpressionTypes.{count_expressions, tell_impure};
-ghost use Rattle.isle_check_typing.specs.expressions.ExpressionTypes.{tell_multi, tell_partial};
-ghost use Rattle.isle_check_typing.specs.expressions.ExpressionTypes.{use_term};
+ghost use Rattle.isle_check_typing.specs.expressions.ExpressionTypes.{count_expressions};
+ghost use Rattle.isle_check_typing.specs.expressions.ExpressionTypes.{tell_impure, tell_multi};
+ghost use Rattle.isle_check_typing.specs.expressions.ExpressionTypes.{tell_partial, use_term};
 
 use crate::expressions::flags::Flags;
-use crate::{Kind, Progress, tell, tell_count};
+use crate::tells::tell_count;
+use crate::{Kind, Progress, tell};
 use isle_ast_rules::Expr;
 use isle_base::lexer::Pos;
 use isle_check_environment::signatures::{Environment, Term};
