@@ -3,7 +3,7 @@
 use crate::constants::constant;
 use crate::renaming::Renaming;
 use crate::templates::filled;
-use isle_syntax::ast::{Def, Fields, Ident, Instantiation, Pattern, Rule, TypeDef, TypeValue};
+use isle_syntax::ast::{Def, Fields, Ident, Pattern, Rule, TypeDef, TypeValue};
 use isle_syntax::lexer::Fault;
 use isle_test_nodes::answer::Answer;
 use isle_test_nodes::case::Case;
@@ -65,16 +65,13 @@ fn fill_definition(alloc: Global, def: &mut Def) -> Result<(), Fault> {
 }
 
 /// Gives an instantiation a form or one more tag.
-fn add_name(
-    alloc: Global,
-    kind: &str,
-    def: &mut Instantiation,
-    name: &str,
-) -> Result<(), AllocError> {
-    let name = ident(alloc, name)?;
-    match kind {
-        "with_form" => def.form = Some(name),
-        _ => def.tags.push(name)?,
+fn add_name(alloc: Global, kind: &str, def: &mut Def, name: &str) -> Result<(), AllocError> {
+    if let Def::Instantiation(def) = def {
+        let name = ident(alloc, name)?;
+        match kind {
+            "with_form" => def.form = Some(name),
+            _ => def.tags.push(name)?,
+        }
     }
     Ok(())
 }
@@ -97,13 +94,11 @@ fn rename(def: &mut Def, from: &str, to: &str) -> Result<(), AllocError> {
 /// Makes the edit that the first text names, if it applies to the kind of a definition.
 fn edit(alloc: Global, def: &mut Def, case: &Case) -> Result<(), Fault> {
     let word = case.text(2);
-    match (case.text(0), def) {
-        ("renamed", def) => Ok(rename(def, word, case.text(3))?),
-        ("with_macro_argument", def) => fill_definition(alloc, def),
-        (kind @ ("with_form" | "with_tag"), Def::Instantiation(def)) => {
-            Ok(add_name(alloc, kind, def, word)?)
-        }
-        (kind, def) => {
+    match case.text(0) {
+        "renamed" => Ok(rename(def, word, case.text(3))?),
+        "with_macro_argument" => fill_definition(alloc, def),
+        kind @ ("with_form" | "with_tag") => Ok(add_name(alloc, kind, def, word)?),
+        kind => {
             edit_in_place(kind, def, &case.numbers);
             Ok(())
         }

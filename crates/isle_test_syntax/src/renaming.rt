@@ -50,13 +50,18 @@ impl Renaming<'_> {
         }
     }
 
+    /// Renames an expression that is a variable.
+    fn variable(&mut self, expr: &mut Expr) {
+        if let Expr::Var { name, .. } = expr {
+            self.name(name);
+        }
+    }
+
     fn let_defs(&mut self, defs: &mut [LetDef]) {
         for def in defs {
             self.name(&mut def.var);
             self.name(&mut def.ty);
-            if let Expr::Var { name, .. } = &mut def.val {
-                self.name(name);
-            }
+            self.variable(&mut def.val);
         }
     }
 
@@ -117,6 +122,18 @@ impl Renaming<'_> {
         }
     }
 
+    /// Renames a name, and a spec expression beside it.
+    fn pair(&mut self, name: &mut Ident, x: &mut SpecExpr) {
+        self.name(name);
+        self.spec_variable(x);
+    }
+
+    /// Renames names, and the spec expression that they are in scope of.
+    fn scope(&mut self, names: &mut [Ident], body: &mut SpecExpr) {
+        self.names(names);
+        self.spec_variable(body);
+    }
+
     fn spec_expr(&mut self, expr: &mut SpecExpr) {
         match expr {
             SpecExpr::Var { var, .. } => self.name(var),
@@ -124,32 +141,14 @@ impl Renaming<'_> {
                 self.model_type(ty);
                 self.spec_variable(x);
             }
-            SpecExpr::Field { field: name, x, .. }
-            | SpecExpr::Discriminator {
-                variant: name,
-                x,
-                ..
-            } => {
-                self.name(name);
-                self.spec_variable(x);
-            }
+            SpecExpr::Field { field, x, .. } => self.pair(field, x),
+            SpecExpr::Discriminator { variant, x, .. } => self.pair(variant, x),
             SpecExpr::Expand { name, args, .. } => {
                 self.name(name);
                 self.spec_variables(args);
             }
-            SpecExpr::With {
-                decls: names,
-                body,
-                ..
-            }
-            | SpecExpr::Macro {
-                params: names,
-                body,
-                ..
-            } => {
-                self.names(names);
-                self.spec_variable(body);
-            }
+            SpecExpr::With { decls, body, .. } => self.scope(decls, body),
+            SpecExpr::Macro { params, body, .. } => self.scope(params, body),
             SpecExpr::Enum { name, variant, .. } => {
                 self.name(name);
                 self.name(variant);
