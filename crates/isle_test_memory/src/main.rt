@@ -1,16 +1,16 @@
 //! `isle_test_memory CALL [NUMBER] < TEXT` makes calls of the syntax layer again where memory runs
-//! out, makes calls that never allocate, or repeats one, so that it can be timed. Calls that are made
-//! once, with each of their allocations failing in turn, are cases of `isle_test_conformance`.
+//! out, makes calls that never allocate, or repeats one, so that it can be timed. Calls that are
+//! made once, with each of their allocations failing in turn, are cases of `isle_test_conformance`.
 //!
 //! It prints the answer and exits with 0. If the call or the program itself runs out of memory, it
 //! exits with 4 and prints nothing; if a stream fails, with 3.
 //!
-//! CALL is one of these; a call that is none of them is wrong:
+//! CALL is one of these; for any other, `wrong` is printed:
 //!
 //! - `next_def`: `next_def` up to the end. Each definition's offset is printed at once. If memory
 //!   runs out and the parser then answers `Failed`, `failed` is printed to standard error.
-//! - `retry`: `next` up to the end. Each token is printed at once. If memory runs out, the lexer must be
-//!   unchanged; the call is made again, and `retried` is printed to standard error.
+//! - `retry`: `next` up to the end. Each token is printed at once. If memory runs out, the lexer
+//!   must be unchanged; the call is made again, and `retried` is printed to standard error.
 //! - `lex`, `parse`, `format`: `next` up to the end, `parse`, or `format` at the width 78, NUMBER
 //!   times. Printed are how many tokens, definitions or bytes were found in all, or `rejected`.
 //! - `lexer`, `tree`, `layout`, `places`, `builder`, `display`: calls that never allocate. They

@@ -1,5 +1,5 @@
-//! Answers about trees, for the cases of `isle_test_conformance`, also about trees that no text leads
-//! to; and laws, which are contracts.
+//! Answers about trees, for the cases of `isle_test_conformance`, also about trees that no text
+//! leads to; and laws, which are contracts.
 //!
 //! A tree that no text leads to is the tree of a text with an edit, or a model's constant made by
 //! hand. The kinds, with their numbers and words, and their trees:
