@@ -17,6 +17,3 @@ pub mod Renamings
 pub mod Replaced
 pub mod SameBinders
 pub mod UnusedTexts
-pub mod edits
-pub mod scopes
-pub mod actions
