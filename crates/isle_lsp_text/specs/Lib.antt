@@ -1,6 +1,7 @@
 pub mod Changes
 pub mod Comments
 pub mod Edits
+pub mod Implementations
 pub mod Lists
 pub mod Names
 pub mod Numbers

@@ -8,6 +8,7 @@
 pub mod changes;
 pub mod comments;
 pub mod edits;
+pub mod implementations;
 pub mod laws;
 pub mod lists;
 pub mod names;

@@ -1,0 +1,123 @@
+//! The names that an ISLE text implements: the roots of rules and of extractors, and the names in
+//! `extern` definitions of constructors and extractors.
+
+ghost use Rattle.std.specs.Prelude.{◌≡◌, ◌∷◌, ◌++◌, [], IfOk, OnOk};
+ghost use Rattle.isle_base.specs.TokenView.{token_of_ref};
+ghost use Rattle.isle_lsp_text.specs.Implementations.{AreImplemented, depth_after, implemented_at};
+ghost use Rattle.isle_lsp_text.specs.Implementations.{implemented_from, is_implemented, next};
+ghost use Rattle.isle_lsp_text.specs.Implementations.{part_after, part_named};
+
+use isle_base::lexer::Fault;
+use isle_base::scanner::{Scanner, TokenRef};
+use std::alloc::{AllocError, Global};
+
+/// The part of a definition in which a token stands, as far as the tokens before it tell.
+#[derive(Clone, Copy)]
+pub enum DefinitionPart {
+    /// Its keyword.
+    Keyword,
+    /// What comes before the first list of a rule or of an extractor.
+    Front,
+    /// The first token of that list.
+    Root,
+    /// The second word of an `extern`.
+    External,
+    /// What comes after `extern constructor` or `extern extractor`.
+    Names,
+    /// Anything else.
+    Rest,
+}
+
+/// The offsets at which a text implements the name that is there, in order.
+///
+/// A rule and an extractor implement the name that their first list begins with, and an `extern`
+/// of a constructor or of an extractor those after these two words. After a lexical error there
+/// are no more.
+pub fn implemented(alloc: Global, text: &str) -> Result<Vec<usize>, AllocError>
+    ensures { IfOk result (λ found. AreImplemented text.now found.items) }
+{
+    match Scanner::new(alloc, 0, text) {
+        Ok(scanner) => implemented_ahead(alloc, scanner),
+        Err(Fault::Error(_)) => Ok(Vec::new(alloc)),
+        Err(Fault::Failed | Fault::Memory) => Err(AllocError),
+    }
+}
+
+/// The same for the tokens that a scanner has not read yet, the first of which is in no list.
+fn implemented_ahead(alloc: Global, mut scanner: Scanner) -> Result<Vec<usize>, AllocError>
+    ensures { IfOk result (λ found. found.items
+        ≡ implemented_from 0 (DefinitionPart.Keyword) scanner.entry.coming) }
+{
+    let mut depth = 0;
+    let mut part = DefinitionPart::Keyword;
+    let mut found = Vec::new(alloc);
+    while let Some(ahead) = scanner.peek() {
+        let (pos, token) = *ahead;
+        if is_implemented(depth, part, token) {
+            found.push(pos.offset)?;
+        }
+        part = part_after(depth, part, token);
+        depth = depth_after(depth, token)?;
+        if scanner.step().is_none() {
+            return Ok(found);
+        }
+    }
+    Ok(found)
+}
+
+/// Returns whether a token is a name that its definition implements.
+fn is_implemented(depth: usize, part: DefinitionPart, token: TokenRef) -> bool
+    ensures { result ≡ is_implemented depth part (token_of_ref token.entry) }
+{
+    depth > 0
+        && matches!(part, DefinitionPart::Root | DefinitionPart::Names)
+        && matches!(token, TokenRef::Symbol(_))
+}
+
+/// The part that the token after this one stands in. The token stands in so many lists.
+fn part_after(depth: usize, part: DefinitionPart, token: TokenRef) -> DefinitionPart
+    ensures { result ≡ part_after depth part (token_of_ref token.entry) }
+{
+    if depth == 0 {
+        DefinitionPart::Keyword
+    } else {
+        next(part, token)
+    }
+}
+
+/// The part of a definition after a token of it.
+fn next(part: DefinitionPart, token: TokenRef) -> DefinitionPart
+    ensures { result ≡ next part (token_of_ref token.entry) }
+{
+    match (part, token) {
+        (DefinitionPart::Keyword, TokenRef::Symbol(word)) => part_named(word),
+        (DefinitionPart::External, TokenRef::Symbol("constructor" | "extractor")) => {
+            DefinitionPart::Names
+        }
+        (DefinitionPart::Front, TokenRef::LParen) => DefinitionPart::Root,
+        (DefinitionPart::Front | DefinitionPart::Names, _) => part,
+        _ => DefinitionPart::Rest,
+    }
+}
+
+/// The part of a definition after its keyword.
+fn part_named(keyword: &str) -> DefinitionPart
+    ensures { result ≡ part_named keyword.now }
+{
+    match keyword {
+        "rule" | "extractor" => DefinitionPart::Front,
+        "extern" => DefinitionPart::External,
+        _ => DefinitionPart::Rest,
+    }
+}
+
+/// In how many lists the token after this one stands. A number past `usize::MAX` is out of memory.
+fn depth_after(depth: usize, token: TokenRef) -> Result<usize, AllocError>
+    ensures { IfOk result (λ after. after ≡ depth_after depth (token_of_ref token.entry)) }
+{
+    match token {
+        TokenRef::LParen => Ok(depth.checked_add(1).ok_or(AllocError)?),
+        TokenRef::RParen => Ok(depth.saturating_sub(1)),
+        TokenRef::Symbol(_) | TokenRef::Int(_) | TokenRef::At => Ok(depth),
+    }
+}
