@@ -10,8 +10,8 @@ use Rattle.isle_lsp_colours.specs.Coloured.{AreTokens}
 use Rattle.isle_lsp_files.specs.Disks.{View}
 use Rattle.isle_lsp_files.specs.Documents.{Document}
 use Rattle.isle_lsp_protocol.specs.declared.machine.DocumentRequest.{DocumentRequest}
-use Rattle.isle_lsp_protocol.specs.declared.machine.DocumentRequest.TheVariants.{Formatting, RangeFormatting, FoldingRange, SelectionRange, SemanticTokens, SemanticTokensRange, CodeAction}
-use Rattle.isle_lsp_protocol.specs.Parameters.{positions_of, range_of as asked_range}
+use Rattle.isle_lsp_protocol.specs.declared.machine.DocumentRequest.TheVariants.{Formatting, RangeFormatting, OnTypeFormatting, FoldingRange, SelectionRange, SemanticTokens, SemanticTokensRange, CodeAction}
+use Rattle.isle_lsp_protocol.specs.Parameters.{positions_of, range_of as asked_range, typed_range}
 use Rattle.isle_lsp_ranges.proofs.Depths.{foldings_depth, selections_depth}
 use Rattle.isle_lsp_ranges.proofs.Depths as ranges
 use Rattle.isle_lsp_ranges.specs.Foldings.{AreFoldings}
@@ -22,7 +22,7 @@ use Rattle.isle_lsp_protocol.specs.Decoding.{Decodes}
 use Rattle.isle_lsp_protocol.specs.Replies.{IsTextOf, Outcome, error_response, failed, reply, reply_id}
 use Rattle.isle_lsp_protocol.specs.declared.machine.ErrorCode.{ErrorCode}
 use Rattle.isle_lsp_protocol.specs.declared.machine.Request as requests
-use Rattle.isle_lsp_protocol.specs.declared.machine.Request.TheVariants.{Initialize, Shutdown, Document as Alone, DocumentSymbol, WorkspaceSymbol, Definition, References, DocumentHighlight, Hover, Completion, ResolveCompletion, PrepareRename, Rename, Unknown}
+use Rattle.isle_lsp_protocol.specs.declared.machine.Request.TheVariants.{Initialize, Shutdown, Document as Alone, DocumentSymbol, WorkspaceSymbol, Definition, Implementation, References, DocumentHighlight, Hover, Completion, ResolveCompletion, PrepareRename, Rename, Unknown}
 use Rattle.isle_lsp_protocol.proofs.Depths.{IsWithin, at_most, initialized_depth, reply_depth, within}
 use Rattle.isle_lsp_features.proofs.Depths.{IsAboutNames, answer_within}
 use Rattle.isle_lsp.specs.Alone.{Gives, GivesAt, GivesWithin, IsAlone, IsFormattingWithin, IsOfDocument}
@@ -60,6 +60,7 @@ tokens_depth text range d h = omega (arith, tokens_shallow text range d h)
 document_within : (request : DocumentRequest) (d : Data) (takes : Bool) (document : Document) (o : Outcome) → IsOfDocument request d takes document o → IsWithin 126 o
 document_within Formatting d takes document o h = gives_within (IsFormatting document.text) o (formatting_depth document.text) h
 document_within RangeFormatting d takes document o h = range_within (IsFormattingWithin document.text) (asked_range d) o (lines_depth document.text) h
+document_within OnTypeFormatting d takes document o h = range_within (IsFormattingWithin document.text) (typed_range d) o (lines_depth document.text) h
 document_within FoldingRange d takes document o h = gives_within (AreFoldings document.text) o (λ x f. omega (arith, foldings_depth document.text x f)) h
 document_within SelectionRange d takes document o h =
     positions_within (AreSelections document.text) (positions_of d) o (λ ps x f. omega (arith, selections_depth document.text ps x f)) h
@@ -84,6 +85,7 @@ result_within Unknown d held view o m h = within 126 o _ h tt
 result_within DocumentSymbol d held view o m h = named_within DocumentSymbol d held view o tt m h
 result_within WorkspaceSymbol d held view o m h = named_within WorkspaceSymbol d held view o tt m h
 result_within Definition d held view o m h = named_within Definition d held view o tt m h
+result_within Implementation d held view o m h = named_within Implementation d held view o tt m h
 result_within References d held view o m h = named_within References d held view o tt m h
 result_within DocumentHighlight d held view o m h = named_within DocumentHighlight d held view o tt m h
 result_within Hover d held view o m h = named_within Hover d held view o tt m h

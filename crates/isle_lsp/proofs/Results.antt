@@ -4,7 +4,7 @@ use Rattle.serde_json.specs.Data.{Data}
 use Rattle.serde_json.specs.Read.{read}
 use Rattle.isle_lsp_protocol.specs.declared.machine.DocumentRequest.{DocumentRequest}
 use Rattle.isle_lsp_protocol.specs.declared.machine.Request as requests
-use Rattle.isle_lsp_protocol.specs.declared.machine.Request.TheVariants.{Initialize, Shutdown, Document, DocumentSymbol, WorkspaceSymbol, Definition, References, DocumentHighlight, Hover, Completion, ResolveCompletion, PrepareRename, Rename, Unknown}
+use Rattle.isle_lsp_protocol.specs.declared.machine.Request.TheVariants.{Initialize, Shutdown, Document, DocumentSymbol, WorkspaceSymbol, Definition, Implementation, References, DocumentHighlight, Hover, Completion, ResolveCompletion, PrepareRename, Rename, Unknown}
 use Rattle.isle_lsp_protocol.specs.Replies.{Outcome, error_response, reply_id}
 use Rattle.isle_lsp_protocol.specs.declared.machine.ErrorCode.TheVariants.{RequestFailed}
 use Rattle.isle_lsp_files.specs.Disks.{Asked, View}
@@ -18,6 +18,7 @@ named_result Unknown d held view o a b c e n = absurd (e refl)
 named_result DocumentSymbol d held view o a b c e n = n
 named_result WorkspaceSymbol d held view o a b c e n = n
 named_result Definition d held view o a b c e n = n
+named_result Implementation d held view o a b c e n = n
 named_result References d held view o a b c e n = n
 named_result DocumentHighlight d held view o a b c e n = n
 named_result Hover d held view o a b c e n = n
@@ -35,6 +36,7 @@ named_asks Unknown question a b c e = absurd (e refl)
 named_asks DocumentSymbol question a b c e = refl
 named_asks WorkspaceSymbol question a b c e = refl
 named_asks Definition question a b c e = refl
+named_asks Implementation question a b c e = refl
 named_asks References question a b c e = refl
 named_asks DocumentHighlight question a b c e = refl
 named_asks Hover question a b c e = refl
@@ -54,6 +56,7 @@ no_mistake Unknown view a b = refl
 no_mistake DocumentSymbol view a b = refl
 no_mistake WorkspaceSymbol view a b = refl
 no_mistake Definition view a b = refl
+no_mistake Implementation view a b = refl
 no_mistake References view a b = refl
 no_mistake DocumentHighlight view a b = refl
 no_mistake Hover view a b = refl

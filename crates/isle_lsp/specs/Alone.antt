@@ -7,9 +7,9 @@ use Rattle.isle_lsp_actions.specs.Answers.{AreActions}
 use Rattle.isle_lsp_colours.specs.Coloured.{AreTokens}
 use Rattle.isle_lsp_files.specs.Documents.{Document}
 use Rattle.isle_lsp_protocol.specs.declared.machine.DocumentRequest.{DocumentRequest}
-use Rattle.isle_lsp_protocol.specs.declared.machine.DocumentRequest.TheVariants.{Formatting, RangeFormatting, FoldingRange, SelectionRange, SemanticTokens, SemanticTokensRange, CodeAction}
+use Rattle.isle_lsp_protocol.specs.declared.machine.DocumentRequest.TheVariants.{Formatting, RangeFormatting, OnTypeFormatting, FoldingRange, SelectionRange, SemanticTokens, SemanticTokensRange, CodeAction}
 use Rattle.isle_lsp_protocol.specs.declared.machine.ErrorCode.TheVariants.{InvalidParams}
-use Rattle.isle_lsp_protocol.specs.Parameters.{positions_of, range_of}
+use Rattle.isle_lsp_protocol.specs.Parameters.{positions_of, range_of, typed_range}
 use Rattle.isle_lsp_protocol.specs.Replies.{Outcome, done, error_outcome}
 use Rattle.isle_lsp_ranges.specs.Foldings.{AreFoldings}
 use Rattle.isle_lsp_ranges.specs.LineEdits.{IsRangeFormatting}
@@ -41,6 +41,7 @@ GivesAt Is (Some positions) o = Gives (Is positions) o
 abbrev pub IsOfDocument : DocumentRequest → (message : Data) → (takes : Bool) → Document → Outcome → Type 0
 IsOfDocument Formatting message takes document o = Gives (IsFormatting document.text) o
 IsOfDocument RangeFormatting message takes document o = GivesWithin (IsFormattingWithin document.text) (range_of message) o
+IsOfDocument OnTypeFormatting message takes document o = GivesWithin (IsFormattingWithin document.text) (typed_range message) o
 IsOfDocument FoldingRange message takes document o = Gives (AreFoldings document.text) o
 IsOfDocument SelectionRange message takes document o = GivesAt (AreSelections document.text) (positions_of message) o
 IsOfDocument SemanticTokens message takes document o = Gives (AreTokens document.text None) o

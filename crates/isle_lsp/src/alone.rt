@@ -17,10 +17,11 @@ use isle_lsp_actions::code_actions;
 use isle_lsp_colours::semantic_tokens;
 use isle_lsp_files::documents::Document;
 use isle_lsp_protocol::machine::{DocumentRequest, ErrorCode};
-use isle_lsp_protocol::parameters::{positions_of, range_of};
+use isle_lsp_protocol::parameters::{positions_of, range_of, typed_range};
 use isle_lsp_protocol::replies::{Outcome, error_outcome};
 use isle_lsp_ranges::folding::folding_ranges;
 use isle_lsp_ranges::selection::selection_ranges;
+use isle_lsp_text::positions::Range;
 use serde_json::Value;
 use std::alloc::{AllocError, Global};
 
@@ -59,7 +60,8 @@ fn outcome_of_document<'a>(
     let text = document.text.as_str();
     match request {
         DocumentRequest::Formatting => Ok(Outcome::Done(formatting(alloc, text)?)),
-        DocumentRequest::RangeFormatting => formatted_range(alloc, text, message),
+        DocumentRequest::RangeFormatting => formatted_range(alloc, text, range_of(message)),
+        DocumentRequest::OnTypeFormatting => formatted_range(alloc, text, typed_range(message)),
         DocumentRequest::FoldingRange => Ok(Outcome::Done(folding_ranges(alloc, text)?)),
         DocumentRequest::SelectionRange => Ok(selections(alloc, text, message)?),
         DocumentRequest::SemanticTokens => {
@@ -78,13 +80,17 @@ fn outcome_of_document<'a>(
     }
 }
 
-/// The edits that format the range in a message.
-fn formatted_range<'a>(alloc: Global, text: &str, message: &Value) -> Result<Outcome<'a>, Failure>
-    ensures ok { IfOk result (λ outcome. GivesWithin (IsFormattingWithin text.now)
-        (parameters.range_of (view message.now)) (outcome_of outcome)) }
+/// The edits that format the lines of a range, if a message has one.
+fn formatted_range<'a>(
+    alloc: Global,
+    text: &str,
+    range: Option<Range>,
+) -> Result<Outcome<'a>, Failure>
+    ensures ok { IfOk result (λ outcome. GivesWithin (IsFormattingWithin text.now) range
+        (outcome_of outcome)) }
     ensures err { IfErr result (λ failure. failure ≡ Memory) }
 {
-    match range_of(message) {
+    match range {
         Some(range) => Ok(Outcome::Done(formatting_within(alloc, text, range)?)),
         None => Ok(error_outcome(ErrorCode::InvalidParams)),
     }

@@ -17,7 +17,7 @@ use Rattle.isle_lsp_text.specs.declared.lists.ListSpan.{ListSpan}
 use Rattle.isle_lsp_text.specs.declared.positions.Range.{Range}
 use Rattle.isle_lsp_protocol.proofs.Depths.{AreShallow, IsAtMost, IsWithin, append_shallow, at_most, completion_depth, document_edits_depth, documented_depth, edits_depth, flat_map_shallow, hover_depth, item_at_most, items_shallow, location_depth, map_shallow, put_depth, range_depth, ranged_depth, symbol_depth, within, workspace_symbol_depth}
 use Rattle.isle_lsp_protocol.specs.declared.machine.Request as requests
-use Rattle.isle_lsp_protocol.specs.declared.machine.Request.TheVariants.{Definition as AskDefinition, References, DocumentHighlight, DocumentSymbol, WorkspaceSymbol, Hover, Completion, ResolveCompletion, PrepareRename, Rename, Initialize, Shutdown, Document, Unknown}
+use Rattle.isle_lsp_protocol.specs.declared.machine.Request.TheVariants.{Definition as AskDefinition, Implementation, References, DocumentHighlight, DocumentSymbol, WorkspaceSymbol, Hover, Completion, ResolveCompletion, PrepareRename, Rename, Initialize, Shutdown, Document, Unknown}
 use Rattle.isle_lsp_protocol.specs.Items.{edits_data}
 use Rattle.isle_lsp_protocol.specs.Parameters.{item_of, new_name_of, query_of, wants_definitions}
 use Rattle.isle_lsp_protocol.specs.Replies.{Outcome, done, failed}
@@ -25,6 +25,7 @@ use Rattle.isle_lsp_features.specs.Answers.{AreSymbols, FindsAt, IsAnswer, IsAns
 use Rattle.isle_lsp_features.specs.Completed as completed
 use Rattle.isle_lsp_features.specs.Completed.{AreCompletions, item_name, once, range_before}
 use Rattle.isle_lsp_features.specs.Defined.{AreDocumentSymbols, is_variant, letters_of, number_of, range_of, symbol_data, symbol_in, symbols_from, workspace_symbols}
+use Rattle.isle_lsp_features.specs.Implemented.{AreImplementations, implementation_in, implementations_from, is_marked}
 use Rattle.isle_lsp_features.specs.Located.{AreHighlights, AreReferences, IsDefinition, highlight_of, location_in, locations_from}
 use Rattle.isle_lsp_features.specs.Places.{File, Place, file_in, place_in}
 use Rattle.isle_lsp_features.specs.Programs.{Question, Text}
@@ -38,6 +39,11 @@ array_depth n ds s = omega (arith, items_shallow n ds s)
 one_shallow : (n : ℕ) (b : Bool) (d : Data) → depth d ≤ n → AreShallow n (if b then d ∷ [] else [])
 one_shallow n true d h = (h, tt)
 one_shallow n false d h = tt
+
+-- these, if they are wanted
+if_shallow : (n : ℕ) (b : Bool) (ds : List Data) → AreShallow n ds → AreShallow n (if b then ds else [])
+if_shallow n true ds h = h
+if_shallow n false ds h = tt
 
 -- ---- places
 
@@ -54,6 +60,21 @@ locations_shallow number (s ∷ ss) own found =
 definition_depth : (program : List Text) (name : Option NameNode) (all : List SeenNode) (d : Data) → IsDefinition program name all d → depth d ≤ 5
 definition_depth program None all d h = at_most 5 _ _ h (omega arith)
 definition_depth program (Some name) all d h = at_most 5 _ _ h.2 (array_depth 4 _ (locations_shallow 0 program true h.0))
+
+marked_shallow : (number : ℕ) (s : Text) (marks : List ℕ) (o : Occurrence) → AreShallow 4 (implementation_in number s marks o)
+marked_shallow number s marks o = if_shallow 4 (is_marked o.pos.offset marks) _ (location_shallow number s true o)
+
+implementations_shallow : (number : ℕ) (program : List Text) (marks : List (List ℕ)) (found : List Occurrence) → AreShallow 4 (implementations_from number program marks found)
+implementations_shallow number [] marks found = tt
+implementations_shallow number (s ∷ ss) [] found = tt
+implementations_shallow number (s ∷ ss) (m ∷ ms) found =
+    append_shallow 4 (flat_map (implementation_in number s m) found) (implementations_from (number + 1) ss ms found)
+    (flat_map_shallow 4 (implementation_in number s m) found (marked_shallow number s m))
+    (implementations_shallow (number + 1) ss ms found)
+
+implementations_depth : (program : List Text) (name : Option NameNode) (all : List SeenNode) (d : Data) → AreImplementations program name all d → depth d ≤ 5
+implementations_depth program None all d h = at_most 5 _ _ h (omega arith)
+implementations_depth program (Some name) all d h = at_most 5 _ _ h.2.2.2.2 (array_depth 4 _ (implementations_shallow 0 program h.1 h.0))
 
 references_depth : (program : List Text) (own : Bool) (name : Option NameNode) (all : List SeenNode) (d : Data) → AreReferences program own name all d → depth d ≤ 5
 references_depth program own None all d h = at_most 5 _ _ h (omega arith)
@@ -192,6 +213,7 @@ resolution_within program all (Some it) a m h = within 126 a _ h.2 (resolved_dep
 abbrev pub IsAboutNames : requests.Request → Type 0
 IsAboutNames DocumentSymbol = Unit {0}
 IsAboutNames AskDefinition = Unit {0}
+IsAboutNames Implementation = Unit {0}
 IsAboutNames References = Unit {0}
 IsAboutNames DocumentHighlight = Unit {0}
 IsAboutNames PrepareRename = Unit {0}
@@ -207,6 +229,8 @@ answer_of_within : (request : requests.Request) (q : Question) (program : List T
 answer_of_within DocumentSymbol q program all a n m h = file_within all (file_in q program) a h
 answer_of_within AskDefinition q program all a n m h =
     found_within AskDefinition program all (place_in q program) q.message a (λ x d f. omega (arith, definition_depth program (name_at x.pos all) all d f)) h
+answer_of_within Implementation q program all a n m h =
+    found_within Implementation program all (place_in q program) q.message a (λ x d f. omega (arith, implementations_depth program (name_at x.pos all) all d f)) h
 answer_of_within References q program all a n m h =
     found_within References program all (place_in q program) q.message a (λ x d f. omega (arith, references_depth program (wants_definitions q.message) (name_at x.pos all) all d f)) h
 answer_of_within DocumentHighlight q program all a n m h =

@@ -12,13 +12,14 @@ use Rattle.isle_resolve.specs.Scopes.{SeenNode, seen}
 use Rattle.isle_index.specs.Symbols.{symbols}
 use Rattle.isle_resolve.specs.Events.{events}
 use Rattle.isle_lsp_protocol.specs.declared.machine.Request as requests
-use Rattle.isle_lsp_protocol.specs.declared.machine.Request.TheVariants.{Definition as AskDefinition, References, DocumentHighlight, DocumentSymbol, WorkspaceSymbol, Hover, Completion, ResolveCompletion, PrepareRename, Rename}
+use Rattle.isle_lsp_protocol.specs.declared.machine.Request.TheVariants.{Definition as AskDefinition, Implementation, References, DocumentHighlight, DocumentSymbol, WorkspaceSymbol, Hover, Completion, ResolveCompletion, PrepareRename, Rename}
 use Rattle.isle_lsp_protocol.specs.Items.{items_data}
 use Rattle.isle_lsp_protocol.specs.declared.items.Item.{Item}
 use Rattle.isle_lsp_protocol.specs.declared.machine.ErrorCode.TheVariants.{InvalidParams, RequestFailed}
 use Rattle.isle_lsp_protocol.specs.Parameters.{item_of, new_name_of, query_of, wants_definitions}
 use Rattle.isle_lsp_protocol.specs.Replies.{Outcome, done, error_outcome, failed}
 use Rattle.isle_lsp_features.specs.Gathered.{AreParts, Part, all_known, refused_count}
+use Rattle.isle_lsp_features.specs.Implemented.{AreImplementations}
 use Rattle.isle_lsp_features.specs.Located.{AreHighlights, AreReferences, IsDefinition}
 use Rattle.isle_lsp_features.specs.Completed.{AreCompletions, item_name}
 use Rattle.isle_lsp_features.specs.Defined.{AreDocumentSymbols, letters_of, workspace_symbols}
@@ -56,6 +57,7 @@ pub record IsIndex (program : List Text) (request : requests.Request) (all : Lis
 -- the result of a request at a place
 abbrev pub FindsAt : requests.Request → List Text → List SeenNode → Place → (message : Data) → Data → Type 0
 FindsAt AskDefinition program all p message d = IsDefinition program (name_at p.pos all) all d
+FindsAt Implementation program all p message d = AreImplementations program (name_at p.pos all) all d
 FindsAt References program all p message d = AreReferences program (wants_definitions message) (name_at p.pos all) all d
 FindsAt DocumentHighlight program all p message d = AreHighlights p.pos.file p.text (name_at p.pos all) all d
 FindsAt PrepareRename program all p message d = d ≡ renamed.prepared p.text (renamed.renamable (name_at p.pos all) all) (occurrence_at p.pos all)
@@ -105,6 +107,7 @@ IsResolution program all (Some item) a = (d : Data) × IsResolved program all (i
 abbrev pub IsAnswerOf : requests.Request → Question → List Text → List SeenNode → Outcome → Type 0
 IsAnswerOf DocumentSymbol q program all a = AreSymbols all (file_in q program) a
 IsAnswerOf AskDefinition q program all a = IsFoundAt AskDefinition program all (place_in q program) q.message a
+IsAnswerOf Implementation q program all a = IsFoundAt Implementation program all (place_in q program) q.message a
 IsAnswerOf References q program all a = IsFoundAt References program all (place_in q program) q.message a
 IsAnswerOf DocumentHighlight q program all a = IsFoundAt DocumentHighlight program all (place_in q program) q.message a
 IsAnswerOf PrepareRename q program all a = IsFoundAt PrepareRename program all (place_in q program) q.message a

@@ -2,6 +2,7 @@ pub mod Answers
 pub mod Completed
 pub mod Defined
 pub mod Gathered
+pub mod Implemented
 pub mod Located
 pub mod Pieces
 pub mod Places

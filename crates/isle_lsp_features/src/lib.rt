@@ -1,5 +1,5 @@
-//! Requests about the names of a program: where they are defined and used, how they are declared,
-//! how a partly written one may go on, and which edits rename one.
+//! Requests about the names of a program: where they are defined, implemented and used, how they
+//! are declared, how a partly written one may go on, and which edits rename one.
 //!
 //! A program is a list of texts, each with its URI in the editor.
 #![tactic(auto)]
@@ -17,6 +17,7 @@ ghost use Rattle.isle_lsp_protocol.specs.Replies.{outcome_of};
 mod completion;
 mod gathered;
 mod hover;
+mod implementations;
 mod known;
 pub mod laws;
 mod locations;
@@ -161,6 +162,9 @@ fn answer_at<'a>(
 {
     match request {
         Request::Definition => Ok(list_outcome(locations::definition(
+            alloc, program, index, place,
+        )?)),
+        Request::Implementation => Ok(list_outcome(implementations::implementations(
             alloc, program, index, place,
         )?)),
         Request::References => {

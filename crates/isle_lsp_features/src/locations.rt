@@ -118,7 +118,7 @@ fn add_locations<'a>(
 }
 
 /// The location of an occurrence, if it is in the text with this number and is asked for.
-fn location_in<'a>(
+pub(crate) fn location_in<'a>(
     number: usize,
     source: Text<'a>,
     with_definitions: bool,

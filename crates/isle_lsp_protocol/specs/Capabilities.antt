@@ -12,6 +12,12 @@ completion =
     object (member (codes "resolveProvider") (boolean true)
     (member (codes "triggerCharacters") (array (item (string (codes ".")) (item (string (codes "$")) no_items))) no_members))
 
+-- a line is formatted after a `)` or a line break is typed
+abbrev pub on_type_formatting : Data
+on_type_formatting =
+    object (member (codes "firstTriggerCharacter") (string (codes ")"))
+    (member (codes "moreTriggerCharacter") (array (item (string (codes "\n")) no_items)) no_members))
+
 -- before a rename its range is told
 abbrev pub rename : Data
 rename = object (member (codes "prepareProvider") (boolean true) no_members)
@@ -48,10 +54,12 @@ capabilities =
     (member (codes "definitionProvider") (boolean true)
     (member (codes "documentFormattingProvider") (boolean true)
     (member (codes "documentHighlightProvider") (boolean true)
+    (member (codes "documentOnTypeFormattingProvider") on_type_formatting
     (member (codes "documentRangeFormattingProvider") (boolean true)
     (member (codes "documentSymbolProvider") (boolean true)
     (member (codes "foldingRangeProvider") (boolean true)
     (member (codes "hoverProvider") (boolean true)
+    (member (codes "implementationProvider") (boolean true)
     (member (codes "positionEncoding") (string (codes "utf-16"))
     (member (codes "referencesProvider") (boolean true)
     (member (codes "renameProvider") rename
@@ -59,7 +67,7 @@ capabilities =
     (member (codes "semanticTokensProvider") semantic_tokens
     (member (codes "textDocumentSync") text_document_sync
     (member (codes "workspace") (object (member (codes "workspaceFolders") workspace_folders no_members))
-    (member (codes "workspaceSymbolProvider") (boolean true) no_members)))))))))))))))))
+    (member (codes "workspaceSymbolProvider") (boolean true) no_members)))))))))))))))))))
 
 -- its name, and the version of the language
 abbrev pub server_info : Data

@@ -5,8 +5,8 @@ use Rattle.serde_json.specs.Find.{get, as_str, as_number, as_object}
 use Rattle.serde_json.specs.Read.{read}
 use Rattle.isle_lsp_frames.specs.Mending.{mended}
 use Rattle.isle_lsp_protocol.specs.declared.machine.Request as requests
-use Rattle.isle_lsp_protocol.specs.declared.machine.Request.TheVariants.{Initialize, Shutdown, Document, DocumentSymbol, WorkspaceSymbol, Definition, References, DocumentHighlight, Hover, Completion, ResolveCompletion, PrepareRename, Rename, Unknown}
-use Rattle.isle_lsp_protocol.specs.declared.machine.DocumentRequest.TheVariants.{Formatting, RangeFormatting, FoldingRange, SelectionRange, SemanticTokens, SemanticTokensRange, CodeAction}
+use Rattle.isle_lsp_protocol.specs.declared.machine.Request.TheVariants.{Initialize, Shutdown, Document, DocumentSymbol, WorkspaceSymbol, Definition, Implementation, References, DocumentHighlight, Hover, Completion, ResolveCompletion, PrepareRename, Rename, Unknown}
+use Rattle.isle_lsp_protocol.specs.declared.machine.DocumentRequest.TheVariants.{Formatting, RangeFormatting, OnTypeFormatting, FoldingRange, SelectionRange, SemanticTokens, SemanticTokensRange, CodeAction}
 use Rattle.isle_lsp_protocol.specs.declared.machine.Notification as notifications
 use Rattle.isle_lsp_protocol.specs.declared.machine.Notification.TheVariants.{Initialized, Exit, DidOpen, DidChange, DidClose, DidChangeWorkspaceFolders, DidChangeWatchedFiles, Other}
 use Rattle.isle_lsp_protocol.specs.declared.machine.Message as messages
@@ -37,12 +37,13 @@ abbrev pub document_request_of : List ℕ → requests.Request
 document_request_of name =
     if bytes_eq name (codes "textDocument/formatting") then Document Formatting
     else (if bytes_eq name (codes "textDocument/rangeFormatting") then Document RangeFormatting
+    else (if bytes_eq name (codes "textDocument/onTypeFormatting") then Document OnTypeFormatting
     else (if bytes_eq name (codes "textDocument/foldingRange") then Document FoldingRange
     else (if bytes_eq name (codes "textDocument/selectionRange") then Document SelectionRange
     else (if bytes_eq name (codes "textDocument/semanticTokens/full") then Document SemanticTokens
     else (if bytes_eq name (codes "textDocument/semanticTokens/range") then Document SemanticTokensRange
     else (if bytes_eq name (codes "textDocument/codeAction") then Document CodeAction
-    else Unknown))))))
+    else Unknown)))))))
 
 abbrev pub request_of : List ℕ → requests.Request
 request_of name =
@@ -51,6 +52,7 @@ request_of name =
     else (if bytes_eq name (codes "workspace/symbol") then WorkspaceSymbol
     else (if bytes_eq name (codes "textDocument/documentSymbol") then DocumentSymbol
     else (if bytes_eq name (codes "textDocument/definition") then Definition
+    else (if bytes_eq name (codes "textDocument/implementation") then Implementation
     else (if bytes_eq name (codes "textDocument/references") then References
     else (if bytes_eq name (codes "textDocument/documentHighlight") then DocumentHighlight
     else (if bytes_eq name (codes "textDocument/hover") then Hover
@@ -58,7 +60,7 @@ request_of name =
     else (if bytes_eq name (codes "completionItem/resolve") then ResolveCompletion
     else (if bytes_eq name (codes "textDocument/prepareRename") then PrepareRename
     else (if bytes_eq name (codes "textDocument/rename") then Rename
-    else document_request_of name)))))))))))
+    else document_request_of name))))))))))))
 
 abbrev pub named_notification : Option (List ℕ) → messages.Message
 named_notification None = Invalid

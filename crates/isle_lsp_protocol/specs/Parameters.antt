@@ -1,5 +1,5 @@
 -- The parameters of a client's messages.
-use Rattle.std.specs.Prelude.{ℕ, ℤ, List, [], ◌∷◌, ◌++◌, codes, bytes_eq, filter, Bool, false, not, ◌||◌, Option, None, Some, is_some, option_and_then, option_to_list, if◌then◌else◌}
+use Rattle.std.specs.Prelude.{ℕ, ℤ, ◌-◌, List, [], ◌∷◌, ◌++◌, codes, bytes_eq, filter, Bool, false, not, ◌||◌, Option, None, Some, is_some, option_and_then, option_map, option_to_list, if◌then◌else◌}
 use Rattle.serde_json.specs.Data.{Data, Items, no_items, item}
 use Rattle.serde_json.specs.Find.{get, pointer, as_str, as_bool, as_number, as_object, as_i64, as_u64, as_array}
 use Rattle.isle_lsp_frames.specs.Uris.{uri_of as uri_of_path}
@@ -72,6 +72,24 @@ position_of d = option_and_then position_in (pointer (codes "/params/position") 
 -- the range of the request
 abbrev pub range_of : Data → Option Range
 range_of d = option_and_then range_in (pointer (codes "/params/range") d)
+
+-- a line break is typed
+abbrev pub is_break : Option (List ℕ) → Bool
+is_break None = false
+is_break (Some typed) = bytes_eq typed (codes "\n")
+
+abbrev pub breaks_line : Data → Bool
+breaks_line d = is_break (option_and_then as_str (pointer (codes "/params/ch") d))
+
+-- the line before a position, or its own line up to it
+abbrev pub typed_line : (breaks : Bool) → Position → Range
+typed_line breaks p =
+    if breaks then record { start = record { line = p.line - 1; unit = 0 }; end = record { line = p.line; unit = 0 } }
+    else record { start = record { line = p.line; unit = 0 }; end = p }
+
+-- the line to format after a character is typed: after a line break the line before
+abbrev pub typed_range : Data → Option Range
+typed_range d = option_map (typed_line (breaks_line d)) (position_of d)
 
 abbrev pub with_position : Option Position → Option (List Position) → Option (List Position)
 with_position None rest = None

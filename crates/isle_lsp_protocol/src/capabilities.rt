@@ -17,10 +17,13 @@ const INITIALIZE_RESULT: &str = "{\
     \"definitionProvider\":true,\
     \"documentFormattingProvider\":true,\
     \"documentHighlightProvider\":true,\
+    \"documentOnTypeFormattingProvider\":{\"firstTriggerCharacter\":\")\",\
+    \"moreTriggerCharacter\":[\"\\n\"]},\
     \"documentRangeFormattingProvider\":true,\
     \"documentSymbolProvider\":true,\
     \"foldingRangeProvider\":true,\
     \"hoverProvider\":true,\
+    \"implementationProvider\":true,\
     \"positionEncoding\":\"utf-16\",\
     \"referencesProvider\":true,\
     \"renameProvider\":{\"prepareProvider\":true},\

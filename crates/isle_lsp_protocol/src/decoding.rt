@@ -107,6 +107,7 @@ fn request_of(name: &str) -> Request
         "workspace/symbol" => Request::WorkspaceSymbol,
         "textDocument/documentSymbol" => Request::DocumentSymbol,
         "textDocument/definition" => Request::Definition,
+        "textDocument/implementation" => Request::Implementation,
         "textDocument/references" => Request::References,
         "textDocument/documentHighlight" => Request::DocumentHighlight,
         "textDocument/hover" => Request::Hover,
@@ -125,6 +126,7 @@ fn document_request_of(name: &str) -> Request
     match name {
         "textDocument/formatting" => Request::Document(DocumentRequest::Formatting),
         "textDocument/rangeFormatting" => Request::Document(DocumentRequest::RangeFormatting),
+        "textDocument/onTypeFormatting" => Request::Document(DocumentRequest::OnTypeFormatting),
         "textDocument/foldingRange" => Request::Document(DocumentRequest::FoldingRange),
         "textDocument/selectionRange" => Request::Document(DocumentRequest::SelectionRange),
         "textDocument/semanticTokens/full" => Request::Document(DocumentRequest::SemanticTokens),

@@ -35,6 +35,8 @@ pub enum Request {
     WorkspaceSymbol,
     /// The definitions of a name.
     Definition,
+    /// The rules, the extractor and the `extern` of a term.
+    Implementation,
     /// The uses of a name.
     References,
     /// The uses of a name in its document.
@@ -61,6 +63,8 @@ pub enum DocumentRequest {
     Formatting,
     /// The edits that format lines of the document.
     RangeFormatting,
+    /// The edits that format a line after a character was typed.
+    OnTypeFormatting,
     /// The parts of the document that can be folded.
     FoldingRange,
     /// The parts of the document that a selection grows to.

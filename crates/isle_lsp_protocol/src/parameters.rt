@@ -50,6 +50,48 @@ pub fn range_of(message: &Value) -> Option<Range>
     }
 }
 
+/// The range of the line to format after a character is typed: after a line break the line before
+/// the position in the message, and otherwise the line of this position.
+pub fn typed_range(message: &Value) -> Option<Range>
+    ensures { result ≡ wanted.typed_range (view message.now) }
+{
+    match position_of(message) {
+        Some(position) => Some(typed_line(breaks_line(message), position)),
+        None => None,
+    }
+}
+
+/// Returns whether a message tells that a line break is typed.
+fn breaks_line(message: &Value) -> bool
+    ensures { result ≡ wanted.breaks_line (view message.now) }
+{
+    match message.pointer("/params/ch").and_then(Value::as_str) {
+        Some(typed) => typed == "\n",
+        None => false,
+    }
+}
+
+/// The range of the line before a position, or of its own line up to it.
+fn typed_line(breaks_line: bool, position: Position) -> Range
+    ensures { result ≡ wanted.typed_line breaks_line position }
+{
+    let line = position.line;
+    if breaks_line {
+        Range {
+            start: Position {
+                line: line.saturating_sub(1),
+                unit: 0,
+            },
+            end: Position { line, unit: 0 },
+        }
+    } else {
+        Range {
+            start: Position { line, unit: 0 },
+            end: position,
+        }
+    }
+}
+
 /// The positions in a message, or `None` if it has none or if one of them is not a position.
 pub fn positions_of(alloc: Global, message: &Value) -> Result<Option<Vec<Position>>, AllocError>
     ensures { IfOk result (λ positions. option_map (λ found. found.items) positions

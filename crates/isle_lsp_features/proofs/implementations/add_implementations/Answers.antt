@@ -1,0 +1,10 @@
+use Rattle.std.proofs.Common.{arith, refl}
+use Rattle.std.proofs.lemmas.Grind.{common_steps}
+use Rattle.isle_lsp_text.proofs.Places.{start_place}
+use Rattle.isle_lsp_features.proofs.implementations.add_implementations.Goals as goal
+
+pub loop-occurrence-init : goal.loop-occurrence-init
+loop-occurrence-init c = record { so_far = refl; near = start_place _ }
+
+pub loop-occurrence-preserved : goal.loop-occurrence-preserved
+loop-occurrence-preserved c = record { so_far = grind (arith, common_steps); near = c.implementation_in.ensures.near }
