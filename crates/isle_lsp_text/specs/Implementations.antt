@@ -23,7 +23,7 @@ part_named word =
 abbrev pub external_named : List ℕ → DefinitionPart
 external_named word = if bytes_eq word (codes "constructor") || bytes_eq word (codes "extractor") then Names else Rest
 
--- the part of a definition after a token of it
+-- the part of a definition after a token of it; an `extern` has no list, so where one begins its own end is missing
 abbrev pub next : DefinitionPart → Tok → DefinitionPart
 next Keyword (symbol word) = part_named word
 next Keyword _ = Rest
@@ -32,6 +32,7 @@ next Front _ = Front
 next Root _ = Rest
 next External (symbol word) = external_named word
 next External _ = Rest
+next Names lparen = Rest
 next Names _ = Names
 next Rest _ = Rest
 

@@ -95,6 +95,7 @@ fn next(part: DefinitionPart, token: TokenRef) -> DefinitionPart
             DefinitionPart::Names
         }
         (DefinitionPart::Front, TokenRef::LParen) => DefinitionPart::Root,
+        (DefinitionPart::Names, TokenRef::LParen) => DefinitionPart::Rest,
         (DefinitionPart::Front | DefinitionPart::Names, _) => part,
         _ => DefinitionPart::Rest,
     }
