@@ -42,6 +42,17 @@ TOLD_APART = {
         ("definition", X64_FILE, "lower#2", f"{X64_FILE}:1:7"),
         ("references", ARM_FILE, "lower", f"{ARM_FILE}:2:7", f"{ARM_FILE}:3:8", f"{ARM_FILE}:3:27"),
     ],
+    "implementations of a name of both": [
+        ("implementation", X64_FILE, "lower#2", f"{X64_FILE}:2:8"),
+        ("implementation", ARM_FILE, "lower", f"{ARM_FILE}:3:8"),
+    ],
+    "implementations of a name that they share": [
+        ("implementation", X64_FILE, "shared", "prelude.isle:3:8"),
+        ("implementation", "prelude.isle", "shared", "prelude.isle:3:8"),
+        ("open", "prelude.isle"),
+        ("insert", "prelude.isle", "", "(rule 1 (shared y) y)\n"),
+        ("implementation", ARM_FILE, "shared", "prelude.isle:1:10", "prelude.isle:4:8"),
+    ],
     "a name that they share": [
         ("definition", X64_FILE, "shared", "prelude.isle:2:7"),
         ("references", "prelude.isle", "shared", "prelude.isle:2:7", "prelude.isle:3:8", f"{X64_FILE}:2:15", f"{ARM_FILE}:3:15"),

@@ -31,6 +31,7 @@ class Mark(NamedTuple):
     binder: Optional[int] = None  # where a variable is bound, if it is
     owner: Optional[str] = None  # the type of the variant that is defined here
     whole: tuple = ()  # what is defined here, from where to where
+    implements: bool = False  # whether it is the root of a rule or an extractor, or what an `extern` is about
 
 
 class Refused(Exception):
@@ -158,9 +159,9 @@ class Reader:
             name = token.text[1:] if kind == CONSTANT else token.text
             self.marks.append(Mark(kind, more.pop("name", name), token.start, token.end, defines, **more))
 
-    def uses(self, kind):
+    def uses(self, kind, **more):
         token = self.name()
-        self.mark(kind, token)
+        self.mark(kind, token, **more)
         return token
 
     def binder(self, name):
@@ -265,7 +266,11 @@ class Reader:
             self.name()
         if self.peek().kind == "literal":
             self.next()
+        place, root = len(self.marks), self.tokens[self.at + 1 : self.at + 2] if self.peek().kind == "(" else []
         self.pattern()
+        for mark in self.marks[place : place + 1]:
+            if root and root[0].start == mark.start:
+                self.marks[place] = mark._replace(implements=True)
         while self.is_condition():
             self.condition()
         self.expression()
@@ -273,7 +278,7 @@ class Reader:
 
     def extractor(self):
         self.next("(")
-        self.uses(TERM)
+        self.uses(TERM, implements=True)
         self.until_closed(lambda: self.occurs(self.name()))
         self.in_template = True
         self.pattern()
@@ -338,7 +343,7 @@ class Reader:
             self.eat("infallible")
         elif not self.eat("constructor"):
             raise Refused
-        self.uses(TERM)
+        self.uses(TERM, implements=True)
         self.name()
         self.next(")")
 
