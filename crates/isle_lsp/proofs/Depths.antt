@@ -22,7 +22,7 @@ use Rattle.isle_lsp_protocol.specs.Decoding.{Decodes}
 use Rattle.isle_lsp_protocol.specs.Replies.{IsTextOf, Outcome, error_response, failed, reply, reply_id}
 use Rattle.isle_lsp_protocol.specs.declared.machine.ErrorCode.{ErrorCode}
 use Rattle.isle_lsp_protocol.specs.declared.machine.Request as requests
-use Rattle.isle_lsp_protocol.specs.declared.machine.Request.TheVariants.{Initialize, Shutdown, Document as Alone, DocumentSymbol, WorkspaceSymbol, Definition, Implementation, References, DocumentHighlight, Hover, Completion, ResolveCompletion, PrepareRename, Rename, Unknown}
+use Rattle.isle_lsp_protocol.specs.declared.machine.Request.TheVariants.{Initialize, Shutdown, Document as Alone, DocumentSymbol, WorkspaceSymbol, Definition, Implementation, References, DocumentHighlight, Hover, SignatureHelp, Completion, ResolveCompletion, PrepareRename, Rename, Unknown}
 use Rattle.isle_lsp_protocol.proofs.Depths.{IsWithin, at_most, initialized_depth, reply_depth, within}
 use Rattle.isle_lsp_features.proofs.Depths.{IsAboutNames, answer_within}
 use Rattle.isle_lsp.specs.Alone.{Gives, GivesAt, GivesWithin, IsAlone, IsFormattingWithin, IsOfDocument}
@@ -89,6 +89,7 @@ result_within Implementation d held view o m h = named_within Implementation d h
 result_within References d held view o m h = named_within References d held view o tt m h
 result_within DocumentHighlight d held view o m h = named_within DocumentHighlight d held view o tt m h
 result_within Hover d held view o m h = named_within Hover d held view o tt m h
+result_within SignatureHelp d held view o m h = named_within SignatureHelp d held view o tt m h
 result_within Completion d held view o m h = named_within Completion d held view o tt m h
 result_within ResolveCompletion d held view o m h = named_within ResolveCompletion d held view o tt m h
 result_within PrepareRename d held view o m h = named_within PrepareRename d held view o tt m h

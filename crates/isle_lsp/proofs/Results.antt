@@ -4,7 +4,7 @@ use Rattle.serde_json.specs.Data.{Data}
 use Rattle.serde_json.specs.Read.{read}
 use Rattle.isle_lsp_protocol.specs.declared.machine.DocumentRequest.{DocumentRequest}
 use Rattle.isle_lsp_protocol.specs.declared.machine.Request as requests
-use Rattle.isle_lsp_protocol.specs.declared.machine.Request.TheVariants.{Initialize, Shutdown, Document, DocumentSymbol, WorkspaceSymbol, Definition, Implementation, References, DocumentHighlight, Hover, Completion, ResolveCompletion, PrepareRename, Rename, Unknown}
+use Rattle.isle_lsp_protocol.specs.declared.machine.Request.TheVariants.{Initialize, Shutdown, Document, DocumentSymbol, WorkspaceSymbol, Definition, Implementation, References, DocumentHighlight, Hover, SignatureHelp, Completion, ResolveCompletion, PrepareRename, Rename, Unknown}
 use Rattle.isle_lsp_protocol.specs.Replies.{Outcome, error_response, reply_id}
 use Rattle.isle_lsp_protocol.specs.declared.machine.ErrorCode.TheVariants.{RequestFailed}
 use Rattle.isle_lsp_files.specs.Disks.{Asked, View}
@@ -22,6 +22,7 @@ named_result Implementation d held view o a b c e n = n
 named_result References d held view o a b c e n = n
 named_result DocumentHighlight d held view o a b c e n = n
 named_result Hover d held view o a b c e n = n
+named_result SignatureHelp d held view o a b c e n = n
 named_result Completion d held view o a b c e n = n
 named_result ResolveCompletion d held view o a b c e n = n
 named_result PrepareRename d held view o a b c e n = n
@@ -40,6 +41,7 @@ named_asks Implementation question a b c e = refl
 named_asks References question a b c e = refl
 named_asks DocumentHighlight question a b c e = refl
 named_asks Hover question a b c e = refl
+named_asks SignatureHelp question a b c e = refl
 named_asks Completion question a b c e = refl
 named_asks ResolveCompletion question a b c e = refl
 named_asks PrepareRename question a b c e = refl
@@ -60,6 +62,7 @@ no_mistake Implementation view a b = refl
 no_mistake References view a b = refl
 no_mistake DocumentHighlight view a b = refl
 no_mistake Hover view a b = refl
+no_mistake SignatureHelp view a b = refl
 no_mistake Completion view a b = refl
 no_mistake ResolveCompletion view a b = refl
 

@@ -1,5 +1,5 @@
 -- How deep the answers about names nest.
-use Rattle.std.proofs.Common.{ℕ, ◌≤◌, ◌+◌, ◌-◌, min, length, inl, inr, List, [], ◌∷◌, Bool, true, false, Option, None, Some, Result, Ok, Err, if◌then◌else◌, flat_map, map, arith}
+use Rattle.std.proofs.Common.{ℕ, ◌≤◌, ◌+◌, ◌-◌, min, length, inl, inr, List, [], ◌∷◌, Bool, true, false, Option, None, Some, Result, Ok, Err, if◌then◌else◌, flat_map, map, slice_get, arith}
 use Rattle.std.specs.Global.{Vec}
 use Rattle.serde_json.specs.Data.{Data, Members, array, depth, members_depth, no_members}
 use Rattle.serde_json.specs.View.{items_of}
@@ -17,7 +17,7 @@ use Rattle.isle_lsp_text.specs.declared.lists.ListSpan.{ListSpan}
 use Rattle.isle_lsp_text.specs.declared.positions.Range.{Range}
 use Rattle.isle_lsp_protocol.proofs.Depths.{AreShallow, IsAtMost, IsWithin, append_shallow, at_most, completion_depth, document_edits_depth, documented_depth, edits_depth, flat_map_shallow, hover_depth, item_at_most, items_shallow, location_depth, map_shallow, put_depth, range_depth, ranged_depth, symbol_depth, within, workspace_symbol_depth}
 use Rattle.isle_lsp_protocol.specs.declared.machine.Request as requests
-use Rattle.isle_lsp_protocol.specs.declared.machine.Request.TheVariants.{Definition as AskDefinition, Implementation, References, DocumentHighlight, DocumentSymbol, WorkspaceSymbol, Hover, Completion, ResolveCompletion, PrepareRename, Rename, Initialize, Shutdown, Document, Unknown}
+use Rattle.isle_lsp_protocol.specs.declared.machine.Request.TheVariants.{Definition as AskDefinition, Implementation, References, DocumentHighlight, DocumentSymbol, WorkspaceSymbol, Hover, SignatureHelp, Completion, ResolveCompletion, PrepareRename, Rename, Initialize, Shutdown, Document, Unknown}
 use Rattle.isle_lsp_protocol.specs.Items.{edits_data}
 use Rattle.isle_lsp_protocol.specs.Parameters.{item_of, new_name_of, query_of, wants_definitions}
 use Rattle.isle_lsp_protocol.specs.Replies.{Outcome, done, failed}
@@ -30,6 +30,9 @@ use Rattle.isle_lsp_features.specs.Located.{AreHighlights, AreReferences, IsDefi
 use Rattle.isle_lsp_features.specs.Places.{File, Place, file_in, place_in}
 use Rattle.isle_lsp_features.specs.Programs.{Question, Text}
 use Rattle.isle_lsp_features.specs.Renamed as renamed
+use Rattle.isle_lsp_features.specs.Signatures.{IsFirstSignature, IsSignatureIn, IsSignatureOf, called}
+use Rattle.isle_lsp_signatures.proofs.Depths.{signature_depth}
+use Rattle.isle_lsp_signatures.specs.Calls.{CallNode}
 use Rattle.isle_lsp_features.specs.Shown.{IsHover, IsResolved, hover_data, resolved_data}
 
 array_depth : (n : ℕ) (ds : List Data) → AreShallow n ds → depth (array (items_of ds)) ≤ n + 1
@@ -190,6 +193,20 @@ renaming_at_within : (q : Question) (program : List Text) (all : List SeenNode) 
 renaming_at_within q program all None a h = within 9 a _ h tt
 renaming_at_within q program all (Some p) a h = renaming_of_within q.takes_document_changes program all (name_at p.pos all) (new_name_of q.message) a h
 
+-- ---- signatures
+
+declared_depth : (s : Option Text) (name : NameNode) (o : Occurrence) (argument : ℕ) (d : Data) → IsSignatureIn s name o argument d → depth d ≤ 6
+declared_depth None name o argument d h = at_most 6 _ _ h (omega arith)
+declared_depth (Some s) name o argument d h = signature_depth s.text _ _ argument d h.1.1
+
+first_depth : (program : List Text) (name : NameNode) (o : Option Occurrence) (argument : ℕ) (d : Data) → IsFirstSignature program name o argument d → depth d ≤ 6
+first_depth program name None argument d h = at_most 6 _ _ h (omega arith)
+first_depth program name (Some o) argument d h = declared_depth (slice_get program o.pos.file) name o argument d h
+
+called_depth : (program : List Text) (all : List SeenNode) (call : Option CallNode) (d : Data) → IsSignatureOf program all call d → depth d ≤ 6
+called_depth program all None d h = at_most 6 _ _ h (omega arith)
+called_depth program all (Some c) d h = first_depth program (called c) (slice_get h.0 0) c.arguments d h.1.1
+
 -- ---- all answers
 
 wider : (n m : ℕ) (a : Outcome) → n ≤ m → IsWithin n a → IsWithin m a
@@ -219,6 +236,7 @@ IsAboutNames DocumentHighlight = Unit {0}
 IsAboutNames PrepareRename = Unit {0}
 IsAboutNames Rename = Unit {0}
 IsAboutNames Hover = Unit {0}
+IsAboutNames SignatureHelp = Unit {0}
 IsAboutNames Completion = Unit {0}
 IsAboutNames ResolveCompletion = Unit {0}
 IsAboutNames WorkspaceSymbol = Unit {0}
@@ -242,6 +260,8 @@ answer_of_within Rename q program all a n m h = wider 9 126 a (omega arith) (ren
 answer_of_within Hover q program all a n m h =
     found_within Hover program all (place_in q program) q.message a
     (λ x d f. omega (arith, shown_depth program x.text (name_at x.pos all) (occurrence_at x.pos all) all d f)) h
+answer_of_within SignatureHelp q program all a n m h =
+    found_within SignatureHelp program all (place_in q program) q.message a (λ x d f. called_depth program all f.0 d f.1.1) h
 answer_of_within Completion q program all a n m h =
     found_within Completion program all (place_in q program) q.message a (λ x d f. completions_depth x.pos x.text all d f) h
 answer_of_within ResolveCompletion q program all a n m h = resolution_within program all (item_of q.message) a (item_at_most 127 q.message m) h

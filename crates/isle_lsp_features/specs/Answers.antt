@@ -12,7 +12,7 @@ use Rattle.isle_resolve.specs.Scopes.{SeenNode, seen}
 use Rattle.isle_index.specs.Symbols.{symbols}
 use Rattle.isle_resolve.specs.Events.{events}
 use Rattle.isle_lsp_protocol.specs.declared.machine.Request as requests
-use Rattle.isle_lsp_protocol.specs.declared.machine.Request.TheVariants.{Definition as AskDefinition, Implementation, References, DocumentHighlight, DocumentSymbol, WorkspaceSymbol, Hover, Completion, ResolveCompletion, PrepareRename, Rename}
+use Rattle.isle_lsp_protocol.specs.declared.machine.Request.TheVariants.{Definition as AskDefinition, Implementation, References, DocumentHighlight, DocumentSymbol, WorkspaceSymbol, Hover, SignatureHelp, Completion, ResolveCompletion, PrepareRename, Rename}
 use Rattle.isle_lsp_protocol.specs.Items.{items_data}
 use Rattle.isle_lsp_protocol.specs.declared.items.Item.{Item}
 use Rattle.isle_lsp_protocol.specs.declared.machine.ErrorCode.TheVariants.{InvalidParams, RequestFailed}
@@ -24,6 +24,7 @@ use Rattle.isle_lsp_features.specs.Located.{AreHighlights, AreReferences, IsDefi
 use Rattle.isle_lsp_features.specs.Completed.{AreCompletions, item_name}
 use Rattle.isle_lsp_features.specs.Defined.{AreDocumentSymbols, letters_of, workspace_symbols}
 use Rattle.isle_lsp_features.specs.Shown.{IsHover, IsResolved}
+use Rattle.isle_lsp_features.specs.Signatures.{IsSignature}
 use Rattle.isle_lsp_features.specs.Renamed as renamed
 use Rattle.isle_lsp_features.specs.Places.{File, Place, file_in, place_in}
 
@@ -62,6 +63,7 @@ FindsAt References program all p message d = AreReferences program (wants_defini
 FindsAt DocumentHighlight program all p message d = AreHighlights p.pos.file p.text (name_at p.pos all) all d
 FindsAt PrepareRename program all p message d = d ≡ renamed.prepared p.text (renamed.renamable (name_at p.pos all) all) (occurrence_at p.pos all)
 FindsAt Hover program all p message d = IsHover program p.text (name_at p.pos all) (occurrence_at p.pos all) all d
+FindsAt SignatureHelp program all p message d = IsSignature program p.text p.pos.offset all d
 FindsAt Completion program all p message d = AreCompletions p.pos p.text all d
 FindsAt _ program all p message d = Unit {0}
 
@@ -113,6 +115,7 @@ IsAnswerOf DocumentHighlight q program all a = IsFoundAt DocumentHighlight progr
 IsAnswerOf PrepareRename q program all a = IsFoundAt PrepareRename program all (place_in q program) q.message a
 IsAnswerOf Rename q program all a = IsRenamingAt q program all (place_in q program) a
 IsAnswerOf Hover q program all a = IsFoundAt Hover program all (place_in q program) q.message a
+IsAnswerOf SignatureHelp q program all a = IsFoundAt SignatureHelp program all (place_in q program) q.message a
 IsAnswerOf Completion q program all a = IsFoundAt Completion program all (place_in q program) q.message a
 IsAnswerOf ResolveCompletion q program all a = IsResolution program all (item_of q.message) a
 IsAnswerOf WorkspaceSymbol q program all a = a ≡ done (workspace_symbols (letters_of (query_of q.message)) program all)

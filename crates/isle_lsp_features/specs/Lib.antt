@@ -10,3 +10,4 @@ pub mod Programs
 pub mod Renamed
 pub mod Rests
 pub mod Shown
+pub mod Signatures

@@ -25,6 +25,7 @@ pub mod pieces;
 pub mod places;
 mod renaming;
 pub mod rests;
+mod signatures;
 mod symbols;
 
 pub use gathered::Gathered;
@@ -174,6 +175,10 @@ fn answer_at<'a>(
         }
         Request::DocumentHighlight => Ok(list_outcome(locations::highlights(alloc, index, place)?)),
         Request::Hover => Ok(Outcome::Done(hover::hover(alloc, program, index, place)?)),
+        Request::SignatureHelp => {
+            let help = signatures::signature_help(alloc, program, index, place)?;
+            Ok(Outcome::Done(help))
+        }
         Request::Completion => Ok(list_outcome(Some(completion::completion(alloc, index, place)?))),
         Request::PrepareRename => Ok(Outcome::Done(renaming::prepare(alloc, index, place)?)),
         _ => Ok(Outcome::Done(Value::Null)),

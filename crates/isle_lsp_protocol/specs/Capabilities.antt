@@ -38,6 +38,11 @@ semantic_tokens =
     (member (codes "legend") (object (member (codes "tokenModifiers") token_modifiers (member (codes "tokenTypes") token_types no_members)))
     (member (codes "range") (boolean true) no_members)))
 
+-- the signature of a term is shown where an argument may begin
+abbrev pub signature_help : Data
+signature_help =
+    object (member (codes "triggerCharacters") (array (item (string (codes " ")) (item (string (codes "(")) no_items))) no_members)
+
 -- documents are opened and closed; a change, by its kind 2, is that of a range
 abbrev pub text_document_sync : Data
 text_document_sync = object (member (codes "change") (number (unsigned 2)) (member (codes "openClose") (boolean true) no_members))
@@ -65,9 +70,10 @@ capabilities =
     (member (codes "renameProvider") rename
     (member (codes "selectionRangeProvider") (boolean true)
     (member (codes "semanticTokensProvider") semantic_tokens
+    (member (codes "signatureHelpProvider") signature_help
     (member (codes "textDocumentSync") text_document_sync
     (member (codes "workspace") (object (member (codes "workspaceFolders") workspace_folders no_members))
-    (member (codes "workspaceSymbolProvider") (boolean true) no_members)))))))))))))))))))
+    (member (codes "workspaceSymbolProvider") (boolean true) no_members))))))))))))))))))))
 
 -- its name, and the version of the language
 abbrev pub server_info : Data

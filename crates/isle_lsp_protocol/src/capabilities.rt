@@ -32,6 +32,7 @@ const INITIALIZE_RESULT: &str = "{\
     \"tokenModifiers\":[\"declaration\",\"readonly\"],\
     \"tokenTypes\":[\"keyword\",\"type\",\"enumMember\",\"function\",\"variable\",\
     \"parameter\",\"number\"]},\"range\":true},\
+    \"signatureHelpProvider\":{\"triggerCharacters\":[\" \",\"(\"]},\
     \"textDocumentSync\":{\"change\":2,\"openClose\":true},\
     \"workspace\":{\"workspaceFolders\":{\"changeNotifications\":true,\"supported\":true}},\
     \"workspaceSymbolProvider\":true},\

@@ -111,6 +111,7 @@ fn request_of(name: &str) -> Request
         "textDocument/references" => Request::References,
         "textDocument/documentHighlight" => Request::DocumentHighlight,
         "textDocument/hover" => Request::Hover,
+        "textDocument/signatureHelp" => Request::SignatureHelp,
         "textDocument/completion" => Request::Completion,
         "completionItem/resolve" => Request::ResolveCompletion,
         "textDocument/prepareRename" => Request::PrepareRename,

@@ -43,6 +43,8 @@ pub enum Request {
     DocumentHighlight,
     /// The text that describes a name.
     Hover,
+    /// The signature of the term that is called at a place.
+    SignatureHelp,
     /// The names that complete a partly written one.
     Completion,
     /// The text that describes one of these names.

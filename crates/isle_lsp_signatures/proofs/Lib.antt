@@ -1,0 +1,3 @@
+pub mod Depths
+mod OpenLists
+mod Texts
