@@ -466,6 +466,52 @@ class Reading:
         return self.lines.range(mark.start, mark.end)
 
 
+class Items:
+    """What is in a list, as far as it is read: the kinds of its items, and the symbol that is its first one."""
+
+    def __init__(self):
+        self.head, self.items, self.goes_on = None, [], False
+
+    def add(self, kind, text=None):
+        if not self.items and kind == "symbol":
+            self.head = text
+        if kind == "@" or self.goes_on:
+            self.items[-1:] = ["joined"] if len(self.items) > 1 or not self.head else [*self.items[-1:], "joined"]
+        else:
+            self.items.append(kind)
+        self.goes_on = kind == "@"
+
+
+def call_around(text, offset):
+    """The symbol that the innermost call around a place begins with, and how many arguments end before the place, or None."""
+    lists, (tokens, _) = [], tokens_of(text)
+    for it in tokens:
+        if it.end > offset:
+            break
+        if it.kind == "(":
+            lists.append(Items())
+            continue
+        if it.kind == ")":
+            lists[-1:] = []
+        if lists and it.end < offset:
+            lists[-1].add("list" if it.kind == ")" else it.kind, it.text)
+    return next(((it.head, max(0, len(it.items) - 1 - it.goes_on)) for it in reversed(lists) if it.head), None)
+
+
+def parameters(declaration, is_variant):
+    """From where to where the parameters of a declaration are."""
+    tokens, depth, found = tokens_of(declaration)[0], 0, []
+    begin = 2 if is_variant else next((at for at, it in enumerate(tokens) if at and it.kind == "("), len(tokens)) + 1
+    for it in tokens[begin:]:
+        if depth == 0 and it.kind == ")":
+            break
+        if depth == 0:
+            found.append([it.start, it.end])
+        depth += (it.kind == "(") - (it.kind == ")")
+        found[-1][1] = it.end
+    return found
+
+
 @functools.lru_cache(maxsize=512)
 def reading(text):
     return Reading(text)
