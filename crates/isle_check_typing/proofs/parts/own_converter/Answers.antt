@@ -1,10 +1,7 @@
 use Rattle.std.proofs.Common.{◌≡◌, ℕ, ◌-◌, suc, List, Option, Some, true, string_bytes, ap, arith, rules, sym, ◌∙◌}
 use Rattle.std.specs.Str.{bytes_eq}
-use Rattle.isle_base_source.specs.declared.pos.Pos.{Pos}
-use Rattle.isle_ast_rules.specs.Tree.{PatternNode}
 use Rattle.isle_check_environment.specs.signatures.Views.{environment_of, term_of}
 use Rattle.isle_check_typing.specs.PatternTypes.{own_by, type_at}
-use Rattle.isle_check_typing.specs.Progress.{ProgressNode}
 use Rattle.isle_check_typing.specs.Typed.{TypedNode}
 use Rattle.isle_check_typing.specs.Typings.{Typing}
 use Rattle.isle_check_typing.proofs.Puts.{one, put-own}

@@ -1,11 +1,7 @@
 use Rattle.std.proofs.Common.{◌≡◌, ℕ, ◌-◌, suc, List, Option, Some, true, string_bytes, ap, arith, rules, sym, ◌∙◌}
 use Rattle.std.specs.Str.{bytes_eq}
-use Rattle.isle_base_source.specs.declared.pos.Pos.{Pos}
-use Rattle.isle_ast_rules.specs.Tree.{Expression}
 use Rattle.isle_check_environment.specs.signatures.Views.{environment_of, term_of}
-use Rattle.isle_check_typing.specs.Progress.{ProgressNode}
 use Rattle.isle_check_typing.specs.Typings.{Typing}
-use Rattle.isle_check_typing.specs.declared.expressions.flags.Flags.{Flags}
 use Rattle.isle_check_typing.specs.expressions.ExpressionTypes.{expression_at, own_by}
 use Rattle.isle_check_typing.specs.expressions.TypedExpressions.{TypedExpressionNode}
 use Rattle.isle_check_typing.proofs.expressions.Puts.{one, put-own}
