@@ -1,4 +1,5 @@
 pub mod Faults
+pub mod Integers
 pub mod Typed
 pub mod Progress
 pub mod TypedView

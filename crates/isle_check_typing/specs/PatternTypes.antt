@@ -36,8 +36,11 @@ constant_by (Some known) name place ty s =
 abbrev pub type_constant : EnvironmentNode → Name → Pos → (ty : List ℕ) → ProgressNode → Typing TypedNode
 type_constant env name place ty s = constant_by (env.constants name.text) name place ty s
 
+abbrev pub new_variable : Name → (ty : List ℕ) → ProgressNode → Typing TypedNode
+new_variable var ty s = gives (typed_bind (length s.bound) ty (typed_wildcard ty)) (bind var.text ty s)
+
 abbrev pub variable_by : Option FoundNode → Name → Pos → (ty : List ℕ) → ProgressNode → Typing TypedNode
-variable_by None var place ty s = gives (typed_bind (length s.bound) ty (typed_wildcard ty)) (bind var.text ty s)
+variable_by None var place ty s = new_variable var ty s
 variable_by (Some known) var place ty s =
     gives
     (typed_var known.number known.ty)
@@ -132,9 +135,11 @@ abbrev pub converting : EnvironmentNode → (inner outer : List ℕ) → Option 
 converting env inner outer = if_extracts env (env.converters inner outer)
 
 -- a pattern that is put into a converter
+abbrev pub put_in : (converter : List ℕ) → PatternNode → Pos → PatternNode
+put_in converter p place = term_pattern (record { text = converter; pos = place }) (more_pattern p no_pattern) place
+
 abbrev pub put_by : Below → (converter : List ℕ) → PatternNode → Pos → (ty : List ℕ) → ProgressNode → Option (Typing TypedNode)
-put_by below converter p place ty s =
-    below (term_pattern (record { text = converter; pos = place }) (more_pattern p no_pattern) place) ty s
+put_by below converter p place ty s = below (put_in converter p place) ty s
 
 -- a term whose result has another type
 abbrev pub converted_by : Below → EnvironmentNode → Option (List ℕ) → PatternNode → TermNode → (term : List ℕ) → PatternList → Pos → (ty : List ℕ) → ProgressNode → Option (Typing TypedNode)

@@ -5,6 +5,8 @@ mod expressions;
 mod flags;
 pub mod laws;
 mod leaves;
+mod parts;
+mod tells;
 mod typed;
 mod uses;
 

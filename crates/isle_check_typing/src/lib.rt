@@ -5,10 +5,13 @@
 pub mod expressions;
 mod fault;
 pub mod laws;
+mod leaves;
 mod names;
+mod parts;
 mod patterns;
 mod progress;
 mod refusal;
+mod tells;
 mod typed;
 
 pub use fault::{Fault, Kind};

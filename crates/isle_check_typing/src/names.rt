@@ -3,6 +3,7 @@
 ghost use Rattle.std.specs.Prelude.{◌≡◌, IfSome, is_some, option_map, string_bytes};
 ghost use Rattle.isle_check_environment.specs.Types.{is_built_in};
 ghost use Rattle.isle_check_environment.specs.signatures.Views.{environment_of, term_of};
+ghost use Rattle.isle_check_typing.specs.Integers.{is_signed};
 
 use isle_check_environment::signatures::{Environment, Term};
 
@@ -33,6 +34,16 @@ fn built_in(text: &str) -> Option<&'static str>
         "u64" => Some("u64"),
         "u128" => Some("u128"),
         "usize" => Some("usize"),
+        _ => signed(text),
+    }
+}
+
+/// Returns the name of an integer type with a sign.
+fn signed(text: &str) -> Option<&'static str>
+    ensures known { is_some result ≡ is_signed text.now }
+    ensures same { IfSome result (λ ty. ty.now ≡ text.now) }
+{
+    match text {
         "i8" => Some("i8"),
         "i16" => Some("i16"),
         "i32" => Some("i32"),

@@ -1,27 +1,24 @@
 //! The types of patterns.
 
-ghost use Rattle.std.specs.Prelude.{◌≡◌, ◌==◌, [], IfOk, OnOk, Some, length, map, option_map};
-ghost use Rattle.std.specs.Prelude.{string_bytes};
+ghost use Rattle.std.specs.Prelude.{◌≡◌, [], IfOk, map, option_map, string_bytes};
 ghost use Rattle.isle_ast_names.specs.TreeView.{name_of};
 ghost use Rattle.isle_ast_rules.specs.Templates.{plug};
 ghost use Rattle.isle_ast_rules.specs.TreeView.{pattern_list_of, pattern_of, patterns_of};
 ghost use Rattle.isle_check_environment.specs.signatures.Views.{environment_of, term_of};
-ghost use Rattle.isle_check_typing.specs.Faults.{argument_count};
-ghost use Rattle.isle_check_typing.specs.PatternTypes.{arguments_by, bind_to};
-ghost use Rattle.isle_check_typing.specs.PatternTypes.{converting, count_patterns, each_by};
-ghost use Rattle.isle_check_typing.specs.PatternTypes.{extracted_by, filled_by, found_by};
+ghost use Rattle.isle_check_typing.specs.PatternTypes.{arguments_by, converting, count_patterns};
+ghost use Rattle.isle_check_typing.specs.PatternTypes.{each_by, extracted_by, filled_by, found_by};
 ghost use Rattle.isle_check_typing.specs.PatternTypes.{list_list, own_by, put_by, step};
 ghost use Rattle.isle_check_typing.specs.PatternTypes.{term_by, type_and, type_at};
-ghost use Rattle.isle_check_typing.specs.PatternTypes.{type_bool, type_constant, type_integer};
-ghost use Rattle.isle_check_typing.specs.PatternTypes.{type_variable};
-ghost use Rattle.isle_check_typing.specs.Progress.{unless};
 ghost use Rattle.isle_check_typing.specs.TypedView.{typed_of};
 ghost use Rattle.isle_check_typing.specs.Views.{GivesTyping, GivesTypings, progress_of};
 
 use crate::fault::Kind;
-use crate::names::{known_constant, known_term};
-use crate::progress::{Progress, bind, find, tell};
+use crate::leaves::{type_bool, type_constant, type_integer, type_variable};
+use crate::names::known_term;
+use crate::parts::{add_pattern, bound_by, own_converter, put};
+use crate::progress::{Progress, tell};
 use crate::refusal::Refusal;
+use crate::tells::{tell_count, tell_extractor, tell_parameter, tell_term_type, tell_term_unknown};
 use crate::typed::TypedPattern;
 use isle_ast_names::Ident;
 use isle_ast_rules::Pattern;
@@ -71,10 +68,8 @@ fn type_step<'e>(
     match pattern {
         Pattern::Var { var, pos } => Ok(Some(type_variable(alloc, var, *pos, ty, progress)?)),
         Pattern::BindPattern { var, subpat, pos } => {
-            match type_pattern(alloc, depth, env, subpat, ty, progress)? {
-                None => Ok(None),
-                Some(inner) => Ok(Some(bind_to(alloc, inner, var, *pos, progress)?)),
-            }
+            let inner = type_pattern(alloc, depth, env, subpat, ty, progress)?;
+            Ok(bound_by(alloc, inner, var, *pos, progress)?)
         }
         Pattern::ConstBool { val, pos } => Ok(Some(type_bool(alloc, *val, *pos, ty, progress)?)),
         Pattern::ConstInt { val, pos } => Ok(Some(type_integer(
@@ -132,7 +127,7 @@ fn type_term<'e>(
 {
     match known_term(env, sym.0.as_str()) {
         None => {
-            tell(progress, Kind::TermUnknown(sym.0.clone()?), pos)?;
+            tell_term_unknown(sym, pos, progress)?;
             Ok(None)
         }
         Some((name, term)) => {
@@ -169,11 +164,7 @@ fn type_found<'e>(
     match converting(env, term.ret.as_str(), ty) {
         Some(converter) => type_put(alloc, depth, env, converter, pattern, pos, ty, progress),
         None => {
-            let kind = Kind::TermType {
-                expected: String::from_str(alloc, ty)?,
-                found: term.ret.clone()?,
-            };
-            tell(progress, kind, pos)?;
+            tell_term_type(alloc, term, ty, pos, progress)?;
             type_own(alloc, depth, env, term, sym, args, pos, ty, progress)
         }
     }
@@ -196,14 +187,13 @@ fn type_put<'e>(
         (put_by (type_at depth (environment_of env.now)) (string_bytes converter.now)
         (pattern_of pattern.now) pos ty.now (progress_of progress.old)) }
 {
-    let Some((name, term)) = known_term(env, converter.as_str()) else {
-        return type_copied(alloc, depth, env, converter, pattern, pos, ty, progress);
-    };
-    if depth == 0 || term.ret.as_str() != ty {
-        return type_copied(alloc, depth, env, converter, pattern, pos, ty, progress);
+    match own_converter(depth, env, converter, ty) {
+        None => type_copied(alloc, depth, env, converter, pattern, pos, ty, progress),
+        Some((name, term)) => {
+            let args = slice::from_ref(pattern);
+            type_own(alloc, depth - 1, env, term, name, args, pos, ty, progress)
+        }
     }
-    let args = slice::from_ref(pattern);
-    type_own(alloc, depth - 1, env, term, name, args, pos, ty, progress)
 }
 
 /// Types the term of a converter with a copy of a pattern.
@@ -222,13 +212,7 @@ fn type_copied<'e>(
         (put_by (type_at depth (environment_of env.now)) (string_bytes converter.now)
         (pattern_of pattern.now) pos ty.now (progress_of progress.old)) }
 {
-    let mut args = Vec::new(alloc);
-    args.push(pattern.clone()?)?;
-    let put = Pattern::Term {
-        sym: Ident(converter.clone()?, pos),
-        args,
-        pos,
-    };
+    let put = put(alloc, converter, pattern, pos)?;
     type_pattern(alloc, depth, env, &put, ty, progress)
 }
 
@@ -283,10 +267,7 @@ fn type_filled<'e>(
 {
     match filled(alloc, template, args)? {
         None => {
-            if counts {
-                let term = String::from_str(alloc, sym)?;
-                tell(progress, Kind::ParameterWithoutArgument(term), pos)?;
-            }
+            tell_parameter(alloc, counts, sym, pos, progress)?;
             Ok(None)
         }
         Some(made) => type_pattern(alloc, depth, env, &made, ty, progress),
@@ -310,10 +291,7 @@ fn type_extracted<'e>(
         (term_of term.now) sym.now (pattern_list_of (patterns_of args.now))
         pos (progress_of progress.old)) }
 {
-    if !env.has_extractor(sym) {
-        let term = String::from_str(alloc, sym)?;
-        tell(progress, Kind::NoExtractor(term), pos)?;
-    }
+    tell_extractor(alloc, env, sym, pos, progress)?;
     let args = type_arguments(alloc, depth, env, args, &term.args, progress)?;
     Ok(Some(TypedPattern::Term {
         term: sym,
@@ -339,9 +317,8 @@ fn type_each<'e>(
 {
     let mut typed = Vec::with_capacity(alloc, patterns.len())?;
     for pattern in patterns {
-        if let Some(made) = type_pattern(alloc, depth, env, pattern, ty, progress)? {
-            typed.push(made)?;
-        }
+        let made = type_pattern(alloc, depth, env, pattern, ty, progress)?;
+        add_pattern(&mut typed, made)?;
     }
     Ok(typed)
 }
@@ -368,39 +345,10 @@ pub fn type_arguments<'e>(
             return Ok(typed);
         }
         let ty = types[number].as_str();
-        if let Some(made) = type_pattern(alloc, depth, env, pattern, ty, progress)? {
-            typed.push(made)?;
-        }
+        let made = type_pattern(alloc, depth, env, pattern, ty, progress)?;
+        add_pattern(&mut typed, made)?;
     }
     Ok(typed)
-}
-
-/// Tells if a term has another number of arguments than are declared. Returns whether it has not.
-fn tell_count(
-    alloc: Global,
-    term: &Term,
-    sym: &str,
-    given: usize,
-    pos: Pos,
-    progress: &mut Progress,
-) -> Result<bool, AllocError>
-    ensures counts { IfOk result (λ counts. counts ≡ (length (term_of term.now).args == given)) }
-    ensures told { OnOk result (progress_of progress.new
-        ≡ unless (length (term_of term.now).args == given)
-        (argument_count sym.now given (length (term_of term.now).args)) pos
-        (progress_of progress.old)) }
-{
-    let expected = term.args.len();
-    if expected == given {
-        return Ok(true);
-    }
-    let kind = Kind::ArgumentCount {
-        term: String::from_str(alloc, sym)?,
-        given,
-        expected,
-    };
-    tell(progress, kind, pos)?;
-    Ok(false)
 }
 
 /// Puts arguments into a template.
@@ -438,158 +386,5 @@ fn converting<'a>(env: &'a Environment, inner: &str, outer: &str) -> Option<&'a 
             }
         }
         None => None,
-    }
-}
-
-/// Types a variable: the first of its name is bound, a later one is compared.
-fn type_variable<'e>(
-    alloc: Global,
-    var: &Ident,
-    pos: Pos,
-    ty: &'e str,
-    progress: &mut Progress<'e>,
-) -> Result<TypedPattern<'e>, AllocError>
-    ensures { IfOk result (λ made. record {
-      typed = Some (typed_of made);
-      after = progress_of progress.new;
-    }
-        ≡ type_variable (name_of var.now) pos ty.now (progress_of progress.old)) }
-{
-    match find(&progress.bound, var.0.as_str()) {
-        None => {
-            let variable = progress.bound.len();
-            let subpat = TypedPattern::Wildcard { ty };
-            bind(progress, var.0.clone()?, ty)?;
-            Ok(TypedPattern::Bind {
-                variable,
-                ty,
-                subpat: Box::new(alloc, subpat)?,
-            })
-        }
-        Some(found) => {
-            if found.ty != ty {
-                let kind = Kind::VariableType {
-                    name: var.0.clone()?,
-                    expected: String::from_str(alloc, ty)?,
-                    found: String::from_str(alloc, found.ty)?,
-                };
-                tell(progress, kind, pos)?;
-            }
-            Ok(TypedPattern::Var {
-                variable: found.number,
-                ty: found.ty,
-            })
-        }
-    }
-}
-
-/// Binds a variable to the value that a typed pattern matches. It isn't bound before.
-fn bind_to<'e>(
-    alloc: Global,
-    inner: TypedPattern<'e>,
-    var: &Ident,
-    pos: Pos,
-    progress: &mut Progress<'e>,
-) -> Result<TypedPattern<'e>, AllocError>
-    ensures { IfOk result (λ made. record {
-      typed = Some (typed_of made);
-      after = progress_of progress.new;
-    }
-        ≡ bind_to (typed_of inner.entry) (name_of var.now) pos (progress_of progress.old)) }
-{
-    let ty = inner.ty();
-    let variable = progress.bound.len();
-    if find(&progress.bound, var.0.as_str()).is_some() {
-        tell(progress, Kind::VariableBound(var.0.clone()?), pos)?;
-    }
-    bind(progress, var.0.clone()?, ty)?;
-    Ok(TypedPattern::Bind {
-        variable,
-        ty,
-        subpat: Box::new(alloc, inner)?,
-    })
-}
-
-/// Types `true` or `false`.
-fn type_bool<'e>(
-    alloc: Global,
-    val: bool,
-    pos: Pos,
-    ty: &'e str,
-    progress: &mut Progress<'e>,
-) -> Result<TypedPattern<'e>, AllocError>
-    ensures { IfOk result (λ made. record {
-      typed = Some (typed_of made);
-      after = progress_of progress.new;
-    }
-        ≡ type_bool val pos ty.now (progress_of progress.old)) }
-{
-    if ty != "bool" {
-        let kind = Kind::BoolType {
-            val,
-            ty: String::from_str(alloc, ty)?,
-        };
-        tell(progress, kind, pos)?;
-    }
-    Ok(TypedPattern::Bool { val })
-}
-
-/// Types an integer.
-fn type_integer<'e>(
-    alloc: Global,
-    env: &'e Environment,
-    val: i128,
-    pos: Pos,
-    ty: &'e str,
-    progress: &mut Progress<'e>,
-) -> Result<TypedPattern<'e>, AllocError>
-    ensures { IfOk result (λ made. record {
-      typed = Some (typed_of made);
-      after = progress_of progress.new;
-    }
-        ≡ type_integer (environment_of env.now) val pos ty.now
-        (progress_of progress.old)) }
-{
-    if !env.is_number(ty) {
-        let kind = Kind::IntegerType {
-            val,
-            ty: String::from_str(alloc, ty)?,
-        };
-        tell(progress, kind, pos)?;
-    }
-    Ok(TypedPattern::Int { val, ty })
-}
-
-/// Types a constant.
-fn type_constant<'e>(
-    alloc: Global,
-    env: &'e Environment,
-    name: &Ident,
-    pos: Pos,
-    ty: &'e str,
-    progress: &mut Progress<'e>,
-) -> Result<Option<TypedPattern<'e>>, AllocError>
-    ensures { IfOk result (λ made. record {
-      typed = option_map typed_of made;
-      after = progress_of progress.new;
-    }
-        ≡ type_constant (environment_of env.now) (name_of name.now) pos ty.now
-        (progress_of progress.old)) }
-{
-    match known_constant(env, name.0.as_str()) {
-        None => {
-            tell(progress, Kind::ConstantUnknown(name.0.clone()?), pos)?;
-            Ok(None)
-        }
-        Some((name, known)) => {
-            if known != ty {
-                let kind = Kind::ConstantType {
-                    expected: String::from_str(alloc, ty)?,
-                    found: String::from_str(alloc, known)?,
-                };
-                tell(progress, kind, pos)?;
-            }
-            Ok(Some(TypedPattern::Const { name, ty: known }))
-        }
     }
 }

@@ -1,10 +1,13 @@
 //! What is known after a part of a rule.
 
-ghost use Rattle.std.specs.Prelude.{◌≡◌, ◌++◌, ◌∷◌, [], OnOk, option_map, string_bytes};
+ghost use Rattle.std.specs.Prelude.{◌≡◌, ◌++◌, ◌∷◌, [], IfOk, OnOk, length, option_map};
+ghost use Rattle.std.specs.Prelude.{string_bytes};
+ghost use Rattle.isle_ast_names.specs.TreeView.{name_of};
 ghost use Rattle.isle_check_typing.specs.Progress.{ProgressNode, bind, find, hide_since, tell};
 ghost use Rattle.isle_check_typing.specs.Views.{found_of, kind_of, progress_of, variables_of};
 
 use crate::fault::{Fault, Kind};
+use isle_ast_names::Ident;
 use isle_base::lexer::Pos;
 use std::alloc::{AllocError, Global};
 
@@ -68,6 +71,23 @@ pub fn bind<'e>(progress: &mut Progress<'e>, name: String, ty: &'e str) -> Resul
         is_visible: true,
     })?;
     Ok(())
+}
+
+/// Binds a variable, and returns its number. An `Err` means out of memory.
+pub fn bind_next<'e>(
+    progress: &mut Progress<'e>,
+    name: &Ident,
+    ty: &'e str,
+) -> Result<usize, AllocError>
+    ensures number { IfOk result
+        (λ number. number ≡ length (progress_of progress.old).bound) }
+    ensures bound { OnOk result
+        (progress_of progress.new
+        ≡ bind (name_of name.now).text ty.now (progress_of progress.old)) }
+{
+    let number = progress.bound.len();
+    bind(progress, name.0.clone()?, ty)?;
+    Ok(number)
 }
 
 /// Hides the variables that were bound since there were `count`.

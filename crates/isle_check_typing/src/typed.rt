@@ -5,8 +5,8 @@ ghost use Rattle.isle_check_typing.specs.Typed.{type_of};
 ghost use Rattle.isle_check_typing.specs.TypedView.{typed_of};
 
 /// A pattern in which templates are filled and conversions are written out, with the type of each
-/// part. The environment of the program holds all names. A variable is its number among the variables
-/// of its rule, in the order in which they are bound, from 0.
+/// part. The environment of the program holds all names. A variable is its number among the
+/// variables of its rule, in the order in which they are bound, from 0.
 #[cycle(typed)]
 #[derive(Drop)]
 pub enum TypedPattern<'e> {

@@ -58,9 +58,12 @@ abbrev pub converting : EnvironmentNode → (inner outer : List ℕ) → Option 
 converting env inner outer = if_constructs env (env.converters inner outer)
 
 -- an expression that is put into a converter
+abbrev pub put_in : (converter : List ℕ) → Expression → Pos → Expression
+put_in converter e place =
+    term_expression (record { text = converter; pos = place }) (more_expression e no_expression) place
+
 abbrev pub put_by : Below → (converter : List ℕ) → Expression → Pos → (ty : List ℕ) → ProgressNode → Option (Typing TypedExpressionNode)
-put_by below converter e place ty s =
-    below (term_expression (record { text = converter; pos = place }) (more_expression e no_expression) place) (Some ty) s
+put_by below converter e place ty s = below (put_in converter e place) (Some ty) s
 
 -- a variable of another type
 abbrev pub variable_converted : Below → (converter : Option (List ℕ)) → FoundNode → Expression → (name : List ℕ) → Pos → (ty : List ℕ) → ProgressNode → Option (Typing TypedExpressionNode)
@@ -90,12 +93,19 @@ arguments_by below (more_expression e es) [] typed s = Some (record { typed = ty
 arguments_by below (more_expression e es) (ty ∷ types) typed s =
     and_then (below e (Some ty) s) (λ r. arguments_by below es types (with_typed typed r.typed) r.after)
 
+abbrev pub tell_impure : Flags → TermNode → (term : List ℕ) → Pos → ProgressNode → ProgressNode
+tell_impure flags t term place s = unless (not flags.pure || (t.pure || t.is_variant)) (impure_term term) place s
+
+abbrev pub tell_multi : Flags → TermNode → (term : List ℕ) → Pos → ProgressNode → ProgressNode
+tell_multi flags t term place s = unless (flags.multi || not t.multi) (multi_term term) place s
+
+abbrev pub tell_partial : Flags → TermNode → (term : List ℕ) → Pos → ProgressNode → ProgressNode
+tell_partial flags t term place s = unless (flags.partial || not t.partial) (partial_term term flags.multi) place s
+
 -- a term is used where its flags allow it
 abbrev pub use_term : Flags → TermNode → (term : List ℕ) → Pos → ProgressNode → ProgressNode
 use_term flags t term place s =
-    unless (flags.partial || not t.partial) (partial_term term flags.multi) place
-    (unless (flags.multi || not t.multi) (multi_term term) place
-    (unless (not flags.pure || (t.pure || t.is_variant)) (impure_term term) place s))
+    tell_partial flags t term place (tell_multi flags t term place (tell_impure flags t term place s))
 
 -- a term has as many arguments as are declared
 abbrev pub count_arguments : TermNode → (term : List ℕ) → (given : ℕ) → Pos → ProgressNode → ProgressNode
@@ -147,13 +157,13 @@ lets_by below env place no_let typed s = Some (record { typed = typed; after = s
 lets_by below env place (more_let var ty val _ ds) typed s =
     and_then (let_by below env place var.text ty.text val s) (λ r. lets_by below env place ds (with_typed typed r.typed) r.after)
 
--- a `let` has the type of its body; behind it the variables since there were `count` are hidden
+-- a `let` has the type of its body
+abbrev pub closed : List TypedLetNode → (body : Option TypedExpressionNode) → Option TypedExpressionNode
+closed defs body = option_map (λ e. typed_let_expression (type_of_expression e) (typed_let_list defs) e) body
+
+-- behind a `let` the variables since there were `count` are hidden
 abbrev pub close : (count : ℕ) → List TypedLetNode → Typing TypedExpressionNode → Typing TypedExpressionNode
-close count defs body =
-    record {
-      typed = option_map (λ e. typed_let_expression (type_of_expression e) (typed_let_list defs) e) body.typed;
-      after = hide_since count body.after;
-    }
+close count defs body = record { typed = closed defs body.typed; after = hide_since count body.after }
 
 abbrev pub type_let : Below → EnvironmentNode → LetList → Expression → Pos → (wanted : Option (List ℕ)) → ProgressNode → Option (Typing TypedExpressionNode)
 type_let below env defs body place wanted s =

@@ -18,10 +18,14 @@ ghost use Rattle.isle_check_typing.specs.expressions.Views.{parts_by, type_text}
 
 use crate::expressions::flags::Flags;
 use crate::expressions::leaves::{other_than, type_bool, type_constant, type_integer};
+use crate::expressions::parts::{add_expression, add_let, close, define, own_converter, put};
+use crate::expressions::tells::{
+    tell_let_type, tell_term_type, tell_term_unknown, tell_variable_type, tell_variable_unknown,
+};
 use crate::expressions::typed::{TypedExpression, TypedLet};
-use crate::expressions::uses::{converting, count_arguments, count_expressions, use_term};
+use crate::expressions::uses::{check_use, converting};
 use crate::names::{known_term, known_type};
-use crate::{Kind, Progress, Refusal, bind, find, hide_since, tell};
+use crate::{Progress, Refusal, find, hide_since};
 use isle_ast_names::Ident;
 use isle_ast_rules::{Expr, LetDef};
 use isle_base::lexer::Pos;
@@ -148,19 +152,18 @@ fn type_put<'e>(
         (put_by (parts_by typer.entry) (string_bytes converter.now) (expression_of expr.now) pos
         ty.now (progress_of progress.old)) }
 {
-    let Some((name, term)) = known_term(typer.env, converter.as_str()) else {
-        return type_copied(typer, converter, expr, pos, ty, progress);
-    };
-    if typer.depth == 0 || term.ret.as_str() != ty {
-        return type_copied(typer, converter, expr, pos, ty, progress);
+    match own_converter(typer.depth, typer.env, converter, ty) {
+        None => type_copied(typer, converter, expr, pos, ty, progress),
+        Some((name, term)) => {
+            let deeper = Typer {
+                alloc: typer.alloc,
+                depth: typer.depth - 1,
+                env: typer.env,
+                flags: typer.flags,
+            };
+            type_own(deeper, term, name, slice::from_ref(expr), pos, progress)
+        }
     }
-    let deeper = Typer {
-        alloc: typer.alloc,
-        depth: typer.depth - 1,
-        env: typer.env,
-        flags: typer.flags,
-    };
-    type_own(deeper, term, name, slice::from_ref(expr), pos, progress)
 }
 
 /// Types the term of a converter with a copy of an expression.
@@ -177,13 +180,7 @@ fn type_copied<'e>(
         (put_by (parts_by typer.entry) (string_bytes converter.now) (expression_of expr.now) pos
         ty.now (progress_of progress.old)) }
 {
-    let mut args = Vec::new(typer.alloc);
-    args.push(expr.clone()?)?;
-    let put = Expr::Term {
-        sym: Ident(converter.clone()?, pos),
-        args,
-        pos,
-    };
+    let put = put(typer.alloc, converter, expr, pos)?;
     type_part(typer, &put, Some(ty), progress)
 }
 
@@ -203,19 +200,14 @@ fn type_variable<'e>(
         (name_of name.now).text pos (type_text wanted.entry) (progress_of progress.old)) }
 {
     let Some(found) = find(&progress.bound, name.0.as_str()) else {
-        tell(progress, Kind::VariableUnknown(name.0.clone()?), pos)?;
+        tell_variable_unknown(name, pos, progress)?;
         return Ok(None);
     };
     if let Some(ty) = other_than(found.ty, wanted) {
         if let Some(converter) = converting(typer.env, found.ty, ty) {
             return type_put(typer, converter, expr, pos, ty, progress);
         }
-        let kind = Kind::ExpressionVariableType {
-            name: name.0.clone()?,
-            expected: String::from_str(typer.alloc, ty)?,
-            found: String::from_str(typer.alloc, found.ty)?,
-        };
-        tell(progress, kind, pos)?;
+        tell_variable_type(typer.alloc, name, ty, found.ty, pos, progress)?;
     }
     Ok(Some(TypedExpression::Var {
         variable: found.number,
@@ -241,12 +233,7 @@ fn type_term<'e>(
         (type_text wanted.entry) (progress_of progress.old)) }
 {
     let Some((name, term)) = known_term(typer.env, sym.0.as_str()) else {
-        let is_variable = find(&progress.bound, sym.0.as_str()).is_some();
-        let kind = Kind::ExpressionTermUnknown {
-            term: sym.0.clone()?,
-            is_variable,
-        };
-        tell(progress, kind, pos)?;
+        tell_term_unknown(sym, pos, progress)?;
         return Ok(None);
     };
     let other = other_than(term.ret.as_str(), wanted);
@@ -274,11 +261,7 @@ fn type_term_as<'e>(
         if let Some(converter) = converting(typer.env, term.ret.as_str(), ty) {
             return type_put(typer, converter, expr, pos, ty, progress);
         }
-        let kind = Kind::ExpressionTermType {
-            expected: String::from_str(typer.alloc, ty)?,
-            found: term.ret.clone()?,
-        };
-        tell(progress, kind, pos)?;
+        tell_term_type(typer.alloc, term, ty, pos, progress)?;
     }
     type_own(typer, term, sym, args, pos, progress)
 }
@@ -297,9 +280,7 @@ fn type_own<'e>(
         (own_by (parts_by typer.entry) typer.entry.flags (term_of term.now) sym.now
         (expression_list_of (expressions_of args.now)) pos (progress_of progress.old)) }
 {
-    use_term(typer.alloc, typer.flags, term, sym, pos, progress)?;
-    let given = count_expressions(args);
-    count_arguments(typer.alloc, term, sym, given, pos, progress)?;
+    check_use(typer.alloc, typer.flags, term, sym, args, pos, progress)?;
     let args = type_arguments(typer, args, &term.args, progress)?;
     Ok(Some(TypedExpression::Term {
         term: sym,
@@ -325,9 +306,8 @@ fn type_arguments<'e>(
         if number >= types.len() {
             return Ok(typed);
         }
-        if let Some(made) = type_part(typer, expr, Some(types[number].as_str()), progress)? {
-            typed.push(made)?;
-        }
+        let made = type_part(typer, expr, Some(types[number].as_str()), progress)?;
+        add_expression(&mut typed, made)?;
     }
     Ok(typed)
 }
@@ -351,14 +331,7 @@ fn type_let<'e>(
     let defs = type_lets(typer, defs, pos, progress)?;
     let body = type_part(typer, body, wanted, progress)?;
     hide_since(progress, count);
-    match body {
-        None => Ok(None),
-        Some(body) => Ok(Some(TypedExpression::Let {
-            ty: body.ty(),
-            defs,
-            body: Box::new(typer.alloc, body)?,
-        })),
-    }
+    Ok(close(typer.alloc, defs, body)?)
 }
 
 /// Types the values of the variables of a `let` at this position, and binds the variables.
@@ -375,9 +348,8 @@ fn type_lets<'e>(
 {
     let mut typed = Vec::with_capacity(typer.alloc, defs.len())?;
     for def in defs {
-        if let Some(made) = type_let_def(typer, def, pos, progress)? {
-            typed.push(made)?;
-        }
+        let made = type_let_def(typer, def, pos, progress)?;
+        add_let(&mut typed, made)?;
     }
     Ok(typed)
 }
@@ -395,22 +367,10 @@ fn type_let_def<'e>(
         (name_of def.now.var).text (name_of def.now.ty).text (expression_of def.now.val.value)
         (progress_of progress.old)) }
 {
-    let name = &def.var.0;
     let Some(ty) = known_type(typer.env, def.ty.0.as_str()) else {
-        let kind = Kind::LetTypeUnknown {
-            name: name.clone()?,
-            ty: def.ty.0.clone()?,
-        };
-        tell(progress, kind, pos)?;
+        tell_let_type(&def.var, &def.ty, pos, progress)?;
         return Ok(None);
     };
-    let Some(val) = type_part(typer, &def.val, Some(ty), progress)? else {
-        return Ok(None);
-    };
-    let variable = progress.bound.len();
-    bind(progress, name.clone()?, ty)?;
-    Ok(Some(TypedLet {
-        variable,
-        val: Box::new(typer.alloc, val)?,
-    }))
+    let val = type_part(typer, &def.val, Some(ty), progress)?;
+    Ok(define(typer.alloc, &def.var, ty, val, progress)?)
 }

@@ -9,8 +9,10 @@ ghost use Rattle.isle_check_typing.specs.expressions.ExpressionTypes.{type_const
 ghost use Rattle.isle_check_typing.specs.expressions.TypedView.{typed_expression_of};
 ghost use Rattle.isle_check_typing.specs.expressions.Views.{type_text};
 
+use crate::expressions::tells::tell_constant_type;
 use crate::expressions::typed::TypedExpression;
 use crate::names::known_constant;
+use crate::tells::{tell_bool, tell_constant_unknown, tell_integer};
 use crate::{Kind, Progress, tell};
 use isle_ast_names::Ident;
 use isle_base::lexer::Pos;
@@ -42,11 +44,7 @@ pub fn type_bool<'e>(
         ≡ type_bool val pos (type_text wanted.entry) (progress_of progress.old)) }
 {
     if let Some(ty) = other_than("bool", wanted) {
-        let kind = Kind::BoolType {
-            val,
-            ty: String::from_str(alloc, ty)?,
-        };
-        tell(progress, kind, pos)?;
+        tell_bool(alloc, val, ty, pos, progress)?;
     }
     Ok(TypedExpression::Bool { val })
 }
@@ -73,13 +71,7 @@ pub fn type_integer<'e>(
             Ok(None)
         }
         Some(ty) => {
-            if !env.is_number(ty) {
-                let kind = Kind::IntegerType {
-                    val,
-                    ty: String::from_str(alloc, ty)?,
-                };
-                tell(progress, kind, pos)?;
-            }
+            tell_integer(alloc, env, val, ty, pos, progress)?;
             Ok(Some(TypedExpression::Int { val, ty }))
         }
     }
@@ -103,7 +95,7 @@ pub fn type_constant<'e>(
 {
     match known_constant(env, name.0.as_str()) {
         None => {
-            tell(progress, Kind::ConstantUnknown(name.0.clone()?), pos)?;
+            tell_constant_unknown(name, pos, progress)?;
             Ok(None)
         }
         Some((text, known)) => match other_than(known, wanted) {
@@ -112,12 +104,7 @@ pub fn type_constant<'e>(
                 ty: known,
             })),
             Some(ty) => {
-                let kind = Kind::ExpressionConstantType {
-                    name: name.0.clone()?,
-                    expected: String::from_str(alloc, ty)?,
-                    found: String::from_str(alloc, known)?,
-                };
-                tell(progress, kind, pos)?;
+                tell_constant_type(alloc, name, ty, known, pos, progress)?;
                 Ok(None)
             }
         },
