@@ -1,11 +1,11 @@
 -- How deep the answers about names nest.
-use Rattle.std.proofs.Common.{ℕ, ◌≤◌, ◌+◌, ◌-◌, min, length, inl, inr, List, [], ◌∷◌, Bool, true, false, Option, None, Some, Result, Ok, Err, if◌then◌else◌, flat_map, map, slice_get, arith}
+use Rattle.std.proofs.Common.{ℕ, ◌≤◌, ◌+◌, ◌-◌, min, length, inl, inr, List, [], ◌∷◌, Bool, true, false, Option, None, Some, Result, Ok, Err, if◌then◌else◌, flat_map, map, nat_lt, slice_get, arith}
 use Rattle.std.specs.Global.{Vec}
 use Rattle.serde_json.specs.Data.{Data, Members, array, depth, members_depth, no_members}
 use Rattle.serde_json.specs.View.{items_of}
 use Rattle.isle_base_source.specs.declared.pos.Pos.{Pos}
 use Rattle.isle_index.specs.Candidates.{candidate_of}
-use Rattle.isle_resolve.specs.Names.{NameNode}
+use Rattle.isle_resolve.specs.Names.{NameNode, name_text}
 use Rattle.isle_index.specs.Occurrences.{name_at, occurrence_at}
 use Rattle.isle_resolve.specs.Scopes.{SeenNode}
 use Rattle.isle_index.specs.Symbols.{SymbolNode, symbols}
@@ -30,7 +30,7 @@ use Rattle.isle_lsp_features.specs.Located.{AreHighlights, AreReferences, IsDefi
 use Rattle.isle_lsp_features.specs.Places.{File, Place, file_in, place_in}
 use Rattle.isle_lsp_features.specs.Programs.{Question, Text}
 use Rattle.isle_lsp_features.specs.Renamed as renamed
-use Rattle.isle_lsp_features.specs.Signatures.{IsFirstSignature, IsSignatureIn, IsSignatureOf, called}
+use Rattle.isle_lsp_features.specs.Signatures.{IsFirstSignature, IsSignature, IsSignatureIn, IsSignatureOf, called}
 use Rattle.isle_lsp_signatures.proofs.Depths.{signature_depth}
 use Rattle.isle_lsp_signatures.specs.Calls.{CallNode}
 use Rattle.isle_lsp_features.specs.Shown.{IsHover, IsResolved, hover_data, resolved_data}
@@ -77,7 +77,7 @@ implementations_shallow number (s ∷ ss) (m ∷ ms) found =
 
 implementations_depth : (program : List Text) (name : Option NameNode) (all : List SeenNode) (d : Data) → AreImplementations program name all d → depth d ≤ 5
 implementations_depth program None all d h = at_most 5 _ _ h (omega arith)
-implementations_depth program (Some name) all d h = at_most 5 _ _ h.2.2.2.2 (array_depth 4 _ (implementations_shallow 0 program h.1 h.0))
+implementations_depth program (Some name) all d h = at_most 5 _ _ h.4 (array_depth 4 _ (implementations_shallow 0 program h.1 h.0))
 
 references_depth : (program : List Text) (own : Bool) (name : Option NameNode) (all : List SeenNode) (d : Data) → AreReferences program own name all d → depth d ≤ 5
 references_depth program own None all d h = at_most 5 _ _ h (omega arith)
@@ -197,7 +197,9 @@ renaming_at_within q program all (Some p) a h = renaming_of_within q.takes_docum
 
 declared_depth : (s : Option Text) (name : NameNode) (o : Occurrence) (argument : ℕ) (d : Data) → IsSignatureIn s name o argument d → depth d ≤ 6
 declared_depth None name o argument d h = at_most 6 _ _ h (omega arith)
-declared_depth (Some s) name o argument d h = signature_depth s.text _ _ argument d h.1.1
+declared_depth (Some s) name o argument d (lists, are, help) =
+    let is_variant : Bool = nat_lt o.len (length (name_text name)) in
+    signature_depth s.text (whole_of s.text lists is_variant o.pos.offset o.len) is_variant argument d help
 
 first_depth : (program : List Text) (name : NameNode) (o : Option Occurrence) (argument : ℕ) (d : Data) → IsFirstSignature program name o argument d → depth d ≤ 6
 first_depth program name None argument d h = at_most 6 _ _ h (omega arith)
@@ -205,7 +207,10 @@ first_depth program name (Some o) argument d h = declared_depth (slice_get progr
 
 called_depth : (program : List Text) (all : List SeenNode) (call : Option CallNode) (d : Data) → IsSignatureOf program all call d → depth d ≤ 6
 called_depth program all None d h = at_most 6 _ _ h (omega arith)
-called_depth program all (Some c) d h = first_depth program (called c) (slice_get h.0 0) c.arguments d h.1.1
+called_depth program all (Some c) d (found, order, first) = first_depth program (called c) (slice_get found 0) c.arguments d first
+
+signature_help_depth : (program : List Text) (text : List ℕ) (offset : ℕ) (all : List SeenNode) (d : Data) → IsSignature program text offset all d → depth d ≤ 6
+signature_help_depth program text offset all d (call, around, of) = called_depth program all call d of
 
 -- ---- all answers
 
@@ -261,7 +266,7 @@ answer_of_within Hover q program all a n m h =
     found_within Hover program all (place_in q program) q.message a
     (λ x d f. omega (arith, shown_depth program x.text (name_at x.pos all) (occurrence_at x.pos all) all d f)) h
 answer_of_within SignatureHelp q program all a n m h =
-    found_within SignatureHelp program all (place_in q program) q.message a (λ x d f. called_depth program all f.0 d f.1.1) h
+    found_within SignatureHelp program all (place_in q program) q.message a (λ x d f. signature_help_depth program x.text x.pos.offset all d f) h
 answer_of_within Completion q program all a n m h =
     found_within Completion program all (place_in q program) q.message a (λ x d f. completions_depth x.pos x.text all d f) h
 answer_of_within ResolveCompletion q program all a n m h = resolution_within program all (item_of q.message) a (item_at_most 127 q.message m) h

@@ -6,5 +6,6 @@ pub mod Gathering
 pub mod Growing
 pub mod Letters
 pub mod Lists
+pub mod Marked
 pub mod Renewing
 pub mod Walking
