@@ -31,6 +31,12 @@
 (xref-find-definitions (xref-backend-identifier-at-point 'eglot))
 (tell "definition" (place))
 
+(goto-char (point-min))
+(search-forward "y (f")
+(backward-char 1)
+(eglot-find-implementation)
+(tell "implementation" (place))
+
 (go-to-use)
 (tell "references"
       (vconcat (mapcar (lambda (it)
@@ -43,6 +49,14 @@
   (eglot-hover-eldoc-function (lambda (text &rest _) (setq shown text)))
   (wait (lambda () shown))
   (tell "hover" (and shown (string-match "(decl.*" shown) (substring-no-properties (match-string 0 shown)))))
+
+(goto-char (point-min))
+(search-forward "twice w")
+(backward-char 1)
+(let (shown)
+  (eglot-signature-eldoc-function (lambda (text &rest _) (setq shown text)))
+  (wait (lambda () shown))
+  (tell "signature" (and shown (string-match "(decl.*" shown) (substring-no-properties (match-string 0 shown)))))
 
 (go-to-use)
 (eglot-rename "double")

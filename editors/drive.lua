@@ -39,6 +39,11 @@ at_use(vim.lsp.buf.definition)
 wait(function() return vim.fn.line(".") == 3 end)
 tell("definition", place(vim.fn.line(".") - 1, vim.fn.col(".")))
 
+vim.fn.search("y (\\zsf x", "cw")
+vim.lsp.buf.implementation()
+wait(function() return vim.fn.line(".") == 5 end)
+tell("implementation", place(vim.fn.line(".") - 1, vim.fn.col(".")))
+
 at_use(vim.lsp.buf.references)
 wait(function() return #vim.fn.getqflist() > 0 end)
 vim.cmd("cclose")
@@ -55,6 +60,14 @@ end
 at_use(vim.lsp.buf.hover)
 wait(shown)
 tell("hover", (shown() or ""):match("%(decl[^\n]*"))
+
+for _, window in ipairs(vim.api.nvim_list_wins()) do
+  if vim.api.nvim_win_get_config(window).relative ~= "" then vim.api.nvim_win_close(window, true) end
+end
+vim.fn.search("twice \\zsw", "cw")
+vim.lsp.buf.signature_help()
+wait(shown)
+tell("signature", (shown() or ""):match("%(decl[^\n]*"))
 
 at_use(vim.lsp.buf.rename, "double")
 wait(function() return vim.fn.search("double w", "cnw") > 0 end)
