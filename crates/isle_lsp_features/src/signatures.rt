@@ -87,6 +87,12 @@ fn declared(
 {
     let lists = lists(alloc, text)?;
     let is_variant = definition.len < name.text().len();
-    let part = whole_of(text, &lists, is_variant, definition.pos.offset, definition.len);
+    let part = whole_of(
+        text,
+        &lists,
+        is_variant,
+        definition.pos.offset,
+        definition.len,
+    );
     signatures::signature_help(alloc, text, part, is_variant, argument)
 }

@@ -18,5 +18,5 @@ returns-then-number-marks c =
     let texts = map text_of (drop at c.args.program.now) in
     let items = map item_data c.loop-number.items.items in
     let rest : implementations_from at texts (offsets_of (drop at marks)) found ≡ [] =
-        ap (λ ms. implementations_from at texts (offsets_of ms) found) none ∙ none-marked at texts found in
+    ap (λ ms. implementations_from at texts (offsets_of ms) found) none ∙ none-marked at texts found in
     ap (λ ds. array (items_of ds)) (sym (append-nil items) ∙ ap (λ more. items ++ more) (sym rest) ∙ c.loop-number.invariant)
