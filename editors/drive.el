@@ -35,6 +35,8 @@
 (search-forward "y (f")
 (backward-char 1)
 (eglot-find-implementation)
+(switch-to-buffer "a.isle")
+(goto-char (xref-location-marker (xref-item-location (car eglot--lsp-xref-refs))))
 (tell "implementation" (place))
 
 (go-to-use)
