@@ -34,9 +34,9 @@
 (goto-char (point-min))
 (search-forward "y (f")
 (backward-char 1)
-(eglot-find-implementation)
-(switch-to-buffer "a.isle")
-(goto-char (xref-location-marker (xref-item-location (car eglot--lsp-xref-refs))))
+;; What `eglot-find-implementation' shows.
+(let ((found (eglot--lsp-xrefs-for-method :textDocument/implementation)))
+  (goto-char (xref-location-marker (xref-item-location (car found)))))
 (tell "implementation" (place))
 
 (go-to-use)
