@@ -1,5 +1,5 @@
 -- No response nests deeper than JSON is read, so each reads back as it is defined.
-use Rattle.std.proofs.Common.{◌≡◌, ℕ, ◌≤◌, inl, inr, Bool, List, Option, None, Some, arith}
+use Rattle.std.proofs.Common.{◌≡◌, ℕ, ◌≤◌, inl, inr, Bool, true, false, List, Option, None, Some, arith}
 use Rattle.serde_json.specs.Data.{Data, depth}
 use Rattle.serde_json.specs.Read.{read}
 use Rattle.serde_json.proofs.Nesting.{depth-read}
@@ -25,8 +25,8 @@ use Rattle.isle_lsp_protocol.specs.declared.machine.Request as requests
 use Rattle.isle_lsp_protocol.specs.declared.machine.Request.TheVariants.{Initialize, Shutdown, Document as Alone, DocumentSymbol, WorkspaceSymbol, Definition, Implementation, References, DocumentHighlight, Hover, SignatureHelp, Completion, ResolveCompletion, PrepareRename, Rename, Unknown}
 use Rattle.isle_lsp_protocol.proofs.Depths.{IsWithin, at_most, initialized_depth, reply_depth, within}
 use Rattle.isle_lsp_features.proofs.Depths.{IsAboutNames, answer_within}
-use Rattle.isle_lsp.specs.Alone.{Gives, GivesAt, GivesWithin, IsAlone, IsFormattingWithin, IsOfDocument}
-use Rattle.isle_lsp.specs.Formatted.{IsFormatting}
+use Rattle.isle_lsp.specs.Alone.{FormatsUnless, Gives, GivesAt, GivesWithin, IsAlone, IsFormattingWithin, IsOfDocument}
+use Rattle.isle_lsp.specs.Formatted.{IsFormatting, is_blank_at}
 use Rattle.isle_lsp.specs.Serving.{Held, IsNamed, IsResult, IsResultOf, IsShallow, document_in, question}
 
 -- what was decoded nests no deeper than JSON is read
@@ -49,6 +49,10 @@ range_within : (Is : Range → Data → Type 0) (range : Option Range) (o : Outc
 range_within Is None o shallow h = within 126 o _ h tt
 range_within Is (Some r) o shallow h = gives_within (Is r) o (shallow r) h
 
+line_within : (blank : Bool) (text : List ℕ) (range : Option Range) (o : Outcome) → FormatsUnless blank text range o → IsWithin 126 o
+line_within true text range o h = within 126 o _ h (omega arith)
+line_within false text range o h = range_within (IsFormattingWithin text) range o (lines_depth text) h
+
 positions_within : (Is : List Position → Data → Type 0) (positions : Option (List Position)) (o : Outcome) → ((ps : List Position) (d : Data) → Is ps d → depth d ≤ 126)
     → GivesAt Is positions o → IsWithin 126 o
 positions_within Is None o shallow h = within 126 o _ h tt
@@ -60,7 +64,7 @@ tokens_depth text range d h = omega (arith, tokens_shallow text range d h)
 document_within : (request : DocumentRequest) (d : Data) (takes : Bool) (document : Document) (o : Outcome) → IsOfDocument request d takes document o → IsWithin 126 o
 document_within Formatting d takes document o h = gives_within (IsFormatting document.text) o (formatting_depth document.text) h
 document_within RangeFormatting d takes document o h = range_within (IsFormattingWithin document.text) (asked_range d) o (lines_depth document.text) h
-document_within OnTypeFormatting d takes document o h = range_within (IsFormattingWithin document.text) (typed_range d) o (lines_depth document.text) h
+document_within OnTypeFormatting d takes document o h = line_within (is_blank_at document.text (typed_range d)) document.text (typed_range d) o h
 document_within FoldingRange d takes document o h = gives_within (AreFoldings document.text) o (λ x f. omega (arith, foldings_depth document.text x f)) h
 document_within SelectionRange d takes document o h =
     positions_within (AreSelections document.text) (positions_of d) o (λ ps x f. omega (arith, selections_depth document.text ps x f)) h

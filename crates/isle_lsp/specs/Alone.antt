@@ -1,5 +1,5 @@
 -- The outcomes of requests that are answered from an open document alone.
-use Rattle.std.specs.Prelude.{◌≡◌, ◌⊎◌, ℕ, List, Bool, Option, None, Some}
+use Rattle.std.specs.Prelude.{◌≡◌, ◌⊎◌, ℕ, List, Bool, true, false, Option, None, Some}
 use Rattle.serde_json.specs.Data.{Data, null}
 use Rattle.isle_tidy_core.specs.Refused.{HasNoDocument}
 use Rattle.isle_tidy_core.specs.Tidied.{IsTidyTextOf}
@@ -16,7 +16,7 @@ use Rattle.isle_lsp_ranges.specs.LineEdits.{IsRangeFormatting}
 use Rattle.isle_lsp_ranges.specs.Selections.{AreSelections}
 use Rattle.isle_lsp_text.specs.declared.positions.Position.{Position}
 use Rattle.isle_lsp_text.specs.declared.positions.Range.{Range}
-use Rattle.isle_lsp.specs.Formatted.{IsFormatting}
+use Rattle.isle_lsp.specs.Formatted.{IsFormatting, is_blank_at}
 
 -- the edits that format the lines of a range of a text; null if the text cannot be formatted
 abbrev pub IsFormattingWithin : List ℕ → Range → Data → Type 0
@@ -37,11 +37,19 @@ abbrev pub GivesAt : (List Position → Data → Type 0) → Option (List Positi
 GivesAt Is None o = o ≡ error_outcome InvalidParams
 GivesAt Is (Some positions) o = Gives (Is positions) o
 
+-- The edits that format a line in which a character was typed. Of a blank line there are none: they would remove the line that has just been made.
+abbrev pub FormatsUnless : (blank : Bool) → List ℕ → Option Range → Outcome → Type 0
+FormatsUnless true text range o = o ≡ done null
+FormatsUnless false text range o = GivesWithin (IsFormattingWithin text) range o
+
+abbrev pub IsLineFormatting : List ℕ → Option Range → Outcome → Type 0
+IsLineFormatting text range o = FormatsUnless (is_blank_at text range) text range o
+
 -- the outcome of a request with this message about a document, where the client may take edits with versions
 abbrev pub IsOfDocument : DocumentRequest → (message : Data) → (takes : Bool) → Document → Outcome → Type 0
 IsOfDocument Formatting message takes document o = Gives (IsFormatting document.text) o
 IsOfDocument RangeFormatting message takes document o = GivesWithin (IsFormattingWithin document.text) (range_of message) o
-IsOfDocument OnTypeFormatting message takes document o = GivesWithin (IsFormattingWithin document.text) (typed_range message) o
+IsOfDocument OnTypeFormatting message takes document o = IsLineFormatting document.text (typed_range message) o
 IsOfDocument FoldingRange message takes document o = Gives (AreFoldings document.text) o
 IsOfDocument SelectionRange message takes document o = GivesAt (AreSelections document.text) (positions_of message) o
 IsOfDocument SemanticTokens message takes document o = Gives (AreTokens document.text None) o

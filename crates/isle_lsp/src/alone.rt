@@ -9,9 +9,9 @@ ghost use Rattle.isle_lsp_protocol.specs.Replies.{outcome_of};
 ghost use Rattle.isle_lsp_colours.specs.Coloured.{AreTokens};
 ghost use Rattle.isle_lsp_ranges.specs.Selections.{AreSelections};
 ghost use Rattle.isle_lsp.specs.Alone.{GivesAt, GivesWithin, IsAlone, IsFormattingWithin};
-ghost use Rattle.isle_lsp.specs.Alone.{IsOfDocument};
+ghost use Rattle.isle_lsp.specs.Alone.{IsLineFormatting, IsOfDocument};
 
-use crate::formatting::{formatting, formatting_within};
+use crate::formatting::{formatting, formatting_within, is_blank_at};
 use isle_cli::failure::Failure;
 use isle_lsp_actions::code_actions;
 use isle_lsp_colours::semantic_tokens;
@@ -61,7 +61,7 @@ fn outcome_of_document<'a>(
     match request {
         DocumentRequest::Formatting => Ok(Outcome::Done(formatting(alloc, text)?)),
         DocumentRequest::RangeFormatting => formatted_range(alloc, text, range_of(message)),
-        DocumentRequest::OnTypeFormatting => formatted_range(alloc, text, typed_range(message)),
+        DocumentRequest::OnTypeFormatting => formatted_line(alloc, text, typed_range(message)),
         DocumentRequest::FoldingRange => Ok(Outcome::Done(folding_ranges(alloc, text)?)),
         DocumentRequest::SelectionRange => Ok(selections(alloc, text, message)?),
         DocumentRequest::SemanticTokens => {
@@ -94,6 +94,23 @@ fn formatted_range<'a>(
         Some(range) => Ok(Outcome::Done(formatting_within(alloc, text, range)?)),
         None => Ok(error_outcome(ErrorCode::InvalidParams)),
     }
+}
+
+/// The edits that format the line of a range, if a message has one, or null if it is blank: they
+/// would remove the line that has just been made.
+fn formatted_line<'a>(
+    alloc: Global,
+    text: &str,
+    range: Option<Range>,
+) -> Result<Outcome<'a>, Failure>
+    ensures ok { IfOk result
+        (λ outcome. IsLineFormatting text.now range (outcome_of outcome)) }
+    ensures err { IfErr result (λ failure. failure ≡ Memory) }
+{
+    if is_blank_at(text, range) {
+        return Ok(Outcome::Done(Value::Null));
+    }
+    formatted_range(alloc, text, range)
 }
 
 /// What a selection grows to from each position in a message.

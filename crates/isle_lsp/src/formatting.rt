@@ -4,13 +4,13 @@ ghost use Rattle.std.specs.Prelude.{◌≡◌, IfErr, IfOk};
 ghost use Rattle.serde_json.specs.View.{view};
 ghost use Rattle.isle_cli.specs.declared.failure.Failure.TheVariants.{Memory};
 ghost use Rattle.isle_lsp.specs.Alone.{IsFormattingWithin};
-ghost use Rattle.isle_lsp.specs.Formatted.{IsChange, IsFormatting};
+ghost use Rattle.isle_lsp.specs.Formatted.{IsChange, IsFormatting, is_blank_at, is_blank_line};
 
 use isle_base::lexer::Fault;
 use isle_cli::failure::Failure;
 use isle_lsp_ranges::lines::{edits_value, range_formatting};
 use isle_lsp_text::edits::edits;
-use isle_lsp_text::positions::Range;
+use isle_lsp_text::positions::{Range, offset_of};
 use isle_tidy_core::tidy;
 use serde_json::Value;
 use std::alloc::{AllocError, Global};
@@ -38,6 +38,30 @@ pub fn formatting_within(alloc: Global, text: &str, range: Range) -> Result<Valu
         Err(Fault::Error(_)) => Ok(Value::Null),
         Err(Fault::Failed | Fault::Memory) => Err(Failure::Memory),
     }
+}
+
+/// Returns whether the line at which a range begins is blank.
+pub fn is_blank_at(text: &str, range: Option<Range>) -> bool
+    ensures { result ≡ is_blank_at text.now range }
+{
+    match range {
+        Some(range) => is_blank_line(&text.as_bytes()[offset_of(text, range.start)..]),
+        None => false,
+    }
+}
+
+/// Returns whether a line is blank, by the text from its start on.
+fn is_blank_line(bytes: &[u8]) -> bool
+    ensures { result ≡ is_blank_line bytes.now }
+{
+    for byte in bytes {
+        match byte {
+            b'\n' | b'\r' => return true,
+            b' ' | b'\t' => {}
+            _ => return false,
+        }
+    }
+    true
 }
 
 /// The edits that turn one text into another.
