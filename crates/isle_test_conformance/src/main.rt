@@ -6,7 +6,8 @@
 //! text is in quotes, with the escapes of Debug: `\n`, `\r`, `\t`, `\0`, `\"`, `\\` and `\u{..}`.
 //!
 //! The program exits with 0; with 4 if memory runs out, and then answers nothing to the line; and
-//! with 3 if a stream fails. `tools/faults` makes each allocation of some cases fail in turn.
+//! with 3 if a stream fails. `tools/faults` makes each allocation of some cases fail in turn; where
+//! memory runs out in another case, its answer may be another one.
 //!
 //! Answers are written as Debug does, but with each position as `FILE:OFFSET`. A lexer is one for
 //! TEXT, in the file FILE, after READ calls of `next`. A missing number is 0. `beginnings` and

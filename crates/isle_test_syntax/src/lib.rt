@@ -20,6 +20,7 @@
 //! - `bits VALUE WIDTH`: a bit vector
 #![tactic(auto)]
 
+mod apart;
 mod arguments;
 pub mod constants;
 pub mod copies;

@@ -1,8 +1,8 @@
 //! Replacing one name by another.
 
 use isle_syntax::ast::{
-    Arm, AttrTarget, Def, Expr, Extern, FieldInit, Fields, Ident, LetDef, ModelField, ModelType,
-    ModelValue, Pattern, Rule, Spec, SpecExpr, TypeDef, TypeValue,
+    Arm, AttrTarget, Def, Expr, Extern, FieldInit, Fields, Ident, LetDef, ModelType, ModelValue,
+    Pattern, Rule, Spec, SpecExpr, TypeDef, TypeValue,
 };
 
 /// A name, the one that replaces it, and whether there was memory to replace it.

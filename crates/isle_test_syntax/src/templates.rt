@@ -2,7 +2,7 @@
 
 use isle_syntax::ast::{Def, Ident, Pattern};
 use isle_syntax::lexer::Fault;
-use isle_syntax::printer::print_node;
+use isle_syntax::printer::{PrintFault, print_node};
 use isle_test_nodes::answer::Answer;
 use isle_test_nodes::case::Case;
 use isle_test_nodes::trees::{drop_pattern, drop_tree, ident, parsed};
@@ -40,6 +40,7 @@ fn template_of(alloc: Global, file: usize, text: &str, params: &str) -> Result<P
     let tree = parsed(alloc, file, &text);
     let template = match &tree {
         Ok(defs) => filled_one(alloc, defs, &names),
+        Err(Fault::Memory) => Err(Fault::Memory),
         Err(_) => Err(Fault::Failed),
     };
     drop_tree(tree);
@@ -67,13 +68,14 @@ fn templates_of(alloc: Global, texts: &[String], params: &str) -> Result<Vec<Pat
     Ok(patterns)
 }
 
-/// Adds the print of the template of the first text with patterns put in; `None` if there are too
-/// few of them.
+/// Adds the print of a template with patterns put in; `None` if there are too few of them, or if
+/// there is no print.
 fn put_print(alloc: Global, template: &Pattern, args: &[Pattern], out: &mut Answer) {
     match template.subst_macro_args(alloc, args) {
         Ok(Some(pattern)) => {
-            let text = print_node(alloc, &pattern, usize::MAX).ok();
-            out.show_ok(&text);
+            let text = print_node(alloc, &pattern, usize::MAX);
+            out.is_whole &= !matches!(&text, Err(PrintFault::Memory));
+            out.show_ok(&text.ok());
             drop_pattern(pattern);
         }
         Ok(None) => out.put("Ok(None)"),

@@ -1,7 +1,7 @@
 //! Answers about trees.
 
+use crate::apart::{differ_from, put_definitions_apart, put_specs_apart};
 use crate::arguments::put_arguments;
-use crate::copies::{differ_from, put_definitions_apart, put_specs_apart};
 use crate::edits::built;
 use crate::walks::told_of_rule;
 use crate::written::{told_alone, told_of_prints};
