@@ -2,6 +2,7 @@
 
 use crate::files::files_of;
 use isle_syntax::error::{Error, Errors, ErrorsBuilder, Span};
+use isle_syntax::files::Files;
 use isle_syntax::lexer::{Fault, Pos};
 use isle_syntax::printer::PrintFault;
 use isle_test_nodes::case::Case;
@@ -10,8 +11,6 @@ use std::alloc::{AllocError, Global};
 use std::rc::Rc;
 
 const TWO_FILES: [(&str, &str); 2] = [("a.isle", "(A)\n(B)\n"), ("b.isle", "(rule")];
-
-const FOUR_FILES: [(&str, &str); 4] = [("a.isle", "(A)"); 4];
 
 /// Errors in one file, as Display shows them.
 fn display(
@@ -108,8 +107,16 @@ pub fn errors(alloc: Global, case: &Case) -> Result<String, AllocError> {
 /// are accepted with as many files as the first one says.
 pub fn accepts(alloc: Global, case: &Case) -> Result<bool, AllocError> {
     let errors = parse_errors(alloc, case.number(1), case.numbers_from(2))?;
-    let files = files_of(alloc, FOUR_FILES.get(..case.number(0)).unwrap_or(&[]))?;
-    Ok(Errors::accepts(&errors, &files))
+    Ok(Errors::accepts(&errors, &some_files(alloc, case.number(0))?))
+}
+
+/// As many files, each with the same text.
+fn some_files(alloc: Global, count: usize) -> Result<Files, AllocError> {
+    let mut pairs = Vec::new(alloc);
+    for _ in 0..count {
+        pairs.push(("a.isle".to_string(alloc)?, "(A)".to_string(alloc)?))?;
+    }
+    Files::from_names_and_contents(alloc, pairs)
 }
 
 /// A builder of a shadowed rule in the first file, and a parse error at the end of the second.

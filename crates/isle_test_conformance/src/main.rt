@@ -38,7 +38,7 @@
 //! - `shadowed_error MASK OFFSET.. NAME TEXT`: rules at these places that another one shadows, as
 //!   Display shows them
 //! - `accepts COUNT FILE OFFSET..`: whether parse errors at these places of a file are accepted
-//!   with so many files, at most four
+//!   with so many files
 //! - `replaced OFFSET OTHER.. KIND`: how many errors a builder of two has after an error (`type` or
 //!   `parse`) in their place and parse errors at the other places, if there are any; and the errors
 //! - `errors_with_options`: the builder's two errors, with three format options
