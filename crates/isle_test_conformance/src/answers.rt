@@ -1,255 +1,170 @@
 //! The answers of cases.
 
-use crate::case::Case;
-use crate::errors::{accepts, line_map, overlap_error, parse_errors, refusal, shadowed_error};
-use crate::files::files;
-use crate::lexers::{copied, kinds, unknown};
-use crate::nodes::nodes;
-use crate::requests::request;
-use crate::shared::of_shared;
-use crate::terms::{substitute, template, terms};
+use crate::errors::{
+    accepts, errors, faults, print_faults, refusal_of, shown_with_options, told_of_replaced,
+};
+use crate::files::{put_copied_files, put_files, put_lines, put_span};
+use crate::lanes::{each_run_ends_at_each_place, each_run_ends_at_its_bytes, ends};
+use crate::lexers::{put_lexer_answer, put_next_defs, put_unknown};
+use crate::names::{full_name, is_of_identifiers, order_of};
+use crate::prints::{long_bits_are_kept, own_print, put_own_copy, wide_bits_are_printed};
+use crate::requests::put_request;
+use crate::shared::{entries, put_expanded, put_programs, put_unflushed};
 use crate::texts::{beginnings, damaged};
-use crate::trees::of_trees;
-use isle_syntax::ast::Def;
 use isle_syntax::format;
-use isle_syntax::lexer::{Fault, Lexer, Pos, Token};
-use isle_syntax::parser::{Parser, parse, parse_without_pos};
-use isle_syntax::printer::{Looks, PrintFault, ToSExpr, fits};
-use isle_test_nodes::prints::shape;
-use isle_test_nodes::trees::{drop_definitions, next_word, read, show_definitions};
-use isle_test_syntax::prints::own_print;
+use isle_syntax::lexer::Fault;
+use isle_syntax::printer::Looks;
+use isle_test_nodes::answer::Answer;
+use isle_test_nodes::case::Case;
+use isle_test_syntax::copies::are_operators_copied;
+use isle_test_syntax::looks::{declaration_looks, fit_their_rooms, hundred_fit, pair_fits};
+use isle_test_syntax::templates::{put_template, substitute};
+use isle_test_syntax::told::put_told;
 use isle_tidy_core::tidy;
 use std::alloc::{AllocError, Global};
-use std::fmt::Debug;
 
-/// A value as Debug shows it, with each position as `FILE:OFFSET`. The value is dropped.
-pub fn shown<T: Debug + Drop>(alloc: Global, value: T) -> Result<String, AllocError> {
-    let text = format!(in alloc; "{value:?}")?;
-    drop(value);
-    placed(alloc, &text)
-}
-
-/// A tree, or the fault, as Debug shows it. The tree is dropped.
-pub fn shown_tree(alloc: Global, answer: Result<Vec<Def>, Fault>) -> Result<String, AllocError> {
-    let text = show_definitions(alloc, answer)?;
-    placed(alloc, &text)
+/// The answer of a case, with each position as `FILE:OFFSET`. `program` is the text of the last
+/// `index` case.
+pub fn answer(alloc: Global, case: &Case, program: &str) -> Result<String, AllocError> {
+    let mut out = Answer::new(alloc);
+    match put_answer(alloc, case, program, &mut out) {
+        Ok(()) => {}
+        Err(fault) => out.show_fault(&fault),
+    }
+    if !out.is_whole {
+        return Err(AllocError);
+    }
+    placed(alloc, out.text.trim_end())
 }
 
 /// A text written by Debug, with each position as `FILE:OFFSET`.
-pub fn placed(alloc: Global, text: &str) -> Result<String, AllocError> {
-    let mut out = String::new(alloc);
-    for (i, part) in text.split("Pos { file: ").enumerate() {
-        if i == 0 {
-            out.push_str(part)?;
-        } else {
-            push_placed(alloc, part, &mut out)?;
-        }
+fn placed(alloc: Global, text: &str) -> Result<String, AllocError> {
+    let mut parts = text.split("Pos { file: ");
+    let mut out = parts.next().unwrap_or("").to_string(alloc)?;
+    for part in parts {
+        push_placed(part, &mut out)?;
     }
     Ok(out)
 }
 
 /// Adds a part of such a text that begins with the number of a position's file.
-fn push_placed(alloc: Global, part: &str, out: &mut String) -> Result<(), AllocError> {
+fn push_placed(part: &str, out: &mut String) -> Result<(), AllocError> {
     let (file, rest) = part.split_once(", offset: ").unwrap_or((part, ""));
     let (offset, rest) = rest.split_once(" }").unwrap_or((rest, ""));
-    let words = format!(in alloc; "{file}:{offset}{rest}")?;
-    out.push_str(&words)
+    write!(out, "{file}:{offset}{rest}")
 }
 
-/// The answer of a case. `program` is the text of the last `index` case.
-pub fn answer(alloc: Global, case: &Case, program: &str) -> Result<String, AllocError> {
+/// Adds the answer of a case.
+fn put_answer(alloc: Global, case: &Case, program: &str, out: &mut Answer) -> Result<(), Fault> {
     match case.call.as_str() {
-        "tokens" => tokens(alloc, case),
-        "parse" => shown_tree(alloc, parsed(alloc, case)),
-        "parse_without_pos" => shown_tree(alloc, parsed_without_pos(alloc, case)),
-        "next_def" => next_words(alloc, case),
-        "format" => shown(alloc, formatted(alloc, case)?),
-        "tidy" => shown(alloc, tidy(alloc, case.text(0))),
-        "lines" => lines(alloc, case),
-        "beginnings" => beginnings(alloc, case),
-        "damaged" => damaged(alloc, case),
-        "index"
-        | "index_at"
-        | "index_symbols"
-        | "index_candidates"
-        | "index_rename"
-        | "index_can_rename" => request(alloc, case, program),
-        _ => of_errors(alloc, case),
-    }
-}
-
-/// The answer of a call about errors and files, of what programs share, or of another call.
-fn of_errors(alloc: Global, case: &Case) -> Result<String, AllocError> {
-    match case.call.as_str() {
-        "refusal" => shown(alloc, refusal(alloc, case)?),
-        "parse_errors" => shown(alloc, parse_errors(alloc, case)?),
-        "overlap_error" => shown(alloc, overlap_error(alloc, case)?),
-        "shadowed_error" => shown(alloc, shadowed_error(alloc, case)?),
-        "line_map" => line_map(alloc, case),
-        "accepts" => shown(alloc, accepts(alloc, case)?),
-        "files" => files(alloc, case),
-        "entries" | "expanded" | "programs_with" | "unflushed" => of_shared(alloc, case),
-        _ => of_parts(alloc, case),
-    }
-}
-
-/// The answer of a call of lexers, S-expressions or templates, or of a call about a tree.
-fn of_parts(alloc: Global, case: &Case) -> Result<String, AllocError> {
-    match case.call.as_str() {
-        "fits" => shown(alloc, fitting(alloc, case)),
-        "nodes" => nodes(alloc, case),
-        "terms" => terms(alloc, case),
-        "template" => template(alloc, case),
-        "substitute" => substitute(alloc, case),
-        "unknown" => unknown(alloc, case),
-        "kinds" => kinds(alloc, case),
-        "copied" => copied(alloc, case),
-        "shape" => shown(alloc, shape(alloc, case.text(0))),
-        "own_print" => shown(alloc, own_print(alloc, case.text(0), case.number(0))),
-        _ => of_trees(alloc, case),
-    }
-}
-
-/// A lexer for the first text, in the file of the first number, after as many calls of `next` as
-/// the second number says.
-pub fn lexer<'a>(alloc: Global, case: &'a Case) -> Result<Lexer<'a>, Fault> {
-    let mut lexer = Lexer::new(alloc, case.number(0), case.text(0))?;
-    for _ in 0..case.number(1) {
-        drop(lexer.next(alloc));
-    }
-    Ok(lexer)
-}
-
-/// The answer of `parse` on that lexer.
-pub fn parsed(alloc: Global, case: &Case) -> Result<Vec<Def>, Fault> {
-    parse(alloc, lexer(alloc, case)?)
-}
-
-fn parsed_without_pos(alloc: Global, case: &Case) -> Result<Vec<Def>, Fault> {
-    parse_without_pos(alloc, lexer(alloc, case)?)
-}
-
-/// A lexer's state in brackets: its position, and whether it has failed or is at its end.
-pub fn state(alloc: Global, lexer: &Lexer) -> Result<String, AllocError> {
-    let pos = lexer.pos();
-    let state = match (lexer.peek().is_some(), lexer.eof()) {
-        (true, false) => "",
-        (false, true) => " at the end",
-        (false, false) => " failed",
-        (true, true) => " at a token and at the end",
-    };
-    format!(in alloc; "[{pos:?}{state}]")
-}
-
-/// An answer of `next`.
-pub fn step(
-    alloc: Global,
-    next: Result<Option<(Pos, Token)>, Fault>,
-) -> Result<String, AllocError> {
-    match next {
-        Ok(Some(next)) => {
-            let words = format!(in alloc; "{:?} {:?}", next.0, next.1);
-            drop(next);
-            words
+        "tokens" | "copied" | "kinds" => put_lexer_answer(alloc, case, out),
+        "next_def" | "next_def_of_copy" => put_next_defs(alloc, case, out),
+        "format" => {
+            out.show_answer(&formatted(alloc, case));
+            Ok(())
         }
-        Ok(None) => "end".to_string(alloc),
-        Err(fault) => shown(alloc, fault),
-    }
-}
-
-/// Calls `next`, and adds the lexer's state before the call and the answer.
-fn push_step(alloc: Global, lexer: &mut Lexer, out: &mut String) -> Result<(), AllocError> {
-    let state = state(alloc, lexer)?;
-    let step = step(alloc, lexer.next(alloc))?;
-    let words = format!(in alloc; "{state} {step} ")?;
-    out.push_str(&words)
-}
-
-/// The answers of `next` up to the second one with nothing ahead, each after the lexer's state.
-fn tokens(alloc: Global, case: &Case) -> Result<String, AllocError> {
-    let mut lexer = match lexer(alloc, case) {
-        Ok(lexer) => lexer,
-        Err(fault) => return shown(alloc, fault),
-    };
-    let mut out = String::new(alloc);
-    let mut was_end = false;
-    for _ in 0..case.text(0).len() + 2 {
-        let is_end = lexer.peek().is_none();
-        push_step(alloc, &mut lexer, &mut out)?;
-        if is_end && was_end {
-            break;
+        "tidy" => {
+            out.show_answer(&tidy(alloc, case.text(0)));
+            Ok(())
         }
-        was_end = is_end;
+        "lines" => put_length(alloc, case, out),
+        "substitute" | "put_in" => substitute(alloc, case, out),
+        call if call.starts_with("index") => put_request(alloc, case, program, out),
+        _ => Ok(put_answer_of_files(alloc, case, out)?),
     }
-    placed(alloc, out.trim_end())
 }
 
-/// A word for each of the first answers of `next_def`, as many as the second number says.
-fn next_words(alloc: Global, case: &Case) -> Result<String, AllocError> {
-    let mut parser = match Lexer::new(alloc, case.number(0), case.text(0)) {
-        Ok(lexer) => Parser::new(lexer),
-        Err(fault) => return shown(alloc, fault),
-    };
-    let mut out = String::new(alloc);
-    for _ in 0..case.number(1) {
-        out.push_str(next_word(parser.next_def(alloc)))?;
-        out.push(' ')?;
+/// Adds the answer of a call about errors, files, or what programs share.
+fn put_answer_of_files(alloc: Global, case: &Case, out: &mut Answer) -> Result<(), AllocError> {
+    match case.call.as_str() {
+        "line_map" => put_lines(alloc, case, out),
+        "files" => put_files(alloc, case, out),
+        "copied_files" => put_copied_files(alloc, case, out),
+        "own_copy" => put_own_copy(alloc, case.text(0), out),
+        "span" => put_span(case.number(0), case.number(1), out),
+        "programs_with" => put_programs(alloc, case, out),
+        _ => {
+            put_plain_answer(alloc, case, out);
+            Ok(())
+        }
     }
-    out.trim_end().to_string(alloc)
+}
+
+/// Adds the answer of a call that shows one value.
+fn put_plain_answer(alloc: Global, case: &Case, out: &mut Answer) {
+    let (text, number) = (case.text(0), case.number(0));
+    match case.call.as_str() {
+        "refusal" => out.show_made(&refusal_of(alloc, text)),
+        "beginnings" => out.put_made(&beginnings(alloc, text)),
+        "damaged" => out.put_made(&damaged(alloc, text, case.text(1))),
+        "parse_errors" | "overlap_error" | "shadowed_error" => {
+            out.show_made(&errors(alloc, case));
+        }
+        "accepts" => out.show_made(&accepts(alloc, case)),
+        "replaced" => out.show_made(&told_of_replaced(alloc, case)),
+        "errors_with_options" => out.show_made(&shown_with_options(alloc)),
+        "faults" => out.show_made(&faults(alloc)),
+        "print_faults" => out.show_made(&print_faults(alloc)),
+        "unknown" => put_unknown(case, out),
+        "template" => put_template(alloc, case, out),
+        "entries" => out.show_answer(&entries(alloc, text)),
+        "expanded" => put_expanded(alloc, text, out),
+        "unflushed" => put_unflushed(alloc, text, out),
+        "own_print" => out.show_print(&own_print(alloc, text, number)),
+        _ => put_answer_of_names(alloc, case, out),
+    }
+}
+
+/// Adds the answer of a call about names or bytes, or of another call.
+fn put_answer_of_names(alloc: Global, case: &Case, out: &mut Answer) {
+    let (text, other, number) = (case.text(0), case.text(1), case.number(0));
+    match case.call.as_str() {
+        "is_identifier" | "begins_identifier" | "continues_identifier" => {
+            out.show(&is_of_identifiers(&case.call, text));
+        }
+        "name_order" => out.show_made(&order_of(alloc, text, other, number)),
+        "full_name" => out.show_made(&full_name(alloc, text, other, number)),
+        "ends" => out.show(&ends()),
+        "ends_at_each_place" => out.show(&each_run_ends_at_each_place()),
+        "ends_at_each_byte" => out.show(&each_run_ends_at_its_bytes()),
+        "operators_are_copied" => out.show(&are_operators_copied()),
+        "wide_bits" => out.show(&wide_bits_are_printed(alloc)),
+        "long_bits" => out.show_answer(&long_bits_are_kept(alloc)),
+        call if call.starts_with("looks") => put_looks(alloc, call, out),
+        _ => put_told(alloc, case, out),
+    }
+}
+
+/// Adds the answer of a call of which contracts say how many looks it takes.
+fn put_looks(alloc: Global, call: &str, out: &mut Answer) {
+    let mut looks = Looks::new();
+    match call {
+        "looks_of_rooms" => out.show_made(&fit_their_rooms(alloc)),
+        "looks_of_a_pair" => out.show_made(&pair_fits(alloc, &mut looks)),
+        "looks_of_a_hundred" => out.show_made(&hundred_fit(alloc, &mut looks)),
+        _ => out.show_print(&declaration_looks(alloc, 78, &mut looks)),
+    }
 }
 
 /// The first text formatted at the first width, its output at the next width, and so on.
-fn formatted(alloc: Global, case: &Case) -> Result<Result<String, Fault>, AllocError> {
+fn formatted(alloc: Global, case: &Case) -> Result<String, Fault> {
     let mut text = case.text(0).to_string(alloc)?;
     for width in &case.numbers {
-        match format(alloc, &text, *width) {
-            Ok(answer) => text = answer,
-            Err(fault) => return Ok(Err(fault)),
-        }
-    }
-    Ok(Ok(text))
-}
-
-/// The first text, repeated as often as the second number says, at least once.
-fn repeated(alloc: Global, case: &Case) -> Result<String, AllocError> {
-    let mut text = String::new(alloc);
-    for _ in 0..case.number(1).max(1) {
-        text.push_str(case.text(0))?;
+        text = format(alloc, &text, *width)?;
     }
     Ok(text)
 }
 
-fn lines(alloc: Global, case: &Case) -> Result<String, AllocError> {
-    let text = repeated(alloc, case)?;
-    match format(alloc, &text, case.number(0)) {
-        Ok(text) => {
-            let count = text.lines().count();
-            let longest = text.lines().map(|line| line.len()).max().unwrap_or(0);
-            let whole = text.len();
-            format!(in alloc; "{count} lines, the longest of {longest} bytes, {whole} bytes in all")
-        }
-        Err(fault) => shown(alloc, fault),
-    }
-}
-
-/// Returns whether the S-expression of each definition fits the room.
-fn fit(alloc: Global, defs: &[Def], room: usize) -> Result<Vec<bool>, Fault> {
-    let mut answers = Vec::new(alloc);
-    let mut looks = Looks::new();
-    for def in defs {
-        match def.to_sexpr(alloc) {
-            Ok(sexpr) => answers.push(fits(&sexpr, room, &mut looks))?,
-            Err(PrintFault::MacroArg) => return Err(Fault::Failed),
-            Err(PrintFault::Memory) => return Err(Fault::Memory),
-        }
-    }
-    Ok(answers)
-}
-
-/// Returns the same for the first text, with the first number as the room.
-fn fitting(alloc: Global, case: &Case) -> Result<Vec<bool>, Fault> {
-    let defs = read(alloc, case.text(0))?;
-    let answers = fit(alloc, &defs, case.number(0));
-    drop_definitions(defs);
-    answers
+/// The numbers of lines, of bytes in the longest line, and of bytes, of the first text, repeated as
+/// often as the second number says, at least once, and formatted.
+fn put_length(alloc: Global, case: &Case, out: &mut Answer) -> Result<(), Fault> {
+    let text = case.text(0).repeat(alloc, case.number(1).max(1))?;
+    let text = format(alloc, &text, case.number(0))?;
+    out.show(&text.lines().count());
+    out.put(" lines, the longest of ");
+    out.show(&text.lines().map(|line| line.len()).max().unwrap_or(0));
+    out.put(" bytes, ");
+    out.show(&text.len());
+    out.put(" bytes in all");
+    Ok(())
 }

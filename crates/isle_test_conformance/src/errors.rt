@@ -1,13 +1,16 @@
-//! Errors as Display shows them.
+//! Errors and faults as Display shows them, and the builder of errors.
 
-use crate::case::Case;
-use crate::files::one_file;
-use isle_syntax::error::{Error, Errors, Span};
-use isle_syntax::files::{Files, LineMap};
+use crate::files::files_of;
+use isle_syntax::error::{Error, Errors, ErrorsBuilder, Span};
+use isle_syntax::files::Files;
 use isle_syntax::lexer::{Fault, Pos};
-use isle_test_nodes::trees::{drop_definitions, parsed};
+use isle_syntax::printer::PrintFault;
+use isle_test_nodes::case::Case;
+use isle_test_nodes::trees::{drop_tree, parsed};
 use std::alloc::{AllocError, Global};
 use std::rc::Rc;
+
+const TWO_FILES: [(&str, &str); 2] = [("a.isle", "(A)\n(B)\n"), ("b.isle", "(rule")];
 
 /// Errors in one file, as Display shows them.
 fn display(
@@ -16,9 +19,8 @@ fn display(
     name: &str,
     text: &str,
 ) -> Result<String, AllocError> {
-    let files = Rc::new(alloc, one_file(alloc, name, text)?)?;
-    let accepted = Errors::accepts(errors.as_slice(), &files);
-    if accepted {
+    let files = Rc::new(alloc, files_of(alloc, &[(name, text)])?)?;
+    if Errors::accepts(&errors, &files) {
         Errors::new(errors, files).to_string(alloc)
     } else {
         "not accepted".to_string(alloc)
@@ -28,80 +30,83 @@ fn display(
 /// The error of a text in the file `<stdin>`, or `accepted`.
 pub fn refusal_of(alloc: Global, text: &str) -> Result<String, AllocError> {
     match parsed(alloc, 0, text) {
-        Ok(defs) => {
-            drop_definitions(defs);
-            "accepted".to_string(alloc)
-        }
         Err(Fault::Error(error)) => display(alloc, vec![in alloc; error]?, "<stdin>", text),
-        Err(Fault::Failed) => "failed".to_string(alloc),
-        Err(Fault::Memory) => "memory".to_string(alloc),
+        tree => {
+            let word = match &tree {
+                Ok(_) => "accepted",
+                Err(Fault::Memory) => "memory",
+                Err(_) => "failed",
+            };
+            drop_tree(tree);
+            word.to_string(alloc)
+        }
     }
 }
 
-/// The error of the first text, or `accepted`.
-pub fn refusal(alloc: Global, case: &Case) -> Result<String, AllocError> {
-    refusal_of(alloc, case.text(0))
+/// The place at an offset of a file.
+fn place(file: usize, offset: usize) -> Span {
+    Span {
+        from: Pos::new(file, offset),
+        to: Pos::new(file, offset.saturating_add(1)),
+    }
 }
 
-/// A place in file 0.
-fn place(offset: usize) -> Span {
-    Span::new_single(Pos::new(0, offset.min(1 << 40)))
-}
-
-/// Places in file 0.
 fn places(alloc: Global, offsets: &[usize]) -> Result<Vec<Span>, AllocError> {
-    let mut spans = Vec::new(alloc);
+    let mut places = Vec::new(alloc);
     for offset in offsets {
-        spans.push(place(*offset))?;
+        places.push(place(0, *offset))?;
     }
-    Ok(spans)
+    Ok(places)
 }
 
-/// Parse errors at the offsets.
-pub fn parse_errors(alloc: Global, case: &Case) -> Result<String, AllocError> {
-    let mut errors = Vec::new(alloc);
-    for offset in &case.numbers {
-        errors.push(Error::ParseError {
-            msg: "m".to_string(alloc)?,
-            span: place(*offset),
-        })?;
-    }
-    display(alloc, errors, case.text(0), case.text(1))
-}
-
-/// An overlap of rules at the offsets.
-pub fn overlap_error(alloc: Global, case: &Case) -> Result<String, AllocError> {
-    let error = Error::OverlapError {
+fn parse_error(alloc: Global, file: usize, offset: usize) -> Result<Error, AllocError> {
+    Ok(Error::ParseError {
         msg: "m".to_string(alloc)?,
-        rules: places(alloc, &case.numbers)?,
-    };
-    display(alloc, vec![in alloc; error]?, case.text(0), case.text(1))
+        span: place(file, offset),
+    })
 }
 
-/// Rules at all offsets but the first, shadowed by one at the first.
-pub fn shadowed_error(alloc: Global, case: &Case) -> Result<String, AllocError> {
-    let others = case.numbers.get(1..).unwrap_or(&[]);
-    let error = Error::ShadowedError {
-        shadowed: places(alloc, others)?,
-        mask: place(case.number(0)),
-    };
-    display(alloc, vec![in alloc; error]?, case.text(0), case.text(1))
+/// Parse errors at these offsets of a file.
+fn parse_errors(alloc: Global, file: usize, offsets: &[usize]) -> Result<Vec<Error>, AllocError> {
+    let mut errors = Vec::new(alloc);
+    for offset in offsets {
+        errors.push(parse_error(alloc, file, *offset)?)?;
+    }
+    Ok(errors)
+}
+
+/// The error that a case names: rules at the offsets that overlap, or rules at all offsets but the
+/// first, shadowed by one at the first.
+fn rule_error(alloc: Global, case: &Case) -> Result<Error, AllocError> {
+    match case.call.as_str() {
+        "overlap_error" => Ok(Error::OverlapError {
+            msg: "m".to_string(alloc)?,
+            rules: places(alloc, &case.numbers)?,
+        }),
+        _ => Ok(Error::ShadowedError {
+            shadowed: places(alloc, case.numbers_from(1))?,
+            mask: place(0, case.number(0)),
+        }),
+    }
+}
+
+/// The errors of a case.
+fn errors_of(alloc: Global, case: &Case) -> Result<Vec<Error>, AllocError> {
+    match case.call.as_str() {
+        "parse_errors" => parse_errors(alloc, 0, &case.numbers),
+        _ => Ok(vec![in alloc; rule_error(alloc, case)?]?),
+    }
+}
+
+/// The errors of a case, in the file of its texts, as Display shows them.
+pub fn errors(alloc: Global, case: &Case) -> Result<String, AllocError> {
+    display(alloc, errors_of(alloc, case)?, case.text(0), case.text(1))
 }
 
 /// Whether parse errors at the offsets after the first two numbers, in the file of the second one,
 /// are accepted with as many files as the first one says.
 pub fn accepts(alloc: Global, case: &Case) -> Result<bool, AllocError> {
-    let mut errors = Vec::new(alloc);
-    for offset in case.numbers.get(2..).unwrap_or(&[]) {
-        let (from, to) = (*offset, offset.saturating_add(1));
-        errors.push(Error::ParseError {
-            msg: "m".to_string(alloc)?,
-            span: Span {
-                from: Pos::new(case.number(1), from),
-                to: Pos::new(case.number(1), to),
-            },
-        })?;
-    }
+    let errors = parse_errors(alloc, case.number(1), case.numbers_from(2))?;
     Ok(Errors::accepts(&errors, &some_files(alloc, case.number(0))?))
 }
 
@@ -114,12 +119,68 @@ fn some_files(alloc: Global, count: usize) -> Result<Files, AllocError> {
     Files::from_names_and_contents(alloc, pairs)
 }
 
-/// The line of each offset in the first text, and the line map of the text.
-pub fn line_map(alloc: Global, case: &Case) -> Result<String, AllocError> {
-    let map = LineMap::from_str(alloc, case.text(0))?;
-    let mut lines = Vec::new(alloc);
-    for offset in &case.numbers {
-        lines.push(map.line(*offset))?;
+/// A builder of a shadowed rule in the first file, and a parse error at the end of the second.
+fn builder(alloc: Global) -> Result<ErrorsBuilder, AllocError> {
+    let files = Rc::new(alloc, files_of(alloc, &TWO_FILES)?)?;
+    let shadowed = Error::ShadowedError {
+        shadowed: places(alloc, &[4])?,
+        mask: place(0, 0),
+    };
+    let errors = vec![in alloc; shadowed, parse_error(alloc, 1, 5)?]?;
+    Ok(ErrorsBuilder::new(alloc)?.files(files).errors(errors))
+}
+
+/// The error of a case that replaces those of the builder: a type error in the second file, or a
+/// parse error in the first.
+fn replacing(alloc: Global, case: &Case) -> Result<Error, AllocError> {
+    match case.text(0) {
+        "type" => Ok(Error::TypeError {
+            msg: "m".to_string(alloc)?,
+            span: place(1, case.number(0)),
+        }),
+        _ => parse_error(alloc, 0, case.number(0)),
     }
-    format!(in alloc; "{lines:?} {map:?}")
+}
+
+/// The builder after that error, and after parse errors at the other offsets, if there are any.
+fn replaced(alloc: Global, case: &Case) -> Result<ErrorsBuilder, AllocError> {
+    let error = replacing(alloc, case)?;
+    let builder = builder(alloc)?.error(alloc, error)?;
+    match case.numbers_from(1) {
+        [] => Ok(builder),
+        others => Ok(builder.errors(parse_errors(alloc, 0, others)?)),
+    }
+}
+
+/// The number of errors that are left, and the errors as Display shows them.
+pub fn told_of_replaced(alloc: Global, case: &Case) -> Result<String, AllocError> {
+    let builder = replaced(alloc, case)?;
+    if !builder.is_buildable() {
+        return "not buildable".to_string(alloc);
+    }
+    let errors = builder.build();
+    format!(in alloc; "{}: {errors}", errors.errors().len())
+}
+
+/// The two errors as three format options show them.
+pub fn shown_with_options(alloc: Global) -> Result<String, AllocError> {
+    let builder = builder(alloc)?;
+    if !builder.is_buildable() {
+        return "not buildable".to_string(alloc);
+    }
+    let errors = builder.build();
+    format!(in alloc; "{errors:#}{errors:>9}{errors:.3}")
+}
+
+/// Each fault as Display shows it, a line each.
+pub fn faults(alloc: Global) -> Result<String, AllocError> {
+    let refused = Fault::from(parse_error(alloc, 0, 0)?);
+    let (failed, memory) = (Fault::Failed, Fault::Memory);
+    format!(in alloc; "{refused}\n{failed:>40}\n{memory}\n")
+}
+
+/// Each fault of the printer as Display shows it, a line each.
+pub fn print_faults(alloc: Global) -> Result<String, AllocError> {
+    let (refused, memory) = (PrintFault::MacroArg, PrintFault::Memory);
+    format!(in alloc; "{refused}\n{refused:#}\n{memory}\n")
 }

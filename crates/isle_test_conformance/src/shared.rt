@@ -1,32 +1,21 @@
 //! Calls of what the programs share: tidying entry by entry, expansion, programs that share files,
 //! and output that can't be flushed.
 
-use crate::answers::{shown, shown_tree};
-use crate::case::Case;
 use isle_cli::streams::write_whole;
 use isle_expand_core::expand;
 use isle_program_manifest::membership::{programs_with, union_with};
-use isle_syntax::ast::Def;
 use isle_syntax::lexer::Fault;
 use isle_syntax::parse;
-use isle_test_nodes::trees::drop_definitions;
+use isle_test_nodes::answer::Answer;
+use isle_test_nodes::case::Case;
+use isle_test_nodes::trees::{Tree, drop_tree};
 use isle_tidy_core::tidying::Tidying;
 use std::alloc::{AllocError, Global};
 use std::io;
 use std::io::{ErrorKind, Write};
 
-/// The answer of such a call.
-pub fn of_shared(alloc: Global, case: &Case) -> Result<String, AllocError> {
-    match case.call.as_str() {
-        "entries" => shown(alloc, entries(alloc, case.text(0))),
-        "expanded" => shown_tree(alloc, expanded(alloc, case.text(0))),
-        "programs_with" => programs(alloc, case),
-        _ => write_unflushed(alloc, case.text(0)),
-    }
-}
-
 /// The output for each entry of a text, followed by a `|`, and for the end of the text.
-fn entries(alloc: Global, text: &str) -> Result<String, Fault> {
+pub fn entries(alloc: Global, text: &str) -> Result<String, Fault> {
     let mut tidying = Tidying::new(alloc, text)?;
     let mut entries = String::new(alloc);
     for _ in 0..9 {
@@ -39,10 +28,10 @@ fn entries(alloc: Global, text: &str) -> Result<String, Fault> {
 }
 
 /// The expansion of the definitions of a text.
-fn expanded(alloc: Global, text: &str) -> Result<Vec<Def>, Fault> {
+fn expanded(alloc: Global, text: &str) -> Tree {
     let defs = parse(alloc, text)?;
     let outcome = expand(alloc, &defs);
-    drop_definitions(defs);
+    drop_tree(Ok(defs));
     match outcome {
         Ok(defs) => Ok(defs),
         Err(fault) => {
@@ -52,16 +41,24 @@ fn expanded(alloc: Global, text: &str) -> Result<Vec<Def>, Fault> {
     }
 }
 
-/// The numbers of the programs that have the file of the first text, and all their paths. Each
+/// Adds the expansion of the definitions of a text.
+pub fn put_expanded(alloc: Global, text: &str, out: &mut Answer) {
+    let tree = expanded(alloc, text);
+    out.show_answer(&tree);
+    drop_tree(tree);
+}
+
+/// Adds the numbers of the programs that have the file of the first text, and all their paths. Each
 /// other text is the paths of a program, separated by blanks.
-fn programs(alloc: Global, case: &Case) -> Result<String, AllocError> {
+pub fn put_programs(alloc: Global, case: &Case, out: &mut Answer) -> Result<(), AllocError> {
     let mut programs = Vec::new(alloc);
-    for paths in case.texts.get(1..).unwrap_or(&[]) {
+    for paths in case.texts_from(1) {
         programs.push(words(alloc, paths)?)?;
     }
-    let numbers = programs_with(alloc, case.text(0), &programs)?;
-    let paths = union_with(alloc, case.text(0), &programs)?;
-    format!(in alloc; "{numbers:?} {paths:?}")
+    out.show(&programs_with(alloc, case.text(0), &programs)?);
+    out.put(" ");
+    out.show(&union_with(alloc, case.text(0), &programs)?);
+    Ok(())
 }
 
 fn words(alloc: Global, text: &str) -> Result<Vec<String>, AllocError> {
@@ -87,13 +84,13 @@ impl Write for Unflushed {
     }
 }
 
-/// The error of writing a text to it, and whether it then holds the text.
-fn write_unflushed(alloc: Global, text: &str) -> Result<String, AllocError> {
+/// Adds the error of writing a text to it, and whether it then holds the text.
+pub fn put_unflushed(alloc: Global, text: &str, out: &mut Answer) {
     let mut writer = Unflushed(Vec::new(alloc));
-    let written = write_whole(&mut writer, text.as_bytes());
-    let is_held = writer.0.as_slice() == text.as_bytes();
-    match written {
-        Ok(()) => format!(in alloc; "written {is_held}"),
-        Err(error) => format!(in alloc; "{:?} {is_held}", error.kind()),
+    match write_whole(&mut writer, text.as_bytes()) {
+        Ok(()) => out.put("written"),
+        Err(error) => out.show(&error.kind()),
     }
+    out.put(" ");
+    out.show(&(writer.0.as_slice() == text.as_bytes()));
 }

@@ -1,15 +1,14 @@
 //! Cases of many texts: the beginnings of one, or one with each character damaged in turn.
 
-use crate::case::Case;
 use crate::errors::refusal_of;
 use isle_syntax::error::Error;
 use isle_syntax::format;
 use isle_syntax::lexer::{Fault, Lexer};
-use isle_test_nodes::trees::{drop_definitions, parsed};
+use isle_test_nodes::trees::{drop_tree, parsed};
 use std::alloc::{AllocError, Global};
 
 /// The result for many texts: their number, the places of the accepted ones, a hash of the other
-/// ones' errors, and the first text on which a call was wrong.
+/// ones' errors, and the last text on which a call was wrong.
 #[derive(Drop)]
 struct Tally {
     count: usize,
@@ -28,11 +27,18 @@ impl Tally {
         }
     }
 
-    /// Adds the error of a rejected text to the FNV-1a hash.
-    fn add_shown(&mut self, shown: &str) {
-        for byte in shown.bytes() {
-            self.shown = (self.shown ^ u32::from(byte)).wrapping_mul(16_777_619);
+    /// Counts an accepted text, or a rejected one, whose error it adds to the FNV-1a hash.
+    fn add_shown(&mut self, shown: &str, is_accepted: bool) -> Result<(), AllocError> {
+        let place = self.count;
+        self.count = place.saturating_add(1);
+        if is_accepted {
+            self.accepted.push(place)?;
+        } else {
+            for byte in shown.bytes() {
+                self.shown = (self.shown ^ u32::from(byte)).wrapping_mul(16_777_619);
+            }
         }
+        Ok(())
     }
 
     /// Adds a text. A call is wrong if `parse` and `format` disagree, if an error lies outside the
@@ -40,18 +46,9 @@ impl Tally {
     fn add(&mut self, alloc: Global, text: &str) -> Result<(), AllocError> {
         let shown = refusal_of(alloc, text)?;
         let is_accepted = shown.as_str() == "accepted";
-        if is_accepted {
-            self.accepted.push(self.count)?;
-        } else {
-            self.add_shown(&shown);
-        }
-        self.count = self.count.saturating_add(1);
         let is_told = is_accepted || shown.starts_with("parse error: ");
-        let is_right = is_told
-            && is_read(alloc, text)
-            && is_parsed(alloc, text, is_accepted)
-            && is_formatted(alloc, text, is_accepted);
-        if !is_right && self.wrong.is_none() {
+        self.add_shown(&shown, is_accepted)?;
+        if !is_told || !are_calls_right(alloc, text, is_accepted) {
             self.wrong = Some(text.to_string(alloc)?);
         }
         Ok(())
@@ -80,6 +77,13 @@ impl Tally {
     }
 }
 
+/// Returns whether a lexer, `parse` and `format` answer as they should.
+fn are_calls_right(alloc: Global, text: &str, is_accepted: bool) -> bool {
+    is_read(alloc, text)
+        && is_parsed(alloc, text, is_accepted)
+        && is_formatted(alloc, text, is_accepted)
+}
+
 /// Returns whether a parse error begins in the text or at its end.
 fn is_within(fault: &Fault, text: &str) -> bool {
     matches!(fault, Fault::Error(Error::ParseError { span, .. }) if span.from.offset <= text.len())
@@ -101,35 +105,34 @@ fn is_read(alloc: Global, text: &str) -> bool {
     false
 }
 
+/// Returns whether an accepted text has a value, and any other one a fault within the text.
+fn is_right<T>(answer: &Result<T, Fault>, text: &str, is_accepted: bool) -> bool {
+    match answer {
+        Ok(_) => is_accepted,
+        Err(fault) => !is_accepted && is_within(fault, text),
+    }
+}
+
 /// Returns whether an accepted text is parsed, and any other one rejected within the text.
 fn is_parsed(alloc: Global, text: &str, is_accepted: bool) -> bool {
-    match parsed(alloc, 0, text) {
-        Ok(defs) => {
-            drop_definitions(defs);
-            is_accepted
-        }
-        Err(fault) => !is_accepted && is_within(&fault, text),
-    }
+    let tree = parsed(alloc, 0, text);
+    let is_right = is_right(&tree, text, is_accepted);
+    drop_tree(tree);
+    is_right
 }
 
 /// Returns whether an accepted text is formatted at the widths 0, 1 and the greatest, and any other
 /// one rejected within the text.
 fn is_formatted(alloc: Global, text: &str, is_accepted: bool) -> bool {
+    let mut are_right = true;
     for width in [0, 1, usize::MAX] {
-        let is_right = match format(alloc, text, width) {
-            Ok(_) => is_accepted,
-            Err(fault) => !is_accepted && is_within(&fault, text),
-        };
-        if !is_right {
-            return false;
-        }
+        are_right &= is_right(&format(alloc, text, width), text, is_accepted);
     }
-    true
+    are_right
 }
 
-/// The result for each beginning of the first text that ends at a character boundary.
-pub fn beginnings(alloc: Global, case: &Case) -> Result<String, AllocError> {
-    let text = case.text(0);
+/// The result for each beginning of a text that ends at a character boundary.
+pub fn beginnings(alloc: Global, text: &str) -> Result<String, AllocError> {
     let mut tally = Tally::new(alloc);
     for (end, _) in text.char_indices() {
         tally.add(alloc, text.get(..end).unwrap_or(""))?;
@@ -138,9 +141,8 @@ pub fn beginnings(alloc: Global, case: &Case) -> Result<String, AllocError> {
     tally.told(alloc)
 }
 
-/// The result for the second text with the first in place of each of its characters in turn.
-pub fn damaged(alloc: Global, case: &Case) -> Result<String, AllocError> {
-    let text = case.text(1);
+/// The result for a text with a piece in place of each of its characters in turn.
+pub fn damaged(alloc: Global, piece: &str, text: &str) -> Result<String, AllocError> {
     let mut tally = Tally::new(alloc);
     let mut chars = text.char_indices();
     for _ in 0..text.len() {
@@ -148,7 +150,7 @@ pub fn damaged(alloc: Global, case: &Case) -> Result<String, AllocError> {
             None => break,
             Some((start, _)) => {
                 let before = text.get(..start).unwrap_or("");
-                tally.add_joined(alloc, before, case.text(0), chars.as_str())?;
+                tally.add_joined(alloc, before, piece, chars.as_str())?;
             }
         }
     }

@@ -2,7 +2,7 @@
 
 use isle_syntax::format;
 use isle_syntax::lexer::{Fault, Lexer};
-use isle_test_nodes::trees::{drop_definitions, parsed};
+use isle_test_nodes::trees::{drop_tree, parsed};
 use std::alloc::{AllocError, Global};
 
 /// The number of tokens of a text.
@@ -22,7 +22,7 @@ fn count_tokens(alloc: Global, text: &str) -> Result<usize, Fault> {
 fn count_definitions(alloc: Global, text: &str) -> Result<usize, Fault> {
     let defs = parsed(alloc, 0, text)?;
     let count = defs.len();
-    drop_definitions(defs);
+    drop_tree(Ok(defs));
     Ok(count)
 }
 

@@ -1,14 +1,13 @@
 //! Calls that never allocate, in groups. Each group makes the values that it works on first.
 
-use crate::calls::{error, files_of, printed};
 use crate::retry::word_of;
 use isle_syntax::ast::{Def, Expr, Ident, Pattern, SpecExpr, writable};
 use isle_syntax::error::{Error, Errors, ErrorsBuilder, Span};
 use isle_syntax::files::{Files, LineMap};
 use isle_syntax::lexer::{Fault, Lexer, Pos, Token, blank_end, line_comment_end, symbol_end};
 use isle_syntax::parser::Parser;
-use isle_syntax::printer::{Looks, SExpr, ToSExpr, fits};
-use isle_test_nodes::trees::{drop_definitions, parsed};
+use isle_syntax::printer::{Looks, PrintFault, SExpr, ToSExpr, fits};
+use isle_test_nodes::trees::{drop_tree, parsed};
 use std::alloc::{AllocError, Global};
 use std::fmt::{self, Write};
 use std::ops::Range;
@@ -16,7 +15,7 @@ use std::rc::Rc;
 
 /// Returns whether the calls of a group give the right answers. With `is_asked` false, only the
 /// values that they work on are made.
-pub fn still(alloc: Global, call: &str, text: &str, is_asked: bool) -> Result<bool, Fault> {
+fn still(alloc: Global, call: &str, text: &str, is_asked: bool) -> Result<bool, Fault> {
     match call {
         "lexer" => lexers(alloc, text, is_asked),
         "tree" | "layout" => of_trees(alloc, call, text, is_asked),
@@ -24,7 +23,22 @@ pub fn still(alloc: Global, call: &str, text: &str, is_asked: bool) -> Result<bo
             let files = files_of(alloc, text)?;
             Ok(!is_asked || places(alloc, &files))
         }
-        _ => Ok(of_errors(alloc, call, text, is_asked)?),
+        "builder" | "display" => Ok(of_errors(alloc, call, text, is_asked)?),
+        _ => Ok(false),
+    }
+}
+
+/// A word that says whether they do.
+pub fn told_still(
+    alloc: Global,
+    call: &str,
+    text: &str,
+    is_asked: bool,
+) -> Result<&'static str, AllocError> {
+    match still(alloc, call, text, is_asked) {
+        Ok(true) => Ok("right\n"),
+        Err(Fault::Memory) => Err(AllocError),
+        _ => Ok("wrong\n"),
     }
 }
 
@@ -94,13 +108,21 @@ fn ends(alloc: Global) -> bool {
 
 /// The calls of trees, or of the S-expression of the first definition.
 fn of_trees(alloc: Global, call: &str, text: &str, is_asked: bool) -> Result<bool, Fault> {
-    let defs = parsed(alloc, 1, text)?;
-    let answer = match call {
-        "tree" => Ok(!is_asked || trees(&defs)),
-        _ => layouts(alloc, &defs, is_asked),
+    let tree = parsed(alloc, 1, text);
+    let answer = match &tree {
+        Ok(defs) => told_of_trees(alloc, call, defs, is_asked),
+        Err(Fault::Memory) => Err(Fault::Memory),
+        Err(_) => Ok(false),
     };
-    drop_definitions(defs);
+    drop_tree(tree);
     answer
+}
+
+fn told_of_trees(alloc: Global, call: &str, defs: &[Def], is_asked: bool) -> Result<bool, Fault> {
+    match call {
+        "tree" => Ok(!is_asked || trees(defs)),
+        _ => layouts(alloc, defs, is_asked),
+    }
 }
 
 /// Returns whether an S-expression fits the greatest room, and not an empty one.
@@ -110,12 +132,13 @@ fn is_laid_out(sexpr: &SExpr) -> bool {
 }
 
 fn layouts(alloc: Global, defs: &[Def], is_asked: bool) -> Result<bool, Fault> {
-    match defs.first() {
-        Some(def) => {
-            let sexpr = printed(def.to_sexpr(alloc))?;
-            Ok(!is_asked || is_laid_out(&sexpr))
-        }
-        None => Err(Fault::Failed),
+    let Some(def) = defs.first() else {
+        return Ok(false);
+    };
+    match def.to_sexpr(alloc) {
+        Ok(sexpr) => Ok(!is_asked || is_laid_out(&sexpr)),
+        Err(PrintFault::Memory) => Err(Fault::Memory),
+        Err(PrintFault::MacroArg) => Ok(false),
     }
 }
 
@@ -164,6 +187,26 @@ fn places(alloc: Global, files: &Files) -> bool {
     };
     let is_text = files.file_name(1) == Some("b.isle") && files.file_text(2).is_none();
     is_empty && is_start && range.start == 7 && range.end == 8 && is_known && is_text
+}
+
+fn named(alloc: Global, name: &str, text: &str) -> Result<(String, String), AllocError> {
+    Ok((name.to_string(alloc)?, text.to_string(alloc)?))
+}
+
+/// Two files with the same text.
+fn files_of(alloc: Global, text: &str) -> Result<Files, AllocError> {
+    let mut pairs = Vec::new(alloc);
+    pairs.push(named(alloc, "a.isle", text)?)?;
+    pairs.push(named(alloc, "b.isle", text)?)?;
+    Files::from_names_and_contents(alloc, pairs)
+}
+
+/// A parse error in file 1, with this message.
+fn error(alloc: Global, msg: &str) -> Result<Error, AllocError> {
+    Ok(Error::ParseError {
+        msg: msg.to_string(alloc)?,
+        span: Span::new_single(Pos::new(1, 2)),
+    })
 }
 
 /// Two errors.

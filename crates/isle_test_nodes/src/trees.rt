@@ -1,22 +1,46 @@
 //! Trees of texts, and calls that drop trees.
 
-use isle_syntax::ast::{Def, Pattern};
-use isle_syntax::lexer::{Fault, Lexer};
+use crate::case::Case;
+use isle_syntax::ast::{Def, Ident, Pattern};
+use isle_syntax::lexer::{Fault, Lexer, Pos};
 use isle_syntax::parser::{parse, parse_without_pos};
 use std::alloc::{AllocError, Global};
 
-/// The definitions of a text in a file.
-pub fn parsed(alloc: Global, file: usize, text: &str) -> Result<Vec<Def>, Fault> {
+/// The definitions of a text, or why it has none.
+pub type Tree = Result<Vec<Def>, Fault>;
+
+/// The tree of a text in a file.
+pub fn parsed(alloc: Global, file: usize, text: &str) -> Tree {
     parse(alloc, Lexer::new(alloc, file, text)?)
 }
 
-/// The definitions of a text, without positions.
-pub fn read(alloc: Global, text: &str) -> Result<Vec<Def>, Fault> {
+/// The tree of a text, without positions.
+pub fn read(alloc: Global, text: &str) -> Tree {
     parse_without_pos(alloc, Lexer::new(alloc, 0, text)?)
 }
 
-pub fn drop_definitions(defs: Vec<Def>) {
-    drop(defs);
+/// A lexer for the first text, in the file of the first number, after as many calls of `next` as
+/// the second number says.
+pub fn lexer<'a>(alloc: Global, case: &'a Case) -> Result<Lexer<'a>, Fault> {
+    let mut lexer = Lexer::new(alloc, case.number(0), case.text(0))?;
+    for _ in 0..case.number(1) {
+        drop(lexer.next(alloc));
+    }
+    Ok(lexer)
+}
+
+/// The tree of what that lexer has ahead.
+pub fn parsed_of(alloc: Global, case: &Case) -> Tree {
+    parse(alloc, lexer(alloc, case)?)
+}
+
+/// The same, without positions.
+pub fn read_of(alloc: Global, case: &Case) -> Tree {
+    parse_without_pos(alloc, lexer(alloc, case)?)
+}
+
+pub fn drop_tree(tree: Tree) {
+    drop(tree);
 }
 
 pub fn drop_definition(def: Def) {
@@ -25,16 +49,6 @@ pub fn drop_definition(def: Def) {
 
 pub fn drop_pattern(pattern: Pattern) {
     drop(pattern);
-}
-
-/// Definitions, or the fault, as Debug shows them. They are dropped.
-pub fn show_definitions(
-    alloc: Global,
-    answer: Result<Vec<Def>, Fault>,
-) -> Result<String, AllocError> {
-    let text = format!(in alloc; "{answer:?}");
-    drop(answer);
-    text
 }
 
 /// A word for an answer of `next_def`. The answer is dropped.
@@ -50,4 +64,13 @@ pub fn next_word(answer: Result<Option<Def>, Fault>) -> &'static str {
     };
     drop(answer);
     word
+}
+
+/// The position of nodes made by hand.
+pub fn pos() -> Pos {
+    Pos::default()
+}
+
+pub fn ident(alloc: Global, text: &str) -> Result<Ident, AllocError> {
+    Ok(Ident(text.to_string(alloc)?, pos()))
 }

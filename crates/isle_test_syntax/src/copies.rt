@@ -27,3 +27,12 @@ pub fn copy_of_operator(op: &SpecOp) -> Result<SpecOp, AllocError>
 {
     op.clone()
 }
+
+/// Returns whether an operator is equal to its copies, and to no other operator.
+pub fn are_operators_copied() -> bool {
+    let operator = SpecOp::Sub;
+    let copy = operator;
+    let made: Result<SpecOp, AllocError> = operator.clone();
+    let is_equal = matches!(made, Ok(made) if made == SpecOp::Sub);
+    copy == operator && is_equal && copy != SpecOp::Switch
+}

@@ -1,10 +1,13 @@
 //! Trees of texts, each with an edit that makes it a tree that no text leads to.
 
+use crate::constants::constant;
 use crate::renaming::Renaming;
-use crate::words::word;
-use isle_syntax::ast::{Def, Extractor, Fields, Instantiation, Rule, TypeDef, TypeValue};
-use isle_test_nodes::nodes::{ident, macro_arg};
-use isle_test_nodes::trees::{drop_definitions, read};
+use crate::templates::filled;
+use isle_syntax::ast::{Def, Fields, Ident, Pattern, Rule, TypeDef, TypeValue};
+use isle_syntax::lexer::Fault;
+use isle_test_nodes::answer::Answer;
+use isle_test_nodes::case::Case;
+use isle_test_nodes::trees::{Tree, ident, read};
 use std::alloc::{AllocError, Global};
 
 /// Removes the fields of a struct or of a variant.
@@ -37,92 +40,104 @@ fn place_fields(def: &mut TypeDef, places: &[usize]) {
     }
 }
 
-/// Sets or removes the form of an instantiation, or adds a tag.
-fn edit_instantiation(
-    alloc: Global,
-    kind: &str,
-    instantiation: &mut Instantiation,
-    name: &str,
-) -> Result<(), AllocError> {
-    match kind {
-        "with_form" => instantiation.form = Some(ident(alloc, name)?),
-        "with_tag" => instantiation.tags.push(ident(alloc, name)?)?,
-        "without_form" => instantiation.form = None,
-        _ => {}
-    }
+/// Puts the argument of a macro in place of a name in a pattern.
+fn fill(alloc: Global, pattern: &mut Pattern, names: &[Ident]) -> Result<(), Fault> {
+    *pattern = filled(alloc, pattern, names)?;
     Ok(())
 }
 
-fn edit_rule(kind: &str, rule: &mut Rule) {
-    if kind == "without_priority" {
-        rule.prio = None;
+/// Puts it into the conditions and the pattern of a rule.
+fn fill_rule(alloc: Global, rule: &mut Rule, names: &[Ident]) -> Result<(), Fault> {
+    for iflet in &mut rule.iflets {
+        fill(alloc, &mut iflet.pattern, names)?;
     }
+    fill(alloc, &mut rule.pattern, names)
 }
 
-fn edit_type(kind: &str, def: &mut TypeDef, numbers: &[usize]) {
-    match kind {
-        "without_fields" => clear_type(def),
-        "at_places" => place_fields(def, numbers),
-        _ => {}
-    }
-}
-
-fn edit_extractor(kind: &str, extractor: &mut Extractor) {
-    if kind == "with_macro_argument" {
-        extractor.template = macro_arg();
-    }
-}
-
-/// Edits a definition, if the edit applies to its kind.
-fn edit(
-    alloc: Global,
-    kind: &str,
-    def: &mut Def,
-    words: &[String],
-    numbers: &[usize],
-) -> Result<(), AllocError> {
+/// Puts the argument of a macro in place of the name `x`.
+fn fill_definition(alloc: Global, def: &mut Def) -> Result<(), Fault> {
+    let names = vec![in alloc; ident(alloc, "x")?]?;
     match def {
-        Def::Rule(rule) => edit_rule(kind, rule),
-        Def::TypeDef(def) => edit_type(kind, def, numbers),
-        Def::Extractor(extractor) => edit_extractor(kind, extractor),
-        Def::Instantiation(def) => edit_instantiation(alloc, kind, def, word(words, 1))?,
+        Def::Rule(rule) => fill_rule(alloc, rule, &names),
+        Def::Extractor(extractor) => fill(alloc, &mut extractor.template, &names),
+        _ => Ok(()),
+    }
+}
+
+/// Gives an instantiation a form or one more tag.
+fn add_name(alloc: Global, kind: &str, def: &mut Def, name: &str) -> Result<(), AllocError> {
+    if let Def::Instantiation(def) = def {
+        let name = ident(alloc, name)?;
+        match kind {
+            "with_form" => def.form = Some(name),
+            _ => def.tags.push(name)?,
+        }
+    }
+    Ok(())
+}
+
+/// Replaces the first name by the second.
+fn rename(def: &mut Def, from: &str, to: &str) -> Result<(), AllocError> {
+    let mut renaming = Renaming {
+        from,
+        to,
+        is_whole: true,
+    };
+    renaming.definition(def);
+    if renaming.is_whole {
+        Ok(())
+    } else {
+        Err(AllocError)
+    }
+}
+
+/// Makes the edit that the first text names, if it applies to the kind of a definition.
+fn edit(alloc: Global, def: &mut Def, case: &Case) -> Result<(), Fault> {
+    let word = case.text(2);
+    match case.text(0) {
+        "renamed" => Ok(rename(def, word, case.text(3))?),
+        "with_macro_argument" => fill_definition(alloc, def),
+        kind @ ("with_form" | "with_tag") => Ok(add_name(alloc, kind, def, word)?),
+        kind => {
+            edit_in_place(kind, def, &case.numbers);
+            Ok(())
+        }
+    }
+}
+
+/// Makes an edit that takes no memory.
+fn edit_in_place(kind: &str, def: &mut Def, places: &[usize]) {
+    match (kind, def) {
+        ("without_priority", Def::Rule(rule)) => rule.prio = None,
+        ("without_fields", Def::TypeDef(def)) => clear_type(def),
+        ("at_places", Def::TypeDef(def)) => place_fields(def, places),
+        ("without_form", Def::Instantiation(def)) => def.form = None,
         _ => {}
     }
-    if kind == "renamed" {
-        let (from, to) = (word(words, 1), word(words, 2));
-        Renaming { from, to }.definition(def)?;
-    }
-    Ok(())
 }
 
-fn edit_all(
-    alloc: Global,
-    kind: &str,
-    defs: &mut [Def],
-    words: &[String],
-    numbers: &[usize],
-) -> Result<(), AllocError> {
+fn edit_all(alloc: Global, defs: &mut [Def], case: &Case) -> Result<(), Fault> {
     for def in defs {
-        edit(alloc, kind, def, words, numbers)?;
+        edit(alloc, def, case)?;
     }
     Ok(())
 }
 
-/// The tree of the first word, a text, with an edit of a kind; `None` if the text is rejected.
-pub fn edited(
-    alloc: Global,
-    kind: &str,
-    words: &[String],
-    numbers: &[usize],
-) -> Result<Option<Vec<Def>>, AllocError> {
-    let Ok(mut defs) = read(alloc, word(words, 0)) else {
-        return Ok(None);
-    };
-    match edit_all(alloc, kind, &mut defs, words, numbers) {
-        Ok(()) => Ok(Some(defs)),
-        Err(fault) => {
-            drop_definitions(defs);
-            Err(fault)
+/// The tree of the second text, with the edit that the first one names.
+fn edited(alloc: Global, case: &Case, out: &mut Answer) -> Tree {
+    let mut tree = read(alloc, case.text(1));
+    if let Ok(defs) = &mut tree {
+        if let Err(fault) = edit_all(alloc, defs, case) {
+            out.show_fault(&fault);
         }
+    }
+    tree
+}
+
+/// The tree of the kind that the first text names.
+pub fn built(alloc: Global, case: &Case, out: &mut Answer) -> Tree {
+    match case.text(0) {
+        "argument" | "operation" | "bits" => Ok(constant(alloc, case)?),
+        _ => edited(alloc, case, out),
     }
 }

@@ -11,8 +11,7 @@ ghost use Rattle.isle_printer.specs.PrintedNodes.{nodes_of_definition};
 
 use isle_syntax::ast::{Decl, Def};
 use isle_syntax::printer::{Looks, PrintFault, SExpr, fits, print_counted};
-use isle_test_nodes::nodes::{ident, pos};
-use isle_test_nodes::trees::drop_definition;
+use isle_test_nodes::trees::{drop_definition, ident, pos};
 use std::alloc::{AllocError, Global};
 use std::slice::from_ref;
 

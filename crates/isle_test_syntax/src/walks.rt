@@ -7,9 +7,7 @@ ghost use Rattle.isle_ast_rules.specs.TreeView.{expression_of, pattern_of};
 ghost use Rattle.isle_test_syntax.specs.Walks.{is_of_symbol, last_pos};
 
 use isle_syntax::ast::{Def, Expr, Ident, Pattern};
-use isle_syntax::lexer::{Fault, Pos};
-use isle_test_nodes::trees::{drop_definitions, parsed};
-use std::alloc::Global;
+use isle_syntax::lexer::Pos;
 
 /// The position of the last term of a pattern.
 fn last_term(pattern: &Pattern) -> Option<Pos>
@@ -34,7 +32,7 @@ fn mentions(expr: &Expr, symbol: &str) -> bool
 
 /// The position of the last term of the one rule's pattern, and whether its expression has terms
 /// with each of two symbols; `None` unless the definitions are one rule.
-fn told(defs: &[Def], symbol: &str, other: &str) -> Option<(Option<Pos>, bool, bool)> {
+pub fn told_of_rule(defs: &[Def], symbol: &str, other: &str) -> Option<(Option<Pos>, bool, bool)> {
     match defs {
         [Def::Rule(rule)] => Some((
             last_term(&rule.pattern),
@@ -43,18 +41,4 @@ fn told(defs: &[Def], symbol: &str, other: &str) -> Option<(Option<Pos>, bool, b
         )),
         _ => None,
     }
-}
-
-/// The same for a text in a file.
-pub fn told_of_rule(
-    alloc: Global,
-    file: usize,
-    text: &str,
-    symbol: &str,
-    other: &str,
-) -> Result<Option<(Option<Pos>, bool, bool)>, Fault> {
-    let defs = parsed(alloc, file, text)?;
-    let told = told(&defs, symbol, other);
-    drop_definitions(defs);
-    Ok(told)
 }

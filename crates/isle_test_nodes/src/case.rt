@@ -14,19 +14,26 @@ pub struct Case {
 impl Case {
     /// Parses the line of a case. Words that are neither numbers nor in quotes are skipped.
     pub fn new(alloc: Global, line: &str) -> Result<Case, AllocError> {
-        let (call, mut rest) = line.split_once(' ').unwrap_or((line, ""));
+        let (call, rest) = line.split_once(' ').unwrap_or((line, ""));
         let mut case = Case {
             call: call.to_string(alloc)?,
             numbers: Vec::new(alloc),
             texts: Vec::new(alloc),
         };
+        case.push_parts(alloc, rest)?;
+        Ok(case)
+    }
+
+    /// Adds the numbers and texts of a line, after its call.
+    fn push_parts(&mut self, alloc: Global, line: &str) -> Result<(), AllocError> {
+        let mut rest = line;
         for _ in 0..line.len() {
-            rest = case.push_part(alloc, rest.trim_start())?;
+            rest = self.push_part(alloc, rest.trim_start())?;
             if rest.is_empty() {
                 break;
             }
         }
-        Ok(case)
+        Ok(())
     }
 
     /// Adds the number or text at the beginning of `rest`, and returns the rest after it.
@@ -48,6 +55,11 @@ impl Case {
         self.numbers.get(place).copied().unwrap_or(0)
     }
 
+    /// The numbers from this place on.
+    pub fn numbers_from(&self, place: usize) -> &[usize] {
+        self.numbers.get(place..).unwrap_or(&[])
+    }
+
     /// The text at this place, or an empty one.
     pub fn text(&self, place: usize) -> &str {
         match self.texts.get(place) {
@@ -55,11 +67,21 @@ impl Case {
             None => "",
         }
     }
+
+    /// The texts from this place on.
+    pub fn texts_from(&self, place: usize) -> &[String] {
+        self.texts.get(place..).unwrap_or(&[])
+    }
 }
 
 /// Reads up to the closing quote, and past it.
 fn unquoted(alloc: Global, chars: &mut Chars) -> Result<String, AllocError> {
     let mut text = String::new(alloc);
+    push_unquoted(chars, &mut text)?;
+    Ok(text)
+}
+
+fn push_unquoted(chars: &mut Chars, text: &mut String) -> Result<(), AllocError> {
     for _ in 0..chars.as_str().len() {
         match chars.next() {
             None | Some('"') => break,
@@ -67,7 +89,7 @@ fn unquoted(alloc: Global, chars: &mut Chars) -> Result<String, AllocError> {
             Some(char) => text.push(char)?,
         }
     }
-    Ok(text)
+    Ok(())
 }
 
 /// The character for an escape, after its `\`.

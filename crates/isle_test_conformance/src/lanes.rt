@@ -3,7 +3,6 @@
 ghost use Rattle.std.specs.Prelude.{◌≤◌, length};
 
 use isle_syntax::lexer::{blank_end, line_comment_end, symbol_end};
-use std::alloc::{AllocError, Global};
 
 /// A run of bytes whose end one of three calls finds.
 #[derive(Clone, Copy)]
@@ -54,19 +53,13 @@ impl Run {
     }
 }
 
-/// A run of this length with `byte` at the place `at`, if that is inside.
-fn run_with(
-    alloc: Global,
-    run: Run,
-    length: usize,
-    at: usize,
-    byte: u8,
-) -> Result<Vec<u8>, AllocError> {
-    let mut bytes = vec![in alloc; run.inner(); length]?;
+/// A run with `byte` at the place `at`, if that is inside.
+fn run_with(run: Run, at: usize, byte: u8) -> [u8; 65] {
+    let mut bytes = [run.inner(); 65];
     if let Some(place) = bytes.get_mut(at) {
         *place = byte;
     }
-    Ok(bytes)
+    bytes
 }
 
 /// The ends of two symbols, of two runs of blanks, and of two line comments.
@@ -84,57 +77,52 @@ pub fn ends() -> [usize; 6] {
 /// Returns whether the run ends at `at` from each place up to there, and at the end of the bytes
 /// from each place after.
 fn ends_from_each_place(run: Run, bytes: &[u8], at: usize) -> bool {
+    let mut ends = true;
     for from in 0..=bytes.len() {
-        if run.end(bytes, from) != if from <= at { at } else { bytes.len() } {
-            return false;
-        }
+        ends &= run.end(bytes, from) == if from <= at { at } else { bytes.len() };
     }
-    true
+    ends
 }
 
 /// Returns whether the same holds with the ending byte at each place in turn, and with none.
-fn ends_at_each_place(alloc: Global, run: Run, length: usize) -> Result<bool, AllocError> {
+fn ends_at_each_place(run: Run, length: usize) -> bool {
+    let mut ends = true;
     for at in 0..=length {
-        let bytes = run_with(alloc, run, length, at, run.ending())?;
-        if !ends_from_each_place(run, &bytes, at) {
-            return Ok(false);
-        }
+        let bytes = run_with(run, at, run.ending());
+        ends &= ends_from_each_place(run, bytes.get(..length).unwrap_or(&[]), at);
     }
-    Ok(true)
+    ends
 }
 
 /// Returns whether each run ends where it should, at each place of short and long texts.
-pub fn each_run_ends_at_each_place(alloc: Global) -> Result<bool, AllocError> {
+pub fn each_run_ends_at_each_place() -> bool {
+    let mut ends = true;
     for length in [0, 1, 31, 32, 33, 64, 65] {
         for run in RUNS {
-            if !ends_at_each_place(alloc, run, length)? {
-                return Ok(false);
-            }
+            ends &= ends_at_each_place(run, length);
         }
     }
-    Ok(true)
+    ends
 }
 
 /// Returns whether the byte ends the run if it should: at the beginning, within lanes, and in the
 /// rest after them.
-fn ends_at_byte(alloc: Global, run: Run, byte: u8) -> Result<bool, AllocError> {
+fn ends_at_byte(run: Run, byte: u8) -> bool {
+    let mut ends = true;
     for at in [0, 40, 64] {
-        let bytes = run_with(alloc, run, 65, at, byte)?;
-        if run.end(&bytes, 0) != if run.is_ended_by(byte) { at } else { 65 } {
-            return Ok(false);
-        }
+        let end = if run.is_ended_by(byte) { at } else { 65 };
+        ends &= run.end(&run_with(run, at, byte), 0) == end;
     }
-    Ok(true)
+    ends
 }
 
 /// Returns whether each run ends at the bytes that end it, and at no others.
-pub fn each_run_ends_at_its_bytes(alloc: Global) -> Result<bool, AllocError> {
+pub fn each_run_ends_at_its_bytes() -> bool {
+    let mut ends = true;
     for byte in 0..=255 {
         for run in RUNS {
-            if !ends_at_byte(alloc, run, byte)? {
-                return Ok(false);
-            }
+            ends &= ends_at_byte(run, byte);
         }
     }
-    Ok(true)
+    ends
 }

@@ -3,7 +3,7 @@
 use isle_syntax::ast::identifier::{begins_identifier, continues_identifier, is_identifier};
 use isle_syntax::ast::{Ident, Variant};
 use isle_syntax::lexer::Pos;
-use isle_test_nodes::nodes::ident;
+use isle_test_nodes::trees::ident;
 use std::alloc::{AllocError, Global};
 use std::cmp::Ordering;
 

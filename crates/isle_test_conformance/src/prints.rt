@@ -3,7 +3,8 @@
 use isle_syntax::format;
 use isle_syntax::lexer::Fault;
 use isle_syntax::printer::{PrintFault, SExpr, ToSExpr, print_node};
-use isle_test_nodes::prints::print_of_bits;
+use isle_test_nodes::answer::{Answer, is_copied};
+use isle_test_syntax::constants::print_of_bits;
 use std::alloc::{AllocError, Global};
 
 /// A node of a caller's own that holds its S-expression.
@@ -55,9 +56,17 @@ pub fn own_print(alloc: Global, kind: &str, width: usize) -> Result<String, Prin
     print_node(alloc, &node, width)
 }
 
+/// Adds whether the S-expression of a kind is equal to its copy.
+pub fn put_own_copy(alloc: Global, kind: &str, out: &mut Answer) -> Result<(), AllocError> {
+    let sexpr = sexpr(alloc, kind)?;
+    let is_copied = is_copied(&sexpr, out);
+    out.show(&is_copied);
+    Ok(())
+}
+
 /// Returns whether a bit vector of 8,001 bits is printed with all of them.
 pub fn wide_bits_are_printed(alloc: Global) -> Result<bool, PrintFault> {
-    let wide = print_of_bits(alloc, 1, 8001)?;
+    let wide = print_of_bits(alloc, "1", "8001")?;
     Ok(wide.len() == 8003 && wide.starts_with("#b0000") && wide.ends_with("0001"))
 }
 
